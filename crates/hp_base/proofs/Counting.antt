@@ -1,0 +1,97 @@
+-- Laws of `count_below`.
+use Rattle.std.proofs.Common.{◌≡◌, ℕ, zero, suc, ◌+◌, ◌-◌, ◌<◌, ◌≤◌, min, max, Bool, true, false, cond, not, ◌&&◌, ◌||◌, refl, sym, ap, ◌∙◌, arith, rules}
+use Rattle.std.specs.Prelude.{nat_le, nat_lt, nat_eq}
+use Rattle.std.proofs.lemmas.Bool.{leb-true, leb-false}
+use Rattle.std.proofs.lemmas.Bool.Decides.{nat_tests}
+use Rattle.hp_base.specs.Indices.{is_within, count_below, count_within, missing, add_range}
+
+-- the general law: where each number counts in r as it does in p and q together, so do all of them
+pub count_below-sum : (p q r : ℕ → Bool) (n : ℕ) → ((k : ℕ) → k < n → cond (r k) 1 0 ≡ cond (p k) 1 0 + cond (q k) 1 0) → count_below r n ≡ count_below p n + count_below q n
+unfolding count_below
+count_below-sum p q r zero each = refl
+count_below-sum p q r (suc n) each = omega (arith, count_below-sum p q r n (λ k below. each k (omega arith)), each n (omega arith))
+
+pub count_below-ext : (p q : ℕ → Bool) (n : ℕ) → ((k : ℕ) → k < n → p k ≡ q k) → count_below p n ≡ count_below q n
+unfolding count_below
+count_below-ext p q zero each = refl
+count_below-ext p q (suc n) each = rw (each n (omega arith), count_below-ext p q n (λ k below. each k (omega arith))) refl
+
+pub count_below_none : (p : ℕ → Bool) (n : ℕ) → ((k : ℕ) → k < n → p k ≡ false) → count_below p n ≡ 0
+unfolding count_below
+count_below_none p zero each = refl
+count_below_none p (suc n) each = rw (each n (omega arith), count_below_none p n (λ k below. each k (omega arith))) refl
+
+-- more members, no smaller count
+pub count_below_mono : (p q : ℕ → Bool) (n : ℕ) → ((k : ℕ) → k < n → p k ≡ true → q k ≡ true) → count_below p n ≤ count_below q n
+unfolding count_below
+count_below_mono p q zero each = omega arith
+count_below_mono p q (suc n) each =
+    let below = count_below_mono p q n (λ k below. each k (omega arith)) in
+    let here = each n (omega arith) in
+    grind (arith, below, here)
+
+-- how many of [from, to) lie below n
+pub count_below-is_within : (from to n : ℕ) → count_below (is_within from to) n ≡ min n to - from
+unfolding count_below
+count_below-is_within from to zero = omega arith
+count_below-is_within from to (suc n) =
+    let below = count_below-is_within from to n in
+    grind (arith, nat_tests, below)
+
+pub count_below_le : (p : ℕ → Bool) (n : ℕ) → count_below p n ≤ n
+unfolding count_below
+count_below_le p zero = omega arith
+count_below_le p (suc n) = let below = count_below_le p n in grind (arith, below)
+
+-- the members of [from, to) and the others are all of it
+pub count_within-missing : (p : ℕ → Bool) (from to : ℕ) → count_within p from to + missing p from to ≡ to - from
+unfolding count_within missing
+count_within-missing p from to =
+    let parts = count_below-sum (λ k. nat_le from k && p k) (λ k. nat_le from k && not (p k)) (is_within from to) to (λ k below. grind (arith, nat_tests)) in
+    let all = count_below-is_within from to to in
+    omega (arith, parts, all)
+
+-- nothing more is missing from a set that has, within the range, all that another has
+pub missing_anti : (p q : ℕ → Bool) (from to : ℕ) → ((k : ℕ) → from ≤ k → k < to → p k ≡ true → q k ≡ true) → missing q from to ≤ missing p from to
+unfolding missing
+missing_anti p q from to keeps =
+    count_below_mono (λ k. nat_le from k && not (q k)) (λ k. nat_le from k && not (p k)) to (λ k below out. grind (arith, nat_tests, keeps k))
+
+-- past m there are none
+pub count_below_past : (p : ℕ → Bool) (m n : ℕ) → m ≤ n → ((k : ℕ) → m ≤ k → p k ≡ false) → count_below p n ≡ count_below p m
+unfolding count_below
+count_below_past p m zero le none = let e : m ≡ 0 = omega arith in rw e refl
+count_below_past p m (suc n) le none =
+    elim (nat_le (suc n) m) as (λ b. nat_le (suc n) m ≡ b → count_below p n + cond (p n) 1 0 ≡ count_below p m) [
+      | true ↦ λ e. let same : m ≡ suc n = omega (arith, leb-true (suc n) m e) in rw same refl
+      | false ↦ λ e.
+        let rest = count_below_past p m n (omega (arith, leb-false (suc n) m e)) none in
+        rw (none n (omega (arith, leb-false (suc n) m e))) (omega (arith, rest))
+    ] refl
+
+-- what a range adds to the members that are not in c, where c lies within the set
+pub count_below-add_range : (p c : ℕ → Bool) (from to n : ℕ) → to ≤ n → ((k : ℕ) → c k ≡ true → p k ≡ true) → count_below (λ k. add_range p from to k && not (c k)) n ≡ count_below (λ k. p k && not (c k)) n + missing p from to
+unfolding missing add_range
+count_below-add_range p c from to n within inside =
+    let fresh : ℕ → Bool = λ k. is_within from to k && not (p k) in
+    let parts = count_below-sum (λ k. p k && not (c k)) fresh (λ k. (is_within from to k || p k) && not (c k)) n (λ k below. grind (arith, nat_tests, inside k)) in
+    let short = count_below_past fresh to n within (λ k past. grind (arith, nat_tests)) in
+    let same = count_below-ext fresh (λ k. nat_le from k && not (p k)) to (λ k below. grind (arith, nat_tests)) in
+    omega (arith, parts, short, same)
+
+same_number : (k i : ℕ) → nat_eq k i ≡ true → k ≡ i
+same_number k i e = grind (arith, nat_tests)
+
+other_number : (k i : ℕ) → nat_eq k i ≡ false → k ≡ i → ⊥
+other_number k i e same = grind (arith, nat_tests)
+
+-- one member less
+pub count_below_one : (p q : ℕ → Bool) (i n : ℕ) → i < n → p i ≡ true → q i ≡ false → ((k : ℕ) → (k ≡ i → ⊥) → p k ≡ q k) → count_below p n ≡ count_below q n + 1
+count_below_one p q i n within there gone others =
+    let parts = count_below-sum q (is_within i (i + 1)) p n (λ k below.
+        elim (nat_eq k i) as (λ b. nat_eq k i ≡ b → cond (p k) 1 0 ≡ cond (q k) 1 0 + cond (is_within i (i + 1) k) 1 0) [
+          | true ↦ λ e. let same = same_number k i e in rw (same, there, gone) (grind (arith, nat_tests))
+          | false ↦ λ e. rw (others k (other_number k i e)) (grind (arith, nat_tests))
+        ] refl) in
+    let one = count_below-is_within i (i + 1) n in
+    omega (arith, parts, one)

@@ -1,0 +1,4 @@
+pub mod Counting
+pub mod FinSets
+pub mod Lists
+pub mod Puts

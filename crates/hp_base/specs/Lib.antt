@@ -1,0 +1,4 @@
+pub mod Indices
+pub mod Limits
+pub mod Numbers
+pub mod Text
