@@ -1,4 +1,5 @@
 pub mod Indices
 pub mod Limits
+pub mod Mappings
 pub mod Numbers
 pub mod Text

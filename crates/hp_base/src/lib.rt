@@ -11,10 +11,12 @@ pub mod answer;
 pub mod config;
 pub mod event;
 pub mod limits;
+pub mod mapping;
 pub mod numbers;
 
 pub use answer::Answer;
 pub use config::{Config, Fault};
 pub use event::{Event, Op};
 pub use limits::{LIMIT, VPNS};
+pub use mapping::Mapping;
 pub use numbers::{File, Frame, Index, Task, Vpn};
