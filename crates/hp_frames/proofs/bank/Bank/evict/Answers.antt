@@ -1,0 +1,11 @@
+use Rattle.std.proofs.Common.{◌≡◌, ℕ, ◌+◌, ◌≤◌, ◌<◌, slice_get, sym, ap, subst, arith, Some, refl, List, length, ◌++◌, ◌∷◌, []}
+use Rattle.hp_frames.specs.declared.frame.FrameState.{FrameState}
+use Rattle.hp_frames.specs.declared.frame.FrameState.TheVariants.{Free, Hand, Placed}
+use Rattle.hp_frames.specs.Bank.{BankState, AreFree, IsListed}
+use Rattle.hp_frames.proofs.Frames.{moved, given, taken, few, has_room, last_free}
+use Rattle.hp_frames.proofs.bank.Bank.evict.Goals as goal
+
+pub invariant_of-self : goal.invariant_of-self
+invariant_of-self c =
+    let was : slice_get c.self.inside.frames.items c.args.frame ≡ Some (Placed c.requires.0) = subst (λ (b : BankState). slice_get b.frames c.args.frame ≡ Some (Placed c.requires.0)) (sym c.self.view_is) c.requires.1 in
+    record { listed = moved _ _ _ _ _ (Placed c.requires.0) Hand c.move_frame.ensures was refl refl c.self.invariant.listed; reserved = c.self.invariant.reserved }

@@ -1,0 +1,11 @@
+use Rattle.std.proofs.Common.{◌≡◌, ℕ, ◌+◌, ◌≤◌, ◌<◌, slice_get, sym, ap, subst, arith, Some, refl, List, length, ◌++◌, ◌∷◌, []}
+use Rattle.hp_frames.specs.declared.frame.FrameState.{FrameState}
+use Rattle.hp_frames.specs.declared.frame.FrameState.TheVariants.{Free, Hand, Placed}
+use Rattle.hp_frames.specs.Bank.{BankState, AreFree, IsListed}
+use Rattle.hp_frames.proofs.Frames.{moved, given, taken, few, has_room, last_free}
+use Rattle.hp_frames.proofs.bank.Bank.place.Goals as goal
+
+pub invariant_of-self : goal.invariant_of-self
+invariant_of-self c =
+    let was : slice_get c.self.inside.frames.items c.held.inside.frame ≡ Some Hand = subst (λ (b : BankState). slice_get b.frames c.held.inside.frame ≡ Some Hand) (sym c.self.view_is) (subst (λ (f : ℕ). slice_get c.args.self.now.frames f ≡ Some Hand) (sym c.held.view_is) c.requires) in
+    record { listed = moved _ _ _ _ _ Hand (Placed 0) c.move_frame.ensures was refl refl c.self.invariant.listed; reserved = c.self.invariant.reserved }

@@ -1,0 +1,242 @@
+//! The bank: frames, a list of the free ones, and the count of reserved pages.
+ghost use Rattle.std.specs.Prelude.{◌≡◌, ℕ, ◌+◌, ◌-◌, ◌<◌, ◌≤◌, ◌↔◌, length, slice_get, IfOk, OnOk, OnErr, IsErr, IsErrOf, IsTrue, replicate, Some, slice_set, ◌++◌, ◌∷◌, [], vec_capacity};
+ghost use Rattle.hp_frames.specs.Bank.{BankState, free_count, frame_at, is_free, IsFree, InHands, HasWord, IsPlaced, with_frame, with_resv, AreFree};
+
+use crate::fault::Fault;
+use crate::frame::FrameState;
+use hp_base::Frame;
+use std::alloc::{AllocError, Global};
+use std::marker::Model;
+
+/// A frame in a call's hand. Only a bank makes one, and the call that gives it back spends it.
+#[derive(Debug, Drop)]
+pub struct Held {
+    frame: Frame,
+}
+
+impl Model for Held {
+    ghost Value = { ℕ };
+
+    ghost view = { λ held. held.frame };
+}
+
+impl Held {
+    /// The number of the frame.
+    pub fn frame(&self) -> Frame
+        ensures { result ≡ self.now }
+    {
+        self.frame
+    }
+}
+
+/// The frames of a pool, and how many pages of it are reserved and not yet there.
+#[derive(Drop)]
+pub struct Bank {
+    frames: Vec<FrameState>,
+    // The free frames. Its capacity is that of `frames`, so that giving one back takes no memory.
+    free: Vec<Frame>,
+    resv: u32,
+}
+
+impl Model for Bank {
+    ghost use Rattle.std.specs.Prelude.{◌≤◌, length, vec_capacity};
+    ghost use Rattle.hp_frames.specs.Bank.{BankState, IsListed};
+
+    ghost Value = { BankState };
+
+    ghost view = { λ b. record { frames = b.frames.items; resv = b.resv } };
+
+    ghost invariant = { λ b. record {
+      listed : IsListed b.frames.items b.free.items (vec_capacity b.free);
+      reserved : b.resv ≤ length b.free.items;
+    } };
+}
+
+impl Bank {
+    /// So many frames, all of them free, and no page reserved.
+    pub fn new(alloc: Global, frames: u32) -> Result<Self, AllocError>
+        ensures frames { IfOk result (λ bank. bank.frames ≡ replicate frames FrameState.Free) }
+        ensures resv { IfOk result (λ bank. bank.resv ≡ 0) }
+    {
+        let mut states = Vec::new(alloc);
+        states.resize(frames as usize, FrameState::Free)?;
+        let mut free = Vec::with_capacity(alloc, frames as usize)?;
+        for number in 0..frames {
+            free.push_reserved(Frame::new(number));
+        }
+        Ok(Bank {
+            frames: states,
+            free,
+            resv: 0,
+        })
+    }
+
+    /// How many frames are free (Linux: `free_huge_pages`).
+    pub fn free(&self) -> u32
+        ensures { result ≡ free_count self.now }
+    {
+        self.free.len() as u32
+    }
+
+    /// How many pages are reserved (Linux: `resv_huge_pages`).
+    pub fn resv(&self) -> u32
+        ensures resv { result ≡ self.now.resv }
+        ensures within { self.now.resv ≤ free_count self.now }
+    {
+        self.resv
+    }
+
+    /// Whether that frame is free; false for a number that isn't there.
+    pub fn is_free(&self, frame: Frame) -> bool
+        ensures { IsTrue result ↔ IsFree self.now frame }
+    {
+        matches!(
+            self.frames.get(frame.number() as usize),
+            Some(FrameState::Free)
+        )
+    }
+
+    /// Reserves n more pages (Linux: `hugetlb_acct_memory`).
+    pub fn account(&mut self, n: u32) -> Result<(), Fault>
+        ensures short { IsErrOf result Fault.Short ↔ (free_count self.old - self.old.resv < n) }
+        ensures only { IsErr result → IsErrOf result Fault.Short }
+        ensures ok { OnOk result (self.new ≡ with_resv self.old (self.old.resv + n)) }
+        ensures err { OnErr result (self.new ≡ self.old) }
+    {
+        if n > self.free() - self.resv {
+            return Err(Fault::Short);
+        }
+        self.resv += n;
+        Ok(())
+    }
+
+    /// Gives n reservations back (Linux: `hugetlb_acct_memory` of a negative number).
+    pub fn settle(&mut self, n: u32)
+        requires { n ≤ self.old.resv }
+        ensures { self.new ≡ with_resv self.old (self.old.resv - n) }
+    {
+        self.resv -= n;
+    }
+
+    /// Takes a free frame for a reservation that the caller has (Linux: `dequeue_hugetlb_folio_vma`
+    /// with `gbl_chg` 0). Its word is 0 once it is placed.
+    pub fn take_reserved(&mut self) -> Held
+        requires { 1 ≤ self.old.resv }
+        ensures free { IsFree self.old result }
+        ensures after { self.new ≡ with_resv (with_frame self.old result FrameState.Hand) (self.old.resv - 1) }
+    {
+        let frame = take_free(&mut self.frames, &mut self.free);
+        self.resv -= 1;
+        Held { frame }
+    }
+
+    /// Takes a free frame that nobody reserved. Its word is 0 once it is placed.
+    pub fn take_unreserved(&mut self) -> Result<Held, Fault>
+        ensures none { IsErrOf result Fault.NoFrame ↔ (free_count self.old ≡ self.old.resv) }
+        ensures only { IsErr result → IsErrOf result Fault.NoFrame }
+        ensures free { IfOk result (λ held. IsFree self.old held) }
+        ensures after { IfOk result (λ held. self.new ≡ with_frame self.old held FrameState.Hand) }
+        ensures err { OnErr result (self.new ≡ self.old) }
+    {
+        if self.free() == self.resv {
+            return Err(Fault::NoFrame);
+        }
+        let frame = take_free(&mut self.frames, &mut self.free);
+        Ok(Held { frame })
+    }
+
+    /// The frame becomes a page, with the word 0.
+    pub fn place(&mut self, held: Held) -> Frame
+        requires { InHands self.old held }
+        ensures same { result ≡ held }
+        ensures after { self.new ≡ with_frame self.old held (FrameState.Placed 0) }
+    {
+        let Held { frame } = held;
+        move_frame(&mut self.frames, frame, FrameState::Placed(0));
+        frame
+    }
+
+    /// The page's frame comes into the caller's hand.
+    pub fn evict(&mut self, frame: Frame) -> Held
+        requires { IsPlaced self.old frame }
+        ensures same { result ≡ frame }
+        ensures after { self.new ≡ with_frame self.old frame FrameState.Hand }
+    {
+        move_frame(&mut self.frames, frame, FrameState::Hand);
+        Held { frame }
+    }
+
+    /// The frame is free again (Linux: `free_huge_folio`).
+    pub fn give(&mut self, held: Held)
+        requires { InHands self.old held }
+        ensures { self.new ≡ with_frame self.old held FrameState.Free }
+    {
+        let Held { frame } = held;
+        give_free(&mut self.frames, &mut self.free, frame);
+    }
+
+    /// The frame is free again, and reserved (Linux: `free_huge_folio` with `restore_reserve`).
+    pub fn restore(&mut self, held: Held)
+        requires { InHands self.old held }
+        ensures { self.new ≡ with_resv (with_frame self.old held FrameState.Free) (self.old.resv + 1) }
+    {
+        let Held { frame } = held;
+        give_free(&mut self.frames, &mut self.free, frame);
+        self.resv += 1;
+    }
+
+    /// The word of a page.
+    pub fn load(&self, frame: Frame) -> u64
+        requires { IsPlaced self.now frame }
+        ensures { HasWord self.now frame result }
+    {
+        match self.frames[frame.number() as usize] {
+            FrameState::Placed(word) => word,
+            FrameState::Free | FrameState::Hand => unreachable!(),
+        }
+    }
+
+    /// Writes the word of a page.
+    pub fn store(&mut self, frame: Frame, word: u64)
+        requires { IsPlaced self.old frame }
+        ensures { self.new ≡ with_frame self.old frame (FrameState.Placed word) }
+    {
+        move_frame(&mut self.frames, frame, FrameState::Placed(word));
+    }
+}
+
+// The frame goes elsewhere.
+fn move_frame(frames: &mut Vec<FrameState>, frame: Frame, state: FrameState)
+    requires { frame < length frames.old.items }
+    ensures { frames.new.items ≡ slice_set frames.old.items frame state }
+{
+    frames[frame.number() as usize] = state;
+}
+
+// Takes the last of the free frames.
+fn take_free(frames: &mut Vec<FrameState>, free: &mut Vec<Frame>) -> Frame
+    requires free { AreFree frames.old.items free.old.items }
+    requires some { 0 < length free.old.items }
+    ensures was_free { slice_get frames.old.items result ≡ Some FrameState.Free }
+    ensures frames { frames.new.items ≡ slice_set frames.old.items result FrameState.Hand }
+    ensures rest { free.old.items ≡ free.new.items ++ result ∷ [] }
+    ensures capacity { vec_capacity free.new ≡ vec_capacity free.old }
+{
+    let Some(frame) = free.pop() else {
+        unreachable!()
+    };
+    move_frame(frames, frame, FrameState::Hand);
+    frame
+}
+
+// Puts a frame that is in a hand behind the free ones.
+fn give_free(frames: &mut Vec<FrameState>, free: &mut Vec<Frame>, frame: Frame)
+    requires hand { slice_get frames.old.items frame ≡ Some FrameState.Hand }
+    requires room { length free.old.items < vec_capacity free.old }
+    ensures frames { frames.new.items ≡ slice_set frames.old.items frame FrameState.Free }
+    ensures free { free.new.items ≡ free.old.items ++ frame ∷ [] }
+    ensures capacity { vec_capacity free.new ≡ vec_capacity free.old }
+{
+    move_frame(frames, frame, FrameState::Free);
+    free.push_reserved(frame);
+}
