@@ -1,0 +1,109 @@
+//! The table of holders.
+ghost use Rattle.std.specs.Prelude.{◌≡◌, ℕ, ◌<◌, ◌≤◌, ◌↔◌, IsOk, IfErr, OnOk, OnErr, IfOk, Some, None, List, Option, length, replicate, slice_set, slice_index_or};
+ghost use Rattle.hp_slots.specs.Holders.{holder_of, holder_in, slot_number};
+
+use hp_base::{File, Index, Task};
+use std::alloc::{AllocError, Global};
+use std::marker::Model;
+use thiserror::Error;
+
+/// Why a place isn't taken.
+#[derive(Clone, Copy, Debug, PartialEq, Eq, Error)]
+pub enum Fault {
+    /// That task holds it.
+    #[error("task {0} holds the place")]
+    Busy(Task),
+}
+
+/// Who holds each of some places.
+#[derive(Drop)]
+pub struct SlotTable {
+    holders: Vec<Option<Task>>,
+}
+
+impl Model for SlotTable {
+    ghost use Rattle.std.specs.Prelude.{◌<◌, ◌^◌, ℕ, List, Option, length};
+
+    ghost Value = { List (Option ℕ) };
+
+    ghost view = { λ table. table.holders.items };
+
+    ghost invariant = { λ table. (0 < length table.holders.items) × (length table.holders.items < 2 ^ 32) };
+}
+
+impl SlotTable {
+    /// A table of `places` places that nobody holds.
+    pub fn new(alloc: Global, places: u32) -> Result<Self, AllocError>
+        requires { 1 ≤ places }
+        ensures { IfOk result (λ table. table ≡ replicate places None) }
+    {
+        let mut holders = Vec::new(alloc);
+        holders.resize(places as usize, None)?;
+        Ok(SlotTable { holders })
+    }
+
+    /// The place of a page's fault mutex (Linux: `hugetlb_fault_mutex_hash`).
+    pub fn slot_of(&self, file: File, index: Index) -> u32
+        ensures number { result ≡ slot_number (length self.now) file index }
+        ensures within { result < length self.now }
+    {
+        let places = self.holders.len() as u64;
+        ((u64::from(index.number()) + 31 * u64::from(file.number())) % places) as u32
+    }
+
+    /// Takes the place for the task, where nobody holds it.
+    pub fn try_take(&mut self, place: u32, task: Task) -> Result<(), Fault>
+        requires { place < length self.old }
+        ensures taken { OnOk result (self.new ≡ slice_set self.old place (Some task)) }
+        ensures vacant { IsOk result ↔ (holder_of self.old place ≡ None) }
+        ensures busy { IfErr result (λ fault. holder_of self.old place ≡ Some (holder_in fault)) }
+        ensures err { OnErr result (self.new ≡ self.old) }
+    {
+        if let Some(holder) = self.holders[place as usize] {
+            return Err(Fault::Busy(holder));
+        }
+        self.holders[place as usize] = Some(task);
+        Ok(())
+    }
+
+    /// Leaves the place, which the task holds.
+    pub fn leave(&mut self, place: u32, task: Task)
+        requires { holder_of self.old place ≡ Some task }
+        ensures { self.new ≡ slice_set self.old place None }
+    {
+        let _ = task;
+        self.holders[place as usize] = None;
+    }
+
+    /// Who holds the place; none where it isn't there.
+    pub fn holder(&self, place: u32) -> Option<Task>
+        ensures { result ≡ holder_of self.now place }
+    {
+        match self.holders.get(place as usize) {
+            Some(&holder) => holder,
+            None => None,
+        }
+    }
+}
+
+#[cfg(test)]
+mod tests {
+    use super::*;
+    use std::test::Fail;
+
+    #[test]
+    fn slots_and_holders(rt: HostRuntime) -> Result<(), Fail> {
+        let mut table = SlotTable::new(rt.alloc(), 4)?;
+        assert_eq!(rt; table.slot_of(File::new(1), Index::new(0)), 3);
+        assert_eq!(rt; table.slot_of(File::new(0), Index::new(5)), 1);
+        assert_eq!(rt; table.slot_of(File::new(2), Index::new(3)), 1);
+        let (one, two) = (Task::new(1), Task::new(2));
+        assert_eq!(rt; table.try_take(1, one), Ok(()));
+        assert_eq!(rt; table.try_take(1, two), Err(Fault::Busy(one)));
+        assert_eq!(rt; table.holder(1), Some(one));
+        assert_eq!(rt; table.holder(4), None);
+        let text = format!(in rt.alloc(); "{}", Fault::Busy(one))?;
+        assert_eq!(rt; text.as_str(), "task 1 holds the place");
+        Ok(())
+    }
+}
