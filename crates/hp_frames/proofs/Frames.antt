@@ -94,25 +94,30 @@ pub given : (fs new : List FrameState) (xs more : List ℕ) (n m x : ℕ) → ne
 given fs new xs more n m x is longer same at listed =
     let count = free_after fs x Hand Free at in
     let long = one_longer xs x in
-    rw (is, longer, same) (record {
-      all_free = given_free fs xs x Hand at refl listed.all_free;
-      counted = omega (arith, listed.counted, count, long);
-      room = rw length-set listed.room;
-      numbered = rw length-set listed.numbered;
-    }, long)
+    rw (is, longer, same) (
+      record {
+        all_free = given_free fs xs x Hand at refl listed.all_free;
+        counted = omega (arith, listed.counted, count, long);
+        room = rw length-set listed.room;
+        numbered = rw length-set listed.numbered;
+      },
+      long,
+    )
 
 -- the last of them is taken
 pub taken : (fs new : List FrameState) (xs rest : List ℕ) (n m x : ℕ) → new ≡ set fs x Hand → xs ≡ rest ++ x ∷ [] → m ≡ n → IsListed fs xs n → IsListed new rest m × (length xs ≡ length rest + 1)
 taken fs new xs rest n m x is last same all =
     let listed : IsListed fs (rest ++ x ∷ []) n = subst (λ (ys : List ℕ). IsListed fs ys n) last all in
     let count = free_after fs x Free Hand (last_free fs rest x listed.all_free) in
-    let long = one_longer rest x in
-    (rw (is, same) (record {
-      all_free = taken_free fs rest x listed.all_free;
-      counted = omega (arith, listed.counted, count, long);
-      room = rw length-set listed.room;
-      numbered = rw length-set listed.numbered;
-    }), rw last long)
+    let long = one_longer rest x in (
+      rw (is, same) (record {
+        all_free = taken_free fs rest x listed.all_free;
+        counted = omega (arith, listed.counted, count, long);
+        room = rw length-set listed.room;
+        numbered = rw length-set listed.numbered;
+      }),
+      rw last long,
+    )
 
 -- each of these is below n
 abbrev pub AreBelow : ℕ → List ℕ → Type 0

@@ -25,7 +25,8 @@ impl Held {
     pub fn frame(&self) -> Frame
         ensures { result ≡ self.now }
     {
-        self.frame
+        let Held { frame } = self;
+        *frame
     }
 }
 
@@ -239,4 +240,49 @@ fn give_free(frames: &mut Vec<FrameState>, free: &mut Vec<Frame>, frame: Frame)
 {
     move_frame(frames, frame, FrameState::Free);
     free.push_reserved(frame);
+}
+
+#[cfg(test)]
+mod tests {
+    use super::*;
+    use std::test::Fail;
+
+    #[test]
+    fn two_frames(rt: HostRuntime) -> Result<(), Fail> {
+        let mut bank = Bank::new(rt.alloc(), 2)?;
+        assert_eq!(rt; bank.account(3), Err(Fault::Short));
+        assert_eq!(rt; bank.account(2), Ok(()));
+        assert_eq!(rt; bank.resv(), 2);
+        assert!(rt; matches!(bank.take_unreserved(), Err(Fault::NoFrame)));
+        let held = bank.take_reserved();
+        assert_eq!(rt; (bank.free(), bank.resv()), (1, 1));
+        bank.restore(held);
+        assert_eq!(rt; (bank.free(), bank.resv()), (2, 2));
+        bank.settle(2);
+        let held = bank.take_unreserved()?;
+        let number = held.frame();
+        let frame = bank.place(held);
+        assert_eq!(rt; frame, number);
+        assert!(rt; !bank.is_free(frame));
+        bank.store(frame, 9);
+        assert_eq!(rt; bank.load(frame), 9);
+        let held = bank.evict(frame);
+        bank.give(held);
+        assert_eq!(rt; bank.free(), 2);
+        let first = bank.take_unreserved()?;
+        let first = bank.place(first);
+        let second = bank.take_unreserved()?;
+        let second = bank.place(second);
+        assert_eq!(rt; (bank.load(first), bank.load(second)), (0, 0));
+        Ok(())
+    }
+
+    #[test]
+    fn texts(rt: HostRuntime) -> Result<(), Fail> {
+        let short = format!(in rt.alloc(); "{}", Fault::Short)?;
+        assert_eq!(rt; short.as_str(), "too few unreserved frames are free");
+        let none = format!(in rt.alloc(); "{}", Fault::NoFrame)?;
+        assert_eq!(rt; none.as_str(), "no unreserved frame is free");
+        Ok(())
+    }
 }
