@@ -1,5 +1,5 @@
 -- The rows of an allocation: what one step in each phase may do.
-use Rattle.std.specs.Prelude.{◌≡◌, ℕ, ◌+◌, Bool, Option, Some, None, MatchBool, MatchOption, is_some, max, nat_lt}
+use Rattle.std.specs.Prelude.{ℕ, ◌+◌, Bool, Some, None, MatchBool, MatchOption, is_some, max, nat_lt}
 use Rattle.hp_base.specs.Numbers.{put}
 use Rattle.hp_base.specs.declared.answer.Answer.TheVariants as answer
 use Rattle.hp_machine.specs.State.{Pool}

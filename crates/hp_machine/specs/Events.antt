@@ -1,6 +1,6 @@
 -- The machine: what each event may do, and what a list of events leads to.
 use Rattle.std.specs.Prelude.{◌≡◌, ℕ, ◌&&◌, Bool, true, false, not, Option, Some, None, List, [], ◌∷◌, MatchBool, MatchOption, nat_le, nat_lt, if◌then◌else◌}
-use Rattle.hp_base.specs.Numbers.{put, is_none}
+use Rattle.hp_base.specs.Numbers.{put}
 use Rattle.hp_base.specs.declared.event.Op.{Op}
 use Rattle.hp_base.specs.declared.event.Op.TheVariants as op
 use Rattle.hp_base.specs.declared.event.Event.{Event}

@@ -1,5 +1,5 @@
 -- The rows of the end of a task: what one step in each phase may do.
-use Rattle.std.specs.Prelude.{◌≡◌, ℕ, Bool, MatchOption}
+use Rattle.std.specs.Prelude.{ℕ, Bool, MatchOption}
 use Rattle.hp_base.specs.Numbers.{put}
 use Rattle.hp_base.specs.Mappings.{first_base, without}
 use Rattle.hp_base.specs.declared.answer.Answer.TheVariants as answer

@@ -1,6 +1,7 @@
 pub mod AllocRows
 pub mod Events
 pub mod ExitRows
+pub mod Headline
 pub mod MapRows
 pub mod Parts
 pub mod PunchRows
@@ -9,4 +10,5 @@ pub mod Text
 pub mod TouchRows
 pub mod TruncateRows
 pub mod UnmapRows
+pub mod Views
 pub mod Wants

@@ -1,5 +1,5 @@
 -- The rows of a map, with and without a reservation: what one step in each phase may do.
-use Rattle.std.specs.Prelude.{◌≡◌, ℕ, ◌+◌, ◌-◌, ◌≤◌, Bool, true, false, Option, Some, None, MatchBool, MatchOption, max, nat_lt}
+use Rattle.std.specs.Prelude.{ℕ, ◌+◌, ◌-◌, ◌≤◌, Bool, true, false, Option, MatchBool, MatchOption, max, nat_lt}
 use Rattle.hp_base.specs.Numbers.{put}
 use Rattle.hp_base.specs.Indices.{missing}
 use Rattle.hp_base.specs.Mappings.{IsRoom, entered}

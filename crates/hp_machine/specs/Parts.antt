@@ -1,8 +1,8 @@
 -- What rows of more than one operation say: outcomes, locks and slots, takes, changes, and the pages and
 -- entries that go.
-use Rattle.std.specs.Prelude.{◌≡◌, ℕ, ◌+◌, ◌-◌, ◌≤◌, ◌<◌, ◌&&◌, ◌||◌, ◌==◌, Bool, true, false, not, Option, Some, None, List, max, nat_le, nat_lt, MatchBool, MatchOption, if◌then◌else◌}
-use Rattle.hp_base.specs.Numbers.{put, put2, is_none}
-use Rattle.hp_base.specs.Indices.{missing, add_range, touches, splits}
+use Rattle.std.specs.Prelude.{◌≡◌, ℕ, ◌+◌, ◌-◌, ◌≤◌, ◌&&◌, ◌||◌, ◌==◌, Bool, false, not, Option, Some, None, List, max, nat_le, nat_lt, MatchBool, MatchOption, if◌then◌else◌}
+use Rattle.hp_base.specs.Numbers.{put, put2}
+use Rattle.hp_base.specs.Indices.{missing, add_range, touches}
 use Rattle.hp_base.specs.Mappings.{find, in_mapping}
 use Rattle.hp_base.specs.declared.answer.Answer.{Answer}
 use Rattle.hp_base.specs.declared.answer.Answer.TheVariants as answer

@@ -1,5 +1,5 @@
 -- The rows of a punched hole: what one step in each phase may do.
-use Rattle.std.specs.Prelude.{◌≡◌, ℕ, ◌+◌, ◌-◌, ◌&&◌, Bool, true, false, not, Option, Some, None, MatchBool, is_some, nat_lt, nat_le, if◌then◌else◌}
+use Rattle.std.specs.Prelude.{ℕ, ◌+◌, ◌-◌, ◌&&◌, Bool, true, false, not, MatchBool, is_some, nat_lt, nat_le, if◌then◌else◌}
 use Rattle.hp_base.specs.Numbers.{put, put2}
 use Rattle.hp_base.specs.Indices.{splits}
 use Rattle.hp_base.specs.declared.answer.Answer.TheVariants as answer

@@ -1,5 +1,5 @@
 -- The state of a pool, as functions of numbers: frames, files, slots, tasks and their calls.
-use Rattle.std.specs.Prelude.{ℕ, ◌+◌, ◌*◌, ◌%◌, Bool, true, false, Option, Some, None, List, ◌==◌}
+use Rattle.std.specs.Prelude.{ℕ, ◌+◌, ◌*◌, ◌%◌, Bool, true, false, Option, List}
 use Rattle.hp_base.specs.Indices.{count_below}
 use Rattle.hp_base.specs.declared.mapping.Mapping.{Mapping}
 use Rattle.hp_frames.specs.declared.frame.FrameState.{FrameState}

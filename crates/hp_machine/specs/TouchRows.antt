@@ -1,7 +1,7 @@
 -- The rows of a touch, a load or a store: what one step in each phase may do.
-use Rattle.std.specs.Prelude.{◌≡◌, ℕ, ◌+◌, Bool, Option, Some, None, MatchBool, MatchOption, nat_le}
+use Rattle.std.specs.Prelude.{◌≡◌, ℕ, ◌+◌, Bool, Some, MatchBool, MatchOption, nat_le}
 use Rattle.std.specs.Prelude.{is_some}
-use Rattle.hp_base.specs.Numbers.{put, put2}
+use Rattle.hp_base.specs.Numbers.{put2}
 use Rattle.hp_base.specs.Mappings.{find}
 use Rattle.hp_base.specs.declared.answer.Answer.TheVariants as answer
 use Rattle.hp_frames.specs.declared.frame.FrameState.TheVariants.{Placed}

@@ -1,5 +1,5 @@
 -- The rows of a truncation: what one step in each phase may do.
-use Rattle.std.specs.Prelude.{◌≡◌, ℕ, ◌+◌, ◌-◌, ◌≤◌, Bool, Option, Some, None, MatchBool, is_some, max, nat_lt}
+use Rattle.std.specs.Prelude.{◌≡◌, ℕ, ◌+◌, ◌-◌, ◌≤◌, Bool, Option, None, MatchBool, is_some, max, nat_lt}
 use Rattle.hp_base.specs.Numbers.{put}
 use Rattle.hp_base.specs.Indices.{count_within, cut_tail}
 use Rattle.hp_base.specs.declared.answer.Answer.TheVariants as answer

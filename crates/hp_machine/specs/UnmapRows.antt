@@ -1,5 +1,5 @@
 -- The rows of an unmap of a whole mapping: what one step in each phase may do.
-use Rattle.std.specs.Prelude.{◌≡◌, ℕ, Bool, MatchBool}
+use Rattle.std.specs.Prelude.{ℕ, Bool, MatchBool}
 use Rattle.hp_base.specs.Numbers.{put}
 use Rattle.hp_base.specs.Mappings.{is_base, without}
 use Rattle.hp_base.specs.declared.answer.Answer.TheVariants as answer

@@ -1,5 +1,5 @@
 -- Which rows want growth: a Step that isn't granted is denied in these alone.
-use Rattle.std.specs.Prelude.{◌≡◌, ℕ, ◌+◌, ◌≤◌, ◌<◌, true, Some}
+use Rattle.std.specs.Prelude.{◌≡◌, ℕ, ◌≤◌, ◌<◌, true, Some}
 use Rattle.hp_base.specs.Indices.{splits}
 use Rattle.hp_base.specs.Mappings.{IsRoom}
 use Rattle.hp_machine.specs.State.{Pool}
@@ -7,9 +7,6 @@ use Rattle.hp_machine.specs.declared.touch.TouchPhase.{TouchPhase}
 use Rattle.hp_machine.specs.declared.map.MapPhase.{MapPhase}
 use Rattle.hp_machine.specs.declared.alloc.AllocPhase.{AllocPhase}
 use Rattle.hp_machine.specs.declared.punch.PunchPhase.{PunchPhase}
-use Rattle.hp_machine.specs.declared.truncate.TruncatePhase.{TruncatePhase}
-use Rattle.hp_machine.specs.declared.unmap.UnmapPhase.{UnmapPhase}
-use Rattle.hp_machine.specs.declared.exit.ExitPhase.{ExitPhase}
 use Rattle.hp_machine.specs.declared.touch.TouchPhase.TheVariants as touch
 use Rattle.hp_machine.specs.declared.map.MapPhase.TheVariants as map
 use Rattle.hp_machine.specs.declared.alloc.AllocPhase.TheVariants as alloc
