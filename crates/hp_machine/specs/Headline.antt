@@ -1,0 +1,55 @@
+-- The headline: what holds in every state that a run reaches.
+use Rattle.std.specs.Prelude.{◌≡◌, ℕ, ◌+◌, ◌≤◌, ◌<◌, Option, Some, None}
+use Rattle.hp_base.specs.Numbers.{total}
+use Rattle.hp_base.specs.Indices.{vacant}
+use Rattle.hp_base.specs.Mappings.{find}
+use Rattle.hp_frames.specs.declared.frame.FrameState.{FrameState}
+use Rattle.hp_frames.specs.declared.frame.FrameState.TheVariants as frame
+use Rattle.hp_machine.specs.State.{State, free_frames}
+use Rattle.hp_machine.specs.Views.{less, more, hand}
+
+-- each table entry lies in a mapping of its task, and the file's page at its index is the entry's frame
+abbrev pub Agrees : State → Type 0
+Agrees s = (t v x : ℕ) → s.table t v ≡ Some x → (place : ℕ × ℕ) × (find (s.areas t) v ≡ Some place) × (s.pages place.0 place.1 ≡ Some x)
+
+-- where a frame can be
+pub data Place : Type 0 where
+  Free : Place
+  Hand : (task : ℕ) → Place
+  Page : (file index : ℕ) → Place
+
+abbrev pub IsAt : (ℕ → FrameState) → (hands : ℕ → Option ℕ) → (pages : ℕ → ℕ → Option ℕ) → ℕ → Place → Type 0
+IsAt states hands pages x Free = states x ≡ frame.Free
+IsAt states hands pages x (Hand t) = hands t ≡ Some x
+IsAt states hands pages x (Page f i) = pages f i ≡ Some x
+
+-- each frame is at exactly one place, and what is at a place is a frame
+pub record OnePlace (frames : ℕ) (frame : ℕ → FrameState) (hands : ℕ → Option ℕ) (pages : ℕ → ℕ → Option ℕ) : Type 0 where
+  pub one : (x : ℕ) → x < frames → (p : Place) × IsAt frame hands pages x p × ((q : Place) → IsAt frame hands pages x q → q ≡ p)
+  pub real : (x : ℕ) (p : Place) → IsAt frame hands pages x p → x < frames
+
+-- an index of a file with no holder of its lock that some task translates is below the size
+abbrev pub IsBelow : State → Type 0
+IsBelow s = (t v x f i : ℕ) → s.table t v ≡ Some x → find (s.areas t) v ≡ Some (f, i) → s.locks f ≡ None → i < s.size f
+
+-- how many indices of all files are reserved and have no page
+abbrev pub vacant_in : State → ℕ
+vacant_in s = total s.geometry.files (λ f. vacant s.geometry.limit (s.reserved f) (s.pages f))
+
+-- what the calls in flight owe, both ways; tasks are counted from 1
+abbrev pub all_less : State → ℕ
+all_less s = total (s.geometry.tasks + 1) (λ t. less (s.calls t))
+
+abbrev pub all_more : State → ℕ
+all_more s = total (s.geometry.tasks + 1) (λ t. more (s.calls t))
+
+-- Translations of one file index name one frame; each frame is in one place; no translation lies beyond the
+-- size of an unlocked file; the reserve count is the number of reserved indices without a page, plus what the
+-- calls in flight owe, and at most the free frames; it is exactly that number where no call owes anything.
+pub record Headline (s : State) : Type 0 where
+  pub agree : Agrees s
+  pub place : OnePlace s.frames s.frame (λ t. hand (s.calls t)) s.pages
+  pub below : IsBelow s
+  pub count : s.resv + all_less s ≡ vacant_in s + all_more s
+  pub enough : s.resv ≤ free_frames s.frame s.frames
+  pub settled : ((t : ℕ) → (less (s.calls t) ≡ 0) × (more (s.calls t) ≡ 0)) → s.resv ≡ vacant_in s

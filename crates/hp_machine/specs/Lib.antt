@@ -1,0 +1,14 @@
+pub mod AllocRows
+pub mod Events
+pub mod ExitRows
+pub mod Headline
+pub mod MapRows
+pub mod Parts
+pub mod PunchRows
+pub mod State
+pub mod Text
+pub mod TouchRows
+pub mod TruncateRows
+pub mod UnmapRows
+pub mod Views
+pub mod Wants

@@ -1,0 +1,93 @@
+-- The state of a pool, as functions of numbers: frames, files, slots, tasks and their calls.
+use Rattle.std.specs.Prelude.{ℕ, ◌+◌, ◌*◌, ◌%◌, Bool, true, false, Option, List}
+use Rattle.hp_base.specs.Indices.{count_below}
+use Rattle.hp_base.specs.declared.mapping.Mapping.{Mapping}
+use Rattle.hp_frames.specs.declared.frame.FrameState.{FrameState}
+use Rattle.hp_frames.specs.declared.frame.FrameState.TheVariants.{Free, Hand, Placed}
+use Rattle.hp_machine.specs.declared.outcome.Life.{Life}
+use Rattle.hp_machine.specs.declared.outcome.Life.TheVariants.{Alive, Killed, Dead}
+use Rattle.hp_machine.specs.declared.call.Call.{Call}
+
+-- how large it all is: files, slots and tasks, the indices of a file, and the virtual pages of a task
+pub record Geometry : Type 0 where
+  pub files : ℕ
+  pub slots : ℕ
+  pub tasks : ℕ
+  pub limit : ℕ
+  pub space : ℕ
+
+-- What all calls share. Per frame: where it is; `resv` is the count of reserved pages. Per slot and per
+-- file lock: the task that holds it. Per file: size, open changes, spare descriptors, the set of reserved
+-- indices, and the frame of each page. Per task: whether room for one mapping is prepared, its mappings
+-- and its translations.
+pub record Pool : Type 0 where
+  pub geometry : Geometry
+  pub frames : ℕ
+  pub frame : ℕ → FrameState
+  pub resv : ℕ
+  pub slots : ℕ → Option ℕ
+  pub locks : ℕ → Option ℕ
+  pub size : ℕ → ℕ
+  pub pending : ℕ → ℕ
+  pub spare : ℕ → ℕ
+  pub reserved : ℕ → ℕ → Bool
+  pub pages : ℕ → ℕ → Option ℕ
+  pub prepared : ℕ → Bool
+  pub areas : ℕ → List Mapping
+  pub table : ℕ → ℕ → Option ℕ
+
+-- and with it how each task lives, and its call in flight
+pub record State : Type 0 where
+  pub geometry : Geometry
+  pub frames : ℕ
+  pub frame : ℕ → FrameState
+  pub resv : ℕ
+  pub slots : ℕ → Option ℕ
+  pub locks : ℕ → Option ℕ
+  pub size : ℕ → ℕ
+  pub pending : ℕ → ℕ
+  pub spare : ℕ → ℕ
+  pub reserved : ℕ → ℕ → Bool
+  pub pages : ℕ → ℕ → Option ℕ
+  pub prepared : ℕ → Bool
+  pub areas : ℕ → List Mapping
+  pub table : ℕ → ℕ → Option ℕ
+  pub life : ℕ → Life
+  pub calls : ℕ → Option Call
+
+abbrev pub pool_of : State → Pool
+pool_of s = record { geometry = s.geometry; frames = s.frames; frame = s.frame; resv = s.resv; slots = s.slots; locks = s.locks; size = s.size; pending = s.pending; spare = s.spare; reserved = s.reserved; pages = s.pages; prepared = s.prepared; areas = s.areas; table = s.table }
+
+abbrev pub with_pool : State → Pool → State
+with_pool s p = record { geometry = p.geometry; frames = p.frames; frame = p.frame; resv = p.resv; slots = p.slots; locks = p.locks; size = p.size; pending = p.pending; spare = p.spare; reserved = p.reserved; pages = p.pages; prepared = p.prepared; areas = p.areas; table = p.table; life = s.life; calls = s.calls }
+
+abbrev pub is_free : FrameState → Bool
+is_free Free = true
+is_free Hand = false
+is_free (Placed word) = false
+
+-- how many of the first frames are free
+unfoldable pub free_frames : (ℕ → FrameState) → (frames : ℕ) → ℕ
+free_frames frame frames = count_below (λ x. is_free (frame x)) frames
+
+abbrev pub frees : Pool → ℕ
+frees s = free_frames s.frame s.frames
+
+-- the slot of an index in the fault mutex table (Linux: `hugetlb_fault_mutex_hash`)
+abbrev pub slot_of : Geometry → (file index : ℕ) → ℕ
+slot_of g file index = (index + 31 * file) % g.slots
+
+abbrev pub is_alive : Life → Bool
+is_alive Alive = true
+is_alive Killed = false
+is_alive Dead = false
+
+abbrev pub is_killed : Life → Bool
+is_killed Alive = false
+is_killed Killed = true
+is_killed Dead = false
+
+abbrev pub is_dead : Life → Bool
+is_dead Alive = false
+is_dead Killed = false
+is_dead Dead = true
