@@ -1,9 +1,10 @@
 -- Laws of `count_below`.
 use Rattle.std.proofs.Common.{◌≡◌, ℕ, zero, suc, ◌+◌, ◌-◌, ◌<◌, ◌≤◌, min, Bool, true, false, cond, not, ◌&&◌, ◌||◌, refl, arith}
-use Rattle.std.specs.Prelude.{nat_le, nat_eq}
+use Rattle.std.specs.Prelude.{nat_le, nat_lt, nat_eq}
 use Rattle.std.proofs.lemmas.Bool.{leb-true, leb-false}
 use Rattle.std.proofs.lemmas.Bool.Decides.{nat_tests}
-use Rattle.hp_base.specs.Indices.{is_within, count_below, count_within, missing, add_range}
+use Rattle.hp_base.specs.Indices.{is_within, count_below, count_within, missing, add_range, cut_tail}
+use Rattle.hp_base.specs.Numbers.{put}
 
 -- the general law: where each number counts in r as it does in p and q together, so do all of them
 pub count_below-sum : (p q r : ℕ → Bool) (n : ℕ) → ((k : ℕ) → k < n → cond (r k) 1 0 ≡ cond (p k) 1 0 + cond (q k) 1 0) → count_below r n ≡ count_below p n + count_below q n
@@ -79,6 +80,27 @@ count_below-add_range p c from to n within inside =
     let same = count_below-ext fresh (λ k. nat_le from k && not (p k)) to (λ k below. grind (arith, nat_tests)) in
     omega (arith, parts, short, same)
 
+-- what a range adds
+pub count_below-added : (p : ℕ → Bool) (from to n : ℕ) → to ≤ n → count_below (add_range p from to) n ≡ count_below p n + missing p from to
+unfolding missing add_range
+count_below-added p from to n within =
+    let fresh : ℕ → Bool = λ k. is_within from to k && not (p k) in
+    let parts = count_below-sum p fresh (λ k. is_within from to k || p k) n (λ k below. grind (arith, nat_tests)) in
+    let short = count_below_past fresh to n within (λ k past. grind (arith, nat_tests)) in
+    let same = count_below-ext fresh (λ k. nat_le from k && not (p k)) to (λ k below. grind (arith, nat_tests)) in
+    omega (arith, parts, short, same)
+
+-- the members below a bound and those from it on are all
+pub count_below-cut_tail : (p : ℕ → Bool) (from n : ℕ) → count_below (cut_tail p from) n + count_within p from n ≡ count_below p n
+unfolding count_within cut_tail
+count_below-cut_tail p from n =
+    let parts = count_below-sum (λ k. nat_lt k from && p k) (λ k. nat_le from k && p k) p n (λ k below. grind (arith, nat_tests)) in
+    omega (arith, parts)
+
+-- no more is missing than the range has
+pub missing_le : (p : ℕ → Bool) (from to : ℕ) → missing p from to ≤ to - from
+missing_le p from to = omega (arith, count_within-missing p from to)
+
 same_number : (k i : ℕ) → nat_eq k i ≡ true → k ≡ i
 same_number k i e = grind (arith, nat_tests)
 
@@ -95,3 +117,8 @@ count_below_one p q i n within there gone others =
     ] refl) in
     let one = count_below-is_within i (i + 1) n in
     omega (arith, parts, one)
+
+pub count_below-put_false : (p : ℕ → Bool) (i n : ℕ) → i < n → p i ≡ true → count_below p n ≡ count_below (put p i false) n + 1
+unfolding put
+count_below-put_false p i n within there =
+    count_below_one p (put p i false) i n within there (grind (arith, nat_tests)) (λ k other. grind (arith, nat_tests, other))

@@ -1,0 +1,5 @@
+pub mod Canonical
+pub mod Held
+pub mod Sets
+pub mod Sought
+pub mod Walked

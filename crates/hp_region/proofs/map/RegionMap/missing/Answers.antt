@@ -1,0 +1,23 @@
+use Rattle.std.proofs.Common.{◌≡◌, ◌-◌, ◌≤◌, ◌+◌, rules, arith, sym, ap, ◌∙◌}
+use Rattle.hp_region.specs.Regions.{is_member}
+use Rattle.hp_region.specs.Reserved.{Reserved}
+use Rattle.hp_region.specs.declared.region.Region.{Region}
+use Rattle.hp_base.specs.Indices.{count_within, missing}
+use Rattle.hp_base.proofs.Counting.{count_within-missing, missing_anti}
+use Rattle.hp_region.proofs.map.RegionMap.missing.Goals as goal
+
+-- what is held, of the regions that the caller sees
+held_is : (c : goal.After-held) → c.held.result ≡ count_within (is_member c.args.self.now.regions) c.args.from c.args.to
+held_is c = rw (← c.self.view_is, ← c.deref.ensures.value) c.held.ensures.counted
+
+pub overflow_sub-result-2 : goal.overflow_sub-result-2
+overflow_sub-result-2 c = omega (arith, held_is c, count_within-missing (is_member c.args.self.now.regions) c.args.from c.args.to)
+
+pub returns : goal.returns
+returns c =
+    let set = is_member c.args.self.now.regions in
+    let whole = count_within-missing set c.args.from c.args.to in
+    record {
+      counted = omega (arith, held_is c, whole);
+      no_more = λ other keeps. omega (arith, held_is c, whole, missing_anti other set c.args.from c.args.to keeps);
+    }
