@@ -12,6 +12,11 @@ abbrev pub find : List Mapping → ℕ → Option (ℕ × ℕ)
 find [] v = None
 find (m ∷ ms) v = if covers m v then Some (m.file, m.from + (v - m.base)) else find ms v
 
+-- the base of the mapping in which a virtual page lies
+abbrev pub base_of : List Mapping → ℕ → Option ℕ
+base_of [] v = None
+base_of (m ∷ ms) v = if covers m v then Some m.base else base_of ms v
+
 -- the pages [base, base + len) lie in no mapping
 abbrev pub is_clear : List Mapping → (base len : ℕ) → Bool
 is_clear [] base len = true

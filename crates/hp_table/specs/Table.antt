@@ -1,0 +1,22 @@
+-- What the space of a task is seen as.
+use Rattle.std.specs.Prelude.{ℕ, Bool, List, refl}
+use Rattle.std.specs.Ordering.{nat_cmp}
+use Rattle.std.specs.FinMap.{FinMap, code}
+use Rattle.std.specs.Coded.{Coded, code_by, coded×, coded_list, coded_bool, coded_ℕ}
+use Rattle.hp_base.specs.declared.mapping.Mapping.{Mapping}
+
+-- the mappings in order of their bases, the frame of each virtual page that is translated, and whether
+-- room for one mapping more is prepared
+pub record Table : Type 0 where
+  pub mappings : List Mapping
+  pub entries : FinMap nat_cmp ℕ
+  pub ready : Bool
+
+-- how a proof tells two of them apart
+abbrev pub mapping_code : Coded Mapping
+mapping_code =
+    code_by (ℕ × (ℕ × (ℕ × ℕ))) (coded× coded_ℕ (coded× coded_ℕ (coded× coded_ℕ coded_ℕ))) (λ m. (m.base, (m.file, (m.from, m.len)))) (λ p. record { base = p.0; file = p.1.0; from = p.1.1.0; len = p.1.1.1 }) (λ _. refl)
+
+abbrev pub table_code : Coded Table
+table_code =
+    code_by (List Mapping × (FinMap nat_cmp ℕ × Bool)) (coded× (coded_list mapping_code) (coded× (code coded_ℕ coded_ℕ) coded_bool)) (λ t. (t.mappings, (t.entries, t.ready))) (λ p. record { mappings = p.0; entries = p.1.0; ready = p.1.1 }) (λ _. refl)

@@ -1,0 +1,13 @@
+//! What a task has mapped, and which of its virtual pages are translated (Linux: the VMAs of an
+//! `mm_struct`, and its page table).
+//!
+//! It stands on hp_base. A space is seen as the list of its mappings in order of their bases, the
+//! finite map of its entries from virtual page to frame, and whether room for a mapping is prepared.
+//! Its mappings share no page and end within the space. It knows neither what a file holds nor who
+//! owns a frame.
+#![tactic(auto)]
+
+mod search;
+mod space;
+
+pub use space::Space;

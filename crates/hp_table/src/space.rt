@@ -1,0 +1,153 @@
+//! The space of a task.
+ghost use Rattle.std.specs.Prelude.{◌≡◌, ◌+◌, ◌<◌, ◌≤◌, ◌↔◌, [], length, true, false, IsTrue, OnOk, OnErr, IfSome, All};
+ghost use Rattle.std.specs.FinMap as map;
+ghost use Rattle.hp_base.specs.Mappings.{find, base_of, is_base, fits, entered, first_base, IsRoom, IsSpread};
+ghost use Rattle.hp_table.specs.Table.{Table};
+
+use crate::search;
+use hp_base::{File, Frame, Index, LIMIT, Mapping, VPNS, Vpn};
+use std::alloc::{AllocError, Global};
+use std::marker::Model;
+
+/// The mappings of a task, and its page table.
+#[derive(Drop)]
+pub struct Space {
+    // in order of their bases
+    mappings: Vec<Mapping>,
+    // in order of the virtual pages
+    entries: Vec<(Vpn, Frame)>,
+    // whether room for one mapping more is prepared
+    ready: bool,
+}
+
+impl Model for Space {
+    ghost use Rattle.std.specs.Prelude.{◌+◌, ◌<◌, ◌≤◌, IsTrue, All, vec_len, vec_capacity};
+    ghost use Rattle.std.specs.Ordering.{nat_cmp};
+    ghost use Rattle.std.specs.FinMap as map;
+    ghost use Rattle.hp_base.specs.declared.limits.TheConstants.{LIMIT, VPNS};
+    ghost use Rattle.hp_base.specs.Mappings.{IsSpread};
+    ghost use Rattle.hp_table.specs.Table.{Table, table_code};
+
+    ghost Value = { Table };
+
+    ghost coded = { table_code };
+
+    ghost view = { λ s. record { mappings = s.mappings.items; entries = map.from_sorted s.entries.items; ready = s.ready } };
+
+    ghost invariant = { λ s. record {
+      spread : IsSpread VPNS 0 s.mappings.items;
+      in_files : All (λ m. m.from + m.len ≤ LIMIT) s.mappings.items;
+      in_order : IsTrue (map.is_sorted nat_cmp s.entries.items);
+      room : IsTrue s.ready → vec_len s.mappings < vec_capacity s.mappings;
+    } };
+}
+
+impl Space {
+    /// A space with no mapping.
+    pub fn new(alloc: Global) -> Self
+        ensures mappings { result.mappings ≡ [] }
+        ensures entries { result.entries ≡ map.empty }
+        ensures ready { result.ready ≡ false }
+    {
+        Space {
+            mappings: Vec::new(alloc),
+            entries: Vec::new(alloc),
+            ready: false,
+        }
+    }
+
+    /// The least base at which a mapping of that length fits. The mappings are looked at once, in
+    /// order (Linux: `hugetlb_get_unmapped_area`).
+    pub fn room(&self, len: u32) -> Option<Vpn>
+        ensures { IsRoom VPNS self.now.mappings len result }
+    {
+        search::room(&self.mappings, len)
+    }
+
+    /// Prepares room for one mapping more.
+    pub fn prepare(&mut self) -> Result<(), AllocError>
+        ensures ok { OnOk result (self.new ≡ record self.old { ready = true }) }
+        ensures err { OnErr result (self.new ≡ self.old) }
+    {
+        self.mappings.reserve(1)?;
+        self.ready = true;
+        Ok(())
+    }
+
+    /// Whether room for one mapping more is prepared: from `prepare` to the next `enter`.
+    pub fn ready(&self) -> bool
+        ensures { result ≡ self.now.ready }
+    {
+        self.ready
+    }
+
+    /// Maps `len` pages from `base` on to the indices of the file from `from` on, in the room that
+    /// was prepared. Its place is found by binary search.
+    pub fn enter(&mut self, base: Vpn, file: File, from: Index, len: u32)
+        requires ready { IsTrue self.old.ready }
+        requires some { 1 ≤ len }
+        requires fits { fits VPNS self.old.mappings base len ≡ true }
+        requires in_file { from + len ≤ LIMIT }
+        ensures mappings { self.new.mappings ≡ entered self.old.mappings (record { base = base; file = file; from = from; len = len }) }
+        ensures entries { self.new.entries ≡ self.old.entries }
+        ensures ready { self.new.ready ≡ false }
+    {
+        let at = search::begun(&self.mappings, base);
+        let mapping = Mapping {
+            base,
+            file,
+            from,
+            len,
+        };
+        self.mappings.insert(at, mapping).unwrap();
+        self.ready = false;
+    }
+
+    /// The file and the index that a virtual page stands for, where a mapping has it. It is found by
+    /// binary search, which looks at O(log n) of n mappings (Linux: `vma_hugecache_offset`).
+    pub fn find(&self, vpn: Vpn) -> Option<(File, Index)>
+        ensures found { result ≡ find self.now.mappings vpn }
+        ensures in_file { IfSome result (λ place. place.1 < LIMIT) }
+    {
+        let mapping = search::holder(&self.mappings, vpn)?;
+        let index = mapping.from.number() + (vpn.number() - mapping.base.number());
+        Some((mapping.file, Index::new(index)))
+    }
+
+    /// The base of the mapping that has a virtual page, found as `find` does.
+    pub fn base_of(&self, vpn: Vpn) -> Option<Vpn>
+        ensures base { result ≡ base_of self.now.mappings vpn }
+
+        // It is the page itself exactly where a mapping begins there.
+        ensures begins { (result ≡ Some vpn) ↔ IsTrue (is_base self.now.mappings vpn) }
+    {
+        let mapping = search::holder(&self.mappings, vpn)?;
+        Some(mapping.base)
+    }
+
+    /// The least base of a mapping.
+    pub fn first(&self) -> Option<Vpn>
+        ensures { result ≡ first_base self.now.mappings }
+    {
+        let mapping = self.mappings.first()?;
+        Some(mapping.base)
+    }
+
+    /// The number of mappings.
+    pub fn mappings(&self) -> usize
+        ensures value { result ≡ length self.now.mappings }
+
+        // They stand in order, share no page, and end within the space and within their files.
+        ensures spread { IsSpread VPNS 0 self.now.mappings }
+        ensures in_files { All (λ m. m.from + m.len ≤ LIMIT) self.now.mappings }
+    {
+        self.mappings.len()
+    }
+
+    /// The number of virtual pages that are translated.
+    pub fn entries(&self) -> usize
+        ensures { result ≡ map.len self.now.entries }
+    {
+        self.entries.len()
+    }
+}
