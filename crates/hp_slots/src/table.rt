@@ -15,6 +15,17 @@ pub enum Fault {
     Busy(Task),
 }
 
+impl Fault {
+    /// Who holds the place.
+    pub fn holder(self) -> Task
+        ensures { result ≡ holder_in self }
+    {
+        match self {
+            Fault::Busy(holder) => holder,
+        }
+    }
+}
+
 /// Who holds each of some places.
 #[derive(Drop)]
 pub struct SlotTable {

@@ -1,0 +1,163 @@
+-- What one write to a list does to the functions that the machine sees, and what they tell.
+use Rattle.std.proofs.Common.{◌≡◌, ◌≢◌, ℕ, ◌+◌, ◌-◌, ◌<◌, ◌≤◌, List, length, get_or, set, refl, sym, ◌∙◌, ap, subst, arith, inl, inr}
+use Rattle.std.proofs.Math.Path.{fun_ext}
+use Rattle.std.specs.Prelude.{Bool, true, false, Option, Some, None, ◌==◌, slice_set, slice_index_or}
+use Rattle.std.specs.Ordering.{nat_cmp}
+use Rattle.std.specs.FinMap.{FinMap, get}
+use Rattle.std.proofs.lemmas.Bool.{ne_eqb}
+use Rattle.std.proofs.lemmas.Bool.Decides.{nat_tests}
+use Rattle.std.proofs.lemmas.Grind.{common_steps}
+use Rattle.std.proofs.lemmas.List.{get_or-set_same, get_or-set_other, length-set}
+use Rattle.hp_base.specs.Numbers.{put}
+use Rattle.hp_base.specs.Indices.{count_below, add_range}
+use Rattle.hp_base.specs.declared.mapping.Mapping.{Mapping}
+use Rattle.hp_base.proofs.Counting.{count_below-ext}
+use Rattle.hp_base.proofs.Puts.{put_same, put_other, put_self, same_or_other}
+use Rattle.hp_base.proofs.Lists.{at_set, at_same}
+use Rattle.hp_frames.specs.Bank as bank
+use Rattle.hp_frames.specs.declared.frame.FrameState.{FrameState}
+use Rattle.hp_frames.specs.declared.frame.FrameState.TheVariants.{Free, Hand, Placed}
+use Rattle.hp_region.specs.Regions.{is_member}
+use Rattle.hp_region.specs.declared.region.Region.{Region}
+use Rattle.hp_table.specs.Table.{Table}
+use Rattle.hp_machine.specs.State as machine
+use Rattle.hp_fault.specs.declared.parts.FileState.{FileState}
+use Rattle.hp_fault.specs.View.{no_file, no_table, holders_of, sizes_of, pendings_of, spares_of, sets_of, pages_of, table_of, prepared_of, areas_of, entries_of}
+
+-- the bank's count of free frames is the machine's
+same_free : (s : FrameState) → machine.is_free s ≡ bank.is_free s
+same_free Free = refl
+same_free Hand = refl
+same_free (Placed word) = refl
+
+pub free_frames_is : (xs : List FrameState) → machine.free_frames (bank.frame_at xs) (length xs) ≡ bank.free_frames xs
+unfolding machine.free_frames bank.free_frames
+free_frames_is xs = count_below-ext _ _ (length xs) (λ x _. same_free (bank.frame_at xs x))
+
+-- holders
+pub holders_set : (xs : List (Option ℕ)) (k : ℕ) (h : Option ℕ) → k < length xs → holders_of (slice_set xs k h) ≡ put (holders_of xs) k h
+unfolding holders_of
+holders_set xs k h l = at_set (λ o. o) None xs k h l
+
+pub holders_at : (xs : List (Option ℕ)) (k : ℕ) → holders_of xs k ≡ slice_index_or xs k None
+unfolding holders_of
+holders_at xs x = refl
+
+-- files
+pub sizes_at : (xs : List FileState) (f : ℕ) → sizes_of xs f ≡ (slice_index_or xs f no_file).size
+unfolding sizes_of
+sizes_at xs f = refl
+
+pub pendings_at : (xs : List FileState) (f : ℕ) → pendings_of xs f ≡ (slice_index_or xs f no_file).map.pending
+unfolding pendings_of
+pendings_at xs f = refl
+
+pub spares_at : (xs : List FileState) (f : ℕ) → spares_of xs f ≡ (slice_index_or xs f no_file).map.spare
+unfolding spares_of
+spares_at xs f = refl
+
+pub sets_at : (xs : List FileState) (f : ℕ) → sets_of xs f ≡ is_member (slice_index_or xs f no_file).map.regions
+unfolding sets_of
+sets_at xs f = refl
+
+pub sizes_set : (xs : List FileState) (f : ℕ) (y : FileState) → f < length xs → sizes_of (slice_set xs f y) ≡ put (sizes_of xs) f y.size
+unfolding sizes_of
+sizes_set xs f y l = at_set (λ file. file.size) no_file xs f y l
+
+pub sizes_same : (xs : List FileState) (f : ℕ) (y : FileState) → f < length xs → y.size ≡ (slice_index_or xs f no_file).size → sizes_of (slice_set xs f y) ≡ sizes_of xs
+unfolding sizes_of
+sizes_same xs f y l e = at_same (λ file. file.size) no_file xs f y l e
+
+pub pendings_set : (xs : List FileState) (f : ℕ) (y : FileState) → f < length xs → pendings_of (slice_set xs f y) ≡ put (pendings_of xs) f y.map.pending
+unfolding pendings_of
+pendings_set xs f y l = at_set (λ file. file.map.pending) no_file xs f y l
+
+pub pendings_same : (xs : List FileState) (f : ℕ) (y : FileState) → f < length xs → y.map.pending ≡ (slice_index_or xs f no_file).map.pending → pendings_of (slice_set xs f y) ≡ pendings_of xs
+unfolding pendings_of
+pendings_same xs f y l e = at_same (λ file. file.map.pending) no_file xs f y l e
+
+pub spares_set : (xs : List FileState) (f : ℕ) (y : FileState) → f < length xs → spares_of (slice_set xs f y) ≡ put (spares_of xs) f y.map.spare
+unfolding spares_of
+spares_set xs f y l = at_set (λ file. file.map.spare) no_file xs f y l
+
+pub spares_same : (xs : List FileState) (f : ℕ) (y : FileState) → f < length xs → y.map.spare ≡ (slice_index_or xs f no_file).map.spare → spares_of (slice_set xs f y) ≡ spares_of xs
+unfolding spares_of
+spares_same xs f y l e = at_same (λ file. file.map.spare) no_file xs f y l e
+
+pub sets_set : (xs : List FileState) (f : ℕ) (y : FileState) → f < length xs → sets_of (slice_set xs f y) ≡ put (sets_of xs) f (is_member y.map.regions)
+unfolding sets_of
+sets_set xs f y l = at_set {B = ℕ → Bool} (λ file. is_member file.map.regions) no_file xs f y l
+
+pub sets_same : (xs : List FileState) (f : ℕ) (y : FileState) → f < length xs → y.map.regions ≡ (slice_index_or xs f no_file).map.regions → sets_of (slice_set xs f y) ≡ sets_of xs
+unfolding sets_of
+sets_same xs f y l e = at_same {B = ℕ → Bool} (λ file. is_member file.map.regions) no_file xs f y l (ap {B = ℕ → Bool} (λ (rs : List Region). is_member rs) e)
+
+pub pages_same : (xs : List FileState) (f : ℕ) (y : FileState) → f < length xs → pages_of (slice_set xs f y) ≡ pages_of xs
+unfolding pages_of
+pages_same xs f y l = refl
+
+-- tasks
+pub prepared_at : (xs : List Table) (t : ℕ) → prepared_of xs t ≡ (table_of xs t).ready
+unfolding prepared_of
+prepared_at xs t = refl
+
+pub areas_at : (xs : List Table) (t : ℕ) → areas_of xs t ≡ (table_of xs t).mappings
+unfolding areas_of
+areas_at xs t = refl
+
+-- what is seen of a function that changes at one place
+seen_put : {A B : Type 0} (v : A → B) (f : ℕ → A) (k : ℕ) (a : A) → ◌≡◌ {A = ℕ → B} (λ (j : ℕ). v (put f k a j)) (put (λ (j : ℕ). v (f j)) k (v a))
+seen_put {A} {B} v f k a = fun_ext (λ j. elim (same_or_other j k) [
+  | inl e ↦ subst (λ (w : ℕ). v (put f k a w) ≡ put (λ (u : ℕ). v (f u)) k (v a) w) (sym e) (ap v (put_same f k a) ∙ sym (put_same (λ (u : ℕ). v (f u)) k (v a)))
+  | inr h ↦ ap v (put_other f k a j h) ∙ sym (put_other (λ (u : ℕ). v (f u)) k (v a) j h)
+])
+
+put_known : {A : Type 0} (f : ℕ → A) (k : ℕ) (v : A) → f k ≡ v → put f k v ≡ f
+put_known {A} f k v e = subst (λ (w : A). put f k w ≡ f) e (put_self f k)
+
+at_task : (xs : List Table) (t : ℕ) (y : Table) → 1 ≤ t → t ≤ length xs → table_of (slice_set xs (t - 1) y) t ≡ y
+at_task xs t y low high = grind (arith, common_steps, nat_tests, get_or-set_same)
+
+off_task : (xs : List Table) (t : ℕ) (y : Table) (j : ℕ) → 1 ≤ t → j ≢ t → table_of (slice_set xs (t - 1) y) j ≡ table_of xs j
+off_task xs t y j low h = elim (same_or_other j 0) [
+  | inl e ↦ rw e refl
+  | inr d ↦ (let q : (j == 0) ≡ false = ne_eqb j 0 d in rw q (get_or-set_other xs (t - 1) (j - 1) y no_table (λ e. h (omega arith))))
+]
+
+table_set : (xs : List Table) (t : ℕ) (y : Table) → 1 ≤ t → t ≤ length xs → ◌≡◌ {A = ℕ → Table} (λ j. table_of (slice_set xs (t - 1) y) j) (put (λ j. table_of xs j) t y)
+table_set xs t y low high = fun_ext (λ j. elim (same_or_other j t) [
+  | inl e ↦ subst (λ (w : ℕ). table_of (slice_set xs (t - 1) y) w ≡ put (λ j. table_of xs j) t y w) (sym e) (at_task xs t y low high ∙ sym (put_same (λ j. table_of xs j) t y))
+  | inr h ↦ off_task xs t y j low h ∙ sym (put_other (λ j. table_of xs j) t y j h)
+])
+
+-- a part of one task's table changes
+seen_set : {B : Type 0} (v : Table → B) (xs : List Table) (t : ℕ) (y : Table) → 1 ≤ t → t ≤ length xs → ◌≡◌ {A = ℕ → B} (λ j. v (table_of (slice_set xs (t - 1) y) j)) (put (λ j. v (table_of xs j)) t (v y))
+seen_set {B} v xs t y low high = ap {B = ℕ → B} (λ (g : ℕ → Table). λ (j : ℕ). v (g j)) (table_set xs t y low high) ∙ seen_put v (λ j. table_of xs j) t y
+
+pub prepared_set : (xs : List Table) (t : ℕ) (y : Table) → 1 ≤ t → t ≤ length xs → prepared_of (slice_set xs (t - 1) y) ≡ put (prepared_of xs) t y.ready
+unfolding prepared_of
+prepared_set xs t y low high = seen_set (λ (d : Table). d.ready) xs t y low high
+
+pub areas_set : (xs : List Table) (t : ℕ) (y : Table) → 1 ≤ t → t ≤ length xs → areas_of (slice_set xs (t - 1) y) ≡ put (areas_of xs) t y.mappings
+unfolding areas_of
+areas_set xs t y low high = seen_set (λ (d : Table). d.mappings) xs t y low high
+
+pub areas_same : (xs : List Table) (t : ℕ) (y : Table) → 1 ≤ t → t ≤ length xs → y.mappings ≡ (table_of xs t).mappings → areas_of (slice_set xs (t - 1) y) ≡ areas_of xs
+unfolding areas_of
+areas_same xs t y low high e = seen_set (λ (d : Table). d.mappings) xs t y low high ∙ put_known (λ j. (table_of xs j).mappings) t y.mappings (sym e)
+
+pub entries_same : (xs : List Table) (t : ℕ) (y : Table) → 1 ≤ t → t ≤ length xs → y.entries ≡ (table_of xs t).entries → entries_of (slice_set xs (t - 1) y) ≡ entries_of xs
+unfolding entries_of
+entries_same xs t y low high e =
+    seen_set {B = ℕ → Option ℕ} (λ (d : Table) (w : ℕ). get d.entries w) xs t y low high
+    ∙ put_known {A = ℕ → Option ℕ} (λ j w. get (table_of xs j).entries w) t (λ w. get y.entries w) (ap {B = ℕ → Option ℕ} (λ (m : FinMap nat_cmp ℕ) (w : ℕ). get m w) (sym e))
+
+pub ruleset lock_laws = (holders_at, holders_set, length-set)
+
+pub ruleset room_laws = (nat_tests, ne_eqb, areas_at, areas_same, prepared_set, entries_same, length-set)
+
+pub ruleset change_laws = (sizes_same, pendings_at, pendings_set, spares_at, spares_set, spares_same, sets_at, sets_same, pages_same, length-set)
+
+pub ruleset commit_laws = (sizes_same, pendings_at, pendings_set, spares_at, spares_set, sets_at, sets_set, pages_same, length-set)
+
+pub ruleset enter_laws = (nat_tests, ne_eqb, sizes_at, sizes_set, pendings_same, spares_same, sets_same, pages_same, areas_at, areas_set, prepared_at, prepared_set, entries_same, length-set)

@@ -1,0 +1,20 @@
+-- What the parts keep, however they keep it: to say that a step changed nothing.
+use Rattle.std.specs.Prelude.{◌≡◌, ℕ, List, Option, length}
+use Rattle.hp_frames.specs.Bank.{BankState}
+use Rattle.hp_table.specs.Table.{Table}
+use Rattle.hp_fault.specs.declared.parts.FileState.{FileState}
+use Rattle.hp_fault.specs.declared.parts.Parts.{Parts}
+
+pub record PartsState : Type 0 where
+  pub bank : BankState
+  pub files : List FileState
+  pub slots : List (Option ℕ)
+  pub locks : List (Option ℕ)
+  pub spaces : List Table
+
+abbrev pub state_of : Parts → PartsState
+state_of p = record { bank = p.bank; files = p.files.items; slots = p.slots; locks = p.locks; spaces = p.spaces.items }
+
+-- there is a lock for each file
+abbrev pub IsSized : PartsState → Type 0
+IsSized p = length p.locks ≡ length p.files
