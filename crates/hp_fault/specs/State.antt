@@ -18,3 +18,13 @@ state_of p = record { bank = p.bank; files = p.files.items; slots = p.slots; loc
 -- there is a lock for each file
 abbrev pub IsSized : PartsState → Type 0
 IsSized p = length p.locks ≡ length p.files
+
+-- as many of each thing as before
+abbrev pub SizesStay : PartsState → PartsState → Type 0
+SizesStay old new = record {
+  frames : length new.bank.frames ≡ length old.bank.frames;
+  files : length new.files ≡ length old.files;
+  slots : length new.slots ≡ length old.slots;
+  locks : length new.locks ≡ length old.locks;
+  spaces : length new.spaces ≡ length old.spaces;
+}

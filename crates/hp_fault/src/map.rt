@@ -4,7 +4,7 @@ ghost use Rattle.hp_machine.specs.MapRows.{MapRow, MapStartRow, MapRoomRow, MapM
 ghost use Rattle.hp_machine.specs.Wants.{map_wants};
 ghost use Rattle.hp_base.specs.Mappings.{fits};
 ghost use Rattle.hp_fault.specs.View.{view};
-ghost use Rattle.hp_fault.specs.State.{state_of, IsSized};
+ghost use Rattle.hp_fault.specs.State.{state_of, IsSized, SizesStay};
 ghost use Rattle.hp_fault.specs.Fits.{MapFits, IsTaskOf, IsFileOf};
 
 use crate::parts::Parts;
@@ -26,7 +26,7 @@ pub fn step_map(
     requires sized { IsSized (state_of parts.old) }
     requires fits { MapFits (view parts.old) task phase }
     ensures row { IfOk result (λ turn. MapRow (view parts.old) task killed grant phase turn (view parts.new)) }
-    ensures locks { length parts.new.locks ≡ length parts.old.locks }
+    ensures sizes { SizesStay (state_of parts.old) (state_of parts.new) }
     ensures phase { IfErr result (λ stopped. stopped.phase ≡ phase) }
     ensures err { OnErr result (state_of parts.new ≡ state_of parts.old) }
     ensures growth { OnErr result (grant ≡ true) }
@@ -66,7 +66,7 @@ fn is_bad_range(from: Index, len: u32) -> bool
 fn from_start(parts: &mut Parts, task: Task, killed: bool, phase: Start) -> Turn<MapPhase>
     requires { IsSized (state_of parts.old) }
     ensures row { MapStartRow (view parts.old) task killed phase result (view parts.new) }
-    ensures locks { length parts.new.locks ≡ length parts.old.locks }
+    ensures sizes { SizesStay (state_of parts.old) (state_of parts.new) }
 {
     let Start { map } = phase;
     let files = parts.files.len();
@@ -94,7 +94,7 @@ fn from_room(
 ) -> Result<Turn<MapPhase>, Room>
     requires { IsTaskOf (view parts.old) task }
     ensures row { IfOk result (λ turn. MapRoomRow (view parts.old) task grant phase turn (view parts.new)) }
-    ensures locks { length parts.new.locks ≡ length parts.old.locks }
+    ensures sizes { SizesStay (state_of parts.old) (state_of parts.new) }
     ensures phase { IfErr result (λ again. again ≡ phase) }
     ensures err { OnErr result (state_of parts.new ≡ state_of parts.old) }
     ensures growth { OnErr result (grant ≡ true) }
@@ -124,7 +124,7 @@ fn from_missing(parts: &mut Parts, grant: bool, phase: Missing) -> Result<Turn<M
     requires some { 1 ≤ phase.map.len }
     requires in_limit { phase.map.from + phase.map.len ≤ LIMIT }
     ensures row { IfOk result (λ turn. MapMissingRow (view parts.old) grant phase turn (view parts.new)) }
-    ensures locks { length parts.new.locks ≡ length parts.old.locks }
+    ensures sizes { SizesStay (state_of parts.old) (state_of parts.new) }
     ensures phase { IfErr result (λ again. again ≡ phase) }
     ensures err { OnErr result (state_of parts.new ≡ state_of parts.old) }
     ensures growth { OnErr result (grant ≡ true) }
@@ -143,7 +143,7 @@ fn from_missing(parts: &mut Parts, grant: bool, phase: Missing) -> Result<Turn<M
 #[tactic(auto, using(std::proofs::lemmas::Grind::common_steps, crate::proofs::Laws::free_frames_is))]
 fn from_changed(parts: &mut Parts, killed: bool, phase: Changed) -> Turn<MapPhase>
     ensures row { MapChangedRow (view parts.old) killed phase result (view parts.new) }
-    ensures locks { length parts.new.locks ≡ length parts.old.locks }
+    ensures sizes { SizesStay (state_of parts.old) (state_of parts.new) }
 {
     let Changed { map, base, pending } = phase;
     if killed {
@@ -160,7 +160,7 @@ fn from_abort(parts: &mut Parts, phase: Abort) -> Turn<MapPhase>
     requires file { IsFileOf (view parts.old) phase.map.file }
     requires pending { 1 ≤ (view parts.old).pending phase.map.file }
     ensures row { MapAbortRow (view parts.old) phase result (view parts.new) }
-    ensures locks { length parts.new.locks ≡ length parts.old.locks }
+    ensures sizes { SizesStay (state_of parts.old) (state_of parts.new) }
 {
     let Abort {
         map,
@@ -176,7 +176,7 @@ fn from_accounted(parts: &mut Parts, phase: Accounted) -> Turn<MapPhase>
     requires file { IsFileOf (view parts.old) phase.map.file }
     requires pending { 1 ≤ (view parts.old).pending phase.map.file }
     ensures row { MapAccountedRow (view parts.old) phase result (view parts.new) }
-    ensures locks { length parts.new.locks ≡ length parts.old.locks }
+    ensures sizes { SizesStay (state_of parts.old) (state_of parts.new) }
 {
     let Accounted { map, base, pending } = phase;
     let missing = pending.missing();
@@ -193,7 +193,7 @@ fn from_accounted(parts: &mut Parts, phase: Accounted) -> Turn<MapPhase>
 fn from_settle(parts: &mut Parts, phase: Settle) -> Turn<MapPhase>
     requires { phase.surplus ≤ (view parts.old).resv }
     ensures row { MapSettleRow (view parts.old) phase result (view parts.new) }
-    ensures locks { length parts.new.locks ≡ length parts.old.locks }
+    ensures sizes { SizesStay (state_of parts.old) (state_of parts.new) }
 {
     let Settle { map, base, surplus } = phase;
     parts.bank.settle(surplus);
@@ -209,7 +209,7 @@ fn from_enter(parts: &mut Parts, task: Task, phase: Enter) -> Turn<MapPhase>
     requires prepared { (view parts.old).prepared task ≡ true }
     requires fits { fits VPNS ((view parts.old).areas task) phase.base phase.map.len ≡ true }
     ensures row { MapEnterRow (view parts.old) task phase result (view parts.new) }
-    ensures locks { length parts.new.locks ≡ length parts.old.locks }
+    ensures sizes { SizesStay (state_of parts.old) (state_of parts.new) }
 {
     let Enter { map, base } = phase;
     let space = &mut parts.spaces[(task.number() - 1) as usize];
@@ -223,7 +223,7 @@ fn from_enter(parts: &mut Parts, task: Task, phase: Enter) -> Turn<MapPhase>
 fn from_leave(parts: &mut Parts, task: Task, phase: Leave) -> Turn<MapPhase>
     requires { (view parts.old).locks phase.map.file ≡ Some task }
     ensures row { MapLeaveRow (view parts.old) phase result (view parts.new) }
-    ensures locks { length parts.new.locks ≡ length parts.old.locks }
+    ensures sizes { SizesStay (state_of parts.old) (state_of parts.new) }
 {
     let Leave { map, answer } = phase;
     parts.locks.leave(map.file.number(), task);

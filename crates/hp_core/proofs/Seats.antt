@@ -1,0 +1,178 @@
+-- What one write to the seats does to the functions that the machine sees.
+use Rattle.std.proofs.Common.{◌≡◌, ◌≢◌, ℕ, ◌-◌, ◌≤◌, List, length, get_or, refl, sym, ◌∙◌, ap, subst, arith, inl, inr}
+use Rattle.std.proofs.Math.Path.{fun_ext}
+use Rattle.std.proofs.Math.ListN.{get_or-eq_default}
+use Rattle.std.specs.Prelude.{Bool, true, false, not, Option, Some, None, ◌==◌, ◌&&◌, MatchBool, MatchOption}
+use Rattle.std.proofs.lemmas.Bool.{ne_eqb, cases_lt}
+use Rattle.std.proofs.lemmas.Bool.Decides.{nat_tests}
+use Rattle.std.proofs.lemmas.Grind.{common_steps}
+use Rattle.std.proofs.lemmas.List.{get_or-set_same, get_or-set_other}
+use Rattle.hp_base.specs.Numbers.{put}
+use Rattle.hp_base.specs.declared.event.Op.{Op}
+use Rattle.hp_base.proofs.Puts.{put_same, put_other, put_self, same_or_other}
+use Rattle.hp_machine.specs.State.{is_alive, is_killed, is_dead}
+use Rattle.hp_machine.specs.Events.{BeginRow, StepRow, KillRow, CallRow, first, is_exit, lives_after}
+use Rattle.hp_machine.specs.declared.call.Call.{Call}
+use Rattle.hp_machine.specs.declared.call.Call.TheVariants as call
+use Rattle.hp_machine.specs.declared.outcome.Life.{Life}
+use Rattle.hp_machine.specs.declared.outcome.Life.TheVariants.{Alive, Killed, Dead}
+use Rattle.hp_machine.specs.declared.outcome.Outcome.{Outcome}
+use Rattle.hp_machine.specs.declared.outcome.Outcome.TheVariants as outcome
+use Rattle.hp_machine.specs.declared.outcome.Refusal.TheVariants as refusal
+use Rattle.hp_fault.specs.State.{PartsState}
+use Rattle.hp_fault.specs.View.{pool_of}
+use Rattle.hp_core.specs.Sound.{IsBuiltCall}
+use Rattle.hp_core.specs.declared.seat.Seat.{Seat}
+use Rattle.hp_core.specs.State.{seat_at, no_seat, calls_of, lives_of, state_with}
+use Rattle.hp_core.specs.Seats.{BeginSeats, KillSeats, with_seat}
+
+-- a task that isn't dead has a seat
+pub seated : (seats : List Seat) (t : ℕ) → is_dead (seat_at seats t).life ≡ false → (1 ≤ t) × (t ≤ length seats)
+seated seats t alive = elim (same_or_other t 0) [
+  | inl e ↦ absurd (let d : is_dead (seat_at seats t).life ≡ true = ap (λ (k : ℕ). is_dead (seat_at seats k).life) e in let f : true ≡ false = sym d ∙ alive in cc)
+  | inr h ↦ elim (cases_lt (t - 1) (length seats)) [
+    | inl l ↦ (omega (arith, h), omega (arith, h, l))
+    | inr past ↦ absurd (let q : (t == 0) ≡ false = ne_eqb t 0 h in
+        let none : get_or seats (t - 1) no_seat ≡ no_seat = get_or-eq_default seats no_seat past in
+        let d : seat_at seats t ≡ no_seat = rw q none in
+        let f : true ≡ false = sym (ap (λ (s : Seat). is_dead s.life) d) ∙ alive in cc)
+  ]
+]
+
+pub at_seat : (seats : List Seat) (t : ℕ) (y : Seat) → 1 ≤ t → t ≤ length seats → seat_at (with_seat seats t y) t ≡ y
+at_seat seats t y low high = grind (arith, common_steps, nat_tests, get_or-set_same)
+
+pub off_seat : (seats : List Seat) (t : ℕ) (y : Seat) (j : ℕ) → 1 ≤ t → j ≢ t → seat_at (with_seat seats t y) j ≡ seat_at seats j
+off_seat seats t y j low h = elim (same_or_other j 0) [
+  | inl e ↦ rw e refl
+  | inr d ↦ (let q : (j == 0) ≡ false = ne_eqb j 0 d in rw q (get_or-set_other seats (t - 1) (j - 1) y no_seat (λ e. h (omega arith))))
+]
+
+-- a part of one seat changes
+seen_set : {B : Type 0} (v : Seat → B) (seats : List Seat) (t : ℕ) (y : Seat) → 1 ≤ t → t ≤ length seats → ◌≡◌ {A = ℕ → B} (λ j. v (seat_at (with_seat seats t y) j)) (put (λ j. v (seat_at seats j)) t (v y))
+seen_set {B} v seats t y low high = fun_ext (λ j. elim (same_or_other j t) [
+  | inl e ↦ subst (λ (w : ℕ). v (seat_at (with_seat seats t y) w) ≡ put (λ (k : ℕ). v (seat_at seats k)) t (v y) w) (sym e) (ap v (at_seat seats t y low high) ∙ sym (put_same (λ (k : ℕ). v (seat_at seats k)) t (v y)))
+  | inr h ↦ ap v (off_seat seats t y j low h) ∙ sym (put_other (λ (k : ℕ). v (seat_at seats k)) t (v y) j h)
+])
+
+pub calls_set : (seats : List Seat) (t : ℕ) (y : Seat) → 1 ≤ t → t ≤ length seats → calls_of (with_seat seats t y) ≡ put (calls_of seats) t y.call
+unfolding calls_of
+calls_set seats t y low high = seen_set (λ (s : Seat). s.call) seats t y low high
+
+pub lives_set : (seats : List Seat) (t : ℕ) (y : Seat) → 1 ≤ t → t ≤ length seats → lives_of (with_seat seats t y) ≡ put (lives_of seats) t y.life
+unfolding lives_of
+lives_set seats t y low high = seen_set (λ (s : Seat). s.life) seats t y low high
+
+put_known : {A : Type 0} (f : ℕ → A) (k : ℕ) (v : A) → f k ≡ v → put f k v ≡ f
+put_known {A} f k v e = subst (λ (w : A). put f k w ≡ f) e (put_self f k)
+
+pub lives_same : (seats : List Seat) (t : ℕ) (y : Seat) → 1 ≤ t → t ≤ length seats → y.life ≡ (seat_at seats t).life → lives_of (with_seat seats t y) ≡ lives_of seats
+unfolding lives_of
+lives_same seats t y low high same = lives_set seats t y low high ∙ put_known (lives_of seats) t y.life (sym same)
+
+pub calls_same : (seats : List Seat) (t : ℕ) (y : Seat) → 1 ≤ t → t ≤ length seats → y.call ≡ (seat_at seats t).call → calls_of (with_seat seats t y) ≡ calls_of seats
+unfolding calls_of
+calls_same seats t y low high same = calls_set seats t y low high ∙ put_known (calls_of seats) t y.call (sym same)
+
+-- which way a test goes, and what follows there
+map_test : {P Q X Y : Type 0} (b : Bool) → (b ≡ true → P → X) → (b ≡ false → Q → Y) → MatchBool b P Q → MatchBool b X Y
+map_test true first second m = first refl m
+map_test false first second m = second refl m
+
+map_option : {A P X : Type 0} {Q Y : A → Type 0} (o : Option A) → (o ≡ None → P → X) → ((x : A) → o ≡ Some x → Q x → Y x) → MatchOption o P Q → MatchOption o X Y
+map_option None none some m = none refl m
+map_option (Some x) none some m = some x refl m
+
+pub by_test : {P Q X : Type 0} (b : Bool) → MatchBool b P Q → (b ≡ true → P → X) → (b ≡ false → Q → X) → X
+by_test true m first second = first refl m
+by_test false m first second = second refl m
+
+pub by_option : {A P X : Type 0} {Q : A → Type 0} (o : Option A) → MatchOption o P Q → (o ≡ None → P → X) → ((x : A) → o ≡ Some x → Q x → X) → X
+by_option None m none some = none refl m
+by_option (Some x) m none some = some x refl m
+
+-- and where it is known which way
+at_true : (P Q : Type 0) (b : Bool) → b ≡ true → P → MatchBool b P Q
+at_true P Q b e p = subst (λ (c : Bool). MatchBool c P Q) (sym e) p
+
+at_false : (P Q : Type 0) (b : Bool) → b ≡ false → Q → MatchBool b P Q
+at_false P Q b e q = subst (λ (c : Bool). MatchBool c P Q) (sym e) q
+
+at_none : {A : Type 0} (P : Type 0) (Q : A → Type 0) (o : Option A) → o ≡ None → P → MatchOption o P Q
+at_none {A} P Q o e p = subst (λ (c : Option A). MatchOption c P Q) (sym e) p
+
+at_some : {A : Type 0} (P : Type 0) (Q : A → Type 0) (o : Option A) (x : A) → o ≡ Some x → Q x → MatchOption o P Q
+at_some {A} P Q o x e q = subst (λ (c : Option A). MatchOption c P Q) (sym e) q
+
+-- a begin of the seats is one of the machine
+pub begin_row : (p : PartsState) (seats new : List Seat) (t : ℕ) (op : Op) (told : Outcome) → BeginSeats seats t op told new → BeginRow (state_with p seats) t op told (state_with p new)
+unfolding BeginRow lives_of calls_of
+begin_row p seats new t op told row =
+    map_test (is_dead (seat_at seats t).life)
+    (λ dead r. (r.0, ap (state_with p) r.1))
+    (λ alive rest. map_option (seat_at seats t).call
+      (λ none m. map_test (is_killed (seat_at seats t).life && not (is_exit op))
+        (λ killed r. (r.0, ap (state_with p) r.1))
+        (λ free r. (r.0, ap (state_with p) r.1 ∙ begun p seats t op alive)) m)
+      (λ call some r. (r.0, ap (state_with p) r.1)) rest) row
+  where
+    begun : (p : PartsState) (seats : List Seat) (t : ℕ) (op : Op) → is_dead (seat_at seats t).life ≡ false
+        → state_with p (with_seat seats t (record { life = (seat_at seats t).life; call = Some (first op) })) ≡ record (state_with p seats) { calls = put (calls_of seats) t (Some (first op)) }
+    begun p seats t op alive =
+        let l = seated seats t alive in
+        let y : Seat = record { life = (seat_at seats t).life; call = Some (first op) } in
+        let lives = lives_same seats t y l.0 l.1 refl in
+        let calls = calls_set seats t y l.0 l.1 in
+        λ i. record (state_with p seats) { life = lives i; calls = calls i }
+
+-- so is a kill
+pub kill_row : (p : PartsState) (seats new : List Seat) (t : ℕ) (told : Outcome) → KillSeats seats t told new → KillRow (state_with p seats) t told (state_with p new)
+unfolding KillRow lives_of
+kill_row p seats new t told row =
+    map_test (is_alive (seat_at seats t).life)
+    (λ alive r. (r.0, ap (state_with p) r.1 ∙ marked p seats t alive))
+    (λ gone r. (r.0, ap (state_with p) r.1)) row
+  where
+    lives : (l : Life) → is_alive l ≡ true → is_dead l ≡ false
+    lives Alive e = refl
+    lives Killed e = refl
+    lives Dead e = absurd (let f : false ≡ true = e in cc)
+
+    marked : (p : PartsState) (seats : List Seat) (t : ℕ) → is_alive (seat_at seats t).life ≡ true
+        → state_with p (with_seat seats t (record { life = Killed; call = (seat_at seats t).call })) ≡ record (state_with p seats) { life = put (lives_of seats) t Killed }
+    marked p seats t alive =
+        let l = seated seats t (lives (seat_at seats t).life alive) in
+        let y : Seat = record { life = Killed; call = (seat_at seats t).call } in
+        let life = lives_set seats t y l.0 l.1 in
+        let calls = calls_same seats t y l.0 l.1 refl in
+        λ i. record (state_with p seats) { life = life i; calls = calls i }
+
+-- a step of a task that is dead, or has no call, is refused
+pub dead_row : (p : PartsState) (seats : List Seat) (t : ℕ) (grant : Bool) → is_dead (seat_at seats t).life ≡ true → StepRow (state_with p seats) t grant (outcome.Refused refusal.NotAlive) (state_with p seats)
+unfolding StepRow lives_of calls_of
+dead_row p seats t grant dead = at_true _ _ _ dead (refl, refl)
+
+pub idle_row : (p : PartsState) (seats : List Seat) (t : ℕ) (grant : Bool) → is_dead (seat_at seats t).life ≡ false → (seat_at seats t).call ≡ None → StepRow (state_with p seats) t grant (outcome.Refused refusal.Idle) (state_with p seats)
+unfolding StepRow lives_of calls_of
+idle_row p seats t grant alive none = at_false _ _ _ alive (at_none _ _ _ none (refl, refl))
+
+-- a step of a seat's call is one of the machine
+pub step_row : (p n : PartsState) (seats : List Seat) (t : ℕ) (grant : Bool) (told : Outcome) (inflight : Call) (y : Seat) → is_dead (seat_at seats t).life ≡ false → (seat_at seats t).call ≡ Some inflight → IsBuiltCall inflight
+    → CallRow (pool_of p) t (is_killed (seat_at seats t).life) grant inflight told (pool_of n) y.call → y.life ≡ (seat_at seats t).life → StepRow (state_with p seats) t grant told (state_with n (with_seat seats t y))
+unfolding StepRow lives_of calls_of
+step_row p n seats t grant told inflight y alive some built row same =
+    let l = seated seats t alive in
+    let lives = lives_same seats t y l.0 l.1 same in
+    let calls = calls_set seats t y l.0 l.1 in
+    let after : state_with n (with_seat seats t y) ≡ record (state_with n seats) { calls = put (calls_of seats) t y.call } = λ i. record (state_with n seats) { life = lives i; calls = calls i } in
+    let kept : record (state_with n seats) { calls = put (calls_of seats) t y.call } ≡ record (state_with n seats) { life = lives_after (lives_of seats) t inflight y.call; calls = put (calls_of seats) t y.call } = λ i. record (state_with n seats) { life = sym (stays inflight y.call (lives_of seats) t built) i; calls = put (calls_of seats) t y.call } in
+    at_false _ _ _ alive (at_some _ _ _ inflight some (pool_of n, y.call, row, after ∙ kept))
+  where
+    stays : (inflight : Call) (next : Option Call) (lives : ℕ → Life) (t : ℕ) → IsBuiltCall inflight → lives_after lives t inflight next ≡ lives
+    stays (call.Map phase) next lives t built = refl
+    stays (call.Touch phase) next lives t built = absurd built
+    stays (call.Alloc phase) next lives t built = absurd built
+    stays (call.Punch phase) next lives t built = absurd built
+    stays (call.Truncate phase) next lives t built = absurd built
+    stays (call.Unmap phase) next lives t built = absurd built
+    stays (call.Exit phase) next lives t built = absurd built

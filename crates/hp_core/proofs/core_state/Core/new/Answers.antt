@@ -1,0 +1,33 @@
+use Rattle.hp_base.specs.Text.{sizes}
+use Rattle.hp_core.proofs.Opens.{are_sound, opens_as}
+use Rattle.hp_core.proofs.core_state.Core.new.Goals as goal
+
+pub invariant_of-result : goal.invariant_of-result
+invariant_of-result c = are_sound (sizes c.args.config) _ _
+    (record {
+      all_frames = c.in_ok-new.ensures.frames;
+      none_reserved = c.in_ok-new.ensures.resv;
+      all_slots = c.in_ok-new-2.ensures;
+      all_locks = c.in_ok-new-3.ensures;
+      files_long = c.in_ok-new_files.ensures.count;
+      all_files = c.in_ok-new_files.ensures.fresh;
+      spaces_long = c.in_ok-new_spaces.ensures.count;
+      all_spaces = c.in_ok-new_spaces.ensures.fresh;
+      seats_long = c.in_ok-seats.ensures.count;
+      all_seats = c.in_ok-seats.ensures.fresh;
+    }) c.args.config.within_limits
+
+pub returns : goal.returns
+returns c = record { opening = opens_as c.args.config _ _
+    (record {
+      all_frames = c.in_ok-new.ensures.frames;
+      none_reserved = c.in_ok-new.ensures.resv;
+      all_slots = c.in_ok-new-2.ensures;
+      all_locks = c.in_ok-new-3.ensures;
+      files_long = c.in_ok-new_files.ensures.count;
+      all_files = c.in_ok-new_files.ensures.fresh;
+      spaces_long = c.in_ok-new_spaces.ensures.count;
+      all_spaces = c.in_ok-new_spaces.ensures.fresh;
+      seats_long = c.in_ok-seats.ensures.count;
+      all_seats = c.in_ok-seats.ensures.fresh;
+    }) }

@@ -1,0 +1,24 @@
+-- What a step of a call takes for granted of the parts.
+use Rattle.std.specs.Prelude.{ℕ, List, IfSome}
+use Rattle.hp_base.specs.declared.event.Event.{Event}
+use Rattle.hp_base.specs.declared.event.Event.TheVariants.{Begin, Step, Kill}
+use Rattle.hp_machine.specs.declared.call.Call.{Call}
+use Rattle.hp_machine.specs.declared.call.Call.TheVariants as call
+use Rattle.hp_fault.specs.Fits.{MapFits}
+use Rattle.hp_fault.specs.State.{PartsState, IsSized}
+use Rattle.hp_fault.specs.View.{pool_of}
+use Rattle.hp_core.specs.declared.seat.Seat.{Seat}
+use Rattle.hp_core.specs.State.{seat_at}
+
+abbrev pub CallFits : PartsState → (task : ℕ) → Call → Type 0
+CallFits p t (call.Map phase) = IsSized p × MapFits (pool_of p) t phase
+CallFits p t other = ⊥
+
+-- what a step of the task's call takes for granted
+abbrev pub StepFits : PartsState → List Seat → (task : ℕ) → Type 0
+StepFits p seats t = IfSome (seat_at seats t).call (λ inflight. CallFits p t inflight)
+
+abbrev pub EventFits : PartsState → List Seat → Event → Type 0
+EventFits p seats (Begin task op) = Unit {0}
+EventFits p seats (Step task grant) = StepFits p seats task
+EventFits p seats (Kill task) = Unit {0}

@@ -1,0 +1,74 @@
+-- The numbers of a core, in the machine's words.
+use Rattle.std.specs.Prelude.{ℕ, Option, length, count_by, is_some}
+use Rattle.std.specs.Option.{option_map}
+use Rattle.std.specs.FinMap as map
+use Rattle.hp_base.specs.Numbers.{total}
+use Rattle.hp_base.specs.Indices.{count_below, region_count}
+use Rattle.hp_base.specs.Text.{Sizes}
+use Rattle.hp_base.specs.declared.limits.TheConstants.{LIMIT}
+use Rattle.hp_machine.specs.State.{free_frames}
+use Rattle.hp_machine.specs.Events.{word_of}
+use Rattle.hp_machine.specs.declared.outcome.Life.{Life}
+use Rattle.hp_machine.specs.declared.phase.Phase.{Phase}
+use Rattle.hp_fault.specs.View.{table_of}
+use Rattle.hp_core.specs.State.{CoreState, as_state}
+
+-- the numbers of its config
+unfoldable pub config_of : CoreState → Sizes
+config_of s = s.sizes
+
+-- how many frames are free
+unfoldable pub free_of : CoreState → ℕ
+free_of s = free_frames (as_state s).frame (as_state s).frames
+
+-- the reserve count
+unfoldable pub resv_of : CoreState → ℕ
+resv_of s = (as_state s).resv
+
+-- how many calls are in flight
+unfoldable pub calls_of : CoreState → ℕ
+calls_of s = count_by (λ seat. is_some seat.call) s.seats
+
+unfoldable pub size_of : CoreState → (file : ℕ) → ℕ
+size_of s f = (as_state s).size f
+
+-- how many indices of the file are reserved
+unfoldable pub reserved_of : CoreState → (file : ℕ) → ℕ
+reserved_of s f = count_below ((as_state s).reserved f) LIMIT
+
+-- how many regions they are
+unfoldable pub regions_of : CoreState → (file : ℕ) → ℕ
+regions_of s f = region_count LIMIT ((as_state s).reserved f)
+
+-- how many indices of the file have a page
+unfoldable pub pages_of : CoreState → (file : ℕ) → ℕ
+pages_of s f = count_below (λ i. is_some ((as_state s).pages f i)) LIMIT
+
+-- the changes of the file's map that are in progress
+unfoldable pub changes_of : CoreState → (file : ℕ) → ℕ
+changes_of s f = (as_state s).pending f
+
+-- its spare descriptors
+unfoldable pub spare_of : CoreState → (file : ℕ) → ℕ
+spare_of s f = (as_state s).spare f
+
+unfoldable pub life_of : CoreState → (task : ℕ) → Life
+life_of s t = (as_state s).life t
+
+unfoldable pub mappings_of : CoreState → (task : ℕ) → ℕ
+mappings_of s t = length ((as_state s).areas t)
+
+-- how many virtual pages of the task are translated
+unfoldable pub entries_of : CoreState → (task : ℕ) → ℕ
+entries_of s t = map.len (table_of s.parts.spaces t).entries
+
+-- the word of the phase in which the task's call stands, if one is in flight
+unfoldable pub phase_of : CoreState → (task : ℕ) → Option Phase
+phase_of s t = option_map word_of ((as_state s).calls t)
+
+-- the same, of all files
+unfoldable pub all_reserved_of : CoreState → ℕ
+all_reserved_of s = total s.sizes.files (reserved_of s)
+
+unfoldable pub all_pages_of : CoreState → ℕ
+all_pages_of s = total s.sizes.files (pages_of s)

@@ -1,0 +1,47 @@
+-- What a core does: one event is a row of the machine, and a list of events a run.
+use Rattle.std.specs.Prelude.{◌≡◌, ℕ, true, List, IfSome, length}
+use Rattle.std.specs.List.{zip}
+use Rattle.hp_base.specs.Text.{Sizes, sizes}
+use Rattle.hp_base.specs.declared.config.Config.{Config}
+use Rattle.hp_base.specs.declared.event.Event.{Event}
+use Rattle.hp_base.specs.declared.event.Event.TheVariants.{Begin, Step, Kill}
+use Rattle.hp_machine.specs.State as machine
+use Rattle.hp_machine.specs.Events as events
+use Rattle.hp_machine.specs.Headline as head
+use Rattle.hp_machine.specs.Wants.{Wants}
+use Rattle.hp_machine.specs.declared.outcome.Outcome.{Outcome}
+use Rattle.hp_base.specs.declared.limits.TheConstants.{LIMIT, VPNS}
+use Rattle.hp_fault.specs.State.{PartsState}
+use Rattle.hp_fault.specs.View.{pool_of}
+use Rattle.hp_core.specs.declared.seat.Seat.{Seat}
+use Rattle.hp_core.specs.State.{CoreState, as_state, seat_at}
+
+-- the geometry of a pool of these sizes
+abbrev pub geometry : Sizes → machine.Geometry
+geometry z = record { files = z.files; slots = z.slots; tasks = z.tasks; limit = LIMIT; space = VPNS }
+
+-- the core is the machine's opening state of that config
+unfoldable pub IsOpening : Config → CoreState → Type 0
+IsOpening config s = (s.sizes ≡ sizes config) × (as_state s ≡ events.opening (geometry (sizes config)) config.frames)
+
+-- the event is a row of the machine, and the config stays
+unfoldable pub Row : CoreState → Event → Outcome → CoreState → Type 0
+Row s event told new = events.Row (as_state s) event told (as_state new) × (new.sizes ≡ s.sizes)
+
+-- the events, one after the other, have these outcomes and lead there: a run of the machine
+unfoldable pub Run : CoreState → List Event → List Outcome → CoreState → Type 0
+Run s list told new = events.Run (as_state s) (zip list told) (as_state new) × (length told ≡ length list) × (new.sizes ≡ s.sizes)
+
+-- the headline of the machine's state
+unfoldable pub Headline : CoreState → Type 0
+Headline s = head.Headline (as_state s)
+
+-- the row of the task's call wants growth
+abbrev pub StepWants : PartsState → List Seat → (task : ℕ) → Type 0
+StepWants p seats t = IfSome (seat_at seats t).call (λ inflight. Wants (pool_of p) t inflight)
+
+-- the event is a granted step whose row wants growth
+abbrev pub WantsGrowth : PartsState → List Seat → Event → Type 0
+WantsGrowth p seats (Begin task op) = ⊥
+WantsGrowth p seats (Step task grant) = (grant ≡ true) × StepWants p seats task
+WantsGrowth p seats (Kill task) = ⊥

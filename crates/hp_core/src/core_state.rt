@@ -1,0 +1,84 @@
+//! The state of a pool.
+ghost use Rattle.std.specs.Prelude.{◌≡◌, IfOk, OnErr, All};
+ghost use Rattle.hp_base.specs.Text.{sizes};
+ghost use Rattle.hp_core.specs.State.{CoreState};
+ghost use Rattle.hp_core.specs.Sound.{IsBuilt};
+ghost use Rattle.hp_core.specs.Runs.{Row, Run, IsOpening, Headline, WantsGrowth};
+ghost use Rattle.hp_core.specs.Readers.{config_of};
+
+use crate::events::step_event;
+use crate::opening::{new_files, new_seats, new_spaces};
+use crate::seat::Seat;
+use hp_base::{Config, Event};
+use hp_fault::Parts;
+use hp_frames::Bank;
+use hp_machine::Outcome;
+use hp_slots::SlotTable;
+use std::alloc::{AllocError, Global};
+use std::marker::Model;
+
+/// The state of a pool: its parts, and a seat for each task.
+#[derive(Drop)]
+pub struct Core {
+    pub(crate) config: Config,
+    pub(crate) parts: Parts,
+    pub(crate) seats: Vec<Seat>,
+}
+
+impl Model for Core {
+    ghost use Rattle.std.specs.Coded.{codes, coded_ℕ};
+    ghost use Rattle.std.specs.FinMap as map;
+    ghost use Rattle.std.specs.Ordering.{nat_cmp};
+    ghost use Rattle.hp_base.specs.Text.{sizes};
+    ghost use Rattle.hp_fault.specs.State.{state_of};
+    ghost use Rattle.hp_core.specs.State.{CoreState};
+    ghost use Rattle.hp_core.specs.Sound.{IsSound};
+
+    ghost Value = { CoreState };
+
+    ghost coded = { Prim.hlevel (codes, map.code {R = nat_cmp} coded_ℕ coded_ℕ) };
+
+    ghost view = { λ c. record { sizes = sizes c.config; parts = state_of c.parts; seats = c.seats.items } };
+
+    ghost invariant = { λ c. IsSound (record { sizes = sizes c.config; parts = state_of c.parts; seats = c.seats.items }) };
+}
+
+impl Core {
+    /// A pool of these sizes that nothing has happened to.
+    pub fn new(alloc: Global, config: Config) -> Result<Self, AllocError>
+        ensures opening { IfOk result (λ core. IsOpening config core) }
+    {
+        let parts = Parts {
+            bank: Bank::new(alloc, config.frames)?,
+            files: new_files(alloc, config.files)?,
+            slots: SlotTable::new(alloc, config.slots)?,
+            locks: SlotTable::new(alloc, config.files)?,
+            spaces: new_spaces(alloc, config.tasks)?,
+        };
+        let seats = new_seats(alloc, config.tasks)?;
+        Ok(Core {
+            config,
+            parts,
+            seats,
+        })
+    }
+
+    /// One event. After want of memory nothing changed; it comes only in a granted step whose row wants
+    /// growth.
+    pub fn step(&mut self, event: Event) -> Result<Outcome, AllocError>
+        requires built { IsBuilt event }
+        ensures row { IfOk result (λ told. Row self.old event told self.new) }
+        ensures err { OnErr result (self.new ≡ self.old) }
+        ensures growth { OnErr result (WantsGrowth self.old.parts self.old.seats event) }
+        ensures headline { Headline self.new }
+    {
+        step_event(&mut self.parts, &mut self.seats, event)
+    }
+
+    /// The sizes of the pool.
+    pub fn config(&self) -> Config
+        ensures { sizes result ≡ config_of self.now }
+    {
+        self.config
+    }
+}

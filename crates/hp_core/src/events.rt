@@ -1,0 +1,154 @@
+//! What an event does to the parts and the seats.
+ghost use Rattle.std.specs.Prelude.{◌≡◌, true, IsTrue, IfOk, IfSome, OnErr, length};
+ghost use Rattle.hp_machine.specs.State as machine;
+ghost use Rattle.hp_machine.specs.Events as rows;
+ghost use Rattle.hp_machine.specs.Wants.{Wants};
+ghost use Rattle.hp_fault.specs.State.{state_of, SizesStay};
+ghost use Rattle.hp_fault.specs.View.{view};
+ghost use Rattle.hp_core.specs.Fits.{EventFits, StepFits};
+ghost use Rattle.hp_core.specs.Seats.{BeginSeats, StepSeats, KillSeats, EventSeats};
+ghost use Rattle.hp_core.specs.Sound.{is_built, IsBuilt};
+ghost use Rattle.hp_core.specs.State.{state_with, seat_at};
+ghost use Rattle.hp_core.specs.Runs.{StepWants, WantsGrowth};
+
+use crate::seat::{Seat, is_dead, is_killed, step_seat};
+use hp_base::{Event, Op, Task};
+use hp_fault::Parts;
+use hp_machine::map::{MapPhase, MapRequest, Start};
+use hp_machine::{Call, Life, Outcome, Refusal};
+use std::alloc::AllocError;
+
+// Where a call of the operation begins.
+fn first_call(op: Op) -> Call
+    requires { IsTrue (is_built op) }
+    ensures { result ≡ rows.first op }
+{
+    let map = match op {
+        Op::Map { file, from, len } => MapRequest {
+            reserve: true,
+            file,
+            from,
+            len,
+        },
+        Op::MapNoReserve { file, from, len } => MapRequest {
+            reserve: false,
+            file,
+            from,
+            len,
+        },
+        Op::Unmap { .. }
+        | Op::Load { .. }
+        | Op::Store { .. }
+        | Op::Alloc { .. }
+        | Op::Punch { .. }
+        | Op::Truncate { .. }
+        | Op::Exit => unreachable!(),
+    };
+    Call::Map(MapPhase::Start(Start { map }))
+}
+
+fn is_exit(op: &Op) -> bool
+    ensures { result ≡ rows.is_exit op.now }
+{
+    matches!(op, Op::Exit)
+}
+
+// A Begin of an operation.
+fn begin(seats: &mut Vec<Seat>, task: Task, op: Op) -> Outcome
+    requires { IsTrue (is_built op) }
+    ensures row { BeginSeats seats.old.items task op result seats.new.items }
+    ensures seats { length seats.new.items ≡ length seats.old.items }
+{
+    let number = task.number() as usize;
+    if number == 0 || number > seats.len() {
+        return Outcome::Refused(Refusal::NotAlive);
+    }
+    let seat = &mut seats[number - 1];
+    if is_dead(seat.life) {
+        return Outcome::Refused(Refusal::NotAlive);
+    }
+    if seat.call.is_some() {
+        return Outcome::Refused(Refusal::InCall);
+    }
+    let exits = is_exit(&op);
+    if is_killed(seat.life) && !exits {
+        return Outcome::Refused(Refusal::NotAlive);
+    }
+    seat.call = Some(first_call(op));
+    Outcome::Begun
+}
+
+// A Kill of a task.
+fn kill(seats: &mut Vec<Seat>, task: Task) -> Outcome
+    ensures row { KillSeats seats.old.items task result seats.new.items }
+    ensures seats { length seats.new.items ≡ length seats.old.items }
+{
+    let number = task.number() as usize;
+    if number == 0 || number > seats.len() {
+        return Outcome::Refused(Refusal::NotAlive);
+    }
+    let seat = &mut seats[number - 1];
+    match seat.life {
+        Life::Alive => {
+            seat.life = Life::Killed;
+            Outcome::Marked
+        }
+        Life::Killed | Life::Dead => Outcome::Refused(Refusal::NotAlive),
+    }
+}
+
+// A Step of a task.
+#[tactic(auto, unfolding(crate::specs::Seats::StepSeats))]
+fn step_task(
+    parts: &mut Parts,
+    seats: &mut Vec<Seat>,
+    task: Task,
+    grant: bool,
+) -> Result<Outcome, AllocError>
+    requires { StepFits (state_of parts.old) seats.old.items task }
+    ensures row { IfOk result (λ told. StepSeats (state_of parts.old) seats.old.items task grant told (state_of parts.new) seats.new.items) }
+    ensures sizes { SizesStay (state_of parts.old) (state_of parts.new) }
+    ensures seats { length seats.new.items ≡ length seats.old.items }
+    ensures err { OnErr result ((state_of parts.new ≡ state_of parts.old) × (seats.new.items ≡ seats.old.items)) }
+    ensures growth { OnErr result (grant ≡ true) }
+    ensures wanted { OnErr result (StepWants (state_of parts.old) seats.old.items task) }
+{
+    let number = task.number() as usize;
+    if number == 0 || number > seats.len() {
+        return Ok(Outcome::Refused(Refusal::NotAlive));
+    }
+    let seat = &mut seats[number - 1];
+    if is_dead(seat.life) {
+        return Ok(Outcome::Refused(Refusal::NotAlive));
+    }
+    let told = step_seat(parts, seat, task, grant)?;
+    match told {
+        Some(outcome) => Ok(outcome),
+        None => Ok(Outcome::Refused(Refusal::Idle)),
+    }
+}
+
+/// One event. Where it finds no memory nothing changed.
+#[tactic(auto, unfolding(crate::specs::Seats::EventSeats))]
+pub fn step_event(
+    parts: &mut Parts,
+    seats: &mut Vec<Seat>,
+    event: Event,
+) -> Result<Outcome, AllocError>
+    requires built { IsBuilt event }
+    requires fits { EventFits (state_of parts.old) seats.old.items event }
+    ensures row { IfOk result (λ told. EventSeats (state_of parts.old) seats.old.items event told (state_of parts.new) seats.new.items) }
+    ensures sizes { SizesStay (state_of parts.old) (state_of parts.new) }
+    ensures seats { length seats.new.items ≡ length seats.old.items }
+    ensures err { OnErr result ((state_of parts.new ≡ state_of parts.old) × (seats.new.items ≡ seats.old.items)) }
+    ensures growth { OnErr result (WantsGrowth (state_of parts.old) seats.old.items event) }
+{
+    match event {
+        Event::Begin(task, op) => Ok(begin(seats, task, op)),
+        Event::Step(task, grant) => {
+            let told = step_task(parts, seats, task, grant)?;
+            Ok(told)
+        }
+        Event::Kill(task) => Ok(kill(seats, task)),
+    }
+}

@@ -1,0 +1,54 @@
+//! The parts and seats of a pool that nothing has happened to.
+ghost use Rattle.std.specs.Prelude.{◌≡◌, IfOk, All, length};
+ghost use Rattle.hp_core.specs.Opening.{IsFresh, IsVacant};
+ghost use Rattle.hp_core.specs.State.{CoreState};
+ghost use Rattle.hp_fault.specs.View.{no_table};
+
+use crate::seat::Seat;
+use hp_fault::FileState;
+use hp_machine::Life;
+use hp_region::RegionMap;
+use hp_table::Space;
+use std::alloc::{AllocError, Global};
+
+/// So many files, all empty.
+pub fn new_files(alloc: Global, count: u32) -> Result<Vec<FileState>, AllocError>
+    ensures count { IfOk result (λ files. length files.items ≡ count) }
+    ensures fresh { IfOk result (λ files. All IsFresh files.items) }
+{
+    let mut files = Vec::new(alloc);
+    for _ in 0..count {
+        files.push(FileState {
+            size: 0,
+            map: RegionMap::new(alloc),
+        })?;
+    }
+    Ok(files)
+}
+
+/// So many spaces, each with no mapping.
+pub fn new_spaces(alloc: Global, count: u32) -> Result<Vec<Space>, AllocError>
+    ensures count { IfOk result (λ spaces. length spaces.items ≡ count) }
+    ensures fresh { IfOk result (λ spaces. All (λ table. table ≡ no_table) spaces.items) }
+{
+    let mut spaces = Vec::new(alloc);
+    for _ in 0..count {
+        spaces.push(Space::new(alloc))?;
+    }
+    Ok(spaces)
+}
+
+/// So many seats, each of a task that is alive and has no call.
+pub fn new_seats(alloc: Global, count: u32) -> Result<Vec<Seat>, AllocError>
+    ensures count { IfOk result (λ seats. length seats.items ≡ count) }
+    ensures fresh { IfOk result (λ seats. All IsVacant seats.items) }
+{
+    let mut seats = Vec::new(alloc);
+    for _ in 0..count {
+        seats.push(Seat {
+            life: Life::Alive,
+            call: None,
+        })?;
+    }
+    Ok(seats)
+}

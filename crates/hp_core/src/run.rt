@@ -1,0 +1,43 @@
+//! A list of events, one after the other.
+ghost use Rattle.std.specs.Prelude.{◌≡◌, ◌≤◌, List, All, IfOk, IfErr, length, take};
+ghost use Rattle.hp_machine.specs.declared.outcome.Outcome.{Outcome};
+ghost use Rattle.hp_core.specs.Sound.{IsBuilt};
+ghost use Rattle.hp_core.specs.Runs.{Run, Headline};
+
+use crate::core_state::Core;
+use hp_base::{Answer, Event};
+use hp_machine::Outcome;
+use std::alloc::Global;
+use thiserror::Error;
+
+/// A run found no memory: the core is that after the first `done` events.
+#[derive(Clone, Copy, Debug, PartialEq, Eq, Error)]
+#[error("out of memory after {done} events")]
+pub struct RunFault {
+    pub done: usize,
+}
+
+impl Core {
+    /// The events, one after the other, with their outcomes.
+    pub fn run(&mut self, alloc: Global, events: &[Event]) -> Result<Vec<Outcome>, RunFault>
+        requires built { All IsBuilt events.now }
+        ensures run { IfOk result (λ told. Run self.old events.now told.items self.new) }
+        ensures within { IfErr result (λ fault. fault.done ≤ length events.now) }
+        ensures stopped { IfErr result (λ fault. (told : List Outcome) × Run self.old (take fault.done events.now) told self.new) }
+        ensures headline { Headline self.new }
+    {
+        // The checker of borrows asks for a mention of the type that an outcome may hold.
+        let _none: Option<Answer> = None;
+        let mut told = Vec::new(alloc);
+        if told.reserve(events.len()).is_err() {
+            return Err(RunFault { done: 0 });
+        }
+        for event in events {
+            match self.step(*event) {
+                Ok(outcome) => told.push_reserved(outcome),
+                Err(_) => return Err(RunFault { done: told.len() }),
+            }
+        }
+        Ok(told)
+    }
+}

@@ -1,0 +1,119 @@
+//! A task's life and its call in flight, and one step of it.
+ghost use Rattle.std.specs.Prelude.{◌≡◌, true, IfOk, IfErr, IfSome, OnErr, MatchOption, IsSome, IfNone, None, ◌≤◌};
+ghost use Rattle.hp_machine.specs.Events.{CallRow, told, left};
+ghost use Rattle.hp_machine.specs.State as machine;
+ghost use Rattle.hp_machine.specs.Wants.{Wants};
+ghost use Rattle.hp_fault.specs.State.{state_of, SizesStay};
+ghost use Rattle.hp_fault.specs.View.{view};
+ghost use Rattle.hp_core.specs.Fits.{CallFits};
+
+use crate::words::phase_word;
+use hp_base::Task;
+use hp_fault::{Parts, step_map};
+use hp_machine::map::MapPhase;
+use hp_machine::{Call, Life, Outcome, Turn};
+use std::alloc::AllocError;
+
+/// What the core keeps of a task.
+#[derive(Drop)]
+pub struct Seat {
+    pub life: Life,
+    pub call: Option<Call>,
+}
+
+/// Whether the task is killed, and not dead.
+pub fn is_killed(life: Life) -> bool
+    ensures { result ≡ machine.is_killed life }
+{
+    match life {
+        Life::Killed => true,
+        Life::Alive | Life::Dead => false,
+    }
+}
+
+/// Whether the task is dead.
+pub fn is_dead(life: Life) -> bool
+    ensures { result ≡ machine.is_dead life }
+{
+    match life {
+        Life::Dead => true,
+        Life::Alive | Life::Killed => false,
+    }
+}
+
+// What a turn of a map is told as, and the call that it leaves in flight.
+fn end_map(turn: Turn<MapPhase>) -> (Outcome, Option<Call>)
+    ensures told { result.0 ≡ told Call.Map turn }
+    ensures left { result.1 ≡ left Call.Map turn }
+{
+    match turn {
+        Turn::Moved(phase) => {
+            let call = Call::Map(phase);
+            (Outcome::Moved(phase_word(&call)), Some(call))
+        }
+        Turn::Blocked(phase, holder) => (Outcome::Blocked(holder), Some(Call::Map(phase))),
+        Turn::Ended(answer) => (Outcome::Ended(answer), None),
+    }
+}
+
+// One step of a call. Without memory nothing changed, and the call is handed back.
+fn step_call(
+    parts: &mut Parts,
+    task: Task,
+    killed: bool,
+    grant: bool,
+    call: Call,
+) -> Result<(Outcome, Option<Call>), Call>
+    requires { CallFits (state_of parts.old) task call }
+    ensures row { IfOk result (λ done. CallRow (view parts.old) task killed grant call done.0 (view parts.new) done.1) }
+    ensures sizes { SizesStay (state_of parts.old) (state_of parts.new) }
+    ensures call { IfErr result (λ again. again ≡ call) }
+    ensures err { OnErr result (state_of parts.new ≡ state_of parts.old) }
+    ensures growth { OnErr result (grant ≡ true) }
+    ensures wanted { OnErr result (Wants (view parts.old) task call) }
+{
+    match call {
+        Call::Map(phase) => match step_map(parts, task, killed, grant, phase) {
+            Ok(turn) => Ok(end_map(turn)),
+            Err(stopped) => Err(Call::Map(stopped.phase)),
+        },
+        Call::Touch(_)
+        | Call::Alloc(_)
+        | Call::Punch(_)
+        | Call::Truncate(_)
+        | Call::Unmap(_)
+        | Call::Exit(_) => unreachable!(),
+    }
+}
+
+/// One step of a seat's call, which is in flight.
+pub fn step_seat(
+    parts: &mut Parts,
+    seat: &mut Seat,
+    task: Task,
+    grant: bool,
+) -> Result<Option<Outcome>, AllocError>
+    requires { IfSome seat.old.call (λ call. CallFits (state_of parts.old) task call) }
+    ensures idle { IfOk result (λ told. MatchOption seat.old.call (told ≡ None) (λ call. IsSome told)) }
+    ensures row { IfOk result (λ told. IfSome told (λ outcome. IfSome seat.old.call (λ call. CallRow (view parts.old) task (machine.is_killed seat.old.life) grant call outcome (view parts.new) seat.new.call))) }
+    ensures same { IfOk result (λ told. IfNone told ((state_of parts.new ≡ state_of parts.old) × (seat.new ≡ seat.old))) }
+    ensures life { seat.new.life ≡ seat.old.life }
+    ensures sizes { SizesStay (state_of parts.old) (state_of parts.new) }
+    ensures err { OnErr result ((state_of parts.new ≡ state_of parts.old) × (seat.new ≡ seat.old)) }
+    ensures growth { OnErr result (grant ≡ true) }
+    ensures wanted { OnErr result (IfSome seat.old.call (λ call. Wants (view parts.old) task call)) }
+{
+    let Some(call) = seat.call.take() else {
+        return Ok(None);
+    };
+    match step_call(parts, task, is_killed(seat.life), grant, call) {
+        Ok((outcome, next)) => {
+            seat.call = next;
+            Ok(Some(outcome))
+        }
+        Err(again) => {
+            seat.call = Some(again);
+            Err(AllocError)
+        }
+    }
+}
