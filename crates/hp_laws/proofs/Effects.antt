@@ -29,14 +29,14 @@ use Rattle.hp_laws.proofs.Invariant.{Reached, Inv, goes, vacant_of, sum_of, plac
 use Rattle.hp_laws.proofs.Holding.{some_same}
 
 -- the number of free frames, where one changes
-free_change : (f : ℕ → FrameState) (x n : ℕ) (v : FrameState) → x < n → free_frames (put f x v) n + bit (is_free (f x)) ≡ free_frames f n + bit (is_free v)
+pub free_change : (f : ℕ → FrameState) (x n : ℕ) (v : FrameState) → x < n → free_frames (put f x v) n + bit (is_free (f x)) ≡ free_frames f n + bit (is_free v)
 unfolding free_frames
 free_change f x n v l =
     let a = count_below-change (λ j. is_free (f j)) (λ j. is_free (put f x v j)) x n l (λ j d. ap is_free (put_other f x v j d)) in
     let b : bit (is_free (put f x v x)) ≡ bit (is_free v) = ap (λ (m : FrameState). bit (is_free m)) (put_same f x v) in
     omega arith
 
-free_same : (f : ℕ → FrameState) (x n : ℕ) (v : FrameState) → is_free v ≡ is_free (f x) → free_frames (put f x v) n ≡ free_frames f n
+pub free_same : (f : ℕ → FrameState) (x n : ℕ) (v : FrameState) → is_free v ≡ is_free (f x) → free_frames (put f x v) n ≡ free_frames f n
 unfolding free_frames
 free_same f x n v e = count_below-ext (λ j. is_free (put f x v j)) (λ j. is_free (f j)) n (λ j l. elim (same_or_other j x) [
   | inl d ↦ ap (λ (m : ℕ). is_free (put f x v m)) d ∙ (ap is_free (put_same f x v) ∙ (e ∙ ap (λ (m : ℕ). is_free (f m)) (sym d)))

@@ -1,6 +1,10 @@
+pub mod Cuts
 pub mod Effects
 pub mod Holding
 pub mod Invariant
 pub mod Moves
+pub mod Passing
+pub mod Removals
 pub mod Standing
 pub mod Staying
+pub mod Tables
