@@ -5,6 +5,7 @@ pub mod Invariant
 pub mod Moves
 pub mod Passing
 pub mod Removals
+pub mod Shared
 pub mod Standing
 pub mod Staying
 pub mod Tables
