@@ -1,11 +1,16 @@
+pub mod AllocKeeps
 pub mod Cuts
 pub mod Effects
 pub mod Holding
 pub mod Invariant
+pub mod MapKeeps
 pub mod Moves
 pub mod Passing
+pub mod PunchKeeps
 pub mod Removals
 pub mod Shared
 pub mod Standing
 pub mod Staying
 pub mod Tables
+pub mod TouchKeeps
+pub mod UnmapKeeps
