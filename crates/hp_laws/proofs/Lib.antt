@@ -1,4 +1,6 @@
 pub mod AllocKeeps
+pub mod Claims
+pub mod Cover
 pub mod Cuts
 pub mod Effects
 pub mod Holding
@@ -8,9 +10,11 @@ pub mod Moves
 pub mod Passing
 pub mod PunchKeeps
 pub mod Removals
+pub mod Runs
 pub mod Shared
 pub mod Standing
 pub mod Staying
 pub mod Tables
 pub mod TouchKeeps
+pub mod TruncateKeeps
 pub mod UnmapKeeps
