@@ -3,3 +3,6 @@ pub mod Counting
 pub mod FinSets
 pub mod Lists
 pub mod Puts
+pub mod Sets
+pub mod Spaces
+pub mod Totals

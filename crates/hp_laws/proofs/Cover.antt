@@ -1,0 +1,120 @@
+-- There are as many reservations as calls count on.
+use Rattle.std.proofs.Common.{◌≡◌, ℕ, ◌+◌, ◌-◌, ◌<◌, ◌≤◌, refl, ap, sym, ◌∙◌, subst, arith}
+use Rattle.std.specs.Prelude.{Bool, true, false, Option, Some, None, ◌==◌, ◌&&◌, nat_le}
+use Rattle.std.proofs.lemmas.Bool.Decides.{nat_tests}
+use Rattle.hp_base.specs.Numbers.{total, bit, is_none}
+use Rattle.hp_base.specs.Indices.{vacant, count_within}
+use Rattle.hp_base.proofs.Totals.{total_same, total_le, total_add, total_has, exchange, at_most_one, count_below-total}
+use Rattle.hp_machine.specs.State.{Geometry, State}
+use Rattle.hp_machine.specs.Parts.{is_there}
+use Rattle.hp_machine.specs.Views.{less, more}
+use Rattle.hp_machine.specs.declared.touch.TouchPhase.TheVariants as touch
+use Rattle.hp_machine.specs.declared.map.MapPhase.TheVariants as map
+use Rattle.hp_machine.specs.declared.alloc.AllocPhase.TheVariants as alloc
+use Rattle.hp_machine.specs.declared.punch.PunchPhase.TheVariants as punch
+use Rattle.hp_machine.specs.declared.truncate.TruncatePhase.TheVariants as truncate
+use Rattle.hp_machine.specs.declared.call.Call.{Call}
+use Rattle.hp_machine.specs.declared.call.Call.TheVariants as call
+use Rattle.hp_laws.specs.Enough.{CanSettle}
+use Rattle.hp_laws.proofs.Standing.{Stands}
+use Rattle.hp_laws.proofs.Invariant.{Inv, vacant_of, sum_of}
+use Rattle.hp_laws.proofs.Claims.{only_if, claim, claimed, once}
+
+-- how many indices a call counts on
+abbrev need : Geometry → State → Option Call → ℕ
+need g s c = total g.files (λ f. total g.limit (λ j. bit (claim s.reserved c f j)))
+
+all_needs : (g : Geometry) (s : State) → Inv g s → total (g.tasks + 1) (λ t. need g s (s.calls t)) ≤ vacant_of g s.reserved s.pages
+unfolding vacant
+all_needs g s h =
+    let a : total (g.tasks + 1) (λ t. need g s (s.calls t)) ≡ total g.files (λ f. total (g.tasks + 1) (λ t. total g.limit (λ j. bit (claim s.reserved (s.calls t) f j))))
+    = exchange (g.tasks + 1) g.files (λ t f. total g.limit (λ j. bit (claim s.reserved (s.calls t) f j))) in
+    let b = total_le g.files (λ f. vacant g.limit (s.reserved f) (s.pages f)) (λ f. total (g.tasks + 1) (λ t. total g.limit (λ j. bit (claim s.reserved (s.calls t) f j)))) (λ f. each f) in
+    omega arith
+  where
+    each : (f : ℕ) → total (g.tasks + 1) (λ t. total g.limit (λ j. bit (claim s.reserved (s.calls t) f j))) ≤ vacant g.limit (s.reserved f) (s.pages f)
+    each f =
+        let a : total (g.tasks + 1) (λ t. total g.limit (λ j. bit (claim s.reserved (s.calls t) f j))) ≡ total g.limit (λ j. total (g.tasks + 1) (λ t. bit (claim s.reserved (s.calls t) f j)))
+        = exchange (g.tasks + 1) g.limit (λ t j. bit (claim s.reserved (s.calls t) f j)) in
+        let b : total g.limit (λ j. total (g.tasks + 1) (λ t. bit (claim s.reserved (s.calls t) f j))) ≤ total g.limit (λ j. bit (s.reserved f j && is_none (s.pages f j)))
+        = total_le g.limit (λ j. bit (s.reserved f j && is_none (s.pages f j))) (λ j. total (g.tasks + 1) (λ t. bit (claim s.reserved (s.calls t) f j))) (λ j.
+        at_most_one (g.tasks + 1) (λ t. claim s.reserved (s.calls t) f j) (s.reserved f j && is_none (s.pages f j))
+        (λ t p. let c = claimed g s t (s.calls t) f j h refl (h.stands t) p in ap (λ (m : Bool). m && is_none (s.pages f j)) c.marked ∙ ap is_none c.bare)
+        (λ t u p q. once g s t u f j h (claimed g s t (s.calls t) f j h refl (h.stands t) p) (claimed g s u (s.calls u) f j h refl (h.stands u) q))) in
+        let d = count_below-total (λ j. s.reserved f j && is_none (s.pages f j)) g.limit in
+        omega arith
+
+self : (f i : ℕ) → ((f == f) && (i == i)) ≡ true
+self f i = grind (arith, nat_tests)
+
+one_claim : (g : Geometry) (s : State) (c : Option Call) (f i : ℕ) (b : Bool) → f < g.files → i < g.limit → (b ≡ true → claim s.reserved c f i ≡ true) → bit b ≤ need g s c
+one_claim g s c f i false l m e = omega arith
+one_claim g s c f i true l m e =
+    let a : total g.limit (λ j. bit (claim s.reserved c f j)) ≤ need g s c = total_has g.files f (λ k. total g.limit (λ j. bit (claim s.reserved c k j))) l in
+    let b : bit (claim s.reserved c f i) ≤ total g.limit (λ j. bit (claim s.reserved c f j)) = total_has g.limit i (λ j. bit (claim s.reserved c f j)) m in
+    let d : bit (claim s.reserved c f i) ≡ 1 = ap bit (e refl) in
+    omega arith
+
+tail_needs : (g : Geometry) (s : State) (c : Option Call) (f from n : ℕ) → f < g.files → n ≤ count_within (s.reserved f) from g.limit
+    → ((j : ℕ) → claim s.reserved c f j ≡ ((f == f) && (nat_le from j && s.reserved f j))) → n ≤ need g s c
+unfolding count_within
+tail_needs g s c f from n l m e =
+    let a : total g.limit (λ j. bit (claim s.reserved c f j)) ≤ need g s c = total_has g.files f (λ k. total g.limit (λ j. bit (claim s.reserved c k j))) l in
+    let b : total g.limit (λ j. bit (claim s.reserved c f j)) ≡ total g.limit (λ j. bit (nat_le from j && s.reserved f j))
+    = total_same g.limit (λ j. bit (nat_le from j && s.reserved f j)) (λ j. bit (claim s.reserved c f j)) (λ j d. ap bit (e j) ∙ drop_same (nat_le from j && s.reserved f j)) in
+    let d = count_below-total (λ j. nat_le from j && s.reserved f j) g.limit in
+    omega arith
+  where
+    drop_same : (d : Bool) → bit ((f == f) && d) ≡ bit d
+    drop_same true = grind (arith, nat_tests)
+    drop_same false = grind (arith, nat_tests)
+
+when : (b : Bool) (f i : ℕ) → b ≡ true → is_there (only_if b (f, i)) f i ≡ true
+when true f i e = self f i
+when false f i e = (let d : false ≡ true = e in cc)
+
+-- what a call owes is within what it counts on
+less_needs : (g : Geometry) (s : State) (t : ℕ) (c : Option Call) → Stands g s t c → less c ≤ need g s c
+less_needs g s t (Some (call.Touch (touch.Taken p))) h = one_claim g s (Some (call.Touch (touch.Taken p))) p.touch.file p.touch.index (p.pending.missing == 0) h.facts.aim.1 h.facts.aim.2 (λ d. when (p.pending.missing == 0) p.touch.file p.touch.index d)
+less_needs g s t (Some (call.Touch (touch.Committed p))) h = one_claim g s (Some (call.Touch (touch.Committed p))) p.touch.file p.touch.index true h.facts.aim.1 h.facts.aim.2 (λ d. self p.touch.file p.touch.index)
+less_needs g s t (Some (call.Touch (touch.Restore p))) h = one_claim g s (Some (call.Touch (touch.Restore p))) p.touch.file p.touch.index true h.facts.aim.1 h.facts.aim.2 (λ d. self p.touch.file p.touch.index)
+less_needs g s t (Some (call.Alloc (alloc.Taken p))) h = one_claim g s (Some (call.Alloc (alloc.Taken p))) p.allocation.file p.index (p.pending.missing == 0) h.facts.range.0 (let a = h.facts.range.2 in let b = h.facts.range.3 in omega arith) (λ d. when (p.pending.missing == 0) p.allocation.file p.index d)
+less_needs g s t (Some (call.Alloc (alloc.Committed p))) h = one_claim g s (Some (call.Alloc (alloc.Committed p))) p.allocation.file p.index true h.facts.range.0 (let a = h.facts.range.2 in let b = h.facts.range.3 in omega arith) (λ d. self p.allocation.file p.index)
+less_needs g s t (Some (call.Alloc (alloc.Restore p))) h = one_claim g s (Some (call.Alloc (alloc.Restore p))) p.allocation.file p.index true h.facts.range.0 (let a = h.facts.range.2 in let b = h.facts.range.3 in omega arith) (λ d. self p.allocation.file p.index)
+less_needs g s t (Some (call.Punch (punch.Delete p))) h = one_claim g s (Some (call.Punch (punch.Delete p))) p.hole.file p.index true h.facts.range.0 (let a = h.facts.range.2 in let b = h.facts.range.3 in omega arith) (λ d. self p.hole.file p.index)
+less_needs g s t (Some (call.Punch (punch.Free p))) h = one_claim g s (Some (call.Punch (punch.Free p))) p.hole.file p.index p.denied h.facts.range.0 (let a = h.facts.range.2 in let b = h.facts.range.3 in omega arith) (λ d. when p.denied p.hole.file p.index d)
+less_needs g s t (Some (call.Truncate (truncate.Want p))) h = tail_needs g s (Some (call.Truncate (truncate.Want p))) p.truncation.file (p.index + 1) p.evicted h.facts.file h.facts.lost (λ j. refl)
+less_needs g s t (Some (call.Truncate (truncate.Locked p))) h = tail_needs g s (Some (call.Truncate (truncate.Locked p))) p.truncation.file (p.index + 1) p.evicted h.facts.file h.facts.lost (λ j. refl)
+less_needs g s t (Some (call.Truncate (truncate.Unmap p))) h = tail_needs g s (Some (call.Truncate (truncate.Unmap p))) p.truncation.file (p.index + 1) p.evicted h.facts.file h.facts.lost (λ j. refl)
+less_needs g s t (Some (call.Truncate (truncate.Evict p))) h = tail_needs g s (Some (call.Truncate (truncate.Evict p))) p.truncation.file (p.index + 1) p.evicted h.facts.file h.facts.lost (λ j. refl)
+less_needs g s t (Some (call.Truncate (truncate.Free p))) h = tail_needs g s (Some (call.Truncate (truncate.Free p))) p.truncation.file (p.index) p.evicted h.facts.file h.facts.lost (λ j. refl)
+less_needs g s t (Some (call.Truncate (truncate.Unslot p))) h = tail_needs g s (Some (call.Truncate (truncate.Unslot p))) p.truncation.file (p.index) p.evicted h.facts.file h.facts.lost (λ j. refl)
+less_needs g s t (Some (call.Truncate (truncate.Tail p))) h = tail_needs g s (Some (call.Truncate (truncate.Tail p))) p.truncation.file (p.truncation.new) p.evicted h.facts.file h.facts.lost (λ j. refl)
+less_needs g s t c h = omega arith
+
+-- there are enough reservations for what a call counted and what it counts on beyond what it owes
+pub enough : (g : Geometry) (s : State) (t : ℕ) (c : Option Call) → Inv g s → t < g.tasks + 1 → s.calls t ≡ c → more c + need g s c ≤ s.resv + less c
+enough g s t c h l e =
+    let n : ℕ = g.tasks + 1 in
+    let a : total n (λ u. need g s (s.calls u)) ≤ vacant_of g s.reserved s.pages = all_needs g s h in
+    let d : total n (λ u. need g s (s.calls u)) ≡ total n (λ u. less (s.calls u)) + total n (λ u. need g s (s.calls u) - less (s.calls u))
+    = total_add n (λ u. less (s.calls u)) (λ u. need g s (s.calls u) - less (s.calls u)) (λ u. need g s (s.calls u)) (λ u. let y : less (s.calls u) ≤ need g s (s.calls u) = less_needs g s u (s.calls u) (h.stands u) in omega arith) in
+    let p : need g s (s.calls t) - less (s.calls t) ≤ total n (λ u. need g s (s.calls u) - less (s.calls u)) = total_has n t (λ u. need g s (s.calls u) - less (s.calls u)) l in
+    let q : more (s.calls t) ≤ total n (λ u. more (s.calls u)) = total_has n t (λ u. more (s.calls u)) l in
+    let x : need g s (s.calls t) ≡ need g s c = ap (need g s) e in
+    let y : less (s.calls t) ≡ less c = ap less e in
+    let z : more (s.calls t) ≡ more c = ap more e in
+    let w : s.resv + total n (λ u. less (s.calls u)) ≡ vacant_of g s.reserved s.pages + total n (λ u. more (s.calls u)) = h.count in
+    omega arith
+
+is_zero : (m : ℕ) → m ≡ 0 → (m == 0) ≡ true
+is_zero m e = grind (arith, nat_tests)
+
+pub can_settle : (g : Geometry) (s : State) (t : ℕ) (c : Option Call) → Inv g s → t < g.tasks + 1 → s.calls t ≡ c → Stands g s t c → CanSettle s c
+can_settle g s t (Some (call.Touch (touch.Changed p))) k l e h = λ z. let o : 1 ≤ need g s (Some (call.Touch (touch.Changed p))) = one_claim g s (Some (call.Touch (touch.Changed p))) p.touch.file p.touch.index true h.facts.aim.1 h.facts.aim.2 (λ d. when (p.pending.missing == 0) p.touch.file p.touch.index (is_zero p.pending.missing z)) in let q = enough g s t _ k l e in omega arith
+can_settle g s t (Some (call.Touch (touch.Settle p))) k l e h = let o : 1 ≤ need g s (Some (call.Touch (touch.Settle p))) = one_claim g s (Some (call.Touch (touch.Settle p))) p.touch.file p.touch.index true h.facts.aim.1 h.facts.aim.2 (λ d. self p.touch.file p.touch.index) in let q = enough g s t _ k l e in omega arith
+can_settle g s t (Some (call.Alloc (alloc.Changed p))) k l e h = λ z. let o : 1 ≤ need g s (Some (call.Alloc (alloc.Changed p))) = one_claim g s (Some (call.Alloc (alloc.Changed p))) p.allocation.file p.index true h.facts.range.0 (let a = h.facts.range.2 in let b = h.facts.range.3 in omega arith) (λ d. when (p.pending.missing == 0) p.allocation.file p.index (is_zero p.pending.missing z)) in let q = enough g s t _ k l e in omega arith
+can_settle g s t (Some (call.Alloc (alloc.Settle p))) k l e h = let o : 1 ≤ need g s (Some (call.Alloc (alloc.Settle p))) = one_claim g s (Some (call.Alloc (alloc.Settle p))) p.allocation.file p.index true h.facts.range.0 (let a = h.facts.range.2 in let b = h.facts.range.3 in omega arith) (λ d. self p.allocation.file p.index) in let q = enough g s t _ k l e in omega arith
+can_settle g s t (Some (call.Map (map.Settle p))) k l e h = let q = enough g s t _ k l e in omega arith
+can_settle g s t (Some (call.Truncate (truncate.Settle p))) k l e h = let q = enough g s t _ k l e in omega arith
+can_settle g s t c k l e h = tt

@@ -1,0 +1,205 @@
+-- Slots and file locks that are taken and left.
+use Rattle.std.proofs.Common.{◌≡◌, ◌≢◌, ℕ, ◌+◌, ◌<◌, ◌≤◌, refl, ap, sym, ◌∙◌, subst, arith, inl, inr}
+use Rattle.std.specs.Prelude.{Bool, true, false, Option, Some, None, IfSome}
+use Rattle.hp_base.specs.Numbers.{put}
+use Rattle.hp_base.proofs.Puts.{put_same, put_other, same_or_other, put_tells}
+use Rattle.hp_machine.specs.State.{Geometry, State, slot_of}
+use Rattle.hp_machine.specs.Views.{less, more, hand, change_in, slot_held, locked_file}
+use Rattle.hp_machine.specs.declared.call.Call.{Call}
+use Rattle.hp_laws.specs.Sweep.{fills, ahead, passed, gone}
+use Rattle.hp_laws.proofs.Moves.{Placing}
+use Rattle.hp_laws.proofs.Standing.{HasSlot, HasLock, Stands}
+use Rattle.hp_laws.proofs.Staying.{Keeps, stands_after}
+use Rattle.hp_laws.proofs.Invariant.{Reached, Swept, Holders, Inv, GoesOn, goes_on, GoesAs, goes_as, put_known, place_same, same_opens, sweeps, to}
+
+pub some_same : {A : Type 0} {a b : A} → Some a ≡ Some b → a ≡ b
+some_same e = cc
+
+-- one that holds something isn't one that holds nothing
+holds_other : {A : Type 0} (held : ℕ → Option A) (t u : ℕ) (k : A) → held t ≡ None → held u ≡ Some k → u ≢ t
+holds_other {A} held t u k none some = λ d. (let x : ◌≡◌ {A = Option A} None (Some k) = sym none ∙ (ap held (sym d) ∙ some) in absurd (cc))
+
+slot_taken_holders : (g : Geometry) (slots locks : ℕ → Option ℕ) (held : ℕ → Option (ℕ × ℕ)) (locked : ℕ → Option ℕ) (t f i : ℕ) → Holders g slots locks held locked → held t ≡ None
+    → Holders g (put slots (slot_of g f i) (Some t)) locks (put held t (Some (f, i))) locked
+slot_taken_holders g slots locks held locked t f i h none = record {
+  slot = λ k u e. elim (put_tells slots (slot_of g f i) (Some t) k) [
+    | inl q ↦ ((f, i), ap (put held t (Some (f, i))) (sym (some_same (sym q.1 ∙ e))) ∙ put_same held t (Some (f, i)), sym q.0)
+    | inr q ↦ (let o = h.slot k u (sym q.1 ∙ e) in (o.0, put_other held t (Some (f, i)) u (holds_other held t u o.0 none o.1) ∙ o.1, o.2))
+  ];
+  lock = h.lock;
+}
+
+slot_left_holders : (g : Geometry) (slots locks : ℕ → Option ℕ) (held : ℕ → Option (ℕ × ℕ)) (locked : ℕ → Option ℕ) (t f i : ℕ) → Holders g slots locks held locked → held t ≡ Some (f, i)
+    → Holders g (put slots (slot_of g f i) None) locks (put held t None) locked
+slot_left_holders g slots locks held locked t f i h some = record {
+  slot = λ k u e. elim (put_tells slots (slot_of g f i) None k) [
+    | inl q ↦ (let d : ◌≡◌ {A = Option ℕ} None (Some u) = sym q.1 ∙ e in absurd (cc))
+    | inr q ↦ (let o = h.slot k u (sym q.1 ∙ e) in (o.0, put_other held t None u (λ d. q.0 (sym o.2 ∙ ap (λ (m : ℕ × ℕ). slot_of g m.0 m.1) (some_same (sym o.1 ∙ (ap held d ∙ some))))) ∙ o.1, o.2))
+  ];
+  lock = h.lock;
+}
+
+lock_taken_holders : (g : Geometry) (slots locks : ℕ → Option ℕ) (held : ℕ → Option (ℕ × ℕ)) (locked : ℕ → Option ℕ) (t f : ℕ) → Holders g slots locks held locked → locked t ≡ None
+    → Holders g slots (put locks f (Some t)) held (put locked t (Some f))
+lock_taken_holders g slots locks held locked t f h none = record {
+  slot = h.slot;
+  lock = λ k u e. elim (put_tells locks f (Some t) k) [
+    | inl q ↦ ap (put locked t (Some f)) (sym (some_same (sym q.1 ∙ e))) ∙ (put_same locked t (Some f) ∙ ap (λ (m : ℕ). Some m) (sym q.0))
+    | inr q ↦ (let o = h.lock k u (sym q.1 ∙ e) in put_other locked t (Some f) u (holds_other locked t u k none o) ∙ o)
+  ];
+}
+
+lock_left_holders : (g : Geometry) (slots locks : ℕ → Option ℕ) (held : ℕ → Option (ℕ × ℕ)) (locked : ℕ → Option ℕ) (t f : ℕ) → Holders g slots locks held locked → locked t ≡ Some f
+    → Holders g slots (put locks f None) held (put locked t None)
+lock_left_holders g slots locks held locked t f h some = record {
+  slot = h.slot;
+  lock = λ k u e. elim (put_tells locks f None k) [
+    | inl q ↦ (let d : ◌≡◌ {A = Option ℕ} None (Some u) = sym q.1 ∙ e in absurd (cc))
+    | inr q ↦ (let o = h.lock k u (sym q.1 ∙ e) in put_other locked t None u (λ d. q.0 (some_same (sym o ∙ (ap locked d ∙ some)))) ∙ o)
+  ];
+}
+
+-- all that others see of a call beside what it holds
+abbrev pub shown : Option Call → ℕ × ℕ × Option ℕ × Option ℕ × ((ℕ → ℕ → Bool) × (ℕ → ℕ → Bool) × (ℕ → ℕ → Bool))
+shown c = (less c, more c, hand c, change_in c, sweeps c)
+
+-- a slot that is free is taken
+pub takes_slot : (g : Geometry) (s : State) (t : ℕ) (b c : Option Call) (f i : ℕ) → Inv g s → t < g.tasks + 1 → s.calls t ≡ b
+    → s.slots (slot_of g f i) ≡ None → shown c ≡ shown b → locked_file c ≡ locked_file b → slot_held b ≡ None → slot_held c ≡ Some (f, i)
+    → IfSome (fills c) (λ k. Reached s.size (λ u. ahead (s.calls u)) k.0 k.1)
+    → Stands g (record s { slots = put s.slots (slot_of g f i) (Some t) }) t c → Inv g (to (record s { slots = put s.slots (slot_of g f i) (Some t) }) t c)
+takes_slot g s t b c f i h l e free same same_lock none some fill own = goes_as g s n t b c h l e (ap (λ p. p.4) same) (record {
+  geometry = h.geometry;
+  count = (let x : less c ≡ less b = ap (λ p. p.0) same in let y : more c ≡ more b = ap (λ p. p.1) same in omega arith);
+  enough = h.enough;
+  place = place_same g s t b c h e (ap (λ p. p.2) same);
+  entries = h.entries; ranges = h.ranges; spread = h.spread; inside = h.inside; sweep = h.sweep; reach = h.reach; fill = fill; sizes = h.sizes;
+  changes = same_opens s.pending b c (ap (λ p. p.3) same);
+  spares = h.spares;
+  holders = subst (λ (o : Option (ℕ × ℕ)). Holders g n.slots s.locks (put (λ (u : ℕ). slot_held (s.calls u)) t o) (put (λ (u : ℕ). locked_file (s.calls u)) t (locked_file c))) (sym some)
+      (subst (λ (a : ℕ → Option ℕ). Holders g n.slots s.locks (put (λ (u : ℕ). slot_held (s.calls u)) t (Some (f, i))) a) (sym (put_known (λ (u : ℕ). locked_file (s.calls u)) t (locked_file c) (ap locked_file e ∙ sym same_lock)))
+      (slot_taken_holders g s.slots s.locks (λ u. slot_held (s.calls u)) (λ u. locked_file (s.calls u)) t f i h.holders (ap slot_held e ∙ none)));
+  others = λ u d. stands_after g s n u (s.calls u) (record { slot = still u; page = λ k j a. refl; mark = λ k j a w r. r; entries = λ k j a w v x p q. (x, p, q); lock = λ k a. (a, refl, λ j r. r); areas = refl; prepared = refl; table = λ v x p. (x, p) }) (h.stands u);
+  own = own;
+})
+  where
+    n : State
+    n = record s { slots = put s.slots (slot_of g f i) (Some t) }
+
+    still : (u k : ℕ) → s.slots k ≡ Some u → put s.slots (slot_of g f i) (Some t) k ≡ Some u
+    still u k a = grind (arith, put_tells)
+
+pub left_holders : (g : Geometry) (s : State) (t : ℕ) (b c : Option Call) (f i : ℕ) → Inv g s → s.calls t ≡ b → locked_file c ≡ locked_file b → slot_held b ≡ Some (f, i) → slot_held c ≡ None
+    → Holders g (put s.slots (slot_of g f i) None) s.locks (put (λ (u : ℕ). slot_held (s.calls u)) t (slot_held c)) (put (λ (u : ℕ). locked_file (s.calls u)) t (locked_file c))
+left_holders g s t b c f i h e same_lock some none = subst (λ (o : Option (ℕ × ℕ)). Holders g (put s.slots (slot_of g f i) None) s.locks (put (λ (u : ℕ). slot_held (s.calls u)) t o) (put (λ (u : ℕ). locked_file (s.calls u)) t (locked_file c))) (sym none)
+    (subst (λ (a : ℕ → Option ℕ). Holders g (put s.slots (slot_of g f i) None) s.locks (put (λ (u : ℕ). slot_held (s.calls u)) t None) a) (sym (put_known (λ (u : ℕ). locked_file (s.calls u)) t (locked_file c) (ap locked_file e ∙ sym same_lock)))
+    (slot_left_holders g s.slots s.locks (λ u. slot_held (s.calls u)) (λ u. locked_file (s.calls u)) t f i h.holders (ap slot_held e ∙ some)))
+
+pub left_stands : (g : Geometry) (s : State) (t f i : ℕ) → Inv g s → HasSlot g s t f i → (u : ℕ) → u ≢ t → Stands g (record s { slots = put s.slots (slot_of g f i) None }) u (s.calls u)
+left_stands g s t f i h held u d = stands_after g s n u (s.calls u) (record { slot = still; page = λ k j a. refl; mark = λ k j a w r. r; entries = λ k j a w v x p q. (x, p, q); lock = λ k a. (a, refl, λ j r. r); areas = refl; prepared = refl; table = λ v x p. (x, p) }) (h.stands u)
+  where
+    n : State
+    n = record s { slots = put s.slots (slot_of g f i) None }
+
+    still : (k : ℕ) → s.slots k ≡ Some u → put s.slots (slot_of g f i) None k ≡ Some u
+    still k a = elim (put_tells s.slots (slot_of g f i) None k) [
+      | inl q ↦ absurd (d (some_same (sym a ∙ (ap s.slots q.0 ∙ held))))
+      | inr q ↦ q.1 ∙ a
+    ]
+
+-- a slot is left
+pub leaves_slot : (g : Geometry) (s : State) (t : ℕ) (b c : Option Call) (f i : ℕ) → Inv g s → t < g.tasks + 1 → s.calls t ≡ b
+    → shown c ≡ shown b → locked_file c ≡ locked_file b → slot_held b ≡ Some (f, i) → slot_held c ≡ None → HasSlot g s t f i
+    → IfSome (fills c) (λ k. Reached s.size (λ u. ahead (s.calls u)) k.0 k.1)
+    → Stands g (record s { slots = put s.slots (slot_of g f i) None }) t c → Inv g (to (record s { slots = put s.slots (slot_of g f i) None }) t c)
+leaves_slot g s t b c f i h l e same same_lock some none held fill own = goes_as g s n t b c h l e (ap (λ p. p.4) same) (record {
+  geometry = h.geometry;
+  count = (let x : less c ≡ less b = ap (λ p. p.0) same in let y : more c ≡ more b = ap (λ p. p.1) same in omega arith);
+  enough = h.enough;
+  place = place_same g s t b c h e (ap (λ p. p.2) same);
+  entries = h.entries; ranges = h.ranges; spread = h.spread; inside = h.inside; sweep = h.sweep; reach = h.reach; fill = fill; sizes = h.sizes;
+  changes = same_opens s.pending b c (ap (λ p. p.3) same);
+  spares = h.spares;
+  holders = left_holders g s t b c f i h e same_lock some none;
+  others = left_stands g s t f i h held;
+  own = own;
+})
+  where
+    n : State
+    n = record s { slots = put s.slots (slot_of g f i) None }
+
+-- a file lock that is free is taken
+pub takes_lock : (g : Geometry) (s : State) (t : ℕ) (b c : Option Call) (f : ℕ) → Inv g s → t < g.tasks + 1 → s.calls t ≡ b
+    → s.locks f ≡ None → shown c ≡ shown b → slot_held c ≡ slot_held b → locked_file b ≡ None → locked_file c ≡ Some f → fills c ≡ None
+    → Stands g (record s { locks = put s.locks f (Some t) }) t c → Inv g (to (record s { locks = put s.locks f (Some t) }) t c)
+takes_lock g s t b c f h l e free same same_slot none some fill own = goes_as g s n t b c h l e (ap (λ p. p.4) same) (record {
+  geometry = h.geometry;
+  count = (let x : less c ≡ less b = ap (λ p. p.0) same in let y : more c ≡ more b = ap (λ p. p.1) same in omega arith);
+  enough = h.enough;
+  place = place_same g s t b c h e (ap (λ p. p.2) same);
+  entries = h.entries; ranges = h.ranges; spread = h.spread; inside = h.inside; sweep = h.sweep; reach = h.reach; sizes = h.sizes;
+  fill = subst (λ (o : Option (ℕ × ℕ)). IfSome o (λ k. Reached s.size (λ u. ahead (s.calls u)) k.0 k.1)) (sym fill) tt;
+  changes = same_opens s.pending b c (ap (λ p. p.3) same);
+  spares = h.spares;
+  holders = subst (λ (o : Option ℕ). Holders g s.slots n.locks (put (λ (u : ℕ). slot_held (s.calls u)) t (slot_held c)) (put (λ (u : ℕ). locked_file (s.calls u)) t o)) (sym some)
+      (subst (λ (a : ℕ → Option (ℕ × ℕ)). Holders g s.slots n.locks a (put (λ (u : ℕ). locked_file (s.calls u)) t (Some f))) (sym (put_known (λ (u : ℕ). slot_held (s.calls u)) t (slot_held c) (ap slot_held e ∙ sym same_slot)))
+      (lock_taken_holders g s.slots s.locks (λ u. slot_held (s.calls u)) (λ u. locked_file (s.calls u)) t f h.holders (ap locked_file e ∙ none)));
+  others = λ u d. stands_after g s n u (s.calls u) (record { slot = λ k a. a; page = λ k j a. refl; mark = λ k j a w r. r; entries = λ k j a w v x p q. (x, p, q); lock = λ k a. (still u k a, refl, λ j r. r); areas = refl; prepared = refl; table = λ v x p. (x, p) }) (h.stands u);
+  own = own;
+})
+  where
+    n : State
+    n = record s { locks = put s.locks f (Some t) }
+
+    still : (u k : ℕ) → s.locks k ≡ Some u → put s.locks f (Some t) k ≡ Some u
+    still u k a = grind (arith, put_tells)
+
+-- a call ends, and leaves its file lock; it has passed every index that it was to pass
+pub leaves_lock : (g : Geometry) (s : State) (t : ℕ) (b : Option Call) (f : ℕ) → Inv g s → t < g.tasks + 1 → s.calls t ≡ b
+    → less b ≡ 0 → more b ≡ 0 → hand b ≡ None → change_in b ≡ None → slot_held b ≡ None → locked_file b ≡ Some f → HasLock s t f → ((k j : ℕ) → ahead b k j ≡ false)
+    → Inv g (to (record s { locks = put s.locks f None }) t None)
+leaves_lock g s t b f h l e no_less no_more no_hand no_change no_slot some held none_ahead = goes_on g s n t b None h l e (record {
+  geometry = h.geometry;
+  count = omega arith;
+  enough = h.enough;
+  place = place_same g s t b None h e (sym no_hand);
+  entries = h.entries; ranges = h.ranges; spread = h.spread; inside = h.inside; sizes = h.sizes;
+  sweep = record {
+    below = λ w v x k j p q. covered k j (h.sweep.below w v x k j p q);
+    past = λ u k j p. elim (put_tells (λ (w : ℕ). passed (s.calls w)) t (passed None) u) [
+      | inl q ↦ (let d : false ≡ true = ap (λ (m : ℕ → ℕ → Bool). m k j) (sym q.1) ∙ p in absurd (cc))
+      | inr q ↦ h.sweep.past u k j (ap (λ (m : ℕ → ℕ → Bool). m k j) (sym q.1) ∙ p)
+    ];
+    gone = λ u k j p. elim (put_tells (λ (w : ℕ). gone (s.calls w)) t (gone None) u) [
+      | inl q ↦ (let d : false ≡ true = ap (λ (m : ℕ → ℕ → Bool). m k j) (sym q.1) ∙ p in absurd (cc))
+      | inr q ↦ h.sweep.gone u k j (ap (λ (m : ℕ → ℕ → Bool). m k j) (sym q.1) ∙ p)
+    ];
+  };
+  reach = λ w. if_reached (fills (s.calls w)) (h.reach w);
+  fill = tt;
+  changes = same_opens s.pending b None (sym no_change);
+  spares = h.spares;
+  holders = subst (λ (a : ℕ → Option (ℕ × ℕ)). Holders g s.slots n.locks a (put (λ (u : ℕ). locked_file (s.calls u)) t None)) (sym (put_known (λ (u : ℕ). slot_held (s.calls u)) t None (ap slot_held e ∙ no_slot)))
+      (lock_left_holders g s.slots s.locks (λ u. slot_held (s.calls u)) (λ u. locked_file (s.calls u)) t f h.holders (ap locked_file e ∙ some));
+  others = λ u d. stands_after g s n u (s.calls u) (record { slot = λ k a. a; page = λ k j a. refl; mark = λ k j a w r. r; entries = λ k j a w v x p q. (x, p, q); lock = λ k a. (still u d k a, refl, λ j r. r); areas = refl; prepared = refl; table = λ v x p. (x, p) }) (h.stands u);
+  own = record { slot = tt; lock = tt; facts = tt };
+})
+  where
+    n : State
+    n = record s { locks = put s.locks f None }
+
+    still : (u : ℕ) → u ≢ t → (k : ℕ) → s.locks k ≡ Some u → put s.locks f None k ≡ Some u
+    still u d k a = elim (put_tells s.locks f None k) [
+      | inl q ↦ absurd (d (some_same (sym a ∙ (ap s.locks q.0 ∙ held))))
+      | inr q ↦ q.1 ∙ a
+    ]
+
+    covered : (k j : ℕ) → Reached s.size (λ u. ahead (s.calls u)) k j → Reached s.size (put (λ (u : ℕ). ahead (s.calls u)) t (ahead None)) k j
+    covered k j r = elim r [
+      | inl a ↦ inl a
+      | inr a ↦ inr (a.0, ap (λ (m : ℕ → ℕ → Bool). m k j) (put_other (λ (u : ℕ). ahead (s.calls u)) t (ahead None) a.0 (λ d. (let z : false ≡ true = sym (none_ahead k j) ∙ (ap (λ (c : Option Call). ahead c k j) (sym (ap s.calls d ∙ e)) ∙ a.1) in absurd (cc)))) ∙ a.1)
+    ]
+
+    if_reached : (o : Option (ℕ × ℕ)) → IfSome o (λ k. Reached s.size (λ u. ahead (s.calls u)) k.0 k.1) → IfSome o (λ k. Reached s.size (put (λ (u : ℕ). ahead (s.calls u)) t (ahead None)) k.0 k.1)
+    if_reached None r = tt
+    if_reached (Some k) r = covered k.0 k.1 r

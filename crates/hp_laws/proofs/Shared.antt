@@ -1,0 +1,241 @@
+-- Rows that several operations share, and how a row's leaf is reached.
+use Rattle.std.proofs.Common.{◌≡◌, ◌≢◌, ℕ, ◌+◌, ◌-◌, ◌<◌, ◌≤◌, refl, ap, sym, ◌∙◌, subst, arith, inl, inr}
+use Rattle.std.specs.Prelude.{Bool, true, false, not, ◌&&◌, ◌||◌, ◌==◌, nat_le, nat_lt, max, Option, Some, None, IfSome, MatchBool, MatchOption}
+use Rattle.std.proofs.lemmas.Bool.Decides.{nat_tests}
+use Rattle.hp_base.specs.Numbers.{put, bit}
+use Rattle.hp_base.specs.Indices.{is_within, missing, add_range}
+use Rattle.hp_base.specs.declared.answer.Answer.{Answer}
+use Rattle.hp_base.proofs.Puts.{put_same}
+use Rattle.hp_base.proofs.Sets.{missing_one, add_range_has}
+use Rattle.hp_frames.specs.declared.frame.FrameState.TheVariants as state
+use Rattle.hp_region.specs.Change.{Change}
+use Rattle.hp_machine.specs.State.{Geometry, Pool, State, pool_of, with_pool, slot_of, free_frames, frees}
+use Rattle.hp_machine.specs.Parts.{StartRow, is_bad_range, WantSlotRow, ChangeRow, CommitRow, TakeRow}
+use Rattle.hp_machine.specs.Events.{left}
+use Rattle.hp_machine.specs.Views.{less, more, hand, change_in, locked_file, slot_held}
+use Rattle.hp_machine.specs.declared.call.Call.{Call}
+use Rattle.hp_machine.specs.declared.call.Turn.{Turn}
+use Rattle.hp_machine.specs.declared.call.Turn.TheVariants.{Moved, Blocked, Ended}
+use Rattle.hp_laws.specs.Sweep.{fills, ahead, passed}
+use Rattle.hp_laws.proofs.Standing.{HasLock, IsOne, Stands}
+use Rattle.hp_laws.proofs.Invariant
+use Rattle.hp_laws.proofs.Invariant.{Reached, Inv, sweeps, holds, seen, stays, to}
+use Rattle.hp_laws.proofs.Holding.{shown, takes_slot, takes_lock}
+use Rattle.hp_laws.proofs.Effects.{committing, opened, commits, takes}
+
+-- the state after a turn
+abbrev pub after : {P : Type 0} → (P → Call) → State → (task : ℕ) → Turn P → Pool → State
+after call s t turn new = record (with_pool s new) { calls = put s.calls t (left call turn) }
+
+-- a leaf's equations put into the state after it
+pub so : {P : Type 0} (call : P → Call) (s : State) (t : ℕ) (wanted turn : Turn P) (there new : Pool) → (turn ≡ wanted) × (new ≡ there) → Inv s.geometry (after call s t wanted there) → Inv s.geometry (after call s t turn new)
+so {P} call s t wanted turn there new e h = subst (λ (p : Turn P × Pool). Inv s.geometry (after call s t p.0 p.1)) (sym (pair e.0 e.1)) h
+  where
+    pair : turn ≡ wanted → new ≡ there → ◌≡◌ {A = Turn P × Pool} (turn, new) (wanted, there)
+    pair a b = cc
+
+pub by_test : {A B C : Type 0} (b : Bool) → MatchBool b A B → (b ≡ true → A → C) → (b ≡ false → B → C) → C
+by_test true m on off = on refl m
+by_test false m on off = off refl m
+
+pub by_option : {A : Type 0} {P : Type 0} {Q : A → Type 0} {C : Type 0} (o : Option A) → MatchOption o P Q → (o ≡ None → P → C) → ((a : A) → o ≡ Some a → Q a → C) → C
+by_option None m off on = off refl m
+by_option (Some a) m off on = on a refl m
+
+-- what holds of no call
+pub idle : (g : Geometry) (s : State) (t : ℕ) → Stands g s t None
+idle g s t = record { slot = tt; lock = tt; facts = tt }
+
+-- what holds of the call that the row finds
+pub stands_at : (s : State) (t : ℕ) (c : Option Call) → Inv s.geometry s → s.calls t ≡ c → Stands s.geometry s t c
+stands_at s t c h e = subst (Stands s.geometry s t) e (h.stands t)
+
+pub reach_at : (s : State) (t : ℕ) (c : Option Call) → Inv s.geometry s → s.calls t ≡ c → IfSome (fills c) (λ k. Reached s.size (λ u. ahead (s.calls u)) k.0 k.1)
+reach_at s t c h e = subst (λ d. IfSome (fills d) (λ k. Reached s.size (λ u. ahead (s.calls u)) k.0 k.1)) e (h.reach t)
+
+-- a call waits where it stands
+pub waits : (s : State) (t : ℕ) (c : Option Call) → Inv s.geometry s → t < s.geometry.tasks + 1 → s.calls t ≡ c → Inv s.geometry (to s t c)
+waits s t c h l e = stays s.geometry s t c c h l e refl (reach_at s t c h e) (stands_at s t c h e)
+
+no_fill : (s : State) (c : Option Call) → fills c ≡ None → IfSome (fills c) (λ k. Reached s.size (λ u. ahead (s.calls u)) k.0 k.1)
+no_fill s c e = subst (λ (o : Option (ℕ × ℕ)). IfSome o (λ k. Reached s.size (λ u. ahead (s.calls u)) k.0 k.1)) (sym e) tt
+
+pub start_row : {P : Type 0} (call : P → Call) (s : State) (t : ℕ) (killed : Bool) (f : ℕ) (bad : Bool) (at_kill : Answer) (here next : P) (turn : Turn P) (new : Pool)
+    → Inv s.geometry s → t < s.geometry.tasks + 1 → s.calls t ≡ Some (call here) → StartRow (pool_of s) t killed f bad at_kill here next turn new
+    → seen None ≡ seen (Some (call here)) → shown (Some (call next)) ≡ shown (Some (call here)) → slot_held (Some (call next)) ≡ slot_held (Some (call here))
+    → locked_file (Some (call here)) ≡ None → locked_file (Some (call next)) ≡ Some f → fills (Some (call next)) ≡ None
+    → (f < s.geometry.files → bad ≡ false → Stands s.geometry (record s { locks = put s.locks f (Some t) }) t (Some (call next)))
+    → Inv s.geometry (after call s t turn new)
+start_row call s t killed f bad at_kill here next turn new h l e row none same same_slot no_lock lock no_filling own =
+    let ends = stays s.geometry s t (Some (call here)) None h l e none tt (idle s.geometry s t) in
+    by_test (nat_le s.geometry.files f) row
+    (λ out r. so call s t _ turn _ new r ends)
+    (λ within r. by_test bad r
+    (λ is r. so call s t _ turn _ new r ends)
+    (λ good r. by_test killed r
+    (λ is r. so call s t _ turn _ new r ends)
+    (λ alive r. by_option (s.locks f) r
+    (λ free r. so call s t _ turn _ new r (takes_lock s.geometry s t (Some (call here)) (Some (call next)) f h l e free same same_slot no_lock lock no_filling (own (below f s.geometry.files within) good)))
+    (λ holder held r. so call s t _ turn _ new r (waits s t (Some (call here)) h l e)))))
+  where
+    below : (f n : ℕ) → nat_le n f ≡ false → f < n
+    below f n d = grind (arith, nat_tests)
+
+pub good_range : (s : State) (from len : ℕ) → is_bad_range (pool_of s) from len ≡ false → (1 ≤ len) × (from + len ≤ s.geometry.limit)
+good_range s from len e = (grind (arith, nat_tests), grind (arith, nat_tests))
+
+pub want_row : {P : Type 0} (call : P → Call) (s : State) (t f i : ℕ) (here next : P) (turn : Turn P) (new : Pool)
+    → Inv s.geometry s → t < s.geometry.tasks + 1 → s.calls t ≡ Some (call here) → WantSlotRow (pool_of s) t f i here next turn new
+    → shown (Some (call next)) ≡ shown (Some (call here)) → locked_file (Some (call next)) ≡ locked_file (Some (call here))
+    → slot_held (Some (call here)) ≡ None → slot_held (Some (call next)) ≡ Some (f, i) → fills (Some (call next)) ≡ None
+    → Stands s.geometry (record s { slots = put s.slots (slot_of s.geometry f i) (Some t) }) t (Some (call next))
+    → Inv s.geometry (after call s t turn new)
+want_row call s t f i here next turn new h l e row same same_lock no_slot slot no_filling own =
+    by_option (s.slots (slot_of s.geometry f i)) row
+    (λ free r. so call s t _ turn _ new r (takes_slot s.geometry s t (Some (call here)) (Some (call next)) f i h l e free same same_lock no_slot slot (no_fill s (Some (call next)) no_filling) own))
+    (λ holder held r. so call s t _ turn _ new r (waits s t (Some (call here)) h l e))
+
+-- what of a call stays through a change
+abbrev pub steady : Option Call → ((ℕ → ℕ → Bool) × (ℕ → ℕ → Bool) × (ℕ → ℕ → Bool)) × (Option (ℕ × ℕ) × Option ℕ) × Option ℕ
+steady c = (sweeps c, holds c, hand c)
+
+-- and through a take
+abbrev pub unhanded : Option Call → ((ℕ → ℕ → Bool) × (ℕ → ℕ → Bool) × (ℕ → ℕ → Bool)) × (Option (ℕ × ℕ) × Option ℕ) × Option ℕ × ℕ
+unhanded c = (sweeps c, holds c, change_in c, more c)
+
+-- a change is begun, or denied
+pub change_row : {P : Type 0} (call : P → Call) (s : State) (t : ℕ) (grant : Bool) (f from to : ℕ) (here denied : P) (changed : Change → P) (turn : Turn P) (new : Pool)
+    → Inv s.geometry s → t < s.geometry.tasks + 1 → s.calls t ≡ Some (call here) → ChangeRow (pool_of s) grant f from to denied changed turn new
+    → (let change : Change = record { from = from; to = to; missing = missing (s.reserved f) from to } in record {
+      denied : Inv s.geometry (Invariant.to s t (Some (call denied)));
+      same : steady (Some (call (changed change))) ≡ steady (Some (call here));
+      none : change_in (Some (call here)) ≡ None;
+      some : change_in (Some (call (changed change))) ≡ Some f;
+      balance : less (Some (call (changed change))) + more (Some (call here)) ≡ less (Some (call here)) + more (Some (call (changed change)));
+      fill : IfSome (fills (Some (call (changed change)))) (λ k. Reached s.size (λ u. ahead (s.calls u)) k.0 k.1);
+      own : Stands s.geometry s t (Some (call (changed change)));
+    })
+    → Inv s.geometry (after call s t turn new)
+change_row call s t grant f from to here denied changed turn new h l e row y =
+    by_test ((s.spare f == s.pending f) && not grant) row
+    (λ is r. so call s t _ turn _ new r y.denied)
+    (λ isnt r. so call s t _ turn _ new r (opened s.geometry s t (Some (call here)) _ f h l e (ap (λ p. p.0) y.same) (ap (λ p. p.1) y.same) (ap (λ p. p.2) y.same) y.none y.some y.balance y.fill y.own))
+
+pub is_nil : (m : ℕ) → (m == 0) ≡ true → m ≡ 0
+is_nil m e = grind (arith, nat_tests)
+
+pub not_nil : (m : ℕ) → (m == 0) ≡ false → 1 ≤ m
+not_nil m e = grind (arith, nat_tests)
+
+free_left : (s : State) → Inv s.geometry s → (frees (pool_of s) == s.resv) ≡ false → s.resv + 1 ≤ free_frames s.frame s.frames
+free_left s h e = let d : free_frames s.frame s.frames ≢ s.resv = differ _ _ e in let z = h.enough in omega arith
+  where
+    differ : (m n : ℕ) → (m == n) ≡ false → m ≢ n
+    differ m n e = grind (arith, nat_tests)
+
+-- a frame is taken, or there is none
+pub take_row : {P : Type 0} (call : P → Call) (s : State) (t m : ℕ) (here no_frame : P) (taken : ℕ → P) (turn : Turn P) (new : Pool)
+    → Inv s.geometry s → t < s.geometry.tasks + 1 → s.calls t ≡ Some (call here) → TakeRow (pool_of s) m no_frame taken turn new
+    → record {
+      lacks : Inv s.geometry (Invariant.to s t (Some (call no_frame)));
+      same : (x : ℕ) → unhanded (Some (call (taken x))) ≡ unhanded (Some (call here));
+      empty : hand (Some (call here)) ≡ None;
+      full : (x : ℕ) → hand (Some (call (taken x))) ≡ Some x;
+      owes : (x : ℕ) → less (Some (call (taken x))) ≡ bit (m == 0);
+      free : less (Some (call here)) ≡ 0;
+      fill : (x : ℕ) → IfSome (fills (Some (call (taken x)))) (λ k. Reached s.size (λ u. ahead (s.calls u)) k.0 k.1);
+      own : (x : ℕ) → Stands s.geometry s t (Some (call (taken x)));
+    }
+    → Inv s.geometry (after call s t turn new)
+take_row call s t m here no_frame taken turn new h l e row y =
+    by_test (m == 0) row
+    (λ none r. so call s t _ turn _ new r.3 (takes s.geometry s t (Some (call here)) (Some (call (taken r.0))) r.0 (s.resv - 1) h l e r.1 (ap (λ p. p.0) (y.same r.0)) (ap (λ p. p.1) (y.same r.0)) y.empty (y.full r.0) (ap (λ p. p.2) (y.same r.0))
+    (let low : 1 ≤ s.resv = r.2 in let a : less (Some (call (taken r.0))) ≡ 1 = y.owes r.0 ∙ ap bit none in let b = y.free in let c : more (Some (call (taken r.0))) ≡ more (Some (call here)) = ap (λ p. p.3) (y.same r.0) in omega arith)
+    (let low : 1 ≤ s.resv = r.2 in let z = h.enough in omega arith) (y.fill r.0) (y.own r.0)))
+    (λ some r. by_test (frees (pool_of s) == s.resv) r
+    (λ full r. so call s t _ turn _ new r y.lacks)
+    (λ left r. so call s t _ turn _ new r.2 (takes s.geometry s t (Some (call here)) (Some (call (taken r.0))) r.0 s.resv h l e r.1 (ap (λ p. p.0) (y.same r.0)) (ap (λ p. p.1) (y.same r.0)) y.empty (y.full r.0) (ap (λ p. p.2) (y.same r.0))
+    (let a : less (Some (call (taken r.0))) ≡ 0 = y.owes r.0 ∙ ap bit some in let b = y.free in let c : more (Some (call (taken r.0))) ≡ more (Some (call here)) = ap (λ p. p.3) (y.same r.0) in omega arith)
+    (free_left s h left) (y.fill r.0) (y.own r.0))))
+
+-- the index that a change adds is reserved then
+pub own_reserved : (s : State) (f i : ℕ) (change : Change) → IsOne change i → (committing s f change).reserved f i ≡ true
+own_reserved s f i change one =
+    ap (λ (m : ℕ → Bool). m i) (put_same s.reserved f (add_range (s.reserved f) change.from change.to)) ∙ add_range_has (s.reserved f) change.from change.to i (inside change.from change.to i one.0 one.1)
+  where
+    inside : (from to i : ℕ) → from ≡ i → to ≡ i + 1 → is_within from to i ≡ true
+    inside from to i a b = grind (arith, nat_tests)
+
+pub own_missing : (r : ℕ → Bool) (change : Change) (i : ℕ) → IsOne change i → missing r change.from change.to ≡ bit (not (r i))
+own_missing r change i one = ap (λ (k : ℕ). missing r k change.to) one.0 ∙ (ap (missing r i) one.1 ∙ missing_one r i)
+
+-- what a change of one index tells
+pub one_change : (r : ℕ → Bool) (i : ℕ) → IsOne (record { from = i; to = i + 1; missing = missing r i (i + 1) }) i × ((missing r i (i + 1) == 0) ≡ true → r i ≡ true)
+one_change r i = let lacks = missing_one r i in ((refl, refl, few (r i) _ lacks), λ e. has (r i) _ lacks (is_nil _ e))
+  where
+    few : (b : Bool) (m : ℕ) → m ≡ bit (not b) → m ≤ 1
+    few true m e = omega arith
+    few false m e = omega arith
+
+    has : (b : Bool) (m : ℕ) → m ≡ bit (not b) → m ≡ 0 → b ≡ true
+    has true m e z = refl
+    has false m e z = (let d : 1 ≡ 0 = sym e ∙ z in absurd (omega arith))
+
+-- a change of one index is committed
+pub commit_row : {P : Type 0} (call : P → Call) (s : State) (t f i : ℕ) (change : Change) (here settle next : P) (turn : Turn P) (new : Pool)
+    → Inv s.geometry s → t < s.geometry.tasks + 1 → s.calls t ≡ Some (call here) → CommitRow (pool_of s) f change settle next turn new
+    → record {
+      file : f < s.geometry.files;
+      index : i < s.geometry.limit;
+      one : IsOne change i;
+      marked : (change.missing == 0) ≡ true → s.reserved f i ≡ true;
+      nobody : (u : ℕ) → passed (s.calls u) f i ≡ true → ⊥;
+      opened : change_in (Some (call here)) ≡ Some f;
+      owes : less (Some (call here)) ≡ bit (change.missing == 0);
+      awaits : more (Some (call here)) ≡ 0;
+      settles : steady (Some (call settle)) ≡ steady (Some (call here));
+      settle_none : change_in (Some (call settle)) ≡ None;
+      settle_less : less (Some (call settle)) ≡ 0;
+      settle_more : more (Some (call settle)) ≡ 0;
+      nexts : steady (Some (call next)) ≡ steady (Some (call here));
+      next_none : change_in (Some (call next)) ≡ None;
+      next_less : less (Some (call next)) ≡ 1;
+      next_more : more (Some (call next)) ≡ 0;
+      fill_settle : IfSome (fills (Some (call settle))) (λ k. Reached s.size (λ u. ahead (s.calls u)) k.0 k.1);
+      fill_next : IfSome (fills (Some (call next))) (λ k. Reached s.size (λ u. ahead (s.calls u)) k.0 k.1);
+      own_settle : Stands s.geometry (committing s f change) t (Some (call settle));
+      own_next : Stands s.geometry (committing s f change) t (Some (call next));
+    }
+    → Inv s.geometry (after call s t turn new)
+commit_row call s t f i change here settle next turn new h l e row y =
+    let lacks = own_missing (s.reserved f) change i y.one in
+    let few = y.one.2 in
+    let low : change.to ≤ s.geometry.limit = (let a = y.one.1 in let b = y.index in omega arith) in
+    let clear : (u j : ℕ) → passed (s.calls u) f j ≡ true → is_within change.from change.to j ≡ true → ⊥ = λ u j a w. y.nobody u (ap (passed (s.calls u) f) (alone change.from change.to j y.one.0 y.one.1 w) ∙ a) in
+    by_test (nat_lt (missing (s.reserved f) change.from change.to) change.missing) row
+    (λ fewer r. so call s t _ turn _ new r (commits s.geometry s t (Some (call here)) (Some (call settle)) f change h l e y.file low (ap (λ p. p.0) y.settles) (ap (λ p. p.1) y.settles) (ap (λ p. p.2) y.settles) y.opened y.settle_none clear
+    (let a = lt _ _ fewer in let b : less (Some (call here)) ≡ 0 = y.owes ∙ some change.missing a in let c : more (Some (call here)) ≡ 0 = y.awaits in let d : less (Some (call settle)) ≡ 0 = y.settle_less in let x : more (Some (call settle)) ≡ 0 = y.settle_more in omega arith)
+    y.fill_settle y.own_settle))
+    (λ all r. so call s t _ turn _ new r (commits s.geometry s t (Some (call here)) (Some (call next)) f change h l e y.file low (ap (λ p. p.0) y.nexts) (ap (λ p. p.1) y.nexts) (ap (λ p. p.2) y.nexts) y.opened y.next_none clear
+    (let a = pays change.missing (missing (s.reserved f) change.from change.to) (s.reserved f i) (change.missing == 0) refl y.marked lacks (le _ _ all) in let b : less (Some (call here)) ≡ bit (change.missing == 0) = y.owes in let c : more (Some (call here)) ≡ 0 = y.awaits in let d : less (Some (call next)) ≡ 1 = y.next_less in let x : more (Some (call next)) ≡ 0 = y.next_more in omega arith)
+    y.fill_next y.own_next))
+  where
+    alone : (from to j : ℕ) → from ≡ i → to ≡ i + 1 → is_within from to j ≡ true → i ≡ j
+    alone from to j a b w = let x : from ≤ j = grind (arith, nat_tests) in let z : j < to = grind (arith, nat_tests) in omega arith
+
+    lt : (a b : ℕ) → nat_lt a b ≡ true → a < b
+    lt a b e = grind (arith, nat_tests)
+
+    le : (a b : ℕ) → nat_lt a b ≡ false → b ≤ a
+    le a b e = grind (arith, nat_tests)
+
+    some : (m : ℕ) {k : ℕ} → k < m → bit (m == 0) ≡ 0
+    some m a = ap bit (isnt m a)
+      where
+        isnt : (m : ℕ) {k : ℕ} → k < m → (m == 0) ≡ false
+        isnt m a = grind (arith, nat_tests)
+
+    pays : (m k : ℕ) (r z : Bool) → (m == 0) ≡ z → (z ≡ true → r ≡ true) → k ≡ bit (not r) → m ≤ k → bit z + k ≡ 1
+    pays m k r true e marked lacks le = (let a : k ≡ 0 = lacks ∙ ap (λ (b : Bool). bit (not b)) (marked refl) in omega arith)
+    pays m k true false e marked lacks le = (let a = not_nil m e in absurd (omega arith))
+    pays m k false false e marked lacks le = omega arith
