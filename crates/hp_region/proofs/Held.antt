@@ -1,12 +1,12 @@
 -- How many indices a list of regions holds.
-use Rattle.std.proofs.Common.{◌≡◌, ℕ, zero, suc, ◌+◌, ◌-◌, ◌<◌, ◌≤◌, min, max, Bool, true, false, cond, not, ◌&&◌, ◌||◌, List, [], ◌∷◌, refl, sym, ap, ◌∙◌, arith, rules}
-use Rattle.std.specs.Prelude.{nat_le, nat_lt}
+use Rattle.std.proofs.Common.{◌≡◌, ℕ, ◌+◌, ◌<◌, ◌≤◌, max, false, ◌&&◌, ◌||◌, List, [], ◌∷◌, refl, sym, ◌∙◌, arith}
+use Rattle.std.specs.Prelude.{nat_le}
 use Rattle.std.proofs.lemmas.Bool.Decides.{nat_tests}
-use Rattle.hp_base.specs.Indices.{is_within, count_below, count_within, missing}
-use Rattle.hp_base.proofs.Counting.{count_below-sum, count_below-ext, count_below_none, count_below_mono, count_below-is_within, count_below_le}
+use Rattle.hp_base.specs.Indices.{is_within, count_within}
+use Rattle.hp_base.proofs.Counting.{count_below-sum, count_below-ext, count_below_none, count_below-is_within, count_below_le}
 use Rattle.hp_region.specs.declared.region.Region.{Region}
 use Rattle.hp_region.specs.Regions.{is_member, IsApartFrom}
-use Rattle.hp_region.specs.Walk.{overlap_of, held_within}
+use Rattle.hp_region.proofs.Lists.{overlap_of, held_within}
 
 -- nothing lies below the regions
 pub is_member_below : (low : ℕ) (rs : List Region) (k : ℕ) → IsApartFrom low rs → k < low → is_member rs k ≡ false

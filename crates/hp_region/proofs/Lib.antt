@@ -3,3 +3,4 @@ pub mod Held
 pub mod Sets
 pub mod Sought
 pub mod Walked
+pub mod Lists

@@ -1,19 +1,19 @@
 -- What is said of a list of regions, said of the set.
-use Rattle.std.proofs.Common.{◌≡◌, ℕ, zero, suc, ◌+◌, ◌-◌, ◌<◌, ◌≤◌, min, max, Bool, true, false, cond, not, ◌&&◌, ◌||◌, List, [], ◌∷◌, length, refl, sym, ap, ◌∙◌, true≢false, arith}
-use Rattle.std.specs.Prelude.{nat_le, nat_lt, nat_eq}
+use Rattle.std.proofs.Common.{◌≡◌, ℕ, ◌+◌, ◌-◌, ◌<◌, ◌≤◌, Bool, true, false, cond, not, ◌&&◌, ◌||◌, List, [], ◌∷◌, length, get_or, refl, sym, ap, ◌∙◌, true≢false, subst, arith}
+use Rattle.std.specs.Prelude.{nat_lt, nat_eq}
 use Rattle.std.proofs.Math.Path.{fun_ext}
 use Rattle.std.proofs.lemmas.Bool.Decides.{nat_tests}
-use Rattle.hp_base.specs.Indices.{is_within, count_below, count_within, add_range, cut_tail, touches, splits, region_count}
+use Rattle.hp_base.specs.Indices.{is_within, add_range, cut_tail, touches, splits, region_count}
 use Rattle.hp_base.specs.Numbers.{put}
 use Rattle.hp_base.specs.declared.limits.TheConstants.{LIMIT}
-use Rattle.hp_base.proofs.Counting.{count_below-sum, count_below-ext, count_below_none, count_below-is_within}
+use Rattle.hp_base.proofs.Counting.{count_below-sum, count_below_none, count_below-is_within}
 use Rattle.hp_base.proofs.Puts.{put_self}
 use Rattle.hp_region.specs.declared.region.Region.{Region}
 use Rattle.hp_region.specs.Regions.{is_member, IsApartFrom}
-use Rattle.hp_region.specs.Walk.{meets, falls_apart, overlap_of, held_within, with_range, without, below}
+use Rattle.hp_region.proofs.Lists.{meets, falls_apart, held_within, ended_by, with_range, without, below}
 use Rattle.hp_region.proofs.Held.{is_member_below, held_within-count}
-use Rattle.hp_region.proofs.Walked.{is_member-with_range}
-use Rattle.hp_region.proofs.Sought.{is_member-without, is_member-below, falls_apart_none_outside}
+use Rattle.hp_region.proofs.Walked.{is_member-with_range, IsApartFrom-with_range}
+use Rattle.hp_region.proofs.Sought.{is_member-without, is_member-below, IsApartFrom-without, IsApartFrom-below, falls_apart_none_outside, falls_apart_is, held_place}
 
 -- a region falls apart without i where i and both its neighbours are in the set
 pub falls_apart-splits : (low : ℕ) (rs : List Region) (i : ℕ) → IsApartFrom low rs → falls_apart rs i ≡ splits (is_member rs) i
@@ -87,3 +87,38 @@ member_below_limit low (r ∷ rs) i apart there =
   where
     within_below : (from to i : ℕ) → is_within from to i ≡ true → i < to
     within_below from to i e = grind (arith, nat_tests)
+
+-- what the lists that a walk makes are, as sets
+pub with_range_is : (rs new : List Region) (from to : ℕ) → IsApartFrom 0 rs → from < to → to ≤ LIMIT → new ≡ with_range rs from to → (IsApartFrom 0 new) × (is_member new ≡ add_range (is_member rs) from to)
+with_range_is rs new from to apart order limit is =
+    (let P : List Region → Type 0 = IsApartFrom 0 in subst P (sym is) (IsApartFrom-with_range 0 rs from to apart (omega arith) order limit), ap is_member is ∙ with_range-add_range rs from to apart order)
+
+pub without_is : (rs new : List Region) (i : ℕ) → IsApartFrom 0 rs → new ≡ without rs i → (IsApartFrom 0 new) × (is_member new ≡ put (is_member rs) i false)
+without_is rs new i apart is =
+    (let P : List Region → Type 0 = IsApartFrom 0 in subst P (sym is) (IsApartFrom-without 0 rs i apart), ap is_member is ∙ without-put rs i apart)
+
+pub below_is : (rs new : List Region) (i : ℕ) → IsApartFrom 0 rs → new ≡ below rs i → (IsApartFrom 0 new) × (is_member new ≡ cut_tail (is_member rs) i)
+below_is rs new i apart is =
+    (let P : List Region → Type 0 = IsApartFrom 0 in subst P (sym is) (IsApartFrom-below 0 rs i apart), ap is_member is ∙ below-cut_tail rs i apart)
+
+inside : (from to i : ℕ) → is_within from to i ≡ true → (from ≤ i) × (i < to)
+inside from to i e = (grind (arith, nat_tests), grind (arith, nat_tests))
+
+-- the region r at a place holds i
+pub record HoldsThere (rs : List Region) (at i : ℕ) (r : Region) : Type 0 where
+  pub sought : at ≡ ended_by rs i
+  pub begins : r.from ≤ i
+  pub ends : i < r.to
+  pub split : splits (is_member rs) i ≡ (nat_lt r.from i && nat_lt (i + 1) r.to)
+
+pub holds_there : (rs : List Region) (at i : ℕ) (r : Region) → IsApartFrom 0 rs → at < length rs → r ≡ get_or rs at r → is_within (get_or rs at r).from (get_or rs at r).to i ≡ true → HoldsThere rs at i r
+holds_there rs at i r apart within read holds =
+    let sought = held_place 0 rs at i r apart within holds in
+    let there = inside (get_or rs at r).from (get_or rs at r).to i holds in
+    let begins : r.from ≤ i = omega (arith, there, ap (λ (x : Region). x.from) read) in
+    record {
+      sought = sought;
+      begins = begins;
+      ends = omega (arith, there, ap (λ (x : Region). x.to) read);
+      split = sym (falls_apart-splits 0 rs i apart) ∙ falls_apart_is rs at i r apart sought within read begins;
+    }

@@ -1,5 +1,5 @@
 -- What the place that `seek` finds says of the regions.
-use Rattle.std.proofs.Common.{◌≡◌, ℕ, zero, suc, ◌+◌, ◌-◌, ◌/◌, ◌*◌, ◌^◌, ◌<◌, ◌≤◌, min, max, Bool, true, false, cond, not, ◌&&◌, ◌||◌, List, [], ◌∷◌, ◌++◌, length, get_or, set, take, drop, refl, sym, ap, ◌∙◌, arith, rules, add-one}
+use Rattle.std.proofs.Common.{◌≡◌, ℕ, zero, suc, ◌+◌, ◌-◌, ◌/◌, ◌*◌, ◌^◌, ◌<◌, ◌≤◌, Bool, true, false, cond, not, ◌&&◌, ◌||◌, List, [], ◌∷◌, ◌++◌, length, get_or, set, take, drop, refl, sym, ap, ◌∙◌, arith, add-one}
 use Rattle.std.specs.Prelude.{nat_le, nat_lt, nat_eq, count_by}
 use Rattle.std.proofs.Math.Nat.{pow-suc, div-lt_iff_lt-mul}
 use Rattle.std.specs.List.{insert, remove}
@@ -13,7 +13,7 @@ use Rattle.hp_base.specs.Indices.{is_within}
 use Rattle.hp_base.specs.declared.limits.TheConstants.{LIMIT}
 use Rattle.hp_region.specs.declared.region.Region.{Region}
 use Rattle.hp_region.specs.Regions.{is_member, IsApartFrom}
-use Rattle.hp_region.specs.Walk.{meets, falls_apart, absorb, with_range, held_within, ended_by, around, without, below}
+use Rattle.hp_region.proofs.Lists.{meets, falls_apart, absorb, with_range, held_within, ended_by, around, without, below}
 use Rattle.hp_region.proofs.Held.{is_member_below}
 use Rattle.hp_region.proofs.Walked.{IsApartFrom_lower}
 
@@ -143,6 +143,11 @@ starts_above : (low : ℕ) (rs : List Region) (k : ℕ) (d : Region) → IsApart
 starts_above low [] k d apart within = absurd (omega arith)
 starts_above low (r ∷ rs) zero d apart within = omega (arith, apart.0, apart.1)
 starts_above low (r ∷ rs) (suc k) d apart within = omega (arith, starts_above (r.to + 1) rs k d apart.3 (omega arith), apart.0, apart.1)
+
+from_above : (low : ℕ) (rs : List Region) (k : ℕ) (d : Region) → IsApartFrom low rs → k < length rs → low ≤ (get_or rs k d).from
+from_above low [] k d apart within = absurd (omega arith)
+from_above low (r ∷ rs) zero d apart within = apart.0
+from_above low (r ∷ rs) (suc k) d apart within = omega (arith, from_above (r.to + 1) rs k d apart.3 (omega arith), apart.0, apart.1)
 
 -- a region that ends by i stands before that place, and one that does not stands at or past it
 pub ended_before : (low : ℕ) (rs : List Region) (i k : ℕ) (d : Region) → IsApartFrom low rs → k < length rs → (get_or rs k d).to ≤ i → k < ended_by rs i
@@ -319,3 +324,15 @@ held_within_past low (r ∷ rs) zero from to d apart past =
     let rest = held_within_none (r.to + 1) rs from to apart.3 (omega (arith, apart.1)) in
     omega (arith, rest)
 held_within_past low (r ∷ rs) (suc at) from to d apart past = held_within_past (r.to + 1) rs at from to d apart.3 (λ within. past (omega arith))
+
+-- a region that holds i stands at that place
+pub held_place : (low : ℕ) (rs : List Region) (k i : ℕ) (d : Region) → IsApartFrom low rs → k < length rs → is_within (get_or rs k d).from (get_or rs k d).to i ≡ true → k ≡ ended_by rs i
+held_place low [] k i d apart within holds = absurd (omega arith)
+held_place low (r ∷ rs) zero i d apart within holds =
+    let under : i < r.to = grind (arith, nat_tests) in
+    rw (lt-leb r.to i under, ended_by_none (r.to + 1) rs i apart.3 (omega arith)) refl
+held_place low (r ∷ rs) (suc k) i d apart within holds =
+    let rest = held_place (r.to + 1) rs k i d apart.3 (omega arith) holds in
+    let begins = from_above (r.to + 1) rs k d apart.3 (omega arith) in
+    let over : (get_or rs k d).from ≤ i = grind (arith, nat_tests) in
+    rw (le-leb r.to i (omega (arith, begins, over))) (ap suc rest)

@@ -1,14 +1,13 @@
 -- What a walk over the regions makes of the set.
-use Rattle.std.proofs.Common.{◌≡◌, ℕ, zero, suc, ◌+◌, ◌-◌, ◌<◌, ◌≤◌, min, max, Bool, true, false, cond, not, ◌&&◌, ◌||◌, List, [], ◌∷◌, length, get_or, drop, refl, sym, ap, ◌∙◌, arith, rules}
+use Rattle.std.proofs.Common.{◌≡◌, ℕ, zero, suc, ◌+◌, ◌<◌, ◌≤◌, min, max, false, ◌||◌, List, [], ◌∷◌, length, get_or, drop, refl, arith}
 use Rattle.std.specs.Prelude.{nat_le, nat_lt}
-use Rattle.std.proofs.lemmas.Bool.{cond_both, ltb-true, ltb-false, leb-true, leb-false}
+use Rattle.std.proofs.lemmas.Bool.{cond_both, ltb-true, ltb-false, leb-false, lt-leb}
 use Rattle.std.proofs.lemmas.Bool.Decides.{nat_tests}
 use Rattle.hp_base.specs.Indices.{is_within}
 use Rattle.hp_base.specs.declared.limits.TheConstants.{LIMIT}
 use Rattle.hp_region.specs.declared.region.Region.{Region}
 use Rattle.hp_region.specs.Regions.{is_member, IsApartFrom}
-use Rattle.hp_region.specs.Walk.{meets, absorb, with_range}
-use Rattle.hp_region.proofs.Held.{is_member_below}
+use Rattle.hp_region.proofs.Lists.{meets, absorb, with_range}
 
 -- the first region, if there is one, does not end below `from`
 abbrev pub EndsAtOrAbove : ℕ → List Region → Type 0
@@ -68,3 +67,10 @@ meets_past low (r ∷ rs) zero from to d apart past =
     let rest = meets_none (r.to + 1) rs from to apart.3 (omega (arith, apart.1)) in
     grind (arith, nat_tests, rest, beyond)
 meets_past low (r ∷ rs) (suc at) from to d apart past = meets_past (r.to + 1) rs at from to d apart.3 (λ within. past (omega arith))
+
+-- where the region at a place begins past [m.from, m.to), none from there on is merged with it
+pub absorb_past : (rs : List Region) (at : ℕ) (m : Region) → (at < length rs → m.to < (get_or rs at m).from) → absorb (drop at rs) m.from m.to ≡ m ∷ drop at rs
+absorb_past [] zero m past = refl
+absorb_past [] (suc at) m past = refl
+absorb_past (r ∷ rs) zero m past = rw (lt-leb r.from m.to (past (omega arith))) refl
+absorb_past (r ∷ rs) (suc at) m past = absorb_past rs at m (λ within. past (omega arith))

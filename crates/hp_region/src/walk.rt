@@ -1,8 +1,8 @@
 //! Walks over a sorted list of regions.
-ghost use Rattle.std.specs.Prelude.{◌≡◌, ℕ, ◌^◌, slice_index_or, ◌+◌, ◌<◌, ◌≤◌, length, ◌↔◌, IsTrue, IsSome, IfSome, vec_len, vec_capacity, not, if◌then◌else◌};
-ghost use Rattle.hp_base.specs.Indices.{count_within, splits};
+ghost use Rattle.std.specs.Prelude.{◌≡◌, ℕ, ◌^◌, ◌+◌, ◌++◌, ◌∷◌, take, drop, ◌-◌, ◌<◌, ◌≤◌, ◌↔◌, true, false, min, max, not, nat_le, length, count_by, IsTrue, IsSome, IfSome, slice_index_or, vec_len, vec_capacity, if◌then◌else◌};
+ghost use Rattle.hp_base.specs.Indices.{is_within, count_within, add_range, cut_tail, touches, splits};
+ghost use Rattle.hp_base.specs.Numbers.{put};
 ghost use Rattle.hp_region.specs.Regions.{is_member, IsApartFrom};
-ghost use Rattle.hp_region.specs.Walk.{meets, with_range, overlap_of, ended_by, without, below};
 ghost use Rattle.hp_region.specs.declared.region.Region.{Region};
 
 use crate::region::Region;
@@ -12,7 +12,7 @@ use hp_base::{Index, LIMIT};
 // how many regions were looked at.
 pub fn seek(regions: &[Region], index: Index) -> (usize, u32)
     requires apart { IsApartFrom 0 regions.now }
-    ensures ended { result.0 ≡ ended_by regions.now index }
+    ensures ended { result.0 ≡ count_by (λ r. nat_le r.to index) regions.now }
     ensures in_range { result.0 ≤ length regions.now }
     ensures above { (d : Region) → result.0 < length regions.now → index < (slice_index_or regions.now result.0 d).to }
 
@@ -36,7 +36,7 @@ pub fn seek(regions: &[Region], index: Index) -> (usize, u32)
 
 // How many indices of a region lie in [from, to).
 fn overlap(region: Region, from: Index, to: Index) -> u32
-    ensures { result ≡ overlap_of from to region }
+    ensures { result ≡ min to region.to - max region.from from }
 {
     let first = region.from.max(from).number();
     let end = region.to.min(to).number();
@@ -62,11 +62,14 @@ pub fn held(regions: &[Region], from: Index, to: Index) -> u32
 // there was none of these.
 pub fn add(regions: &mut Vec<Region>, from: Index, to: Index) -> bool
     requires apart { IsApartFrom 0 regions.old.items }
+    requires in_order { from < to }
+    requires in_limit { to ≤ LIMIT }
     requires room { vec_len regions.old < vec_capacity regions.old }
-    ensures items { regions.new.items ≡ with_range regions.old.items from to }
-    ensures alone { result ≡ not (meets regions.old.items from to) }
+    ensures apart { IsApartFrom 0 regions.new.items }
+    ensures members { is_member regions.new.items ≡ add_range (is_member regions.old.items) from to }
+    ensures alone { result ≡ not (touches (is_member regions.old.items) from to) }
 
-    // It grows by one region at most, and only where none was merged. The block stays.
+    // There is one region more at most, and only where none was merged. The block stays.
     ensures len { vec_len regions.new ≤ (if result then vec_len regions.old + 1 else vec_len regions.old) }
     ensures capacity { vec_capacity regions.new ≡ vec_capacity regions.old }
 {
@@ -79,20 +82,33 @@ pub fn add(regions: &mut Vec<Region>, from: Index, to: Index) -> bool
         merged.to = merged.to.max(regions[end].to);
         end += 1;
     }
-    if end == at {
-        regions.insert(at, merged).unwrap();
-        return true;
+    replace(regions, at, end, merged);
+    end == at
+}
+
+// Puts a region in place of those from `at` up to `end`.
+fn replace(regions: &mut Vec<Region>, at: usize, end: usize, region: Region)
+    requires in_order { at ≤ end }
+    requires in_range { end ≤ vec_len regions.old }
+    requires room { at ≡ end → vec_len regions.old < vec_capacity regions.old }
+    ensures items { regions.new.items ≡ take at regions.old.items ++ region ∷ drop end regions.old.items }
+    ensures len { vec_len regions.new ≡ vec_len regions.old + 1 - (end - at) }
+    ensures capacity { vec_capacity regions.new ≡ vec_capacity regions.old }
+{
+    if at == end {
+        regions.insert(at, region).unwrap();
+    } else {
+        regions[at] = region;
+        regions.drain(at + 1..end);
     }
-    regions[at] = merged;
-    regions.drain(at + 1..end);
-    false
 }
 
 // The place of the region that holds an index.
 pub fn find(regions: &[Region], index: Index) -> Option<usize>
     requires apart { IsApartFrom 0 regions.now }
     ensures found { IsSome result ↔ IsTrue (is_member regions.now index) }
-    ensures place { IfSome result (λ at. (at ≡ ended_by regions.now index) × (at < length regions.now) × ((d : Region) → (slice_index_or regions.now at d).from ≤ index)) }
+    ensures in_range { IfSome result (λ at. at < length regions.now) }
+    ensures holds { IfSome result (λ at. (d : Region) → is_within (slice_index_or regions.now at d).from (slice_index_or regions.now at d).to index ≡ true) }
 {
     let (at, _) = seek(regions, index);
     if at < regions.len() && regions[at].from <= index {
@@ -105,9 +121,8 @@ pub fn find(regions: &[Region], index: Index) -> Option<usize>
 // Whether the region at `at`, which holds the index, falls apart without it.
 pub fn is_split(regions: &[Region], at: usize, index: Index) -> bool
     requires apart { IsApartFrom 0 regions.now }
-    requires sought { at ≡ ended_by regions.now index }
     requires in_range { at < length regions.now }
-    requires above { (d : Region) → (slice_index_or regions.now at d).from ≤ index }
+    requires holds { (d : Region) → is_within (slice_index_or regions.now at d).from (slice_index_or regions.now at d).to index ≡ true }
     ensures { result ≡ splits (is_member regions.now) index }
 {
     let region = regions[at];
@@ -117,11 +132,11 @@ pub fn is_split(regions: &[Region], at: usize, index: Index) -> bool
 // Takes an index out of the region at `at`, which holds it.
 pub fn carve(regions: &mut Vec<Region>, at: usize, index: Index)
     requires apart { IsApartFrom 0 regions.old.items }
-    requires sought { at ≡ ended_by regions.old.items index }
     requires in_range { at < vec_len regions.old }
-    requires above { (d : Region) → (slice_index_or regions.old.items at d).from ≤ index }
+    requires holds { (d : Region) → is_within (slice_index_or regions.old.items at d).from (slice_index_or regions.old.items at d).to index ≡ true }
     requires room { IsTrue (splits (is_member regions.old.items) index) → vec_len regions.old < vec_capacity regions.old }
-    ensures items { regions.new.items ≡ without regions.old.items index }
+    ensures apart { IsApartFrom 0 regions.new.items }
+    ensures members { is_member regions.new.items ≡ put (is_member regions.old.items) index false }
     ensures len { vec_len regions.new ≤ (if splits (is_member regions.old.items) index then vec_len regions.old + 1 else vec_len regions.old) }
     ensures capacity { vec_capacity regions.new ≡ vec_capacity regions.old }
 {
@@ -143,7 +158,8 @@ pub fn carve(regions: &mut Vec<Region>, at: usize, index: Index)
 // Takes out every index at or above `from`.
 pub fn cut(regions: &mut Vec<Region>, from: Index)
     requires apart { IsApartFrom 0 regions.old.items }
-    ensures items { regions.new.items ≡ below regions.old.items from }
+    ensures apart { IsApartFrom 0 regions.new.items }
+    ensures members { is_member regions.new.items ≡ cut_tail (is_member regions.old.items) from }
     ensures len { vec_len regions.new ≤ vec_len regions.old }
     ensures capacity { vec_capacity regions.new ≡ vec_capacity regions.old }
 {

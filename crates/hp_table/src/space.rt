@@ -121,16 +121,15 @@ impl Space {
         // It is the page itself exactly where a mapping begins there.
         ensures begins { (result ≡ Some vpn) ↔ IsTrue (is_base self.now.mappings vpn) }
     {
-        let mapping = search::holder(&self.mappings, vpn)?;
-        Some(mapping.base)
+        let holder = search::holder(&self.mappings, vpn)?;
+        Some(holder.base)
     }
 
     /// The least base of a mapping.
     pub fn first(&self) -> Option<Vpn>
         ensures { result ≡ first_base self.now.mappings }
     {
-        let mapping = self.mappings.first()?;
-        Some(mapping.base)
+        self.mappings.first().map(|mapping| mapping.base)
     }
 
     /// The number of mappings.
@@ -151,3 +150,6 @@ impl Space {
         self.entries.len()
     }
 }
+
+#[cfg(test)]
+mod tests;

@@ -106,11 +106,7 @@ impl RegionMap {
         ensures pending { self.new.pending ≡ self.old.pending - 1 }
         ensures spare { self.new.spare ≡ (if touches (is_member self.old.regions) change.from change.to then self.old.spare else self.old.spare - 1) }
     {
-        let Pending {
-            from,
-            to,
-            missing: _,
-        } = change;
+        let Pending { from, to, .. } = change;
         let added = self.missing(from, to);
         let alone = walk::add(&mut self.regions, from, to);
         self.count += added;
@@ -126,11 +122,7 @@ impl RegionMap {
         ensures pending { self.new.pending ≡ self.old.pending - 1 }
         ensures spare { self.new.spare ≡ self.old.spare }
     {
-        let Pending {
-            from: _,
-            to: _,
-            missing: _,
-        } = change;
+        drop(change);
         self.pending -= 1;
     }
 }

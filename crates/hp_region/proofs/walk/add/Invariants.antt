@@ -1,5 +1,5 @@
-use Rattle.std.proofs.Common.{◌≡◌, ◌+◌, ◌-◌, ◌<◌, ◌≤◌, ◌++◌, true, drop, take, length, vec_len, slice_index_or}
-use Rattle.hp_region.specs.Walk.{meets, with_range, absorb}
+use Rattle.std.proofs.Common.{◌≡◌, ◌-◌, ◌<◌, ◌≤◌, ◌++◌, true, drop, take, length, vec_len, slice_index_or}
+use Rattle.hp_region.proofs.Lists.{meets, with_range, absorb}
 use Rattle.hp_region.proofs.walk.add.Given as goal
 
 abbrev pub invariant-loop-end : goal.invariant-loop-end

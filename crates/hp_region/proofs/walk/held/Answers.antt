@@ -1,11 +1,10 @@
-use Rattle.std.proofs.Common.{ℕ, ◌≡◌, ◌<◌, ◌≤◌, ◌+◌, ◌∙◌, false, ap, sym, drop, length, get_or, arith, drop-cons}
+use Rattle.std.proofs.Common.{ℕ, ◌≡◌, ◌<◌, ◌≤◌, ◌∙◌, false, ap, sym, drop, length, get_or, arith, drop-cons}
 use Rattle.std.specs.Ordering.{nat_cmp, is_lt}
 use Rattle.std.proofs.lemmas.Bool.Decides.{nat_tests}
-use Rattle.std.proofs.lemmas.List.{get_or_default, drop_all}
-use Rattle.hp_region.specs.declared.region.Region.{Region}
-use Rattle.hp_region.specs.Walk.{held_within, overlap_of, ended_by}
+use Rattle.std.proofs.lemmas.List.{drop_all}
+use Rattle.hp_region.proofs.Lists.{held_within, overlap_of}
 use Rattle.hp_region.proofs.Held.{held_within-count, held_within_le}
-use Rattle.hp_region.proofs.Sought.{held_within-sought, held_within_past}
+use Rattle.hp_region.proofs.Sought.{ended_by-count_by, held_within-sought, held_within_past}
 use Rattle.hp_region.proofs.walk.held.Goals as goal
 
 lt_false : (a b : ℕ) → false ≡ is_lt (nat_cmp a b) → b ≤ a
@@ -15,7 +14,7 @@ pub loop-at-init : goal.loop-at-init
 loop-at-init c =
     let rs = c.args.regions.now in
     let whole = held_within-sought 0 rs c.args.from c.args.to c.requires.apart in
-    let place = ap (λ (i : ℕ). held_within (drop i rs) c.args.from c.args.to) c.seek-at.ensures.ended in
+    let place = ap (λ (i : ℕ). held_within (drop i rs) c.args.from c.args.to) (c.seek-at.ensures.ended ∙ sym (ended_by-count_by rs c.args.from)) in
     record { in_range = c.seek-at.ensures.in_range; left = omega (arith, whole, place) }
 
 pub overflow_add-held : goal.overflow_add-held

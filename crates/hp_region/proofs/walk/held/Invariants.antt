@@ -1,5 +1,5 @@
 use Rattle.std.proofs.Common.{◌≡◌, ◌+◌, ◌-◌, ◌≤◌, drop, length}
-use Rattle.hp_region.specs.Walk.{held_within}
+use Rattle.hp_region.proofs.Lists.{held_within}
 use Rattle.hp_region.proofs.walk.held.Given as goal
 
 abbrev pub invariant-loop-at : goal.invariant-loop-at

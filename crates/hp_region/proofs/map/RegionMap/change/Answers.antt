@@ -1,4 +1,4 @@
-use Rattle.std.proofs.Common.{◌≤◌, arith}
+use Rattle.std.proofs.Common.{arith}
 use Rattle.hp_base.proofs.Counting.{missing_le}
 use Rattle.hp_region.specs.Regions.{is_member}
 use Rattle.hp_region.proofs.map.RegionMap.change.Goals as goal

@@ -1,4 +1,4 @@
-use Rattle.std.proofs.Common.{◌≡◌, ◌∙◌, ◌-◌, ◌≤◌, ◌+◌, ℕ, List, ap, sym, arith}
+use Rattle.std.proofs.Common.{◌≡◌, ◌∙◌, ℕ, List, ap, sym, arith}
 use Rattle.std.proofs.lemmas.Grind.{common_steps}
 use Rattle.hp_base.specs.Indices.{missing}
 use Rattle.hp_base.specs.declared.limits.TheConstants.{LIMIT}
@@ -6,8 +6,6 @@ use Rattle.hp_base.proofs.Counting.{count_below_le, missing_le, count_below-adde
 use Rattle.hp_region.specs.declared.region.Region.{Region}
 use Rattle.hp_region.specs.Regions.{is_member}
 use Rattle.hp_region.specs.Reserved.{Reserved}
-use Rattle.hp_region.proofs.Walked.{IsApartFrom-with_range}
-use Rattle.hp_region.proofs.Sets.{with_range-add_range, meets-touches}
 use Rattle.hp_region.proofs.map.RegionMap.commit.Goals as goal
 
 -- what was added, of the regions that the map holds
@@ -28,18 +26,12 @@ invariant_of-self c =
     let to = c.change.inside.to in
     let added = added_is c.missing-added.result from to rs c.args.self.now c.missing-added.ensures.counted (ap (λ (m : Reserved). m.regions) c.self.view_is) in
     record {
-      apart = rw c.add-alone.ensures.items (IsApartFrom-with_range 0 rs from to c.self.invariant.apart (omega arith) c.change.invariant.in_order c.change.invariant.in_limit);
-      counted = rw (c.add-alone.ensures.items, with_range-add_range rs from to c.self.invariant.apart c.change.invariant.in_order)
+      apart = c.add-alone.ensures.apart;
+      counted = rw c.add-alone.ensures.members
           (omega (arith, added, c.self.invariant.counted, count_below-added (is_member rs) from to LIMIT c.change.invariant.in_limit));
       covered = grind (arith, common_steps);
       room = grind (arith, common_steps);
     }
 
 pub returns-clause-members : goal.returns-clause-members
-returns-clause-members c =
-    rw (c.add-alone.ensures.items, ← c.change.view_is, ← c.self.view_is) (with_range-add_range c.self.inside.regions.items c.change.inside.from c.change.inside.to c.self.invariant.apart c.change.invariant.in_order)
-
-pub returns-clause-spare : goal.returns-clause-spare
-returns-clause-spare c =
-    let touched = meets-touches c.self.inside.regions.items c.change.inside.from c.change.inside.to c.self.invariant.apart c.change.invariant.in_order in
-    rw (← c.change.view_is, ← c.self.view_is, ← touched) (grind (arith, common_steps))
+returns-clause-members c = rw (← c.change.view_is, ← c.self.view_is) c.add-alone.ensures.members

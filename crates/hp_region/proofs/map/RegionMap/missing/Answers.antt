@@ -1,8 +1,6 @@
-use Rattle.std.proofs.Common.{◌≡◌, ◌-◌, ◌≤◌, ◌+◌, rules, arith, sym, ap, ◌∙◌}
+use Rattle.std.proofs.Common.{◌≡◌, arith}
 use Rattle.hp_region.specs.Regions.{is_member}
-use Rattle.hp_region.specs.Reserved.{Reserved}
-use Rattle.hp_region.specs.declared.region.Region.{Region}
-use Rattle.hp_base.specs.Indices.{count_within, missing}
+use Rattle.hp_base.specs.Indices.{count_within}
 use Rattle.hp_base.proofs.Counting.{count_within-missing, missing_anti}
 use Rattle.hp_region.proofs.map.RegionMap.missing.Goals as goal
 

@@ -1,4 +1,4 @@
-use Rattle.std.proofs.Common.{◌≤◌, false, refl, sym, arith}
+use Rattle.std.proofs.Common.{false, refl, sym, arith}
 use Rattle.hp_base.specs.declared.limits.TheConstants.{LIMIT}
 use Rattle.hp_base.proofs.Counting.{count_below_none}
 use Rattle.hp_region.proofs.map.RegionMap.new.Goals as goal

@@ -1,4 +1,4 @@
-use Rattle.std.proofs.Common.{◌≡◌, ℕ, Bool, ap, arith}
+use Rattle.std.proofs.Common.{ℕ, Bool, ap, arith}
 use Rattle.hp_region.proofs.Sets.{regions_are}
 use Rattle.hp_region.proofs.Canonical.{same_regions}
 use Rattle.hp_region.proofs.map.RegionMap.regions.Goals as goal

@@ -1,4 +1,4 @@
-use Rattle.std.proofs.Common.{true≢false, ℕ, ◌≡◌, ◌<◌, ◌≤◌, ◌-◌, ◌+◌, Bool, true, false, ◌&&◌, cond, IsTrue, List, vec_len, vec_capacity, refl, ap, sym, ◌∙◌, arith}
+use Rattle.std.proofs.Common.{ℕ, ◌≡◌, ◌≤◌, ◌-◌, ◌+◌, Bool, true, false, cond, IsTrue, List, vec_len, vec_capacity, refl, ap, sym, ◌∙◌, arith}
 use Rattle.std.specs.Prelude.{nat_lt}
 use Rattle.std.proofs.lemmas.Bool.Decides.{nat_tests}
 use Rattle.hp_base.specs.Indices.{count_below, splits}
@@ -8,9 +8,7 @@ use Rattle.hp_base.proofs.Counting.{count_below-put_false}
 use Rattle.hp_region.specs.declared.region.Region.{Region}
 use Rattle.hp_region.specs.declared.map.RegionMap.TheInside.{Inside}
 use Rattle.hp_region.specs.Regions.{is_member, IsApartFrom}
-use Rattle.hp_region.specs.Walk.{without}
-use Rattle.hp_region.proofs.Sought.{IsApartFrom-without}
-use Rattle.hp_region.proofs.Sets.{without-put, absent-put, member_below_limit}
+use Rattle.hp_region.proofs.Sets.{absent-put, member_below_limit}
 use Rattle.hp_region.proofs.map.RegionMap.remove_one.Goals as goal
 use Rattle.hp_region.proofs.map.RegionMap.remove_one.Goals.{then-is_split+in_ok-take_room, else-is_split}
 
@@ -42,8 +40,8 @@ same c = elim c.if-is_split.branch [
   | else-is_split w ↦ ap (λ (m : Inside). m.regions.items) w.self-inside-is
 ]
 
-left : (c : goal.After-self-1) → c.carve.new.regions.items ≡ without c.self.inside.regions.items c.args.index
-left c = c.carve.ensures.items ∙ ap (λ (rs : List Region). without rs c.args.index) (same c)
+left : (c : goal.After-self-1) → is_member c.carve.new.regions.items ≡ put (is_member c.self.inside.regions.items) c.args.index false
+left c = c.carve.ensures.members ∙ ap (λ (rs : List Region). put (is_member rs) c.args.index false) (same c)
 
 at_most : (b : Bool) (n m : ℕ) → m ≤ cond b (n + 1) n → m ≤ n + 1
 at_most b n m h = grind arith
@@ -89,11 +87,11 @@ invariant_of-self-2 c =
     let kept : c.if-is_split.self-inside.count ≡ c.self.inside.count = elim c.if-is_split.branch [ then-is_split+in_ok-take_room w ↦ ap (λ (m : Inside). m.count) w.self-inside-is | else-is_split w ↦ ap (λ (m : Inside). m.count) w.self-inside-is ] in
     let less = one_less rs c.deref.result.now c.args.index c.self.inside.count c.self.invariant.apart c.self.invariant.counted c.deref.ensures.value (c.in-Some.ensures.found.0 refl) in
     record {
-      apart = rw (left c) (IsApartFrom-without 0 rs c.args.index c.self.invariant.apart);
-      counted = rw (left c, without-put rs c.args.index c.self.invariant.apart) (omega (arith, kept, less));
+      apart = c.carve.ensures.apart;
+      counted = rw (left c) (omega (arith, kept, less));
       covered = covered c;
       room = room c;
     }
 
 pub returns-clause-members : goal.returns-clause-members
-returns-clause-members c = rw (left c, ← c.self.view_is) (without-put c.self.inside.regions.items c.args.index c.self.invariant.apart)
+returns-clause-members c = rw (← c.self.view_is) (left c)

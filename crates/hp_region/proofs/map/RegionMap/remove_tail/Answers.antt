@@ -1,11 +1,9 @@
-use Rattle.std.proofs.Common.{ℕ, ◌≡◌, ◌≤◌, ◌+◌, ◌∙◌, List, ap, arith}
+use Rattle.std.proofs.Common.{ℕ, ◌≡◌, ◌+◌, ◌∙◌, List, ap, arith}
 use Rattle.hp_base.specs.Indices.{count_below, count_within, cut_tail}
 use Rattle.hp_base.specs.declared.limits.TheConstants.{LIMIT}
 use Rattle.hp_base.proofs.Counting.{count_below-cut_tail}
 use Rattle.hp_region.specs.declared.region.Region.{Region}
 use Rattle.hp_region.specs.Regions.{is_member}
-use Rattle.hp_region.proofs.Sought.{IsApartFrom-below}
-use Rattle.hp_region.proofs.Sets.{below-cut_tail}
 use Rattle.hp_region.proofs.map.RegionMap.remove_tail.Goals as goal
 
 -- what the tail holds, and what is below it
@@ -24,11 +22,11 @@ invariant_of-self c =
     let rs = c.self.inside.regions.items in
     let parts = split rs c.deref.result.now c.self.inside.count c.held-removed.result c.args.from c.new.result c.self.invariant.counted c.held-removed.ensures.counted c.deref.ensures.value c.new.ensures in
     record {
-      apart = rw c.cut.ensures.items (IsApartFrom-below 0 rs c.args.from c.self.invariant.apart);
-      counted = rw (c.cut.ensures.items, below-cut_tail rs c.args.from c.self.invariant.apart) (omega (arith, parts));
+      apart = c.cut.ensures.apart;
+      counted = rw c.cut.ensures.members (omega (arith, parts));
       covered = c.self.invariant.covered;
       room = omega (arith, c.cut.ensures.len, c.cut.ensures.capacity, c.self.invariant.room);
     }
 
 pub returns-clause-members : goal.returns-clause-members
-returns-clause-members c = rw (c.cut.ensures.items, ← c.self.view_is) (below-cut_tail c.self.inside.regions.items c.args.from c.self.invariant.apart)
+returns-clause-members c = rw (← c.self.view_is) c.cut.ensures.members
