@@ -1,3 +1,4 @@
+pub mod Headlines
 pub mod Meets
 pub mod Opens
 pub mod Reading

@@ -1,6 +1,7 @@
 use Rattle.hp_base.specs.Text.{sizes}
 use Rattle.hp_fault.specs.State.{state_of}
 use Rattle.hp_core.specs.State.{CoreState}
+use Rattle.hp_core.proofs.Headlines.{headline_of}
 use Rattle.hp_core.proofs.Meets.{fits_from_sound}
 use Rattle.hp_core.proofs.Steps.{sound_result, row_result}
 use Rattle.hp_core.proofs.core_state.Core.step.Goals as goal
@@ -17,3 +18,8 @@ pub returns-clause-row : goal.returns-clause-row
 returns-clause-row c =
     let s : CoreState = record { sizes = sizes c.self.inside.config; parts = state_of c.self.inside.parts; seats = c.self.inside.seats.items } in
     rw (← c.self.view_is) (row_result s c.args.event c.step_event.result _ _ (fits_from_sound s c.args.event c.self.invariant) c.step_event.ensures.row)
+
+pub returns-clause-headline : goal.returns-clause-headline
+returns-clause-headline c =
+    let s : CoreState = record { sizes = sizes c.self.inside.config; parts = state_of c.self.inside.parts; seats = c.self.inside.seats.items } in
+    headline_of _ (sound_result s c.args.event c.step_event.result _ _ c.requires.built c.self.invariant (fits_from_sound s c.args.event c.self.invariant) c.step_event.ensures.row c.step_event.ensures.sizes c.step_event.ensures.seats c.step_event.ensures.err)
