@@ -3,5 +3,7 @@ pub mod Meets
 pub mod Opens
 pub mod Reading
 pub mod Rows
+pub mod RunsOn
 pub mod Seats
 pub mod Steps
+pub mod Tallies

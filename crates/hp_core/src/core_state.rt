@@ -75,6 +75,13 @@ impl Core {
         step_event(&mut self.parts, &mut self.seats, event)
     }
 
+    /// What holds of every pool, whatever happened to it: the headline. There is nothing to run.
+    pub fn always(&self)
+        ensures { Headline self.now }
+    {
+        let _ = &self.config;
+    }
+
     /// The sizes of the pool.
     pub fn config(&self) -> Config
         ensures { sizes result ≡ config_of self.now }

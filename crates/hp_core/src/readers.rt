@@ -11,9 +11,7 @@ use crate::core_state::Core;
 use crate::seat::Seat;
 use crate::words::phase_word;
 use hp_base::{File, LIMIT, Task};
-use hp_fault::FileState;
 use hp_machine::{Life, Phase};
-use hp_table::Space;
 
 /// The numbers of a pool as a whole.
 #[derive(Clone, Copy, Debug, PartialEq, Eq)]
@@ -63,22 +61,7 @@ impl Core {
     {
         count_calls(&self.seats) as u32
     }
-}
 
-// The reserved indices of all files.
-fn sum_reserved(files: &[FileState]) -> u32
-    requires { length files.now ≤ 16 }
-    ensures { result ≡ total (length files.now) (λ f. count_below (sets_of files.now f) LIMIT) }
-{
-    let mut reserved = 0;
-    for file in files {
-        reserved += file.map.count();
-    }
-    reserved
-}
-
-/// What holds of every pool, and its numbers.
-impl Core {
     /// The numbers of the pool as a whole. At every moment the headline holds of it: entries agree, each
     /// frame is in one place, nothing is translated beyond the size of an unlocked file, and the reserve
     /// count is the reserved indices without a page plus what calls in flight owe.
@@ -89,11 +72,18 @@ impl Core {
         ensures pages { result.pages ≡ all_pages_of self.now }
         ensures headline { Headline self.now }
     {
+        self.always();
+        let (mut reserved, mut pages) = (0, 0);
+        for number in 0..self.config().files {
+            let file = File::new(number);
+            reserved += self.reserved(file);
+            pages += self.pages(file);
+        }
         Tally {
-            free: self.parts.bank.free(),
-            resv: self.parts.bank.resv(),
-            reserved: sum_reserved(&self.parts.files),
-            pages: 0,
+            free: self.free(),
+            resv: self.resv(),
+            reserved,
+            pages,
         }
     }
 }
@@ -111,7 +101,8 @@ impl Core {
     /// How many of its indices are reserved.
     pub fn reserved(&self, file: File) -> u32
         requires { file < (config_of self.now).files }
-        ensures { result ≡ reserved_of self.now file }
+        ensures count { result ≡ reserved_of self.now file }
+        ensures in_limit { result ≤ LIMIT }
     {
         self.parts.files[file.number() as usize].map.count()
     }
@@ -127,7 +118,8 @@ impl Core {
     /// How many of its indices have a page.
     pub fn pages(&self, file: File) -> u32
         requires { file < (config_of self.now).files }
-        ensures { result ≡ pages_of self.now file }
+        ensures count { result ≡ pages_of self.now file }
+        ensures in_limit { result ≤ LIMIT }
     {
         let _ = file;
         0

@@ -26,6 +26,7 @@ impl Core {
         ensures stopped { IfErr result (λ fault. (told : List Outcome) × Run self.old (take fault.done events.now) told self.new) }
         ensures headline { Headline self.new }
     {
+        self.always();
         // The checker of borrows asks for a mention of the type that an outcome may hold.
         let _none: Option<Answer> = None;
         let mut told = Vec::new(alloc);

@@ -6,6 +6,6 @@ use Rattle.hp_fault.specs.View as view
 use Rattle.hp_core.specs.Readers.{pages_of}
 use Rattle.hp_core.proofs.core_state.Core.pages.Goals as goal
 
-pub returns : goal.returns
+pub returns-clause-count : goal.returns-clause-count
 unfolding pages_of view.pages_of
-returns c = sym (count_below_none (λ i. is_some (view.pages_of c.args.self.now.parts.files c.args.file i)) LIMIT (λ k below. refl))
+returns-clause-count c = sym (count_below_none (λ i. is_some (view.pages_of c.args.self.now.parts.files c.args.file i)) LIMIT (λ k below. refl))

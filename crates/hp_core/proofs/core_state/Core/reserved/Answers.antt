@@ -18,9 +18,9 @@ index-requires c =
     let l = file_in s _ _ c.self.invariant c.number.ensures in_range in
     omega (arith, l)
 
-pub returns : goal.returns
+pub returns-clause-count : goal.returns-clause-count
 unfolding reserved_of sets_of
-returns c =
+returns-clause-count c =
     let s : CoreState = record { sizes = sizes c.self.inside.config; parts = state_of c.self.inside.parts; seats = c.self.inside.seats.items } in
     let in_range : c.args.file < (config_of s).files = subst (λ (z : CoreState). c.args.file < (config_of z).files) (sym c.self.view_is) c.requires in
     let read = file_read s _ _ _ c.self.invariant c.number.ensures in_range c.index.ensures in

@@ -1,0 +1,58 @@
+-- Runs of a core, event by event.
+use Rattle.std.proofs.Common.{◌≡◌, ℕ, suc, ◌+◌, ◌<◌, List, [], ◌∷◌, ◌++◌, length, take, get_or, ◌≤◌, refl, sym, ◌∙◌, ap, subst, arith}
+use Rattle.std.specs.List.{zip}
+use Rattle.std.proofs.lemmas.Grind.{common_steps}
+use Rattle.std.proofs.lemmas.List.{take_more, take_all}
+use Rattle.hp_base.specs.declared.event.Event.{Event}
+use Rattle.hp_machine.specs.Events as rows
+use Rattle.hp_machine.specs.declared.outcome.Outcome.{Outcome}
+use Rattle.hp_core.specs.State.{CoreState, as_state}
+use Rattle.hp_core.specs.Runs.{Row, Run}
+use Rattle.hp_core.proofs.Steps.{run_on}
+
+-- nothing happened yet
+pub run_none : (s : CoreState) → Run s [] [] s
+unfolding Run
+run_none s = (refl, refl, refl)
+
+zip_more : (es : List Event) (os : List Outcome) (e : Event) (o : Outcome) → length os ≡ length es → zip (es ++ e ∷ []) (os ++ o ∷ []) ≡ zip es os ++ (e, o) ∷ []
+zip_more [] [] e o l = refl
+zip_more [] (p ∷ os) e o l = absurd (omega (arith, l))
+zip_more (d ∷ es) [] e o l = absurd (omega (arith, l))
+zip_more (d ∷ es) (p ∷ os) e o l = ap (λ (zs : List (Event × Outcome)). (d, p) ∷ zs) (zip_more es os e o (omega (arith, l)))
+
+longer : {A : Type 0} (xs : List A) (x : A) → length (xs ++ x ∷ []) ≡ length xs + 1
+longer xs x = grind (arith, common_steps)
+
+-- one more event happened
+pub run_more : (s mid new : CoreState) (es : List Event) (os : List Outcome) (e : Event) (o : Outcome) → Run s es os mid → Row mid e o new → Run s (es ++ e ∷ []) (os ++ o ∷ []) new
+unfolding Run Row
+run_more s mid new es os e o run row =
+    let long : length (os ++ o ∷ []) ≡ length (es ++ e ∷ []) = omega (arith, run.1, longer os o, longer es e) in
+    (subst (λ (zs : List (Event × Outcome)). rows.Run (as_state s) zs (as_state new)) (sym (zip_more es os e o run.1)) (run_on (as_state s) (as_state mid) (as_state new) (zip es os) e o run.0 row.0), long, row.1 ∙ run.2)
+
+pub run_long : (s new : CoreState) (es : List Event) (os : List Outcome) → Run s es os new → length os ≡ length es
+unfolding Run
+run_long s new es os run = run.1
+
+pub ran_none : (s : CoreState) (os : List Outcome) → os ≡ [] → Run s [] os s
+ran_none s os e = subst (λ (xs : List Outcome). Run s [] xs s) (sym e) (run_none s)
+
+pub ran_next : (s mid new : CoreState) (es : List Event) (i : ℕ) (os more : List Outcome) (e : Event) (o : Outcome) → i < length es → e ≡ get_or es i e → more ≡ os ++ o ∷ [] → Run s (take i es) os mid → Row mid e o new → Run s (take (i + 1) es) more new
+ran_next s mid new es i os more e o within is longer run row =
+    subst (λ (xs : List Outcome). Run s (take (i + 1) es) xs new) (sym longer)
+    (subst (λ (xs : List Event). Run s xs (os ++ o ∷ []) new) (sym (take_more es i e within ∙ ap (λ (x : Event). take i es ++ x ∷ []) (sym is)))
+    (run_more s mid new (take i es) os e o run row))
+
+taken : {A : Type 0} (xs : List A) (i : ℕ) → i ≤ length xs → length (take i xs) ≡ i
+taken xs i l = grind (arith, common_steps)
+
+pub told_long : (s new : CoreState) (es : List Event) (i : ℕ) (os : List Outcome) → i ≤ length es → Run s (take i es) os new → length os ≡ i
+told_long s new es i os within run = run_long s new (take i es) os run ∙ taken es i within
+
+pub ran_all : (s new : CoreState) (es : List Event) (i : ℕ) (os : List Outcome) → length es ≤ i → Run s (take i es) os new → Run s es os new
+ran_all s new es i os past run = subst (λ (xs : List Event). Run s xs os new) (take_all i es past) run
+
+pub ran_stopped : (s mid new : CoreState) (es : List Event) (i n : ℕ) (os : List Outcome) → i ≤ length es → n ≡ length os → new ≡ mid → Run s (take i es) os mid → (x : List Outcome) × Run s (take n es) x new
+ran_stopped s mid new es i n os within long same run =
+    (os, subst (λ (z : CoreState). Run s (take n es) os z) (sym same) (subst (λ (k : ℕ). Run s (take k es) os mid) (sym (long ∙ told_long s mid es i os within run)) run))
