@@ -1,0 +1,16 @@
+pub mod Numbers
+pub mod Lines
+pub mod Feeding
+pub mod Spelled
+pub mod Ends
+pub mod Widths
+pub mod Bytes
+pub mod BadLines
+pub mod Whole
+pub mod OneReading
+pub mod Writes
+pub mod StateTexts
+pub mod Running
+pub mod Replays
+pub mod Drafts
+pub mod WrittenTraces

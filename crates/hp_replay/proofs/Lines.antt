@@ -1,0 +1,250 @@
+-- A line that is read is spelled so, and what is spelled so is read.
+use Rattle.std.proofs.Common.{◌≡◌, ℕ, zero, suc, ◌+◌, ◌-◌, ◌^◌, ◌<◌, ◌≤◌, Bool, true, false, cond, List, [], ◌∷◌, ◌++◌, length, drop, Option, Some, None, refl, sym, ap, subst, ◌∙◌, append_assoc, arith, inl, inr, ◌⊎◌}
+use Rattle.std.specs.Prelude.{codes, nat_eq}
+use Rattle.std.specs.List.{starts_with}
+use Rattle.std.specs.Option.{option_map_or}
+use Rattle.std.specs.Fmt.{decimal}
+use Rattle.std.proofs.lemmas.List.{append-nil}
+use Rattle.std.proofs.lemmas.Bool.{and_parts, leb-true}
+use Rattle.hp_base.specs.Text.{field, op_text, event_text, Sizes, sizes_text}
+use Rattle.hp_base.specs.Limits.{within_limits}
+use Rattle.hp_base.specs.declared.event.Op.{Op}
+use Rattle.hp_base.specs.declared.event.Op.TheVariants.{Map, MapNoReserve, Unmap, Load, Store, Alloc, Punch, Truncate, Exit}
+use Rattle.hp_base.specs.declared.event.Event.{Event}
+use Rattle.hp_base.specs.declared.event.Event.TheVariants.{Begin, Step, Kill}
+use Rattle.hp_core.specs.Sound.{is_built, IsBuilt}
+use Rattle.hp_replay.specs.Fits.{IsShort, OpFits, EventFits, IsTraceEvent}
+use Rattle.hp_replay.specs.Reading.{◌>>=◌, after_word, number_at, field_at, ended, last_at, range_at, behind, op_at, event_at, last_field_at, sizes_at, header_at, limit}
+use Rattle.hp_replay.proofs.Numbers.{chosen, bind_some, number_takes, number_again, word_takes, Stops}
+
+ended_takes : {A : Type 0} (x : A) (bytes : List ℕ) (y : A) → ended x bytes ≡ Some y → (bytes ≡ []) × (x ≡ y)
+ended_takes x [] y e = (refl, cc)
+ended_takes x (b ∷ bytes) y e = absurd cc
+
+field_takes : (most : ℕ) (bytes : List ℕ) (n : ℕ) (rest : List ℕ) → 9 ≤ most → most < 2 ^ 64 → field_at most bytes ≡ Some (n, rest) → (bytes ≡ field n ++ rest) × (n ≤ most)
+unfolding field_at
+field_takes most bytes n rest low fits e =
+    let a = bind_some (after_word (codes " ") bytes) (number_at most) (n, rest) e in
+    let t = number_takes most a.0 n rest low fits a.2 in
+    (word_takes (codes " ") bytes a.0 a.1 ∙ ap (λ (t : List ℕ). 32 ∷ t) t.0, t.1)
+
+field_again : (most n : ℕ) (rest : List ℕ) → most < 2 ^ 64 → n ≤ most → Stops rest → field_at most (field n ++ rest) ≡ Some (n, rest)
+unfolding field_at
+field_again most n rest fits le stops = number_again most n rest fits le stops
+
+last_takes : (bytes : List ℕ) (n : ℕ) → last_at bytes ≡ Some n → (bytes ≡ decimal n) × IsShort n
+unfolding last_at
+last_takes bytes n e =
+    let a = bind_some (number_at limit bytes) (λ n. ended n.0 n.1) n e in
+    let t = number_takes limit bytes a.0.0 a.0.1 (omega arith) (omega arith) a.1 in
+    let b = ended_takes a.0.0 a.0.1 n a.2 in
+    (t.0 ∙ rw (b.0, b.1) (append-nil (decimal n)), rw (← b.1) (omega (arith, t.1)))
+
+last_again : (n : ℕ) → IsShort n → last_at (decimal n) ≡ Some n
+unfolding last_at
+last_again n fits =
+    let read : number_at limit (decimal n) ≡ Some (n, []) = ap (number_at limit) (sym (append-nil (decimal n))) ∙ number_again limit n [] (omega arith) (omega arith) tt in
+    rw read refl
+
+-- three numbers
+range_text : ℕ → ℕ → ℕ → List ℕ
+range_text file from len = decimal file ++ field from ++ field len
+
+range_takes : (bytes : List ℕ) (r : ℕ × ℕ × ℕ) → range_at bytes ≡ Some r → (bytes ≡ decimal r.0 ++ (field r.1 ++ field r.2)) × IsShort r.0 × IsShort r.1 × IsShort r.2
+unfolding range_at
+range_takes bytes r e =
+    let a = bind_some (number_at limit bytes) (λ file. field_at limit file.1 >>= λ from. field_at limit from.1 >>= λ len. ended (file.0, from.0, len.0) len.1) r e in
+    let b = bind_some (field_at limit a.0.1) (λ from. field_at limit from.1 >>= λ len. ended (a.0.0, from.0, len.0) len.1) r a.2 in
+    let d = bind_some (field_at limit b.0.1) (λ len. ended (a.0.0, b.0.0, len.0) len.1) r b.2 in
+    let file = number_takes limit bytes a.0.0 a.0.1 (omega arith) (omega arith) a.1 in
+    let from = field_takes limit a.0.1 b.0.0 b.0.1 (omega arith) (omega arith) b.1 in
+    let len = field_takes limit b.0.1 d.0.0 d.0.1 (omega arith) (omega arith) d.1 in
+    let end = ended_takes (a.0.0, b.0.0, d.0.0) d.0.1 r d.2 in
+    let last : b.0.1 ≡ field d.0.0 = len.0 ∙ rw end.0 (append-nil (field d.0.0)) in
+    let whole : bytes ≡ decimal a.0.0 ++ (field b.0.0 ++ field d.0.0) = file.0 ∙ ap (λ (t : List ℕ). decimal a.0.0 ++ t) (from.0 ∙ ap (λ (t : List ℕ). field b.0.0 ++ t) last) in
+    subst (λ (r : ℕ × ℕ × ℕ). (bytes ≡ decimal r.0 ++ (field r.1 ++ field r.2)) × IsShort r.0 × IsShort r.1 × IsShort r.2) end.1 (whole, omega (arith, file.1), omega (arith, from.1), omega (arith, len.1))
+
+range_again : (file from len : ℕ) → IsShort file → IsShort from → IsShort len → range_at (decimal file ++ (field from ++ field len)) ≡ Some (file, from, len)
+unfolding range_at
+range_again file from len file_fits from_fits len_fits =
+    let first = number_again limit file (field from ++ field len) (omega arith) (omega arith) refl in
+    let second = field_again limit from (field len) (omega arith) (omega arith) refl in
+    let third : field_at limit (field len) ≡ Some (len, []) = ap (field_at limit) (sym (append-nil (field len))) ∙ field_again limit len [] (omega arith) (omega arith) tt in
+    rw (first, second, third) refl
+
+-- ---- operations
+
+behind_some : {A : Type 0} (word bytes : List ℕ) (read : List ℕ → Option A) (other : Option A) (y : A) → behind word bytes read other ≡ Some y → ((rest : List ℕ) × (bytes ≡ word ++ rest) × (read rest ≡ Some y)) ⊎ (other ≡ Some y)
+behind_some {A} word bytes read other y e = by (after_word word bytes) refl e
+  where
+    by : (found : Option (List ℕ)) → after_word word bytes ≡ found → option_map_or read found other ≡ Some y → ((rest : List ℕ) × (bytes ≡ word ++ rest) × (read rest ≡ Some y)) ⊎ (other ≡ Some y)
+    by (Some rest) is e = inl (rest, word_takes word bytes rest is, e)
+    by None is e = inr e
+
+some_is : {A : Type 0} (x y : A) → Some x ≡ Some y → x ≡ y
+some_is x y e = cc
+
+abbrev pub Spells : List ℕ → Op → Type 0
+Spells bytes op = (bytes ≡ op_text op) × OpFits op × (is_built op ≡ true)
+
+pub op_again : (op : Op) → OpFits op → is_built op ≡ true → op_at (op_text op) ≡ Some op
+unfolding op_at
+op_again (Map file from len) fits built =
+    let regrouped = append_assoc (decimal file) (field from) (field len) in
+    rw (regrouped, range_again file from len fits.0 fits.1 fits.2) refl
+op_again (MapNoReserve file from len) fits built =
+    let regrouped = append_assoc (decimal file) (field from) (field len) in
+    rw (regrouped, range_again file from len fits.0 fits.1 fits.2) refl
+op_again (Unmap base) fits built = absurd cc
+op_again (Load vpn) fits built = absurd cc
+op_again (Store vpn word) fits built = absurd cc
+op_again (Alloc file from len keep) fits built = absurd cc
+op_again (Punch file from len) fits built = absurd cc
+op_again (Truncate file new) fits built = absurd cc
+op_again Exit fits built = absurd cc
+
+-- what is made of a range
+range_case : (word bytes rest : List ℕ) (make : ℕ → ℕ → ℕ → Op) (op : Op) → ((file from len : ℕ) → IsShort file × IsShort from × IsShort len → OpFits (make file from len)) → ((file from len : ℕ) → is_built (make file from len) ≡ true) → ((file from len : ℕ) → word ++ ((decimal file ++ field from) ++ field len) ≡ op_text (make file from len)) → bytes ≡ word ++ rest → (range_at rest >>= λ r. Some (make r.0 r.1 r.2)) ≡ Some op → Spells bytes op
+range_case word bytes rest make op fits built spelled parts e =
+    let a = bind_some (range_at rest) (λ r. Some (make r.0 r.1 r.2)) op e in
+    let t = range_takes rest a.0 a.1 in
+    let text : rest ≡ (decimal a.0.0 ++ field a.0.1) ++ field a.0.2 = t.0 ∙ sym (append_assoc (decimal a.0.0) (field a.0.1) (field a.0.2)) in
+    let whole : bytes ≡ op_text (make a.0.0 a.0.1 a.0.2) = parts ∙ ap (λ (t : List ℕ). word ++ t) text ∙ spelled a.0.0 a.0.1 a.0.2 in
+    subst (λ (op : Op). Spells bytes op) (some_is _ _ a.2) (whole, fits a.0.0 a.0.1 a.0.2 (t.1, t.2, t.3), built a.0.0 a.0.1 a.0.2)
+
+pub op_takes : (bytes : List ℕ) (op : Op) → op_at bytes ≡ Some op → Spells bytes op
+unfolding op_at
+op_takes bytes op e =
+    elim (behind_some (codes "map ") bytes _ _ op e) [
+      | inl w ↦ range_case (codes "map ") bytes w.0 Map op (λ _ _ _ f. f) (λ _ _ _. refl) (λ _ _ _. refl) w.1 w.2
+      | inr e0 ↦ elim (behind_some (codes "mapn ") bytes _ _ op e0) [
+        | inl w ↦ range_case (codes "mapn ") bytes w.0 MapNoReserve op (λ _ _ _ f. f) (λ _ _ _. refl) (λ _ _ _. refl) w.1 w.2
+        | inr e1 ↦ absurd (none_some e1)
+      ]
+    ]
+  where
+    none_some : {A : Type 0} {x : A} → None ≡ Some x → ⊥
+    none_some e = cc
+
+-- ---- events
+
+abbrev pub SpellsEvent : List ℕ → Event → Type 0
+SpellsEvent bytes event = (bytes ≡ event_text event) × IsTraceEvent event
+
+pub event_again : (event : Event) → IsTraceEvent event → event_at (event_text event) ≡ Some event
+unfolding event_at
+event_again (Begin task op) is =
+    let fits : IsShort task × OpFits op = is.fits in
+    let regrouped = append_assoc (decimal task) (codes " ") (op_text op) in
+    rw (regrouped, number_again limit task (codes " " ++ op_text op) (omega arith) (omega (arith, fits.0)) refl, op_again op fits.1 is.built) refl
+event_again (Step task true) is = rw (last_again task is.fits) refl
+event_again (Step task false) is = rw (last_again task is.fits) refl
+event_again (Kill task) is = rw (last_again task is.fits) refl
+
+task_case : (word bytes rest : List ℕ) (make : ℕ → Event) (event : Event) → ((n : ℕ) → IsShort n → IsTraceEvent (make n)) → ((n : ℕ) → word ++ decimal n ≡ event_text (make n)) → bytes ≡ word ++ rest → (last_at rest >>= λ n. Some (make n)) ≡ Some event → SpellsEvent bytes event
+task_case word bytes rest make event is spelled parts e =
+    let a = bind_some (last_at rest) (λ n. Some (make n)) event e in
+    let t = last_takes rest a.0 a.1 in
+    let whole : bytes ≡ event_text (make a.0) = parts ∙ ap (λ (t : List ℕ). word ++ t) t.0 ∙ spelled a.0 in
+    subst (λ (event : Event). SpellsEvent bytes event) (some_is _ _ a.2) (whole, is a.0 t.1)
+
+begin_case : (bytes rest : List ℕ) (event : Event) → bytes ≡ codes "begin " ++ rest → (number_at limit rest >>= λ task. after_word (codes " ") task.1 >>= λ text. op_at text >>= λ op. Some (Begin task.0 op)) ≡ Some event → SpellsEvent bytes event
+begin_case bytes rest event parts e =
+    let a = bind_some (number_at limit rest) (λ task. after_word (codes " ") task.1 >>= λ text. op_at text >>= λ op. Some (Begin task.0 op)) event e in
+    let b = bind_some (after_word (codes " ") a.0.1) (λ text. op_at text >>= λ op. Some (Begin a.0.0 op)) event a.2 in
+    let d = bind_some (op_at b.0) (λ op. Some (Begin a.0.0 op)) event b.2 in
+    let task = number_takes limit rest a.0.0 a.0.1 (omega arith) (omega arith) a.1 in
+    let space = word_takes (codes " ") a.0.1 b.0 b.1 in
+    let op = op_takes b.0 d.0 d.1 in
+    let text : rest ≡ decimal a.0.0 ++ (32 ∷ op_text d.0) = task.0 ∙ ap (λ (t : List ℕ). decimal a.0.0 ++ t) (space ∙ ap (λ (t : List ℕ). 32 ∷ t) op.0) in
+    let regrouped : decimal a.0.0 ++ (32 ∷ op_text d.0) ≡ (decimal a.0.0 ++ (32 ∷ [])) ++ op_text d.0 = sym (append_assoc (decimal a.0.0) (32 ∷ []) (op_text d.0)) in
+    let whole : bytes ≡ event_text (Begin a.0.0 d.0) = parts ∙ ap (λ (t : List ℕ). codes "begin " ++ t) (text ∙ regrouped) in
+    let is : IsTraceEvent (Begin a.0.0 d.0) = record { fits = (omega (arith, task.1), op.1); built = op.2 } in
+    subst (λ (event : Event). SpellsEvent bytes event) (some_is _ _ d.2) (whole, is)
+
+pub event_takes : (bytes : List ℕ) (event : Event) → event_at bytes ≡ Some event → SpellsEvent bytes event
+unfolding event_at
+event_takes bytes event e =
+    elim (behind_some (codes "step ") bytes _ _ event e) [
+      | inl w ↦ task_case (codes "step ") bytes w.0 (λ n. Step n true) event (λ _ f. record { fits = f; built = tt }) (λ _. refl) w.1 w.2
+      | inr e0 ↦ elim (behind_some (codes "deny ") bytes _ _ event e0) [
+        | inl w ↦ task_case (codes "deny ") bytes w.0 (λ n. Step n false) event (λ _ f. record { fits = f; built = tt }) (λ _. refl) w.1 w.2
+        | inr e1 ↦ elim (behind_some (codes "kill ") bytes _ _ event e1) [
+          | inl w ↦ task_case (codes "kill ") bytes w.0 Kill event (λ _ f. record { fits = f; built = tt }) (λ _. refl) w.1 w.2
+          | inr e2 ↦ elim (behind_some (codes "begin ") bytes _ _ event e2) [
+            | inl w ↦ begin_case bytes w.0 event w.1 w.2
+            | inr e3 ↦ absurd (none_some e3)
+          ]
+        ]
+      ]
+    ]
+  where
+    none_some : {A : Type 0} {x : A} → None ≡ Some x → ⊥
+    none_some e = cc
+
+-- ---- the first line
+
+abbrev pub SpellsHeader : List ℕ → Sizes → Type 0
+SpellsHeader bytes s = (bytes ≡ sizes_text s) × (within_limits s.frames s.files s.slots s.tasks ≡ true)
+
+last_field_takes : (bytes : List ℕ) (n : ℕ) → last_field_at bytes ≡ Some n → bytes ≡ field n
+unfolding last_field_at
+last_field_takes bytes n e =
+    let a = bind_some (field_at limit bytes) (λ n. ended n.0 n.1) n e in
+    let t = field_takes limit bytes a.0.0 a.0.1 (omega arith) (omega arith) a.1 in
+    let b = ended_takes a.0.0 a.0.1 n a.2 in
+    t.0 ∙ rw (b.0, b.1) (append-nil (field n))
+
+sizes_takes : (bytes : List ℕ) (s : Sizes) → sizes_at bytes ≡ Some s → codes "pool " ++ bytes ≡ sizes_text s
+unfolding sizes_at
+sizes_takes bytes s e =
+    let a = bind_some (number_at limit bytes) (λ frames. field_at limit frames.1 >>= λ files. field_at limit files.1 >>= λ slots. last_field_at slots.1 >>= λ tasks. Some (record { frames = frames.0; files = files.0; slots = slots.0; tasks = tasks })) s e in
+    let b = bind_some (field_at limit a.0.1) (λ files. field_at limit files.1 >>= λ slots. last_field_at slots.1 >>= λ tasks. Some (record { frames = a.0.0; files = files.0; slots = slots.0; tasks = tasks })) s a.2 in
+    let d = bind_some (field_at limit b.0.1) (λ slots. last_field_at slots.1 >>= λ tasks. Some (record { frames = a.0.0; files = b.0.0; slots = slots.0; tasks = tasks })) s b.2 in
+    let f = bind_some (last_field_at d.0.1) (λ tasks. Some (record { frames = a.0.0; files = b.0.0; slots = d.0.0; tasks = tasks })) s d.2 in
+    let frames = number_takes limit bytes a.0.0 a.0.1 (omega arith) (omega arith) a.1 in
+    let files = field_takes limit a.0.1 b.0.0 b.0.1 (omega arith) (omega arith) b.1 in
+    let slots = field_takes limit b.0.1 d.0.0 d.0.1 (omega arith) (omega arith) d.1 in
+    let tasks = last_field_takes d.0.1 f.0 f.1 in
+    let third : b.0.1 ≡ field d.0.0 ++ field f.0 = slots.0 ∙ ap (λ (t : List ℕ). field d.0.0 ++ t) tasks in
+    let second : a.0.1 ≡ field b.0.0 ++ (field d.0.0 ++ field f.0) = files.0 ∙ ap (λ (t : List ℕ). field b.0.0 ++ t) third in
+    let whole : bytes ≡ decimal a.0.0 ++ (field b.0.0 ++ (field d.0.0 ++ field f.0)) = frames.0 ∙ ap (λ (t : List ℕ). decimal a.0.0 ++ t) second in
+    let regrouped : decimal a.0.0 ++ (field b.0.0 ++ (field d.0.0 ++ field f.0)) ≡ ((decimal a.0.0 ++ field b.0.0) ++ field d.0.0) ++ field f.0 = sym (append_assoc (decimal a.0.0) (field b.0.0) (field d.0.0 ++ field f.0)) ∙ sym (append_assoc (decimal a.0.0 ++ field b.0.0) (field d.0.0) (field f.0)) in
+    subst (λ (s : Sizes). codes "pool " ++ bytes ≡ sizes_text s) (some_is _ _ f.2) (ap (λ (t : List ℕ). codes "pool " ++ t) (whole ∙ regrouped))
+
+pub header_takes : (bytes : List ℕ) (s : Sizes) → header_at bytes ≡ Some s → SpellsHeader bytes s
+unfolding header_at
+header_takes bytes s e =
+    let a = bind_some (after_word (codes "pool ") bytes) (λ text. sizes_at text >>= λ s. cond (within_limits s.frames s.files s.slots s.tasks) (Some s) None) s e in
+    let b = bind_some (sizes_at a.0) (λ s. cond (within_limits s.frames s.files s.slots s.tasks) (Some s) None) s a.2 in
+    let whole : bytes ≡ sizes_text b.0 = word_takes (codes "pool ") bytes a.0 a.1 ∙ sizes_takes a.0 b.0 b.1 in
+    elim (chosen (within_limits b.0.frames b.0.files b.0.slots b.0.tasks) (Some b.0) None (Some s) b.2) [
+      | inl w ↦ subst (λ (s : Sizes). SpellsHeader bytes s) (some_is _ _ w.1) (whole, w.0)
+      | inr w ↦ absurd (none_some w.1)
+    ]
+  where
+    none_some : {A : Type 0} {x : A} → None ≡ Some x → ⊥
+    none_some e = cc
+
+last_field_again : (n : ℕ) → IsShort n → last_field_at (field n) ≡ Some n
+unfolding last_field_at
+last_field_again n fits =
+    let read : field_at limit (field n) ≡ Some (n, []) = ap (field_at limit) (sym (append-nil (field n))) ∙ field_again limit n [] (omega arith) (omega arith) tt in
+    rw read refl
+
+pub header_again : (s : Sizes) → within_limits s.frames s.files s.slots s.tasks ≡ true → header_at (sizes_text s) ≡ Some s
+unfolding header_at sizes_at
+header_again s within =
+    let p = and_parts _ _ within in
+    let q = and_parts _ _ p.0 in
+    let r = and_parts _ _ q.0 in
+    let frames = leb-true s.frames 4096 (and_parts _ _ r.0).1 in
+    let files = leb-true s.files 16 (and_parts _ _ r.1).1 in
+    let slots = leb-true s.slots 64 (and_parts _ _ q.1).1 in
+    let tasks = leb-true s.tasks 64 (and_parts _ _ p.1).1 in
+    let regrouped : ((decimal s.frames ++ field s.files) ++ field s.slots) ++ field s.tasks ≡ decimal s.frames ++ (field s.files ++ (field s.slots ++ field s.tasks)) = append_assoc (decimal s.frames ++ field s.files) (field s.slots) (field s.tasks) ∙ append_assoc (decimal s.frames) (field s.files) (field s.slots ++ field s.tasks) in
+    let one = number_again limit s.frames (field s.files ++ (field s.slots ++ field s.tasks)) (omega arith) (omega arith) refl in
+    let two = field_again limit s.files (field s.slots ++ field s.tasks) (omega arith) (omega arith) refl in
+    let three = field_again limit s.slots (field s.tasks) (omega arith) (omega arith) refl in
+    let four = last_field_again s.tasks (omega arith) in
+    rw (regrouped, one, two, three, four, within) refl

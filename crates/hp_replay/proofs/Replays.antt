@@ -1,0 +1,366 @@
+-- A replay as a whole: what was read is a trace or has a fault, and what was written is its run.
+use Rattle.std.proofs.Common.{◌≡◌, ℕ, zero, suc, ◌+◌, ◌<◌, ◌≤◌, Bool, true, false, List, [], ◌∷◌, ◌++◌, length, take, Option, Some, None, refl, sym, ap, subst, ◌∙◌, append_assoc, length-append, arith, inl, inr, ◌⊎◌}
+use Rattle.std.specs.Prelude.{map, IsSome, IfSome, IfErr, OnOk, Result, Ok, Err}
+use Rattle.std.specs.List.{flat_map}
+use Rattle.std.specs.Io.KnownBytes.{Appends, Consumes, Keeps, IsAtEnd}
+use Rattle.std.proofs.KnownBytes.{Appends-nil, Appends-trans, Consumes-nil, Consumes-trans, Consumes-kept}
+use Rattle.std.proofs.lemmas.List.{append-nil}
+use Rattle.hp_base.specs.Text.{Sizes}
+use Rattle.hp_base.specs.declared.event.Event.{Event}
+use Rattle.hp_machine.specs.declared.outcome.Outcome.{Outcome}
+use Rattle.hp_core.specs.State.{CoreState}
+use Rattle.hp_replay.specs.declared.fault.ReplayFault.{ReplayFault}
+use Rattle.hp_replay.specs.declared.fault.ReplayFault.TheVariants.{BadLine, BadHeader, Read, Write, Memory}
+use Rattle.hp_replay.specs.Lines.{Held, opening_held, Line, header, event, fault_at, held_after, lines_after, end_of, end_at}
+use Rattle.hp_replay.specs.Traces.{IsTrace, HasNoEnd, trace_text}
+use Rattle.hp_replay.specs.Outcomes.{Run, RunOf, outcomes_text, outcome_line, state_text}
+use Rattle.hp_replay.specs.Writing.{Wrote, IsWriteFault}
+use Rattle.hp_replay.specs.Running.{LineRuns, LinesRun, LinesRan, LinesRanPartly, PieceRan, PieceRanPartly, PieceStopped, IsOpened}
+use Rattle.hp_replay.specs.Replaying.{Replayed, StoppedAtHeader, StoppedAtLine, StoppedEarly, StoppedAtRead, RunWrites, nothing, so_far, to_the_end, AllRunWrites, no_line, each_line, Stopped}
+use Rattle.hp_replay.proofs.Writes.{Wrote-none, Wrote-all, Wrote-behind}
+use Rattle.hp_replay.proofs.Bytes.{IsHeld, room}
+use Rattle.hp_replay.proofs.BadLines.{NoLine, Stops, stops, cut}
+use Rattle.hp_replay.proofs.Running.{PieceRan-append, PieceRanPartly-behind}
+use Rattle.hp_replay.proofs.Whole.{opening_is, holds, Taken, taken, TraceLines, TakenTrace, taken_trace, rest_is}
+
+-- ---- the run of a trace
+
+-- the outcomes of lines that are events
+record EventsRan (old : CoreState) (events : List Event) (core : Option CoreState) (text : List ℕ) : Type 0 where
+  pub new : CoreState
+  pub outcomes : List Outcome
+  pub is : core ≡ Some new
+  pub run : Run old events outcomes new
+  pub text_is : text ≡ outcomes_text outcomes
+
+events_ran : (old : CoreState) (events : List Event) (core : Option CoreState) (text : List ℕ) → LinesRun (Some old) (map event events) core text → EventsRan old events core text
+events_ran old [] core text runs = record { new = old; outcomes = []; is = runs.0; run = refl; text_is = runs.1 }
+events_ran old (e ∷ events) core text (None, first, others, one, more, parts) = absurd one
+events_ran old (e ∷ events) core text (Some mid, first, others, (outcome, row, line), more, parts) =
+    let later = events_ran mid events core others more in
+    record {
+      new = later.new;
+      outcomes = outcome ∷ later.outcomes;
+      is = later.is;
+      run = (mid, row, later.run);
+      text_is = parts ∙ ap (λ (x : List ℕ). x ++ others) line ∙ ap (λ (x : List ℕ). outcome_line outcome ++ x) later.text_is;
+    }
+
+-- and behind a header
+pub record TraceRan (s : Sizes) (events : List Event) (core : Option CoreState) (text : List ℕ) : Type 0 where
+  pub new : CoreState
+  pub outcomes : List Outcome
+  pub is : core ≡ Some new
+  pub run : RunOf s events outcomes new
+  pub text_is : text ≡ outcomes_text outcomes
+
+header_ran : (s : Sizes) (events : List Event) (core : Option CoreState) (text : List ℕ) → LinesRun None (header s ∷ map event events) core text → TraceRan s events core text
+header_ran s events core text (None, first, others, one, more, parts) = absurd one
+header_ran s events core text (Some mid, first, others, (config, is, opening, none), more, parts) =
+    let later = events_ran mid events core others more in
+    record {
+      new = later.new;
+      outcomes = later.outcomes;
+      is = later.is;
+      run = record { config = config; sizes_are = is; first = mid; opening = opening; run = later.run };
+      text_is = parts ∙ ap (λ (x : List ℕ). x ++ others) none ∙ later.text_is;
+    }
+
+trace_ran : (lines : List Line) (t : TraceLines lines) (core : Option CoreState) (text : List ℕ) → LinesRun None lines core text → TraceRan t.sizes t.events core text
+trace_ran lines t core text runs = header_ran t.sizes t.events core text (subst (λ (x : List Line). LinesRun None x core text) t.is runs)
+
+no_lines_ran : (lines : List Line) (core : Option CoreState) (text : List ℕ) → length lines ≡ 0 → LinesRun None lines core text → text ≡ []
+no_lines_ran [] core text none runs = runs.1
+no_lines_ran (l ∷ lines) core text none runs = absurd (omega arith)
+
+-- what ran of the bytes before some point: nothing yet, or the run of a trace
+pub data Ran (front back text : List ℕ) (core : Option CoreState) : Type 0 where
+  before : (held_after opening_held front).lines ≡ 0 → text ≡ [] → (held_after opening_held front).rest ≡ front → Ran front back text core
+  behind : (t : TakenTrace front (lines_after opening_held front) (held_after opening_held front).rest) → (held_after opening_held front).lines ≡ length t.trace.events + 1 → front ++ back ≡ trace_text t.trace.sizes t.trace.events ++ ((held_after opening_held front).rest ++ back) → TraceRan t.trace.sizes t.trace.events core text → Ran front back text core
+
+ran : (front back text : List ℕ) (core : Option CoreState) → (held_after opening_held front).fault ≡ None → LinesRun None (lines_after opening_held front) core text → Ran front back text core
+ran front back text core ok runs = by (held_after opening_held front).lines refl
+  where
+    by : (n : ℕ) → (held_after opening_held front).lines ≡ n → Ran front back text core
+    by zero none =
+        let t = taken front ok in
+        let lines = t.lines in
+        let no_lines : length (lines_after opening_held front) ≡ 0 = omega arith in
+        before none (no_lines_ran (lines_after opening_held front) core text no_lines runs) (rest_is (lines_after opening_held front) (held_after opening_held front).rest front no_lines t.text)
+    by (suc n) count =
+        let t = taken_trace front n ok count in
+        let lines = (taken front ok).lines in
+        let counted = t.trace.count in
+        behind t (omega arith) (ap (λ (x : List ℕ). x ++ back) (sym t.text) ∙ append_assoc (trace_text t.trace.sizes t.trace.events) (held_after opening_held front).rest back) (trace_ran (lines_after opening_held front) t.trace core text runs)
+
+-- ---- where a replay stops
+
+Keeps-from : (a b : Option (List ℕ)) → Appends a b [] → Keeps a b
+Keeps-from None b e = tt
+Keeps-from (Some a) None e = absurd e
+Keeps-from (Some a) (Some b) e = e ∙ append-nil a
+
+-- no line stands behind those that ran
+line_stopped : (from to o o' : Option (List ℕ)) (front back text : List ℕ) (core : Option CoreState) → Consumes from to (front ++ back) → (held_after opening_held front).fault ≡ None → LinesRun None (lines_after opening_held front) core text → Appends o o' text → (0 < (held_after opening_held front).lines → 0 < length ((held_after opening_held front).rest ++ back)) → IfSome to (λ left. NoLine (held_after opening_held front).lines ((held_after opening_held front).rest ++ (back ++ left))) → Stopped (fault_at (held_after opening_held front).lines) from to o o'
+line_stopped from to o o' front back text core reads ok runs wrote some bad = by (ran front back text core ok runs)
+  where
+    h : Held
+    h = held_after opening_held front
+
+    no_header : (n : ℕ) (to : Option (List ℕ)) → n ≡ 0 → (held_after opening_held front).rest ≡ front → IfSome to (λ left. NoLine n ((held_after opening_held front).rest ++ (back ++ left))) → IfSome to (λ left. NoLine 0 ((front ++ back) ++ left))
+    no_header n None none is bad = tt
+    no_header n (Some left) none is bad =
+        subst (λ (x : List ℕ). NoLine 0 x) (ap (λ (x : List ℕ). x ++ (back ++ left)) is ∙ sym (append_assoc front back left)) (subst (λ (k : ℕ). NoLine k ((held_after opening_held front).rest ++ (back ++ left))) none bad)
+
+    bad_rest : (n k : ℕ) (rest : List ℕ) (to : Option (List ℕ)) → n ≡ k + 1 → 0 < length (rest ++ back) → IfSome to (λ left. NoLine n (rest ++ (back ++ left))) → IfSome to (λ left. (0 < length ((rest ++ back) ++ left)) × NoLine (suc k) ((rest ++ back) ++ left))
+    bad_rest n k rest None count some bad = tt
+    bad_rest n k rest (Some left) count some bad =
+        let add : n ≡ suc k = omega arith in
+        let longer : length ((rest ++ back) ++ left) ≡ length (rest ++ back) + length left = length-append (rest ++ back) left in
+        (omega arith, subst (λ (x : List ℕ). NoLine (suc k) x) (sym (append_assoc rest back left)) (subst (λ (j : ℕ). NoLine j (rest ++ (back ++ left))) add bad))
+
+    by : Ran front back text core → Stopped (fault_at (held_after opening_held front).lines) from to o o'
+    by (before none empty is) =
+        subst (λ (k : ℕ). Stopped (fault_at k) from to o o') (sym none)
+        (record { bytes = front ++ back; reads = reads; bad = no_header (held_after opening_held front).lines to none is bad; wrote = Keeps-from o o' (subst (λ (x : List ℕ). Appends o o' x) empty wrote) })
+    by (behind t count parts run) =
+        let add : (held_after opening_held front).lines ≡ suc (length t.trace.events) = omega arith in
+        subst (λ (k : ℕ). Stopped (fault_at k) from to o o') (sym add)
+        (record {
+          sizes = t.trace.sizes;
+          events = t.trace.events;
+          rest = (held_after opening_held front).rest ++ back;
+          outcomes = run.outcomes;
+          core = run.new;
+          trace = t.trace.trace;
+          reads = subst (λ (x : List ℕ). Consumes from to x) parts reads;
+          number = refl;
+          bad = bad_rest (held_after opening_held front).lines (length t.trace.events) (held_after opening_held front).rest to count (some (omega arith)) bad;
+          run = run.run;
+          wrote = subst (λ (x : List ℕ). Appends o o' x) run.text_is wrote;
+        })
+
+pub for_some : (o : Option (List ℕ)) (P : List ℕ → Type 0) → ((xs : List ℕ) → P xs) → IfSome o P
+for_some None P all = tt
+for_some (Some xs) P all = all xs
+
+early : (fault : ReplayFault) (from to o o' : Option (List ℕ)) → IsWriteFault fault → StoppedEarly from to o o' → Stopped fault from to o o'
+early BadHeader from to o o' is stopped = absurd is
+early (BadLine n) from to o o' is stopped = absurd is
+early Read from to o o' is stopped = absurd is
+early Write from to o o' is stopped = stopped
+early Memory from to o o' is stopped = stopped
+
+-- ---- between two reads
+
+pub record Going (from to : Option (List ℕ)) (h : Held) (core : Option CoreState) (o o' : Option (List ℕ)) : Type 0 where
+  pub bytes : List ℕ
+  pub reads : Consumes from to bytes
+  pub piece : PieceRan opening_held bytes h None core o o'
+  pub no_fault : h.fault ≡ None
+  pub opened : IsOpened h core
+
+pub begins : (from o : Option (List ℕ)) → Going from from opening_held None o o
+unfolding held_after lines_after
+begins from o =
+    record {
+      bytes = [];
+      reads = Consumes-nil from;
+      piece = record { text = []; taken = refl; runs = (refl, refl); wrote = Appends-nil o };
+      no_fault = refl;
+      opened = λ (some : 0 < 0). absurd (omega arith);
+    }
+
+pub goes_on : (from mid to : Option (List ℕ)) (h h' : Held) (core core' : Option CoreState) (o o' o'' : Option (List ℕ)) (piece : List ℕ) → Going from mid h core o o' → Consumes mid to piece → PieceRan h piece h' core core' o' o'' → h'.fault ≡ None → IsOpened h' core' → Going from to h' core' o o''
+goes_on from mid to h h' core core' o o' o'' piece g read more ok opened =
+    record {
+      bytes = g.bytes ++ piece;
+      reads = Consumes-trans from mid to g.bytes piece g.reads read;
+      piece = PieceRan-append opening_held h h' g.bytes piece None core core' o o' o'' g.piece more;
+      no_fault = ok;
+      opened = opened;
+    }
+
+-- each byte takes room
+pub smaller : (from mid : Option (List ℕ)) (h h' : Held) (core core' : Option CoreState) (o o' o'' : Option (List ℕ)) (piece : List ℕ) → Going from mid h core o o' → PieceRan h piece h' core core' o' o'' → h'.fault ≡ None → 0 < length piece → room h' < room h
+smaller from mid h h' core core' o o' o'' piece g more ok some =
+    let is : IsHeld h = subst (λ (x : Held). IsHeld x) (sym g.piece.taken) (holds opening_held g.bytes opening_is (ap (λ (x : Held). x.fault) (sym g.piece.taken) ∙ g.no_fault)).held in
+    let later = holds h piece is (ap (λ (x : Held). x.fault) (sym more.taken) ∙ ok) in
+    let less = later.room in
+    let same : room h' ≡ room (held_after h piece) = ap room more.taken in
+    omega arith
+
+pub piece_stopped : (from mid to : Option (List ℕ)) (h h' : Held) (core core' : Option CoreState) (o o' o'' : Option (List ℕ)) (piece : List ℕ) (fault : ReplayFault) → Going from mid h core o o' → Consumes mid to piece → PieceStopped fault h piece h' core core' o' o'' → Stopped fault from to o o''
+piece_stopped from mid to h h' core core' o o' o'' piece fault g read (inl (failed, more)) =
+    let all = PieceRan-append opening_held h h' g.bytes piece None core core' o o' o'' g.piece more in
+    let s = stops opening_held (g.bytes ++ piece) fault refl opening_is (ap (λ (x : Held). x.fault) (sym all.taken) ∙ failed) in
+    let reads : Consumes from to (s.front ++ s.back) = subst (λ (x : List ℕ). Consumes from to x) s.parts (Consumes-trans from mid to g.bytes piece g.reads read) in
+    let some = s.some in
+    subst (λ (f : ReplayFault). Stopped f from to o o'') (sym s.fault_is)
+    (line_stopped from to o o'' s.front s.back all.text core' reads s.ok (subst (λ (x : List Line). LinesRun None x core' all.text) s.lines all.runs) all.wrote
+    (λ _. simp (length-append) (omega arith))
+    (for_some to _ s.bad))
+piece_stopped from mid to h h' core core' o o' o'' piece fault g read (inr (is, part)) =
+    let all = PieceRanPartly-behind opening_held h g.bytes piece None core o o' o'' g.piece part in
+    let reads : Consumes from to (g.bytes ++ piece) = Consumes-trans from mid to g.bytes piece g.reads read in
+    early fault from to o o'' is
+    (record {
+      bytes = g.bytes ++ piece;
+      text = all.ran.text;
+      reads = reads;
+      run = subst (λ (x : List ℕ). RunWrites to x all.ran.text) (sym all.parts) (writes (ran all.front all.back all.ran.text all.ran.new all.ok all.ran.runs));
+      wrote = all.ran.wrote;
+    })
+  where
+    writes : {front back text : List ℕ} {core : Option CoreState} → Ran front back text core → RunWrites to (front ++ back) text
+    writes (before none empty is) = nothing empty
+    writes {front} {back} (behind t count parts run) = so_far t.trace.sizes t.trace.events ((held_after opening_held front).rest ++ back) run.outcomes run.new t.trace.trace parts run.run run.text_is
+
+-- what the feed holds
+held_is : (from mid : Option (List ℕ)) (h : Held) (core : Option CoreState) (o o' : Option (List ℕ)) (g : Going from mid h core o o') → (held_after opening_held g.bytes).fault ≡ None
+held_is from mid h core o o' g = ap (λ (x : Held). x.fault) (sym g.piece.taken) ∙ g.no_fault
+
+pub read_failed : (from mid to : Option (List ℕ)) (h : Held) (core : Option CoreState) (o o' : Option (List ℕ)) → Going from mid h core o o' → Keeps mid to → StoppedAtRead from to o o'
+read_failed from mid to h core o o' g kept =
+    record {
+      bytes = g.bytes;
+      text = g.piece.text;
+      reads = Consumes-kept from mid to g.bytes g.reads kept;
+      run = writes (ran g.bytes [] g.piece.text core (held_is from mid h core o o' g) g.piece.runs);
+      wrote = g.piece.wrote;
+    }
+  where
+    no_end : HasNoEnd (held_after opening_held g.bytes).rest
+    no_end = (taken g.bytes (held_is from mid h core o o' g)).held.no_end
+
+    writes : Ran g.bytes [] g.piece.text core → AllRunWrites g.bytes g.piece.text
+    writes (before none empty is) = no_line (subst (λ (x : List ℕ). HasNoEnd x) is no_end) empty
+    writes (behind t count parts run) = each_line t.trace.sizes t.trace.events (held_after opening_held g.bytes).rest run.outcomes run.new t.trace.trace (sym t.text) no_end run.run run.text_is
+
+-- ---- the end of the bytes
+
+abbrev pub good : Result (Unit {0}) ReplayFault
+good = Ok tt
+
+abbrev pub with_error : ReplayFault → Result (Unit {0}) ReplayFault
+with_error fault = Err fault
+
+-- what the end says where no fault is held
+pub end_cases : (h : Held) (r : Result (Unit {0}) ReplayFault) → h.fault ≡ None → end_of h ≡ r → ((r ≡ Ok tt) × (h.rest ≡ []) × (0 < h.lines)) ⊎ ((r ≡ Err (fault_at h.lines)) × (0 < h.lines → 0 < length h.rest))
+end_cases h r ok e = by h.fault h.lines h.rest refl refl refl ok e
+  where
+    some_none : (f : ReplayFault) → Some f ≡ None → ⊥
+    some_none f e = cc
+
+    by : (f : Option ReplayFault) (n : ℕ) (rest : List ℕ) → h.fault ≡ f → h.lines ≡ n → h.rest ≡ rest → f ≡ None → end_at f n rest ≡ r → ((r ≡ Ok tt) × (h.rest ≡ []) × (0 < h.lines)) ⊎ ((r ≡ Err (fault_at h.lines)) × (0 < h.lines → 0 < length h.rest))
+    by (Some f) n rest p q s ok e = absurd (some_none f ok)
+    by None zero rest p q s ok e = inr (sym e ∙ ap (λ (k : ℕ). (with_error (fault_at k))) (sym q), λ more. absurd (omega arith))
+    by None (suc n) [] p q s ok e = inl (sym e, s, omega arith)
+    by None (suc n) (b ∷ rest) p q s ok e = inr (sym e ∙ ap (λ (k : ℕ). (with_error (fault_at k))) (sym q), λ _. rw s (omega arith))
+
+-- the trace that was read
+pub record EndRan (from to : Option (List ℕ)) (core : Option CoreState) (o o' : Option (List ℕ)) : Type 0 where
+  pub sizes : Sizes
+  pub events : List Event
+  pub outcomes : List Outcome
+  pub new : CoreState
+  pub is : core ≡ Some new
+  pub trace : IsTrace sizes events
+  pub reads : Consumes from to (trace_text sizes events)
+  pub run : RunOf sizes events outcomes new
+  pub wrote : Appends o o' (outcomes_text outcomes)
+
+end_ran : (from mid to : Option (List ℕ)) (h : Held) (core : Option CoreState) (o o' : Option (List ℕ)) → Going from mid h core o o' → Consumes mid to [] → end_of h ≡ Ok tt → EndRan from to core o o'
+end_ran from mid to h core o o' g read e = by (end_cases h (Ok tt) g.no_fault e)
+  where
+    ok_err : (f : ReplayFault) → good ≡ Err f → ⊥
+    ok_err f e = cc
+
+    by_ran : h.rest ≡ [] → 0 < h.lines → Ran g.bytes [] g.piece.text core → EndRan from to core o o'
+    by_ran none some (before zero-is empty is) = absurd (let same : h.lines ≡ (held_after opening_held g.bytes).lines = ap (λ (x : Held). x.lines) g.piece.taken in omega arith)
+    by_ran none some (behind t count parts run) =
+        let rest : (held_after opening_held g.bytes).rest ≡ [] = ap (λ (x : Held). x.rest) (sym g.piece.taken) ∙ none in
+        let whole : g.bytes ≡ trace_text t.trace.sizes t.trace.events = sym t.text ∙ ap (λ (x : List ℕ). trace_text t.trace.sizes t.trace.events ++ x) rest ∙ append-nil (trace_text t.trace.sizes t.trace.events) in
+        record {
+          sizes = t.trace.sizes;
+          events = t.trace.events;
+          outcomes = run.outcomes;
+          new = run.new;
+          is = run.is;
+          trace = t.trace.trace;
+          reads = subst (λ (x : List ℕ). Consumes from to x) (append-nil g.bytes ∙ whole) (Consumes-trans from mid to g.bytes [] g.reads read);
+          run = run.run;
+          wrote = subst (λ (x : List ℕ). Appends o o' x) run.text_is g.piece.wrote;
+        }
+
+    by : ((good ≡ Ok tt) × (h.rest ≡ []) × (0 < h.lines)) ⊎ ((good ≡ Err (fault_at h.lines)) × (0 < h.lines → 0 < length h.rest)) → EndRan from to core o o'
+    by (inl (is, none, some)) = by_ran none some (ran g.bytes [] g.piece.text core (held_is from mid h core o o' g) g.piece.runs)
+    by (inr (is, some)) = absurd (ok_err _ is)
+
+pub finished : (from mid to : Option (List ℕ)) (h : Held) (core : Option CoreState) (o o' o'' : Option (List ℕ)) (r : Result (Unit {0}) ReplayFault) → Going from mid h core o o' → Consumes mid to [] → IsAtEnd to → OnOk r (end_of h ≡ Ok tt) → OnOk r (IfSome core (λ c. Appends o' o'' (state_text c))) → OnOk r (Replayed from to o o'')
+finished from mid to h core o o' o'' (Err f) g read all ended wrote = tt
+finished from mid to h core o o' o'' (Ok x) g read all ended wrote =
+    let e = end_ran from mid to h core o o' g read ended in
+    record {
+      sizes = e.sizes;
+      events = e.events;
+      outcomes = e.outcomes;
+      core = e.new;
+      trace = e.trace;
+      reads = e.reads;
+      all = all;
+      run = e.run;
+      wrote = Appends-trans o o' o'' (outcomes_text e.outcomes) (state_text e.new) e.wrote (subst (λ (c : Option CoreState). IfSome c (λ c. Appends o' o'' (state_text c))) e.is wrote);
+    }
+
+-- what `finish` says of a fault
+abbrev pub NotFinished : ReplayFault → Held → Option CoreState → Option (List ℕ) → Option (List ℕ) → Type 0
+NotFinished fault h core o o' = ((end_of h ≡ Err fault) × Keeps o o') ⊎ (IsWriteFault fault × (end_of h ≡ Ok tt) × IfSome core (λ c. Wrote o o' (state_text c)))
+
+not_finished : (from mid to : Option (List ℕ)) (h : Held) (core : Option CoreState) (o o' o'' : Option (List ℕ)) (fault : ReplayFault) → Going from mid h core o o' → Consumes mid to [] → IsAtEnd to → NotFinished fault h core o' o'' → Stopped fault from to o o''
+not_finished from mid to h core o o' o'' fault g read all (inl (ended, kept)) = by (end_cases h (Err fault) g.no_fault ended)
+  where
+    err_ok : (f : ReplayFault) → (with_error f) ≡ Ok tt → ⊥
+    err_ok f e = cc
+
+    err_is : (f f' : ReplayFault) → (with_error f) ≡ Err f' → f' ≡ f
+    err_is f f' e = cc
+
+    at_end : (to : Option (List ℕ)) (n : ℕ) (rest : List ℕ) → IsAtEnd to → NoLine n rest → IfSome to (λ left. NoLine n (rest ++ ([] ++ left)))
+    at_end None n rest e bad = tt
+    at_end (Some left) n rest e bad = subst (λ (x : List ℕ). NoLine n (rest ++ ([] ++ x))) (sym e) (subst (λ (x : List ℕ). NoLine n x) (sym (append-nil rest)) bad)
+
+    kept_writes : (a b c : Option (List ℕ)) (text : List ℕ) → Appends a b text → Keeps b c → Appends a c text
+    kept_writes None b c text p k = tt
+    kept_writes (Some a) None c text p k = absurd p
+    kept_writes (Some a) (Some b) None text p k = absurd k
+    kept_writes (Some a) (Some b) (Some c) text p k = k ∙ p
+
+    by : (((with_error fault) ≡ Ok tt) × (h.rest ≡ []) × (0 < h.lines)) ⊎ (((with_error fault) ≡ Err (fault_at h.lines)) × (0 < h.lines → 0 < length h.rest)) → Stopped fault from to o o''
+    by (inl (is, none, some)) = absurd (err_ok fault is)
+    by (inr (is, some)) =
+        let held = g.piece.taken in
+        let now = held_after opening_held g.bytes in
+        let no_end = (taken g.bytes (held_is from mid h core o o' g)).held.no_end in
+        subst (λ (f : ReplayFault). Stopped f from to o o'') (ap (λ (x : Held). fault_at x.lines) (sym held) ∙ err_is fault (fault_at h.lines) is)
+        (line_stopped from to o o'' g.bytes [] g.piece.text core (Consumes-trans from mid to g.bytes [] g.reads read) (held_is from mid h core o o' g) g.piece.runs (kept_writes o o' o'' g.piece.text g.piece.wrote kept)
+        (λ more. subst (λ (x : List ℕ). 0 < length x) (sym (append-nil now.rest)) (subst (λ (x : Held). 0 < x.lines → 0 < length x.rest) held some more))
+        (at_end to now.lines now.rest all (cut now.lines now.rest no_end)))
+not_finished from mid to h core o o' o'' fault g read all (inr (is, ended, wrote)) =
+    let e = end_ran from mid to h core o o' g read ended in
+    early fault from to o o'' is
+    (record {
+      bytes = trace_text e.sizes e.events;
+      text = outcomes_text e.outcomes ++ state_text e.new;
+      reads = e.reads;
+      run = to_the_end e.sizes e.events e.outcomes e.new e.trace refl all e.run refl;
+      wrote = Wrote-behind o o' o'' (outcomes_text e.outcomes) (state_text e.new) e.wrote (subst (λ (c : Option CoreState). IfSome c (λ c. Wrote o' o'' (state_text c))) e.is wrote);
+    })
+
+pub finish_stopped : (from mid to : Option (List ℕ)) (h : Held) (core : Option CoreState) (o o' o'' : Option (List ℕ)) (r : Result (Unit {0}) ReplayFault) → Going from mid h core o o' → Consumes mid to [] → IsAtEnd to → IfErr r (λ fault. NotFinished fault h core o' o'') → IfErr r (λ fault. Stopped fault from to o o'')
+finish_stopped from mid to h core o o' o'' (Ok x) g read all not = tt
+finish_stopped from mid to h core o o' o'' (Err fault) g read all not = not_finished from mid to h core o o' o'' fault g read all not
+
+-- a read of nothing
+pub read_none : (mid to : Option (List ℕ)) (buf : List ℕ) (n : ℕ) → n ≡ 0 → Consumes mid to (take n buf) → Consumes mid to []
+read_none mid to buf n none read = subst (λ (k : ℕ). Consumes mid to (take k buf)) none read

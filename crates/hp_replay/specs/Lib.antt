@@ -1,0 +1,9 @@
+pub mod Fits
+pub mod Reading
+pub mod Lines
+pub mod Traces
+pub mod Outcomes
+pub mod Writing
+pub mod Running
+pub mod Replaying
+pub mod Collecting

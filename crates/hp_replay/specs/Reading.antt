@@ -1,0 +1,101 @@
+-- How a line is read: from the front, a word or a number at a time.
+use Rattle.std.specs.Prelude.{ℕ, ◌+◌, ◌-◌, ◌*◌, ◌^◌, List, [], ◌∷◌, length, drop, Option, Some, None, true, false, nat_le, nat_eq, ◌==◌, if◌then◌else◌, codes}
+use Rattle.std.specs.List.{starts_with}
+use Rattle.std.specs.Option.{option_map_or}
+use Rattle.std.specs.Char.{is_ascii_digit}
+use Rattle.hp_base.specs.Limits.{within_limits}
+use Rattle.hp_base.specs.Text.{Sizes}
+use Rattle.hp_base.specs.declared.event.Op.{Op}
+use Rattle.hp_base.specs.declared.event.Op.TheVariants.{Map, MapNoReserve}
+use Rattle.hp_base.specs.declared.event.Event.{Event}
+use Rattle.hp_base.specs.declared.event.Event.TheVariants.{Begin, Step, Kill}
+
+infixl 10 ◌>>=◌
+abbrev pub ◌>>=◌ : {A B : Type 0} → Option A → (A → Option B) → Option B
+(Some x) >>= f = f x
+None >>= f = None
+
+-- the bytes behind the word that they begin with
+abbrev pub after_word : List ℕ → List ℕ → Option (List ℕ)
+after_word word bytes = if starts_with nat_eq bytes word then Some (drop (length word) bytes) else None
+
+-- n, and the digits that follow it
+unfoldable pub number_from : ℕ → ℕ → List ℕ → Option (ℕ × List ℕ)
+number_from most n [] = Some (n, [])
+number_from most n (b ∷ bytes) = if is_ascii_digit b then (if nat_le (10 * n + (b - 48)) most then number_from most (10 * n + (b - 48)) bytes else None) else Some (n, b ∷ bytes)
+
+-- a number of at most `most`, and the bytes behind it: behind a 0 no digit belongs to it
+unfoldable pub number_at : ℕ → List ℕ → Option (ℕ × List ℕ)
+number_at most [] = None
+number_at most (b ∷ bytes) = if b == 48 then Some (0, bytes) else (if is_ascii_digit b then number_from most (b - 48) bytes else None)
+
+-- the most that a number of 32 bits can be
+abbrev pub limit : ℕ
+limit = 2 ^ 32 - 1
+
+-- a space, and a number
+unfoldable pub field_at : ℕ → List ℕ → Option (ℕ × List ℕ)
+field_at most bytes = after_word (codes " ") bytes >>= number_at most
+
+-- nothing is left
+abbrev pub ended : {A : Type 0} → A → List ℕ → Option A
+ended x [] = Some x
+ended x (b ∷ bytes) = None
+
+-- the last number of a line
+unfoldable pub last_at : List ℕ → Option ℕ
+last_at bytes = do
+  n ← number_at limit bytes
+  ended n.0 n.1
+
+-- a file, an index of it, and a number of pages
+unfoldable pub range_at : List ℕ → Option (ℕ × ℕ × ℕ)
+range_at bytes = do
+  file ← number_at limit bytes
+  from ← field_at limit file.1
+  len ← field_at limit from.1
+  ended (file.0, from.0, len.0) len.1
+
+-- what is read behind the word; where the bytes don't begin with it, other
+abbrev pub behind : {A : Type 0} → List ℕ → List ℕ → (List ℕ → Option A) → Option A → Option A
+behind word bytes read other = option_map_or read (after_word word bytes) other
+
+-- the operation behind a task
+unfoldable pub op_at : List ℕ → Option Op
+op_at bytes =
+    behind (codes "map ") bytes (λ rest. range_at rest >>= λ r. Some (Map r.0 r.1 r.2))
+    (behind (codes "mapn ") bytes (λ rest. range_at rest >>= λ r. Some (MapNoReserve r.0 r.1 r.2)) None)
+
+-- a line behind the first, without its end
+unfoldable pub event_at : List ℕ → Option Event
+event_at bytes =
+    behind (codes "step ") bytes (λ rest. last_at rest >>= λ n. Some (Step n true))
+    (behind (codes "deny ") bytes (λ rest. last_at rest >>= λ n. Some (Step n false))
+    (behind (codes "kill ") bytes (λ rest. last_at rest >>= λ n. Some (Kill n))
+    (behind (codes "begin ") bytes (λ rest. do
+      task ← number_at limit rest
+      text ← after_word (codes " ") task.1
+      op ← op_at text
+      Some (Begin task.0 op)) None)))
+
+-- a space, and the last number of a line
+unfoldable pub last_field_at : List ℕ → Option ℕ
+last_field_at bytes = do
+  n ← field_at limit bytes
+  ended n.0 n.1
+
+-- the numbers of a first line
+unfoldable pub sizes_at : List ℕ → Option Sizes
+sizes_at bytes = do
+  frames ← number_at limit bytes
+  files ← field_at limit frames.1
+  slots ← field_at limit files.1
+  tasks ← last_field_at slots.1
+  Some (record { frames = frames.0; files = files.0; slots = slots.0; tasks = tasks })
+
+-- the first line, without its end
+unfoldable pub header_at : List ℕ → Option Sizes
+header_at bytes = do
+  text ← after_word (codes "pool ") bytes
+  s ← sizes_at text
+  if within_limits s.frames s.files s.slots s.tasks then Some s else None

@@ -1,0 +1,162 @@
+//! Takes a trace in pieces, cut anywhere.
+ghost use Rattle.std.specs.Prelude.{◌≡◌, ◌≤◌, IfOk, IfErr, OnOk, OnErr, take, length, [], None, Some};
+ghost use Rattle.std.specs.Option.{option_map};
+ghost use Rattle.std.specs.Io.BufRead.{take_through};
+ghost use Rattle.hp_replay.specs.Lines.{Held, line_of, line_at, opening_held, fault_at, with_fault, take_byte, held_after, lines_after, listed, end_of};
+
+use crate::fault::ReplayFault;
+use crate::reading::{event_at, header_at};
+use std::marker::Model;
+use hp_base::{Config, Event};
+
+/// A line of a trace.
+#[derive(Clone, Copy, Debug, PartialEq, Eq)]
+pub enum TraceLine {
+    Header(Config),
+    Event(Event),
+}
+
+/// The longest line, without its end.
+pub const LONGEST_LINE: usize = 56;
+
+/// The most lines of a trace: its header and 1,000,000 events.
+pub const MOST_LINES: u32 = 1_000_001;
+
+/// Reads a trace that comes in pieces, cut anywhere, and takes no memory.
+#[derive(Drop)]
+pub struct TraceFeed {
+    lines: u32,
+    rest: [u8; LONGEST_LINE],
+    len: usize,
+    fault: Option<ReplayFault>,
+}
+
+impl Model for TraceFeed {
+    ghost Value = { Held };
+
+    ghost view = { λ f. record { lines = f.lines; rest = take f.len f.rest; fault = f.fault } };
+
+    ghost invariant = { λ f. (f.len ≤ 56) × (f.lines ≤ 1000001) };
+}
+
+impl TraceFeed {
+    pub fn new() -> Self
+        ensures { result ≡ opening_held }
+    {
+        TraceFeed {
+            lines: 0,
+            rest: [0; LONGEST_LINE],
+            len: 0,
+            fault: None,
+        }
+    }
+
+    /// The lines taken so far.
+    pub fn line(&self) -> u32
+        ensures { result ≡ self.now.lines }
+    {
+        self.lines
+    }
+
+    /// Keeps the fault of the line that is being taken.
+    fn fail(&mut self) -> ReplayFault
+        ensures held { self.new ≡ with_fault self.old }
+        ensures fault { result ≡ fault_at self.old.lines }
+    {
+        let fault = if self.lines == 0 {
+            ReplayFault::BadHeader
+        } else {
+            ReplayFault::BadLine(self.lines + 1)
+        };
+        self.fault = Some(fault);
+        fault
+    }
+
+    /// The line that the rest spells.
+    fn line_held(&self) -> Option<TraceLine>
+        ensures { option_map line_of result ≡ line_at self.now.lines self.now.rest }
+    {
+        let text = &self.rest[..self.len];
+        if self.lines == 0 {
+            Some(TraceLine::Header(header_at(text)?))
+        } else {
+            Some(TraceLine::Event(event_at(text)?))
+        }
+    }
+
+    fn fault(&self) -> Option<ReplayFault>
+        ensures { result ≡ self.now.fault }
+    {
+        self.fault
+    }
+
+    /// Takes one byte, and tells the line that it ends.
+    #[tactic(auto, unfolding(crate::specs::Lines::take_byte))]
+    fn push(&mut self, byte: u8) -> Result<Option<TraceLine>, ReplayFault>
+        requires { self.old.fault ≡ None }
+        ensures held { self.new ≡ (take_byte self.old byte).0 }
+        ensures line { IfOk result (λ line. option_map line_of line ≡ (take_byte self.old byte).1) }
+        ensures none { OnErr result ((take_byte self.old byte).1 ≡ None) }
+        ensures ok { OnOk result (self.new.fault ≡ None) }
+        ensures err { IfErr result (λ fault. self.new.fault ≡ Some fault) }
+    {
+        if self.lines == MOST_LINES {
+            return Err(self.fail());
+        }
+        if byte != b'\n' {
+            if self.len == LONGEST_LINE {
+                return Err(self.fail());
+            }
+            self.rest[self.len] = byte;
+            self.len += 1;
+            return Ok(None);
+        }
+        match self.line_held() {
+            Some(line) => {
+                self.lines += 1;
+                self.len = 0;
+                Ok(Some(line))
+            }
+            None => Err(self.fail()),
+        }
+    }
+
+    /// Takes the piece up to and with its first line end, or all of it where there is none.
+    /// Tells how many bytes that was, and the line that they end. After a fault it tells that again.
+    pub fn take(&mut self, piece: &[u8]) -> Result<(usize, Option<TraceLine>), ReplayFault>
+        ensures held { self.new ≡ held_after self.old (take_through 10 piece.now) }
+        ensures used { IfOk result (λ taken. taken.0 ≡ length (take_through 10 piece.now)) }
+        ensures line { IfOk result (λ taken. listed (option_map line_of taken.1) []
+            ≡ lines_after self.old (take_through 10 piece.now)) }
+        ensures none { OnErr result (lines_after self.old (take_through 10 piece.now) ≡ []) }
+        ensures ok { OnOk result (self.new.fault ≡ None) }
+        ensures err { IfErr result (λ fault. self.new.fault ≡ Some fault) }
+    {
+        if let Some(fault) = self.fault() {
+            return Err(fault);
+        }
+        for (i, byte) in piece.iter().enumerate() {
+            let line = self.push(*byte)?;
+            if *byte == b'\n' {
+                return Ok((i + 1, line));
+            }
+        }
+        Ok((piece.len(), None))
+    }
+
+    /// What is wrong with the bytes taken so far, if they are all.
+    pub fn end(&self) -> Result<(), ReplayFault>
+        ensures { result ≡ end_of self.now }
+    {
+        if let Some(fault) = self.fault {
+            return Err(fault);
+        }
+        if self.lines == 0 {
+            return Err(ReplayFault::BadHeader);
+        }
+        if self.len != 0 {
+            return Err(ReplayFault::BadLine(self.lines + 1));
+        }
+        Ok(())
+    }
+}

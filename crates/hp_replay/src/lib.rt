@@ -1,0 +1,24 @@
+//! Traces: what happens to a pool, as lines of text.
+//!
+//! It stands on hp_core and hp_base. A trace is read by one engine, the feed, which takes bytes cut
+//! anywhere and needs no memory; reading a trace and replaying one are loops over it. It promises
+//! that what is read is what the bytes spell, that the first bad line is named, and that a replay
+//! writes the outcomes of a run of that trace and nothing else. It knows of the core only its rows
+//! and its readers, and no files or streams: it works over any reader and writer.
+#![tactic(auto)]
+
+mod fault;
+mod feed;
+mod laws;
+mod pieces;
+mod reading;
+mod replaying;
+mod state;
+mod trace;
+mod writing;
+
+pub use fault::ReplayFault;
+pub use feed::{TraceFeed, TraceLine};
+pub use replaying::replay;
+pub use trace::{MOST_EVENTS, Trace, read_trace, write_trace};
+pub use laws::{bytes_have_one_reading, pieces_do_not_show, what_is_held_is_spelled};

@@ -1,0 +1,164 @@
+//! Reads a line from its front, a word or a number at a time. Each line has one spelling.
+ghost use Rattle.std.specs.Prelude.{◌≡◌, ◌≤◌, length, IfSome};
+ghost use Rattle.std.specs.Option.{option_map};
+ghost use Rattle.hp_base.specs.Text.{sizes};
+ghost use Rattle.hp_replay.specs.Reading.{header_at, sizes_at, last_field_at, after_word, number_at, field_at, last_at, range_at, op_at, event_at, limit};
+
+use hp_base::{Config, Event, File, Index, Op, Task};
+
+/// The bytes behind the word, where they begin with it.
+fn after_word<'a>(word: &[u8], bytes: &'a [u8]) -> Option<&'a [u8]>
+    ensures { option_map (λ rest. rest.now) result ≡ after_word word.now bytes.now }
+{
+    if bytes.starts_with(word) {
+        Some(&bytes[word.len()..])
+    } else {
+        None
+    }
+}
+
+/// The number that the bytes begin with, in its one spelling, and the bytes behind it.
+#[tactic(auto, unfolding(crate::specs::Reading::number_at, crate::specs::Reading::number_from))]
+fn number_at(most: u64, bytes: &[u8]) -> Option<(u64, &[u8])>
+    requires { 9 ≤ most }
+    ensures found { option_map (λ found. (found.0, found.1.now)) result ≡ number_at most bytes.now }
+    ensures most { IfSome result (λ found. found.0 ≤ most) }
+{
+    let [first, rest @ ..] = bytes else {
+        return None;
+    };
+    if *first == b'0' {
+        return Some((0, rest));
+    }
+    if !first.is_ascii_digit() {
+        return None;
+    }
+    let mut value = u64::from(*first - b'0');
+    let mut rest = rest;
+    while let [digit, after @ ..] = rest {
+        if !digit.is_ascii_digit() {
+            break;
+        }
+        value = value
+            .checked_mul(10)?
+            .checked_add(u64::from(*digit - b'0'))?;
+        if value > most {
+            return None;
+        }
+        rest = after;
+    }
+    Some((value, rest))
+}
+
+/// A number of 32 bits.
+fn short_at(bytes: &[u8]) -> Option<(u32, &[u8])>
+    ensures { option_map (λ found. (found.0, found.1.now)) result ≡ number_at limit bytes.now }
+{
+    let (number, rest) = number_at(u64::from(u32::MAX), bytes)?;
+    Some((number as u32, rest))
+}
+
+/// A space, and a number of 32 bits.
+#[tactic(auto, unfolding(crate::specs::Reading::field_at))]
+fn field_at(bytes: &[u8]) -> Option<(u32, &[u8])>
+    ensures { option_map (λ found. (found.0, found.1.now)) result ≡ field_at limit bytes.now }
+{
+    short_at(after_word(b" ", bytes)?)
+}
+
+/// The last number of a line.
+#[tactic(auto, unfolding(crate::specs::Reading::last_at))]
+fn last_at(bytes: &[u8]) -> Option<u32>
+    ensures { result ≡ last_at bytes.now }
+{
+    match short_at(bytes)? {
+        (number, []) => Some(number),
+        _ => None,
+    }
+}
+
+/// A file, an index of it, and a number of pages, as the last of a line.
+#[tactic(auto, unfolding(crate::specs::Reading::range_at))]
+fn range_at(bytes: &[u8]) -> Option<(File, Index, u32)>
+    ensures { option_map (λ r. (r.0, r.1, r.2)) result ≡ range_at bytes.now }
+{
+    let (file, rest) = short_at(bytes)?;
+    let (from, rest) = field_at(rest)?;
+    let (len, rest) = field_at(rest)?;
+    if !rest.is_empty() {
+        return None;
+    }
+    Some((File::new(file), Index::new(from), len))
+}
+
+/// The operation that the rest of a line spells.
+#[tactic(auto, unfolding(crate::specs::Reading::op_at))]
+fn op_at(bytes: &[u8]) -> Option<Op>
+    ensures { result ≡ op_at bytes.now }
+{
+    if let Some(rest) = after_word(b"map ", bytes) {
+        let (file, from, len) = range_at(rest)?;
+        Some(Op::Map { file, from, len })
+    } else if let Some(rest) = after_word(b"mapn ", bytes) {
+        let (file, from, len) = range_at(rest)?;
+        Some(Op::MapNoReserve { file, from, len })
+    } else {
+        None
+    }
+}
+
+/// The event that a line spells.
+#[tactic(auto, unfolding(crate::specs::Reading::event_at))]
+pub(crate) fn event_at(bytes: &[u8]) -> Option<Event>
+    ensures { result ≡ event_at bytes.now }
+{
+    if let Some(rest) = after_word(b"step ", bytes) {
+        let task = Task::new(last_at(rest)?);
+        Some(Event::Step(task, true))
+    } else if let Some(rest) = after_word(b"deny ", bytes) {
+        let task = Task::new(last_at(rest)?);
+        Some(Event::Step(task, false))
+    } else if let Some(rest) = after_word(b"kill ", bytes) {
+        let task = Task::new(last_at(rest)?);
+        Some(Event::Kill(task))
+    } else if let Some(rest) = after_word(b"begin ", bytes) {
+        let (task, rest) = short_at(rest)?;
+        let op = op_at(after_word(b" ", rest)?)?;
+        Some(Event::Begin(Task::new(task), op))
+    } else {
+        None
+    }
+}
+
+/// The last number of a line, behind a space.
+#[tactic(auto, unfolding(crate::specs::Reading::last_field_at))]
+fn last_field_at(bytes: &[u8]) -> Option<u32>
+    ensures { result ≡ last_field_at bytes.now }
+{
+    match field_at(bytes)? {
+        (number, []) => Some(number),
+        _ => None,
+    }
+}
+
+/// Four numbers, as the last of a line.
+#[tactic(auto, unfolding(crate::specs::Reading::sizes_at))]
+fn sizes_at(bytes: &[u8]) -> Option<(u32, u32, u32, u32)>
+    ensures { option_map (λ s. record { frames = s.0; files = s.1; slots = s.2; tasks = s.3 }) result
+        ≡ sizes_at bytes.now }
+{
+    let (frames, rest) = short_at(bytes)?;
+    let (files, rest) = field_at(rest)?;
+    let (slots, rest) = field_at(rest)?;
+    let tasks = last_field_at(rest)?;
+    Some((frames, files, slots, tasks))
+}
+
+/// The config that a first line spells.
+#[tactic(auto, unfolding(crate::specs::Reading::header_at))]
+pub(crate) fn header_at(bytes: &[u8]) -> Option<Config>
+    ensures { option_map sizes result ≡ header_at bytes.now }
+{
+    let (frames, files, slots, tasks) = sizes_at(after_word(b"pool ", bytes)?)?;
+    Config::new(frames, files, slots, tasks).ok()
+}

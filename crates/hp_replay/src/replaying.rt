@@ -1,0 +1,151 @@
+//! Replays a trace: runs each line as it comes, and writes what comes of it.
+ghost use Rattle.std.specs.Prelude.{◌≡◌, ◌<◌, ◌⊎◌, [], ◌∷◌, None, OnOk, IfErr, IfSome, IsSome, Ok, Err};
+ghost use Rattle.std.specs.Option.{option_map};
+ghost use Rattle.std.specs.Io.KnownBytes.{Appends, Keeps};
+ghost use Rattle.hp_replay.specs.Lines.{line_of, listed, end_of};
+ghost use Rattle.hp_replay.specs.Outcomes.{state_text};
+ghost use Rattle.hp_replay.specs.Writing.{Wrote, IsWriteFault};
+ghost use Rattle.hp_replay.specs.Running.{CanRun, CanRunIfSome, IsOpened, LinesRan, LinesStopped, PieceRan, PieceStopped};
+ghost use Rattle.hp_replay.specs.Replaying.{Replayed, Stopped};
+
+use crate::fault::ReplayFault;
+use crate::feed::{TraceFeed, TraceLine};
+use crate::pieces::{PIECE, read_piece};
+use crate::state::push_state;
+use crate::writing::{write_line, write_text};
+use hp_core::Core;
+use std::alloc::Global;
+use std::io::{Read, Write};
+
+/// Runs one line, and writes what came of it.
+fn run_line<W: Write>(
+    alloc: Global,
+    core: &mut Option<Core>,
+    line: TraceLine,
+    text: &mut String,
+    writer: &mut W,
+) -> Result<(), ReplayFault>
+    requires { CanRun core.old (line_of line) }
+    ensures ok { OnOk result (LinesRan core.old (line_of line ∷ []) core.new (W.contents writer.old) (W.contents writer.new)) }
+    ensures err { IfErr result (λ fault. LinesStopped fault core.old (line_of line ∷ []) (W.contents writer.old) (W.contents writer.new)) }
+{
+    match line {
+        TraceLine::Header(config) => {
+            let opened = Core::new(alloc, config)?;
+            *core = Some(opened);
+            Ok(())
+        }
+        TraceLine::Event(event) => match core {
+            Some(core) => {
+                let outcome = core.step(event)?;
+                write_line(writer, outcome, text)
+            }
+            None => unreachable!(),
+        },
+    }
+}
+
+/// Runs the line that came, if one did.
+fn run_taken<W: Write>(
+    alloc: Global,
+    core: &mut Option<Core>,
+    line: Option<TraceLine>,
+    text: &mut String,
+    writer: &mut W,
+) -> Result<(), ReplayFault>
+    requires { CanRunIfSome core.old (option_map line_of line) }
+    ensures ok { OnOk result (LinesRan core.old (listed (option_map line_of line) []) core.new
+        (W.contents writer.old) (W.contents writer.new)) }
+    ensures err { IfErr result (λ fault. LinesStopped fault core.old (listed (option_map line_of line) [])
+        (W.contents writer.old) (W.contents writer.new)) }
+{
+    match line {
+        Some(line) => run_line(alloc, core, line, text, writer),
+        None => Ok(()),
+    }
+}
+
+/// Runs the lines that a piece ends.
+fn run_piece<W: Write>(
+    alloc: Global,
+    feed: &mut TraceFeed,
+    core: &mut Option<Core>,
+    piece: &[u8],
+    text: &mut String,
+    writer: &mut W,
+) -> Result<(), ReplayFault>
+    requires no_fault { feed.old.fault ≡ None }
+    requires opened { IsOpened feed.old core.old }
+    ensures ok { OnOk result (PieceRan feed.old piece.now feed.new core.old core.new (W.contents writer.old) (W.contents writer.new)) }
+    ensures no_fault { OnOk result (feed.new.fault ≡ None) }
+    ensures opened { OnOk result (IsOpened feed.new core.new) }
+    ensures err { IfErr result (λ fault. PieceStopped fault feed.old piece.now feed.new core.old core.new
+        (W.contents writer.old) (W.contents writer.new)) }
+{
+    let mut rest = piece;
+    while !rest.is_empty() {
+        let (used, line) = feed.take(rest)?;
+        (_, rest) = rest.split_at(used);
+        run_taken(alloc, core, line, text, writer)?;
+    }
+    Ok(())
+}
+
+/// Writes the state at the end of a trace.
+fn write_state<W: Write>(core: &Core, text: &mut String, writer: &mut W) -> Result<(), ReplayFault>
+    ensures ok { OnOk result (Appends (W.contents writer.old) (W.contents writer.new) (state_text core.now)) }
+    ensures err { IfErr result (λ fault. IsWriteFault fault
+        × Wrote (W.contents writer.old) (W.contents writer.new) (state_text core.now)) }
+{
+    text.clear();
+    push_state(core, text)?;
+    write_text(writer, text.as_bytes())
+}
+
+/// Tells what the end of the trace says, and then writes the state.
+fn finish<W: Write>(
+    feed: &TraceFeed,
+    core: &Option<Core>,
+    text: &mut String,
+    writer: &mut W,
+) -> Result<(), ReplayFault>
+    requires { IsOpened feed.now core.now }
+    ensures ended { OnOk result (end_of feed.now ≡ Ok tt) }
+    ensures core { OnOk result (IsSome core.now) }
+    ensures wrote { OnOk result (IfSome core.now (λ core. Appends (W.contents writer.old) (W.contents writer.new) (state_text core))) }
+    ensures err { IfErr result (λ fault.
+        ((end_of feed.now ≡ Err fault) × Keeps (W.contents writer.old) (W.contents writer.new))
+        ⊎ (IsWriteFault fault × (end_of feed.now ≡ Ok tt)
+            × IfSome core.now (λ core. Wrote (W.contents writer.old) (W.contents writer.new) (state_text core)))) }
+{
+    feed.end()?;
+    match core {
+        Some(core) => write_state(core, text, writer),
+        None => unreachable!(),
+    }
+}
+
+/// Runs a trace as it is read, and writes a line for each outcome and then the lines of the state.
+/// Each line is written before more is read. Nothing is tried again after an error.
+pub fn replay<R: Read, W: Write>(
+    alloc: Global,
+    reader: &mut R,
+    writer: &mut W,
+) -> Result<(), ReplayFault>
+    ensures ok { OnOk result (Replayed (R.remaining reader.old) (R.remaining reader.new)
+        (W.contents writer.old) (W.contents writer.new)) }
+    ensures err { IfErr result (λ fault. Stopped fault (R.remaining reader.old) (R.remaining reader.new)
+        (W.contents writer.old) (W.contents writer.new)) }
+{
+    let mut feed = TraceFeed::new();
+    let mut core = None;
+    let mut text = String::new(alloc);
+    let mut piece = [0; PIECE];
+    loop {
+        let n = read_piece(reader, &mut piece)?;
+        if n == 0 {
+            return finish(&feed, &core, &mut text, writer);
+        }
+        run_piece(alloc, &mut feed, &mut core, &piece[..n], &mut text, writer)?;
+    }
+}

@@ -1,0 +1,40 @@
+//! Writes text with no retry.
+ghost use Rattle.std.specs.Prelude.{◌≡◌, ◌++◌, ◌∷◌, [], OnOk, IfErr, IfSome};
+ghost use Rattle.std.specs.Io.KnownBytes.{Appends};
+ghost use Rattle.hp_replay.specs.Writing.{Wrote, IsWriteFault};
+
+use crate::fault::ReplayFault;
+use std::fmt::Display;
+use std::io::Write;
+
+/// Writes all of the text. An error, or a write that takes no byte, ends it.
+pub(crate) fn write_text<W: Write>(writer: &mut W, text: &[u8]) -> Result<(), ReplayFault>
+    ensures ok { OnOk result (Appends (W.contents writer.old) (W.contents writer.new) text.now) }
+    ensures front { IfErr result (λ fault. (fault ≡ ReplayFault.Write)
+        × Wrote (W.contents writer.old) (W.contents writer.new) text.now) }
+{
+    let mut rest = text;
+    while !rest.is_empty() {
+        match writer.write(rest) {
+            Ok(0) | Err(_) => return Err(ReplayFault::Write),
+            Ok(n) => (_, rest) = rest.split_at(n),
+        }
+    }
+    Ok(())
+}
+
+/// Writes the value's text as a line. `line` is where it is laid out: its memory is used again.
+pub(crate) fn write_line<W: Write, D: Display + Drop>(
+    writer: &mut W,
+    value: D,
+    line: &mut String,
+) -> Result<(), ReplayFault>
+    ensures ok { OnOk result (IfSome (D.output value) (λ text.
+        Appends (W.contents writer.old) (W.contents writer.new) (text ++ 10 ∷ []))) }
+    ensures front { IfErr result (λ fault. IsWriteFault fault × IfSome (D.output value) (λ text.
+        Wrote (W.contents writer.old) (W.contents writer.new) (text ++ 10 ∷ []))) }
+{
+    line.clear();
+    writeln!(line, "{value}")?;
+    write_text(writer, line.as_bytes())
+}
