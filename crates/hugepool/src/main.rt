@@ -1,0 +1,29 @@
+//! The program `hugepool`: a pool of huge pages on the command line.
+//!
+//! It stands on hp_replay, and reads its words with clap. It promises what hp_replay's contracts say of what is
+//! read and written; its own part (words, statuses, fault lines) is shown by tests. It knows nothing of pools.
+#![tactic(auto)]
+
+mod command;
+mod program;
+
+use program::program;
+use std::env;
+use std::io;
+use std::process::ExitCode;
+
+fn main(rt: HostRuntime) -> io::Result<ExitCode> {
+    let words: Vec<String> = env::args(&rt)?.collect(rt.alloc())?;
+    let status = program(
+        &rt,
+        rt.alloc(),
+        words.as_slice(),
+        &mut rt.stdin(),
+        &mut rt.stdout(),
+        &mut rt.stderr(),
+    );
+    Ok(ExitCode::from(status))
+}
+
+#[cfg(test)]
+mod tests;
