@@ -4,8 +4,8 @@ use std::io::{self, BufRead, BufReader, BufWriter, Write};
 
 enum Event {
     Begin(u32),
-    Step(u32),
-    Kill(u32),
+    Step,
+    Kill,
 }
 
 fn parse(line: &str) -> Option<Event> {
@@ -23,8 +23,14 @@ fn parse(line: &str) -> Option<Event> {
             }
             Event::Begin(task)
         }
-        "step" | "deny" => Event::Step(words.next()?.parse().ok()?),
-        "kill" => Event::Kill(words.next()?.parse().ok()?),
+        "step" | "deny" => {
+            words.next()?.parse::<u32>().ok()?;
+            Event::Step
+        }
+        "kill" => {
+            words.next()?.parse::<u32>().ok()?;
+            Event::Kill
+        }
         _ => return None,
     };
     words.next().is_none().then_some(event)
@@ -45,8 +51,8 @@ fn main() -> io::Result<()> {
         match parse(line.trim_end_matches('\n')) {
             Some(Event::Begin(task)) if task == 0 => writeln!(writer, "refused notalive")?,
             Some(Event::Begin(_)) => writeln!(writer, "begun")?,
-            Some(Event::Step(_)) => writeln!(writer, "refused idle")?,
-            Some(Event::Kill(_)) => writeln!(writer, "marked")?,
+            Some(Event::Step) => writeln!(writer, "refused idle")?,
+            Some(Event::Kill) => writeln!(writer, "marked")?,
             None => {
                 eprintln!("line {number}");
                 break;
