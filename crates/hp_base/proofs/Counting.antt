@@ -66,8 +66,8 @@ count_below_past p m (suc n) le none =
     elim (nat_le (suc n) m) as (λ b. nat_le (suc n) m ≡ b → count_below p n + cond (p n) 1 0 ≡ count_below p m) [
       | true ↦ λ e. let same : m ≡ suc n = omega (arith, leb-true (suc n) m e) in rw same refl
       | false ↦ λ e.
-        let rest = count_below_past p m n (omega (arith, leb-false (suc n) m e)) none in
-        rw (none n (omega (arith, leb-false (suc n) m e))) (omega (arith, rest))
+          let rest = count_below_past p m n (omega (arith, leb-false (suc n) m e)) none in
+          rw (none n (omega (arith, leb-false (suc n) m e))) (omega (arith, rest))
     ] refl
 
 -- what a range adds to the members that are not in c, where c lies within the set
@@ -111,10 +111,10 @@ other_number k i e same = grind (arith, nat_tests)
 pub count_below_one : (p q : ℕ → Bool) (i n : ℕ) → i < n → p i ≡ true → q i ≡ false → ((k : ℕ) → (k ≡ i → ⊥) → p k ≡ q k) → count_below p n ≡ count_below q n + 1
 count_below_one p q i n within there gone others =
     let parts = count_below-sum q (is_within i (i + 1)) p n (λ k below.
-        elim (nat_eq k i) as (λ b. nat_eq k i ≡ b → cond (p k) 1 0 ≡ cond (q k) 1 0 + cond (is_within i (i + 1) k) 1 0) [
-          | true ↦ λ e. let same = same_number k i e in rw (same, there, gone) (grind (arith, nat_tests))
-          | false ↦ λ e. rw (others k (other_number k i e)) (grind (arith, nat_tests))
-        ] refl) in
+    elim (nat_eq k i) as (λ b. nat_eq k i ≡ b → cond (p k) 1 0 ≡ cond (q k) 1 0 + cond (is_within i (i + 1) k) 1 0) [
+      | true ↦ λ e. let same = same_number k i e in rw (same, there, gone) (grind (arith, nat_tests))
+      | false ↦ λ e. rw (others k (other_number k i e)) (grind (arith, nat_tests))
+    ] refl) in
     let one = count_below-is_within i (i + 1) n in
     omega (arith, parts, one)
 

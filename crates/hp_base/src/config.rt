@@ -25,8 +25,11 @@ pub struct Config {
 
 impl Config {
     pub const MAX_FRAMES: u32 = 4096;
+
     pub const MAX_FILES: u32 = 16;
+
     pub const MAX_SLOTS: u32 = 64;
+
     pub const MAX_TASKS: u32 = 64;
 
     /// The sizes, where each is within its limits.

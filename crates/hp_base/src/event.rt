@@ -9,15 +9,30 @@ use std::fmt;
 #[derive(Clone, Copy, Debug, PartialEq, Eq)]
 pub enum Op {
     /// `mmap` of a shared range, with its reservation (`hugetlb_reserve_pages`).
-    Map { file: File, from: Index, len: u32 },
+    Map {
+        file: File,
+        from: Index,
+        len: u32,
+    },
     /// `mmap` with `MAP_NORESERVE`.
-    MapNoReserve { file: File, from: Index, len: u32 },
+    MapNoReserve {
+        file: File,
+        from: Index,
+        len: u32,
+    },
     /// `munmap` of the whole mapping that begins at `base`.
-    Unmap { base: Vpn },
+    Unmap {
+        base: Vpn,
+    },
     /// A read of the page's word (`hugetlb_fault`).
-    Load { vpn: Vpn },
+    Load {
+        vpn: Vpn,
+    },
     /// A write of the page's word (`hugetlb_fault`).
-    Store { vpn: Vpn, word: u64 },
+    Store {
+        vpn: Vpn,
+        word: u64,
+    },
     /// `fallocate` (`hugetlbfs_fallocate`); `keep` is `FALLOC_FL_KEEP_SIZE`.
     Alloc {
         file: File,
@@ -26,10 +41,17 @@ pub enum Op {
         keep: bool,
     },
     /// `fallocate` with `FALLOC_FL_PUNCH_HOLE` (`hugetlbfs_punch_hole`).
-    Punch { file: File, from: Index, len: u32 },
+    Punch {
+        file: File,
+        from: Index,
+        len: u32,
+    },
     /// `ftruncate` to `new` pages (`hugetlb_vmtruncate`). Unlike Linux's it never raises what is
     /// mapped.
-    Truncate { file: File, new: u32 },
+    Truncate {
+        file: File,
+        new: u32,
+    },
     /// The end of the task (`exit_mmap`).
     Exit,
 }
