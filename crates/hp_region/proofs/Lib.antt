@@ -1,4 +1,5 @@
 pub mod Canonical
+pub mod Compared
 pub mod Held
 pub mod Sets
 pub mod Sought

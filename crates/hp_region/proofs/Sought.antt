@@ -3,7 +3,6 @@ use Rattle.std.proofs.Common.{◌≡◌, ℕ, zero, suc, ◌+◌, ◌-◌, ◌/�
 use Rattle.std.specs.Prelude.{nat_le, nat_lt, nat_eq, count_by}
 use Rattle.std.proofs.Math.Nat.{pow-suc, div-lt_iff_lt-mul}
 use Rattle.std.specs.List.{insert, remove}
-use Rattle.std.specs.Ordering.{nat_cmp, is_lt}
 use Rattle.std.proofs.lemmas.List.{take_more_set, append-nil}
 use Rattle.std.proofs.lemmas.Bool.{cond_both, ltb-true, ltb-false, leb-true, leb-false, le-ltb, lt-ltb, le-leb, lt-leb}
 use Rattle.std.proofs.lemmas.Bool.Decides.{nat_tests}
@@ -259,9 +258,6 @@ pub cut_beside : (rs : List Region) (at i : ℕ) (d : Region) → IsApartFrom 0 
 cut_beside rs at i d apart sought over =
     let none : (nat_lt at (length rs) && nat_lt (get_or rs at d).from i) ≡ false = grind (arith, nat_tests, over) in
     sym (below-sought 0 rs i d apart ∙ rw (← sought, none) (append-nil (take at rs)))
-
-pub lt_test : (a b : ℕ) (x : Bool) → x ≡ is_lt (nat_cmp a b) → nat_lt a b ≡ x
-lt_test a b x h = grind (arith, nat_tests)
 
 -- half of fewer than 2 ^ k is fewer than 2 ^ (k - 1)
 pub halved : (n m k : ℕ) → 0 < n → n < 2 ^ k → m ≤ n / 2 → (0 < k) × (m < 2 ^ (k - 1))

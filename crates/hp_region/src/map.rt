@@ -1,5 +1,5 @@
 //! The map, and what reads it.
-ghost use Rattle.std.specs.Prelude.{◌≡◌, ℕ, Bool, List, ◌+◌, ◌^◌, ◌<◌, ◌≤◌, [], length, nat_le, slice_get, count_by};
+ghost use Rattle.std.specs.Prelude.{◌≡◌, ℕ, Bool, List, ◌+◌, ◌^◌, ◌<◌, ◌≤◌, [], length, nat_le, slice_get, count_by, IsTrue};
 ghost use Rattle.std.specs.Option.{option_map};
 ghost use Rattle.hp_base.specs.Indices.{count_below, missing, region_count, HasAllWithin};
 ghost use Rattle.hp_region.specs.Regions.{is_member, IsApartFrom};
@@ -81,7 +81,8 @@ impl RegionMap {
 
     /// Whether an index is in the set.
     pub fn contains(&self, index: Index) -> bool
-        ensures { result ≡ is_member self.now.regions index }
+        ensures member { result ≡ is_member self.now.regions index }
+        ensures in_limit { IsTrue result → index < LIMIT }
     {
         walk::find(&self.regions, index).is_some()
     }

@@ -1,6 +1,6 @@
 -- Mappings that stand in order and share no page.
-use Rattle.std.proofs.Common.{◌≡◌, ◌≢◌, ℕ, zero, suc, ◌+◌, ◌-◌, ◌<◌, ◌≤◌, Bool, true, false, cond, ◌&&◌, ◌||◌, ◌==◌, List, [], ◌∷◌, ◌++◌, Option, Some, None, length, get_or, take, drop, refl, sym, ap, ◌∙◌, true≢false, inl, inr, arith}
-use Rattle.std.specs.Prelude.{nat_le, nat_lt, nat_eq, All, ◌↔◌, IsTrue, if◌then◌else◌}
+use Rattle.std.proofs.Common.{◌≡◌, ◌≢◌, ℕ, zero, suc, ◌+◌, ◌-◌, ◌<◌, ◌≤◌, Bool, true, false, cond, ◌||◌, ◌==◌, List, [], ◌∷◌, Option, Some, None, length, get_or, refl, sym, ap, ◌∙◌, true≢false, inl, inr, arith}
+use Rattle.std.specs.Prelude.{nat_le, nat_lt, All, ◌↔◌, IsTrue, if◌then◌else◌}
 use Rattle.std.specs.List.{prefix_len, insert}
 use Rattle.std.specs.List as list
 use Rattle.std.specs.List.Sorted.{IsNonDecreasingBy}
@@ -9,7 +9,7 @@ use Rattle.std.specs.Option.{option_map}
 use Rattle.std.proofs.lemmas.Bool.{leb-true, leb-false, ltb-true, ltb-false, lt-leb, lt-ltb, le-ltb}
 use Rattle.std.proofs.lemmas.Bool.Decides.{nat_tests, eqb_tells}
 use Rattle.hp_base.specs.declared.mapping.Mapping.{Mapping}
-use Rattle.hp_base.specs.Mappings.{covers, find, base_of, is_base, is_clear, fits, entered, IsSpread}
+use Rattle.hp_base.specs.Mappings.{covers, find, base_of, is_base, fits, entered, IsSpread}
 
 pub then_some-cond : {A : Type 0} (b : Bool) (x : A) → then_some b x ≡ cond b (Some x) None
 then_some-cond true x = refl

@@ -9,8 +9,8 @@ use crate::walk;
 use hp_base::{Index, LIMIT};
 use std::marker::Model;
 
-/// A change that was begun and neither committed nor aborted. Only `RegionMap::change` makes one,
-/// and the call that ends it spends it.
+/// A change that was begun and neither committed nor aborted. Only `RegionMap::change` makes one, and
+/// it is neither `Copy` nor `Clone`: the call that ends it spends it.
 #[derive(Debug, Drop)]
 pub struct Pending {
     from: Index,

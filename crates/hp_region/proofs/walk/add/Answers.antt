@@ -1,8 +1,7 @@
 use Rattle.std.proofs.Common.{ℕ, ◌≡◌, ◌<◌, ◌≤◌, ◌-◌, ◌++◌, List, take, not, ap, sym, ◌∙◌, refl, length, true, false, get_or, arith}
 use Rattle.std.specs.Prelude.{nat_eq}
-use Rattle.std.specs.Ordering.{nat_cmp, is_le}
 use Rattle.std.proofs.lemmas.List.{get_or_default}
-use Rattle.std.proofs.lemmas.Bool.Decides.{nat_tests}
+use Rattle.hp_region.proofs.Compared.{le_false, same_number, other_number}
 use Rattle.hp_region.specs.declared.region.Region.{Region}
 use Rattle.hp_region.proofs.Lists.{meets, with_range, ended_by}
 use Rattle.hp_region.proofs.Walked.{meets_past, absorb_past}
@@ -10,9 +9,6 @@ use Rattle.hp_region.proofs.Sets.{with_range_is, meets-touches}
 use Rattle.hp_region.proofs.Sought.{ended_by-count_by, sought_above, with_range-sought, meets-sought}
 use Rattle.hp_region.proofs.walk.add.Goals as goal
 use Rattle.hp_region.proofs.walk.add.Goals.{then-loop-end-test+else-le, else-loop-end-test}
-
-above : (a b : ℕ) → false ≡ is_le (nat_cmp a b) → b < a
-above a b h = grind (arith, nat_tests)
 
 -- the place from which `seek` was asked
 sought : (c : goal.After-seek-at) → c.seek-at.result.0 ≡ ended_by c.args.regions.now.items (c.args.from - 1)
@@ -40,7 +36,7 @@ beyond : (c : goal.After-replace) → c.loop-end.end < length c.args.regions.now
 beyond c within = elim c.loop-end-test.branch [
   | then-loop-end-test+else-le w ↦
       let read = ap (λ (r : Region). r.from) (w.index.ensures ∙ get_or_default c.args.regions.now.items c.loop-end.end w.index.result.now c.loop-end.merged within) in
-      omega (arith, above w.index.result.now.from c.loop-end.merged.to (w.if-le.ensures {u = tt}), read)
+      omega (arith, le_false w.index.result.now.from c.loop-end.merged.to (w.if-le.ensures {u = tt}), read)
   | else-loop-end-test w ↦ absurd (omega arith)
 ]
 
@@ -55,12 +51,6 @@ returns-clause-apart c = (with_range_is c.args.regions.now.items c.replace.new.r
 
 pub returns-clause-members : goal.returns-clause-members
 returns-clause-members c = (with_range_is c.args.regions.now.items c.replace.new.regions.items c.args.from c.args.to c.requires.apart c.requires.in_order c.requires.in_limit (items c)).1
-
-same_number : (m n : ℕ) → nat_eq m n ≡ true → m ≡ n
-same_number m n e = grind (arith, nat_tests)
-
-other_number : (m n : ℕ) → nat_eq m n ≡ false → n ≤ m → n < m
-other_number m n e le = grind (arith, nat_tests)
 
 -- where nothing was merged, the region there begins past the range
 alone : (c : goal.After-replace) → c.loop-end.end ≡ c.seek-at.result.0 → meets c.args.regions.now.items c.args.from c.args.to ≡ false

@@ -1,14 +1,10 @@
-use Rattle.std.proofs.Common.{ℕ, ◌≡◌, ◌<◌, ◌≤◌, ◌∙◌, false, ap, sym, drop, length, get_or, arith, drop-cons}
-use Rattle.std.specs.Ordering.{nat_cmp, is_lt}
-use Rattle.std.proofs.lemmas.Bool.Decides.{nat_tests}
+use Rattle.std.proofs.Common.{ℕ, ◌<◌, ◌≤◌, ◌∙◌, ap, sym, drop, length, get_or, arith, drop-cons}
 use Rattle.std.proofs.lemmas.List.{drop_all}
+use Rattle.hp_region.proofs.Compared.{lt_false}
 use Rattle.hp_region.proofs.Lists.{held_within, overlap_of}
 use Rattle.hp_region.proofs.Held.{held_within-count, held_within_le}
 use Rattle.hp_region.proofs.Sought.{ended_by-count_by, held_within-sought, held_within_past}
 use Rattle.hp_region.proofs.walk.held.Goals as goal
-
-lt_false : (a b : ℕ) → false ≡ is_lt (nat_cmp a b) → b ≤ a
-lt_false a b h = grind (arith, nat_tests)
 
 pub loop-at-init : goal.loop-at-init
 loop-at-init c =

@@ -1,15 +1,13 @@
-use Rattle.std.proofs.Common.{ℕ, ◌≡◌, ◌<◌, ◌-◌, ◌+◌, Bool, true, false, ◌&&◌, sym, ◌∙◌, arith}
+use Rattle.std.proofs.Common.{ℕ, ◌≡◌, ◌<◌, ◌-◌, ◌+◌, Bool, false, ◌&&◌, sym, ◌∙◌, arith}
 use Rattle.std.specs.Prelude.{nat_lt}
 use Rattle.std.specs.Ordering.{nat_cmp, is_lt}
 use Rattle.std.proofs.lemmas.Bool.Decides.{nat_tests}
+use Rattle.hp_region.proofs.Compared.{lt_true}
 use Rattle.hp_region.proofs.Sets.{holds_there}
 use Rattle.hp_region.proofs.walk.is_split.Goals as goal
 
 inner : (from to i : ℕ) → from < i → i < to → nat_lt 1 (to - i) ≡ (nat_lt from i && nat_lt (i + 1) to)
 inner from to i first second = grind (arith, nat_tests)
-
-lt_true : (a b : ℕ) → true ≡ is_lt (nat_cmp a b) → a < b
-lt_true a b h = grind (arith, nat_tests)
 
 outer : (from to i : ℕ) (x : Bool) → x ≡ is_lt (nat_cmp from i) → x ≡ false → x ≡ (nat_lt from i && nat_lt (i + 1) to)
 outer from to i x h off = grind (arith, nat_tests)

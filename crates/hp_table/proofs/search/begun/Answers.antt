@@ -1,4 +1,4 @@
-use Rattle.std.proofs.Common.{ℕ, arith, rules, sym}
+use Rattle.std.proofs.Common.{arith, rules, sym}
 use Rattle.std.proofs.lemmas.List.Sorted.{IsPartitionPoint-from_clause, IsPartitionedBy-leb}
 use Rattle.std.proofs.lemmas.List.Sums.{prefix_len_is}
 use Rattle.hp_base.specs.declared.limits.TheConstants.{VPNS}

@@ -1,7 +1,6 @@
-use Rattle.std.proofs.Common.{ℕ, suc, ◌≡◌, ◌≤◌, ◌+◌, List, ◌∷◌, drop, Some, ap, sym, ◌∙◌, arith, drop-cons}
+use Rattle.std.proofs.Common.{ℕ, suc, drop, Some, ap, sym, ◌∙◌, arith, drop-cons}
 use Rattle.std.proofs.lemmas.List.{drop_all}
 use Rattle.hp_base.specs.declared.limits.TheConstants.{VPNS}
-use Rattle.hp_base.specs.declared.mapping.Mapping.{Mapping}
 use Rattle.hp_table.proofs.Room.{gap-IsRoom, gap_here, gap_end, ends_within}
 use Rattle.hp_table.proofs.Spread.{then_some-cond}
 use Rattle.hp_table.proofs.search.room.Goals as goal

@@ -1,4 +1,4 @@
-use Rattle.std.proofs.Common.{◌≡◌, Some, ap, sym, ◌∙◌}
+use Rattle.std.proofs.Common.{Some, sym, ◌∙◌}
 use Rattle.hp_base.specs.declared.limits.TheConstants.{VPNS}
 use Rattle.hp_table.proofs.Spread.{base_of_is, base_of-is_base}
 use Rattle.hp_table.proofs.space.Space.base_of.Goals as goal

@@ -1,5 +1,4 @@
-use Rattle.std.proofs.Common.{◌≡◌, ℕ, ◌+◌, ◌≤◌, ◌<◌, true≢false, List, ap, sym, ◌∙◌, arith}
-use Rattle.std.specs.List.{prefix_len, insert}
+use Rattle.std.proofs.Common.{◌≡◌, ◌+◌, ◌≤◌, true≢false, ap, sym, ◌∙◌, arith}
 use Rattle.std.proofs.lemmas.List.Sums.{prefix_len-le-length}
 use Rattle.hp_base.specs.declared.limits.TheConstants.{LIMIT, VPNS}
 use Rattle.hp_base.specs.declared.mapping.Mapping.{Mapping}
