@@ -7,3 +7,4 @@ pub mod RunsOn
 pub mod Seats
 pub mod Steps
 pub mod Tallies
+pub mod Waits

@@ -95,13 +95,13 @@ by_option (Some x) m none some = some x refl m
 at_true : (P Q : Type 0) (b : Bool) → b ≡ true → P → MatchBool b P Q
 at_true P Q b e p = subst (λ (c : Bool). MatchBool c P Q) (sym e) p
 
-at_false : (P Q : Type 0) (b : Bool) → b ≡ false → Q → MatchBool b P Q
+pub at_false : (P Q : Type 0) (b : Bool) → b ≡ false → Q → MatchBool b P Q
 at_false P Q b e q = subst (λ (c : Bool). MatchBool c P Q) (sym e) q
 
 at_none : {A : Type 0} (P : Type 0) (Q : A → Type 0) (o : Option A) → o ≡ None → P → MatchOption o P Q
 at_none {A} P Q o e p = subst (λ (c : Option A). MatchOption c P Q) (sym e) p
 
-at_some : {A : Type 0} (P : Type 0) (Q : A → Type 0) (o : Option A) (x : A) → o ≡ Some x → Q x → MatchOption o P Q
+pub at_some : {A : Type 0} (P : Type 0) (Q : A → Type 0) (o : Option A) (x : A) → o ≡ Some x → Q x → MatchOption o P Q
 at_some {A} P Q o x e q = subst (λ (c : Option A). MatchOption c P Q) (sym e) q
 
 -- a begin of the seats is one of the machine

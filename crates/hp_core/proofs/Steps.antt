@@ -40,7 +40,7 @@ fit_built p t (call.Truncate phase) fit = fit
 fit_built p t (call.Unmap phase) fit = fit
 fit_built p t (call.Exit phase) fit = fit
 
-if_some : {A : Type 0} (P : A → Type 0) (o : Option A) (x : A) → o ≡ Some x → IfSome o P → P x
+pub if_some : {A : Type 0} (P : A → Type 0) (o : Option A) (x : A) → o ≡ Some x → IfSome o P → P x
 if_some {A} P o x e h = subst (λ (c : Option A). IfSome c P) e h
 
 step_is : (p after : PartsState) (seats new : List Seat) (t : ℕ) (grant : Bool) (told : Outcome) → EventFits p seats (Step t grant) → StepSeats p seats t grant told after new → rows.StepRow (state_with p seats) t grant told (state_with after new)

@@ -1,3 +1,4 @@
+pub mod Blockers
 pub mod Fits
 pub mod Opening
 pub mod Readers
@@ -5,3 +6,4 @@ pub mod Runs
 pub mod Seats
 pub mod Sound
 pub mod State
+pub mod Waiting

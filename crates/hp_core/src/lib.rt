@@ -12,6 +12,7 @@ mod opening;
 pub mod readers;
 pub mod run;
 pub mod seat;
+mod waiting;
 pub mod words;
 
 pub use core_state::Core;
@@ -20,3 +21,6 @@ pub use hp_machine::{Life, Outcome, Phase, Refusal};
 pub use readers::Tally;
 pub use run::RunFault;
 pub use seat::Seat;
+
+#[cfg(test)]
+mod tests;

@@ -55,8 +55,8 @@ pub fn step_map(
     }
 }
 
-// Whether the range is empty, or ends above the limit of a file.
-fn is_bad_range(from: Index, len: u32) -> bool
+/// Whether the range is empty, or ends above the limit of a file.
+pub fn is_bad_range(from: Index, len: u32) -> bool
     ensures { result ≡ ((len == 0) || nat_lt LIMIT (from + len)) }
 {
     len == 0 || u64::from(from.number()) + u64::from(len) > u64::from(LIMIT)

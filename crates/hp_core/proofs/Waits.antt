@@ -1,0 +1,185 @@
+-- Who is blocked, and by whom: the reader against the rows of the machine.
+use Rattle.std.proofs.Common.{◌≡◌, ℕ, ◌+◌, ◌≤◌, refl, sym, ◌∙◌, ap, subst, arith, inl, inr, true≢false}
+use Rattle.std.specs.Prelude.{Bool, true, false, ◌||◌, ◌==◌, Option, Some, None, MatchBool, MatchOption, length, nat_le, nat_lt, if◌then◌else◌, slice_index_or}
+use Rattle.hp_base.specs.declared.event.Event.TheVariants.{Step}
+use Rattle.hp_base.specs.declared.limits.TheConstants.{LIMIT}
+use Rattle.hp_base.specs.Numbers.{put}
+use Rattle.hp_base.proofs.Puts.{put_self}
+use Rattle.hp_base.specs.declared.answer.Answer.{Answer}
+use Rattle.hp_base.specs.declared.answer.Answer.TheVariants as answer
+use Rattle.hp_machine.specs.declared.outcome.Life.{Life}
+use Rattle.hp_machine.specs.State.{Pool, State, is_dead, is_killed}
+use Rattle.hp_machine.specs.Events as rows
+use Rattle.hp_machine.specs.MapRows.{MapRow}
+use Rattle.hp_machine.specs.declared.call.Call.{Call}
+use Rattle.hp_machine.specs.declared.call.Call.TheVariants as call
+use Rattle.hp_machine.specs.declared.call.Turn.{Turn}
+use Rattle.hp_machine.specs.declared.call.Turn.TheVariants.{Moved, Blocked, Ended}
+use Rattle.hp_machine.specs.declared.map.Start.{Start}
+use Rattle.hp_machine.specs.declared.map.MapPhase.{MapPhase}
+use Rattle.hp_machine.specs.declared.map.MapPhase.TheVariants as at
+use Rattle.hp_machine.specs.declared.outcome.Outcome.{Outcome}
+use Rattle.hp_machine.specs.declared.outcome.Outcome.TheVariants as outcome
+use Rattle.hp_fault.specs.State.{PartsState, IsSized}
+use Rattle.hp_fault.specs.View.{pool_of, holders_of}
+use Rattle.hp_core.specs.declared.seat.Seat.{Seat}
+use Rattle.hp_core.specs.State.{CoreState, seat_at, calls_of, lives_of, as_state}
+use Rattle.hp_core.specs.Sound.{IsSound, IsBuiltCall}
+use Rattle.hp_core.specs.Runs.{Row}
+use Rattle.hp_core.specs.Waiting.{WaitsFor}
+use Rattle.hp_core.specs.Blockers.{map_blocker, call_blocker, seat_call_blocker, task_blocker}
+use Rattle.hp_core.proofs.Seats.{by_test, by_option, at_false, at_some}
+use Rattle.hp_core.proofs.Steps.{if_some}
+
+-- the holder that a turn was blocked by
+abbrev pub held_up : {P : Type 0} → Turn P → Option ℕ
+held_up (Moved p) = None
+held_up (Blocked p holder) = Some holder
+held_up (Ended a) = None
+
+abbrev pub told_of : Outcome → Option ℕ
+told_of (outcome.Blocked holder) = Some holder
+told_of other = None
+
+-- the tests at the start of a call on a file, and who holds it up
+start_held : {P : Type 0} (x y z : Bool) (o : Option ℕ) (turn : Turn P) (s new : Pool) (a b c : Answer) (next here : P) (taken : Pool)
+    → MatchBool x ((turn ≡ Ended a) × (new ≡ s)) (MatchBool y ((turn ≡ Ended b) × (new ≡ s)) (MatchBool z ((turn ≡ Ended c) × (new ≡ s)) (MatchOption o ((turn ≡ Moved next) × (new ≡ taken)) (λ h. (turn ≡ Blocked here h) × (new ≡ s)))))
+    → held_up turn ≡ (if x || y || z then None else o)
+start_held true y z o turn s new a b c next here taken r = ap held_up r.0
+start_held false true z o turn s new a b c next here taken r = ap held_up r.0
+start_held false false true o turn s new a b c next here taken r = ap held_up r.0
+start_held false false false None turn s new a b c next here taken r = ap held_up r.0
+start_held false false false (Some h) turn s new a b c next here taken r = ap held_up r.0
+
+same_holder : (k h : ℕ) → ◌≡◌ {A = Option ℕ} (Some k) (Some h) → k ≡ h
+same_holder k h e = ap (λ (o : Option ℕ). elim o [ None ↦ k | Some x ↦ x ]) e
+
+nobody : {A : Type 0} (h : ℕ) → ◌≡◌ {A = Option ℕ} None (Some h) → A
+nobody {A} h e = absurd (true≢false (ap (λ (o : Option ℕ). elim o [ None ↦ true | Some x ↦ false ]) e))
+
+start_blocks : {P : Type 0} (x y z : Bool) (o : Option ℕ) (h : ℕ) (s : Pool) (a b c : Answer) (next here : P) (taken : Pool) → (if x || y || z then None else o) ≡ Some h
+    → MatchBool x ((Blocked here h ≡ Ended a) × (s ≡ s)) (MatchBool y ((Blocked here h ≡ Ended b) × (s ≡ s)) (MatchBool z ((Blocked here h ≡ Ended c) × (s ≡ s)) (MatchOption o ((Blocked here h ≡ Moved next) × (s ≡ taken)) (λ k. (Blocked here h ≡ Blocked here k) × (s ≡ s)))))
+start_blocks true y z o h s a b c next here taken e = nobody h e
+start_blocks false true z o h s a b c next here taken e = nobody h e
+start_blocks false false true o h s a b c next here taken e = nobody h e
+start_blocks false false false None h s a b c next here taken e = nobody h e
+start_blocks false false false (Some k) h s a b c next here taken e = (ap (λ (u : ℕ). Blocked here u) (sym (same_holder k h e)), refl)
+
+-- whichever way it goes, the call moves on
+moves : {P : Type 0} (b : Bool) (turn : Turn P) (first second new : Pool) (x y : P) → MatchBool b ((turn ≡ Moved x) × (new ≡ first)) ((turn ≡ Moved y) × (new ≡ second)) → held_up turn ≡ None
+moves true turn first second new x y r = ap held_up r.0
+moves false turn first second new x y r = ap held_up r.0
+
+moves_on : {P : Type 0} (a b : Bool) (turn : Turn P) (first second third new : Pool) (x y z : P) → MatchBool a ((turn ≡ Moved x) × (new ≡ first)) (MatchBool b ((turn ≡ Moved y) × (new ≡ second)) ((turn ≡ Moved z) × (new ≡ third))) → held_up turn ≡ None
+moves_on true b turn first second third new x y z r = ap held_up r.0
+moves_on false b turn first second third new x y z r = moves b turn second third new y z r
+
+moves_in : {P : Type 0} (a b : Bool) (turn : Turn P) (first second third new : Pool) (x y z : P) → MatchBool a (MatchBool b ((turn ≡ Moved y) × (new ≡ second)) ((turn ≡ Moved z) × (new ≡ third))) ((turn ≡ Moved x) × (new ≡ first)) → held_up turn ≡ None
+moves_in true b turn first second third new x y z r = moves b turn second third new y z r
+moves_in false b turn first second third new x y z r = ap held_up r.0
+
+-- a turn of a map is held up by whom the reader names
+map_held : (p : PartsState) (t : ℕ) (killed grant : Bool) (phase : MapPhase) (turn : Turn MapPhase) (new : Pool) → MapRow (pool_of p) t killed grant phase turn new → held_up turn ≡ map_blocker p killed phase
+unfolding holders_of
+map_held p t killed grant (at.Start q) turn new row =
+    start_held (nat_le (length p.files) q.map.file) ((q.map.len == 0) || nat_lt LIMIT (q.map.from + q.map.len)) killed (slice_index_or p.locks q.map.file None) turn (pool_of p) new
+    answer.BadFile answer.BadRange answer.Killed (at.Room (record { map = q.map })) (at.Start q) (record (pool_of p) { locks = put (holders_of p.locks) q.map.file (Some t) }) row
+map_held p t killed grant (at.Room q) turn new row = by_option row.0 row.2
+    (λ none r. ap (λ (u : Turn MapPhase). held_up u) r.0)
+    (λ base some m. moves_in grant q.map.reserve turn _ _ _ new _ _ _ m)
+map_held p t killed grant (at.Missing q) turn new row = moves _ turn _ _ new _ _ row
+map_held p t killed grant (at.Changed q) turn new row = moves_on killed _ turn _ _ _ new _ _ _ row
+map_held p t killed grant (at.Abort q) turn new row = ap (λ (u : Turn MapPhase). held_up u) row.0
+map_held p t killed grant (at.Accounted q) turn new row = moves _ turn _ _ new _ _ row
+map_held p t killed grant (at.Settle q) turn new row = ap (λ (u : Turn MapPhase). held_up u) row.1.0
+map_held p t killed grant (at.Enter q) turn new row = ap (λ (u : Turn MapPhase). held_up u) row.0
+map_held p t killed grant (at.Leave q) turn new row = ap (λ (u : Turn MapPhase). held_up u) row.0
+
+-- and where it names someone, the turn that waits for it is a row
+map_blocks : (p : PartsState) (t : ℕ) (killed grant : Bool) (phase : MapPhase) (h : ℕ) → map_blocker p killed phase ≡ Some h → MapRow (pool_of p) t killed grant phase (Blocked phase h) (pool_of p)
+unfolding holders_of
+map_blocks p t killed grant (at.Start q) h e =
+    start_blocks (nat_le (length p.files) q.map.file) ((q.map.len == 0) || nat_lt LIMIT (q.map.from + q.map.len)) killed (slice_index_or p.locks q.map.file None) h (pool_of p)
+    answer.BadFile answer.BadRange answer.Killed (at.Room (record { map = q.map })) (at.Start q) (record (pool_of p) { locks = put (holders_of p.locks) q.map.file (Some t) }) e
+map_blocks p t killed grant (at.Room q) h e = nobody h e
+map_blocks p t killed grant (at.Missing q) h e = nobody h e
+map_blocks p t killed grant (at.Changed q) h e = nobody h e
+map_blocks p t killed grant (at.Abort q) h e = nobody h e
+map_blocks p t killed grant (at.Accounted q) h e = nobody h e
+map_blocks p t killed grant (at.Settle q) h e = nobody h e
+map_blocks p t killed grant (at.Enter q) h e = nobody h e
+map_blocks p t killed grant (at.Leave q) h e = nobody h e
+
+told_held : (turn : Turn MapPhase) → told_of (rows.told call.Map turn) ≡ held_up turn
+told_held (Moved p) = refl
+told_held (Blocked p h) = refl
+told_held (Ended a) = refl
+
+call_held : (p : PartsState) (t : ℕ) (killed grant : Bool) (inflight : Call) (told : Outcome) (new : Pool) (next : Option Call) → IsBuiltCall inflight → rows.CallRow (pool_of p) t killed grant inflight told new next → told_of told ≡ call_blocker p killed inflight
+unfolding rows.CallRow
+call_held p t killed grant (call.Map phase) told new next built row = ap told_of row.2 ∙ (told_held row.0 ∙ map_held p t killed grant phase row.0 new row.1)
+call_held p t killed grant (call.Touch phase) told new next built row = absurd built
+call_held p t killed grant (call.Alloc phase) told new next built row = absurd built
+call_held p t killed grant (call.Punch phase) told new next built row = absurd built
+call_held p t killed grant (call.Truncate phase) told new next built row = absurd built
+call_held p t killed grant (call.Unmap phase) told new next built row = absurd built
+call_held p t killed grant (call.Exit phase) told new next built row = absurd built
+
+call_blocks : (p : PartsState) (t : ℕ) (killed grant : Bool) (inflight : Call) (h : ℕ) → call_blocker p killed inflight ≡ Some h → rows.CallRow (pool_of p) t killed grant inflight (outcome.Blocked h) (pool_of p) (Some inflight)
+unfolding rows.CallRow
+call_blocks p t killed grant (call.Map phase) h e = (Blocked phase h, map_blocks p t killed grant phase h e, refl, refl)
+call_blocks p t killed grant (call.Touch phase) h e = nobody h e
+call_blocks p t killed grant (call.Alloc phase) h e = nobody h e
+call_blocks p t killed grant (call.Punch phase) h e = nobody h e
+call_blocks p t killed grant (call.Truncate phase) h e = nobody h e
+call_blocks p t killed grant (call.Unmap phase) h e = nobody h e
+call_blocks p t killed grant (call.Exit phase) h e = nobody h e
+
+-- a step is held up by whom the reader names
+step_held : (s : CoreState) (t : ℕ) (grant : Bool) (told : Outcome) (new : State) → IsSound s → rows.StepRow (as_state s) t grant told new → told_of told ≡ task_blocker s.parts (seat_at s.seats t)
+unfolding IsSound rows.StepRow lives_of calls_of
+step_held s t grant told new h row =
+    by_test (is_dead (seat_at s.seats t).life) row
+    (λ dead r. ap told_of r.0 ∙ rw dead refl)
+    (λ alive rest. by_option (seat_at s.seats t).call rest
+      (λ none r. ap told_of r.0 ∙ rw (alive, none) refl)
+      (λ inflight some r. call_held s.parts t _ grant inflight told r.0 r.1 (if_some IsBuiltCall (seat_at s.seats t).call inflight some (h.1.built t)) r.2 ∙ rw (alive, some) refl))
+
+blocker_parts : (p : PartsState) (dead killed : Bool) (o : Option Call) (h : ℕ) → (if dead then None else seat_call_blocker p killed o) ≡ Some h → (dead ≡ false) × ((inflight : Call) × (o ≡ Some inflight) × (call_blocker p killed inflight ≡ Some h))
+blocker_parts p true killed o h e = nobody h e
+blocker_parts p false killed None h e = nobody h e
+blocker_parts p false killed (Some c) h e = (refl, (c, refl, e))
+
+lives_on : (lives : ℕ → Life) (t : ℕ) (inflight next : Call) → rows.lives_after lives t inflight (Some next) ≡ lives
+lives_on lives t (call.Map phase) next = refl
+lives_on lives t (call.Touch phase) next = refl
+lives_on lives t (call.Alloc phase) next = refl
+lives_on lives t (call.Punch phase) next = refl
+lives_on lives t (call.Truncate phase) next = refl
+lives_on lives t (call.Unmap phase) next = refl
+lives_on lives t (call.Exit phase) next = refl
+
+same_calls : (calls : ℕ → Option Call) (t : ℕ) (inflight : Call) → calls t ≡ Some inflight → put calls t (Some inflight) ≡ calls
+same_calls calls t inflight e = subst (λ (o : Option Call). put calls t o ≡ calls) e (put_self calls t)
+
+step_blocks : (s : CoreState) (t : ℕ) (grant : Bool) (h : ℕ) → task_blocker s.parts (seat_at s.seats t) ≡ Some h → rows.StepRow (as_state s) t grant (outcome.Blocked h) (as_state s)
+unfolding rows.StepRow lives_of calls_of
+step_blocks s t grant h e =
+    let b = blocker_parts s.parts (is_dead (seat_at s.seats t).life) (is_killed (seat_at s.seats t).life) (seat_at s.seats t).call h e in
+    let inflight = b.1.0 in
+    let calls = same_calls (calls_of s.seats) t inflight b.1.1 in
+    let lives = lives_on (lives_of s.seats) t inflight inflight in
+    at_false _ _ _ b.0 (at_some _ _ _ inflight b.1.1 (pool_of s.parts, Some inflight, call_blocks s.parts t _ grant inflight h b.1.2, λ i. record (as_state s) { life = sym lives i; calls = sym calls i }))
+
+-- the reader names whom the next step is blocked by
+names : (s : CoreState) (t : ℕ) (o : Option ℕ) → IsSound s → task_blocker s.parts (seat_at s.seats t) ≡ o → WaitsFor s t o
+unfolding WaitsFor Row
+names s t (Some h) sound e = λ grant. (step_blocks s t grant h e, refl)
+names s t None sound e = λ grant holder new row. nobody holder (sym e ∙ sym (step_held s t grant (outcome.Blocked holder) (as_state new) sound row.0))
+
+pub waits : (s : CoreState) (t : ℕ) (o : Option ℕ) → IsSound s → o ≡ task_blocker s.parts (seat_at s.seats t) → WaitsFor s t o
+waits s t o sound e = names s t o sound (sym e)
+
+pub locks_fit : (s : CoreState) → IsSound s → IsSized s.parts
+unfolding IsSound
+locks_fit s h = h.1.locks
