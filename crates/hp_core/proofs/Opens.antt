@@ -60,10 +60,10 @@ vacant_life xs h t = elim (same_or_other t 0) [
   | inl e ↦ rw e refl
   | inr d ↦ (let q : (t == 0) ≡ false = ne_eqb t 0 d in elim (cases_lt (t - 1) (length xs)) [
     | inl l ↦ (let y = All-get_or IsVacant xs (t - 1) no_seat l h in
-      let b : (nat_le 1 t && nat_le t (length xs)) ≡ true = grind (arith, nat_tests, d, l) in
-      rw (q, b) y.life)
+        let b : (nat_le 1 t && nat_le t (length xs)) ≡ true = grind (arith, nat_tests, d, l) in
+        rw (q, b) y.life)
     | inr l ↦ (let b : (nat_le 1 t && nat_le t (length xs)) ≡ false = grind (arith, nat_tests, d, l) in
-      rw (q, b) (ap (λ (s : Seat). s.life) (get_or-eq_default xs no_seat l)))
+        rw (q, b) (ap (λ (s : Seat). s.life) (get_or-eq_default xs no_seat l)))
   ])
 ]
 

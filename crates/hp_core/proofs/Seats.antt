@@ -111,10 +111,10 @@ begin_row p seats new t op told row =
     map_test (is_dead (seat_at seats t).life)
     (λ dead r. (r.0, ap (state_with p) r.1))
     (λ alive rest. map_option (seat_at seats t).call
-      (λ none m. map_test (is_killed (seat_at seats t).life && not (is_exit op))
-        (λ killed r. (r.0, ap (state_with p) r.1))
-        (λ free r. (r.0, ap (state_with p) r.1 ∙ begun p seats t op alive)) m)
-      (λ call some r. (r.0, ap (state_with p) r.1)) rest) row
+    (λ none m. map_test (is_killed (seat_at seats t).life && not (is_exit op))
+    (λ killed r. (r.0, ap (state_with p) r.1))
+    (λ free r. (r.0, ap (state_with p) r.1 ∙ begun p seats t op alive)) m)
+    (λ call some r. (r.0, ap (state_with p) r.1)) rest) row
   where
     begun : (p : PartsState) (seats : List Seat) (t : ℕ) (op : Op) → is_dead (seat_at seats t).life ≡ false
         → state_with p (with_seat seats t (record { life = (seat_at seats t).life; call = Some (first op) })) ≡ record (state_with p seats) { calls = put (calls_of seats) t (Some (first op)) }

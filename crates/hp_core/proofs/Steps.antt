@@ -49,9 +49,9 @@ step_is p after seats new t grant told fits row =
     by_test (is_dead (seat_at seats t).life) row
     (λ dead r. refused p after seats new t grant told r.0.0 r.0.1 r.1 (dead_row p seats t grant dead))
     (λ alive rest. by_option (seat_at seats t).call rest
-      (λ none r. refused p after seats new t grant told r.0.0 r.0.1 r.1 (idle_row p seats t grant alive none))
-      (λ inflight some r. subst (λ (ss : List Seat). rows.StepRow (state_with p seats) t grant told (state_with after ss)) (sym r.3)
-        (step_row p after seats t grant told inflight r.0 alive some (fit_built p t inflight (if_some (λ (c : Call). CallFits p t c) (seat_at seats t).call inflight some fits)) r.1 r.2)))
+    (λ none r. refused p after seats new t grant told r.0.0 r.0.1 r.1 (idle_row p seats t grant alive none))
+    (λ inflight some r. subst (λ (ss : List Seat). rows.StepRow (state_with p seats) t grant told (state_with after ss)) (sym r.3)
+    (step_row p after seats t grant told inflight r.0 alive some (fit_built p t inflight (if_some (λ (c : Call). CallFits p t c) (seat_at seats t).call inflight some fits)) r.1 r.2)))
   where
     refused : (p after : PartsState) (seats new : List Seat) (t : ℕ) (grant : Bool) (told : Outcome) {why : Outcome} → told ≡ why → new ≡ seats → after ≡ p → rows.StepRow (state_with p seats) t grant why (state_with p seats) → rows.StepRow (state_with p seats) t grant told (state_with after new)
     refused p after seats new t grant told e d f h =
@@ -119,10 +119,10 @@ begin_built seats new t o told is all row =
     by_test (is_dead (seat_at seats t).life) row
     (λ dead r. subst AllBuilt (sym r.1) all)
     (λ alive rest. by_option (seat_at seats t).call rest
-      (λ none m. by_test (is_killed (seat_at seats t).life && not (rows.is_exit o)) m
-        (λ killed r. subst AllBuilt (sym r.1) all)
-        (λ free r. let l = seated seats t alive in subst AllBuilt (sym r.1) (built_set seats t _ l.0 l.1 (first_built o is) all)))
-      (λ inflight some r. subst AllBuilt (sym r.1) all))
+    (λ none m. by_test (is_killed (seat_at seats t).life && not (rows.is_exit o)) m
+    (λ killed r. subst AllBuilt (sym r.1) all)
+    (λ free r. let l = seated seats t alive in subst AllBuilt (sym r.1) (built_set seats t _ l.0 l.1 (first_built o is) all)))
+    (λ inflight some r. subst AllBuilt (sym r.1) all))
 
 alive_lives : (l : Life) → is_alive l ≡ true → is_dead l ≡ false
 alive_lives life.Alive e = refl
@@ -144,11 +144,11 @@ step_built p after seats new t grant told all row =
     by_test (is_dead (seat_at seats t).life) row
     (λ dead r. subst AllBuilt (sym r.0.1) all)
     (λ alive rest. by_option (seat_at seats t).call rest
-      (λ none r. subst AllBuilt (sym r.0.1) all)
-      (λ inflight some r.
-        let l = seated seats t alive in
-        let own = if_some IsBuiltCall (seat_at seats t).call inflight some (all_at seats all t) in
-        subst AllBuilt (sym r.3) (built_set seats t r.0 l.0 l.1 (row_built _ _ t _ grant inflight told r.0.call own r.1) all)))
+    (λ none r. subst AllBuilt (sym r.0.1) all)
+    (λ inflight some r.
+    let l = seated seats t alive in
+    let own = if_some IsBuiltCall (seat_at seats t).call inflight some (all_at seats all t) in
+    subst AllBuilt (sym r.3) (built_set seats t r.0 l.0 l.1 (row_built _ _ t _ grant inflight told r.0.call own r.1) all)))
 
 event_built : (p after : PartsState) (seats new : List Seat) (e : Event) (told : Outcome) → IsBuilt e → AllBuilt seats → EventSeats p seats e told after new → AllBuilt new
 unfolding EventSeats
@@ -168,18 +168,19 @@ unfolding IsSound
 sound_after s e told after new is h fits done =
     let z = done.1 in
     let kept = h.1 in
-    let same : geometry_of after ≡ geometry_of s.parts = λ i. record (geometry_of s.parts) { files = z.files i; slots = z.slots i; tasks = z.spaces i } in
-    (reached_after (as_state s) (state_with after new) e told h.0 (event_row s.parts after s.seats new e told fits done.0) same z.frames,
-    record {
-      locks = z.locks ∙ (kept.locks ∙ sym z.files);
-      frames = z.frames ∙ kept.frames;
-      files = z.files ∙ kept.files;
-      slots = z.slots ∙ kept.slots;
-      spaces = z.spaces ∙ kept.spaces;
-      seats = done.2 ∙ kept.seats;
-      limits = kept.limits;
-      built = event_built s.parts after s.seats new e told is kept.built done.0;
-    })
+    let same : geometry_of after ≡ geometry_of s.parts = λ i. record (geometry_of s.parts) { files = z.files i; slots = z.slots i; tasks = z.spaces i } in (
+      reached_after (as_state s) (state_with after new) e told h.0 (event_row s.parts after s.seats new e told fits done.0) same z.frames,
+      record {
+        locks = z.locks ∙ (kept.locks ∙ sym z.files);
+        frames = z.frames ∙ kept.frames;
+        files = z.files ∙ kept.files;
+        slots = z.slots ∙ kept.slots;
+        spaces = z.spaces ∙ kept.spaces;
+        seats = done.2 ∙ kept.seats;
+        limits = kept.limits;
+        built = event_built s.parts after s.seats new e told is kept.built done.0;
+      },
+    )
 
 -- a core stays sound, whether or not it found memory
 pub sound_result : (s : CoreState) (e : Event) (result : Result Outcome AllocError) (after : PartsState) (new : List Seat) → IsBuilt e → IsSound s → EventFits s.parts s.seats e

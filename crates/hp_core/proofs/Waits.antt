@@ -142,8 +142,8 @@ step_held s t grant told new h row =
     by_test (is_dead (seat_at s.seats t).life) row
     (λ dead r. ap told_of r.0 ∙ rw dead refl)
     (λ alive rest. by_option (seat_at s.seats t).call rest
-      (λ none r. ap told_of r.0 ∙ rw (alive, none) refl)
-      (λ inflight some r. call_held s.parts t _ grant inflight told r.0 r.1 (if_some IsBuiltCall (seat_at s.seats t).call inflight some (h.1.built t)) r.2 ∙ rw (alive, some) refl))
+    (λ none r. ap told_of r.0 ∙ rw (alive, none) refl)
+    (λ inflight some r. call_held s.parts t _ grant inflight told r.0 r.1 (if_some IsBuiltCall (seat_at s.seats t).call inflight some (h.1.built t)) r.2 ∙ rw (alive, some) refl))
 
 blocker_parts : (p : PartsState) (dead killed : Bool) (o : Option Call) (h : ℕ) → (if dead then None else seat_call_blocker p killed o) ≡ Some h → (dead ≡ false) × ((inflight : Call) × (o ≡ Some inflight) × (call_blocker p killed inflight ≡ Some h))
 blocker_parts p true killed o h e = nobody h e

@@ -47,6 +47,7 @@ impl Core {
     /// A pool of these sizes that nothing has happened to.
     pub fn new(alloc: Global, config: Config) -> Result<Self, AllocError>
         ensures opening { IfOk result (λ core. IsOpening config core) }
+        ensures config { IfOk result (λ core. config_of core ≡ sizes config) }
     {
         let parts = Parts {
             bank: Bank::new(alloc, config.frames)?,
@@ -71,6 +72,7 @@ impl Core {
         ensures err { OnErr result (self.new ≡ self.old) }
         ensures growth { OnErr result (WantsGrowth self.old.parts self.old.seats event) }
         ensures headline { Headline self.new }
+        ensures config { config_of self.new ≡ config_of self.old }
     {
         step_event(&mut self.parts, &mut self.seats, event)
     }

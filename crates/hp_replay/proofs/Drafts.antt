@@ -151,9 +151,10 @@ piece_failed from mid to h h' lines piece fault d read (inr is) = subst (λ (f :
 piece_failed from mid to h h' lines piece fault d read (inl (failed, held)) =
     let whole : h' ≡ held_after opening_held (d.bytes ++ piece) = held ∙ ap (λ (x : Held). held_after x piece) d.held ∙ sym (held_after-append opening_held d.bytes piece) in
     let stopped : (held_after opening_held (d.bytes ++ piece)).fault ≡ Some fault = ap (λ (x : Held). x.fault) (sym whole) ∙ failed in
-    let s = stops opening_held (d.bytes ++ piece) fault refl opening_is stopped in
-    (subst IsReadFault (sym s.fault_is) (line_fault (held_after opening_held s.front).lines),
-    known_fault from to (d.bytes ++ piece) fault (Consumes-trans from mid to d.bytes piece d.reads read) (for_some to _ (λ left. fault_of (d.bytes ++ piece) fault left stopped)))
+    let s = stops opening_held (d.bytes ++ piece) fault refl opening_is stopped in (
+      subst IsReadFault (sym s.fault_is) (line_fault (held_after opening_held s.front).lines),
+      known_fault from to (d.bytes ++ piece) fault (Consumes-trans from mid to d.bytes piece d.reads read) (for_some to _ (λ left. fault_of (d.bytes ++ piece) fault left stopped)),
+    )
 
 pub end_failed : (from mid to : Option (List ℕ)) (h : Held) (lines : List Line) (fault : ReplayFault) → Drafting from mid h lines → Consumes mid to [] → IsAtEnd to → end_of h ≡ Err fault → Answers from fault
 end_failed from mid to h lines fault d read all ended = by (end_cases h (Err fault) d.no_fault ended)
@@ -170,9 +171,10 @@ end_failed from mid to h lines fault d read all ended = by (end_cases h (Err fau
 
     by : ((with_error fault ≡ Ok tt) × (h.rest ≡ []) × (0 < h.lines)) ⊎ ((with_error fault ≡ Err (fault_at h.lines)) × (0 < h.lines → 0 < length h.rest)) → Answers from fault
     by (inl (is, none, some)) = absurd (err_ok fault is)
-    by (inr (is, some)) =
-        (subst IsReadFault (err_is fault (fault_at h.lines) is) (line_fault h.lines),
-        known_fault from to (d.bytes ++ []) fault (Consumes-trans from mid to d.bytes [] d.reads read) (at_end to all (end_fault d.bytes fault (ap end_of (sym d.held) ∙ ended))))
+    by (inr (is, some)) = (
+      subst IsReadFault (err_is fault (fault_at h.lines) is) (line_fault h.lines),
+      known_fault from to (d.bytes ++ []) fault (Consumes-trans from mid to d.bytes [] d.reads read) (at_end to all (end_fault d.bytes fault (ap end_of (sym d.held) ∙ ended))),
+    )
 
 -- the trace is that of the bytes
 pub some_lines : (from to : Option (List ℕ)) (h : Held) (lines : List Line) → Drafting from to h lines → end_of h ≡ Ok tt → 0 < length lines

@@ -183,16 +183,22 @@ line_moves held h next core mid new o o' o'' piece rest left line r t ran =
 pub line_stops : (held h next after : Held) (core mid new : Option CoreState) (o o' o'' : Option (List ℕ)) (piece rest left : List ℕ) (line : Option Line) (fault : ReplayFault) → Running held h core mid o o' piece rest → TookLine h next line rest left → LinesStopped fault mid (listed line []) o' o'' → PieceStopped fault held piece after core new o o''
 unfolding held_after lines_after
 line_stops held h next after core mid new o o' o'' piece rest left line fault r t (is, inl none) =
-    inr (is, subst (λ (x : List ℕ). PieceRanPartly held x core o o'') (sym r.parts)
-    (PieceRanPartly-behind held h r.front rest core mid o o' o'' r.ran
-    (record { front = []; back = rest; parts = refl; ok = r.no_fault; ran = none })))
+    inr (
+      is,
+      subst (λ (x : List ℕ). PieceRanPartly held x core o o'') (sym r.parts)
+          (PieceRanPartly-behind held h r.front rest core mid o o' o'' r.ran
+          (record { front = []; back = rest; parts = refl; ok = r.no_fault; ran = none })),
+    )
 line_stops held h next after core mid new o o' o'' piece rest left line fault r t (is, inr part) =
     let first = take_through 10 rest in
     let left' = drop (length first) rest in
     let ran : LinesRanPartly mid (lines_after h first) o' o'' = subst (λ (ls : List Line). LinesRanPartly mid ls o' o'') t.lines part in
-    inr (is, subst (λ (x : List ℕ). PieceRanPartly held x core o o'') (sym r.parts)
-    (PieceRanPartly-behind held h r.front rest core mid o o' o'' r.ran
-    (record { front = first; back = left'; parts = through_parts rest; ok = ap (λ (x : Held). x.fault) (sym t.held) ∙ t.ok; ran = ran })))
+    inr (
+      is,
+      subst (λ (x : List ℕ). PieceRanPartly held x core o o'') (sym r.parts)
+          (PieceRanPartly-behind held h r.front rest core mid o o' o'' r.ran
+          (record { front = first; back = left'; parts = through_parts rest; ok = ap (λ (x : Held). x.fault) (sym t.held) ∙ t.ok; ran = ran })),
+    )
 
 -- a fault: no line comes of the rest of the piece
 pub fails : (held h next : Held) (core mid : Option CoreState) (o o' : Option (List ℕ)) (piece rest : List ℕ) (fault : ReplayFault) → Running held h core mid o o' piece rest → next ≡ held_after h (take_through 10 rest) → lines_after h (take_through 10 rest) ≡ [] → next.fault ≡ Some fault → PieceStopped fault held piece next core mid o o'

@@ -6,8 +6,8 @@ ghost use Rattle.hp_replay.specs.Lines.{Held, line_of, line_at, opening_held, fa
 
 use crate::fault::ReplayFault;
 use crate::reading::{event_at, header_at};
-use std::marker::Model;
 use hp_base::{Config, Event};
+use std::marker::Model;
 
 /// A line of a trace.
 #[derive(Clone, Copy, Debug, PartialEq, Eq)]

@@ -12,8 +12,7 @@ pub fn pieces_do_not_show()
     ensures held { (h : Held) (a b : List ℕ) → held_after h (a ++ b) ≡ held_after (held_after h a) b }
     ensures lines { (h : Held) (a b : List ℕ)
         → lines_after h (a ++ b) ≡ lines_after h a ++ lines_after (held_after h a) b }
-{
-}
+{}
 
 /// What a feed holds is what the bytes spell. Its fault names their first bad line, whatever follows.
 pub fn what_is_held_is_spelled()
@@ -24,8 +23,7 @@ pub fn what_is_held_is_spelled()
     ensures end_ok { (bytes : List ℕ) → end_of (held_after opening_held bytes) ≡ Ok tt → SpellsSome bytes }
     ensures end_err { (bytes : List ℕ) (fault : ReplayFault)
         → end_of (held_after opening_held bytes) ≡ Err fault → HasFault bytes fault }
-{
-}
+{}
 
 /// Bytes spell one trace at most, or have one first bad line.
 pub fn bytes_have_one_reading()
@@ -35,5 +33,4 @@ pub fn bytes_have_one_reading()
     ensures header { (bytes : List ℕ) (n : ℕ) → HasFault bytes ReplayFault.BadHeader → HasBadLine n bytes → ⊥ }
     ensures either { (bytes : List ℕ) (fault : ReplayFault) (s : Sizes) (es : List Event)
         → IsLineFault fault → HasFault bytes fault → Spells bytes s es → ⊥ }
-{
-}
+{}

@@ -19,6 +19,6 @@ mod writing;
 
 pub use fault::ReplayFault;
 pub use feed::{TraceFeed, TraceLine};
+pub use laws::{bytes_have_one_reading, pieces_do_not_show, what_is_held_is_spelled};
 pub use replaying::replay;
 pub use trace::{MOST_EVENTS, Trace, read_trace, write_trace};
-pub use laws::{bytes_have_one_reading, pieces_do_not_show, what_is_held_is_spelled};

@@ -116,7 +116,7 @@ fn finish<W: Write>(
     ensures err { IfErr result (λ fault.
         ((end_of feed.now ≡ Err fault) × Keeps (W.contents writer.old) (W.contents writer.new))
         ⊎ (IsWriteFault fault × (end_of feed.now ≡ Ok tt)
-            × IfSome core.now (λ core. Wrote (W.contents writer.old) (W.contents writer.new) (state_text core)))) }
+        × IfSome core.now (λ core. Wrote (W.contents writer.old) (W.contents writer.new) (state_text core)))) }
 {
     feed.end()?;
     match core {

@@ -40,7 +40,10 @@ fn push_task(core: &Core, task: Task, text: &mut String) -> Result<(), AllocErro
     let life = core.life(task);
     let mappings = core.mappings(task);
     let entries = core.entries(task);
-    writeln!(text, "task {task} {life} mappings {mappings} entries {entries}")
+    writeln!(
+        text,
+        "task {task} {life} mappings {mappings} entries {entries}"
+    )
 }
 
 fn push_files(core: &Core, files: u32, text: &mut String) -> Result<(), AllocError>

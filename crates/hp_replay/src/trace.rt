@@ -40,7 +40,11 @@ fn write_event<W: Write>(writer: &mut W, event: Event, line: &mut String) -> Res
 }
 
 /// Writes the one text of the trace. Nothing is tried again after an error.
-pub fn write_trace<W: Write>(alloc: Global, trace: &Trace, writer: &mut W) -> Result<(), ReplayFault>
+pub fn write_trace<W: Write>(
+    alloc: Global,
+    trace: &Trace,
+    writer: &mut W,
+) -> Result<(), ReplayFault>
     requires { length trace.now.events.items ≤ 1000000 }
     ensures ok { OnOk result (Appends (W.contents writer.old) (W.contents writer.new)
         (trace_text (sizes trace.now.config) trace.now.events.items)) }
@@ -79,7 +83,10 @@ impl Draft {
     fn new() -> Self
         ensures { result ≡ [] }
     {
-        Draft { trace: None, _inside: PhantomData }
+        Draft {
+            trace: None,
+            _inside: PhantomData,
+        }
     }
 
     /// Adds a line.

@@ -17,10 +17,13 @@ pub(crate) fn read_words<S: AsStr>(alloc: Global, words: &[S]) -> Result<Request
 }
 
 fn command<'a>(alloc: Global) -> Result<Command<'a>, Error> {
-    let replay = Command::new(alloc, "replay")
-        .about("Reads a trace from standard input, runs it, and writes a line for each outcome and then the state");
-    Ok(Command::new(alloc, "hugepool")
-        .about("A pool of huge pages: Linux's hugetlbfs reservations, step by step")
-        .subcommand_required(true)
-        .subcommand(replay)?)
+    let replay = Command::new(alloc, "replay").about(
+        "Reads a trace from standard input, runs it, and writes a line for each outcome and then the state",
+    );
+    Ok(
+        Command::new(alloc, "hugepool")
+            .about("A pool of huge pages: Linux's hugetlbfs reservations, step by step")
+            .subcommand_required(true)
+            .subcommand(replay)?,
+    )
 }

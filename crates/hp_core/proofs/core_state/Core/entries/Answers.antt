@@ -17,7 +17,7 @@ index-requires c =
     omega (arith, l)
 
 pub returns : goal.returns
-unfolding entries_of 
+unfolding entries_of
 returns c =
     let s : CoreState = record { sizes = sizes c.self.inside.config; parts = state_of c.self.inside.parts; seats = c.self.inside.seats.items } in
     let low : 1 ≤ c.args.task = c.requires.first in

@@ -1,4 +1,6 @@
 use Rattle.hp_base.specs.Text.{sizes}
+use Rattle.std.proofs.Common.{refl}
+use Rattle.hp_core.specs.Readers.{config_of}
 use Rattle.hp_core.proofs.Opens.{are_sound, opens_as}
 use Rattle.hp_core.proofs.core_state.Core.new.Goals as goal
 
@@ -17,8 +19,8 @@ invariant_of-result c = are_sound (sizes c.args.config) _ _
       all_seats = c.in_ok-seats.ensures.fresh;
     }) c.args.config.within_limits
 
-pub returns : goal.returns
-returns c = record { opening = opens_as c.args.config _ _
+pub returns-clause-opening : goal.returns-clause-opening
+returns-clause-opening c = opens_as c.args.config _ _
     (record {
       all_frames = c.in_ok-new.ensures.frames;
       none_reserved = c.in_ok-new.ensures.resv;
@@ -30,4 +32,8 @@ returns c = record { opening = opens_as c.args.config _ _
       all_spaces = c.in_ok-new_spaces.ensures.fresh;
       seats_long = c.in_ok-seats.ensures.count;
       all_seats = c.in_ok-seats.ensures.fresh;
-    }) }
+    })
+
+pub returns-clause-config : goal.returns-clause-config
+unfolding config_of
+returns-clause-config c = refl

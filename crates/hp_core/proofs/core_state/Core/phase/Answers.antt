@@ -36,4 +36,3 @@ returns-in-None c =
     let high : c.args.task ≤ (config_of s).tasks = subst (λ (z : CoreState). c.args.task ≤ (config_of z).tasks) (sym c.self.view_is) c.requires.last in
     let read = seat_read s _ _ _ c.self.invariant c.number.ensures low high c.index.ensures in
     ap (λ (o : Option Call). option_map word_of o) (sym c.in-None.is) ∙ (ap (λ (y : Seat). option_map word_of y.call) read ∙ ap (λ (z : CoreState). phase_of z c.args.task) c.self.view_is)
-

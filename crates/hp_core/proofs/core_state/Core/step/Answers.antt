@@ -1,6 +1,8 @@
+use Rattle.std.proofs.Common.{ap}
 use Rattle.hp_base.specs.Text.{sizes}
 use Rattle.hp_fault.specs.State.{state_of}
 use Rattle.hp_core.specs.State.{CoreState}
+use Rattle.hp_core.specs.Readers.{config_of}
 use Rattle.hp_core.proofs.Headlines.{headline_of}
 use Rattle.hp_core.proofs.Meets.{fits_from_sound}
 use Rattle.hp_core.proofs.Steps.{sound_result, row_result}
@@ -23,3 +25,7 @@ pub returns-clause-headline : goal.returns-clause-headline
 returns-clause-headline c =
     let s : CoreState = record { sizes = sizes c.self.inside.config; parts = state_of c.self.inside.parts; seats = c.self.inside.seats.items } in
     headline_of _ (sound_result s c.args.event c.step_event.result _ _ c.requires.built c.self.invariant (fits_from_sound s c.args.event c.self.invariant) c.step_event.ensures.row c.step_event.ensures.sizes c.step_event.ensures.seats c.step_event.ensures.err)
+
+pub returns-clause-config : goal.returns-clause-config
+unfolding config_of
+returns-clause-config c = ap (λ (z : CoreState). z.sizes) c.self.view_is
