@@ -6,6 +6,7 @@ pub mod Effects
 pub mod Holding
 pub mod Invariant
 pub mod MapKeeps
+pub mod Meets
 pub mod Moves
 pub mod Passing
 pub mod PunchKeeps
