@@ -1,4 +1,5 @@
 pub mod AllocKeeps
+pub mod Apart
 pub mod Claims
 pub mod Cover
 pub mod Cuts
