@@ -12,12 +12,16 @@ pub mod Meets
 pub mod Moves
 pub mod Passing
 pub mod PunchKeeps
+pub mod Reading
 pub mod Removals
 pub mod Runs
 pub mod Shared
 pub mod Standing
 pub mod Staying
+pub mod StepsLeft
 pub mod Tables
 pub mod TouchKeeps
 pub mod TruncateKeeps
+pub mod Turns
 pub mod UnmapKeeps
+pub mod Waiting

@@ -116,7 +116,7 @@ prepares g s t b c h l e same fill own = goes g s (record s { prepared = put s.p
 })
 
 -- a file that nobody cuts grows, or stays
-grown_size : (size : ℕ → ℕ) (f new k : ℕ) → size f ≤ new → size k ≤ put size f new k
+pub grown_size : (size : ℕ → ℕ) (f new k : ℕ) → size f ≤ new → size k ≤ put size f new k
 grown_size size f new k l = elim (put_tells size f new k) [
   | inl q ↦ (let y : size k ≡ size f = ap size q.0 in let z = q.1 in omega arith)
   | inr q ↦ (let z = q.1 in omega arith)

@@ -1,3 +1,4 @@
+pub mod Bounds
 pub mod Enough
 pub mod Protocol
 pub mod Sweep
