@@ -7,6 +7,7 @@ pub mod Effects
 pub mod Holding
 pub mod Invariant
 pub mod Leads
+pub mod Losing
 pub mod MapKeeps
 pub mod Meets
 pub mod Moves

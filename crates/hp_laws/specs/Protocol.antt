@@ -8,6 +8,8 @@ use Rattle.hp_machine.specs.State.{State}
 use Rattle.hp_machine.specs.Events.{word_of}
 use Rattle.hp_machine.specs.Views.{hand, opens, slot_held}
 use Rattle.hp_machine.specs.declared.phase.Phase.TheVariants as word
+use Rattle.hp_machine.specs.declared.truncate.Truncation.{Truncation}
+use Rattle.hp_machine.specs.declared.truncate.TruncatePhase.{TruncatePhase}
 use Rattle.hp_machine.specs.declared.touch.TouchPhase.TheVariants as touch
 use Rattle.hp_machine.specs.declared.alloc.AllocPhase.TheVariants as alloc
 use Rattle.hp_machine.specs.declared.punch.PunchPhase.TheVariants as punch
@@ -101,6 +103,20 @@ works_at other = None
 abbrev pub PassedIsBare : State → Type 0
 PassedIsBare s = (t f j : ℕ) → (passed (s.calls t) f j ≡ true) ⊎ ((is_bare (s.calls t) ≡ true) × (slot_held (s.calls t) ≡ Some (f, j)))
     → (s.pages f j ≡ None) × ((u : ℕ) → u ≢ t → works_at (s.calls u) ≡ Some (f, j) → ⊥)
+
+-- what a truncation was asked for
+abbrev pub truncation_of : TruncatePhase → Truncation
+truncation_of (truncate.Start p) = p.truncation
+truncation_of (truncate.Size p) = p.truncation
+truncation_of (truncate.Want p) = p.truncation
+truncation_of (truncate.Locked p) = p.truncation
+truncation_of (truncate.Unmap p) = p.truncation
+truncation_of (truncate.Evict p) = p.truncation
+truncation_of (truncate.Free p) = p.truncation
+truncation_of (truncate.Unslot p) = p.truncation
+truncation_of (truncate.Tail p) = p.truncation
+truncation_of (truncate.Settle p) = p.truncation
+truncation_of (truncate.Leave p) = p.truncation
 
 -- nothing of the file at or above the size is translated, cached or reserved
 abbrev pub IsCut : State → (file new : ℕ) → Type 0

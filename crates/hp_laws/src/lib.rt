@@ -5,14 +5,24 @@
 //! the crates above prove that their steps are the machine's rows, and have these theorems then.
 #![tactic(auto)]
 
-ghost use Rattle.std.specs.Prelude.{◌≡◌, ◌≤◌, ℕ};
+ghost use Rattle.std.specs.Prelude.{◌≡◌, ◌≢◌, ◌≤◌, ℕ, Bool, true, false, Some, List, length};
+ghost use Rattle.hp_base.specs.declared.answer.Answer.TheVariants.{Done};
+ghost use Rattle.hp_base.specs.declared.event.Op.{Op};
 ghost use Rattle.hp_base.specs.declared.event.Event.{Event};
-ghost use Rattle.hp_machine.specs.State.{State};
-ghost use Rattle.hp_machine.specs.Events.{IsReached, Row};
+ghost use Rattle.hp_base.specs.declared.event.Event.TheVariants.{Begin, Step};
+ghost use Rattle.hp_machine.specs.State.{State, is_dead};
+ghost use Rattle.hp_machine.specs.Events.{IsReached, Row, Run, word_of};
 ghost use Rattle.hp_machine.specs.Headline.{Headline};
+ghost use Rattle.hp_machine.specs.Views.{slot_held, locked_file};
+ghost use Rattle.hp_machine.specs.declared.call.Call.{Call};
+ghost use Rattle.hp_machine.specs.declared.call.Call.TheVariants.{Truncate};
 ghost use Rattle.hp_machine.specs.declared.outcome.Outcome.{Outcome};
+ghost use Rattle.hp_machine.specs.declared.outcome.Outcome.TheVariants.{Begun, Moved, Blocked, Ended};
+ghost use Rattle.hp_machine.specs.declared.phase.Phase.{Phase};
+ghost use Rattle.hp_machine.specs.declared.truncate.TruncatePhase.{TruncatePhase};
+ghost use Rattle.hp_laws.specs.Bounds.{most_steps, own_steps, calls_begun, TopIs, HoldsUp, IsUnblocked};
 ghost use Rattle.hp_laws.specs.Enough.{CanSettle};
-ghost use Rattle.hp_laws.specs.Protocol.{ChangesAreCalls, SparesSuffice, PagesAreReserved, HandsApart, BareWhereMade, PassedIsBare};
+ghost use Rattle.hp_laws.specs.Protocol.{ChangesAreCalls, SparesSuffice, PagesAreReserved, HandsApart, BareWhereMade, GoesUnderLock, PassedIsBare, truncation_of, IsCut};
 
 /// After every list of events by any number of tasks, with kills and refused memory anywhere:
 /// translations of one file index name one frame, no frame is free and in use or in two places, no
@@ -70,5 +80,61 @@ pub fn passed_indices_stay_bare()
 /// Each event has an outcome, and leads to a state.
 pub fn no_dead_ends()
     ensures { (s : State) (event : Event) → IsReached s → (outcome : Outcome) × (after : State) × Row s event outcome after }
+{
+}
+
+/// A reserved index goes only at a delete or a tail, under the file lock, and never one on which
+/// another call counts.
+pub fn reservations_go_under_the_lock()
+    ensures { (s : State) (event : Event) (outcome : Outcome) (after : State) (f i : ℕ) → IsReached s → Row s event outcome after → s.reserved f i ≡ true → after.reserved f i ≡ false → GoesUnderLock s event f i }
+{
+}
+
+/// An outcome that moved a call tells the word of the phase at which the call stands then.
+pub fn a_move_tells_its_phase()
+    ensures { (s : State) (t : ℕ) (grant : Bool) (phase : Phase) (after : State) → IsReached s → Row s (Step t grant) (Moved phase) after → (c : Call) × (after.calls t ≡ Some c) × (word_of c ≡ phase) }
+{
+}
+
+/// Of one call, from its begin on, the steps that moved or ended it are at most so many.
+pub fn own_steps_are_few()
+    ensures { (s after last : State) (t top : ℕ) (op : Op) (events : List (Event × Outcome)) (run : Run after events last)
+        → IsReached s → Row s (Begin t op) Begun after → calls_begun t events ≡ 0 → TopIs t top after events last run
+        → own_steps t events ≤ most_steps s.geometry op (length (s.areas t)) top }
+{
+}
+
+/// A step is blocked only by another task, whose call in flight holds the slot or the file lock
+/// that the step would take, and it changes nothing.
+pub fn a_blocked_step_waits_for_a_holder()
+    ensures { (s : State) (t : ℕ) (grant : Bool) (u : ℕ) (after : State) → IsReached s → Row s (Step t grant) (Blocked u) after → (after ≡ s) × (u ≢ t) × HoldsUp s u t }
+{
+}
+
+/// A call that holds a slot is never blocked.
+pub fn a_slot_holder_is_never_blocked()
+    ensures { (s : State) (t : ℕ) (place : ℕ × ℕ) → IsReached s → slot_held (s.calls t) ≡ Some place → IsUnblocked s t }
+{
+}
+
+/// A call that holds a file lock is blocked only by a call that holds a slot.
+pub fn a_lock_holder_waits_for_slots_alone()
+    ensures { (s : State) (t f : ℕ) (grant : Bool) (u : ℕ) (after : State)
+        → IsReached s → locked_file (s.calls t) ≡ Some f → Row s (Step t grant) (Blocked u) after → (place : ℕ × ℕ) × (slot_held (s.calls u) ≡ Some place) }
+{
+}
+
+/// Where a call is in flight, the next step of some call in flight isn't blocked, and its task
+/// isn't dead.
+pub fn some_call_is_not_blocked()
+    ensures { (s : State) (t : ℕ) (c : Call) → IsReached s → s.calls t ≡ Some c → (u : ℕ) × (d : Call) × (s.calls u ≡ Some d) × (is_dead (s.life u) ≡ false) × IsUnblocked s u }
+{
+}
+
+/// Where a truncation ends with Done, nothing of its file at or above the new size is translated,
+/// cached or reserved.
+pub fn a_truncation_leaves_nothing_above()
+    ensures { (s : State) (t : ℕ) (grant : Bool) (phase : TruncatePhase) (after : State)
+        → IsReached s → s.calls t ≡ Some (Truncate phase) → Row s (Step t grant) (Ended Done) after → IsCut after (truncation_of phase).file (truncation_of phase).new }
 {
 }
