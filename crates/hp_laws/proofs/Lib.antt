@@ -12,6 +12,7 @@ pub mod MapKeeps
 pub mod Meets
 pub mod Moves
 pub mod Passing
+pub mod Promising
 pub mod PunchKeeps
 pub mod Reading
 pub mod Removals

@@ -1,4 +1,5 @@
 pub mod Bounds
 pub mod Enough
+pub mod Promises
 pub mod Protocol
 pub mod Sweep
