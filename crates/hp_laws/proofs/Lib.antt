@@ -6,6 +6,7 @@ pub mod Cuts
 pub mod Effects
 pub mod Holding
 pub mod Invariant
+pub mod Keeping
 pub mod Leads
 pub mod Losing
 pub mod MapKeeps

@@ -49,7 +49,7 @@ never e = absurd (cc)
 clash : {P : Type 0} (b : Bool) → b ≡ true → b ≡ false → P
 clash b e d = (let z : true ≡ false = sym e ∙ d in absurd (cc))
 
-abbrev hole_of : PunchPhase → Hole
+abbrev pub hole_of : PunchPhase → Hole
 hole_of (punch.Start p) = p.hole
 hole_of (punch.Want p) = p.hole
 hole_of (punch.Locked p) = p.hole
@@ -60,11 +60,11 @@ hole_of (punch.Free p) = p.hole
 hole_of (punch.Unslot p) = p.hole
 hole_of (punch.Leave p) = p.hole
 
-abbrev past_punch : PunchPhase → Bool
+abbrev pub past_punch : PunchPhase → Bool
 past_punch (punch.Start p) = false
 past_punch other = true
 
-abbrev past_truncate : TruncatePhase → Bool
+abbrev pub past_truncate : TruncatePhase → Bool
 past_truncate (truncate.Start p) = false
 past_truncate other = true
 
@@ -113,13 +113,13 @@ cut_locked (truncate.Settle p) e = refl
 cut_locked (truncate.Leave p) e = refl
 
 -- who removes an index holds the file's lock
-removes_locked : (c : Option Call) (k j : ℕ) → removes c k j ≡ true → locked_file c ≡ Some k
+pub removes_locked : (c : Option Call) (k j : ℕ) → removes c k j ≡ true → locked_file c ≡ Some k
 removes_locked (Some (call.Punch phase)) k j e = let o = and_both (past_punch phase) _ e in hole_locked phase o.0 ∙ file_of (hole_of phase).file k _ o.1
 removes_locked (Some (call.Truncate phase)) k j e = let o = and_both (past_truncate phase) _ e in cut_locked phase o.0 ∙ file_of (truncation_of phase).file k _ o.1
 removes_locked c k j e = never e
 
 -- what the next step takes out is removed
-removes_deleted : (c : Call) (k j : ℕ) → deletes (Some c) k j ≡ true → (s : State) (t : ℕ) → Inv s.geometry s → s.calls t ≡ Some c → removes (Some c) k j ≡ true
+pub removes_deleted : (c : Call) (k j : ℕ) → deletes (Some c) k j ≡ true → (s : State) (t : ℕ) → Inv s.geometry s → s.calls t ≡ Some c → removes (Some c) k j ≡ true
 removes_deleted (call.Punch (punch.Delete p)) k j e s t h d =
     let y = stands_at s t _ h d in
     let o = and_both (p.hole.file == k) _ e in
@@ -174,7 +174,7 @@ and_of : (a b : Bool) → a ≡ true → b ≡ true → (a && b) ≡ true
 and_of a b e d = ap (λ (m : Bool). m && b) e ∙ d
 
 -- a call removes an index after a step only where it did before, or took the promise back just then
-abbrev Removes : Call → Outcome → ℕ → ℕ → Type 0
+abbrev pub Removes : Call → Outcome → ℕ → ℕ → Type 0
 Removes c o k j = (removes (Some c) k j ≡ true) ⊎ ((old : ℕ → ℕ → Bool) → promised_by (Some c) o old k j ≡ false)
 
 punch_removes : (phase q : PunchPhase) (k j : ℕ) → hole_of q ≡ hole_of phase → removes (Some (call.Punch q)) k j ≡ true → Removes (call.Punch phase) (outcome.Moved (word_of (call.Punch q))) k j
@@ -217,7 +217,7 @@ quiet_next call (Blocked p u) k j h = h p
 quiet_next call (Ended a) k j h = refl
 
 -- of the call that a step leaves
-next_removes : (s : State) (t : ℕ) (killed grant : Bool) (c : Call) (o : Outcome) (new : Pool) (next : Option Call) (k j : ℕ) → CallRow (pool_of s) t killed grant c o new next → ((u : ℕ) → o ≡ outcome.Blocked u → ⊥) → removes next k j ≡ true → Removes c o k j
+pub next_removes : (s : State) (t : ℕ) (killed grant : Bool) (c : Call) (o : Outcome) (new : Pool) (next : Option Call) (k j : ℕ) → CallRow (pool_of s) t killed grant c o new next → ((u : ℕ) → o ≡ outcome.Blocked u → ⊥) → removes next k j ≡ true → Removes c o k j
 unfolding CallRow
 next_removes s t killed grant (call.Punch p) o new next k j (turn, row, tells, leaves) free e =
     subst (λ (m : Outcome). Removes (call.Punch p) m k j) (sym tells) (punch_next s t killed grant p turn new k j row (λ u d. free u (tells ∙ d)) (ap (λ (m : Option Call). removes m k j) (sym leaves) ∙ e))
@@ -230,7 +230,7 @@ next_removes s t killed grant (call.Unmap p) o new next k j (turn, row, tells, l
 next_removes s t killed grant (call.Exit p) o new next k j (turn, row, tells, leaves) free e = clash (removes next k j) e (ap (λ (m : Option Call). removes m k j) leaves ∙ quiet_next call.Exit turn k j (λ q. refl))
 
 -- where a call sets a size, what it doesn't remove stays below it
-size_set : (s : State) (t : ℕ) (killed grant : Bool) (c : Call) (o : Outcome) (new : Pool) (next : Option Call) (k j : ℕ) → CallRow (pool_of s) t killed grant c o new next → sizes (Some c) ≡ Some k → removes (Some c) k j ≡ false → j < new.size k
+pub size_set : (s : State) (t : ℕ) (killed grant : Bool) (c : Call) (o : Outcome) (new : Pool) (next : Option Call) (k j : ℕ) → CallRow (pool_of s) t killed grant c o new next → sizes (Some c) ≡ Some k → removes (Some c) k j ≡ false → j < new.size k
 unfolding CallRow
 size_set s t killed grant (call.Truncate (truncate.Size p)) o new next k j (turn, (end, is_end, row), tells, leaves) e quiet =
     by_test (nat_lt p.truncation.new (max (s.size p.truncation.file) end)) row (λ _ r. low r.1) (λ _ r. low r.1)
@@ -247,7 +247,7 @@ size_set s t killed grant (call.Truncate (truncate.Size p)) o new next k j (turn
 size_set s t killed grant c o new next k j row e quiet = (let d : ◌≡◌ {A = Option ℕ} None (Some k) = e in absurd (cc))
 
 -- the call is a map that reserved and ended, and its range has the index
-abbrev Makes : Call → Outcome → ℕ → ℕ → Type 0
+abbrev pub Makes : Call → Outcome → ℕ → ℕ → Type 0
 Makes c o k j = (base : ℕ) × (phase : MapPhase) × (c ≡ call.Map phase) × (o ≡ outcome.Ended (answer.Mapped base)) × ((map_of phase).reserve ≡ true) × ((map_of phase).file ≡ k) × (is_within (map_of phase).from ((map_of phase).from + (map_of phase).len) j ≡ true)
 
 or_cases : (a b : Bool) → (a || b) ≡ true → (a ≡ true) ⊎ (b ≡ true)
@@ -266,7 +266,7 @@ made_more (call.Map phase) base old k j e = elim (or_cases (old k j) _ e) [
 ]
 made_more c base old k j e = inl e
 
-made : (c : Call) (o : Outcome) (old : ℕ → ℕ → Bool) (k j : ℕ) → promised_by (Some c) o old k j ≡ true → (old k j ≡ true) ⊎ Makes c o k j
+pub made : (c : Call) (o : Outcome) (old : ℕ → ℕ → Bool) (k j : ℕ) → promised_by (Some c) o old k j ≡ true → (old k j ≡ true) ⊎ Makes c o k j
 made c (outcome.Ended (answer.Mapped base)) old k j e = made_more c base old k j e
 made c (outcome.Moved p) old k j e = inl (taken_less c old k j e)
 made c o old k j e = inl e
@@ -284,7 +284,7 @@ waits_not : {P Q : Type 0} {q : P} {a : Answer} {u : ℕ} {turn : Turn P} → tu
 waits_not {P} {q = q} {a = a} {u = u} e d = (let z : ◌≡◌ {A = Turn P} (Blocked q u) (Ended a) = sym e ∙ d in absurd (cc))
 
 -- a map tells its mapping where it leaves its lock, and there alone
-mapped_row : (s : State) (t : ℕ) (killed grant : Bool) (phase : MapPhase) (turn : Turn MapPhase) (new : Pool) (base : ℕ) (Q : Type 0) → MapRow (pool_of s) t killed grant phase turn new → turn ≡ Ended (answer.Mapped base)
+pub mapped_row : (s : State) (t : ℕ) (killed grant : Bool) (phase : MapPhase) (turn : Turn MapPhase) (new : Pool) (base : ℕ) (Q : Type 0) → MapRow (pool_of s) t killed grant phase turn new → turn ≡ Ended (answer.Mapped base)
     → ((p : Leave) → phase ≡ map.Leave p → p.answer ≡ answer.Mapped base → new ≡ record (pool_of s) { locks = put s.locks p.map.file None } → Q) → Q
 mapped_row s t killed grant (map.Start p) turn new base Q row d f = by_test (nat_le s.geometry.files p.map.file) row (λ _ r. ends_with _ _ r.0 d (λ z. absurd (cc))) (λ _ r. by_test ((p.map.len == 0) || nat_lt s.geometry.limit (p.map.from + p.map.len)) r (λ _ r. ends_with _ _ r.0 d (λ z. absurd (cc))) (λ _ r. by_test killed r (λ _ r. ends_with _ _ r.0 d (λ z. absurd (cc))) (λ _ r. by_option (s.locks p.map.file) r (λ _ r. not_moved r.0 d) (λ u _ r. waits_not r.0 d))))
 mapped_row s t killed grant (map.Room p) turn new base Q (found, room, row) d f = by_option found row (λ _ r. not_moved r.0 d) (λ b _ r. by_test grant r (λ _ r. by_test p.map.reserve r (λ _ r. not_moved r.0 d) (λ _ r. not_moved r.0 d)) (λ _ r. not_moved r.0 d))
