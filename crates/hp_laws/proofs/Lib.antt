@@ -18,6 +18,7 @@ pub mod PunchKeeps
 pub mod Reading
 pub mod Removals
 pub mod Runs
+pub mod Served
 pub mod Serving
 pub mod Shared
 pub mod Standing

@@ -48,6 +48,20 @@ step_cases s t grant o n P row refused steps =
     (λ _ r. refused _ r.0 r.1)
     (λ c some r. steps c lives some r.0 r.1 r.2 r.3))
 
+-- a Step of a living task's call is one of it
+pub step_of : (s : State) (t : ℕ) (grant : Bool) (c : Call) (o : Outcome) (n : State) → StepRow s t grant o n → is_dead (s.life t) ≡ false → s.calls t ≡ Some c
+    → (pool : Pool) × (next : Option Call) × CallRow (pool_of s) t (is_killed (s.life t)) grant c o pool next × (n ≡ record (with_pool s pool) { life = lives_after s.life t c next; calls = put s.calls t next })
+unfolding StepRow
+step_of s t grant c o n row lives some =
+    by_test (is_dead (s.life t)) row
+    (λ dead r. (let z : true ≡ false = sym dead ∙ lives in absurd (cc)))
+    (λ _ r. by_option (s.calls t) r
+    (λ none r. (let z : ◌≡◌ {A = Option Call} None (Some c) = sym none ∙ some in absurd (cc)))
+    (λ d is r. subst (λ (m : Call). (pool : Pool) × (next : Option Call) × CallRow (pool_of s) t (is_killed (s.life t)) grant m o pool next × (n ≡ record (with_pool s pool) { life = lives_after s.life t m next; calls = put s.calls t next })) (same (sym is ∙ some)) r))
+  where
+    same : {a b : Call} → Some a ≡ Some b → a ≡ b
+    same z = cc
+
 -- a Kill is refused and changes nothing, or the task is killed
 pub kill_cases : (s : State) (t : ℕ) (o : Outcome) (n : State) (P : Type 0) → KillRow s t o n
     → ((why : Refusal) → o ≡ outcome.Refused why → n ≡ s → P)

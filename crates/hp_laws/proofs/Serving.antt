@@ -50,16 +50,16 @@ never : {P : Type 0} → false ≡ true → P
 never e = absurd (cc)
 
 -- a turn where a kill isn't noticed
-abbrev TurnWell : (P : Type 0) → (P → Type 0) → (Answer → Type 0) → Turn P → Type 0
+abbrev pub TurnWell : (P : Type 0) → (P → Type 0) → (Answer → Type 0) → Turn P → Type 0
 TurnWell P on ends (Moved p) = on p
 TurnWell P on ends (Blocked p u) = on p
 TurnWell P on ends (Ended a) = ends a
 
-at_leaf : {P : Type 0} (on : P → Type 0) (ends : Answer → Type 0) (wanted turn : Turn P) → turn ≡ wanted → TurnWell P on ends wanted → TurnWell P on ends turn
+pub at_leaf : {P : Type 0} (on : P → Type 0) (ends : Answer → Type 0) (wanted turn : Turn P) → turn ≡ wanted → TurnWell P on ends wanted → TurnWell P on ends turn
 at_leaf {P} on ends wanted turn e h = subst (TurnWell P on ends) (sym e) h
 
 -- where nothing was missing a frame is taken
-takes : {P : Type 0} (on : P → Type 0) (ends : Answer → Type 0) (s : State) (m : ℕ) (no_frame : P) (taken : ℕ → P) (turn : Turn P) (new : Pool) → m ≡ 0 → TakeRow (pool_of s) m no_frame taken turn new → ((x : ℕ) → s.frame x ≡ state.Free → on (taken x)) → TurnWell P on ends turn
+pub takes : {P : Type 0} (on : P → Type 0) (ends : Answer → Type 0) (s : State) (m : ℕ) (no_frame : P) (taken : ℕ → P) (turn : Turn P) (new : Pool) → m ≡ 0 → TakeRow (pool_of s) m no_frame taken turn new → ((x : ℕ) → s.frame x ≡ state.Free → on (taken x)) → TurnWell P on ends turn
 takes on ends s m no_frame taken turn new none row h =
     by_test (m == 0) row
     (λ _ r. at_leaf on ends (Moved (taken r.0)) turn r.3.0 (h r.0 r.1))
@@ -69,7 +69,7 @@ takes on ends s m no_frame taken turn new none row h =
     not_zero m e d = grind (arith, nat_tests)
 
 -- a touch that stands there never answers that there is no frame
-abbrev Sure : TouchPhase → Type 0
+abbrev pub Sure : TouchPhase → Type 0
 Sure (touch.Look p) = ⊥
 Sure (touch.Want p) = ⊥
 Sure (touch.Locked p) = ⊥
@@ -83,17 +83,17 @@ Sure (touch.Restore p) = p.answer ≢ answer.NoFrame
 Sure (touch.Found p) = Unit {0}
 Sure (touch.Leave p) = p.answer ≢ answer.NoFrame
 
-abbrev Isnt : Answer → Type 0
+abbrev pub Isnt : Answer → Type 0
 Isnt a = a ≢ answer.NoFrame
 
-answers : (a : Access) (w : ℕ) → answer_of a w ≢ answer.NoFrame
+pub answers : (a : Access) (w : ℕ) → answer_of a w ≢ answer.NoFrame
 answers Load w = λ e. cc
 answers (Store n) w = λ e. cc
 
-sure_commit : {P : Type 0} (on : P → Type 0) (ends : Answer → Type 0) (s : State) (f from to m : ℕ) (settle next : P) (turn : Turn P) (new : Pool) → CommitRow (pool_of s) f (record { from = from; to = to; missing = m }) settle next turn new → on settle → on next → TurnWell P on ends turn
+pub sure_commit : {P : Type 0} (on : P → Type 0) (ends : Answer → Type 0) (s : State) (f from to m : ℕ) (settle next : P) (turn : Turn P) (new : Pool) → CommitRow (pool_of s) f (record { from = from; to = to; missing = m }) settle next turn new → on settle → on next → TurnWell P on ends turn
 sure_commit on ends s f from to m settle next turn new row a b = by_test (nat_lt (missing (s.reserved f) from to) m) row (λ _ r. at_leaf on ends _ turn r.0 a) (λ _ r. at_leaf on ends _ turn r.0 b)
 
-sure_turn : (s : State) (t : ℕ) (killed grant : Bool) (phase : TouchPhase) (turn : Turn TouchPhase) (new : Pool) → Sure phase → TouchRow (pool_of s) t killed grant phase turn new → TurnWell TouchPhase Sure Isnt turn
+pub sure_turn : (s : State) (t : ℕ) (killed grant : Bool) (phase : TouchPhase) (turn : Turn TouchPhase) (new : Pool) → Sure phase → TouchRow (pool_of s) t killed grant phase turn new → TurnWell TouchPhase Sure Isnt turn
 sure_turn s t killed grant (touch.Look p) turn new h row = absurd h
 sure_turn s t killed grant (touch.Want p) turn new h row = absurd h
 sure_turn s t killed grant (touch.Locked p) turn new h row = absurd h
@@ -108,16 +108,16 @@ sure_turn s t killed grant (touch.Found p) turn new h row = by_test (nat_le (s.s
 sure_turn s t killed grant (touch.Leave p) turn new h row = at_leaf Sure Isnt _ turn row.0 h
 
 -- nothing of a reserved index is missing
-missing_none : (r : ℕ → Bool) (i : ℕ) → r i ≡ true → missing r i (i + 1) ≡ 0
+pub missing_none : (r : ℕ → Bool) (i : ℕ) → r i ≡ true → missing r i (i + 1) ≡ 0
 missing_none r i e = missing_one r i ∙ ap (λ (b : Bool). bit (not b)) e
 
-sure_missing : (s : State) (t : ℕ) (killed grant : Bool) (p : Missing) (turn : Turn TouchPhase) (new : Pool) → s.reserved p.touch.file p.touch.index ≡ true → TouchRow (pool_of s) t killed grant (touch.Missing p) turn new → TurnWell TouchPhase Sure Isnt turn
+pub sure_missing : (s : State) (t : ℕ) (killed grant : Bool) (p : Missing) (turn : Turn TouchPhase) (new : Pool) → s.reserved p.touch.file p.touch.index ≡ true → TouchRow (pool_of s) t killed grant (touch.Missing p) turn new → TurnWell TouchPhase Sure Isnt turn
 sure_missing s t killed grant p turn new e row = by_test ((s.spare p.touch.file == s.pending p.touch.file) && not grant) row
     (λ _ r. at_leaf Sure Isnt _ turn r.0 (λ e. cc))
     (λ _ r. at_leaf Sure Isnt _ turn r.0 (missing_none (s.reserved p.touch.file) p.touch.index e))
 
 -- the touch goes on as it was seen, over a call that is in flight or over
-abbrev CallWell : (TouchPhase → Type 0) → Option Call → Type 0
+abbrev pub CallWell : (TouchPhase → Type 0) → Option Call → Type 0
 CallWell on None = Unit {0}
 CallWell on (Some (call.Touch phase)) = on phase
 CallWell on (Some other) = ⊥
@@ -136,7 +136,7 @@ end_well on ends (Ended a) b h e = subst ends (same (sym e)) h
     same z = cc
 
 -- a step of a touch, by its rows
-touch_call : (s : State) (t : ℕ) (killed grant : Bool) (on from : TouchPhase → Type 0) (ends : Answer → Type 0) (c : Call) (o : Outcome) (pool : Pool) (next : Option Call)
+pub touch_call : (s : State) (t : ℕ) (killed grant : Bool) (on from : TouchPhase → Type 0) (ends : Answer → Type 0) (c : Call) (o : Outcome) (pool : Pool) (next : Option Call)
     → ((phase : TouchPhase) (turn : Turn TouchPhase) → c ≡ call.Touch phase → from phase → TouchRow (pool_of s) t killed grant phase turn pool → TurnWell TouchPhase on ends turn)
     → CallWell from (Some c) → CallRow (pool_of s) t killed grant c o pool next → CallWell on next × ((b : Answer) → o ≡ outcome.Ended b → ends b)
 unfolding CallRow
