@@ -5,23 +5,35 @@
 //! the crates above prove that their steps are the machine's rows, and have these theorems then.
 #![tactic(auto)]
 
-ghost use Rattle.std.specs.Prelude.{◌≡◌, ◌≢◌, ◌≤◌, ℕ, Bool, true, false, Some, List, length};
-ghost use Rattle.hp_base.specs.declared.answer.Answer.TheVariants.{Done};
+ghost use Rattle.std.specs.Prelude.{◌≡◌, ◌≢◌, ◌≤◌, ◌<◌, ℕ, Bool, true, false, Some, List, length};
+ghost use Rattle.hp_base.specs.Mappings.{find};
+ghost use Rattle.hp_frames.specs.declared.frame.FrameState.TheVariants.{Free};
+ghost use Rattle.hp_base.specs.declared.answer.Answer.{Answer};
+ghost use Rattle.hp_base.specs.declared.answer.Answer.TheVariants.{Done, NoFrame};
 ghost use Rattle.hp_base.specs.declared.event.Op.{Op};
 ghost use Rattle.hp_base.specs.declared.event.Event.{Event};
 ghost use Rattle.hp_base.specs.declared.event.Event.TheVariants.{Begin, Step};
-ghost use Rattle.hp_machine.specs.State.{State, is_dead};
-ghost use Rattle.hp_machine.specs.Events.{IsReached, Row, Run, word_of};
+ghost use Rattle.hp_machine.specs.State.{Geometry, State, is_dead, is_killed};
+ghost use Rattle.hp_machine.specs.Events.{IsReached, Row, Run, first, opening, word_of};
 ghost use Rattle.hp_machine.specs.Headline.{Headline};
 ghost use Rattle.hp_machine.specs.Views.{slot_held, locked_file};
 ghost use Rattle.hp_machine.specs.declared.call.Call.{Call};
-ghost use Rattle.hp_machine.specs.declared.call.Call.TheVariants.{Truncate};
+ghost use Rattle.hp_machine.specs.declared.call.Call.TheVariants as call;
 ghost use Rattle.hp_machine.specs.declared.outcome.Outcome.{Outcome};
 ghost use Rattle.hp_machine.specs.declared.outcome.Outcome.TheVariants.{Begun, Moved, Blocked, Ended};
+ghost use Rattle.hp_machine.specs.declared.outcome.Life.TheVariants.{Alive};
 ghost use Rattle.hp_machine.specs.declared.phase.Phase.{Phase};
+ghost use Rattle.hp_machine.specs.declared.phase.Phase.TheVariants as word;
+ghost use Rattle.hp_machine.specs.declared.alloc.AllocPhase.TheVariants as alloc;
+ghost use Rattle.hp_machine.specs.declared.alloc.Changed as alloc_changed;
+ghost use Rattle.hp_machine.specs.declared.touch.Changed as touch_changed;
+ghost use Rattle.hp_machine.specs.declared.touch.Look.{Look};
+ghost use Rattle.hp_machine.specs.declared.touch.Missing.{Missing};
+ghost use Rattle.hp_machine.specs.declared.touch.TouchPhase.TheVariants as touch;
 ghost use Rattle.hp_machine.specs.declared.truncate.TruncatePhase.{TruncatePhase};
 ghost use Rattle.hp_laws.specs.Bounds.{most_steps, own_steps, calls_begun, TopIs, HoldsUp, IsUnblocked};
 ghost use Rattle.hp_laws.specs.Enough.{CanSettle};
+ghost use Rattle.hp_laws.specs.Promises.{promised, Undisturbed, IsServed};
 ghost use Rattle.hp_laws.specs.Protocol.{ChangesAreCalls, SparesSuffice, PagesAreReserved, HandsApart, BareWhereMade, GoesUnderLock, PassedIsBare, truncation_of, IsCut};
 
 /// After every list of events by any number of tasks, with kills and refused memory anywhere:
@@ -135,6 +147,50 @@ pub fn some_call_is_not_blocked()
 /// cached or reserved.
 pub fn a_truncation_leaves_nothing_above()
     ensures { (s : State) (t : ℕ) (grant : Bool) (phase : TruncatePhase) (after : State)
-        → IsReached s → s.calls t ≡ Some (Truncate phase) → Row s (Step t grant) (Ended Done) after → IsCut after (truncation_of phase).file (truncation_of phase).new }
+        → IsReached s → s.calls t ≡ Some (call.Truncate phase) → Row s (Step t grant) (Ended Done) after → IsCut after (truncation_of phase).file (truncation_of phase).new }
+{
+}
+
+/// What a map has promised is reserved and below the size, until a punch or a truncation takes it
+/// back.
+pub fn what_is_promised_is_reserved()
+    ensures { (g : Geometry) (frames : ℕ) (events : List (Event × Outcome)) (s : State) (run : Run (opening g frames) events s) (f i : ℕ)
+        → promised g frames events s run f i ≡ true → (s.reserved f i ≡ true) × (i < s.size f) }
+{
+}
+
+/// A touch whose change found nothing missing takes a frame, unless a kill is noticed there.
+pub fn a_touch_that_misses_nothing_takes_a_frame()
+    ensures { (s : State) (t : ℕ) (grant : Bool) (p : touch_changed.Changed) (outcome : Outcome) (after : State)
+        → IsReached s → s.calls t ≡ Some (call.Touch (touch.Changed p)) → p.pending.missing ≡ 0 → is_killed (s.life t) ≡ false → Row s (Step t grant) outcome after
+        → (x : ℕ) × (s.frame x ≡ Free) × (outcome ≡ Moved word.Taken) × (after.calls t ≡ Some (call.Touch (touch.Taken (record { touch = p.touch; pending = p.pending; held = x })))) }
+{
+}
+
+/// An allocation whose change found nothing missing takes a frame, unless a kill is noticed there.
+pub fn an_alloc_that_misses_nothing_takes_a_frame()
+    ensures { (s : State) (t : ℕ) (grant : Bool) (p : alloc_changed.Changed) (outcome : Outcome) (after : State)
+        → IsReached s → s.calls t ≡ Some (call.Alloc (alloc.Changed p)) → p.pending.missing ≡ 0 → is_killed (s.life t) ≡ false → Row s (Step t grant) outcome after
+        → (x : ℕ) × (s.frame x ≡ Free) × (outcome ≡ Moved word.Taken) × (after.calls t ≡ Some (call.Alloc (alloc.Taken (record { allocation = p.allocation; index = p.index; pending = p.pending; held = x })))) }
+{
+}
+
+/// A touch whose index is promised where it asks what is missing never answers that there is no
+/// frame.
+pub fn a_promised_touch_never_lacks_a_frame()
+    ensures { (g : Geometry) (frames : ℕ) (events : List (Event × Outcome)) (s : State) (past : Run (opening g frames) events s)
+        (t : ℕ) (grant : Bool) (p : Missing) (outcome : Outcome) (mid : State) (rest : List (Event × Outcome)) (n : State) (last : Bool) (answer : Answer) (after : State)
+        → s.calls t ≡ Some (call.Touch (touch.Missing p)) → promised g frames events s past p.touch.file p.touch.index ≡ true → Row s (Step t grant) outcome mid
+        → Run mid rest n → calls_begun t rest ≡ 0 → Row n (Step t last) (Ended answer) after → answer ≢ NoFrame }
+{
+}
+
+/// A load or store of a mapped page, whose index is promised from its begin to its end, with no
+/// step denied and its task not killed, answers with the word or done.
+pub fn a_promised_touch_is_served()
+    ensures { (g : Geometry) (frames : ℕ) (events : List (Event × Outcome)) (s : State) (past : Run (opening g frames) events s)
+        (t : ℕ) (op : Op) (look : Look) (f i : ℕ) (mid : State) (rest : List (Event × Outcome)) (n : State) (run : Run mid rest n) (answer : Answer) (after : State)
+        → first op ≡ call.Touch (touch.Look look) → find (s.areas t) look.vpn ≡ Some (f, i) → s.life t ≡ Alive → Row s (Begin t op) Begun mid → calls_begun t rest ≡ 0
+        → Undisturbed t f i mid rest n run (promised g frames events s past) → Row n (Step t true) (Ended answer) after → IsServed answer }
 {
 }
