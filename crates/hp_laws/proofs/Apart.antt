@@ -1,6 +1,6 @@
 -- Calls that hold frames stand apart, and what a truncation passed stays bare.
-use Rattle.std.proofs.Common.{◌≡◌, ◌≢◌, ℕ, ◌+◌, ◌<◌, ◌≤◌, refl, ap, sym, ◌∙◌, subst, arith, inl, inr, ◌⊎◌}
-use Rattle.std.specs.Prelude.{Bool, true, false, Option, Some, None, IfSome, ◌==◌}
+use Rattle.std.proofs.Common.{◌≡◌, ◌≢◌, ℕ, ◌≤◌, refl, ap, ◌∙◌, subst, arith, inl, inr, ◌⊎◌}
+use Rattle.std.specs.Prelude.{true, false, Option, Some, None, IfSome}
 use Rattle.hp_machine.specs.State.{Geometry, State, slot_of}
 use Rattle.hp_machine.specs.Events.{IsReached}
 use Rattle.hp_machine.specs.Views.{hand, slot_held, locked_file}
@@ -12,15 +12,14 @@ use Rattle.hp_machine.specs.declared.call.Call.{Call}
 use Rattle.hp_machine.specs.declared.call.Call.TheVariants as call
 use Rattle.hp_laws.specs.Enough.{CanSettle}
 use Rattle.hp_laws.specs.Protocol.{ChangesAreCalls, SparesSuffice, PagesAreReserved, is_bare, HandsApart, BareWhereMade, works_at, PassedIsBare}
-use Rattle.hp_laws.specs.Sweep.{fills, ahead, passed}
+use Rattle.hp_laws.specs.Sweep.{fills, ahead}
 use Rattle.hp_laws.proofs.Standing.{Stands}
 use Rattle.hp_laws.proofs.Invariant.{Reached, Inv}
 use Rattle.hp_laws.proofs.Holding.{some_same}
-use Rattle.hp_laws.proofs.Passing.{holds_slot, locks_file, passed_locked, fills_slot, reached_not_passed, same_holder}
+use Rattle.hp_laws.proofs.Passing.{holds_slot, locks_file, passed_locked, reached_not_passed, same_holder}
 use Rattle.hp_laws.proofs.Removals.{page_marked}
-use Rattle.hp_laws.proofs.Shared.{stands_at}
 use Rattle.hp_laws.proofs.Cover.{can_settle}
-use Rattle.hp_laws.proofs.Runs.{Always, always}
+use Rattle.hp_laws.proofs.Runs.{always}
 
 pub never_short : (s : State) (t : ℕ) → IsReached s → t ≤ s.geometry.tasks → CanSettle s (s.calls t)
 never_short s t reached l = let h = (always s reached).inv in can_settle s.geometry s t (s.calls t) h (omega arith) refl (h.stands t)
@@ -105,13 +104,19 @@ pub passed_is_bare : (s : State) → IsReached s → PassedIsBare s
 passed_is_bare s reached t f j cases =
     let h = (always s reached).inv in
     elim cases [
-      | inl p ↦ (let none = (h.sweep.past t f j p).0 in (none, λ u d e. let w = works s.geometry s u (s.calls u) (f, j) (h.stands u) e in elim w.1 [
-        | inl a ↦ reached_not_passed s.geometry s f j h (reach_of s.geometry s u (f, j) h a) t p
-        | inr a ↦ elim a [
-          | inl b ↦ b none
-          | inr b ↦ d (same_holder u t (s.locks f) (locks_file s.geometry s u f h b) (locks_file s.geometry s t f h (passed_locked (s.calls t) f j p)))
-        ]
-      ]))
-      | inr p ↦ (bare_where_made s reached t (f, j) p.0 p.1, λ u d e. let w = works s.geometry s u (s.calls u) (f, j) (h.stands u) e in
-          d (same_holder u t (s.slots (slot_of s.geometry f j)) (holds_slot s.geometry s u (f, j) h w.0) (holds_slot s.geometry s t (f, j) h p.1)))
+      | inl p ↦ (let none = (h.sweep.past t f j p).0 in (
+        none,
+        λ u d e. let w = works s.geometry s u (s.calls u) (f, j) (h.stands u) e in elim w.1 [
+          | inl a ↦ reached_not_passed s.geometry s f j h (reach_of s.geometry s u (f, j) h a) t p
+          | inr a ↦ elim a [
+            | inl b ↦ b none
+            | inr b ↦ d (same_holder u t (s.locks f) (locks_file s.geometry s u f h b) (locks_file s.geometry s t f h (passed_locked (s.calls t) f j p)))
+          ]
+        ],
+      ))
+      | inr p ↦ (
+        bare_where_made s reached t (f, j) p.0 p.1,
+        λ u d e. let w = works s.geometry s u (s.calls u) (f, j) (h.stands u) e in
+            d (same_holder u t (s.slots (slot_of s.geometry f j)) (holds_slot s.geometry s u (f, j) h w.0) (holds_slot s.geometry s t (f, j) h p.1)),
+      )
     ]

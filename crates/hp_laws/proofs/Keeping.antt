@@ -1,6 +1,6 @@
 -- What is promised stays reserved and below the size, over every run.
-use Rattle.std.proofs.Common.{◌≡◌, ◌≢◌, ℕ, ◌+◌, ◌<◌, ◌≤◌, refl, ap, sym, ◌∙◌, subst, arith, inl, inr, ◌⊎◌}
-use Rattle.std.specs.Prelude.{Bool, true, false, ◌&&◌, Option, Some, None, List, [], ◌∷◌}
+use Rattle.std.proofs.Common.{◌≡◌, ◌≢◌, ℕ, ◌+◌, ◌<◌, refl, ap, sym, ◌∙◌, subst, arith, inl, inr}
+use Rattle.std.specs.Prelude.{Bool, true, false, Option, Some, None, List, [], ◌∷◌}
 use Rattle.std.proofs.lemmas.Bool.Decides.{nat_tests}
 use Rattle.hp_base.specs.Numbers.{put}
 use Rattle.hp_base.specs.Indices.{is_within}
@@ -28,9 +28,9 @@ use Rattle.hp_laws.proofs.Standing.{is_mapped}
 use Rattle.hp_laws.proofs.Invariant.{Inv}
 use Rattle.hp_laws.proofs.Passing.{locks_file, same_holder}
 use Rattle.hp_laws.proofs.Shared.{stands_at}
-use Rattle.hp_laws.proofs.Runs.{Always, row_keeps, run_keeps, opens_well}
-use Rattle.hp_laws.proofs.Reading.{begin_cases, step_cases, kill_cases, Gone, call_steps, same_state}
-use Rattle.hp_laws.proofs.Promising.{removes, removes_locked, removes_deleted, next_removes, size_set, Kept, Makes, made, mapped_row}
+use Rattle.hp_laws.proofs.Runs.{Always, row_keeps, opens_well}
+use Rattle.hp_laws.proofs.Reading.{begin_cases, step_cases, kill_cases, call_steps, same_state}
+use Rattle.hp_laws.proofs.Promising.{removes, removes_locked, removes_deleted, next_removes, size_set, Kept, made, mapped_row}
 
 clash : {P : Type 0} (b : Bool) → b ≡ true → b ≡ false → P
 clash b e d = (let z : true ≡ false = sym e ∙ d in absurd (cc))
@@ -46,8 +46,7 @@ mapped_at s t p base k j h e mapped reserves file within =
     let y = stands_at s t _ h e in
     let o = y.facts.mapped (ap is_mapped mapped) in
     let held : s.locks k ≡ Some t = ap s.locks (sym file) ∙ y.lock in
-    let b : j < p.map.from + p.map.len = below p.map.from (p.map.from + p.map.len) j within in
-    (
+    let b : j < p.map.from + p.map.len = below p.map.from (p.map.from + p.map.len) j within in (
       ap (λ (m : ℕ). s.reserved m j) (sym file) ∙ o.0 reserves j within,
       (let l = o.1 in let z : s.size k ≡ s.size p.map.file = ap s.size (sym file) in omega arith),
       λ u d. elim (true_or (removes (s.calls u) k j)) [
@@ -81,11 +80,14 @@ mapped_call s t killed grant phase o pool next base k j h e (turn, row, tells, l
 kept_step : (s : State) (t : ℕ) (grant : Bool) (c : Call) (o : Outcome) (pool : Pool) (next : Option Call) (old : ℕ → ℕ → Bool) (k j : ℕ) → Always s → s.calls t ≡ Some c → CallRow (pool_of s) t (is_killed (s.life t)) grant c o pool next → Kept s old
     → promised_by (Some c) o old k j ≡ true → KeptAt (record (with_pool s pool) { life = lives_after s.life t c next; calls = put s.calls t next }) k j
 kept_step s t grant c o pool next old k j h e row kept now = elim (made c o old k j now) [
-  | inr m ↦ (let x = mapped_call s t (is_killed (s.life t)) grant m.1 o pool next m.0 k j h.inv (e ∙ ap (λ (d : Call). Some d) m.2) (subst (λ (d : Call). CallRow (pool_of s) t (is_killed (s.life t)) grant d o pool next) m.2 row) m.3 m.4 m.5 m.6 in
-      (x.1, x.2, λ u. elim (same_or_other u t) [
-        | inl q ↦ ap (λ (d : ℕ). removes (put s.calls t next d) k j) q ∙ (ap (λ (d : Option Call). removes d k j) (put_same s.calls t next ∙ x.0))
-        | inr q ↦ ap (λ (d : Option Call). removes d k j) (put_other s.calls t next u q) ∙ x.3 u q
-      ]))
+  | inr m ↦ (let x = mapped_call s t (is_killed (s.life t)) grant m.1 o pool next m.0 k j h.inv (e ∙ ap (λ (d : Call). Some d) m.2) (subst (λ (d : Call). CallRow (pool_of s) t (is_killed (s.life t)) grant d o pool next) m.2 row) m.3 m.4 m.5 m.6 in (
+    x.1,
+    x.2,
+    λ u. elim (same_or_other u t) [
+      | inl q ↦ ap (λ (d : ℕ). removes (put s.calls t next d) k j) q ∙ (ap (λ (d : Option Call). removes d k j) (put_same s.calls t next ∙ x.0))
+      | inr q ↦ ap (λ (d : Option Call). removes d k j) (put_other s.calls t next u q) ∙ x.3 u q
+    ],
+  ))
   | inl was ↦ (let x = kept k j was in
       let quiet : removes (Some c) k j ≡ false = ap (λ (d : Option Call). removes d k j) (sym e) ∙ x.2 t in
       let is = h.lives.there t (h.lives.busy t c e) in

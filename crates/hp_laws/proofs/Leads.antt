@@ -1,6 +1,6 @@
 -- From each reached state each event leads on: some row applies in each phase.
-use Rattle.std.proofs.Common.{◌≡◌, ◌≢◌, ℕ, ◌+◌, ◌-◌, ◌<◌, ◌≤◌, refl, ap, sym, ◌∙◌, subst, arith, inl, inr}
-use Rattle.std.specs.Prelude.{Bool, true, false, not, ◌&&◌, ◌==◌, nat_le, nat_lt, max, is_some, Option, Some, None, MatchBool, MatchOption, if◌then◌else◌}
+use Rattle.std.proofs.Common.{◌≡◌, ℕ, ◌+◌, ◌-◌, ◌<◌, ◌≤◌, refl, arith}
+use Rattle.std.specs.Prelude.{Bool, true, false, not, ◌&&◌, ◌==◌, nat_le, nat_lt, max, is_some, Option, Some, None, MatchBool, MatchOption}
 use Rattle.std.proofs.lemmas.Bool.Decides.{nat_tests}
 use Rattle.hp_base.specs.Indices.{missing, splits}
 use Rattle.hp_base.specs.Mappings.{find, is_base, first_base, without}
@@ -12,7 +12,7 @@ use Rattle.hp_frames.specs.declared.frame.FrameState.{FrameState}
 use Rattle.hp_frames.specs.declared.frame.FrameState.TheVariants as state
 use Rattle.hp_region.specs.Change.{Change}
 use Rattle.hp_machine.specs.State.{Pool, State, pool_of, frees, free_frames, is_free, slot_of, is_alive, is_killed, is_dead}
-use Rattle.hp_machine.specs.Parts.{Goes, Ends, StartRow, WantSlotRow, ChangeRow, CommitRow, TakeRow, SettleOneRow, UnmapIndexRow, EvictRow}
+use Rattle.hp_machine.specs.Parts.{Goes, Ends, StartRow, WantSlotRow, ChangeRow, CommitRow, TakeRow, UnmapIndexRow, EvictRow}
 use Rattle.hp_machine.specs.TouchRows.{TouchRow}
 use Rattle.hp_machine.specs.MapRows.{MapRow}
 use Rattle.hp_machine.specs.AllocRows.{AllocRow}
@@ -40,8 +40,7 @@ use Rattle.hp_machine.specs.declared.call.Call.{Call}
 use Rattle.hp_machine.specs.declared.call.Call.TheVariants as call
 use Rattle.hp_machine.specs.declared.call.Turn.{Turn}
 use Rattle.hp_machine.specs.declared.call.Turn.TheVariants.{Moved, Blocked, Ended}
-use Rattle.hp_laws.proofs.Invariant.{Inv}
-use Rattle.hp_laws.proofs.Meets.{HasPage, TouchStands, MapStands, AllocStands, PunchStands, TruncateStands, UnmapStands, ExitStands, touch_stands, map_stands, alloc_stands, punch_stands, truncate_stands, unmap_stands, exit_stands, entry_placed, resv_covered, page_inside}
+use Rattle.hp_laws.proofs.Meets.{HasPage, TouchStands, MapStands, AllocStands, PunchStands, TruncateStands, touch_stands, map_stands, alloc_stands, punch_stands, truncate_stands, entry_placed, resv_covered, page_inside}
 
 -- some turn and some state after it meet the row
 abbrev Leads : {P : Type 0} → (Turn P → Pool → Type 0) → Type 0

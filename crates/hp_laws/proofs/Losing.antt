@@ -1,8 +1,7 @@
 -- A reserved index goes only under the file lock, and a truncation that is over leaves nothing.
-use Rattle.std.proofs.Common.{◌≡◌, ◌≢◌, ℕ, ◌+◌, ◌<◌, ◌≤◌, refl, ap, sym, ◌∙◌, subst, arith, inl, inr, ◌⊎◌}
+use Rattle.std.proofs.Common.{◌≡◌, ℕ, ◌≤◌, refl, ap, sym, ◌∙◌, subst, arith, inl, inr, ◌⊎◌}
 use Rattle.std.specs.Prelude.{Bool, true, false, ◌&&◌, ◌==◌, nat_le, nat_lt, max, is_some, Option, Some, None}
 use Rattle.std.proofs.lemmas.Bool.Decides.{nat_tests}
-use Rattle.hp_base.specs.Numbers.{put}
 use Rattle.hp_base.specs.declared.answer.Answer.{Answer}
 use Rattle.hp_base.specs.declared.answer.Answer.TheVariants as answer
 use Rattle.hp_base.specs.declared.event.Event.{Event}
@@ -10,8 +9,7 @@ use Rattle.hp_base.specs.declared.event.Event.TheVariants.{Begin, Step, Kill}
 use Rattle.hp_machine.specs.State.{Pool, State, pool_of, with_pool, slot_of, is_killed}
 use Rattle.hp_machine.specs.Parts.{unlocked}
 use Rattle.hp_machine.specs.TruncateRows.{TruncateRow}
-use Rattle.hp_machine.specs.Events.{Row, CallRow, IsReached, word_of, told, lives_after}
-use Rattle.hp_machine.specs.Views.{slot_held}
+use Rattle.hp_machine.specs.Events.{Row, CallRow, IsReached, word_of, told}
 use Rattle.hp_machine.specs.declared.phase.Phase.TheVariants as word
 use Rattle.hp_machine.specs.declared.outcome.Outcome.{Outcome}
 use Rattle.hp_machine.specs.declared.outcome.Outcome.TheVariants as outcome
@@ -32,7 +30,7 @@ use Rattle.hp_laws.proofs.Invariant.{Inv}
 use Rattle.hp_laws.proofs.Passing.{ahead_locked, locks_file, holds_slot, same_holder}
 use Rattle.hp_laws.proofs.Shared.{by_test, by_option, stands_at}
 use Rattle.hp_laws.proofs.StepsLeft.{deletes}
-use Rattle.hp_laws.proofs.Runs.{Always, always}
+use Rattle.hp_laws.proofs.Runs.{always}
 use Rattle.hp_laws.proofs.Apart.{works, passed_is_bare}
 use Rattle.hp_laws.proofs.Reading.{begin_cases, step_cases, kill_cases, call_steps}
 
@@ -87,11 +85,19 @@ goes_under_lock s (Step t grant) o n f i reached row a b = step_cases s t grant 
       | inl w ↦ clash (s.reserved f i) a (ap (λ (m : Pool). m.reserved f i) (sym w.2) ∙ none)
       | inr w ↦ elim (w.keeps f i a) [
         | inl k ↦ clash (pool.reserved f i) k none
-        | inr k ↦ (let y = deleter s t c f i (stands_at s t (Some c) h.inv e) k in
-            (t, grant, c, refl, e, y.0, y.1, λ u apart counts. elim y.2 [
-              | inl p ↦ (passed_is_bare s reached t f i (inl (ap (λ (m : Option Call). passed m f i) e ∙ p))).1 u apart (counts_works (s.calls u) (f, i) counts)
-              | inr p ↦ apart (same_holder u t (s.slots (slot_of s.geometry f i)) (holds_slot s.geometry s u (f, i) h.inv (works s.geometry s u (s.calls u) (f, i) (h.inv.stands u) (counts_works (s.calls u) (f, i) counts)).0) p)
-            ]))
+        | inr k ↦ (let y = deleter s t c f i (stands_at s t (Some c) h.inv e) k in (
+          t,
+          grant,
+          c,
+          refl,
+          e,
+          y.0,
+          y.1,
+          λ u apart counts. elim y.2 [
+            | inl p ↦ (passed_is_bare s reached t f i (inl (ap (λ (m : Option Call). passed m f i) e ∙ p))).1 u apart (counts_works (s.calls u) (f, i) counts)
+            | inr p ↦ apart (same_holder u t (s.slots (slot_of s.geometry f i)) (holds_slot s.geometry s u (f, i) h.inv (works s.geometry s u (s.calls u) (f, i) (h.inv.stands u) (counts_works (s.calls u) (f, i) counts)).0) p)
+          ],
+        ))
       ]
     ])
 

@@ -1,7 +1,7 @@
 -- What a step of a call may rely on in every reached state, phase by phase: the conditions of the parts that it
 -- calls.
-use Rattle.std.proofs.Common.{◌≡◌, ◌≢◌, ℕ, ◌+◌, ◌<◌, ◌≤◌, refl, ap, sym, ◌∙◌, subst, arith}
-use Rattle.std.specs.Prelude.{Bool, true, false, ◌==◌, Option, Some, None}
+use Rattle.std.proofs.Common.{◌≡◌, ◌≢◌, ℕ, ◌+◌, ◌<◌, ◌≤◌, refl, ap, ◌∙◌, arith}
+use Rattle.std.specs.Prelude.{true, false, ◌==◌, Option, Some, None}
 use Rattle.std.proofs.lemmas.Bool.Decides.{nat_tests}
 use Rattle.hp_base.specs.Indices.{count_within}
 use Rattle.hp_base.specs.Mappings.{find, fits, is_base}
@@ -32,7 +32,7 @@ use Rattle.hp_laws.proofs.Invariant.{Inv}
 use Rattle.hp_laws.proofs.Effects.{has_pending}
 use Rattle.hp_laws.proofs.Shared.{stands_at}
 use Rattle.hp_laws.proofs.Cover.{can_settle}
-use Rattle.hp_laws.proofs.Runs.{Always, always}
+use Rattle.hp_laws.proofs.Runs.{always}
 
 -- the index has a page, whose frame has a word
 abbrev pub HasPage : State → (file index : ℕ) → Type 0

@@ -1,6 +1,6 @@
 -- A frame that goes from one place to another.
 use Rattle.std.proofs.Common.{◌≡◌, ◌≢◌, ℕ, ◌<◌, refl, sym, ap, ◌∙◌, subst, arith, inl, inr}
-use Rattle.std.specs.Prelude.{Bool, true, false, Option, Some, None}
+use Rattle.std.specs.Prelude.{Option, Some, None}
 use Rattle.hp_base.specs.Numbers.{put, put2}
 use Rattle.hp_base.proofs.Puts.{put_same, put_other, same_or_other, put_tells, put2_tells, put2_same}
 use Rattle.hp_frames.specs.declared.frame.FrameState.{FrameState}

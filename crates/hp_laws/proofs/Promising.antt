@@ -1,22 +1,17 @@
 -- What is promised is reserved and below the size, and nobody removes it.
-use Rattle.std.proofs.Common.{◌≡◌, ◌≢◌, ℕ, ◌+◌, ◌-◌, ◌<◌, ◌≤◌, refl, ap, sym, ◌∙◌, subst, arith, inl, inr, ◌⊎◌}
-use Rattle.std.specs.Prelude.{Bool, true, false, not, ◌==◌, ◌&&◌, ◌||◌, nat_lt, nat_le, max, is_some, Option, Some, None, List, [], ◌∷◌}
+use Rattle.std.proofs.Common.{◌≡◌, ℕ, ◌+◌, ◌-◌, ◌<◌, ◌≤◌, refl, ap, sym, ◌∙◌, subst, arith, inl, inr, ◌⊎◌}
+use Rattle.std.specs.Prelude.{Bool, true, false, not, ◌==◌, ◌&&◌, ◌||◌, nat_lt, nat_le, max, is_some, Option, Some, None}
 use Rattle.std.proofs.lemmas.Bool.Decides.{nat_tests}
 use Rattle.hp_base.specs.Numbers.{put}
 use Rattle.hp_base.specs.Indices.{is_within, missing, splits}
 use Rattle.hp_base.specs.declared.answer.Answer.{Answer}
 use Rattle.hp_base.specs.declared.answer.Answer.TheVariants as answer
-use Rattle.hp_base.specs.declared.event.Op.{Op}
-use Rattle.hp_base.specs.declared.event.Op.TheVariants as op
-use Rattle.hp_base.specs.declared.event.Event.{Event}
-use Rattle.hp_base.specs.declared.event.Event.TheVariants.{Begin, Step, Kill}
-use Rattle.hp_base.proofs.Puts.{put_same, put_other, put_tells, same_or_other}
-use Rattle.hp_base.proofs.Searches.{true_or}
-use Rattle.hp_machine.specs.State.{Geometry, Pool, State, pool_of, with_pool, slot_of, frees, is_killed}
+use Rattle.hp_base.proofs.Puts.{put_same}
+use Rattle.hp_machine.specs.State.{Pool, State, pool_of, slot_of, frees}
 use Rattle.hp_machine.specs.MapRows.{MapRow}
 use Rattle.hp_machine.specs.PunchRows.{PunchRow}
 use Rattle.hp_machine.specs.TruncateRows.{TruncateRow}
-use Rattle.hp_machine.specs.Events.{Row, CallRow, StepRow, Run, opening, first, told, left, word_of}
+use Rattle.hp_machine.specs.Events.{CallRow, told, left, word_of}
 use Rattle.hp_machine.specs.Views.{locked_file}
 use Rattle.hp_machine.specs.declared.map.Leave.{Leave}
 use Rattle.hp_machine.specs.declared.map.MapPhase.{MapPhase}
@@ -35,13 +30,10 @@ use Rattle.hp_machine.specs.declared.call.Turn.{Turn}
 use Rattle.hp_machine.specs.declared.call.Turn.TheVariants.{Moved, Blocked, Ended}
 use Rattle.hp_laws.specs.Bounds.{sizes}
 use Rattle.hp_laws.specs.Protocol.{truncation_of}
-use Rattle.hp_laws.specs.Promises.{map_of, in_map, in_hole, is_cut, promise, take_back, promised_by, promised_next, promised_after, promised}
+use Rattle.hp_laws.specs.Promises.{map_of, in_hole, is_cut, promise, take_back, promised_by}
 use Rattle.hp_laws.proofs.Invariant.{Inv}
-use Rattle.hp_laws.proofs.Passing.{locks_file, same_holder}
 use Rattle.hp_laws.proofs.Shared.{by_test, by_option, stands_at}
 use Rattle.hp_laws.proofs.StepsLeft.{deletes}
-use Rattle.hp_laws.proofs.Runs.{Always, row_keeps, run_keeps, opens_well}
-use Rattle.hp_laws.proofs.Reading.{begin_cases, step_cases, kill_cases, Gone, call_steps, same_state}
 
 never : {P : Type 0} → false ≡ true → P
 never e = absurd (cc)

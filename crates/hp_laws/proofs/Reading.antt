@@ -1,6 +1,6 @@
 -- What an event's row tells, and what a step's row does.
-use Rattle.std.proofs.Common.{◌≡◌, ◌≢◌, ℕ, ◌+◌, ◌<◌, ◌≤◌, refl, ap, sym, ◌∙◌, subst, arith, inl, inr, ◌⊎◌, length}
-use Rattle.std.specs.Prelude.{Bool, true, false, not, ◌&&◌, Option, Some, None, IfSome, List}
+use Rattle.std.proofs.Common.{◌≡◌, ◌≢◌, ℕ, ◌+◌, ◌<◌, ◌≤◌, refl, ap, sym, ◌∙◌, subst, inl, inr, ◌⊎◌, length}
+use Rattle.std.specs.Prelude.{Bool, true, false, not, ◌&&◌, Option, Some, None, IfSome}
 use Rattle.hp_base.specs.Numbers.{put}
 use Rattle.hp_base.specs.declared.event.Op.{Op}
 use Rattle.hp_machine.specs.State.{Pool, State, pool_of, with_pool, is_alive, is_killed, is_dead}
@@ -39,7 +39,7 @@ begin_cases s t p o n P row refused begun =
 pub step_cases : (s : State) (t : ℕ) (grant : Bool) (o : Outcome) (n : State) (P : Type 0) → StepRow s t grant o n
     → ((why : Refusal) → o ≡ outcome.Refused why → n ≡ s → P)
     → ((c : Call) → is_dead (s.life t) ≡ false → s.calls t ≡ Some c → (pool : Pool) (next : Option Call) → CallRow (pool_of s) t (is_killed (s.life t)) grant c o pool next
-        → n ≡ record (with_pool s pool) { life = lives_after s.life t c next; calls = put s.calls t next } → P) → P
+    → n ≡ record (with_pool s pool) { life = lives_after s.life t c next; calls = put s.calls t next } → P) → P
 unfolding StepRow
 step_cases s t grant o n P row refused steps =
     by_test (is_dead (s.life t)) row

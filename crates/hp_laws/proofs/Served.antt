@@ -1,9 +1,8 @@
 -- A touch at a promised index, over a run.
-use Rattle.std.proofs.Common.{◌≡◌, ◌≢◌, ℕ, ◌+◌, ◌<◌, ◌≤◌, refl, ap, sym, ◌∙◌, subst, arith, inl, inr, ◌⊎◌}
-use Rattle.std.specs.Prelude.{Bool, true, false, not, ◌&&◌, ◌==◌, nat_lt, nat_le, is_some, Option, Some, None, List, [], ◌∷◌}
+use Rattle.std.proofs.Common.{◌≡◌, ◌≢◌, ℕ, ◌<◌, refl, ap, sym, ◌∙◌, subst, arith, inl, inr}
+use Rattle.std.specs.Prelude.{Bool, true, false, not, ◌&&◌, ◌==◌, nat_le, is_some, Option, Some, None, List, [], ◌∷◌}
 use Rattle.std.proofs.lemmas.Bool.Decides.{nat_tests}
 use Rattle.hp_base.specs.Numbers.{put}
-use Rattle.hp_base.specs.Indices.{missing}
 use Rattle.hp_base.specs.Mappings.{find}
 use Rattle.hp_base.specs.declared.answer.Answer.{Answer}
 use Rattle.hp_base.specs.declared.answer.Answer.TheVariants as answer
@@ -13,7 +12,7 @@ use Rattle.hp_base.specs.declared.event.Event.TheVariants.{Begin, Step, Kill}
 use Rattle.hp_base.specs.declared.mapping.Mapping.{Mapping}
 use Rattle.hp_base.proofs.Puts.{put_same}
 use Rattle.hp_frames.specs.declared.frame.FrameState.TheVariants as state
-use Rattle.hp_machine.specs.State.{Geometry, Pool, State, pool_of, with_pool, slot_of, is_dead, is_killed}
+use Rattle.hp_machine.specs.State.{Geometry, Pool, State, pool_of, with_pool, slot_of, is_killed}
 use Rattle.hp_machine.specs.Parts.{answer_of}
 use Rattle.hp_machine.specs.TouchRows.{TouchRow}
 use Rattle.hp_machine.specs.Events.{Row, CallRow, Run, opening, IsReached, first, told, left, lives_after}
@@ -36,7 +35,7 @@ use Rattle.hp_machine.specs.declared.phase.Phase.TheVariants as word
 use Rattle.hp_machine.specs.declared.call.Call.{Call}
 use Rattle.hp_machine.specs.declared.call.Call.TheVariants as call
 use Rattle.hp_machine.specs.declared.call.Turn.{Turn}
-use Rattle.hp_machine.specs.declared.call.Turn.TheVariants.{Moved, Blocked, Ended}
+use Rattle.hp_machine.specs.declared.call.Turn.TheVariants.{Blocked}
 use Rattle.hp_laws.specs.Bounds.{is_begun, calls_begun}
 use Rattle.hp_laws.specs.Promises.{promised_next, promised, Undisturbed, IsServed}
 use Rattle.hp_laws.proofs.Shared.{by_test, by_option}
@@ -76,7 +75,7 @@ promised_never_lacks g frames es s past t grant p o mid rest n last b after e is
     let marked = (promised_kept g frames es s past p.touch.file p.touch.index is).0 in
     let step = step_of s t grant (call.Touch (touch.Missing p)) o mid row (h.lives.busy t (call.Touch (touch.Missing p)) e) e in
     let now = touch_call s t (is_killed (s.life t)) grant Sure (λ (q : TouchPhase). q ≡ touch.Missing p) Isnt (call.Touch (touch.Missing p)) o step.0 step.1
-        (λ phase turn q k r. sure_missing s t (is_killed (s.life t)) grant p turn step.0 marked (subst (λ (m : TouchPhase). TouchRow (pool_of s) t (is_killed (s.life t)) grant m turn step.0) k r)) refl step.2 in
+    (λ phase turn q k r. sure_missing s t (is_killed (s.life t)) grant p turn step.0 marked (subst (λ (m : TouchPhase). TouchRow (pool_of s) t (is_killed (s.life t)) grant m turn step.0) k r)) refl step.2 in
     let w : CallWell Sure (mid.calls t) = subst (λ (m : State). CallWell Sure (m.calls t)) (sym step.3) (subst (CallWell Sure) (sym (put_same s.calls t step.1)) now.0) in
     sure_end n t last b after (sure_run t mid rest n run (row_keeps s (Step t grant) o mid h row) quiet w).0 ended
 
@@ -177,9 +176,10 @@ well_row s t f i event o n h quiet grants lives marked low w row = own_or_same s
     own false c pool next is e r d = absurd (grants is)
     own true c pool next is e r d =
         let there = subst (CallWell (Well (s.areas t) f i)) e w.0 in
-        let now = touch_call s t (is_killed (s.life t)) true (Well (n.areas t) f i) (Well (s.areas t) f i) IsServed c o pool next (λ phase turn q k r. touch_well s t (is_killed (s.life t)) (n.areas t) f i phase turn pool (alive_unkilled (s.life t) w.1) marked low k r) there r in
-        (subst (CallWell (Well (n.areas t) f i)) (sym (ap (λ (m : State). m.calls t) d ∙ put_same s.calls t next)) now.0,
-        ap (λ (m : State). m.life t) d ∙ (ap (λ (m : ℕ → Life). m t) (touch_lives (Well (s.areas t) f i) s.life t c next there) ∙ w.1))
+        let now = touch_call s t (is_killed (s.life t)) true (Well (n.areas t) f i) (Well (s.areas t) f i) IsServed c o pool next (λ phase turn q k r. touch_well s t (is_killed (s.life t)) (n.areas t) f i phase turn pool (alive_unkilled (s.life t) w.1) marked low k r) there r in (
+          subst (CallWell (Well (n.areas t) f i)) (sym (ap (λ (m : State). m.calls t) d ∙ put_same s.calls t next)) now.0,
+          ap (λ (m : State). m.life t) d ∙ (ap (λ (m : ℕ → Life). m t) (touch_lives (Well (s.areas t) f i) s.life t c next there) ∙ w.1),
+        )
 
 well_run : (t f i : ℕ) (s : State) (es : List (Event × Outcome)) (n : State) (r : Run s es n) (old : ℕ → ℕ → Bool) → Always s → Kept s old → calls_begun t es ≡ 0 → Undisturbed t f i s es n r old → Goes s t f i
     → Goes n t f i × (n.reserved f i ≡ true) × (i < n.size f)
@@ -204,11 +204,11 @@ pub promised_served : (g : Geometry) (frames : ℕ) (es : List (Event × Outcome
 promised_served g frames es s past t p look f i mid rest n run b after e there alive begun quiet calm ended =
     let h = run_keeps (opening g frames) es s (opens_well g frames) past in
     let w : Goes mid t f i = begin_cases s t p outcome.Begun mid (Goes mid t f i) begun
-        (λ why z d. absurd (not_refused why z))
-        (λ lives none may z d. (
-          subst (λ (m : State). CallWell (Well (m.areas t) f i) (m.calls t)) (sym d) (subst (CallWell (Well (s.areas t) f i)) (sym (put_same s.calls t (Some (first p)) ∙ ap (λ (c : Call). Some c) e)) there),
-          ap (λ (m : State). m.life t) d ∙ alive,
-        )) in
+    (λ why z d. absurd (not_refused why z))
+    (λ lives none may z d. (
+      subst (λ (m : State). CallWell (Well (m.areas t) f i) (m.calls t)) (sym d) (subst (CallWell (Well (s.areas t) f i)) (sym (put_same s.calls t (Some (first p)) ∙ ap (λ (c : Call). Some c) e)) there),
+      ap (λ (m : State). m.life t) d ∙ alive,
+    )) in
     let y = well_run t f i mid rest n run (promised g frames es s past) (row_keeps s (Begin t p) outcome.Begun mid h begun) (kept_row s (Begin t p) outcome.Begun mid (promised g frames es s past) h (promised_kept g frames es s past) begun) quiet calm w in
     well_end n t f i b after y.0 y.1 y.2 ended
   where

@@ -1,33 +1,26 @@
 -- A touch that finds its index reserved gets its frame, and one whose index is promised all along is served.
-use Rattle.std.proofs.Common.{◌≡◌, ◌≢◌, ℕ, ◌+◌, ◌<◌, ◌≤◌, refl, ap, sym, ◌∙◌, subst, arith, inl, inr, ◌⊎◌}
-use Rattle.std.specs.Prelude.{Bool, true, false, not, ◌&&◌, ◌==◌, nat_lt, nat_le, is_some, Option, Some, None, List, [], ◌∷◌}
+use Rattle.std.proofs.Common.{◌≡◌, ◌≢◌, ℕ, ◌+◌, refl, ap, sym, ◌∙◌, subst, arith, inl, inr, ◌⊎◌}
+use Rattle.std.specs.Prelude.{Bool, true, false, not, ◌&&◌, ◌==◌, nat_lt, nat_le, Option, Some, None}
 use Rattle.std.proofs.lemmas.Bool.Decides.{nat_tests}
 use Rattle.hp_base.specs.Numbers.{put, bit}
 use Rattle.hp_base.specs.Indices.{missing}
-use Rattle.hp_base.specs.Mappings.{find}
 use Rattle.hp_base.specs.declared.answer.Answer.{Answer}
 use Rattle.hp_base.specs.declared.answer.Answer.TheVariants as answer
 use Rattle.hp_base.specs.declared.event.Op.{Op}
 use Rattle.hp_base.specs.declared.event.Event.{Event}
 use Rattle.hp_base.specs.declared.event.Event.TheVariants.{Begin, Step, Kill}
-use Rattle.hp_base.specs.declared.mapping.Mapping.{Mapping}
-use Rattle.hp_base.proofs.Puts.{put_same, put_other, same_or_other}
+use Rattle.hp_base.proofs.Puts.{put_other, same_or_other}
 use Rattle.hp_base.proofs.Sets.{missing_one}
 use Rattle.hp_frames.specs.declared.frame.FrameState.TheVariants as state
-use Rattle.hp_machine.specs.State.{Geometry, Pool, State, pool_of, with_pool, slot_of, frees, is_dead, is_killed}
+use Rattle.hp_machine.specs.State.{Pool, State, pool_of, with_pool, is_killed}
 use Rattle.hp_machine.specs.Parts.{CommitRow, TakeRow, answer_of}
 use Rattle.hp_machine.specs.TouchRows.{TouchRow}
-use Rattle.hp_machine.specs.AllocRows.{AllocRow}
-use Rattle.hp_machine.specs.Events.{Row, CallRow, Run, opening, first, told, left, word_of, lives_after}
+use Rattle.hp_machine.specs.Events.{Row, CallRow, first, told, left, word_of, lives_after}
 use Rattle.hp_machine.specs.declared.touch.Access.{Access}
 use Rattle.hp_machine.specs.declared.touch.Access.TheVariants.{Load, Store}
-use Rattle.hp_machine.specs.declared.touch.Touch.{Touch}
-use Rattle.hp_machine.specs.declared.touch.Look.{Look}
 use Rattle.hp_machine.specs.declared.touch.Missing.{Missing}
 use Rattle.hp_machine.specs.declared.touch.TouchPhase.{TouchPhase}
 use Rattle.hp_machine.specs.declared.touch.TouchPhase.TheVariants as touch
-use Rattle.hp_machine.specs.declared.alloc.AllocPhase.{AllocPhase}
-use Rattle.hp_machine.specs.declared.alloc.AllocPhase.TheVariants as alloc
 use Rattle.hp_machine.specs.declared.outcome.Life.{Life}
 use Rattle.hp_machine.specs.declared.outcome.Life.TheVariants as life
 use Rattle.hp_machine.specs.declared.outcome.Outcome.{Outcome}
@@ -37,14 +30,10 @@ use Rattle.hp_machine.specs.declared.call.Call.{Call}
 use Rattle.hp_machine.specs.declared.call.Call.TheVariants as call
 use Rattle.hp_machine.specs.declared.call.Turn.{Turn}
 use Rattle.hp_machine.specs.declared.call.Turn.TheVariants.{Moved, Blocked, Ended}
-use Rattle.hp_laws.specs.Bounds.{is_begun, calls_begun}
-use Rattle.hp_laws.specs.Promises.{promised_next, promised, Undisturbed, IsServed}
-use Rattle.hp_laws.proofs.Invariant.{Inv}
-use Rattle.hp_laws.proofs.Shared.{by_test, by_option}
-use Rattle.hp_laws.proofs.Runs.{Always, always, row_keeps, run_keeps, opens_well}
-use Rattle.hp_laws.proofs.Reading.{begin_cases, step_cases, kill_cases, call_steps, same_state}
-use Rattle.hp_laws.proofs.Promising.{Kept}
-use Rattle.hp_laws.proofs.Keeping.{kept_row, promised_kept}
+use Rattle.hp_laws.specs.Bounds.{is_begun}
+use Rattle.hp_laws.proofs.Shared.{by_test}
+use Rattle.hp_laws.proofs.Runs.{Always}
+use Rattle.hp_laws.proofs.Reading.{begin_cases, step_cases, kill_cases, call_steps}
 
 never : {P : Type 0} → false ≡ true → P
 never e = absurd (cc)
@@ -161,7 +150,7 @@ not_begun t u p o quiet e d = (let a : is_begun t (Begin u p) o ≡ 1 = ap (is_b
 pub own_or_same : (s : State) (t : ℕ) (event : Event) (o : Outcome) (n : State) (P : Type 0) → Always s → is_begun t event o ≡ 0 → Row s event o n
     → (n.calls t ≡ s.calls t → n.areas t ≡ s.areas t → ((n.life t ≡ s.life t) ⊎ (event ≡ Kill t)) → ((grant : Bool) (a : Answer) → event ≡ Step t grant → o ≡ outcome.Ended a → ⊥) → P)
     → ((grant : Bool) (c : Call) (pool : Pool) (next : Option Call) → event ≡ Step t grant → s.calls t ≡ Some c → CallRow (pool_of s) t (is_killed (s.life t)) grant c o pool next
-        → n ≡ record (with_pool s pool) { life = lives_after s.life t c next; calls = put s.calls t next } → P) → P
+    → n ≡ record (with_pool s pool) { life = lives_after s.life t c next; calls = put s.calls t next } → P) → P
 own_or_same s t (Begin u p) o n P h quiet row same own = begin_cases s u p o n P row
     (λ why e d. same (ap (λ (m : State). m.calls t) d) (ap (λ (m : State). m.areas t) d) (inl (ap (λ (m : State). m.life t) d)) (λ grant a z. absurd (begin_step z)))
     (λ lives none may e d. elim (same_or_other u t) [

@@ -1,5 +1,5 @@
 -- How many steps are left to a call at most.
-use Rattle.std.specs.Prelude.{ℕ, ◌+◌, ◌*◌, ◌-◌, ◌==◌, ◌&&◌, nat_le, Bool, true, false, Option, Some, None}
+use Rattle.std.specs.Prelude.{ℕ, ◌+◌, ◌*◌, ◌-◌, ◌==◌, ◌&&◌, nat_le, Bool, false, Option, Some, None}
 use Rattle.hp_machine.specs.State.{Geometry}
 use Rattle.hp_laws.specs.Bounds.{times}
 use Rattle.hp_machine.specs.declared.touch.TouchPhase.TheVariants as touch

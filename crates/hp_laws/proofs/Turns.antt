@@ -2,16 +2,16 @@
 use Rattle.std.proofs.Common.{◌≡◌, ◌≢◌, ℕ, ◌+◌, ◌-◌, ◌*◌, ◌<◌, ◌≤◌, refl, ap, sym, ◌∙◌, subst, arith, inl, inr, ◌⊎◌, length}
 use Rattle.std.specs.Prelude.{Bool, true, false, not, ◌&&◌, ◌||◌, ◌==◌, nat_le, nat_lt, max, is_some, Option, Some, None, IfSome, List, [], ◌∷◌, if◌then◌else◌}
 use Rattle.std.proofs.lemmas.Bool.Decides.{nat_tests}
-use Rattle.hp_base.specs.Numbers.{put, put2}
-use Rattle.hp_base.specs.Indices.{missing, splits, add_range, cut_tail, touches}
+use Rattle.hp_base.specs.Numbers.{put}
+use Rattle.hp_base.specs.Indices.{missing, splits, add_range, cut_tail}
 use Rattle.hp_base.specs.Mappings.{find, is_base, first_base, without}
 use Rattle.hp_base.specs.declared.answer.Answer.{Answer}
 use Rattle.hp_base.specs.declared.mapping.Mapping.{Mapping}
-use Rattle.hp_base.proofs.Puts.{put_same, put_other, put_tells, put2_tells, same_or_other}
+use Rattle.hp_base.proofs.Puts.{put_same, put_other, put2_tells, same_or_other}
 use Rattle.hp_base.proofs.Sets.{cut_below}
 use Rattle.hp_region.specs.Change.{Change}
-use Rattle.hp_machine.specs.State.{Geometry, Pool, State, pool_of, slot_of, frees}
-use Rattle.hp_machine.specs.Parts.{Goes, Ends, StartRow, WantSlotRow, ChangeRow, CommitRow, TakeRow, UnmapIndexRow, EvictRow}
+use Rattle.hp_machine.specs.State.{Pool, State, pool_of, slot_of, frees}
+use Rattle.hp_machine.specs.Parts.{StartRow, WantSlotRow, ChangeRow, CommitRow, TakeRow}
 use Rattle.hp_machine.specs.TouchRows.{TouchRow}
 use Rattle.hp_machine.specs.MapRows.{MapRow}
 use Rattle.hp_machine.specs.AllocRows.{AllocRow, AllocUnslotRow}
@@ -287,7 +287,10 @@ truncate_turn s t top killed grant (truncate.Unslot p) turn new h one l e row =
 truncate_turn s t top killed grant (truncate.Tail p) turn new h one l e row =
     let f = p.truncation.file in
     turned call.Truncate s t top (truncate.Tail p) _ turn _ new row (record {
-      goes = refl; areas = λ u d. refl; grows = λ k. inl (omega arith); nearer = λ _. omega arith;
+      goes = refl;
+      areas = λ u d. refl;
+      grows = λ k. inl (omega arith);
+      nearer = λ _. omega arith;
       keeps = λ k i a. elim (same_or_other k f) [
         | inr d ↦ inl (ap (λ (m : ℕ → Bool). m i) (put_other s.reserved f (cut_tail (s.reserved f) p.truncation.new) k d) ∙ a)
         | inl d ↦ by_side k i d a (nat_lt i p.truncation.new) refl

@@ -1,6 +1,6 @@
 -- Who is blocked, by whom, and how few steps a call makes.
-use Rattle.std.proofs.Common.{◌≡◌, ◌≢◌, ℕ, ◌+◌, ◌<◌, ◌≤◌, refl, ap, sym, ◌∙◌, subst, arith, inl, inr, ◌⊎◌, length}
-use Rattle.std.specs.Prelude.{Bool, true, false, Option, Some, None, IfSome, List, [], ◌∷◌, ◌==◌, is_some}
+use Rattle.std.proofs.Common.{◌≡◌, ◌≢◌, ℕ, ◌+◌, ◌≤◌, refl, ap, sym, ◌∙◌, subst, arith, inl, inr, ◌⊎◌, length}
+use Rattle.std.specs.Prelude.{Bool, true, false, Option, Some, None, IfSome, List, [], ◌∷◌, ◌==◌}
 use Rattle.std.proofs.lemmas.Bool.Decides.{nat_tests}
 use Rattle.hp_base.specs.Numbers.{put, bit}
 use Rattle.hp_base.specs.declared.event.Op.{Op}
@@ -10,7 +10,7 @@ use Rattle.hp_base.specs.declared.event.Event.TheVariants.{Begin, Step, Kill}
 use Rattle.hp_base.specs.declared.mapping.Mapping.{Mapping}
 use Rattle.hp_base.proofs.Puts.{put_same, put_other, same_or_other}
 use Rattle.hp_machine.specs.State.{Geometry, Pool, State, pool_of, with_pool, slot_of, is_dead, is_killed}
-use Rattle.hp_machine.specs.Events.{Row, CallRow, BeginRow, StepRow, KillRow, Run, IsReached, first, word_of, lives_after}
+use Rattle.hp_machine.specs.Events.{Row, CallRow, Run, IsReached, first, word_of, lives_after}
 use Rattle.hp_machine.specs.Views.{slot_held, locked_file, wants_slot, wants_lock}
 use Rattle.hp_machine.specs.declared.outcome.Outcome.{Outcome}
 use Rattle.hp_machine.specs.declared.outcome.Outcome.TheVariants as outcome
@@ -25,7 +25,6 @@ use Rattle.hp_machine.specs.declared.call.Call.{Call}
 use Rattle.hp_machine.specs.declared.call.Call.TheVariants as call
 use Rattle.hp_laws.specs.Bounds.{most_steps, is_own, own_steps, is_begun, calls_begun, sizes, IsTop, TopIs, WaitsFor, HoldsUp, IsUnblocked}
 use Rattle.hp_laws.proofs.StepsLeft.{steps_left}
-use Rattle.hp_laws.proofs.Invariant.{Inv}
 use Rattle.hp_laws.proofs.Holding.{some_same}
 use Rattle.hp_laws.proofs.Runs.{Always, always, call_keeps, row_keeps}
 use Rattle.hp_laws.proofs.Reading.{begin_cases, step_cases, kill_cases, Gone, Steps, call_steps, same_state}
@@ -278,7 +277,7 @@ pub own_steps_few : (s after n : State) (t top : ℕ) (p : Op) (es : List (Event
 own_steps_few s after n t top p es r reached begun quiet tops =
     let h = always s reached in
     let a : left t top after ≡ most_steps s.geometry p (length (s.areas t)) top = begin_cases s t p outcome.Begun after (left t top after ≡ most_steps s.geometry p (length (s.areas t)) top) begun
-        (λ why e d. (let z : outcome.Begun ≡ outcome.Refused why = e in absurd (cc)))
-        (λ lives none may e d. ap (left t top) d ∙ (ap (steps_left s.geometry (length (s.areas t)) top) (put_same s.calls t (Some (first p))) ∙ left_first s.geometry p (length (s.areas t)) top)) in
+    (λ why e d. (let z : outcome.Begun ≡ outcome.Refused why = e in absurd (cc)))
+    (λ lives none may e d. ap (left t top) d ∙ (ap (steps_left s.geometry (length (s.areas t)) top) (put_same s.calls t (Some (first p))) ∙ left_first s.geometry p (length (s.areas t)) top)) in
     let b : own_steps t es + left t top n ≤ left t top after = run_counts t top after es n r (row_keeps s (Begin t p) outcome.Begun after h begun) quiet tops in
     omega arith

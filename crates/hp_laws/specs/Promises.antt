@@ -1,5 +1,5 @@
 -- Which indices a Map has promised to those who touch them.
-use Rattle.std.specs.Prelude.{◌≡◌, ◌≢◌, ◌⊎◌, ℕ, ◌+◌, Bool, true, false, ◌==◌, ◌&&◌, ◌||◌, not, nat_le, Option, Some, None, List, [], ◌∷◌}
+use Rattle.std.specs.Prelude.{◌≡◌, ◌≢◌, ◌⊎◌, ℕ, ◌+◌, Bool, true, false, ◌==◌, ◌&&◌, ◌||◌, not, nat_le, Option, Some, List, [], ◌∷◌}
 use Rattle.hp_base.specs.Indices.{is_within}
 use Rattle.hp_base.specs.declared.answer.Answer.{Answer}
 use Rattle.hp_base.specs.declared.answer.Answer.TheVariants as answer
