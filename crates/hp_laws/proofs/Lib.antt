@@ -7,11 +7,13 @@ pub mod Effects
 pub mod Holding
 pub mod Invariant
 pub mod Keeping
+pub mod LastWords
 pub mod Leads
 pub mod Losing
 pub mod MapKeeps
 pub mod Meets
 pub mod Moves
+pub mod Paging
 pub mod Passing
 pub mod Promising
 pub mod PunchKeeps

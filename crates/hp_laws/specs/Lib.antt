@@ -3,3 +3,4 @@ pub mod Enough
 pub mod Promises
 pub mod Protocol
 pub mod Sweep
+pub mod Words
