@@ -4,6 +4,7 @@ pub mod Claims
 pub mod Cover
 pub mod Cuts
 pub mod Effects
+pub mod Histories
 pub mod Holding
 pub mod Invariant
 pub mod Keeping

@@ -5,7 +5,7 @@
 //! the crates above prove that their steps are the machine's rows, and have these theorems then.
 #![tactic(auto)]
 
-ghost use Rattle.std.specs.Prelude.{◌≡◌, ◌≢◌, ◌≤◌, ◌<◌, ℕ, Bool, true, false, Some, List, length};
+ghost use Rattle.std.specs.Prelude.{◌≡◌, ◌≢◌, ◌≤◌, ◌<◌, ℕ, Bool, true, false, Some, List, ◌∷◌, length};
 ghost use Rattle.hp_base.specs.Mappings.{find};
 ghost use Rattle.hp_frames.specs.declared.frame.FrameState.TheVariants.{Free};
 ghost use Rattle.hp_base.specs.declared.answer.Answer.{Answer};
@@ -34,6 +34,7 @@ ghost use Rattle.hp_machine.specs.declared.truncate.TruncatePhase.{TruncatePhase
 ghost use Rattle.hp_laws.specs.Bounds.{most_steps, own_steps, calls_begun, TopIs, HoldsUp, IsUnblocked};
 ghost use Rattle.hp_laws.specs.Enough.{CanSettle};
 ghost use Rattle.hp_laws.specs.Promises.{promised, Undisturbed, IsServed};
+ghost use Rattle.hp_laws.specs.Words.{Moment, History, LastWord, Read, in_order};
 ghost use Rattle.hp_laws.specs.Protocol.{ChangesAreCalls, SparesSuffice, PagesAreReserved, HandsApart, BareWhereMade, GoesUnderLock, PassedIsBare, truncation_of, IsCut};
 
 /// After every list of events by any number of tasks, with kills and refused memory anywhere:
@@ -172,3 +173,16 @@ pub fn a_promised_touch_is_served()
         → first op ≡ call.Touch (touch.Look look) → find (s.areas t) look.vpn ≡ Some (f, i) → s.life t ≡ Alive → Row s (Begin t op) Begun mid → calls_begun t rest ≡ 0
         → Undisturbed t f i mid rest n run (promised g frames events s past) → Row n (Step t true) (Ended answer) after → IsServed answer }
 {}
+
+/// Each run has its history: its events with the states around them.
+pub fn a_run_has_its_history()
+    ensures { (g : Geometry) (frames : ℕ) (events : List (Event × Outcome)) (s : State) → Run (opening g frames) events s → (moments : List Moment) × History g frames moments s × (in_order moments ≡ events) }
+{
+}
+
+/// A load tells the last word of its page at the step that reads it: that of the last store that
+/// wrote there since the page was placed, else 0. No other word is the last one.
+pub fn a_load_tells_the_last_word()
+    ensures { (g : Geometry) (frames : ℕ) (past : List Moment) (m : Moment) (f i word : ℕ) → History g frames (m ∷ past) m.after → Read f i m word → LastWord f i past word × ((other : ℕ) → LastWord f i past other → other ≡ word) }
+{
+}
