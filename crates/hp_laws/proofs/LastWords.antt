@@ -1,20 +1,19 @@
 -- The word of each page is the last one that was made there.
-use Rattle.std.proofs.Common.{◌≡◌, ◌≢◌, ℕ, refl, ap, sym, ◌∙◌, subst, arith, inl, inr, ◌⊎◌, append_assoc, append-nil}
-use Rattle.std.specs.Prelude.{Bool, true, false, nat_le, Option, Some, None, List, [], ◌∷◌, ◌++◌}
+use Rattle.std.proofs.Common.{◌≡◌, ◌≢◌, ℕ, refl, ap, sym, ◌∙◌, subst, inl, inr, ◌⊎◌}
+use Rattle.std.specs.Prelude.{Bool, true, false, nat_le, Option, Some, None}
 use Rattle.hp_base.specs.Numbers.{put, put2}
 use Rattle.hp_base.specs.Mappings.{find}
 use Rattle.hp_base.specs.declared.answer.Answer.{Answer}
 use Rattle.hp_base.specs.declared.answer.Answer.TheVariants as answer
 use Rattle.hp_base.specs.declared.event.Event.{Event}
 use Rattle.hp_base.specs.declared.event.Event.TheVariants.{Begin, Step, Kill}
-use Rattle.hp_base.proofs.Puts.{put_same, put_other, put_tells, put2_tells, same_or_other}
+use Rattle.hp_base.proofs.Puts.{put_same, put_other, put2_tells, same_or_other}
 use Rattle.hp_frames.specs.declared.frame.FrameState.{FrameState}
 use Rattle.hp_frames.specs.declared.frame.FrameState.TheVariants as state
-use Rattle.hp_machine.specs.State.{Geometry, Pool, State, pool_of, with_pool, is_killed}
+use Rattle.hp_machine.specs.State.{Pool, State, pool_of, is_killed}
 use Rattle.hp_machine.specs.Parts.{answer_of, frame_after}
-use Rattle.hp_machine.specs.Headline.{Page}
 use Rattle.hp_machine.specs.TouchRows.{TouchLookRow, TouchFoundRow}
-use Rattle.hp_machine.specs.Events.{Row, CallRow, Run, opening, told, left, lives_after, word_of}
+use Rattle.hp_machine.specs.Events.{Row, CallRow, told, left}
 use Rattle.hp_machine.specs.declared.touch.Access.{Access}
 use Rattle.hp_machine.specs.declared.touch.Access.TheVariants.{Load, Store}
 use Rattle.hp_machine.specs.declared.touch.Look.{Look}
@@ -28,14 +27,14 @@ use Rattle.hp_machine.specs.declared.outcome.Refusal.{Refusal}
 use Rattle.hp_machine.specs.declared.call.Call.{Call}
 use Rattle.hp_machine.specs.declared.call.Call.TheVariants as call
 use Rattle.hp_machine.specs.declared.call.Turn.{Turn}
-use Rattle.hp_machine.specs.declared.call.Turn.TheVariants.{Moved, Blocked, Ended}
-use Rattle.hp_laws.specs.Words.{Moment, Wrote, Placed, Sets, LastWord}
+use Rattle.hp_machine.specs.declared.call.Turn.TheVariants.{Moved, Ended}
+use Rattle.hp_laws.specs.Words.{Moment, Wrote, Sets}
 use Rattle.hp_laws.proofs.Invariant.{Inv}
-use Rattle.hp_laws.proofs.Moves.{same_place, other_page}
-use Rattle.hp_laws.proofs.Shared.{by_test, by_option, stands_at}
-use Rattle.hp_laws.proofs.Runs.{Always, row_keeps, opens_well}
+use Rattle.hp_laws.proofs.Moves.{other_page}
+use Rattle.hp_laws.proofs.Shared.{by_test, by_option}
+use Rattle.hp_laws.proofs.Runs.{Always}
 use Rattle.hp_laws.proofs.Reading.{begin_cases, step_cases, kill_cases}
-use Rattle.hp_laws.proofs.Paging.{Shrinks, PlacesOne, Pages, reads, call_pages}
+use Rattle.hp_laws.proofs.Paging.{Shrinks, PlacesOne, reads, call_pages}
 
 abbrev pub moment : State → Event → Outcome → State → Moment
 moment s event o n = record { before = s; event = event; outcome = o; after = n }
@@ -91,12 +90,18 @@ stores_tell s event o n f i x old word h page was pages frame wrote only k j y w
     elim (same_or_other y x) [
       | inl d ↦ (let at = other_page s.frames s.frame _ s.pages f i k j x h.place page (there ∙ ap (λ (m : ℕ). Some m) d) in
           let is : w ≡ word = same_word (sym new ∙ (ap (put s.frame x (state.Placed word)) d ∙ put_same s.frame x (state.Placed word))) in
-          inl (subst (λ (m : ℕ). Sets k j (moment s event o n) m) (sym is) (subst (λ (m : ℕ). Sets m j (moment s event o n) word) (sym at.0) (subst (λ (m : ℕ). Sets f m (moment s event o n) word) (sym at.1) (inl wrote))),
-          λ v sets. elim sets [ inl z ↦ (only k j v z).2 ∙ sym is | inr z ↦ none_some (s.pages k j) z.0.0 there ]))
-      | inr d ↦ inr ((λ v sets. elim sets [
-        | inl z ↦ (let at = only k j v z in d (same_frame (sym there ∙ (ap (λ (m : ℕ). s.pages m j) at.0 ∙ (ap (s.pages f) at.1 ∙ page)))))
-        | inr z ↦ none_some (s.pages k j) z.0.0 there
-      ]), there, sym (put_other s.frame x (state.Placed word) y d) ∙ new)
+          inl (
+            subst (λ (m : ℕ). Sets k j (moment s event o n) m) (sym is) (subst (λ (m : ℕ). Sets m j (moment s event o n) word) (sym at.0) (subst (λ (m : ℕ). Sets f m (moment s event o n) word) (sym at.1) (inl wrote))),
+            λ v sets. elim sets [ inl z ↦ (only k j v z).2 ∙ sym is | inr z ↦ none_some (s.pages k j) z.0.0 there ],
+          ))
+      | inr d ↦ inr (
+        (λ v sets. elim sets [
+          | inl z ↦ (let at = only k j v z in d (same_frame (sym there ∙ (ap (λ (m : ℕ). s.pages m j) at.0 ∙ (ap (s.pages f) at.1 ∙ page)))))
+          | inr z ↦ none_some (s.pages k j) z.0.0 there
+        ]),
+        there,
+        sym (put_other s.frame x (state.Placed word) y d) ∙ new,
+      )
     ]
 
 same_task : {t u : ℕ} {a b : Bool} → Step t a ≡ Step u b → u ≡ t
@@ -163,7 +168,7 @@ look_tells s t killed grant p turn pool o n h e row tells pages frame =
         (inl (t, grant, p, refl, e, is, there, tells ∙ (ap (told call.Touch) r.0 ∙ ap (λ (a : Access). outcome.Ended (answer_of a word)) is)))
         (λ f i v wrote. stored_by s t grant (call.Touch (touch.Look p)) o n e ((f ≡ place.0) × (i ≡ place.1) × (v ≡ new)) f i v wrote
         (λ q d a b z. let same_p = same_look q d in let at : (f, i) ≡ place = pair_of (sym b ∙ (ap (λ (m : Look). find (s.areas t) m.vpn) (sym same_p) ∙ there)) in
-            (ap (λ (m : ℕ × ℕ). m.0) at, ap (λ (m : ℕ × ℕ). m.1) at, same_store (sym a ∙ (ap (λ (m : Look). m.access) (sym same_p) ∙ is))))
+        (ap (λ (m : ℕ × ℕ). m.0) at, ap (λ (m : ℕ × ℕ). m.1) at, same_store (sym a ∙ (ap (λ (m : Look). m.access) (sym same_p) ∙ is))))
         (λ q d a b z l. absurd (not_found q d)))
       where
         pair_of : {a b : ℕ × ℕ} → Some a ≡ Some b → a ≡ b

@@ -1,11 +1,11 @@
 -- What each row does to the pages and their words.
-use Rattle.std.proofs.Common.{◌≡◌, ◌≢◌, ℕ, ◌+◌, ◌-◌, ◌<◌, ◌≤◌, refl, ap, sym, ◌∙◌, subst, arith, inl, inr, ◌⊎◌}
-use Rattle.std.specs.Prelude.{Bool, true, false, not, ◌&&◌, ◌==◌, ◌||◌, nat_le, nat_lt, max, is_some, Option, Some, None}
+use Rattle.std.proofs.Common.{◌≡◌, ℕ, ◌+◌, ◌-◌, refl, ap, sym, ◌∙◌, inl, inr, ◌⊎◌}
+use Rattle.std.specs.Prelude.{Bool, true, false, not, ◌&&◌, ◌==◌, nat_le, nat_lt, max, is_some, Option, Some, None}
 use Rattle.hp_base.specs.Numbers.{put, put2}
 use Rattle.hp_base.specs.Indices.{missing, splits}
-use Rattle.hp_base.specs.Mappings.{find, is_base, first_base, without}
+use Rattle.hp_base.specs.Mappings.{is_base, first_base, without}
 use Rattle.hp_base.specs.declared.answer.Answer.{Answer}
-use Rattle.hp_base.proofs.Puts.{put_same, put_other, put_tells, put2_tells, same_or_other}
+use Rattle.hp_base.proofs.Puts.{put_tells, put2_tells}
 use Rattle.hp_frames.specs.declared.frame.FrameState.{FrameState}
 use Rattle.hp_frames.specs.declared.frame.FrameState.TheVariants as state
 use Rattle.hp_region.specs.Change.{Change}
@@ -92,8 +92,7 @@ unmap_index_pages s k f i more last turn new row = by_test (nat_lt k s.geometry.
 evict_pages : {P : Type 0} (s : State) (f i : ℕ) (next : ℕ → P) (turn : Turn P) (new : Pool) → EvictRow (pool_of s) f i next turn new → Pages s new
 evict_pages s f i next turn new (x, page, row) = inl (λ k j y w a b.
     let c : put2 s.pages f i None k j ≡ Some y = sym (ap (λ (m : Pool). m.pages k j) row.1) ∙ a in
-    let d : put s.frame x state.Hand y ≡ state.Placed w = sym (ap (λ (m : Pool). m.frame y) row.1) ∙ b in
-    (
+    let d : put s.frame x state.Hand y ≡ state.Placed w = sym (ap (λ (m : Pool). m.frame y) row.1) ∙ b in (
       (elim (put2_tells s.pages f i None k j) [ inl q ↦ (let z : ◌≡◌ {A = Option ℕ} None (Some y) = sym q.2 ∙ c in absurd (cc)) | inr q ↦ sym q.1 ∙ c ]),
       (elim (put_tells s.frame x state.Hand y) [ inl q ↦ absurd (hand_not_placed w (sym q.1 ∙ d)) | inr q ↦ sym q.1 ∙ d ]),
     ))

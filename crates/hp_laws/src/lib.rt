@@ -177,12 +177,10 @@ pub fn a_promised_touch_is_served()
 /// Each run has its history: its events with the states around them.
 pub fn a_run_has_its_history()
     ensures { (g : Geometry) (frames : ℕ) (events : List (Event × Outcome)) (s : State) → Run (opening g frames) events s → (moments : List Moment) × History g frames moments s × (in_order moments ≡ events) }
-{
-}
+{}
 
 /// A load tells the last word of its page at the step that reads it: that of the last store that
 /// wrote there since the page was placed, else 0. No other word is the last one.
 pub fn a_load_tells_the_last_word()
     ensures { (g : Geometry) (frames : ℕ) (past : List Moment) (m : Moment) (f i word : ℕ) → History g frames (m ∷ past) m.after → Read f i m word → LastWord f i past word × ((other : ℕ) → LastWord f i past other → other ≡ word) }
-{
-}
+{}
