@@ -67,6 +67,12 @@ sure_end s t grant b n w row = step_cases s t grant (outcome.Ended b) n (b ≢ a
     (λ why e d. ends_not_refused b why e)
     (λ c lives e pool next r d. (touch_call s t (is_killed (s.life t)) grant Sure Sure Isnt c (outcome.Ended b) pool next (λ phase turn q k r. sure_turn s t (is_killed (s.life t)) grant phase turn pool k r) (subst (CallWell Sure) e w) r).1 b refl)
 
+-- a touch whose change found nothing missing never answers that there is no frame
+pub touch_never_lacks : (s : State) (t : ℕ) (p : Changed.Changed) (rest : List (Event × Outcome)) (n : State) (last : Bool) (b : Answer) (after : State)
+    → IsReached s → s.calls t ≡ Some (call.Touch (touch.Changed p)) → p.pending.missing ≡ 0 → Run s rest n → calls_begun t rest ≡ 0 → Row n (Step t last) (outcome.Ended b) after → b ≢ answer.NoFrame
+touch_never_lacks s t p rest n last b after reached e none run quiet ended =
+    sure_end n t last b after (sure_run t s rest n run (always s reached) quiet (subst (CallWell Sure) (sym e) none)).0 ended
+
 -- a touch whose index is promised where it asks what is missing never answers that there is no frame
 pub promised_never_lacks : (g : Geometry) (frames : ℕ) (es : List (Event × Outcome)) (s : State) (past : Run (opening g frames) es s) (t : ℕ) (grant : Bool) (p : Missing) (o : Outcome) (mid : State) (rest : List (Event × Outcome)) (n : State) (last : Bool) (b : Answer) (after : State)
     → s.calls t ≡ Some (call.Touch (touch.Missing p)) → promised g frames es s past p.touch.file p.touch.index ≡ true → Row s (Step t grant) o mid → Run mid rest n → calls_begun t rest ≡ 0 → Row n (Step t last) (outcome.Ended b) after → b ≢ answer.NoFrame

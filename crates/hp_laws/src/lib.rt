@@ -156,6 +156,14 @@ pub fn an_alloc_that_misses_nothing_takes_a_frame()
         → (x : ℕ) × (s.frame x ≡ Free) × (outcome ≡ Moved word.Taken) × (after.calls t ≡ Some (call.Alloc (alloc.Taken (record { allocation = p.allocation; index = p.index; pending = p.pending; held = x })))) }
 {}
 
+/// A touch whose change found nothing missing never answers that there is no frame, whatever comes
+/// between.
+pub fn a_touch_that_misses_nothing_never_lacks_a_frame()
+    ensures { (s : State) (t : ℕ) (p : touch_changed.Changed) (rest : List (Event × Outcome)) (n : State) (last : Bool) (answer : Answer) (after : State)
+        → IsReached s → s.calls t ≡ Some (call.Touch (touch.Changed p)) → p.pending.missing ≡ 0
+        → Run s rest n → calls_begun t rest ≡ 0 → Row n (Step t last) (Ended answer) after → answer ≢ NoFrame }
+{}
+
 /// A touch whose index is promised where it asks what is missing never answers that there is no
 /// frame.
 pub fn a_promised_touch_never_lacks_a_frame()
