@@ -9,6 +9,7 @@ pub mod Holding
 pub mod Invariant
 pub mod Keeping
 pub mod LastWords
+pub mod Lasting
 pub mod Leads
 pub mod Losing
 pub mod MapKeeps

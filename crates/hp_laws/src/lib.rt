@@ -26,6 +26,7 @@ ghost use Rattle.hp_machine.specs.declared.phase.Phase.{Phase};
 ghost use Rattle.hp_machine.specs.declared.phase.Phase.TheVariants as word;
 ghost use Rattle.hp_machine.specs.declared.alloc.AllocPhase.TheVariants as alloc;
 ghost use Rattle.hp_machine.specs.declared.alloc.Changed as alloc_changed;
+ghost use Rattle.hp_machine.specs.declared.alloc.Unslot.{Unslot};
 ghost use Rattle.hp_machine.specs.declared.touch.Changed as touch_changed;
 ghost use Rattle.hp_machine.specs.declared.touch.Look.{Look};
 ghost use Rattle.hp_machine.specs.declared.touch.Missing.{Missing};
@@ -162,6 +163,14 @@ pub fn a_touch_that_misses_nothing_never_lacks_a_frame()
     ensures { (s : State) (t : ℕ) (p : touch_changed.Changed) (rest : List (Event × Outcome)) (n : State) (last : Bool) (answer : Answer) (after : State)
         → IsReached s → s.calls t ≡ Some (call.Touch (touch.Changed p)) → p.pending.missing ≡ 0
         → Run s rest n → calls_begun t rest ≡ 0 → Row n (Step t last) (Ended answer) after → answer ≢ NoFrame }
+{}
+
+/// An allocation whose change found nothing missing at an index doesn't leave that index for want
+/// of a frame, whatever comes between.
+pub fn an_alloc_that_misses_nothing_never_lacks_a_frame()
+    ensures { (s : State) (t : ℕ) (p : alloc_changed.Changed) (rest : List (Event × Outcome)) (n : State) (q : Unslot)
+        → IsReached s → s.calls t ≡ Some (call.Alloc (alloc.Changed p)) → p.pending.missing ≡ 0
+        → Run s rest n → calls_begun t rest ≡ 0 → n.calls t ≡ Some (call.Alloc (alloc.Unslot q)) → q.index ≡ p.index → q.answer ≢ Some NoFrame }
 {}
 
 /// A touch whose index is promised where it asks what is missing never answers that there is no
