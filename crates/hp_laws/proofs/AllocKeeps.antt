@@ -1,8 +1,7 @@
 -- Each row of an allocation keeps the invariant.
-use Rattle.std.proofs.Common.{◌≡◌, ◌≢◌, ℕ, ◌+◌, ◌-◌, ◌<◌, ◌≤◌, refl, ap, sym, ◌∙◌, subst, arith, inl, inr}
-use Rattle.std.specs.Prelude.{Bool, true, false, ◌==◌, nat_lt, max, is_some, Option, Some, None, IfSome}
+use Rattle.std.proofs.Common.{◌≡◌, ℕ, ◌+◌, ◌-◌, ◌<◌, refl, ap, arith}
+use Rattle.std.specs.Prelude.{Bool, true, nat_lt, max, is_some, Some, None}
 use Rattle.std.proofs.lemmas.Bool.Decides.{nat_tests}
-use Rattle.hp_base.specs.Numbers.{put}
 use Rattle.hp_base.specs.declared.answer.Answer.{Answer}
 use Rattle.hp_base.specs.declared.answer.Answer.TheVariants as answer
 use Rattle.hp_base.proofs.Puts.{put_same}
@@ -15,15 +14,12 @@ use Rattle.hp_machine.specs.declared.alloc.Changed.{Changed}
 use Rattle.hp_machine.specs.declared.alloc.Taken.{Taken}
 use Rattle.hp_machine.specs.declared.alloc.Committed.{Committed}
 use Rattle.hp_machine.specs.declared.alloc.Unslot.{Unslot}
-use Rattle.hp_machine.specs.declared.alloc.Allocation.{Allocation}
 use Rattle.hp_machine.specs.declared.alloc.AllocPhase.{AllocPhase}
 use Rattle.hp_machine.specs.declared.alloc.AllocPhase.TheVariants as at
-use Rattle.hp_machine.specs.declared.call.Call.{Call}
 use Rattle.hp_machine.specs.declared.call.Call.TheVariants as call
 use Rattle.hp_machine.specs.declared.call.Turn.{Turn}
 use Rattle.hp_machine.specs.State.{Pool, State, pool_of, slot_of}
 use Rattle.hp_laws.specs.Sweep.{passed}
-use Rattle.hp_laws.proofs.Standing.{Stands}
 use Rattle.hp_laws.proofs.Invariant
 use Rattle.hp_laws.proofs.Invariant.{Inv, stays}
 use Rattle.hp_laws.proofs.Holding.{leaves_slot, leaves_lock}
@@ -64,7 +60,11 @@ alloc_missing s t grant p turn new h l e row =
     let o = one_change (s.reserved p.allocation.file) p.index in
     change_row call.Alloc s t grant p.allocation.file p.index (p.index + 1) (at.Missing p) _ (λ change. at.Changed (record { allocation = p.allocation; index = p.index; pending = change })) turn new h l e row (record {
       denied = stays s.geometry s t _ (Some (call.Alloc (at.Unslot (record { allocation = p.allocation; index = p.index; answer = Some answer.NoMemory })))) h l e refl tt (record { slot = y.slot; lock = y.lock; facts = record { range = y.facts.range } });
-      same = refl; none = refl; some = refl; balance = refl; fill = tt;
+      same = refl;
+      none = refl;
+      some = refl;
+      balance = refl;
+      fill = tt;
       own = record { slot = y.slot; lock = y.lock; facts = record { range = y.facts.range; bare = y.facts.bare; one = o.0; marked = o.1 } };
     })
 
@@ -77,7 +77,12 @@ alloc_changed s t killed p turn new h l e row =
     (λ is r. so call.Alloc s t _ turn _ new r (aborts answer.Interrupted))
     (λ alive r. take_row call.Alloc s t p.pending.missing (at.Changed p) _ (λ x. at.Taken (record { allocation = p.allocation; index = p.index; pending = p.pending; held = x })) turn new h l e r (record {
       lacks = aborts answer.NoFrame;
-      same = λ x. refl; empty = refl; full = λ x. refl; owes = λ x. refl; free = refl; fill = λ x. tt;
+      same = λ x. refl;
+      empty = refl;
+      full = λ x. refl;
+      owes = λ x. refl;
+      free = refl;
+      fill = λ x. tt;
       own = λ x. record { slot = y.slot; lock = y.lock; facts = y.facts };
     }))
 
@@ -86,9 +91,22 @@ alloc_taken s t p turn new h l e row =
     let y = stands_at s t _ h e in
     let marked = own_reserved s p.allocation.file p.index p.pending y.facts.one in
     commit_row call.Alloc s t p.allocation.file p.index p.pending (at.Taken p) (at.Settle (record { allocation = p.allocation; index = p.index; held = p.held })) (at.Committed (record { allocation = p.allocation; index = p.index; held = p.held })) turn new h l e row (record {
-      file = y.facts.range.0; index = (let a = y.facts.range.2 in let b = y.facts.range.3 in omega arith); one = y.facts.one; marked = y.facts.marked;
+      file = y.facts.range.0;
+      index = (let a = y.facts.range.2 in let b = y.facts.range.3 in omega arith);
+      one = y.facts.one;
+      marked = y.facts.marked;
       nobody = λ u a. no_passer s.geometry s t p.allocation.file h y.lock (λ j. ap (λ c. passed c p.allocation.file j) e) u p.index a;
-      opened = refl; owes = refl; awaits = refl; settles = refl; settle_none = refl; settle_less = refl; settle_more = refl; nexts = refl; next_none = refl; next_less = refl; next_more = refl;
+      opened = refl;
+      owes = refl;
+      awaits = refl;
+      settles = refl;
+      settle_none = refl;
+      settle_less = refl;
+      settle_more = refl;
+      nexts = refl;
+      next_none = refl;
+      next_less = refl;
+      next_more = refl;
       fill_settle = tt;
       fill_next = tt;
       own_settle = record { slot = y.slot; lock = y.lock; facts = record { range = y.facts.range; bare = y.facts.bare; marked = marked } };

@@ -1,6 +1,6 @@
 -- There are as many reservations as calls count on.
-use Rattle.std.proofs.Common.{◌≡◌, ℕ, ◌+◌, ◌-◌, ◌<◌, ◌≤◌, refl, ap, sym, ◌∙◌, subst, arith}
-use Rattle.std.specs.Prelude.{Bool, true, false, Option, Some, None, ◌==◌, ◌&&◌, nat_le}
+use Rattle.std.proofs.Common.{◌≡◌, ℕ, ◌+◌, ◌-◌, ◌<◌, ◌≤◌, refl, ap, ◌∙◌, arith}
+use Rattle.std.specs.Prelude.{Bool, true, false, Option, Some, ◌==◌, ◌&&◌, nat_le}
 use Rattle.std.proofs.lemmas.Bool.Decides.{nat_tests}
 use Rattle.hp_base.specs.Numbers.{total, bit, is_none}
 use Rattle.hp_base.specs.Indices.{vacant, count_within}
@@ -17,7 +17,7 @@ use Rattle.hp_machine.specs.declared.call.Call.{Call}
 use Rattle.hp_machine.specs.declared.call.Call.TheVariants as call
 use Rattle.hp_laws.specs.Enough.{CanSettle}
 use Rattle.hp_laws.proofs.Standing.{Stands}
-use Rattle.hp_laws.proofs.Invariant.{Inv, vacant_of, sum_of}
+use Rattle.hp_laws.proofs.Invariant.{Inv, vacant_of}
 use Rattle.hp_laws.proofs.Claims.{only_if, claim, claimed, once}
 
 -- how many indices a call counts on

@@ -1,5 +1,5 @@
 -- What a truncation lowers, passes and cuts off.
-use Rattle.std.proofs.Common.{◌≡◌, ◌≢◌, ℕ, ◌+◌, ◌-◌, ◌<◌, ◌≤◌, refl, ap, sym, ◌∙◌, subst, arith, inl, inr, ◌⊎◌}
+use Rattle.std.proofs.Common.{◌≡◌, ◌≢◌, ℕ, ◌+◌, ◌<◌, ◌≤◌, refl, ap, sym, ◌∙◌, subst, arith, inl, inr, ◌⊎◌}
 use Rattle.std.specs.Prelude.{Bool, true, false, Option, Some, None, IfSome}
 use Rattle.hp_base.specs.Numbers.{put}
 use Rattle.hp_base.specs.Indices.{vacant, count_within, cut_tail}
@@ -12,8 +12,8 @@ use Rattle.hp_machine.specs.Views.{less, more, hand, change_in, locked_file, slo
 use Rattle.hp_machine.specs.declared.call.Call.{Call}
 use Rattle.hp_laws.specs.Sweep.{fills, ahead, passed, gone}
 use Rattle.hp_laws.proofs.Standing.{HasSlot, HasLock, Stands}
-use Rattle.hp_laws.proofs.Staying.{Keeps, stands_after}
-use Rattle.hp_laws.proofs.Invariant.{Reached, Swept, Holders, Inv, GoesOn, goes_on, put_known, vacant_of, place_same, same_opens, sweeps, holds, to, if_weaker}
+use Rattle.hp_laws.proofs.Staying.{stands_after}
+use Rattle.hp_laws.proofs.Invariant.{Reached, Swept, Holders, Inv, goes_on, put_known, vacant_of, place_same, same_opens, holds, to, if_weaker}
 use Rattle.hp_laws.proofs.Holding.{some_same, left_holders, left_stands}
 use Rattle.hp_laws.proofs.Passing.{locks_file, holds_slot, fills_slot, passed_locked, reached_not_passed, same_holder}
 
@@ -66,7 +66,13 @@ pub cuts : (g : Geometry) (s : State) (t : ℕ) (b c : Option Call) (f new top :
     → fills c ≡ None → ((k j : ℕ) → gone c k j ≡ true → ⊥)
     → Stands g (record s { size = put s.size f new }) t c → Inv g (to (record s { size = put s.size f new }) t c)
 cuts g s t b c f new top h l e same_held same_hand same_change balance held low size_low bare none_ahead covers passes no_fill none_gone own = goes_on g s n t b c h l e (record {
-  geometry = h.geometry; entries = h.entries; ranges = h.ranges; spread = h.spread; inside = h.inside; spares = h.spares; enough = h.enough;
+  geometry = h.geometry;
+  entries = h.entries;
+  ranges = h.ranges;
+  spread = h.spread;
+  inside = h.inside;
+  spares = h.spares;
+  enough = h.enough;
   count = omega arith;
   place = place_same g s t b c h e same_hand;
   sweep = record {
@@ -109,7 +115,14 @@ pub passes : (g : Geometry) (s : State) (t : ℕ) (b c : Option Call) (f i new :
     → ((k j : ℕ) → passed c k j ≡ true → (passed b k j ≡ true) ⊎ ((k ≡ f) × (j ≡ i) × (new ≤ j))) → ((k j : ℕ) → gone c k j ≡ true → ⊥)
     → Stands g (record s { slots = put s.slots (slot_of g f i) None }) t c → Inv g (to (record s { slots = put s.slots (slot_of g f i) None }) t c)
 passes g s t b c f i new h l e same_lock some none same_hand same_change balance no_b no_c held bare sized aheads passing none_gone own = goes_on g s n t b c h l e (record {
-  geometry = h.geometry; entries = h.entries; ranges = h.ranges; spread = h.spread; inside = h.inside; sizes = h.sizes; spares = h.spares; enough = h.enough;
+  geometry = h.geometry;
+  entries = h.entries;
+  ranges = h.ranges;
+  spread = h.spread;
+  inside = h.inside;
+  sizes = h.sizes;
+  spares = h.spares;
+  enough = h.enough;
   count = omega arith;
   place = place_same g s t b c h e same_hand;
   sweep = record {
@@ -168,16 +181,25 @@ pub cuts_tail : (g : Geometry) (s : State) (t : ℕ) (b c : Option Call) (f new 
     → HasLock s t f → ((j : ℕ) → new ≤ j → passed (s.calls t) f j ≡ true)
     → Stands g (record s { reserved = put s.reserved f (cut_tail (s.reserved f) new) }) t c → Inv g (to (record s { reserved = put s.reserved f (cut_tail (s.reserved f) new) }) t c)
 cuts_tail g s t b c f new h l e in_files same_ahead same_passed goners same_held same_hand same_change no_fill balance held passing own = goes_on g s n t b c h l e (record {
-  geometry = h.geometry; entries = h.entries; ranges = h.ranges; spread = h.spread; sizes = h.sizes; spares = h.spares; enough = h.enough;
+  geometry = h.geometry;
+  entries = h.entries;
+  ranges = h.ranges;
+  spread = h.spread;
+  sizes = h.sizes;
+  spares = h.spares;
+  enough = h.enough;
   count = (let z = lost_tail in omega arith);
   place = place_same g s t b c h e same_hand;
-  inside = record { low = h.inside.low; bare = λ k j a. elim (same_or_other k f) [
-    | inl d ↦ elim (cut_false (s.reserved f) new j (ap (λ (m : ℕ → Bool). m j) (sym (ap n.reserved d ∙ put_same s.reserved f (cut_tail (s.reserved f) new))) ∙ a)) [
-      | inl q ↦ ap (λ (m : ℕ). s.pages m j) d ∙ h.inside.bare f j q
-      | inr q ↦ ap (λ (m : ℕ). s.pages m j) d ∙ (h.sweep.past t f j (passing j q)).0
-    ]
-    | inr d ↦ h.inside.bare k j (ap (λ (m : ℕ → Bool). m j) (sym (put_other s.reserved f (cut_tail (s.reserved f) new) k d)) ∙ a)
-  ] };
+  inside = record {
+    low = h.inside.low;
+    bare = λ k j a. elim (same_or_other k f) [
+      | inl d ↦ elim (cut_false (s.reserved f) new j (ap (λ (m : ℕ → Bool). m j) (sym (ap n.reserved d ∙ put_same s.reserved f (cut_tail (s.reserved f) new))) ∙ a)) [
+        | inl q ↦ ap (λ (m : ℕ). s.pages m j) d ∙ h.inside.bare f j q
+        | inr q ↦ ap (λ (m : ℕ). s.pages m j) d ∙ (h.sweep.past t f j (passing j q)).0
+      ]
+      | inr d ↦ h.inside.bare k j (ap (λ (m : ℕ → Bool). m j) (sym (put_other s.reserved f (cut_tail (s.reserved f) new) k d)) ∙ a)
+    ];
+  };
   sweep = subst (λ (a : ℕ → ℕ → ℕ → Bool). Swept s.size n.reserved s.pages s.areas s.table a (put (λ (u : ℕ). passed (s.calls u)) t (passed c)) (put (λ (u : ℕ). gone (s.calls u)) t (gone c))) (sym (put_known (λ (u : ℕ). ahead (s.calls u)) t (ahead c) (ap ahead e ∙ sym same_ahead)))
       (subst (λ (a : ℕ → ℕ → ℕ → Bool). Swept s.size n.reserved s.pages s.areas s.table (λ u. ahead (s.calls u)) a (put (λ (u : ℕ). gone (s.calls u)) t (gone c))) (sym (put_known (λ (u : ℕ). passed (s.calls u)) t (passed c) (ap passed e ∙ sym same_passed)))
       (record {

@@ -2,9 +2,8 @@
 use Rattle.std.proofs.Common.{◌≡◌, ◌≢◌, ℕ, ◌+◌, ◌-◌, ◌<◌, ◌≤◌, refl, ap, sym, ◌∙◌, subst, arith, inl, inr}
 use Rattle.std.specs.Prelude.{Bool, true, false, max, Option, Some, None, IfSome, ◌==◌, if◌then◌else◌}
 use Rattle.std.proofs.lemmas.Bool.Decides.{nat_tests}
-use Rattle.hp_base.specs.Numbers.{put, put2, total, bit}
+use Rattle.hp_base.specs.Numbers.{put, put2, bit}
 use Rattle.hp_base.specs.Indices.{is_within, missing, add_range, touches, vacant}
-use Rattle.hp_base.specs.Mappings.{find}
 use Rattle.hp_base.proofs.Puts.{put_same, put_other, same_or_other, put_tells, put2_tells}
 use Rattle.hp_base.proofs.Counting.{count_below-ext}
 use Rattle.hp_base.proofs.Totals.{total_change, total_has, count_below-change}
@@ -15,7 +14,7 @@ use Rattle.hp_region.specs.Change.{Change}
 use Rattle.hp_machine.specs.State.{Geometry, State, slot_of, is_free, free_frames}
 use Rattle.hp_machine.specs.Headline.{Free, Hand}
 use Rattle.hp_machine.specs.Parts.{frame_after}
-use Rattle.hp_machine.specs.Views.{less, more, hand, change_in, opens, locked_file, slot_held}
+use Rattle.hp_machine.specs.Views.{less, more, hand, change_in, opens}
 use Rattle.hp_machine.specs.declared.touch.Access.{Access}
 use Rattle.hp_machine.specs.declared.touch.Access.TheVariants.{Load, Store}
 use Rattle.hp_machine.specs.declared.truncate.TruncatePhase.TheVariants as truncate
@@ -23,9 +22,9 @@ use Rattle.hp_machine.specs.declared.call.Call.{Call}
 use Rattle.hp_machine.specs.declared.call.Call.TheVariants as call
 use Rattle.hp_laws.specs.Sweep.{fills, ahead, passed, gone}
 use Rattle.hp_laws.proofs.Moves.{Placing, takes_frame, gives_frame, places_frame, writes_frame}
-use Rattle.hp_laws.proofs.Standing.{HasSlot, HasLock, Stands}
-use Rattle.hp_laws.proofs.Staying.{Keeps, stands_after}
-use Rattle.hp_laws.proofs.Invariant.{Reached, Inv, goes, vacant_of, sum_of, place_same, same_opens, sweeps, holds, seen, to}
+use Rattle.hp_laws.proofs.Standing.{HasSlot, Stands}
+use Rattle.hp_laws.proofs.Staying.{stands_after}
+use Rattle.hp_laws.proofs.Invariant.{Reached, Inv, goes, vacant_of, sum_of, place_same, same_opens, sweeps, holds, to}
 use Rattle.hp_laws.proofs.Holding.{some_same}
 
 -- the number of free frames, where one changes
@@ -47,7 +46,19 @@ free_same f x n v e = count_below-ext (λ j. is_free (put f x v j)) (λ j. is_fr
 pub touches_word : (g : Geometry) (s : State) (access : Access) (x word : ℕ) → Inv g s → s.frame x ≡ state.Placed word → Inv g (record s { frame = frame_after access s.frame x })
 touches_word g s Load x word h e = h
 touches_word g s (Store new) x word h e = record {
-  geometry = h.geometry; count = h.count; entries = h.entries; ranges = h.ranges; spread = h.spread; inside = h.inside; sweep = h.sweep; reach = h.reach; sizes = h.sizes; changes = h.changes; spares = h.spares; holders = h.holders; stands = h.stands;
+  geometry = h.geometry;
+  count = h.count;
+  entries = h.entries;
+  ranges = h.ranges;
+  spread = h.spread;
+  inside = h.inside;
+  sweep = h.sweep;
+  reach = h.reach;
+  sizes = h.sizes;
+  changes = h.changes;
+  spares = h.spares;
+  holders = h.holders;
+  stands = h.stands;
   enough = (let a : free_frames (put s.frame x (state.Placed new)) s.frames ≡ free_frames s.frame s.frames = free_same s.frame x s.frames (state.Placed new) (ap is_free (sym e)) in let z = h.enough in omega arith);
   place = writes_frame s.frames s.frame (λ u. hand (s.calls u)) s.pages x word new h.place e;
 }
@@ -58,7 +69,17 @@ pub rebalances : (g : Geometry) (s : State) (t : ℕ) (b c : Option Call) (r : �
     → (r + less c) + more b ≡ (s.resv + less b) + more c → r ≤ free_frames s.frame s.frames
     → IfSome (fills c) (λ k. Reached s.size (λ u. ahead (s.calls u)) k.0 k.1) → Stands g s t c → Inv g (to (record s { resv = r }) t c)
 rebalances g s t b c r h l e same same_held same_hand same_change balance enough fill own = goes g s (record s { resv = r }) t b c h l e same same_held (record {
-  geometry = h.geometry; entries = h.entries; ranges = h.ranges; spread = h.spread; inside = h.inside; sweep = h.sweep; reach = h.reach; fill = fill; sizes = h.sizes; spares = h.spares; holders = h.holders;
+  geometry = h.geometry;
+  entries = h.entries;
+  ranges = h.ranges;
+  spread = h.spread;
+  inside = h.inside;
+  sweep = h.sweep;
+  reach = h.reach;
+  fill = fill;
+  sizes = h.sizes;
+  spares = h.spares;
+  holders = h.holders;
   count = omega arith;
   enough = enough;
   place = place_same g s t b c h e same_hand;
@@ -79,7 +100,17 @@ pub opened : (g : Geometry) (s : State) (t : ℕ) (b c : Option Call) (f : ℕ) 
     → IfSome (fills c) (λ k. Reached s.size (λ u. ahead (s.calls u)) k.0 k.1) → Stands g s t c
     → Inv g (to (record s { pending = put s.pending f (s.pending f + 1); spare = put s.spare f (max (s.spare f) (s.pending f + 1)) }) t c)
 opened g s t b c f h l e same same_held same_hand none some balance fill own = goes g s (record s { pending = put s.pending f (s.pending f + 1); spare = put s.spare f (max (s.spare f) (s.pending f + 1)) }) t b c h l e same same_held (record {
-  geometry = h.geometry; entries = h.entries; ranges = h.ranges; spread = h.spread; inside = h.inside; sweep = h.sweep; reach = h.reach; fill = fill; sizes = h.sizes; holders = h.holders; enough = h.enough;
+  geometry = h.geometry;
+  entries = h.entries;
+  ranges = h.ranges;
+  spread = h.spread;
+  inside = h.inside;
+  sweep = h.sweep;
+  reach = h.reach;
+  fill = fill;
+  sizes = h.sizes;
+  holders = h.holders;
+  enough = h.enough;
   count = omega arith;
   place = place_same g s t b c h e same_hand;
   spares = λ k. more_spare s.pending s.spare f k (h.spares k);
@@ -117,7 +148,17 @@ pub closed : (g : Geometry) (s : State) (t : ℕ) (b c : Option Call) (f : ℕ) 
     → sweeps c ≡ sweeps b → holds c ≡ holds b → hand c ≡ hand b → change_in b ≡ Some f → change_in c ≡ None → less c + more b ≡ less b + more c
     → IfSome (fills c) (λ k. Reached s.size (λ u. ahead (s.calls u)) k.0 k.1) → Stands g s t c → Inv g (to (record s { pending = put s.pending f (s.pending f - 1) }) t c)
 closed g s t b c f h l e same same_held same_hand some none balance fill own = goes g s (record s { pending = put s.pending f (s.pending f - 1) }) t b c h l e same same_held (record {
-  geometry = h.geometry; entries = h.entries; ranges = h.ranges; spread = h.spread; inside = h.inside; sweep = h.sweep; reach = h.reach; fill = fill; sizes = h.sizes; holders = h.holders; enough = h.enough;
+  geometry = h.geometry;
+  entries = h.entries;
+  ranges = h.ranges;
+  spread = h.spread;
+  inside = h.inside;
+  sweep = h.sweep;
+  reach = h.reach;
+  fill = fill;
+  sizes = h.sizes;
+  holders = h.holders;
+  enough = h.enough;
   count = omega arith;
   place = place_same g s t b c h e same_hand;
   spares = λ k. less_pending s.pending s.spare f k (h.spares k);
@@ -178,7 +219,15 @@ pub commits : (g : Geometry) (s : State) (t : ℕ) (b c : Option Call) (f : ℕ)
     → less c + more b ≡ less b + missing (s.reserved f) change.from change.to + more c
     → IfSome (fills c) (λ k. Reached s.size (λ u. ahead (s.calls u)) k.0 k.1) → Stands g (committing s f change) t c → Inv g (to (committing s f change) t c)
 commits g s t b c f change h l e in_files low same same_held same_hand some none nobody balance fill own = goes g s (committing s f change) t b c h l e same same_held (record {
-  geometry = h.geometry; entries = h.entries; ranges = h.ranges; spread = h.spread; reach = h.reach; fill = fill; sizes = h.sizes; holders = h.holders; enough = h.enough;
+  geometry = h.geometry;
+  entries = h.entries;
+  ranges = h.ranges;
+  spread = h.spread;
+  reach = h.reach;
+  fill = fill;
+  sizes = h.sizes;
+  holders = h.holders;
+  enough = h.enough;
   count = (let v : vacant_of g (committing s f change).reserved s.pages ≡ vacant_of g s.reserved s.pages + missing (s.reserved f) change.from change.to = grown_vacant g s f change.from change.to h in_files low in omega arith);
   place = place_same g s t b c h e same_hand;
   inside = record { low = h.inside.low; bare = λ k i a. h.inside.bare k i (unless (s.reserved k i) _ (grown_keeps s.reserved f change.from change.to k i) a) };
@@ -205,7 +254,17 @@ pub takes : (g : Geometry) (s : State) (t : ℕ) (b c : Option Call) (x r : ℕ)
     → (r + less c) + more b ≡ (s.resv + less b) + more c → r + 1 ≤ free_frames s.frame s.frames
     → IfSome (fills c) (λ k. Reached s.size (λ u. ahead (s.calls u)) k.0 k.1) → Stands g s t c → Inv g (to (record s { frame = put s.frame x state.Hand; resv = r }) t c)
 takes g s t b c x r h l e free same same_held none some same_change balance enough fill own = goes g s (record s { frame = put s.frame x state.Hand; resv = r }) t b c h l e same same_held (record {
-  geometry = h.geometry; entries = h.entries; ranges = h.ranges; spread = h.spread; inside = h.inside; sweep = h.sweep; reach = h.reach; fill = fill; sizes = h.sizes; spares = h.spares; holders = h.holders;
+  geometry = h.geometry;
+  entries = h.entries;
+  ranges = h.ranges;
+  spread = h.spread;
+  inside = h.inside;
+  sweep = h.sweep;
+  reach = h.reach;
+  fill = fill;
+  sizes = h.sizes;
+  spares = h.spares;
+  holders = h.holders;
   count = omega arith;
   enough = (let a : free_frames (put s.frame x state.Hand) s.frames + bit (is_free (s.frame x)) ≡ free_frames s.frame s.frames + 0 = free_change s.frame x s.frames state.Hand (h.place.one.real x Free free) in let z : bit (is_free (s.frame x)) ≡ 1 = ap (λ (m : FrameState). bit (is_free m)) free in omega arith);
   place = subst (λ (o : Option ℕ). Placing s.frames (put s.frame x state.Hand) (put (λ (u : ℕ). hand (s.calls u)) t o) s.pages) (sym some) (takes_frame s.frames s.frame (λ u. hand (s.calls u)) s.pages t x h.place (ap hand e ∙ none) free);
@@ -220,7 +279,17 @@ pub gives : (g : Geometry) (s : State) (t : ℕ) (b c : Option Call) (x r : ℕ)
     → (r + less c) + more b ≡ (s.resv + less b) + more c → r ≤ s.resv + 1
     → IfSome (fills c) (λ k. Reached s.size (λ u. ahead (s.calls u)) k.0 k.1) → Stands g s t c → Inv g (to (record s { frame = put s.frame x state.Free; resv = r }) t c)
 gives g s t b c x r h l e same same_held some none same_change balance enough fill own = goes g s (record s { frame = put s.frame x state.Free; resv = r }) t b c h l e same same_held (record {
-  geometry = h.geometry; entries = h.entries; ranges = h.ranges; spread = h.spread; inside = h.inside; sweep = h.sweep; reach = h.reach; fill = fill; sizes = h.sizes; spares = h.spares; holders = h.holders;
+  geometry = h.geometry;
+  entries = h.entries;
+  ranges = h.ranges;
+  spread = h.spread;
+  inside = h.inside;
+  sweep = h.sweep;
+  reach = h.reach;
+  fill = fill;
+  sizes = h.sizes;
+  spares = h.spares;
+  holders = h.holders;
   count = omega arith;
   enough = (let held : hand (s.calls t) ≡ Some x = ap hand e ∙ some in
       let a : free_frames (put s.frame x state.Free) s.frames + bit (is_free (s.frame x)) ≡ free_frames s.frame s.frames + 1 = free_change s.frame x s.frames state.Free (h.place.one.real x (Hand t) held) in
@@ -241,7 +310,14 @@ pub places : (g : Geometry) (s : State) (t : ℕ) (b c : Option Call) (f i x : �
     → IfSome (fills c) (λ k. Reached s.size (λ u. ahead (s.calls u)) k.0 k.1)
     → Stands g (record s { pages = put2 s.pages f i (Some x); frame = put s.frame x (state.Placed 0) }) t c → Inv g (to (record s { pages = put2 s.pages f i (Some x); frame = put s.frame x (state.Placed 0) }) t c)
 places g s t b c f i x h l e in_files in_limit same same_held some none same_change balance marked bare held nobody fill own = goes g s n t b c h l e same same_held (record {
-  geometry = h.geometry; ranges = h.ranges; spread = h.spread; reach = h.reach; fill = fill; sizes = h.sizes; spares = h.spares; holders = h.holders;
+  geometry = h.geometry;
+  ranges = h.ranges;
+  spread = h.spread;
+  reach = h.reach;
+  fill = fill;
+  sizes = h.sizes;
+  spares = h.spares;
+  holders = h.holders;
   count = (let v : vacant_of g s.reserved n.pages + 1 ≡ vacant_of g s.reserved s.pages = placed_vacant in omega arith);
   enough = (let a : free_frames (put s.frame x (state.Placed 0)) s.frames ≡ free_frames s.frame s.frames = free_same s.frame x s.frames (state.Placed 0) (ap is_free (sym (h.place.hands t x (ap hand e ∙ some)))) in let z = h.enough in omega arith);
   place = subst (λ (o : Option ℕ). Placing s.frames n.frame (put (λ (u : ℕ). hand (s.calls u)) t o) n.pages) (sym none) (places_frame s.frames s.frame (λ u. hand (s.calls u)) s.pages t f i x h.place (ap hand e ∙ some) bare);

@@ -1,16 +1,15 @@
 -- Slots and file locks that are taken and left.
-use Rattle.std.proofs.Common.{◌≡◌, ◌≢◌, ℕ, ◌+◌, ◌<◌, ◌≤◌, refl, ap, sym, ◌∙◌, subst, arith, inl, inr}
+use Rattle.std.proofs.Common.{◌≡◌, ◌≢◌, ℕ, ◌+◌, ◌<◌, refl, ap, sym, ◌∙◌, subst, arith, inl, inr}
 use Rattle.std.specs.Prelude.{Bool, true, false, Option, Some, None, IfSome}
 use Rattle.hp_base.specs.Numbers.{put}
-use Rattle.hp_base.proofs.Puts.{put_same, put_other, same_or_other, put_tells}
+use Rattle.hp_base.proofs.Puts.{put_same, put_other, put_tells}
 use Rattle.hp_machine.specs.State.{Geometry, State, slot_of}
 use Rattle.hp_machine.specs.Views.{less, more, hand, change_in, slot_held, locked_file}
 use Rattle.hp_machine.specs.declared.call.Call.{Call}
 use Rattle.hp_laws.specs.Sweep.{fills, ahead, passed, gone}
-use Rattle.hp_laws.proofs.Moves.{Placing}
 use Rattle.hp_laws.proofs.Standing.{HasSlot, HasLock, Stands}
-use Rattle.hp_laws.proofs.Staying.{Keeps, stands_after}
-use Rattle.hp_laws.proofs.Invariant.{Reached, Swept, Holders, Inv, GoesOn, goes_on, GoesAs, goes_as, put_known, place_same, same_opens, sweeps, to}
+use Rattle.hp_laws.proofs.Staying.{stands_after}
+use Rattle.hp_laws.proofs.Invariant.{Reached, Holders, Inv, goes_on, goes_as, put_known, place_same, same_opens, sweeps, to}
 
 pub some_same : {A : Type 0} {a b : A} → Some a ≡ Some b → a ≡ b
 some_same e = cc
@@ -73,7 +72,14 @@ takes_slot g s t b c f i h l e free same same_lock none some fill own = goes_as 
   count = (let x : less c ≡ less b = ap (λ p. p.0) same in let y : more c ≡ more b = ap (λ p. p.1) same in omega arith);
   enough = h.enough;
   place = place_same g s t b c h e (ap (λ p. p.2) same);
-  entries = h.entries; ranges = h.ranges; spread = h.spread; inside = h.inside; sweep = h.sweep; reach = h.reach; fill = fill; sizes = h.sizes;
+  entries = h.entries;
+  ranges = h.ranges;
+  spread = h.spread;
+  inside = h.inside;
+  sweep = h.sweep;
+  reach = h.reach;
+  fill = fill;
+  sizes = h.sizes;
   changes = same_opens s.pending b c (ap (λ p. p.3) same);
   spares = h.spares;
   holders = subst (λ (o : Option (ℕ × ℕ)). Holders g n.slots s.locks (put (λ (u : ℕ). slot_held (s.calls u)) t o) (put (λ (u : ℕ). locked_file (s.calls u)) t (locked_file c))) (sym some)
@@ -117,7 +123,14 @@ leaves_slot g s t b c f i h l e same same_lock some none held fill own = goes_as
   count = (let x : less c ≡ less b = ap (λ p. p.0) same in let y : more c ≡ more b = ap (λ p. p.1) same in omega arith);
   enough = h.enough;
   place = place_same g s t b c h e (ap (λ p. p.2) same);
-  entries = h.entries; ranges = h.ranges; spread = h.spread; inside = h.inside; sweep = h.sweep; reach = h.reach; fill = fill; sizes = h.sizes;
+  entries = h.entries;
+  ranges = h.ranges;
+  spread = h.spread;
+  inside = h.inside;
+  sweep = h.sweep;
+  reach = h.reach;
+  fill = fill;
+  sizes = h.sizes;
   changes = same_opens s.pending b c (ap (λ p. p.3) same);
   spares = h.spares;
   holders = left_holders g s t b c f i h e same_lock some none;
@@ -137,7 +150,13 @@ takes_lock g s t b c f h l e free same same_slot none some fill own = goes_as g 
   count = (let x : less c ≡ less b = ap (λ p. p.0) same in let y : more c ≡ more b = ap (λ p. p.1) same in omega arith);
   enough = h.enough;
   place = place_same g s t b c h e (ap (λ p. p.2) same);
-  entries = h.entries; ranges = h.ranges; spread = h.spread; inside = h.inside; sweep = h.sweep; reach = h.reach; sizes = h.sizes;
+  entries = h.entries;
+  ranges = h.ranges;
+  spread = h.spread;
+  inside = h.inside;
+  sweep = h.sweep;
+  reach = h.reach;
+  sizes = h.sizes;
   fill = subst (λ (o : Option (ℕ × ℕ)). IfSome o (λ k. Reached s.size (λ u. ahead (s.calls u)) k.0 k.1)) (sym fill) tt;
   changes = same_opens s.pending b c (ap (λ p. p.3) same);
   spares = h.spares;
@@ -163,7 +182,11 @@ leaves_lock g s t b f h l e no_less no_more no_hand no_change no_slot some held 
   count = omega arith;
   enough = h.enough;
   place = place_same g s t b None h e (sym no_hand);
-  entries = h.entries; ranges = h.ranges; spread = h.spread; inside = h.inside; sizes = h.sizes;
+  entries = h.entries;
+  ranges = h.ranges;
+  spread = h.spread;
+  inside = h.inside;
+  sizes = h.sizes;
   sweep = record {
     below = λ w v x k j p q. covered k j (h.sweep.below w v x k j p q);
     past = λ u k j p. elim (put_tells (λ (w : ℕ). passed (s.calls w)) t (passed None) u) [

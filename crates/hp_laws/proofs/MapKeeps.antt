@@ -1,9 +1,9 @@
 -- Each row of a map keeps the invariant.
 use Rattle.std.proofs.Common.{◌≡◌, ℕ, ◌+◌, ◌-◌, ◌<◌, ◌≤◌, refl, ap, sym, ◌∙◌, subst, arith}
-use Rattle.std.specs.Prelude.{Bool, true, false, not, ◌&&◌, ◌==◌, nat_lt, max, Option, Some, None, IfSome}
+use Rattle.std.specs.Prelude.{Bool, true, false, nat_lt, max, Some}
 use Rattle.std.proofs.lemmas.Bool.Decides.{nat_tests}
 use Rattle.hp_base.specs.Numbers.{put}
-use Rattle.hp_base.specs.Indices.{is_within, count_within, missing, add_range}
+use Rattle.hp_base.specs.Indices.{is_within, missing, add_range}
 use Rattle.hp_base.specs.Mappings.{IsRoom}
 use Rattle.hp_base.specs.declared.answer.Answer.{Answer}
 use Rattle.hp_base.specs.declared.answer.Answer.TheVariants as answer
@@ -12,21 +12,16 @@ use Rattle.hp_base.proofs.Counting.{count_within-missing}
 use Rattle.hp_base.proofs.Sets.{add_range_has}
 use Rattle.hp_region.specs.Change.{Change}
 use Rattle.hp_machine.specs.State.{Pool, State, pool_of, free_frames, frees}
-use Rattle.hp_machine.specs.MapRows.{MapRow, MapStartRow, MapRoomRow, MapMissingRow, MapChangedRow, MapAbortRow, MapAccountedRow, MapSettleRow, MapEnterRow, MapLeaveRow}
-use Rattle.hp_machine.specs.Views.{locked_file}
-use Rattle.hp_machine.specs.declared.map.Start.{Start}
+use Rattle.hp_machine.specs.MapRows.{MapRow, MapRoomRow, MapMissingRow, MapChangedRow, MapAccountedRow, MapSettleRow, MapEnterRow}
 use Rattle.hp_machine.specs.declared.map.Room.{Room}
 use Rattle.hp_machine.specs.declared.map.Missing.{Missing}
 use Rattle.hp_machine.specs.declared.map.Changed.{Changed}
-use Rattle.hp_machine.specs.declared.map.Abort.{Abort}
 use Rattle.hp_machine.specs.declared.map.Accounted.{Accounted}
 use Rattle.hp_machine.specs.declared.map.Settle.{Settle}
 use Rattle.hp_machine.specs.declared.map.Enter.{Enter}
-use Rattle.hp_machine.specs.declared.map.Leave.{Leave}
 use Rattle.hp_machine.specs.declared.map.MapRequest.{MapRequest}
 use Rattle.hp_machine.specs.declared.map.MapPhase.{MapPhase}
 use Rattle.hp_machine.specs.declared.map.MapPhase.TheVariants as at
-use Rattle.hp_machine.specs.declared.call.Call.{Call}
 use Rattle.hp_machine.specs.declared.call.Call.TheVariants as call
 use Rattle.hp_machine.specs.declared.call.Turn.{Turn}
 use Rattle.hp_laws.specs.Sweep.{passed}

@@ -1,6 +1,6 @@
 -- A frame that goes from one place to another.
 use Rattle.std.proofs.Common.{◌≡◌, ◌≢◌, ℕ, ◌<◌, refl, sym, ap, ◌∙◌, subst, arith, inl, inr}
-use Rattle.std.specs.Prelude.{Bool, true, false, Option, Some, None}
+use Rattle.std.specs.Prelude.{Option, Some, None}
 use Rattle.hp_base.specs.Numbers.{put, put2}
 use Rattle.hp_base.proofs.Puts.{put_same, put_other, same_or_other, put_tells, put2_tells, put2_same}
 use Rattle.hp_frames.specs.declared.frame.FrameState.{FrameState}
@@ -148,7 +148,7 @@ other_hand n states hands pages t u x h e d = same_task (same_place n states han
     same_task : {a b : ℕ} → Hand a ≡ Hand b → a ≡ b
     same_task p = cc
 
-other_page : (n : ℕ) (states : ℕ → FrameState) (hands : ℕ → Option ℕ) (pages : ℕ → ℕ → Option ℕ) (f i k j x : ℕ) → Placing n states hands pages → pages f i ≡ Some x → pages k j ≡ Some x → (k ≡ f) × (j ≡ i)
+pub other_page : (n : ℕ) (states : ℕ → FrameState) (hands : ℕ → Option ℕ) (pages : ℕ → ℕ → Option ℕ) (f i k j x : ℕ) → Placing n states hands pages → pages f i ≡ Some x → pages k j ≡ Some x → (k ≡ f) × (j ≡ i)
 other_page n states hands pages f i k j x h e d = let p = same_place n states hands pages h.one x (Page k j) (Page f i) d e in (file p, index p)
   where
     file : {a b c d : ℕ} → Page a b ≡ Page c d → a ≡ c

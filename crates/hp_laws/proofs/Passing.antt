@@ -2,7 +2,7 @@
 use Rattle.std.proofs.Common.{◌≡◌, ℕ, ◌≤◌, ap, sym, ◌∙◌, subst, arith, inl, inr}
 use Rattle.std.specs.Prelude.{Bool, true, false, Option, Some, None, IfSome, ◌==◌, ◌&&◌, nat_le, nat_lt}
 use Rattle.std.proofs.lemmas.Bool.Decides.{nat_tests}
-use Rattle.hp_machine.specs.State.{Geometry, State, slot_of}
+use Rattle.hp_machine.specs.State.{Geometry, State}
 use Rattle.hp_machine.specs.Views.{locked_file, slot_held}
 use Rattle.hp_machine.specs.declared.touch.TouchPhase.TheVariants as touch
 use Rattle.hp_machine.specs.declared.truncate.TruncatePhase.TheVariants as truncate
@@ -11,7 +11,6 @@ use Rattle.hp_machine.specs.declared.call.Call.TheVariants as call
 use Rattle.hp_laws.specs.Sweep.{fills, ahead, passed}
 use Rattle.hp_laws.proofs.Standing.{HasSlot, HasLock}
 use Rattle.hp_laws.proofs.Invariant.{Inv, Reached}
-use Rattle.hp_laws.proofs.Holding.{some_same}
 
 same_file : (f k : ℕ) (b : Bool) → ((f == k) && b) ≡ true → Some f ≡ Some k
 same_file f k b e = let d : f ≡ k = grind (arith, nat_tests) in ap (λ (m : ℕ). Some m) d

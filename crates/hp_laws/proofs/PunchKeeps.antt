@@ -1,8 +1,8 @@
 -- Each row of a punch keeps the invariant.
-use Rattle.std.proofs.Common.{◌≡◌, ◌≢◌, ℕ, ◌+◌, ◌-◌, ◌<◌, ◌≤◌, refl, ap, sym, ◌∙◌, subst, arith, inl, inr}
-use Rattle.std.specs.Prelude.{Bool, true, false, not, ◌&&◌, nat_lt, nat_le, is_some, Option, Some, None, IfSome, if◌then◌else◌}
+use Rattle.std.proofs.Common.{◌≡◌, ℕ, ◌+◌, ◌-◌, ◌<◌, ◌≤◌, refl, arith}
+use Rattle.std.specs.Prelude.{Bool, true, false, not, ◌&&◌, nat_lt, nat_le, is_some, Some, None, if◌then◌else◌}
 use Rattle.std.proofs.lemmas.Bool.Decides.{nat_tests}
-use Rattle.hp_base.specs.Numbers.{put, put2, bit}
+use Rattle.hp_base.specs.Numbers.{put, bit}
 use Rattle.hp_base.specs.Indices.{splits}
 use Rattle.hp_base.specs.declared.answer.Answer.TheVariants as answer
 use Rattle.hp_base.proofs.Puts.{put_same, put2_same}
@@ -14,20 +14,17 @@ use Rattle.hp_machine.specs.declared.punch.Evict.{Evict}
 use Rattle.hp_machine.specs.declared.punch.Delete.{Delete}
 use Rattle.hp_machine.specs.declared.punch.Free.{Free}
 use Rattle.hp_machine.specs.declared.punch.Unslot.{Unslot}
-use Rattle.hp_machine.specs.declared.punch.Hole.{Hole}
 use Rattle.hp_machine.specs.declared.punch.PunchPhase.{PunchPhase}
 use Rattle.hp_machine.specs.declared.punch.PunchPhase.TheVariants as at
-use Rattle.hp_machine.specs.declared.call.Call.{Call}
 use Rattle.hp_machine.specs.declared.call.Call.TheVariants as call
 use Rattle.hp_machine.specs.declared.call.Turn.{Turn}
 use Rattle.hp_machine.specs.State.{Pool, State, pool_of, slot_of}
-use Rattle.hp_laws.proofs.Standing.{ClearedBelow, Stands}
 use Rattle.hp_laws.proofs.Invariant.{Inv, stays}
 use Rattle.hp_laws.proofs.Holding.{leaves_slot, leaves_lock}
 use Rattle.hp_laws.proofs.Effects.{gives}
 use Rattle.hp_laws.proofs.Tables.{clears, cleared_next}
 use Rattle.hp_laws.proofs.Removals.{evicts, deletes, page_marked}
-use Rattle.hp_laws.proofs.Shared.{after, so, by_test, by_option, stands_at, start_row, good_range, want_row}
+use Rattle.hp_laws.proofs.Shared.{after, so, by_test, stands_at, start_row, good_range, want_row}
 use Rattle.hp_laws.proofs.TouchKeeps.{some_page}
 
 lt : (a b : ℕ) → nat_lt a b ≡ true → a < b

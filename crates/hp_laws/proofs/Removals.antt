@@ -1,5 +1,5 @@
 -- What leaves the cache and the reserved indices at one index.
-use Rattle.std.proofs.Common.{◌≡◌, ◌≢◌, ℕ, ◌+◌, ◌-◌, ◌<◌, ◌≤◌, refl, ap, sym, ◌∙◌, subst, arith, inl, inr}
+use Rattle.std.proofs.Common.{◌≡◌, ◌≢◌, ℕ, ◌+◌, ◌<◌, ◌≤◌, refl, ap, sym, ◌∙◌, subst, arith, inl, inr}
 use Rattle.std.specs.Prelude.{Bool, true, false, Option, Some, None, IfSome}
 use Rattle.hp_base.specs.Numbers.{put, put2}
 use Rattle.hp_base.specs.Indices.{vacant}
@@ -14,7 +14,7 @@ use Rattle.hp_machine.specs.declared.call.Call.{Call}
 use Rattle.hp_laws.specs.Sweep.{fills, ahead}
 use Rattle.hp_laws.proofs.Moves.{Placing, evicts_frame}
 use Rattle.hp_laws.proofs.Standing.{HasSlot, HasLock, Stands}
-use Rattle.hp_laws.proofs.Staying.{Keeps, stands_after}
+use Rattle.hp_laws.proofs.Staying.{stands_after}
 use Rattle.hp_laws.proofs.Invariant.{Reached, Inv, goes, vacant_of, place_same, same_opens, sweeps, holds, to}
 use Rattle.hp_laws.proofs.Holding.{some_same}
 use Rattle.hp_laws.proofs.Effects.{free_same}
@@ -36,7 +36,14 @@ pub evicts : (g : Geometry) (s : State) (t : ℕ) (b c : Option Call) (f i x : �
     → IfSome (fills c) (λ k. Reached s.size (λ u. ahead (s.calls u)) k.0 k.1)
     → Stands g (record s { pages = put2 s.pages f i None; frame = put s.frame x state.Hand }) t c → Inv g (to (record s { pages = put2 s.pages f i None; frame = put s.frame x state.Hand }) t c)
 evicts g s t b c f i x h l e in_files same same_held none some same_change balance page held cleared fill own = goes g s n t b c h l e same same_held (record {
-  geometry = h.geometry; ranges = h.ranges; spread = h.spread; reach = h.reach; fill = fill; sizes = h.sizes; spares = h.spares; holders = h.holders;
+  geometry = h.geometry;
+  ranges = h.ranges;
+  spread = h.spread;
+  reach = h.reach;
+  fill = fill;
+  sizes = h.sizes;
+  spares = h.spares;
+  holders = h.holders;
   count = (let v : vacant_of g s.reserved n.pages ≡ vacant_of g s.reserved s.pages + 1 = evicted_vacant in omega arith);
   enough = (let o = h.place.pages f i x page in let a : free_frames (put s.frame x state.Hand) s.frames ≡ free_frames s.frame s.frames = free_same s.frame x s.frames state.Hand (ap is_free (sym o.1)) in let z = h.enough in omega arith);
   place = subst (λ (o : Option ℕ). Placing s.frames n.frame (put (λ (u : ℕ). hand (s.calls u)) t o) n.pages) (sym some) (evicts_frame s.frames s.frame (λ u. hand (s.calls u)) s.pages t f i x h.place (ap hand e ∙ none) page);
@@ -89,7 +96,15 @@ pub deletes : (g : Geometry) (s : State) (t : ℕ) (b c : Option Call) (f i spar
     → Stands g (record s { reserved = put2 s.reserved f i false; spare = put s.spare f spare }) t c
     → Inv g (to (record s { reserved = put2 s.reserved f i false; spare = put s.spare f spare }) t c)
 deletes g s t b c f i spare h l e in_files in_limit same same_held same_hand same_change balance spares marked bare held locked fill own = goes g s n t b c h l e same same_held (record {
-  geometry = h.geometry; entries = h.entries; ranges = h.ranges; spread = h.spread; reach = h.reach; fill = fill; sizes = h.sizes; holders = h.holders; enough = h.enough;
+  geometry = h.geometry;
+  entries = h.entries;
+  ranges = h.ranges;
+  spread = h.spread;
+  reach = h.reach;
+  fill = fill;
+  sizes = h.sizes;
+  holders = h.holders;
+  enough = h.enough;
   count = (let v : vacant_of g n.reserved s.pages + 1 ≡ vacant_of g s.reserved s.pages = fewer in omega arith);
   place = place_same g s t b c h e same_hand;
   inside = record {

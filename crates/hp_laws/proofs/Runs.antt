@@ -1,6 +1,6 @@
 -- Every row keeps the invariant, so every run does.
-use Rattle.std.proofs.Common.{◌≡◌, ◌≢◌, ℕ, ◌+◌, ◌<◌, ◌≤◌, refl, ap, sym, ◌∙◌, subst, arith, inl, inr}
-use Rattle.std.specs.Prelude.{Bool, true, false, ◌&&◌, not, Option, Some, None, List, [], ◌∷◌, nat_lt, nat_le, is_some, if◌then◌else◌}
+use Rattle.std.proofs.Common.{◌≡◌, ℕ, ◌+◌, ◌<◌, ◌≤◌, refl, ap, sym, ◌∙◌, subst, arith, inl, inr}
+use Rattle.std.specs.Prelude.{Bool, true, false, ◌&&◌, not, Option, Some, None, List, [], ◌∷◌, nat_lt, nat_le, if◌then◌else◌}
 use Rattle.std.proofs.lemmas.Bool.Decides.{nat_tests}
 use Rattle.hp_base.specs.Numbers.{put, total}
 use Rattle.hp_base.specs.Indices.{vacant}
@@ -25,9 +25,8 @@ use Rattle.hp_machine.specs.declared.call.Call.TheVariants as call
 use Rattle.hp_machine.specs.declared.call.Turn.{Turn}
 use Rattle.hp_laws.proofs.Invariant
 use Rattle.hp_laws.proofs.Invariant.{Inv, stays, to}
-use Rattle.hp_laws.proofs.Moves.{Placing}
 use Rattle.hp_laws.proofs.Passing.{ahead_locked, locks_file}
-use Rattle.hp_laws.proofs.Shared.{after, by_test, by_option, idle}
+use Rattle.hp_laws.proofs.Shared.{after, by_test, by_option}
 use Rattle.hp_laws.proofs.AllocKeeps.{alloc_row}
 use Rattle.hp_laws.proofs.MapKeeps.{map_row}
 use Rattle.hp_laws.proofs.PunchKeeps.{punch_row}

@@ -1,13 +1,12 @@
 -- Rows that several operations share, and how a row's leaf is reached.
-use Rattle.std.proofs.Common.{◌≡◌, ◌≢◌, ℕ, ◌+◌, ◌-◌, ◌<◌, ◌≤◌, refl, ap, sym, ◌∙◌, subst, arith, inl, inr}
-use Rattle.std.specs.Prelude.{Bool, true, false, not, ◌&&◌, ◌||◌, ◌==◌, nat_le, nat_lt, max, Option, Some, None, IfSome, MatchBool, MatchOption}
+use Rattle.std.proofs.Common.{◌≡◌, ◌≢◌, ℕ, ◌+◌, ◌-◌, ◌<◌, ◌≤◌, refl, ap, sym, ◌∙◌, subst, arith}
+use Rattle.std.specs.Prelude.{Bool, true, false, not, ◌&&◌, ◌==◌, nat_le, nat_lt, Option, Some, None, IfSome, MatchBool, MatchOption}
 use Rattle.std.proofs.lemmas.Bool.Decides.{nat_tests}
 use Rattle.hp_base.specs.Numbers.{put, bit}
 use Rattle.hp_base.specs.Indices.{is_within, missing, add_range}
 use Rattle.hp_base.specs.declared.answer.Answer.{Answer}
 use Rattle.hp_base.proofs.Puts.{put_same}
 use Rattle.hp_base.proofs.Sets.{missing_one, add_range_has}
-use Rattle.hp_frames.specs.declared.frame.FrameState.TheVariants as state
 use Rattle.hp_region.specs.Change.{Change}
 use Rattle.hp_machine.specs.State.{Geometry, Pool, State, pool_of, with_pool, slot_of, free_frames, frees}
 use Rattle.hp_machine.specs.Parts.{StartRow, is_bad_range, WantSlotRow, ChangeRow, CommitRow, TakeRow}
@@ -15,9 +14,8 @@ use Rattle.hp_machine.specs.Events.{left}
 use Rattle.hp_machine.specs.Views.{less, more, hand, change_in, locked_file, slot_held}
 use Rattle.hp_machine.specs.declared.call.Call.{Call}
 use Rattle.hp_machine.specs.declared.call.Turn.{Turn}
-use Rattle.hp_machine.specs.declared.call.Turn.TheVariants.{Moved, Blocked, Ended}
 use Rattle.hp_laws.specs.Sweep.{fills, ahead, passed}
-use Rattle.hp_laws.proofs.Standing.{HasLock, IsOne, Stands}
+use Rattle.hp_laws.proofs.Standing.{IsOne, Stands}
 use Rattle.hp_laws.proofs.Invariant
 use Rattle.hp_laws.proofs.Invariant.{Reached, Inv, sweeps, holds, seen, stays, to}
 use Rattle.hp_laws.proofs.Holding.{shown, takes_slot, takes_lock}

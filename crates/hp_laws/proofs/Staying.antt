@@ -1,11 +1,10 @@
 -- A call goes on standing where what it stands on stays.
-use Rattle.std.proofs.Common.{◌≡◌, ◌≢◌, ℕ, ◌+◌, ◌<◌, ◌≤◌, refl, ap, sym, ◌∙◌, arith, inl, inr, ◌⊎◌}
-use Rattle.std.specs.Prelude.{Bool, true, false, ◌==◌, Option, Some, None, IfSome, List}
-use Rattle.hp_base.specs.Indices.{is_within, missing, count_within}
+use Rattle.std.proofs.Common.{◌≡◌, ℕ, ◌+◌, refl, ap, sym, ◌∙◌, arith, inl, inr, ◌⊎◌}
+use Rattle.std.specs.Prelude.{true, Option, Some, None, List}
 use Rattle.hp_base.specs.Mappings.{find, fits, is_base, in_mapping}
 use Rattle.hp_base.specs.declared.mapping.Mapping.{Mapping}
 use Rattle.hp_base.proofs.Sets.{missing_fewer, tail_more}
-use Rattle.hp_machine.specs.State.{Geometry, State, slot_of}
+use Rattle.hp_machine.specs.State.{Geometry, State}
 use Rattle.hp_machine.specs.Views.{locked_file}
 use Rattle.hp_machine.specs.declared.touch.Touch.{Touch}
 use Rattle.hp_machine.specs.declared.touch.TouchPhase.TheVariants as touch

@@ -9,12 +9,12 @@ use Rattle.hp_base.proofs.Puts.{put_same, put_other, same_or_other, put_tells, p
 use Rattle.hp_base.proofs.Spaces.{fits_clear, entered_find, entered_spread, without_find, without_spread}
 use Rattle.hp_machine.specs.State.{Geometry, State, slot_of}
 use Rattle.hp_machine.specs.Parts.{is_there, without_index, without_mapping}
-use Rattle.hp_machine.specs.Views.{less, more, hand, change_in}
+use Rattle.hp_machine.specs.Views.{less, more}
 use Rattle.hp_machine.specs.declared.call.Call.{Call}
 use Rattle.hp_laws.specs.Sweep.{fills, ahead, passed}
 use Rattle.hp_laws.proofs.Standing.{HasSlot, HasLock, ClearedBelow, Stands}
-use Rattle.hp_laws.proofs.Staying.{Keeps, stands_after}
-use Rattle.hp_laws.proofs.Invariant.{AllWithin, Reached, Inv, goes, place_same, same_opens, sweeps, holds, seen, to, if_weaker}
+use Rattle.hp_laws.proofs.Staying.{stands_after}
+use Rattle.hp_laws.proofs.Invariant.{AllWithin, Reached, Inv, goes, place_same, same_opens, seen, to, if_weaker}
 use Rattle.hp_laws.proofs.Holding.{some_same}
 use Rattle.hp_laws.proofs.Passing.{same_holder}
 
@@ -55,7 +55,16 @@ pub enters_table : (g : Geometry) (s : State) (t : ℕ) (b c : Option Call) (v f
     → IfSome (fills c) (λ k. Reached s.size (λ u. ahead (s.calls u)) k.0 k.1)
     → Stands g (record s { table = put2 s.table t v (Some x) }) t c → Inv g (to (record s { table = put2 s.table t v (Some x) }) t c)
 enters_table g s t b c v f i x h one l e same there page low held fill own = goes g s n t b c h l e (ap (λ p. p.4) same) (ap (λ p. p.5) same) (record {
-  geometry = h.geometry; ranges = h.ranges; spread = h.spread; inside = h.inside; reach = h.reach; fill = fill; sizes = h.sizes; spares = h.spares; holders = h.holders; enough = h.enough;
+  geometry = h.geometry;
+  ranges = h.ranges;
+  spread = h.spread;
+  inside = h.inside;
+  reach = h.reach;
+  fill = fill;
+  sizes = h.sizes;
+  spares = h.spares;
+  holders = h.holders;
+  enough = h.enough;
   count = (let y : less c ≡ less b = ap (λ p. p.0) same in let z : more c ≡ more b = ap (λ p. p.1) same in omega arith);
   place = place_same g s t b c h e (ap (λ p. p.2) same);
   entries = record {
@@ -107,7 +116,18 @@ pub prepares : (g : Geometry) (s : State) (t : ℕ) (b c : Option Call) → Inv 
     → IfSome (fills c) (λ k. Reached s.size (λ u. ahead (s.calls u)) k.0 k.1)
     → Stands g (record s { prepared = put s.prepared t true }) t c → Inv g (to (record s { prepared = put s.prepared t true }) t c)
 prepares g s t b c h l e same fill own = goes g s (record s { prepared = put s.prepared t true }) t b c h l e (ap (λ p. p.4) same) (ap (λ p. p.5) same) (record {
-  geometry = h.geometry; entries = h.entries; ranges = h.ranges; spread = h.spread; inside = h.inside; sweep = h.sweep; reach = h.reach; fill = fill; sizes = h.sizes; spares = h.spares; holders = h.holders; enough = h.enough;
+  geometry = h.geometry;
+  entries = h.entries;
+  ranges = h.ranges;
+  spread = h.spread;
+  inside = h.inside;
+  sweep = h.sweep;
+  reach = h.reach;
+  fill = fill;
+  sizes = h.sizes;
+  spares = h.spares;
+  holders = h.holders;
+  enough = h.enough;
   count = (let y : less c ≡ less b = ap (λ p. p.0) same in let z : more c ≡ more b = ap (λ p. p.1) same in omega arith);
   place = place_same g s t b c h e (ap (λ p. p.2) same);
   changes = same_opens s.pending b c (ap (λ p. p.3) same);
@@ -116,7 +136,7 @@ prepares g s t b c h l e same fill own = goes g s (record s { prepared = put s.p
 })
 
 -- a file that nobody cuts grows, or stays
-grown_size : (size : ℕ → ℕ) (f new k : ℕ) → size f ≤ new → size k ≤ put size f new k
+pub grown_size : (size : ℕ → ℕ) (f new k : ℕ) → size f ≤ new → size k ≤ put size f new k
 grown_size size f new k l = elim (put_tells size f new k) [
   | inl q ↦ (let y : size k ≡ size f = ap size q.0 in let z = q.1 in omega arith)
   | inr q ↦ (let z = q.1 in omega arith)
@@ -137,7 +157,14 @@ pub extends : (g : Geometry) (s : State) (t : ℕ) (b c : Option Call) (f new : 
     → IfSome (fills c) (λ k. Reached s.size (λ u. ahead (s.calls u)) k.0 k.1)
     → Stands g (record s { size = put s.size f new }) t c → Inv g (to (record s { size = put s.size f new }) t c)
 extends g s t b c f new h l e same held grows low nobody fill own = goes g s n t b c h l e (ap (λ p. p.4) same) (ap (λ p. p.5) same) (record {
-  geometry = h.geometry; entries = h.entries; ranges = h.ranges; spread = h.spread; inside = h.inside; spares = h.spares; holders = h.holders; enough = h.enough;
+  geometry = h.geometry;
+  entries = h.entries;
+  ranges = h.ranges;
+  spread = h.spread;
+  inside = h.inside;
+  spares = h.spares;
+  holders = h.holders;
+  enough = h.enough;
   count = (let y : less c ≡ less b = ap (λ p. p.0) same in let z : more c ≡ more b = ap (λ p. p.1) same in omega arith);
   place = place_same g s t b c h e (ap (λ p. p.2) same);
   sweep = record {
@@ -177,7 +204,11 @@ pub enters_area : (g : Geometry) (s : State) (t : ℕ) (b c : Option Call) (a : 
     → IfSome (fills c) (λ k. Reached s.size (λ u. ahead (s.calls u)) k.0 k.1)
     → Stands g (entering s t a) t c → Inv g (to (entering s t a) t c)
 enters_area g s t b c a h l e same in_files some in_limit clear held nobody fill own = goes g s n t b c h l e (ap (λ p. p.4) same) (ap (λ p. p.5) same) (record {
-  geometry = h.geometry; inside = h.inside; spares = h.spares; holders = h.holders; enough = h.enough;
+  geometry = h.geometry;
+  inside = h.inside;
+  spares = h.spares;
+  holders = h.holders;
+  enough = h.enough;
   count = (let y : less c ≡ less b = ap (λ p. p.0) same in let z : more c ≡ more b = ap (λ p. p.1) same in omega arith);
   place = place_same g s t b c h e (ap (λ p. p.2) same);
   entries = record { owners = h.entries.owners; agree = λ w v x d. let o = h.entries.agree w v x d in (o.0, kept w v o.0 o.1, o.2) };
@@ -236,7 +267,18 @@ enters_area g s t b c a h l e same in_files some in_limit clear held nobody fill
 -- some entries go
 pub entries_go : (g : Geometry) (s : State) (table : ℕ → ℕ → Option ℕ) → Inv g s → ((w v x : ℕ) → table w v ≡ Some x → s.table w v ≡ Some x) → Inv g (record s { table = table })
 entries_go g s table h kept = record {
-  geometry = h.geometry; count = h.count; enough = h.enough; place = h.place; ranges = h.ranges; spread = h.spread; inside = h.inside; reach = h.reach; sizes = h.sizes; changes = h.changes; spares = h.spares; holders = h.holders;
+  geometry = h.geometry;
+  count = h.count;
+  enough = h.enough;
+  place = h.place;
+  ranges = h.ranges;
+  spread = h.spread;
+  inside = h.inside;
+  reach = h.reach;
+  sizes = h.sizes;
+  changes = h.changes;
+  spares = h.spares;
+  holders = h.holders;
   entries = record { agree = λ w v x e. h.entries.agree w v x (kept w v x e); owners = λ w v x e. h.entries.owners w v x (kept w v x e) };
   sweep = record { below = λ w v x j m e. h.sweep.below w v x j m (kept w v x e); past = h.sweep.past; gone = h.sweep.gone };
   stands = λ u. stands_after g s (record s { table = table }) u (s.calls u) (record { slot = λ k a. a; page = λ k j a. refl; mark = λ k j a w r. r; entries = λ k j a w v x p q. (x, kept w v x p, q); lock = λ k a. (a, refl, λ j r. r); areas = refl; prepared = refl; table = λ v x p. (x, kept u v x p) }) (h.stands u);
@@ -295,7 +337,14 @@ pub drops : (g : Geometry) (s : State) (t : ℕ) (b c : Option Call) (base : ℕ
     → IfSome (fills c) (λ k. Reached s.size (λ u. ahead (s.calls u)) k.0 k.1)
     → Stands g (record s { areas = put s.areas t (without (s.areas t) base) }) t c → Inv g (to (record s { areas = put s.areas t (without (s.areas t) base) }) t c)
 drops g s t b c base h l e same clear fill own = goes g s n t b c h l e (ap (λ p. p.4) same) (ap (λ p. p.5) same) (record {
-  geometry = h.geometry; inside = h.inside; reach = h.reach; fill = fill; sizes = h.sizes; spares = h.spares; holders = h.holders; enough = h.enough;
+  geometry = h.geometry;
+  inside = h.inside;
+  reach = h.reach;
+  fill = fill;
+  sizes = h.sizes;
+  spares = h.spares;
+  holders = h.holders;
+  enough = h.enough;
   count = (let y : less c ≡ less b = ap (λ p. p.0) same in let z : more c ≡ more b = ap (λ p. p.1) same in omega arith);
   place = place_same g s t b c h e (ap (λ p. p.2) same);
   entries = record { owners = h.entries.owners; agree = λ w v x d. let o = h.entries.agree w v x d in (o.0, same_find w v x d ∙ o.1, o.2) };
@@ -310,7 +359,9 @@ drops g s t b c base h l e same clear fill own = goes g s n t b c h l e (ap (λ 
   sweep = record { below = λ w v x f i d y. h.sweep.below w v x f i d (sym (same_find w v x d) ∙ y); past = h.sweep.past; gone = h.sweep.gone };
   changes = same_opens s.pending b c (ap (λ p. p.3) same);
   others = λ u d. stands_after g s n u (s.calls u) (record {
-    slot = λ k a. a; page = λ k j a. refl; mark = λ k j a w r. r;
+    slot = λ k a. a;
+    page = λ k j a. refl;
+    mark = λ k j a w r. r;
     entries = λ k j a w v z p q. (z, p, sym (same_find w v z p) ∙ q);
     lock = λ k a. (a, refl, λ j r. r);
     areas = put_other s.areas t (without (s.areas t) base) u d;

@@ -1,18 +1,14 @@
 -- Each row of a touch keeps the invariant.
-use Rattle.std.proofs.Common.{◌≡◌, ◌≢◌, ℕ, ◌+◌, ◌-◌, ◌<◌, ◌≤◌, refl, ap, sym, ◌∙◌, subst, arith, inl, inr}
-use Rattle.std.specs.Prelude.{Bool, true, false, ◌==◌, nat_le, is_some, Option, Some, None, IfSome}
+use Rattle.std.proofs.Common.{◌≡◌, ◌≢◌, ℕ, ◌+◌, ◌-◌, ◌<◌, ◌≤◌, refl, ap, sym, ◌∙◌, arith, inl}
+use Rattle.std.specs.Prelude.{Bool, true, false, nat_le, is_some, Option, Some, None}
 use Rattle.std.proofs.lemmas.Bool.Decides.{nat_tests}
-use Rattle.hp_base.specs.Numbers.{put, bit}
-use Rattle.hp_base.specs.Indices.{missing}
 use Rattle.hp_base.specs.Mappings.{find}
 use Rattle.hp_base.specs.declared.answer.Answer.{Answer}
 use Rattle.hp_base.specs.declared.answer.Answer.TheVariants as answer
 use Rattle.hp_base.proofs.Puts.{put_same, put2_same}
-use Rattle.hp_region.specs.Change.{Change}
 use Rattle.hp_machine.specs.State.{Pool, State, pool_of, slot_of}
 use Rattle.hp_machine.specs.Parts.{answer_of, frame_after}
 use Rattle.hp_machine.specs.TouchRows.{TouchRow, TouchLookRow, TouchWantRow, TouchLockedRow, TouchMissingRow, TouchChangedRow, TouchTakenRow, TouchCommittedRow, TouchFoundRow}
-use Rattle.hp_machine.specs.Views.{hand}
 use Rattle.hp_machine.specs.declared.touch.Look.{Look}
 use Rattle.hp_machine.specs.declared.touch.Want.{Want}
 use Rattle.hp_machine.specs.declared.touch.Locked.{Locked}
@@ -23,15 +19,13 @@ use Rattle.hp_machine.specs.declared.touch.Committed.{Committed}
 use Rattle.hp_machine.specs.declared.touch.Found.{Found}
 use Rattle.hp_machine.specs.declared.touch.TouchPhase.{TouchPhase}
 use Rattle.hp_machine.specs.declared.touch.TouchPhase.TheVariants as at
-use Rattle.hp_machine.specs.declared.call.Call.{Call}
 use Rattle.hp_machine.specs.declared.call.Call.TheVariants as call
 use Rattle.hp_machine.specs.declared.call.Turn.{Turn}
-use Rattle.hp_laws.proofs.Standing.{Stands}
 use Rattle.hp_laws.proofs.Invariant
 use Rattle.hp_laws.proofs.Invariant.{Inv, stays}
 use Rattle.hp_laws.proofs.Holding.{leaves_slot}
 use Rattle.hp_laws.proofs.Passing.{reached_not_passed}
-use Rattle.hp_laws.proofs.Effects.{committing, touches_word, rebalances, closed, gives, places}
+use Rattle.hp_laws.proofs.Effects.{touches_word, rebalances, closed, gives, places}
 use Rattle.hp_laws.proofs.Tables.{find_within, enters_table}
 use Rattle.hp_laws.proofs.Shared.{after, so, by_test, by_option, idle, stands_at, reach_at, want_row, change_row, take_row, commit_row, one_change, own_reserved}
 
@@ -82,7 +76,10 @@ touch_missing s t grant p turn new h l e row =
     let o = one_change (s.reserved p.touch.file) p.touch.index in
     change_row call.Touch s t grant p.touch.file p.touch.index (p.touch.index + 1) (at.Missing p) _ (λ change. at.Changed (record { touch = p.touch; pending = change })) turn new h l e row (record {
       denied = stays s.geometry s t _ (Some (call.Touch (at.Leave (record { touch = p.touch; answer = answer.NoMemory })))) h l e refl tt (record { slot = y.slot; lock = tt; facts = tt });
-      same = refl; none = refl; some = refl; balance = refl;
+      same = refl;
+      none = refl;
+      some = refl;
+      balance = refl;
       fill = reach_at s t _ h e;
       own = record { slot = y.slot; lock = tt; facts = record { aim = y.facts.aim; bare = y.facts.bare; one = o.0; marked = o.1 } };
     })
@@ -96,7 +93,11 @@ touch_changed s t killed p turn new h l e row =
     (λ is r. so call.Touch s t _ turn _ new r (aborts answer.Killed))
     (λ alive r. take_row call.Touch s t p.pending.missing (at.Changed p) _ (λ x. at.Taken (record { touch = p.touch; pending = p.pending; held = x })) turn new h l e r (record {
       lacks = aborts answer.NoFrame;
-      same = λ x. refl; empty = refl; full = λ x. refl; owes = λ x. refl; free = refl;
+      same = λ x. refl;
+      empty = refl;
+      full = λ x. refl;
+      owes = λ x. refl;
+      free = refl;
       fill = λ x. reach_at s t _ h e;
       own = λ x. record { slot = y.slot; lock = tt; facts = y.facts };
     }))
@@ -106,9 +107,22 @@ touch_taken s t p turn new h l e row =
     let y = stands_at s t _ h e in
     let marked = own_reserved s p.touch.file p.touch.index p.pending y.facts.one in
     commit_row call.Touch s t p.touch.file p.touch.index p.pending (at.Taken p) (at.Settle (record { touch = p.touch; held = p.held })) (at.Committed (record { touch = p.touch; held = p.held })) turn new h l e row (record {
-      file = y.facts.aim.1; index = y.facts.aim.2; one = y.facts.one; marked = y.facts.marked;
+      file = y.facts.aim.1;
+      index = y.facts.aim.2;
+      one = y.facts.one;
+      marked = y.facts.marked;
       nobody = reached_not_passed s.geometry s p.touch.file p.touch.index h (reach_at s t _ h e);
-      opened = refl; owes = refl; awaits = refl; settles = refl; settle_none = refl; settle_less = refl; settle_more = refl; nexts = refl; next_none = refl; next_less = refl; next_more = refl;
+      opened = refl;
+      owes = refl;
+      awaits = refl;
+      settles = refl;
+      settle_none = refl;
+      settle_less = refl;
+      settle_more = refl;
+      nexts = refl;
+      next_none = refl;
+      next_less = refl;
+      next_more = refl;
       fill_settle = reach_at s t _ h e;
       fill_next = reach_at s t _ h e;
       own_settle = record { slot = y.slot; lock = tt; facts = record { aim = y.facts.aim; bare = y.facts.bare; marked = marked } };

@@ -1,8 +1,8 @@
 -- Each row of a truncation keeps the invariant.
-use Rattle.std.proofs.Common.{◌≡◌, ◌≢◌, ℕ, ◌+◌, ◌-◌, ◌<◌, ◌≤◌, refl, ap, sym, ◌∙◌, subst, arith, inl, inr, ◌⊎◌}
-use Rattle.std.specs.Prelude.{Bool, true, false, ◌&&◌, ◌==◌, nat_lt, nat_le, max, is_some, Option, Some, None, IfSome}
+use Rattle.std.proofs.Common.{◌≡◌, ◌≢◌, ℕ, ◌+◌, ◌-◌, ◌<◌, ◌≤◌, refl, ap, ◌∙◌, subst, arith, inl, inr, ◌⊎◌}
+use Rattle.std.specs.Prelude.{Bool, true, false, ◌&&◌, ◌==◌, nat_lt, nat_le, max, is_some, Option, Some, None}
 use Rattle.std.proofs.lemmas.Bool.Decides.{nat_tests, eqb_tells}
-use Rattle.hp_base.specs.Numbers.{put, put2}
+use Rattle.hp_base.specs.Numbers.{put}
 use Rattle.hp_base.specs.Indices.{count_within}
 use Rattle.hp_base.specs.declared.answer.Answer.TheVariants as answer
 use Rattle.hp_base.proofs.Puts.{put_same, put2_same}
@@ -10,7 +10,6 @@ use Rattle.hp_base.proofs.Sets.{tail_next, tail_wider}
 use Rattle.hp_machine.specs.Parts.{without_index}
 use Rattle.hp_machine.specs.State.{Pool, State, pool_of, slot_of}
 use Rattle.hp_machine.specs.TruncateRows.{TruncateRow, TruncateSizeRow, TruncateLockedRow, TruncateUnmapRow, TruncateEvictRow, TruncateUnslotRow, IsPagesEnd}
-use Rattle.hp_machine.specs.Views.{locked_file}
 use Rattle.hp_machine.specs.declared.truncate.Size.{Size}
 use Rattle.hp_machine.specs.declared.truncate.Locked.{Locked}
 use Rattle.hp_machine.specs.declared.truncate.Unmap.{Unmap}
@@ -18,18 +17,16 @@ use Rattle.hp_machine.specs.declared.truncate.Evict.{Evict}
 use Rattle.hp_machine.specs.declared.truncate.Unslot.{Unslot}
 use Rattle.hp_machine.specs.declared.truncate.TruncatePhase.{TruncatePhase}
 use Rattle.hp_machine.specs.declared.truncate.TruncatePhase.TheVariants as at
-use Rattle.hp_machine.specs.declared.call.Call.{Call}
 use Rattle.hp_machine.specs.declared.call.Call.TheVariants as call
 use Rattle.hp_machine.specs.declared.call.Turn.{Turn}
-use Rattle.hp_laws.specs.Sweep.{ahead, passed}
-use Rattle.hp_laws.proofs.Standing.{ClearedBelow, Stands}
+use Rattle.hp_laws.specs.Sweep.{passed}
 use Rattle.hp_laws.proofs.Invariant.{Inv, stays}
 use Rattle.hp_laws.proofs.Holding.{leaves_lock}
 use Rattle.hp_laws.proofs.Effects.{rebalances, gives}
 use Rattle.hp_laws.proofs.Tables.{clears, cleared_next}
 use Rattle.hp_laws.proofs.Removals.{evicts, page_marked}
 use Rattle.hp_laws.proofs.Cuts.{cuts, passes, cuts_tail}
-use Rattle.hp_laws.proofs.Shared.{after, so, by_test, by_option, stands_at, start_row, want_row}
+use Rattle.hp_laws.proofs.Shared.{after, so, by_test, stands_at, start_row, want_row}
 use Rattle.hp_laws.proofs.TouchKeeps.{some_page, no_page}
 
 lt : (a b : ℕ) → nat_lt a b ≡ true → a < b

@@ -1,8 +1,8 @@
 -- Each row of an unmap and of an exit keeps the invariant.
-use Rattle.std.proofs.Common.{◌≡◌, ℕ, ◌+◌, ◌<◌, refl, ap, ◌∙◌, subst}
-use Rattle.std.specs.Prelude.{Bool, true, false, List, Option, Some, None}
+use Rattle.std.proofs.Common.{◌≡◌, ℕ, ◌+◌, ◌<◌, refl, ap, ◌∙◌}
+use Rattle.std.specs.Prelude.{Bool, List, Some, None}
 use Rattle.hp_base.specs.Numbers.{put}
-use Rattle.hp_base.specs.Mappings.{is_base, in_mapping, without, first_base}
+use Rattle.hp_base.specs.Mappings.{is_base, without, first_base}
 use Rattle.hp_base.specs.declared.mapping.Mapping.{Mapping}
 use Rattle.hp_base.proofs.Puts.{put_same}
 use Rattle.hp_base.proofs.Spaces.{first_is_base}
@@ -13,10 +13,9 @@ use Rattle.hp_machine.specs.declared.unmap.UnmapPhase.{UnmapPhase}
 use Rattle.hp_machine.specs.declared.unmap.UnmapPhase.TheVariants as unmap
 use Rattle.hp_machine.specs.declared.exit.ExitPhase.{ExitPhase}
 use Rattle.hp_machine.specs.declared.exit.ExitPhase.TheVariants as exit
-use Rattle.hp_machine.specs.declared.call.Call.{Call}
 use Rattle.hp_machine.specs.declared.call.Call.TheVariants as call
 use Rattle.hp_machine.specs.declared.call.Turn.{Turn}
-use Rattle.hp_machine.specs.State.{Pool, State, pool_of, slot_of}
+use Rattle.hp_machine.specs.State.{Pool, State, pool_of}
 use Rattle.hp_laws.proofs.Invariant.{Inv, stays}
 use Rattle.hp_laws.proofs.Tables.{emptied, empties, drops}
 use Rattle.hp_laws.proofs.Shared.{after, so, by_test, by_option, idle, stands_at}

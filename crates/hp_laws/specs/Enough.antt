@@ -1,5 +1,5 @@
 -- When a call is about to lower the reserve count, the count is at least what it takes.
-use Rattle.std.specs.Prelude.{◌≡◌, ℕ, ◌≤◌, Option, Some, None}
+use Rattle.std.specs.Prelude.{◌≡◌, ◌≤◌, Option, Some}
 use Rattle.hp_machine.specs.State.{State}
 use Rattle.hp_machine.specs.declared.touch.TouchPhase.TheVariants as touch
 use Rattle.hp_machine.specs.declared.map.MapPhase.TheVariants as map

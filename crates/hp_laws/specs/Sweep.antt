@@ -1,13 +1,8 @@
 -- How calls stand to the indices of their file: where one may still place a page, and which ones a
 -- truncation has yet to pass, has passed, or has taken out of the reserve map.
-use Rattle.std.specs.Prelude.{ℕ, ◌==◌, ◌&&◌, nat_le, nat_lt, Bool, true, false, Option, Some, None}
+use Rattle.std.specs.Prelude.{ℕ, ◌==◌, ◌&&◌, nat_le, nat_lt, Bool, false, Option, Some, None}
 use Rattle.hp_machine.specs.declared.touch.TouchPhase.TheVariants as touch
-use Rattle.hp_machine.specs.declared.map.MapPhase.TheVariants as map
-use Rattle.hp_machine.specs.declared.alloc.AllocPhase.TheVariants as alloc
-use Rattle.hp_machine.specs.declared.punch.PunchPhase.TheVariants as punch
 use Rattle.hp_machine.specs.declared.truncate.TruncatePhase.TheVariants as truncate
-use Rattle.hp_machine.specs.declared.unmap.UnmapPhase.TheVariants as unmap
-use Rattle.hp_machine.specs.declared.exit.ExitPhase.TheVariants as exit
 use Rattle.hp_machine.specs.declared.call.Call.{Call}
 use Rattle.hp_machine.specs.declared.call.Call.TheVariants as call
 

@@ -1,0 +1,122 @@
+-- Calls that hold frames stand apart, and what a truncation passed stays bare.
+use Rattle.std.proofs.Common.{◌≡◌, ◌≢◌, ℕ, ◌≤◌, refl, ap, ◌∙◌, subst, arith, inl, inr, ◌⊎◌}
+use Rattle.std.specs.Prelude.{true, false, Option, Some, None, IfSome}
+use Rattle.hp_machine.specs.State.{Geometry, State, slot_of}
+use Rattle.hp_machine.specs.Events.{IsReached}
+use Rattle.hp_machine.specs.Views.{hand, slot_held, locked_file}
+use Rattle.hp_machine.specs.declared.touch.TouchPhase.TheVariants as touch
+use Rattle.hp_machine.specs.declared.alloc.AllocPhase.TheVariants as alloc
+use Rattle.hp_machine.specs.declared.punch.PunchPhase.TheVariants as punch
+use Rattle.hp_machine.specs.declared.truncate.TruncatePhase.TheVariants as truncate
+use Rattle.hp_machine.specs.declared.call.Call.{Call}
+use Rattle.hp_machine.specs.declared.call.Call.TheVariants as call
+use Rattle.hp_laws.specs.Enough.{CanSettle}
+use Rattle.hp_laws.specs.Protocol.{ChangesAreCalls, SparesSuffice, PagesAreReserved, is_bare, HandsApart, BareWhereMade, works_at, PassedIsBare}
+use Rattle.hp_laws.specs.Sweep.{fills, ahead}
+use Rattle.hp_laws.proofs.Standing.{Stands}
+use Rattle.hp_laws.proofs.Invariant.{Reached, Inv}
+use Rattle.hp_laws.proofs.Holding.{some_same}
+use Rattle.hp_laws.proofs.Passing.{holds_slot, locks_file, passed_locked, reached_not_passed, same_holder}
+use Rattle.hp_laws.proofs.Removals.{page_marked}
+use Rattle.hp_laws.proofs.Cover.{can_settle}
+use Rattle.hp_laws.proofs.Runs.{always}
+
+pub never_short : (s : State) (t : ℕ) → IsReached s → t ≤ s.geometry.tasks → CanSettle s (s.calls t)
+never_short s t reached l = let h = (always s reached).inv in can_settle s.geometry s t (s.calls t) h (omega arith) refl (h.stands t)
+
+pub changes_are_calls : (s : State) → IsReached s → ChangesAreCalls s
+changes_are_calls s reached = (always s reached).inv.changes
+
+pub spares_suffice : (s : State) → IsReached s → SparesSuffice s
+spares_suffice s reached = (always s reached).inv.spares
+
+pub pages_are_reserved : (s : State) → IsReached s → PagesAreReserved s
+pages_are_reserved s reached f i x e = page_marked s.geometry s f i x (always s reached).inv e
+
+hand_slot : (c : Option Call) (x : ℕ) → hand c ≡ Some x → (k : ℕ × ℕ) × (slot_held c ≡ Some k)
+hand_slot (Some (call.Touch (touch.Taken p))) x e = ((p.touch.file, p.touch.index), refl)
+hand_slot (Some (call.Touch (touch.Settle p))) x e = ((p.touch.file, p.touch.index), refl)
+hand_slot (Some (call.Touch (touch.Committed p))) x e = ((p.touch.file, p.touch.index), refl)
+hand_slot (Some (call.Touch (touch.Restore p))) x e = ((p.touch.file, p.touch.index), refl)
+hand_slot (Some (call.Alloc (alloc.Taken p))) x e = ((p.allocation.file, p.index), refl)
+hand_slot (Some (call.Alloc (alloc.Settle p))) x e = ((p.allocation.file, p.index), refl)
+hand_slot (Some (call.Alloc (alloc.Committed p))) x e = ((p.allocation.file, p.index), refl)
+hand_slot (Some (call.Alloc (alloc.Restore p))) x e = ((p.allocation.file, p.index), refl)
+hand_slot (Some (call.Punch (punch.Delete p))) x e = ((p.hole.file, p.index), refl)
+hand_slot (Some (call.Punch (punch.Free p))) x e = ((p.hole.file, p.index), refl)
+hand_slot (Some (call.Truncate (truncate.Free p))) x e = ((p.truncation.file, p.index), refl)
+hand_slot c x e = (let d : ◌≡◌ {A = Option ℕ} None (Some x) = e in absurd (cc))
+
+pub hands_apart : (s : State) → IsReached s → HandsApart s
+hands_apart s reached t u x y d a b =
+    let h = (always s reached).inv in
+    let k = hand_slot (s.calls t) x a in
+    let j = hand_slot (s.calls u) y b in
+    (k.0, j.0, k.1, j.1, λ e. d (same_holder t u (s.slots (slot_of s.geometry k.0.0 k.0.1)) (holds_slot s.geometry s t k.0 h k.1) (ap (λ (m : ℕ × ℕ). s.slots (slot_of s.geometry m.0 m.1)) e ∙ holds_slot s.geometry s u j.0 h j.1)))
+
+bare_at : (g : Geometry) (s : State) (t : ℕ) (c : Option Call) (k : ℕ × ℕ) → Stands g s t c → is_bare c ≡ true → slot_held c ≡ Some k → s.pages k.0 k.1 ≡ None
+bare_at g s t (Some (call.Touch (touch.Missing p))) k h b e = subst (λ (m : ℕ × ℕ). s.pages m.0 m.1 ≡ None) (some_same e) h.facts.bare
+bare_at g s t (Some (call.Touch (touch.Changed p))) k h b e = subst (λ (m : ℕ × ℕ). s.pages m.0 m.1 ≡ None) (some_same e) h.facts.bare
+bare_at g s t (Some (call.Touch (touch.Abort p))) k h b e = subst (λ (m : ℕ × ℕ). s.pages m.0 m.1 ≡ None) (some_same e) h.facts.bare
+bare_at g s t (Some (call.Touch (touch.Taken p))) k h b e = subst (λ (m : ℕ × ℕ). s.pages m.0 m.1 ≡ None) (some_same e) h.facts.bare
+bare_at g s t (Some (call.Touch (touch.Settle p))) k h b e = subst (λ (m : ℕ × ℕ). s.pages m.0 m.1 ≡ None) (some_same e) h.facts.bare
+bare_at g s t (Some (call.Touch (touch.Committed p))) k h b e = subst (λ (m : ℕ × ℕ). s.pages m.0 m.1 ≡ None) (some_same e) h.facts.bare
+bare_at g s t (Some (call.Touch (touch.Restore p))) k h b e = subst (λ (m : ℕ × ℕ). s.pages m.0 m.1 ≡ None) (some_same e) h.facts.bare
+bare_at g s t (Some (call.Alloc (alloc.Missing p))) k h b e = subst (λ (m : ℕ × ℕ). s.pages m.0 m.1 ≡ None) (some_same e) h.facts.bare
+bare_at g s t (Some (call.Alloc (alloc.Changed p))) k h b e = subst (λ (m : ℕ × ℕ). s.pages m.0 m.1 ≡ None) (some_same e) h.facts.bare
+bare_at g s t (Some (call.Alloc (alloc.Abort p))) k h b e = subst (λ (m : ℕ × ℕ). s.pages m.0 m.1 ≡ None) (some_same e) h.facts.bare
+bare_at g s t (Some (call.Alloc (alloc.Taken p))) k h b e = subst (λ (m : ℕ × ℕ). s.pages m.0 m.1 ≡ None) (some_same e) h.facts.bare
+bare_at g s t (Some (call.Alloc (alloc.Settle p))) k h b e = subst (λ (m : ℕ × ℕ). s.pages m.0 m.1 ≡ None) (some_same e) h.facts.bare
+bare_at g s t (Some (call.Alloc (alloc.Committed p))) k h b e = subst (λ (m : ℕ × ℕ). s.pages m.0 m.1 ≡ None) (some_same e) h.facts.bare
+bare_at g s t (Some (call.Alloc (alloc.Restore p))) k h b e = subst (λ (m : ℕ × ℕ). s.pages m.0 m.1 ≡ None) (some_same e) h.facts.bare
+bare_at g s t (Some (call.Punch (punch.Delete p))) k h b e = subst (λ (m : ℕ × ℕ). s.pages m.0 m.1 ≡ None) (some_same e) h.facts.bare
+bare_at g s t (Some (call.Punch (punch.Free p))) k h b e = subst (λ (m : ℕ × ℕ). s.pages m.0 m.1 ≡ None) (some_same e) h.facts.bare
+bare_at g s t (Some (call.Truncate (truncate.Free p))) k h b e = subst (λ (m : ℕ × ℕ). s.pages m.0 m.1 ≡ None) (some_same e) h.facts.bare
+bare_at g s t (Some (call.Truncate (truncate.Unslot p))) k h b e = subst (λ (m : ℕ × ℕ). s.pages m.0 m.1 ≡ None) (some_same e) h.facts.bare
+bare_at g s t c k h b e = (let d : false ≡ true = b in absurd (cc))
+
+pub bare_where_made : (s : State) → IsReached s → BareWhereMade s
+bare_where_made s reached t k b e = bare_at s.geometry s t (s.calls t) k ((always s reached).inv.stands t) b e
+
+-- a call that works at an index holds its slot, and may fill it, found a page there, or holds the file lock
+pub works : (g : Geometry) (s : State) (u : ℕ) (c : Option Call) (k : ℕ × ℕ) → Stands g s u c → works_at c ≡ Some k → (slot_held c ≡ Some k) × ((fills c ≡ Some k) ⊎ ((s.pages k.0 k.1 ≢ None) ⊎ (locked_file c ≡ Some k.0)))
+works g s u (Some (call.Touch (touch.Missing p))) k h e = (e, inl e)
+works g s u (Some (call.Touch (touch.Changed p))) k h e = (e, inl e)
+works g s u (Some (call.Touch (touch.Abort p))) k h e = (e, inl e)
+works g s u (Some (call.Touch (touch.Taken p))) k h e = (e, inl e)
+works g s u (Some (call.Touch (touch.Settle p))) k h e = (e, inl e)
+works g s u (Some (call.Touch (touch.Committed p))) k h e = (e, inl e)
+works g s u (Some (call.Touch (touch.Restore p))) k h e = (e, inl e)
+works g s u (Some (call.Touch (touch.Found p))) k h e = (e, inr (inl (subst (λ (m : ℕ × ℕ). s.pages m.0 m.1 ≢ None) (some_same e) h.facts.cached)))
+works g s u (Some (call.Alloc (alloc.Missing p))) k h e = (e, inr (inr (ap (λ (m : ℕ × ℕ). Some m.0) (some_same e))))
+works g s u (Some (call.Alloc (alloc.Changed p))) k h e = (e, inr (inr (ap (λ (m : ℕ × ℕ). Some m.0) (some_same e))))
+works g s u (Some (call.Alloc (alloc.Abort p))) k h e = (e, inr (inr (ap (λ (m : ℕ × ℕ). Some m.0) (some_same e))))
+works g s u (Some (call.Alloc (alloc.Taken p))) k h e = (e, inr (inr (ap (λ (m : ℕ × ℕ). Some m.0) (some_same e))))
+works g s u (Some (call.Alloc (alloc.Settle p))) k h e = (e, inr (inr (ap (λ (m : ℕ × ℕ). Some m.0) (some_same e))))
+works g s u (Some (call.Alloc (alloc.Committed p))) k h e = (e, inr (inr (ap (λ (m : ℕ × ℕ). Some m.0) (some_same e))))
+works g s u (Some (call.Alloc (alloc.Restore p))) k h e = (e, inr (inr (ap (λ (m : ℕ × ℕ). Some m.0) (some_same e))))
+works g s u c k h e = (let d : ◌≡◌ {A = Option (ℕ × ℕ)} None (Some k) = e in absurd (cc))
+
+pub reach_of : (g : Geometry) (s : State) (u : ℕ) (k : ℕ × ℕ) → Inv g s → fills (s.calls u) ≡ Some k → Reached s.size (λ w. ahead (s.calls w)) k.0 k.1
+reach_of g s u k h e = subst (λ (o : Option (ℕ × ℕ)). IfSome o (λ k. Reached s.size (λ w. ahead (s.calls w)) k.0 k.1)) e (h.reach u)
+
+pub passed_is_bare : (s : State) → IsReached s → PassedIsBare s
+passed_is_bare s reached t f j cases =
+    let h = (always s reached).inv in
+    elim cases [
+      | inl p ↦ (let none = (h.sweep.past t f j p).0 in (
+        none,
+        λ u d e. let w = works s.geometry s u (s.calls u) (f, j) (h.stands u) e in elim w.1 [
+          | inl a ↦ reached_not_passed s.geometry s f j h (reach_of s.geometry s u (f, j) h a) t p
+          | inr a ↦ elim a [
+            | inl b ↦ b none
+            | inr b ↦ d (same_holder u t (s.locks f) (locks_file s.geometry s u f h b) (locks_file s.geometry s t f h (passed_locked (s.calls t) f j p)))
+          ]
+        ],
+      ))
+      | inr p ↦ (
+        bare_where_made s reached t (f, j) p.0 p.1,
+        λ u d e. let w = works s.geometry s u (s.calls u) (f, j) (h.stands u) e in
+            d (same_holder u t (s.slots (slot_of s.geometry f j)) (holds_slot s.geometry s u (f, j) h w.0) (holds_slot s.geometry s t (f, j) h p.1)),
+      )
+    ]

@@ -1,0 +1,182 @@
+-- A reserved index goes only under the file lock, and a truncation that is over leaves nothing.
+use Rattle.std.proofs.Common.{◌≡◌, ℕ, ◌≤◌, refl, ap, sym, ◌∙◌, subst, arith, inl, inr, ◌⊎◌}
+use Rattle.std.specs.Prelude.{Bool, true, false, ◌&&◌, ◌==◌, nat_le, nat_lt, max, is_some, Option, Some, None}
+use Rattle.std.proofs.lemmas.Bool.Decides.{nat_tests}
+use Rattle.hp_base.specs.declared.answer.Answer.{Answer}
+use Rattle.hp_base.specs.declared.answer.Answer.TheVariants as answer
+use Rattle.hp_base.specs.declared.event.Event.{Event}
+use Rattle.hp_base.specs.declared.event.Event.TheVariants.{Begin, Step, Kill}
+use Rattle.hp_machine.specs.State.{Pool, State, pool_of, with_pool, slot_of, is_killed}
+use Rattle.hp_machine.specs.Parts.{unlocked}
+use Rattle.hp_machine.specs.TruncateRows.{TruncateRow}
+use Rattle.hp_machine.specs.Events.{Row, CallRow, IsReached, word_of, told}
+use Rattle.hp_machine.specs.declared.phase.Phase.TheVariants as word
+use Rattle.hp_machine.specs.declared.outcome.Outcome.{Outcome}
+use Rattle.hp_machine.specs.declared.outcome.Outcome.TheVariants as outcome
+use Rattle.hp_machine.specs.declared.touch.TouchPhase.TheVariants as touch
+use Rattle.hp_machine.specs.declared.alloc.AllocPhase.TheVariants as alloc
+use Rattle.hp_machine.specs.declared.punch.PunchPhase.TheVariants as punch
+use Rattle.hp_machine.specs.declared.truncate.TruncatePhase.{TruncatePhase}
+use Rattle.hp_machine.specs.declared.truncate.TruncatePhase.TheVariants as truncate
+use Rattle.hp_machine.specs.declared.truncate.Leave.{Leave}
+use Rattle.hp_machine.specs.declared.call.Call.{Call}
+use Rattle.hp_machine.specs.declared.call.Call.TheVariants as call
+use Rattle.hp_machine.specs.declared.call.Turn.{Turn}
+use Rattle.hp_machine.specs.declared.call.Turn.TheVariants.{Moved, Blocked, Ended}
+use Rattle.hp_laws.specs.Sweep.{ahead, passed, gone}
+use Rattle.hp_laws.specs.Protocol.{counts_on, works_at, GoesUnderLock, truncation_of, IsCut}
+use Rattle.hp_laws.proofs.Standing.{HasSlot, HasLock, Stands}
+use Rattle.hp_laws.proofs.Invariant.{Inv}
+use Rattle.hp_laws.proofs.Passing.{ahead_locked, locks_file, holds_slot, same_holder}
+use Rattle.hp_laws.proofs.Shared.{by_test, by_option, stands_at}
+use Rattle.hp_laws.proofs.StepsLeft.{deletes}
+use Rattle.hp_laws.proofs.Runs.{always}
+use Rattle.hp_laws.proofs.Apart.{works, passed_is_bare}
+use Rattle.hp_laws.proofs.Reading.{begin_cases, step_cases, kill_cases, call_steps}
+
+-- a call that counts on an index works there
+counts_works : (c : Option Call) (k : ℕ × ℕ) → counts_on c ≡ Some k → works_at c ≡ Some k
+counts_works (Some (call.Touch (touch.Changed p))) k e = e
+counts_works (Some (call.Touch (touch.Taken p))) k e = e
+counts_works (Some (call.Touch (touch.Settle p))) k e = e
+counts_works (Some (call.Touch (touch.Committed p))) k e = e
+counts_works (Some (call.Touch (touch.Restore p))) k e = e
+counts_works (Some (call.Alloc (alloc.Changed p))) k e = e
+counts_works (Some (call.Alloc (alloc.Taken p))) k e = e
+counts_works (Some (call.Alloc (alloc.Settle p))) k e = e
+counts_works (Some (call.Alloc (alloc.Committed p))) k e = e
+counts_works (Some (call.Alloc (alloc.Restore p))) k e = e
+counts_works c k e = (let d : ◌≡◌ {A = Option (ℕ × ℕ)} None (Some k) = e in absurd (cc))
+
+same_pair : (a b f i : ℕ) → ((a == f) && (b == i)) ≡ true → (a ≡ f) × (b ≡ i)
+same_pair a b f i e = (grind (arith, nat_tests), grind (arith, nat_tests))
+
+same_from : (a b f i : ℕ) → ((a == f) && nat_le b i) ≡ true → a ≡ f
+same_from a b f i e = grind (arith, nat_tests)
+
+-- who takes an index out of the reserve map
+abbrev Deletes : State → ℕ → Call → ℕ → ℕ → Type 0
+Deletes s t c f i = HasLock s t f × ((word_of c ≡ word.Delete) ⊎ (word_of c ≡ word.Tail)) × ((passed (Some c) f i ≡ true) ⊎ HasSlot s.geometry s t f i)
+
+deleter : (s : State) (t : ℕ) (c : Call) (f i : ℕ) → Stands s.geometry s t (Some c) → deletes (Some c) f i ≡ true → Deletes s t c f i
+deleter s t (call.Punch (punch.Delete p)) f i y e =
+    let o = same_pair p.hole.file p.index f i e in
+    (ap s.locks (sym o.0) ∙ y.lock, inl refl, inr (ap (λ (m : ℕ). s.slots (slot_of s.geometry m i)) (sym o.0) ∙ (ap (λ (m : ℕ). s.slots (slot_of s.geometry p.hole.file m)) (sym o.1) ∙ y.slot)))
+deleter s t (call.Truncate (truncate.Tail p)) f i y e = (ap s.locks (sym (same_from p.truncation.file p.truncation.new f i e)) ∙ y.lock, inr refl, inl e)
+deleter s t c f i y e = (let d : false ≡ true = e in absurd (cc))
+
+clash : {P : Type 0} (b : Bool) → b ≡ true → b ≡ false → P
+clash b e d = (let z : true ≡ false = sym e ∙ d in absurd (cc))
+
+pub goes_under_lock : (s : State) (event : Event) (o : Outcome) (n : State) (f i : ℕ) → IsReached s → Row s event o n → s.reserved f i ≡ true → n.reserved f i ≡ false → GoesUnderLock s event f i
+goes_under_lock s (Begin u p) o n f i reached row a b = begin_cases s u p o n (GoesUnderLock s (Begin u p) f i) row
+    (λ why e d. clash (s.reserved f i) a (ap (λ (m : State). m.reserved f i) (sym d) ∙ b))
+    (λ lives none may e d. clash (s.reserved f i) a (ap (λ (m : State). m.reserved f i) (sym d) ∙ b))
+goes_under_lock s (Kill u) o n f i reached row a b = kill_cases s u o n (GoesUnderLock s (Kill u) f i) row
+    (λ why e d. clash (s.reserved f i) a (ap (λ (m : State). m.reserved f i) (sym d) ∙ b))
+    (λ alive e d. clash (s.reserved f i) a (ap (λ (m : State). m.reserved f i) (sym d) ∙ b))
+goes_under_lock s (Step t grant) o n f i reached row a b = step_cases s t grant o n (GoesUnderLock s (Step t grant) f i) row
+    (λ why e d. clash (s.reserved f i) a (ap (λ (m : State). m.reserved f i) (sym d) ∙ b))
+    (λ c lives e pool next r d.
+    let h = always s reached in
+    let is = h.lives.there t lives in
+    let none : pool.reserved f i ≡ false = ap (λ (m : State). m.reserved f i) (sym d) ∙ b in
+    elim (call_steps s t 0 (is_killed (s.life t)) grant c o pool next h.inv is.0 (let z = is.1 in omega arith) e r) [
+      | inl w ↦ clash (s.reserved f i) a (ap (λ (m : Pool). m.reserved f i) (sym w.2) ∙ none)
+      | inr w ↦ elim (w.keeps f i a) [
+        | inl k ↦ clash (pool.reserved f i) k none
+        | inr k ↦ (let y = deleter s t c f i (stands_at s t (Some c) h.inv e) k in (
+          t,
+          grant,
+          c,
+          refl,
+          e,
+          y.0,
+          y.1,
+          λ u apart counts. elim y.2 [
+            | inl p ↦ (passed_is_bare s reached t f i (inl (ap (λ (m : Option Call). passed m f i) e ∙ p))).1 u apart (counts_works (s.calls u) (f, i) counts)
+            | inr p ↦ apart (same_holder u t (s.slots (slot_of s.geometry f i)) (holds_slot s.geometry s u (f, i) h.inv (works s.geometry s u (s.calls u) (f, i) (h.inv.stands u) (counts_works (s.calls u) (f, i) counts)).0) p)
+          ],
+        ))
+      ]
+    ])
+
+not_done : {P Q : Type 0} (turn : Turn P) (a : Answer) → (turn ≡ Ended a) → (a ≡ answer.Done → ⊥) → turn ≡ Ended answer.Done → Q
+not_done {P} turn a e other d = absurd (other (same (sym e ∙ d)))
+  where
+    same : {a b : Answer} → ◌≡◌ {A = Turn P} (Ended a) (Ended b) → a ≡ b
+    same z = cc
+
+not_moved : {P Q : Type 0} (turn : Turn P) (p : P) (a : Answer) → turn ≡ Moved p → turn ≡ Ended a → Q
+not_moved {P} turn p a e d = (let z : ◌≡◌ {A = Turn P} (Moved p) (Ended a) = sym e ∙ d in absurd (cc))
+
+not_blocked : {P Q : Type 0} (turn : Turn P) (p : P) (u : ℕ) (a : Answer) → turn ≡ Blocked p u → turn ≡ Ended a → Q
+not_blocked {P} turn p u a e d = (let z : ◌≡◌ {A = Turn P} (Blocked p u) (Ended a) = sym e ∙ d in absurd (cc))
+
+-- a truncation is done where it leaves its lock, and there alone
+done_row : (s : State) (t : ℕ) (killed grant : Bool) (phase : TruncatePhase) (turn : Turn TruncatePhase) (new : Pool) (P : Type 0) → TruncateRow (pool_of s) t killed grant phase turn new → turn ≡ Ended answer.Done
+    → ((p : Leave) → phase ≡ truncate.Leave p → new ≡ unlocked (pool_of s) p.truncation.file → P) → P
+done_row s t killed grant (truncate.Start p) turn new P row d f =
+    by_test (nat_le s.geometry.files p.truncation.file) row
+    (λ _ r. not_done turn _ r.0 (λ z. cc) d)
+    (λ _ r. by_test (nat_lt s.geometry.limit p.truncation.new) r
+    (λ _ r. not_done turn _ r.0 (λ z. cc) d)
+    (λ _ r. by_test killed r
+    (λ _ r. not_done turn _ r.0 (λ z. cc) d)
+    (λ _ r. by_option (s.locks p.truncation.file) r (λ _ r. not_moved turn _ _ r.0 d) (λ u _ r. not_blocked turn _ u _ r.0 d))))
+done_row s t killed grant (truncate.Size p) turn new P (end, is_end, row) d f = by_test (nat_lt p.truncation.new (max (s.size p.truncation.file) end)) row (λ _ r. not_moved turn _ _ r.0 d) (λ _ r. not_moved turn _ _ r.0 d)
+done_row s t killed grant (truncate.Want p) turn new P row d f = by_option (s.slots (slot_of s.geometry p.truncation.file p.index)) row (λ _ r. not_moved turn _ _ r.0 d) (λ u _ r. not_blocked turn _ u _ r.0 d)
+done_row s t killed grant (truncate.Locked p) turn new P row d f = by_test (is_some (s.pages p.truncation.file p.index)) row (λ _ r. not_moved turn _ _ r.0 d) (λ _ r. not_moved turn _ _ r.0 d)
+done_row s t killed grant (truncate.Unmap p) turn new P row d f = by_test (nat_lt p.task s.geometry.tasks) row (λ _ r. not_moved turn _ _ r.0 d) (λ _ r. not_moved turn _ _ r.0 d)
+done_row s t killed grant (truncate.Evict p) turn new P (x, page, row) d f = not_moved turn _ _ row.0 d
+done_row s t killed grant (truncate.Free p) turn new P row d f = not_moved turn _ _ row.0 d
+done_row s t killed grant (truncate.Unslot p) turn new P row d f = by_test (nat_lt p.truncation.new p.index) row (λ _ r. not_moved turn _ _ r.0 d) (λ _ r. not_moved turn _ _ r.0 d)
+done_row s t killed grant (truncate.Tail p) turn new P row d f = not_moved turn _ _ row.0 d
+done_row s t killed grant (truncate.Settle p) turn new P (low, row) d f = not_moved turn _ _ row.0 d
+done_row s t killed grant (truncate.Leave p) turn new P row d f = f p refl row.1
+
+from_on : (f new j : ℕ) → new ≤ j → ((f == f) && nat_le new j) ≡ true
+from_on f new j l = grind (arith, nat_tests)
+
+-- nothing is left where a truncation leaves
+cut_at : (s : State) (t : ℕ) (p : Leave) → Inv s.geometry s → s.calls t ≡ Some (call.Truncate (truncate.Leave p)) → IsCut s p.truncation.file p.truncation.new
+cut_at s t p h e =
+    let y = stands_at s t (Some (call.Truncate (truncate.Leave p))) h e in
+    let f = p.truncation.file in
+    let new = p.truncation.new in
+    let sized : s.size f ≡ new = y.facts.sized in
+    record {
+      translated = λ u v x j a q. elim (h.sweep.below u v x f j a q) [
+        | inl l ↦ omega arith
+        | inr w ↦ (let z : w.0 ≡ t = same_holder w.0 t (s.locks f) (locks_file s.geometry s w.0 f h (ahead_locked (s.calls w.0) f j w.1)) y.lock in
+            let c : false ≡ true = sym (ap (λ (k : Option Call). ahead k f j) (ap s.calls z ∙ e)) ∙ w.1 in absurd (cc))
+      ];
+      cached = λ j l. (h.sweep.past t f j (ap (λ (k : Option Call). passed k f j) e ∙ from_on f new j l)).0;
+      reserved = λ j l. h.sweep.gone t f j (ap (λ (k : Option Call). gone k f j) e ∙ from_on f new j l);
+    }
+
+told_done : (turn : Turn TruncatePhase) → outcome.Ended answer.Done ≡ told call.Truncate turn → turn ≡ Ended answer.Done
+told_done (Moved p) e = (let z : outcome.Ended answer.Done ≡ outcome.Moved (word_of (call.Truncate p)) = e in absurd (cc))
+told_done (Blocked p u) e = (let z : outcome.Ended answer.Done ≡ outcome.Blocked u = e in absurd (cc))
+told_done (Ended a) e = ap (λ (b : Answer). Ended b) (same (sym e))
+  where
+    same : {a b : Answer} → outcome.Ended a ≡ outcome.Ended b → a ≡ b
+    same z = cc
+
+done_call : (s : State) (t : ℕ) (killed grant : Bool) (phase : TruncatePhase) (o : Outcome) (pool : Pool) (next : Option Call) → Inv s.geometry s → s.calls t ≡ Some (call.Truncate phase) → CallRow (pool_of s) t killed grant (call.Truncate phase) o pool next → o ≡ outcome.Ended answer.Done
+    → IsCut (with_pool s pool) (truncation_of phase).file (truncation_of phase).new
+unfolding CallRow
+done_call s t killed grant phase o pool next h e (turn, row, tells, leaves) is =
+    done_row s t killed grant phase turn pool _ row (told_done turn (sym is ∙ tells)) (λ p q d.
+    subst (λ (m : TruncatePhase). IsCut (with_pool s pool) (truncation_of m).file (truncation_of m).new) (sym q)
+    (subst (λ (m : Pool). IsCut (with_pool s m) p.truncation.file p.truncation.new) (sym d) (cut_at s t p h (e ∙ ap (λ (m : TruncatePhase). Some (call.Truncate m)) q))))
+
+same_call : {a b : Call} → Some a ≡ Some b → a ≡ b
+same_call e = cc
+
+pub truncation_leaves_nothing : (s : State) (t : ℕ) (grant : Bool) (phase : TruncatePhase) (n : State) → IsReached s → s.calls t ≡ Some (call.Truncate phase) → Row s (Step t grant) (outcome.Ended answer.Done) n → IsCut n (truncation_of phase).file (truncation_of phase).new
+truncation_leaves_nothing s t grant phase n reached e row = step_cases s t grant (outcome.Ended answer.Done) n (IsCut n (truncation_of phase).file (truncation_of phase).new) row
+    (λ why z d. (let y : outcome.Ended answer.Done ≡ outcome.Refused why = z in absurd (cc)))
+    (λ c lives some pool next r d.
+    subst (λ (m : State). IsCut m (truncation_of phase).file (truncation_of phase).new) (sym d)
+    (done_call s t (is_killed (s.life t)) grant phase (outcome.Ended answer.Done) pool next (always s reached).inv e (subst (λ (m : Call). CallRow (pool_of s) t (is_killed (s.life t)) grant m (outcome.Ended answer.Done) pool next) (same_call (sym some ∙ e)) r) refl))

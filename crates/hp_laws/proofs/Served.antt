@@ -1,0 +1,260 @@
+-- A touch at a promised index, over a run.
+use Rattle.std.proofs.Common.{◌≡◌, ◌≢◌, ℕ, ◌<◌, refl, ap, sym, ◌∙◌, subst, arith, inl, inr}
+use Rattle.std.specs.Prelude.{Bool, true, false, not, ◌&&◌, ◌==◌, nat_le, is_some, Option, Some, None, List, [], ◌∷◌}
+use Rattle.std.proofs.lemmas.Bool.Decides.{nat_tests}
+use Rattle.hp_base.specs.Numbers.{put}
+use Rattle.hp_base.specs.Mappings.{find}
+use Rattle.hp_base.specs.declared.answer.Answer.{Answer}
+use Rattle.hp_base.specs.declared.answer.Answer.TheVariants as answer
+use Rattle.hp_base.specs.declared.event.Op.{Op}
+use Rattle.hp_base.specs.declared.event.Event.{Event}
+use Rattle.hp_base.specs.declared.event.Event.TheVariants.{Begin, Step, Kill}
+use Rattle.hp_base.specs.declared.mapping.Mapping.{Mapping}
+use Rattle.hp_base.proofs.Puts.{put_same}
+use Rattle.hp_frames.specs.declared.frame.FrameState.TheVariants as state
+use Rattle.hp_machine.specs.State.{Geometry, Pool, State, pool_of, with_pool, slot_of, is_killed}
+use Rattle.hp_machine.specs.Parts.{answer_of}
+use Rattle.hp_machine.specs.TouchRows.{TouchRow}
+use Rattle.hp_machine.specs.Events.{Row, CallRow, Run, opening, IsReached, first, told, left, lives_after}
+use Rattle.hp_machine.specs.declared.touch.Access.{Access}
+use Rattle.hp_machine.specs.declared.touch.Access.TheVariants.{Load, Store}
+use Rattle.hp_machine.specs.declared.touch.Touch.{Touch}
+use Rattle.hp_machine.specs.declared.touch.Look.{Look}
+use Rattle.hp_machine.specs.declared.touch.Missing.{Missing}
+use Rattle.hp_machine.specs.declared.touch.Changed
+use Rattle.hp_machine.specs.declared.touch.TouchPhase.{TouchPhase}
+use Rattle.hp_machine.specs.declared.touch.TouchPhase.TheVariants as touch
+use Rattle.hp_machine.specs.declared.alloc.Changed as alloc_changed
+use Rattle.hp_machine.specs.declared.alloc.AllocPhase.TheVariants as alloc
+use Rattle.hp_machine.specs.declared.outcome.Life.{Life}
+use Rattle.hp_machine.specs.declared.outcome.Life.TheVariants as life
+use Rattle.hp_machine.specs.declared.outcome.Outcome.{Outcome}
+use Rattle.hp_machine.specs.declared.outcome.Outcome.TheVariants as outcome
+use Rattle.hp_machine.specs.declared.outcome.Refusal.{Refusal}
+use Rattle.hp_machine.specs.declared.phase.Phase.TheVariants as word
+use Rattle.hp_machine.specs.declared.call.Call.{Call}
+use Rattle.hp_machine.specs.declared.call.Call.TheVariants as call
+use Rattle.hp_machine.specs.declared.call.Turn.{Turn}
+use Rattle.hp_machine.specs.declared.call.Turn.TheVariants.{Blocked}
+use Rattle.hp_laws.specs.Bounds.{is_begun, calls_begun}
+use Rattle.hp_laws.specs.Promises.{promised_next, promised, Undisturbed, IsServed}
+use Rattle.hp_laws.proofs.Shared.{by_test, by_option}
+use Rattle.hp_laws.proofs.Runs.{Always, always, row_keeps, run_keeps, opens_well}
+use Rattle.hp_laws.proofs.Reading.{begin_cases, step_cases, step_of}
+use Rattle.hp_laws.proofs.Promising.{Kept}
+use Rattle.hp_laws.proofs.Keeping.{kept_row, promised_kept}
+use Rattle.hp_laws.proofs.Serving.{TurnWell, at_leaf, takes, Sure, Isnt, sure_turn, sure_missing, missing_none, sure_commit, CallWell, touch_call, own_or_same}
+
+same_touch : {a b : TouchPhase} → call.Touch a ≡ call.Touch b → a ≡ b
+same_touch e = cc
+
+-- a sure touch stays sure
+sure_row : (s : State) (t : ℕ) (event : Event) (o : Outcome) (n : State) → Always s → is_begun t event o ≡ 0 → CallWell Sure (s.calls t) → Row s event o n → CallWell Sure (n.calls t)
+sure_row s t event o n h quiet w row = own_or_same s t event o n (CallWell Sure (n.calls t)) h quiet row
+    (λ calls areas lives no_end. subst (CallWell Sure) (sym calls) w)
+    (λ grant c pool next is e r d. subst (λ (m : State). CallWell Sure (m.calls t)) (sym d) (subst (CallWell Sure) (sym (put_same s.calls t next))
+    (touch_call s t (is_killed (s.life t)) grant Sure Sure Isnt c o pool next (λ phase turn q k r. sure_turn s t (is_killed (s.life t)) grant phase turn pool k r) (subst (CallWell Sure) e w) r).0))
+
+sure_run : (t : ℕ) (s : State) (es : List (Event × Outcome)) (n : State) → Run s es n → Always s → calls_begun t es ≡ 0 → CallWell Sure (s.calls t) → CallWell Sure (n.calls t) × Always n
+sure_run t s [] n r h quiet w = (subst (λ (m : State). CallWell Sure (m.calls t)) (sym r) w, subst Always (sym r) h)
+sure_run t s (e ∷ es) n r h quiet w = sure_run t r.0 es n r.2 (row_keeps s e.0 e.1 r.0 h r.1) (omega arith) (sure_row s t e.0 e.1 r.0 h (omega arith) w r.1)
+
+ends_not_refused : {P : Type 0} (b : Answer) (why : Refusal) → outcome.Ended b ≡ outcome.Refused why → P
+ends_not_refused b why e = absurd (cc)
+
+sure_end : (s : State) (t : ℕ) (grant : Bool) (b : Answer) (n : State) → CallWell Sure (s.calls t) → Row s (Step t grant) (outcome.Ended b) n → b ≢ answer.NoFrame
+sure_end s t grant b n w row = step_cases s t grant (outcome.Ended b) n (b ≢ answer.NoFrame) row
+    (λ why e d. ends_not_refused b why e)
+    (λ c lives e pool next r d. (touch_call s t (is_killed (s.life t)) grant Sure Sure Isnt c (outcome.Ended b) pool next (λ phase turn q k r. sure_turn s t (is_killed (s.life t)) grant phase turn pool k r) (subst (CallWell Sure) e w) r).1 b refl)
+
+-- a touch whose change found nothing missing never answers that there is no frame
+pub touch_never_lacks : (s : State) (t : ℕ) (p : Changed.Changed) (rest : List (Event × Outcome)) (n : State) (last : Bool) (b : Answer) (after : State)
+    → IsReached s → s.calls t ≡ Some (call.Touch (touch.Changed p)) → p.pending.missing ≡ 0 → Run s rest n → calls_begun t rest ≡ 0 → Row n (Step t last) (outcome.Ended b) after → b ≢ answer.NoFrame
+touch_never_lacks s t p rest n last b after reached e none run quiet ended =
+    sure_end n t last b after (sure_run t s rest n run (always s reached) quiet (subst (CallWell Sure) (sym e) none)).0 ended
+
+-- a touch whose index is promised where it asks what is missing never answers that there is no frame
+pub promised_never_lacks : (g : Geometry) (frames : ℕ) (es : List (Event × Outcome)) (s : State) (past : Run (opening g frames) es s) (t : ℕ) (grant : Bool) (p : Missing) (o : Outcome) (mid : State) (rest : List (Event × Outcome)) (n : State) (last : Bool) (b : Answer) (after : State)
+    → s.calls t ≡ Some (call.Touch (touch.Missing p)) → promised g frames es s past p.touch.file p.touch.index ≡ true → Row s (Step t grant) o mid → Run mid rest n → calls_begun t rest ≡ 0 → Row n (Step t last) (outcome.Ended b) after → b ≢ answer.NoFrame
+promised_never_lacks g frames es s past t grant p o mid rest n last b after e is row run quiet ended =
+    let h = run_keeps (opening g frames) es s (opens_well g frames) past in
+    let marked = (promised_kept g frames es s past p.touch.file p.touch.index is).0 in
+    let step = step_of s t grant (call.Touch (touch.Missing p)) o mid row (h.lives.busy t (call.Touch (touch.Missing p)) e) e in
+    let now = touch_call s t (is_killed (s.life t)) grant Sure (λ (q : TouchPhase). q ≡ touch.Missing p) Isnt (call.Touch (touch.Missing p)) o step.0 step.1
+    (λ phase turn q k r. sure_missing s t (is_killed (s.life t)) grant p turn step.0 marked (subst (λ (m : TouchPhase). TouchRow (pool_of s) t (is_killed (s.life t)) grant m turn step.0) k r)) refl step.2 in
+    let w : CallWell Sure (mid.calls t) = subst (λ (m : State). CallWell Sure (m.calls t)) (sym step.3) (subst (CallWell Sure) (sym (put_same s.calls t step.1)) now.0) in
+    sure_end n t last b after (sure_run t mid rest n run (row_keeps s (Step t grant) o mid h row) quiet w).0 ended
+
+-- the touch is of that index
+abbrev At : Touch → (file index : ℕ) → Type 0
+At p f i = (p.file ≡ f) × (p.index ≡ i)
+
+-- a touch of a mapped page that nothing stood in the way of
+abbrev Well : List Mapping → (file index : ℕ) → TouchPhase → Type 0
+Well ms f i (touch.Look p) = find ms p.vpn ≡ Some (f, i)
+Well ms f i (touch.Want p) = At p.touch f i
+Well ms f i (touch.Locked p) = At p.touch f i
+Well ms f i (touch.Missing p) = At p.touch f i
+Well ms f i (touch.Changed p) = At p.touch f i × (p.pending.missing ≡ 0)
+Well ms f i (touch.Abort p) = ⊥
+Well ms f i (touch.Taken p) = At p.touch f i
+Well ms f i (touch.Settle p) = At p.touch f i
+Well ms f i (touch.Committed p) = At p.touch f i
+Well ms f i (touch.Restore p) = ⊥
+Well ms f i (touch.Found p) = At p.touch f i
+Well ms f i (touch.Leave p) = IsServed p.answer
+
+served : (a : Access) (w : ℕ) → IsServed (answer_of a w)
+served Load w = inl (w, refl)
+served (Store n) w = inr refl
+
+clash : {P : Type 0} (b : Bool) → b ≡ true → b ≡ false → P
+clash b e d = (let z : true ≡ false = sym e ∙ d in absurd (cc))
+
+not_beyond : {P : Type 0} (s : State) (p : Touch) (f i : ℕ) → At p f i → i < s.size f → nat_le (s.size p.file) p.index ≡ true → P
+not_beyond s p f i at low e =
+    let same : s.size p.file ≡ s.size f = ap s.size at.0 in
+    let here : p.index ≡ i = at.1 in
+    absurd (beyond (s.size p.file) p.index e (omega arith))
+  where
+    beyond : (size i : ℕ) → nat_le size i ≡ true → i < size → ⊥
+    beyond size i e l = grind (arith, nat_tests)
+
+same_place : (a b : ℕ × ℕ) → Some a ≡ Some b → (a.0 ≡ b.0) × (a.1 ≡ b.1)
+same_place a b e = let o : a ≡ b = cc in (ap (λ (m : ℕ × ℕ). m.0) o, ap (λ (m : ℕ × ℕ). m.1) o)
+
+not_denied : (b : Bool) → (b && not true) ≡ true → ⊥
+not_denied true e = (let d : false ≡ true = e in absurd (cc))
+not_denied false e = (let d : false ≡ true = e in absurd (cc))
+
+touch_well : (s : State) (t : ℕ) (killed : Bool) (ms : List Mapping) (f i : ℕ) (phase : TouchPhase) (turn : Turn TouchPhase) (new : Pool) → killed ≡ false → s.reserved f i ≡ true → i < s.size f → Well (s.areas t) f i phase → TouchRow (pool_of s) t killed true phase turn new → TurnWell TouchPhase (Well ms f i) IsServed turn
+touch_well s t killed ms f i (touch.Look p) turn new alive marked low w row = by_option (find (s.areas t) p.vpn) row
+    (λ none r. (let z : ◌≡◌ {A = Option (ℕ × ℕ)} None (Some (f, i)) = sym none ∙ w in absurd (cc)))
+    (λ place there r. by_option (s.table t p.vpn) r
+    (λ _ r. at_leaf (Well ms f i) IsServed _ turn r.0 (same_place place (f, i) (sym there ∙ w)))
+    (λ x _ r. at_leaf (Well ms f i) IsServed _ turn r.2.0 (served p.access r.0)))
+touch_well s t killed ms f i (touch.Want p) turn new alive marked low w row = by_test killed row
+    (λ is r. clash killed is alive)
+    (λ _ r. by_option (s.slots (slot_of s.geometry p.touch.file p.touch.index)) r (λ _ r. at_leaf (Well ms f i) IsServed _ turn r.0 w) (λ u _ r. at_leaf (Well ms f i) IsServed (Blocked (touch.Want p) u) turn r.0 w))
+touch_well s t killed ms f i (touch.Locked p) turn new alive marked low w row = by_test (nat_le (s.size p.touch.file) p.touch.index) row
+    (λ beyond r. not_beyond s p.touch f i w low beyond)
+    (λ _ r. by_test (is_some (s.pages p.touch.file p.touch.index)) r (λ _ r. at_leaf (Well ms f i) IsServed _ turn r.0 w) (λ _ r. at_leaf (Well ms f i) IsServed _ turn r.0 w))
+touch_well s t killed ms f i (touch.Missing p) turn new alive marked low w row = by_test ((s.spare p.touch.file == s.pending p.touch.file) && not true) row
+    (λ denied r. absurd (not_denied _ denied))
+    (λ _ r. at_leaf (Well ms f i) IsServed _ turn r.0 (w, missing_none (s.reserved p.touch.file) p.touch.index (ap (λ (m : ℕ). s.reserved m p.touch.index) w.0 ∙ (ap (s.reserved f) w.1 ∙ marked))))
+touch_well s t killed ms f i (touch.Changed p) turn new alive marked low w row = by_test killed row
+    (λ is r. clash killed is alive)
+    (λ _ r. takes (Well ms f i) IsServed s p.pending.missing _ (λ x. touch.Taken (record { touch = p.touch; pending = p.pending; held = x })) turn new w.1 r (λ x d. w.0))
+touch_well s t killed ms f i (touch.Abort p) turn new alive marked low w row = absurd w
+touch_well s t killed ms f i (touch.Taken p) turn new alive marked low w row = sure_commit (Well ms f i) IsServed s p.touch.file p.pending.from p.pending.to p.pending.missing _ _ turn new row w w
+touch_well s t killed ms f i (touch.Settle p) turn new alive marked low w (some, row) = at_leaf (Well ms f i) IsServed _ turn row.0 w
+touch_well s t killed ms f i (touch.Committed p) turn new alive marked low w row = by_test (nat_le (s.size p.touch.file) p.touch.index) row
+    (λ beyond r. not_beyond s p.touch f i w low beyond)
+    (λ _ r. at_leaf (Well ms f i) IsServed _ turn r.0 w)
+touch_well s t killed ms f i (touch.Restore p) turn new alive marked low w row = absurd w
+touch_well s t killed ms f i (touch.Found p) turn new alive marked low w row = by_test (nat_le (s.size p.touch.file) p.touch.index) row
+    (λ beyond r. not_beyond s p.touch f i w low beyond)
+    (λ _ r. at_leaf (Well ms f i) IsServed _ turn r.4.0 (served p.touch.access r.1))
+touch_well s t killed ms f i (touch.Leave p) turn new alive marked low w row = at_leaf (Well ms f i) IsServed _ turn row.0 w
+
+alive_unkilled : (l : Life) → l ≡ life.Alive → is_killed l ≡ false
+alive_unkilled l e = ap is_killed e
+
+-- a touch in flight doesn't end its task
+touch_lives : (on : TouchPhase → Type 0) (lives : ℕ → Life) (t : ℕ) (c : Call) (next : Option Call) → CallWell on (Some c) → lives_after lives t c next ≡ lives
+touch_lives on lives t (call.Touch p) next w = refl
+touch_lives on lives t (call.Map p) next w = absurd w
+touch_lives on lives t (call.Alloc p) next w = absurd w
+touch_lives on lives t (call.Punch p) next w = absurd w
+touch_lives on lives t (call.Truncate p) next w = absurd w
+touch_lives on lives t (call.Unmap p) next w = absurd w
+touch_lives on lives t (call.Exit p) next w = absurd w
+
+abbrev Goes : State → (t f i : ℕ) → Type 0
+Goes s t f i = CallWell (Well (s.areas t) f i) (s.calls t) × (s.life t ≡ life.Alive)
+
+well_row : (s : State) (t f i : ℕ) (event : Event) (o : Outcome) (n : State) → Always s → is_begun t event o ≡ 0 → event ≢ Step t false → event ≢ Kill t → s.reserved f i ≡ true → i < s.size f → Goes s t f i → Row s event o n → Goes n t f i
+well_row s t f i event o n h quiet grants lives marked low w row = own_or_same s t event o n (Goes n t f i) h quiet row
+    (λ calls areas same no_end. (subst (CallWell (Well (n.areas t) f i)) (sym calls) (subst (λ (m : List Mapping). CallWell (Well m f i) (s.calls t)) (sym areas) w.0), elim same [ inl e ↦ e ∙ w.1 | inr e ↦ absurd (lives e) ]))
+    (λ grant c pool next is e r d. own grant c pool next is e r d)
+  where
+    own : (grant : Bool) (c : Call) (pool : Pool) (next : Option Call) → event ≡ Step t grant → s.calls t ≡ Some c → CallRow (pool_of s) t (is_killed (s.life t)) grant c o pool next → n ≡ record (with_pool s pool) { life = lives_after s.life t c next; calls = put s.calls t next } → Goes n t f i
+    own false c pool next is e r d = absurd (grants is)
+    own true c pool next is e r d =
+        let there = subst (CallWell (Well (s.areas t) f i)) e w.0 in
+        let now = touch_call s t (is_killed (s.life t)) true (Well (n.areas t) f i) (Well (s.areas t) f i) IsServed c o pool next (λ phase turn q k r. touch_well s t (is_killed (s.life t)) (n.areas t) f i phase turn pool (alive_unkilled (s.life t) w.1) marked low k r) there r in (
+          subst (CallWell (Well (n.areas t) f i)) (sym (ap (λ (m : State). m.calls t) d ∙ put_same s.calls t next)) now.0,
+          ap (λ (m : State). m.life t) d ∙ (ap (λ (m : ℕ → Life). m t) (touch_lives (Well (s.areas t) f i) s.life t c next there) ∙ w.1),
+        )
+
+well_run : (t f i : ℕ) (s : State) (es : List (Event × Outcome)) (n : State) (r : Run s es n) (old : ℕ → ℕ → Bool) → Always s → Kept s old → calls_begun t es ≡ 0 → Undisturbed t f i s es n r old → Goes s t f i
+    → Goes n t f i × (n.reserved f i ≡ true) × (i < n.size f)
+well_run t f i s [] n r old h kept quiet calm w =
+    let k = kept f i calm in
+    subst (λ (m : State). Goes m t f i × (m.reserved f i ≡ true) × (i < m.size f)) (sym r) (w, k.0, k.1)
+well_run t f i s (e ∷ es) n r old h kept quiet calm w =
+    let k = kept f i calm.0 in
+    well_run t f i r.0 es n r.2 (promised_next s e.0 e.1 old) (row_keeps s e.0 e.1 r.0 h r.1) (kept_row s e.0 e.1 r.0 old h kept r.1) (omega arith) calm.3
+    (well_row s t f i e.0 e.1 r.0 h (omega arith) calm.1 calm.2 k.0 k.1 w r.1)
+
+well_end : (s : State) (t f i : ℕ) (b : Answer) (n : State) → Goes s t f i → s.reserved f i ≡ true → i < s.size f → Row s (Step t true) (outcome.Ended b) n → IsServed b
+well_end s t f i b n w marked low row = step_cases s t true (outcome.Ended b) n (IsServed b) row
+    (λ why e d. ends_not_refused b why e)
+    (λ c lives e pool next r d. (touch_call s t (is_killed (s.life t)) true (Well [] f i) (Well (s.areas t) f i) IsServed c (outcome.Ended b) pool next (λ phase turn q k r. touch_well s t (is_killed (s.life t)) [] f i phase turn pool (alive_unkilled (s.life t) w.1) marked low k r) (subst (CallWell (Well (s.areas t) f i)) e w.0) r).1 b refl)
+
+-- a load or store of a mapped page whose index is promised all along is served, where no step is denied and the
+-- task isn't killed
+pub promised_served : (g : Geometry) (frames : ℕ) (es : List (Event × Outcome)) (s : State) (past : Run (opening g frames) es s) (t : ℕ) (p : Op) (look : Look) (f i : ℕ) (mid : State) (rest : List (Event × Outcome)) (n : State) (run : Run mid rest n) (b : Answer) (after : State)
+    → first p ≡ call.Touch (touch.Look look) → find (s.areas t) look.vpn ≡ Some (f, i) → s.life t ≡ life.Alive → Row s (Begin t p) outcome.Begun mid → calls_begun t rest ≡ 0
+    → Undisturbed t f i mid rest n run (promised g frames es s past) → Row n (Step t true) (outcome.Ended b) after → IsServed b
+promised_served g frames es s past t p look f i mid rest n run b after e there alive begun quiet calm ended =
+    let h = run_keeps (opening g frames) es s (opens_well g frames) past in
+    let w : Goes mid t f i = begin_cases s t p outcome.Begun mid (Goes mid t f i) begun
+    (λ why z d. absurd (not_refused why z))
+    (λ lives none may z d. (
+      subst (λ (m : State). CallWell (Well (m.areas t) f i) (m.calls t)) (sym d) (subst (CallWell (Well (s.areas t) f i)) (sym (put_same s.calls t (Some (first p)) ∙ ap (λ (c : Call). Some c) e)) there),
+      ap (λ (m : State). m.life t) d ∙ alive,
+    )) in
+    let y = well_run t f i mid rest n run (promised g frames es s past) (row_keeps s (Begin t p) outcome.Begun mid h begun) (kept_row s (Begin t p) outcome.Begun mid (promised g frames es s past) h (promised_kept g frames es s past) begun) quiet calm w in
+    well_end n t f i b after y.0 y.1 y.2 ended
+  where
+    not_refused : (why : Refusal) → outcome.Begun ≡ outcome.Refused why → ⊥
+    not_refused why z = cc
+
+not_some : {P : Type 0} (m : ℕ) → m ≡ 0 → (m == 0) ≡ false → P
+not_some m e d = absurd (never m e d)
+  where
+    never : (m : ℕ) → m ≡ 0 → (m == 0) ≡ false → ⊥
+    never m e d = grind (arith, nat_tests)
+
+touch_call_takes : (s : State) (t : ℕ) (killed grant : Bool) (p : Changed.Changed) (o : Outcome) (pool : Pool) (next : Option Call) → killed ≡ false → p.pending.missing ≡ 0 → CallRow (pool_of s) t killed grant (call.Touch (touch.Changed p)) o pool next
+    → (x : ℕ) × (s.frame x ≡ state.Free) × (o ≡ outcome.Moved word.Taken) × (next ≡ Some (call.Touch (touch.Taken (record { touch = p.touch; pending = p.pending; held = x }))))
+unfolding CallRow
+touch_call_takes s t killed grant p o pool next alive none (turn, row, tells, leaves) = by_test killed row
+    (λ is r. clash killed is alive)
+    (λ _ r. by_test (p.pending.missing == 0) r
+    (λ _ r. (r.0, r.1, tells ∙ ap (told call.Touch) r.3.0, leaves ∙ ap (left call.Touch) r.3.0))
+    (λ some r. not_some p.pending.missing none some))
+
+pub touch_takes : (s : State) (t : ℕ) (grant : Bool) (p : Changed.Changed) (o : Outcome) (n : State) → IsReached s → s.calls t ≡ Some (call.Touch (touch.Changed p)) → p.pending.missing ≡ 0 → is_killed (s.life t) ≡ false → Row s (Step t grant) o n
+    → (x : ℕ) × (s.frame x ≡ state.Free) × (o ≡ outcome.Moved word.Taken) × (n.calls t ≡ Some (call.Touch (touch.Taken (record { touch = p.touch; pending = p.pending; held = x }))))
+touch_takes s t grant p o n reached e none alive row =
+    let step = step_of s t grant (call.Touch (touch.Changed p)) o n row ((always s reached).lives.busy t (call.Touch (touch.Changed p)) e) e in
+    let x = touch_call_takes s t (is_killed (s.life t)) grant p o step.0 step.1 alive none step.2 in
+    (x.0, x.1, x.2, ap (λ (m : State). m.calls t) step.3 ∙ (put_same s.calls t step.1 ∙ x.3))
+
+alloc_call_takes : (s : State) (t : ℕ) (killed grant : Bool) (p : alloc_changed.Changed) (o : Outcome) (pool : Pool) (next : Option Call) → killed ≡ false → p.pending.missing ≡ 0 → CallRow (pool_of s) t killed grant (call.Alloc (alloc.Changed p)) o pool next
+    → (x : ℕ) × (s.frame x ≡ state.Free) × (o ≡ outcome.Moved word.Taken) × (next ≡ Some (call.Alloc (alloc.Taken (record { allocation = p.allocation; index = p.index; pending = p.pending; held = x }))))
+unfolding CallRow
+alloc_call_takes s t killed grant p o pool next alive none (turn, row, tells, leaves) = by_test killed row
+    (λ is r. clash killed is alive)
+    (λ _ r. by_test (p.pending.missing == 0) r
+    (λ _ r. (r.0, r.1, tells ∙ ap (told call.Alloc) r.3.0, leaves ∙ ap (left call.Alloc) r.3.0))
+    (λ some r. not_some p.pending.missing none some))
+
+pub alloc_takes : (s : State) (t : ℕ) (grant : Bool) (p : alloc_changed.Changed) (o : Outcome) (n : State) → IsReached s → s.calls t ≡ Some (call.Alloc (alloc.Changed p)) → p.pending.missing ≡ 0 → is_killed (s.life t) ≡ false → Row s (Step t grant) o n
+    → (x : ℕ) × (s.frame x ≡ state.Free) × (o ≡ outcome.Moved word.Taken) × (n.calls t ≡ Some (call.Alloc (alloc.Taken (record { allocation = p.allocation; index = p.index; pending = p.pending; held = x }))))
+alloc_takes s t grant p o n reached e none alive row =
+    let step = step_of s t grant (call.Alloc (alloc.Changed p)) o n row ((always s reached).lives.busy t (call.Alloc (alloc.Changed p)) e) e in
+    let x = alloc_call_takes s t (is_killed (s.life t)) grant p o step.0 step.1 alive none step.2 in
+    (x.0, x.1, x.2, ap (λ (m : State). m.calls t) step.3 ∙ (put_same s.calls t step.1 ∙ x.3))

@@ -1,0 +1,5 @@
+use Rattle.hp_laws.proofs.Waiting.{slot_holder_free}
+use Rattle.hp_laws.proofs.a_slot_holder_is_never_blocked.Goals as goal
+
+pub returns : goal.returns
+returns c = slot_holder_free

@@ -1,0 +1,5 @@
+use Rattle.hp_laws.proofs.Served.{touch_takes}
+use Rattle.hp_laws.proofs.a_touch_that_misses_nothing_takes_a_frame.Goals as goal
+
+pub returns : goal.returns
+returns c = touch_takes

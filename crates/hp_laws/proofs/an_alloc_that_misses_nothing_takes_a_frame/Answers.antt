@@ -1,0 +1,5 @@
+use Rattle.hp_laws.proofs.Served.{alloc_takes}
+use Rattle.hp_laws.proofs.an_alloc_that_misses_nothing_takes_a_frame.Goals as goal
+
+pub returns : goal.returns
+returns c = alloc_takes

@@ -1,0 +1,5 @@
+use Rattle.hp_laws.proofs.Losing.{goes_under_lock}
+use Rattle.hp_laws.proofs.reservations_go_under_the_lock.Goals as goal
+
+pub returns : goal.returns
+returns c = goes_under_lock

@@ -1,0 +1,5 @@
+use Rattle.hp_laws.proofs.Keeping.{promised_reserved}
+use Rattle.hp_laws.proofs.what_is_promised_is_reserved.Goals as goal
+
+pub returns : goal.returns
+returns c = promised_reserved

@@ -1,0 +1,127 @@
+-- Facts of the protocol on which the rest stands.
+use Rattle.std.specs.Prelude.{◌≡◌, ◌≢◌, ◌⊎◌, ℕ, ◌+◌, ◌≤◌, ◌<◌, Bool, true, false, Option, Some, None}
+use Rattle.hp_base.specs.Numbers.{total}
+use Rattle.hp_base.specs.Mappings.{find}
+use Rattle.hp_base.specs.declared.event.Event.{Event}
+use Rattle.hp_base.specs.declared.event.Event.TheVariants.{Step}
+use Rattle.hp_machine.specs.State.{State}
+use Rattle.hp_machine.specs.Events.{word_of}
+use Rattle.hp_machine.specs.Views.{hand, opens, slot_held}
+use Rattle.hp_machine.specs.declared.phase.Phase.TheVariants as word
+use Rattle.hp_machine.specs.declared.truncate.Truncation.{Truncation}
+use Rattle.hp_machine.specs.declared.truncate.TruncatePhase.{TruncatePhase}
+use Rattle.hp_machine.specs.declared.touch.TouchPhase.TheVariants as touch
+use Rattle.hp_machine.specs.declared.alloc.AllocPhase.TheVariants as alloc
+use Rattle.hp_machine.specs.declared.punch.PunchPhase.TheVariants as punch
+use Rattle.hp_machine.specs.declared.truncate.TruncatePhase.TheVariants as truncate
+use Rattle.hp_machine.specs.declared.call.Call.{Call}
+use Rattle.hp_machine.specs.declared.call.Call.TheVariants as call
+use Rattle.hp_laws.specs.Sweep.{passed}
+
+-- the pending changes of a file's map are the calls that have one open: at changed, abort, taken or accounted
+abbrev pub ChangesAreCalls : State → Type 0
+ChangesAreCalls s = (f : ℕ) → s.pending f ≡ total (s.geometry.tasks + 1) (λ u. opens f (s.calls u))
+
+-- there is a spare for each pending change
+abbrev pub SparesSuffice : State → Type 0
+SparesSuffice s = (f : ℕ) → s.pending f ≤ s.spare f
+
+-- a page lies only at a reserved index
+abbrev pub PagesAreReserved : State → Type 0
+PagesAreReserved s = (f i x : ℕ) → s.pages f i ≡ Some x → s.reserved f i ≡ true
+
+-- the call makes a page at the index whose slot it holds, or took it away, or found none to take away
+abbrev pub is_bare : Option Call → Bool
+is_bare (Some (call.Touch (touch.Missing p))) = true
+is_bare (Some (call.Touch (touch.Changed p))) = true
+is_bare (Some (call.Touch (touch.Abort p))) = true
+is_bare (Some (call.Touch (touch.Taken p))) = true
+is_bare (Some (call.Touch (touch.Settle p))) = true
+is_bare (Some (call.Touch (touch.Committed p))) = true
+is_bare (Some (call.Touch (touch.Restore p))) = true
+is_bare (Some (call.Alloc (alloc.Missing p))) = true
+is_bare (Some (call.Alloc (alloc.Changed p))) = true
+is_bare (Some (call.Alloc (alloc.Abort p))) = true
+is_bare (Some (call.Alloc (alloc.Taken p))) = true
+is_bare (Some (call.Alloc (alloc.Settle p))) = true
+is_bare (Some (call.Alloc (alloc.Committed p))) = true
+is_bare (Some (call.Alloc (alloc.Restore p))) = true
+is_bare (Some (call.Punch (punch.Delete p))) = true
+is_bare (Some (call.Punch (punch.Free p))) = true
+is_bare (Some (call.Truncate (truncate.Free p))) = true
+is_bare (Some (call.Truncate (truncate.Unslot p))) = true
+is_bare other = false
+
+-- two calls that hold a frame stand at different indices
+abbrev pub HandsApart : State → Type 0
+HandsApart s = (t u x y : ℕ) → t ≢ u → hand (s.calls t) ≡ Some x → hand (s.calls u) ≡ Some y → (k j : ℕ × ℕ) × (slot_held (s.calls t) ≡ Some k) × (slot_held (s.calls u) ≡ Some j) × (k ≢ j)
+
+-- and where a call makes a page there is none
+abbrev pub BareWhereMade : State → Type 0
+BareWhereMade s = (t : ℕ) (k : ℕ × ℕ) → is_bare (s.calls t) ≡ true → slot_held (s.calls t) ≡ Some k → s.pages k.0 k.1 ≡ None
+
+-- the one index for which a touch or an allocation has a change open, or a frame in its hand
+abbrev pub counts_on : Option Call → Option (ℕ × ℕ)
+counts_on (Some (call.Touch (touch.Changed p))) = Some (p.touch.file, p.touch.index)
+counts_on (Some (call.Touch (touch.Taken p))) = Some (p.touch.file, p.touch.index)
+counts_on (Some (call.Touch (touch.Settle p))) = Some (p.touch.file, p.touch.index)
+counts_on (Some (call.Touch (touch.Committed p))) = Some (p.touch.file, p.touch.index)
+counts_on (Some (call.Touch (touch.Restore p))) = Some (p.touch.file, p.touch.index)
+counts_on (Some (call.Alloc (alloc.Changed p))) = Some (p.allocation.file, p.index)
+counts_on (Some (call.Alloc (alloc.Taken p))) = Some (p.allocation.file, p.index)
+counts_on (Some (call.Alloc (alloc.Settle p))) = Some (p.allocation.file, p.index)
+counts_on (Some (call.Alloc (alloc.Committed p))) = Some (p.allocation.file, p.index)
+counts_on (Some (call.Alloc (alloc.Restore p))) = Some (p.allocation.file, p.index)
+counts_on other = None
+
+-- a reserved index goes only at a delete or a tail, under the file lock, and no other call counts on it
+abbrev pub GoesUnderLock : State → Event → (file index : ℕ) → Type 0
+GoesUnderLock s event f i = (t : ℕ) × (grant : Bool) × (c : Call) × (event ≡ Step t grant) × (s.calls t ≡ Some c) × (s.locks f ≡ Some t)
+    × ((word_of c ≡ word.Delete) ⊎ (word_of c ≡ word.Tail)) × ((u : ℕ) → u ≢ t → counts_on (s.calls u) ≡ Some (f, i) → ⊥)
+
+-- the one index for which a touch or an allocation makes a page, or found one
+abbrev pub works_at : Option Call → Option (ℕ × ℕ)
+works_at (Some (call.Touch (touch.Missing p))) = Some (p.touch.file, p.touch.index)
+works_at (Some (call.Touch (touch.Changed p))) = Some (p.touch.file, p.touch.index)
+works_at (Some (call.Touch (touch.Abort p))) = Some (p.touch.file, p.touch.index)
+works_at (Some (call.Touch (touch.Taken p))) = Some (p.touch.file, p.touch.index)
+works_at (Some (call.Touch (touch.Settle p))) = Some (p.touch.file, p.touch.index)
+works_at (Some (call.Touch (touch.Committed p))) = Some (p.touch.file, p.touch.index)
+works_at (Some (call.Touch (touch.Restore p))) = Some (p.touch.file, p.touch.index)
+works_at (Some (call.Touch (touch.Found p))) = Some (p.touch.file, p.touch.index)
+works_at (Some (call.Alloc (alloc.Missing p))) = Some (p.allocation.file, p.index)
+works_at (Some (call.Alloc (alloc.Changed p))) = Some (p.allocation.file, p.index)
+works_at (Some (call.Alloc (alloc.Abort p))) = Some (p.allocation.file, p.index)
+works_at (Some (call.Alloc (alloc.Taken p))) = Some (p.allocation.file, p.index)
+works_at (Some (call.Alloc (alloc.Settle p))) = Some (p.allocation.file, p.index)
+works_at (Some (call.Alloc (alloc.Committed p))) = Some (p.allocation.file, p.index)
+works_at (Some (call.Alloc (alloc.Restore p))) = Some (p.allocation.file, p.index)
+works_at other = None
+
+-- an index that a truncation has passed, or at which it took the page away, has no page, and no other call
+-- works there
+abbrev pub PassedIsBare : State → Type 0
+PassedIsBare s = (t f j : ℕ) → (passed (s.calls t) f j ≡ true) ⊎ ((is_bare (s.calls t) ≡ true) × (slot_held (s.calls t) ≡ Some (f, j)))
+    → (s.pages f j ≡ None) × ((u : ℕ) → u ≢ t → works_at (s.calls u) ≡ Some (f, j) → ⊥)
+
+-- what a truncation was asked for
+abbrev pub truncation_of : TruncatePhase → Truncation
+truncation_of (truncate.Start p) = p.truncation
+truncation_of (truncate.Size p) = p.truncation
+truncation_of (truncate.Want p) = p.truncation
+truncation_of (truncate.Locked p) = p.truncation
+truncation_of (truncate.Unmap p) = p.truncation
+truncation_of (truncate.Evict p) = p.truncation
+truncation_of (truncate.Free p) = p.truncation
+truncation_of (truncate.Unslot p) = p.truncation
+truncation_of (truncate.Tail p) = p.truncation
+truncation_of (truncate.Settle p) = p.truncation
+truncation_of (truncate.Leave p) = p.truncation
+
+-- nothing of the file at or above the size is translated, cached or reserved
+abbrev pub IsCut : State → (file new : ℕ) → Type 0
+IsCut s f new = record {
+  translated : (t v x j : ℕ) → s.table t v ≡ Some x → find (s.areas t) v ≡ Some (f, j) → j < new;
+  cached : (j : ℕ) → new ≤ j → s.pages f j ≡ None;
+  reserved : (j : ℕ) → new ≤ j → s.reserved f j ≡ false;
+}
