@@ -1,14 +1,10 @@
 -- Where a fault comes, no line stands.
-use Rattle.std.proofs.Common.{◌≡◌, ℕ, zero, suc, ◌+◌, ◌<◌, ◌≤◌, Bool, true, false, eqb, List, [], ◌∷◌, ◌++◌, length, Option, Some, None, refl, sym, ap, subst, ◌∙◌, arith, append_assoc, length-append, inl, inr, ◌⊎◌}
-use Rattle.std.specs.Prelude.{Result, Ok, Err}
+use Rattle.std.proofs.Common.{◌≡◌, ℕ, zero, suc, ◌+◌, ◌<◌, List, [], ◌∷◌, ◌++◌, length, Option, Some, None, refl, sym, ap, subst, ◌∙◌, arith, append_assoc, length-append, inl, inr, ◌⊎◌}
 use Rattle.std.proofs.lemmas.List.{append-nil}
-use Rattle.hp_base.specs.Text.{Sizes, sizes_text, event_text}
-use Rattle.hp_base.specs.declared.event.Event.{Event}
+use Rattle.hp_base.specs.Text.{sizes_text, event_text}
 use Rattle.hp_replay.specs.declared.fault.ReplayFault.{ReplayFault}
-use Rattle.hp_replay.specs.Fits.{IsTraceEvent}
-use Rattle.hp_replay.specs.Reading.{◌>>=◌, header_at, event_at}
-use Rattle.hp_replay.specs.Lines.{Held, Line, header, event, line_at, take_byte, with_fault, fault_at, held_after, lines_after, listed, end_of, end_at}
-use Rattle.hp_replay.specs.Traces.{AreWithinLimits, BeginsNoHeader, BeginsNoEvent, header_line, event_line, HasNoEnd, inside}
+use Rattle.hp_replay.specs.Lines.{Held, Line, header, event, line_at, take_byte, with_fault, fault_at, held_after, lines_after, listed}
+use Rattle.hp_replay.specs.Traces.{BeginsNoHeader, BeginsNoEvent, HasNoEnd}
 use Rattle.hp_replay.proofs.Lines.{header_again, event_again}
 use Rattle.hp_replay.proofs.Feeding.{stays}
 use Rattle.hp_replay.proofs.Ends.{HasNoEnd-append, line_is, no_line_within}

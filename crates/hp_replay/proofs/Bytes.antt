@@ -1,8 +1,8 @@
 -- What one byte does to what is held.
-use Rattle.std.proofs.Common.{◌≡◌, ℕ, zero, suc, ◌+◌, ◌-◌, ◌*◌, ◌<◌, ◌≤◌, Bool, true, false, cond, eqb, List, [], ◌∷◌, ◌++◌, length, Option, Some, None, refl, sym, ap, subst, ◌∙◌, arith, length-append}
+use Rattle.std.proofs.Common.{◌≡◌, ℕ, ◌+◌, ◌-◌, ◌*◌, ◌<◌, ◌≤◌, Bool, true, false, cond, eqb, [], ◌∷◌, ◌++◌, length, Option, Some, None, refl, sym, subst, arith, length-append}
 use Rattle.std.proofs.lemmas.Bool.{eqb-true, eqb-false}
 use Rattle.hp_replay.specs.declared.fault.ReplayFault.{ReplayFault}
-use Rattle.hp_replay.specs.Lines.{Held, Line, line_at, end_line, take_byte, next_byte, unless_fault, with_fault, held_after}
+use Rattle.hp_replay.specs.Lines.{Held, Line, line_at, end_line, take_byte, next_byte, unless_fault, with_fault}
 use Rattle.hp_replay.proofs.Ends.{HasNoEnd-append}
 use Rattle.hp_replay.specs.Traces.{HasNoEnd, inside}
 

@@ -1,24 +1,25 @@
 -- A trace that is kept while it is read, piece by piece.
-use Rattle.std.proofs.Common.{◌≡◌, ℕ, zero, suc, ◌+◌, ◌<◌, ◌≤◌, List, [], ◌∷◌, ◌++◌, length, take, drop, Option, Some, None, refl, sym, ap, subst, ◌∙◌, append_assoc, length-append, arith, inl, inr, ◌⊎◌}
-use Rattle.std.specs.Prelude.{map, IfSome, Result, Ok, Err}
+use Rattle.std.proofs.Common.{◌≡◌, ℕ, zero, suc, ◌+◌, ◌<◌, List, [], ◌∷◌, ◌++◌, length, drop, Option, Some, None, refl, sym, ap, subst, ◌∙◌, append_assoc, length-append, arith, inl, inr, ◌⊎◌}
+use Rattle.std.specs.Prelude.{map, IfSome, Ok, Err}
 use Rattle.std.specs.Io.BufRead.{take_through}
-use Rattle.std.specs.Io.KnownBytes.{Consumes, IsAtEnd, Keeps}
+use Rattle.std.specs.Io.KnownBytes.{Consumes, IsAtEnd}
 use Rattle.std.proofs.KnownBytes.{Consumes-nil, Consumes-trans}
 use Rattle.std.proofs.lemmas.List.{append-nil}
 use Rattle.hp_base.specs.Text.{Sizes}
 use Rattle.hp_base.specs.declared.event.Event.{Event}
 use Rattle.hp_replay.specs.declared.fault.ReplayFault.{ReplayFault}
-use Rattle.hp_replay.specs.declared.fault.ReplayFault.TheVariants.{BadLine, BadHeader, Read, Write, Memory}
+use Rattle.hp_replay.specs.declared.fault.ReplayFault.TheVariants.{Read, Memory}
 use Rattle.hp_replay.specs.Lines.{Held, opening_held, Line, header, event, fault_at, held_after, lines_after, listed, AreLines, end_of}
-use Rattle.hp_replay.specs.Traces.{HasFault, trace_text}
+use Rattle.hp_replay.specs.Traces.{HasFault, IsLineFault, SpellsSome}
 use Rattle.hp_replay.specs.Collecting.{CanFollow, CanFollowIfSome, PieceNotKept, ReadsTrace, IsReadFault}
 use Rattle.hp_replay.proofs.Feeding.{held_after-append, lines_after-append, stays}
-use Rattle.hp_replay.proofs.Spelled.{Spelled, spelled}
+use Rattle.hp_replay.proofs.Spelled.{spelled}
 use Rattle.hp_replay.proofs.Bytes.{IsHeld, room}
-use Rattle.hp_replay.proofs.BadLines.{Stops, stops}
+use Rattle.hp_replay.proofs.BadLines.{stops}
+use Rattle.hp_replay.proofs.OneReading.{no_fault}
 use Rattle.hp_replay.proofs.Running.{TookLine, through_parts}
-use Rattle.hp_replay.proofs.Replays.{for_some, end_cases, good, with_error}
-use Rattle.hp_replay.proofs.Whole.{opening_is, holds, taken, fault_of, end_fault, end_trace, EndTrace}
+use Rattle.hp_replay.proofs.Replays.{for_some, end_cases, with_error}
+use Rattle.hp_replay.proofs.Whole.{opening_is, holds, taken, fault_of, end_fault, end_trace}
 
 -- the lines of the front of the piece are added, and this is left
 pub record Adding (held now : Held) (old new : List Line) (piece rest : List ℕ) : Type 0 where
@@ -60,7 +61,7 @@ adds held h next old mid new piece rest left line a t is =
     let before = a.count in
     record {
       front = a.front ++ first;
-      parts = a.parts ∙ ap (λ (x : List ℕ). a.front ++ x) (through_parts rest ∙ ap (λ (x : List ℕ). first ++ x) (sym t.left-is)) ∙ sym (append_assoc a.front first left);
+      parts = a.parts ∙ ap (λ (x : List ℕ). a.front ++ x) (through_parts rest ∙ ap (λ (x : List ℕ). first ++ x) (sym t.left_is)) ∙ sym (append_assoc a.front first left);
       taken = taken;
       lines = is ∙ ap (λ (x : List Line). x ++ listed line []) a.lines ∙ append_assoc old (lines_after held a.front) (listed line []) ∙ ap (λ (x : List Line). old ++ x) (sym all);
       no_fault = t.ok;
@@ -69,22 +70,13 @@ adds held h next old mid new piece rest left line a t is =
 
 -- a bad line ends the piece
 pub not_added : (held h next : Held) (old mid : List Line) (piece rest : List ℕ) (fault : ReplayFault) → Adding held h old mid piece rest → next ≡ held_after h (take_through 10 rest) → next.fault ≡ Some fault → PieceNotKept fault held piece next
-not_added held h next old mid piece rest fault a held-is failed =
+not_added held h next old mid piece rest fault a held_is failed =
     let first = take_through 10 rest in
     let left = drop (length first) rest in
     let s = stays next fault left failed in
-    let whole : next ≡ held_after h (first ++ left) = sym s.0 ∙ ap (λ (x : Held). held_after x left) held-is ∙ sym (held_after-append h first left) in
+    let whole : next ≡ held_after h (first ++ left) = sym s.0 ∙ ap (λ (x : Held). held_after x left) held_is ∙ sym (held_after-append h first left) in
     let all : next ≡ held_after held (a.front ++ rest) = whole ∙ ap (λ (x : List ℕ). held_after h x) (sym (through_parts rest)) ∙ ap (λ (x : Held). held_after x rest) a.taken ∙ sym (held_after-append held a.front rest) in
     inl (failed, all ∙ ap (λ (x : List ℕ). held_after held x) (sym a.parts))
-
-pub record Added (held now : Held) (old new : List Line) (piece : List ℕ) : Type 0 where
-  pub taken : now ≡ held_after held piece
-  pub lines : new ≡ old ++ lines_after held piece
-
-pub all_added : (held h : Held) (old new : List Line) (piece rest : List ℕ) → rest ≡ [] → Adding held h old new piece rest → Added held h old new piece
-all_added held h old new piece rest none a =
-    let front : a.front ≡ piece = sym (a.parts ∙ ap (λ (x : List ℕ). a.front ++ x) none ∙ append-nil a.front) in
-    record { taken = a.taken ∙ ap (λ (x : List ℕ). held_after held x) front; lines = a.lines ∙ ap (λ (x : List ℕ). old ++ lines_after held x) front }
 
 -- ---- between two reads
 
@@ -137,24 +129,33 @@ line_fault : (n : ℕ) → IsReadFault (fault_at n)
 line_fault zero = tt
 line_fault (suc n) = tt
 
-abbrev pub Answers : Option (List ℕ) → ReplayFault → Type 0
-Answers from fault = IsReadFault fault × IfSome from (λ all. HasFault all fault)
+-- a fault that is told, and what is wrong with the bytes
+pub record Answers (from : Option (List ℕ)) (fault : ReplayFault) : Type 0 where
+  pub is : IsReadFault fault
+  pub bad : IfSome from (λ all. HasFault all fault)
+  pub only : IsLineFault fault → IfSome from (λ all. ¬ (SpellsSome all))
+
+none_spelled : (from : Option (List ℕ)) (fault : ReplayFault) → IfSome from (λ all. HasFault all fault) → IsLineFault fault → IfSome from (λ all. ¬ (SpellsSome all))
+none_spelled None fault bad is = tt
+none_spelled (Some all) fault bad is = λ (s : SpellsSome all). no_fault all fault s.sizes s.events is bad s.spells
+
+answers : (from : Option (List ℕ)) (fault : ReplayFault) → IsReadFault fault → IfSome from (λ all. HasFault all fault) → Answers from fault
+answers from fault is bad = record { is = is; bad = bad; only = none_spelled from fault bad }
 
 pub read_failed : (from : Option (List ℕ)) → Answers from Read
-read_failed from = (tt, for_some from _ (λ _. tt))
+read_failed from = answers from Read tt (for_some from _ (λ _. tt))
 
 pub memory : (from : Option (List ℕ)) → Answers from Memory
-memory from = (tt, for_some from _ (λ _. tt))
+memory from = answers from Memory tt (for_some from _ (λ _. tt))
 
 pub piece_failed : (from mid to : Option (List ℕ)) (h h' : Held) (lines : List Line) (piece : List ℕ) (fault : ReplayFault) → Drafting from mid h lines → Consumes mid to piece → PieceNotKept fault h piece h' → Answers from fault
 piece_failed from mid to h h' lines piece fault d read (inr is) = subst (λ (f : ReplayFault). Answers from f) (sym is) (memory from)
 piece_failed from mid to h h' lines piece fault d read (inl (failed, held)) =
     let whole : h' ≡ held_after opening_held (d.bytes ++ piece) = held ∙ ap (λ (x : Held). held_after x piece) d.held ∙ sym (held_after-append opening_held d.bytes piece) in
     let stopped : (held_after opening_held (d.bytes ++ piece)).fault ≡ Some fault = ap (λ (x : Held). x.fault) (sym whole) ∙ failed in
-    let s = stops opening_held (d.bytes ++ piece) fault refl opening_is stopped in (
-      subst IsReadFault (sym s.fault_is) (line_fault (held_after opening_held s.front).lines),
-      known_fault from to (d.bytes ++ piece) fault (Consumes-trans from mid to d.bytes piece d.reads read) (for_some to _ (λ left. fault_of (d.bytes ++ piece) fault left stopped)),
-    )
+    let s = stops opening_held (d.bytes ++ piece) fault refl opening_is stopped in
+    answers from fault (subst IsReadFault (sym s.fault_is) (line_fault (held_after opening_held s.front).lines))
+    (known_fault from to (d.bytes ++ piece) fault (Consumes-trans from mid to d.bytes piece d.reads read) (for_some to _ (λ left. fault_of (d.bytes ++ piece) fault left stopped)))
 
 pub end_failed : (from mid to : Option (List ℕ)) (h : Held) (lines : List Line) (fault : ReplayFault) → Drafting from mid h lines → Consumes mid to [] → IsAtEnd to → end_of h ≡ Err fault → Answers from fault
 end_failed from mid to h lines fault d read all ended = by (end_cases h (Err fault) d.no_fault ended)
@@ -171,10 +172,9 @@ end_failed from mid to h lines fault d read all ended = by (end_cases h (Err fau
 
     by : ((with_error fault ≡ Ok tt) × (h.rest ≡ []) × (0 < h.lines)) ⊎ ((with_error fault ≡ Err (fault_at h.lines)) × (0 < h.lines → 0 < length h.rest)) → Answers from fault
     by (inl (is, none, some)) = absurd (err_ok fault is)
-    by (inr (is, some)) = (
-      subst IsReadFault (err_is fault (fault_at h.lines) is) (line_fault h.lines),
-      known_fault from to (d.bytes ++ []) fault (Consumes-trans from mid to d.bytes [] d.reads read) (at_end to all (end_fault d.bytes fault (ap end_of (sym d.held) ∙ ended))),
-    )
+    by (inr (is, some)) =
+        answers from fault (subst IsReadFault (err_is fault (fault_at h.lines) is) (line_fault h.lines))
+        (known_fault from to (d.bytes ++ []) fault (Consumes-trans from mid to d.bytes [] d.reads read) (at_end to all (end_fault d.bytes fault (ap end_of (sym d.held) ∙ ended))))
 
 -- the trace is that of the bytes
 pub some_lines : (from to : Option (List ℕ)) (h : Held) (lines : List Line) → Drafting from to h lines → end_of h ≡ Ok tt → 0 < length lines

@@ -1,7 +1,6 @@
 -- A line that is read is spelled so, and what is spelled so is read.
-use Rattle.std.proofs.Common.{◌≡◌, ℕ, zero, suc, ◌+◌, ◌-◌, ◌^◌, ◌<◌, ◌≤◌, Bool, true, false, cond, List, [], ◌∷◌, ◌++◌, length, drop, Option, Some, None, refl, sym, ap, subst, ◌∙◌, append_assoc, arith, inl, inr, ◌⊎◌}
-use Rattle.std.specs.Prelude.{codes, nat_eq}
-use Rattle.std.specs.List.{starts_with}
+use Rattle.std.proofs.Common.{◌≡◌, ℕ, ◌^◌, ◌<◌, ◌≤◌, true, false, cond, List, [], ◌∷◌, ◌++◌, Option, Some, None, refl, sym, ap, subst, ◌∙◌, append_assoc, arith, inl, inr, ◌⊎◌}
+use Rattle.std.specs.Prelude.{codes}
 use Rattle.std.specs.Option.{option_map_or}
 use Rattle.std.specs.Fmt.{decimal}
 use Rattle.std.proofs.lemmas.List.{append-nil}
@@ -13,7 +12,7 @@ use Rattle.hp_base.specs.declared.event.Op.TheVariants.{Map, MapNoReserve, Unmap
 use Rattle.hp_base.specs.declared.event.Event.{Event}
 use Rattle.hp_base.specs.declared.event.Event.TheVariants.{Begin, Step, Kill}
 use Rattle.hp_core.specs.Sound.{is_built, IsBuilt}
-use Rattle.hp_replay.specs.Fits.{IsShort, OpFits, EventFits, IsTraceEvent}
+use Rattle.hp_replay.specs.Fits.{IsShort, OpFits, IsTraceEvent}
 use Rattle.hp_replay.specs.Reading.{◌>>=◌, after_word, number_at, field_at, ended, last_at, range_at, behind, op_at, event_at, last_field_at, sizes_at, header_at, limit}
 use Rattle.hp_replay.proofs.Numbers.{chosen, bind_some, number_takes, number_again, word_takes, Stops}
 
@@ -47,9 +46,6 @@ last_again n fits =
     rw read refl
 
 -- three numbers
-range_text : ℕ → ℕ → ℕ → List ℕ
-range_text file from len = decimal file ++ field from ++ field len
-
 range_takes : (bytes : List ℕ) (r : ℕ × ℕ × ℕ) → range_at bytes ≡ Some r → (bytes ≡ decimal r.0 ++ (field r.1 ++ field r.2)) × IsShort r.0 × IsShort r.1 × IsShort r.2
 unfolding range_at
 range_takes bytes r e =

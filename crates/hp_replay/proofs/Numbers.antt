@@ -1,10 +1,10 @@
 -- A number that is read is spelled so, and what is spelled so is read.
-use Rattle.std.proofs.Common.{◌≡◌, ℕ, zero, suc, ◌+◌, ◌-◌, ◌*◌, ◌/◌, ◌%◌, ◌^◌, ◌<◌, ◌≤◌, Bool, true, false, cond, eqb, List, [], ◌∷◌, ◌++◌, length, drop, Option, Some, None, refl, sym, ap, subst, ◌∙◌, append_assoc, arith, inl, inr, ◌⊎◌}
+use Rattle.std.proofs.Common.{◌≡◌, ℕ, zero, suc, ◌+◌, ◌-◌, ◌*◌, ◌/◌, ◌%◌, ◌^◌, ◌<◌, ◌≤◌, Bool, true, false, cond, eqb, List, [], ◌∷◌, ◌++◌, length, drop, Option, Some, None, refl, sym, ap, ◌∙◌, append_assoc, arith, inl, inr, ◌⊎◌}
 use Rattle.std.specs.Prelude.{nat_le, nat_eq}
 use Rattle.std.specs.Char.{is_ascii_digit}
 use Rattle.std.specs.List.{starts_with}
 use Rattle.std.specs.Fmt.{decimal}
-use Rattle.std.proofs.lemmas.Bool.{and_parts, and_from, eqb-true, eqb-false, ne_eqb, leb-true, le-leb, lt-leb}
+use Rattle.std.proofs.lemmas.Bool.{and_parts, and_from, eqb-true, eqb-false, ne_eqb, leb-true, le-leb}
 use Rattle.std.proofs.lemmas.Option.{some_pair_parts}
 use Rattle.std.proofs.lemmas.Fmt.{decimal_digit, decimal_step, decimal_by_steps}
 use Rattle.hp_replay.specs.Reading.{◌>>=◌, after_word, number_from, number_at}
@@ -65,9 +65,9 @@ number_takes most [] n rest low fits e = absurd cc
 number_takes most (b ∷ bytes) n rest low fits e =
     elim (chosen (eqb b 48) _ _ _ e) [
       | inl w ↦
-          let zero-is : b ≡ 48 = eqb-true _ _ w.0 in
+          let zero_is : b ≡ 48 = eqb-true _ _ w.0 in
           let p = some_pair_parts 0 n bytes rest w.1 in
-          (rw (← p.0, ← p.1, decimal_digit 0 (omega arith), zero-is) refl, rw (← p.0) (omega arith))
+          (rw (← p.0, ← p.1, decimal_digit 0 (omega arith), zero_is) refl, rw (← p.0) (omega arith))
       | inr w ↦
           elim (chosen (is_ascii_digit b) _ _ _ w.1) [
             | inl v ↦

@@ -1,5 +1,5 @@
 -- Bytes have one reading: a trace, or a first bad line.
-use Rattle.std.proofs.Common.{◌≡◌, ℕ, zero, suc, ◌+◌, ◌<◌, ◌≤◌, List, [], ◌∷◌, ◌++◌, length, Option, Some, None, refl, sym, ap, subst, ◌∙◌, arith, append_assoc, length-append, inl, inr, ◌⊎◌}
+use Rattle.std.proofs.Common.{◌≡◌, ℕ, suc, ◌+◌, ◌<◌, ◌≤◌, List, [], ◌∷◌, ◌++◌, length, Option, Some, refl, sym, ap, subst, ◌∙◌, arith, append_assoc, length-append, inl, inr, ◌⊎◌}
 use Rattle.std.specs.Prelude.{All}
 use Rattle.std.proofs.lemmas.List.{append-nil}
 use Rattle.std.proofs.lemmas.List.Elements.{recursion_from_All, All-from_recursion}
@@ -9,7 +9,8 @@ use Rattle.hp_replay.specs.declared.fault.ReplayFault.{ReplayFault}
 use Rattle.hp_replay.specs.declared.fault.ReplayFault.TheVariants.{BadLine, BadHeader, Read, Write, Memory}
 use Rattle.hp_replay.specs.Fits.{IsTraceEvent}
 use Rattle.hp_replay.specs.Reading.{header_at, event_at}
-use Rattle.hp_replay.specs.Traces.{AreWithinLimits, IsTrace, Spells, HasFault, HasBadLine, IsBadRest, IsLineFault, trace_text, events_text, event_line, header_line}
+use Rattle.hp_replay.specs.Replaying.{Stopped}
+use Rattle.hp_replay.specs.Traces.{BeginsNoHeader, AreWithinLimits, IsTrace, Spells, HasFault, HasBadLine, IsBadRest, IsLineFault, trace_text, events_text, event_line, header_line}
 use Rattle.hp_replay.proofs.Lines.{header_again, event_again}
 use Rattle.hp_replay.proofs.Ends.{line_is}
 use Rattle.hp_replay.proofs.Widths.{event_width, sizes_width}
@@ -97,3 +98,20 @@ no_fault bytes Memory s es is p q = is
 -- a line without a header is no line behind one
 pub no_header : (bytes : List ℕ) (n : ℕ) → HasFault bytes BadHeader → HasBadLine n bytes → ⊥
 no_header bytes n p q = p q.sizes (events_text q.events ++ q.rest) q.trace.within (q.parts ∙ append_assoc (header_line q.sizes) (events_text q.events) q.rest)
+
+-- the fault of a replay is that of the bytes
+pub stopped_fault : (all left : List ℕ) (before after : Option (List ℕ)) (fault : ReplayFault) → IsLineFault fault → Stopped fault (Some all) (Some left) before after → HasFault all fault
+stopped_fault all left before after BadHeader is s = subst BeginsNoHeader (sym s.reads) s.bad
+stopped_fault all left before after (BadLine n) is s =
+    record {
+      sizes = s.sizes;
+      events = s.events;
+      rest = s.rest ++ left;
+      parts = s.reads ∙ append_assoc (trace_text s.sizes s.events) s.rest left;
+      trace = s.trace;
+      number = s.number;
+      bad = s.bad;
+    }
+stopped_fault all left before after Read is s = absurd is
+stopped_fault all left before after Write is s = absurd is
+stopped_fault all left before after Memory is s = absurd is

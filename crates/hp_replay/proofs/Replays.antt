@@ -1,7 +1,6 @@
 -- A replay as a whole: what was read is a trace or has a fault, and what was written is its run.
-use Rattle.std.proofs.Common.{◌≡◌, ℕ, zero, suc, ◌+◌, ◌<◌, ◌≤◌, Bool, true, false, List, [], ◌∷◌, ◌++◌, length, take, Option, Some, None, refl, sym, ap, subst, ◌∙◌, append_assoc, length-append, arith, inl, inr, ◌⊎◌}
-use Rattle.std.specs.Prelude.{map, IsSome, IfSome, IfErr, OnOk, Result, Ok, Err}
-use Rattle.std.specs.List.{flat_map}
+use Rattle.std.proofs.Common.{◌≡◌, ℕ, zero, suc, ◌+◌, ◌<◌, List, [], ◌∷◌, ◌++◌, length, take, Option, Some, None, refl, sym, ap, subst, ◌∙◌, append_assoc, length-append, arith, inl, inr, ◌⊎◌}
+use Rattle.std.specs.Prelude.{map, IfSome, IfErr, OnOk, Result, Ok, Err}
 use Rattle.std.specs.Io.KnownBytes.{Appends, Consumes, Keeps, IsAtEnd}
 use Rattle.std.proofs.KnownBytes.{Appends-nil, Appends-trans, Consumes-nil, Consumes-trans, Consumes-kept}
 use Rattle.std.proofs.lemmas.List.{append-nil}
@@ -15,13 +14,13 @@ use Rattle.hp_replay.specs.Lines.{Held, opening_held, Line, header, event, fault
 use Rattle.hp_replay.specs.Traces.{IsTrace, HasNoEnd, trace_text}
 use Rattle.hp_replay.specs.Outcomes.{Run, RunOf, outcomes_text, outcome_line, state_text}
 use Rattle.hp_replay.specs.Writing.{Wrote, IsWriteFault}
-use Rattle.hp_replay.specs.Running.{LineRuns, LinesRun, LinesRan, LinesRanPartly, PieceRan, PieceRanPartly, PieceStopped, IsOpened}
-use Rattle.hp_replay.specs.Replaying.{Replayed, StoppedAtHeader, StoppedAtLine, StoppedEarly, StoppedAtRead, RunWrites, nothing, so_far, to_the_end, AllRunWrites, no_line, each_line, Stopped}
-use Rattle.hp_replay.proofs.Writes.{Wrote-none, Wrote-all, Wrote-behind}
+use Rattle.hp_replay.specs.Running.{LinesRun, PieceRan, PieceStopped, IsOpened}
+use Rattle.hp_replay.specs.Replaying.{Replayed, StoppedEarly, StoppedAtRead, RunWrites, nothing, so_far, to_the_end, AllRunWrites, no_line, each_line, Stopped}
+use Rattle.hp_replay.proofs.Writes.{Wrote-behind}
 use Rattle.hp_replay.proofs.Bytes.{IsHeld, room}
-use Rattle.hp_replay.proofs.BadLines.{NoLine, Stops, stops, cut}
+use Rattle.hp_replay.proofs.BadLines.{NoLine, stops, cut}
 use Rattle.hp_replay.proofs.Running.{PieceRan-append, PieceRanPartly-behind}
-use Rattle.hp_replay.proofs.Whole.{opening_is, holds, Taken, taken, TraceLines, TakenTrace, taken_trace, rest_is}
+use Rattle.hp_replay.proofs.Whole.{opening_is, holds, taken, TraceLines, TakenTrace, taken_trace, rest_is}
 
 -- ---- the run of a trace
 
@@ -214,7 +213,9 @@ piece_stopped from mid to h h' core core' o o' o'' piece fault g read (inr (is, 
   where
     writes : {front back text : List ℕ} {core : Option CoreState} → Ran front back text core → RunWrites to (front ++ back) text
     writes (before none empty is) = nothing empty
-    writes {front} {back} (behind t count parts run) = so_far t.trace.sizes t.trace.events ((held_after opening_held front).rest ++ back) run.outcomes run.new t.trace.trace parts run.run run.text_is
+    writes {front} {back} (behind t count parts run) =
+        so_far ((held_after opening_held front).rest ++ back) run.new
+        (record { sizes = t.trace.sizes; events = t.trace.events; outcomes = run.outcomes; trace = t.trace.trace; parts = parts; run = run.run; text_is = run.text_is })
 
 -- what the feed holds
 held_is : (from mid : Option (List ℕ)) (h : Held) (core : Option CoreState) (o o' : Option (List ℕ)) (g : Going from mid h core o o') → (held_after opening_held g.bytes).fault ≡ None
@@ -235,7 +236,9 @@ read_failed from mid to h core o o' g kept =
 
     writes : Ran g.bytes [] g.piece.text core → AllRunWrites g.bytes g.piece.text
     writes (before none empty is) = no_line (subst (λ (x : List ℕ). HasNoEnd x) is no_end) empty
-    writes (behind t count parts run) = each_line t.trace.sizes t.trace.events (held_after opening_held g.bytes).rest run.outcomes run.new t.trace.trace (sym t.text) no_end run.run run.text_is
+    writes (behind t count parts run) =
+        each_line (held_after opening_held g.bytes).rest run.new
+        (record { sizes = t.trace.sizes; events = t.trace.events; outcomes = run.outcomes; trace = t.trace.trace; parts = sym t.text; run = run.run; text_is = run.text_is }) no_end
 
 -- ---- the end of the bytes
 
@@ -277,7 +280,7 @@ end_ran from mid to h core o o' g read e = by (end_cases h (Ok tt) g.no_fault e)
     ok_err f e = cc
 
     by_ran : h.rest ≡ [] → 0 < h.lines → Ran g.bytes [] g.piece.text core → EndRan from to core o o'
-    by_ran none some (before zero-is empty is) = absurd (let same : h.lines ≡ (held_after opening_held g.bytes).lines = ap (λ (x : Held). x.lines) g.piece.taken in omega arith)
+    by_ran none some (before zero_is empty is) = absurd (let same : h.lines ≡ (held_after opening_held g.bytes).lines = ap (λ (x : Held). x.lines) g.piece.taken in omega arith)
     by_ran none some (behind t count parts run) =
         let rest : (held_after opening_held g.bytes).rest ≡ [] = ap (λ (x : Held). x.rest) (sym g.piece.taken) ∙ none in
         let whole : g.bytes ≡ trace_text t.trace.sizes t.trace.events = sym t.text ∙ ap (λ (x : List ℕ). trace_text t.trace.sizes t.trace.events ++ x) rest ∙ append-nil (trace_text t.trace.sizes t.trace.events) in
@@ -353,7 +356,7 @@ not_finished from mid to h core o o' o'' fault g read all (inr (is, ended, wrote
       bytes = trace_text e.sizes e.events;
       text = outcomes_text e.outcomes ++ state_text e.new;
       reads = e.reads;
-      run = to_the_end e.sizes e.events e.outcomes e.new e.trace refl all e.run refl;
+      run = to_the_end (outcomes_text e.outcomes) e.new (record { sizes = e.sizes; events = e.events; outcomes = e.outcomes; trace = e.trace; parts = sym (append-nil (trace_text e.sizes e.events)); run = e.run; text_is = refl }) all refl;
       wrote = Wrote-behind o o' o'' (outcomes_text e.outcomes) (state_text e.new) e.wrote (subst (λ (c : Option CoreState). IfSome c (λ c. Wrote o' o'' (state_text c))) e.is wrote);
     })
 

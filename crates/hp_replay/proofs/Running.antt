@@ -1,5 +1,5 @@
 -- Lines that run one after the other, piece by piece.
-use Rattle.std.proofs.Common.{◌≡◌, ℕ, zero, suc, ◌+◌, ◌<◌, ◌≤◌, Bool, true, false, eqb, List, [], ◌∷◌, ◌++◌, length, take, drop, Option, Some, None, refl, sym, ap, subst, ◌∙◌, append_assoc, length-append, arith, inl, inr}
+use Rattle.std.proofs.Common.{◌≡◌, ℕ, zero, suc, ◌+◌, ◌<◌, ◌≤◌, Bool, true, false, eqb, List, [], ◌∷◌, ◌++◌, length, drop, Option, Some, None, refl, sym, ap, subst, ◌∙◌, append_assoc, length-append, arith, inl, inr}
 use Rattle.std.specs.Prelude.{IsSome, IfErr, OnOk, Result, Ok, Err}
 use Rattle.std.specs.Io.BufRead.{take_through}
 use Rattle.std.specs.Io.KnownBytes.{Appends}
@@ -9,7 +9,6 @@ use Rattle.hp_base.specs.declared.config.Config.{Config}
 use Rattle.hp_base.specs.declared.event.Event.{Event}
 use Rattle.hp_machine.specs.declared.outcome.Outcome.{Outcome}
 use Rattle.hp_core.specs.Runs.{Row, IsOpening}
-use Rattle.hp_core.specs.Sound.{IsBuilt}
 use Rattle.hp_core.specs.State.{CoreState}
 use Rattle.hp_replay.specs.declared.fault.ReplayFault.{ReplayFault}
 use Rattle.hp_replay.specs.declared.feed.TraceLine.{TraceLine}
@@ -19,8 +18,8 @@ use Rattle.hp_replay.specs.Outcomes.{outcome_line}
 use Rattle.hp_replay.specs.Writing.{Wrote, IsWriteFault}
 use Rattle.hp_replay.specs.Running.{LineRuns, LinesRun, LinesRan, LinesRanPartly, LinesStopped, PieceRan, PieceRanPartly, PieceStopped, CanRun, CanRunIfSome, IsOpened}
 use Rattle.hp_replay.proofs.Feeding.{held_after-append, lines_after-append, stays}
-use Rattle.hp_replay.proofs.Spelled.{Spelled, spelled}
-use Rattle.hp_replay.proofs.Writes.{Wrote-none, Wrote-behind}
+use Rattle.hp_replay.proofs.Spelled.{spelled}
+use Rattle.hp_replay.proofs.Writes.{Wrote-behind}
 
 pub LinesRun-append : (a : Option CoreState) (xs : List Line) (b : Option CoreState) (s : List ℕ) (ys : List Line) (c : Option CoreState) (t : List ℕ) → LinesRun a xs b s → LinesRun b ys c t → LinesRun a (xs ++ ys) c (s ++ t)
 LinesRun-append a [] b s ys c t p q = subst (λ (x : List ℕ). LinesRun a ys c (x ++ t)) (sym p.1) (subst (λ (x : Option CoreState). LinesRun x ys c t) p.0 q)
@@ -134,7 +133,7 @@ through_some (x ∷ xs) lt = by (eqb x 10) refl
 pub record TookLine (h next : Held) (line : Option Line) (rest left : List ℕ) : Type 0 where
   pub held : next ≡ held_after h (take_through 10 rest)
   pub lines : listed line [] ≡ lines_after h (take_through 10 rest)
-  pub left-is : left ≡ drop (length (take_through 10 rest)) rest
+  pub left_is : left ≡ drop (length (take_through 10 rest)) rest
   pub ok : next.fault ≡ None
 
 can_run : (n : ℕ) (line : Line) (core : Option CoreState) → AreLines n (line ∷ []) → (0 < n → IsSome core) → CanRun core line
@@ -173,7 +172,7 @@ line_moves held h next core mid new o o' o'' piece rest left line r t ran =
     let one : PieceRan h (take_through 10 rest) next mid new o' o'' = record { text = ran.text; taken = t.held; runs = subst (λ (ls : List Line). LinesRun mid ls new ran.text) t.lines ran.runs; wrote = ran.wrote } in
     record {
       front = r.front ++ take_through 10 rest;
-      parts = r.parts ∙ ap (λ (x : List ℕ). r.front ++ x) (through_parts rest ∙ ap (λ (x : List ℕ). take_through 10 rest ++ x) (sym t.left-is)) ∙ sym (append_assoc r.front (take_through 10 rest) left);
+      parts = r.parts ∙ ap (λ (x : List ℕ). r.front ++ x) (through_parts rest ∙ ap (λ (x : List ℕ). take_through 10 rest ++ x) (sym t.left_is)) ∙ sym (append_assoc r.front (take_through 10 rest) left);
       ran = PieceRan-append held h next r.front (take_through 10 rest) core mid new o o' o'' r.ran one;
       no_fault = t.ok;
       opened = opened_on h.lines next.lines mid new line ran.text ran.runs count r.opened;
@@ -202,17 +201,12 @@ line_stops held h next after core mid new o o' o'' piece rest left line fault r 
 
 -- a fault: no line comes of the rest of the piece
 pub fails : (held h next : Held) (core mid : Option CoreState) (o o' : Option (List ℕ)) (piece rest : List ℕ) (fault : ReplayFault) → Running held h core mid o o' piece rest → next ≡ held_after h (take_through 10 rest) → lines_after h (take_through 10 rest) ≡ [] → next.fault ≡ Some fault → PieceStopped fault held piece next core mid o o'
-fails held h next core mid o o' piece rest fault r held-is none failed =
+fails held h next core mid o o' piece rest fault r held_is none failed =
     let t = take_through 10 rest in
     let left = drop (length t) rest in
     let s = stays next fault left failed in
-    let taken : next ≡ held_after h (t ++ left) = sym s.0 ∙ ap (λ (x : Held). held_after x left) held-is ∙ sym (held_after-append h t left) in
-    let no_lines : lines_after h (t ++ left) ≡ [] = lines_after-append h t left ∙ rw (none, ← held-is) s.1 in
+    let taken : next ≡ held_after h (t ++ left) = sym s.0 ∙ ap (λ (x : Held). held_after x left) held_is ∙ sym (held_after-append h t left) in
+    let no_lines : lines_after h (t ++ left) ≡ [] = lines_after-append h t left ∙ rw (none, ← held_is) s.1 in
     let last : PieceRan h (t ++ left) next mid mid o' o' = record { text = []; taken = taken; runs = subst (λ (ls : List Line). LinesRun mid ls mid []) (sym no_lines) (refl, refl); wrote = Appends-nil o' } in
     let parts : r.front ++ (t ++ left) ≡ piece = sym (r.parts ∙ ap (λ (x : List ℕ). r.front ++ x) (through_parts rest)) in
     inl (failed, subst (λ (x : List ℕ). PieceRan held x next core mid o o') parts (PieceRan-append held h next r.front (t ++ left) core mid mid o o' o' r.ran last))
-
-pub all_ran : (held h : Held) (core mid : Option CoreState) (o o' : Option (List ℕ)) (piece rest : List ℕ) → rest ≡ [] → Running held h core mid o o' piece rest → PieceRan held piece h core mid o o'
-all_ran held h core mid o o' piece rest none r =
-    let parts : r.front ≡ piece = sym (r.parts ∙ ap (λ (x : List ℕ). r.front ++ x) none ∙ append-nil r.front) in
-    subst (λ (x : List ℕ). PieceRan held x h core mid o o') parts r.ran

@@ -1,15 +1,12 @@
 -- The bytes that were taken are the lines that came of them, and the rest.
-use Rattle.std.proofs.Common.{◌≡◌, ℕ, zero, suc, ◌+◌, ◌<◌, ◌≤◌, Bool, true, false, cond, eqb, List, [], ◌∷◌, ◌++◌, length, Option, Some, None, refl, sym, ap, subst, ◌∙◌, arith, append_assoc, inl, inr}
+use Rattle.std.proofs.Common.{◌≡◌, ℕ, zero, suc, ◌+◌, List, [], ◌∷◌, ◌++◌, length, Option, Some, None, refl, sym, ap, subst, ◌∙◌, arith, append_assoc}
 use Rattle.std.specs.List.{flat_map}
-use Rattle.std.proofs.lemmas.Bool.{eqb-true}
 use Rattle.std.proofs.lemmas.List.{append-nil}
 use Rattle.std.proofs.lemmas.List.Concat.{flat_map-cons}
-use Rattle.hp_base.specs.Text.{Sizes}
-use Rattle.hp_base.specs.declared.event.Event.{Event}
 use Rattle.hp_replay.specs.declared.fault.ReplayFault.{ReplayFault}
-use Rattle.hp_replay.specs.Reading.{◌>>=◌, header_at, event_at}
-use Rattle.hp_replay.specs.Lines.{Held, Line, header, event, line_at, end_line, take_byte, next_byte, unless_fault, with_fault, held_after, lines_after, listed, line_text, AreLines}
-use Rattle.hp_replay.proofs.Numbers.{bind_some, chosen}
+use Rattle.hp_replay.specs.Reading.{header_at, event_at}
+use Rattle.hp_replay.specs.Lines.{Held, Line, header, event, line_at, take_byte, with_fault, held_after, lines_after, listed, line_text, AreLines}
+use Rattle.hp_replay.proofs.Numbers.{bind_some}
 use Rattle.hp_replay.proofs.Lines.{header_takes, event_takes}
 use Rattle.hp_replay.proofs.Feeding.{stays}
 use Rattle.hp_replay.proofs.Bytes.{ByteCase, full, takes_line, takes_none, too_long, grows, byte_case}

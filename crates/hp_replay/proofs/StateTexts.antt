@@ -1,5 +1,5 @@
 -- The lines of the state, one file or task more.
-use Rattle.std.proofs.Common.{◌≡◌, ℕ, zero, suc, ◌+◌, List, [], ◌++◌, refl, sym, ap, ◌∙◌, append_assoc, add-one}
+use Rattle.std.proofs.Common.{◌≡◌, ℕ, suc, ◌+◌, List, ◌++◌, sym, ap, ◌∙◌, append_assoc, add-one}
 use Rattle.std.proofs.lemmas.List.{append-nil}
 use Rattle.hp_core.specs.State.{CoreState}
 use Rattle.hp_replay.specs.Outcomes.{file_line, task_line, files_text, tasks_text}

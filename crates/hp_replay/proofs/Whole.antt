@@ -1,5 +1,5 @@
 -- What all bytes say: a trace, or the fault of their first bad line.
-use Rattle.std.proofs.Common.{◌≡◌, ℕ, zero, suc, ◌+◌, ◌-◌, ◌*◌, ◌<◌, ◌≤◌, Bool, true, false, List, [], ◌∷◌, ◌++◌, length, Option, Some, None, refl, sym, ap, subst, ◌∙◌, arith, append_assoc, length-append, inl, inr, ◌⊎◌}
+use Rattle.std.proofs.Common.{◌≡◌, ℕ, zero, suc, ◌+◌, ◌<◌, ◌≤◌, List, [], ◌∷◌, ◌++◌, length, Option, Some, None, refl, sym, ap, subst, ◌∙◌, arith, append_assoc, length-append}
 use Rattle.std.specs.Prelude.{Result, Ok, Err, map, All}
 use Rattle.std.specs.List.{flat_map}
 use Rattle.std.proofs.lemmas.List.{append-nil}
@@ -10,11 +10,10 @@ use Rattle.hp_replay.specs.declared.fault.ReplayFault.{ReplayFault}
 use Rattle.hp_replay.specs.declared.fault.ReplayFault.TheVariants.{BadLine, BadHeader}
 use Rattle.hp_replay.specs.Fits.{IsTraceEvent}
 use Rattle.hp_replay.specs.Lines.{Held, opening_held, Line, header, event, line_text, AreLines, take_byte, fault_at, held_after, lines_after, end_of, end_at}
-use Rattle.hp_replay.specs.Traces.{IsTrace, Spells, HasFault, HasBadLine, IsBadRest, trace_text, events_text}
-use Rattle.hp_replay.proofs.Feeding.{stays}
+use Rattle.hp_replay.specs.Traces.{IsTrace, Spells, HasFault, trace_text, events_text}
 use Rattle.hp_replay.proofs.Bytes.{IsHeld, keeps_held, room}
-use Rattle.hp_replay.proofs.BadLines.{NoLine, Stops, stops, cut}
-use Rattle.hp_replay.proofs.Spelled.{Spelled, spelled, no_fault_before}
+use Rattle.hp_replay.proofs.BadLines.{NoLine, stops, cut}
+use Rattle.hp_replay.proofs.Spelled.{spelled, no_fault_before}
 
 pub opening_is : IsHeld opening_held
 opening_is = record { lines = omega arith; rest = omega arith; no_end = refl }

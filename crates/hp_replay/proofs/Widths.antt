@@ -1,16 +1,16 @@
 -- No line's text holds a line's end, and none is longer than 56 bytes.
-use Rattle.std.proofs.Common.{◌≡◌, ℕ, zero, suc, ◌+◌, ◌*◌, ◌/◌, ◌%◌, ◌^◌, ◌<◌, ◌≤◌, Bool, true, false, eqb, List, [], ◌∷◌, ◌++◌, length, refl, sym, ap, ◌∙◌, arith, length-append}
-use Rattle.std.specs.Prelude.{codes, not}
+use Rattle.std.proofs.Common.{◌≡◌, ℕ, ◌+◌, ◌/◌, ◌%◌, ◌^◌, ◌<◌, ◌≤◌, true, false, eqb, List, [], ◌∷◌, ◌++◌, length, refl, arith, length-append}
+use Rattle.std.specs.Prelude.{codes}
 use Rattle.std.specs.Fmt.{decimal}
 use Rattle.std.proofs.lemmas.Bool.{ne_eqb, and_parts, leb-true}
 use Rattle.std.proofs.lemmas.Fmt.{decimal_by_steps, length-decimal-le}
-use Rattle.hp_base.specs.Text.{field, op_text, event_text, Sizes, sizes_text, alloc_word}
+use Rattle.hp_base.specs.Text.{field, op_text, event_text, Sizes, sizes_text}
 use Rattle.hp_base.specs.declared.event.Op.{Op}
 use Rattle.hp_base.specs.declared.event.Op.TheVariants.{Map, MapNoReserve, Unmap, Load, Store, Alloc, Punch, Truncate, Exit}
 use Rattle.hp_base.specs.declared.event.Event.{Event}
 use Rattle.hp_base.specs.declared.event.Event.TheVariants.{Begin, Step, Kill}
 use Rattle.hp_replay.specs.Fits.{IsShort, OpFits, EventFits}
-use Rattle.hp_replay.specs.Traces.{AreWithinLimits, HasNoEnd, inside}
+use Rattle.hp_replay.specs.Traces.{AreWithinLimits, HasNoEnd}
 use Rattle.hp_replay.proofs.Ends.{HasNoEnd-append}
 
 -- the bytes are at most so many, and no line ends in them

@@ -1,17 +1,9 @@
 -- Text that is written a part at a time.
-use Rattle.std.proofs.Common.{◌≡◌, ℕ, List, [], ◌∷◌, ◌++◌, length, take, drop, Option, Some, None, refl, sym, ap, ◌∙◌, append_assoc}
+use Rattle.std.proofs.Common.{◌≡◌, ℕ, List, [], ◌++◌, take, drop, Option, refl, sym, ap, ◌∙◌, append_assoc}
 use Rattle.std.specs.Io.KnownBytes.{Appends}
 use Rattle.std.proofs.KnownBytes.{Appends-nil, Appends-trans}
-use Rattle.std.proofs.lemmas.List.{append-nil, take-append-drop}
+use Rattle.std.proofs.lemmas.List.{take-append-drop}
 use Rattle.hp_replay.specs.Writing.{Wrote}
-
--- nothing was written
-pub Wrote-none : (old : Option (List ℕ)) (text : List ℕ) → Wrote old old text
-Wrote-none old text = record { front = []; back = text; parts = refl; appends = Appends-nil old }
-
--- all was
-pub Wrote-all : (old new : Option (List ℕ)) (text : List ℕ) → Appends old new text → Wrote old new text
-Wrote-all old new text all = record { front = text; back = []; parts = sym (append-nil text); appends = all }
 
 -- a text, and then a front of another
 pub Wrote-behind : (a b c : Option (List ℕ)) (xs ys : List ℕ) → Appends a b xs → Wrote b c ys → Wrote a c (xs ++ ys)

@@ -1,7 +1,6 @@
 -- A trace that is written line by line.
-use Rattle.std.proofs.Common.{◌≡◌, ℕ, ◌+◌, ◌<◌, ◌≤◌, List, [], ◌∷◌, ◌++◌, length, take, drop, get_or, Option, refl, sym, ap, subst, ◌∙◌, append_assoc, arith, add-one, drop-cons}
+use Rattle.std.proofs.Common.{◌≡◌, ℕ, ◌+◌, ◌<◌, ◌≤◌, List, [], ◌∷◌, ◌++◌, length, take, drop, get_or, Option, sym, ap, subst, ◌∙◌, append_assoc, add-one, drop-cons}
 use Rattle.std.specs.Prelude.{All}
-use Rattle.std.specs.List.{flat_map}
 use Rattle.std.specs.Io.KnownBytes.{Appends}
 use Rattle.std.proofs.KnownBytes.{Appends-trans}
 use Rattle.std.proofs.lemmas.List.{append-nil, take-append-drop, take_all, take_more}
@@ -10,7 +9,7 @@ use Rattle.std.proofs.lemmas.Grind.{flat_map-append}
 use Rattle.hp_base.specs.Text.{Sizes}
 use Rattle.hp_base.specs.declared.event.Event.{Event}
 use Rattle.hp_core.specs.Sound.{IsBuilt}
-use Rattle.hp_replay.specs.Fits.{EventFits, IsTraceEvent}
+use Rattle.hp_replay.specs.Fits.{EventFits}
 use Rattle.hp_replay.specs.Traces.{AreWithinLimits, IsTrace, header_line, event_line, events_text, trace_text}
 use Rattle.hp_replay.specs.Writing.{Wrote}
 use Rattle.hp_replay.proofs.Writes.{Wrote-more, Wrote-behind}

@@ -1,5 +1,5 @@
 -- What a replay has read and written when it returns.
-use Rattle.std.specs.Prelude.{◌≡◌, ℕ, ◌+◌, List, [], ◌∷◌, ◌++◌, length, Option, IfSome}
+use Rattle.std.specs.Prelude.{◌≡◌, ℕ, ◌+◌, List, [], ◌++◌, length, Option, IfSome}
 use Rattle.std.specs.Io.KnownBytes.{Appends, Consumes, IsAtEnd, Keeps}
 use Rattle.hp_base.specs.Text.{Sizes}
 use Rattle.hp_base.specs.declared.event.Event.{Event}
@@ -47,12 +47,21 @@ pub record StoppedAtLine (n : ℕ) (from to before after : Option (List ℕ)) : 
   pub run : RunOf sizes events outcomes core
   pub wrote : Appends before after (outcomes_text outcomes)
 
--- what a run of the lines that begin these bytes writes
+-- the bytes before the rest are a trace, and a run of it that leads to the core writes the text
+pub record RunOfLines (bytes rest text : List ℕ) (core : CoreState) : Type 0 where
+  pub sizes : Sizes
+  pub events : List Event
+  pub outcomes : List Outcome
+  pub trace : IsTrace sizes events
+  pub parts : bytes ≡ trace_text sizes events ++ rest
+  pub run : RunOf sizes events outcomes core
+  pub text_is : text ≡ outcomes_text outcomes
+
+-- what a run of the lines that begin these bytes writes: before a header, behind some lines, and at the end
 pub data RunWrites (to : Option (List ℕ)) (bytes text : List ℕ) : Type 0 where
-  -- before a header
   nothing : text ≡ [] → RunWrites to bytes text
-  so_far : (s : Sizes) (events : List Event) (rest : List ℕ) (outcomes : List Outcome) (core : CoreState) → IsTrace s events → bytes ≡ trace_text s events ++ rest → RunOf s events outcomes core → text ≡ outcomes_text outcomes → RunWrites to bytes text
-  to_the_end : (s : Sizes) (events : List Event) (outcomes : List Outcome) (core : CoreState) → IsTrace s events → bytes ≡ trace_text s events → IsAtEnd to → RunOf s events outcomes core → text ≡ outcomes_text outcomes ++ state_text core → RunWrites to bytes text
+  so_far : (rest : List ℕ) (core : CoreState) → RunOfLines bytes rest text core → RunWrites to bytes text
+  to_the_end : (front : List ℕ) (core : CoreState) → RunOfLines bytes [] front core → IsAtEnd to → text ≡ front ++ state_text core → RunWrites to bytes text
 
 -- what was written is a front of what a run of the lines read writes
 pub record StoppedEarly (from to before after : Option (List ℕ)) : Type 0 where
@@ -65,7 +74,7 @@ pub record StoppedEarly (from to before after : Option (List ℕ)) : Type 0 wher
 -- what a run of all lines that end in these bytes writes
 pub data AllRunWrites (bytes text : List ℕ) : Type 0 where
   no_line : HasNoEnd bytes → text ≡ [] → AllRunWrites bytes text
-  each_line : (s : Sizes) (events : List Event) (rest : List ℕ) (outcomes : List Outcome) (core : CoreState) → IsTrace s events → bytes ≡ trace_text s events ++ rest → HasNoEnd rest → RunOf s events outcomes core → text ≡ outcomes_text outcomes → AllRunWrites bytes text
+  each_line : (rest : List ℕ) (core : CoreState) → RunOfLines bytes rest text core → HasNoEnd rest → AllRunWrites bytes text
 
 -- what was written is what a run of the lines read writes
 pub record StoppedAtRead (from to before after : Option (List ℕ)) : Type 0 where

@@ -1,10 +1,11 @@
 //! Laws of traces and of the feed, each said by the contract of a function that does nothing.
-ghost use Rattle.std.specs.Prelude.{◌≡◌, ◌++◌, ℕ, List, None, Some, Ok, Err};
+ghost use Rattle.std.specs.Prelude.{◌≡◌, ◌++◌, ℕ, List, Option, None, Some, Ok, Err};
 ghost use Rattle.std.specs.List.{flat_map};
 ghost use Rattle.hp_base.specs.Text.{Sizes};
 ghost use Rattle.hp_base.specs.declared.event.Event.{Event};
 ghost use Rattle.hp_replay.specs.declared.fault.ReplayFault.{ReplayFault};
-ghost use Rattle.hp_replay.specs.Lines.{Held, opening_held, held_after, lines_after, line_text, end_of};
+ghost use Rattle.hp_replay.specs.Lines.{Held, opening_held, held_after, lines_after, line_text, AreLines, end_of};
+ghost use Rattle.hp_replay.specs.Replaying.{Stopped};
 ghost use Rattle.hp_replay.specs.Traces.{Spells, SpellsSome, HasFault, HasBadLine, IsLineFault};
 
 /// However the bytes are cut: a and then b give what a followed by b gives.
@@ -16,8 +17,10 @@ pub fn pieces_do_not_show()
 
 /// What a feed holds is what the bytes spell. Its fault names their first bad line, whatever follows.
 pub fn what_is_held_is_spelled()
-    ensures lines { (bytes : List ℕ) → (held_after opening_held bytes).fault ≡ None
+    ensures text { (bytes : List ℕ) → (held_after opening_held bytes).fault ≡ None
         → flat_map line_text (lines_after opening_held bytes) ++ (held_after opening_held bytes).rest ≡ bytes }
+    ensures lines { (bytes : List ℕ) → (held_after opening_held bytes).fault ≡ None
+        → AreLines 0 (lines_after opening_held bytes) }
     ensures fault { (bytes : List ℕ) (fault : ReplayFault) (later : List ℕ)
         → (held_after opening_held bytes).fault ≡ Some fault → HasFault (bytes ++ later) fault }
     ensures end_ok { (bytes : List ℕ) → end_of (held_after opening_held bytes) ≡ Ok tt → SpellsSome bytes }
@@ -33,4 +36,10 @@ pub fn bytes_have_one_reading()
     ensures header { (bytes : List ℕ) (n : ℕ) → HasFault bytes ReplayFault.BadHeader → HasBadLine n bytes → ⊥ }
     ensures either { (bytes : List ℕ) (fault : ReplayFault) (s : Sizes) (es : List Event)
         → IsLineFault fault → HasFault bytes fault → Spells bytes s es → ⊥ }
+{}
+
+/// The fault of a replay names the first bad line of what the reader had.
+pub fn a_stopped_replay_names_the_fault()
+    ensures { (all left : List ℕ) (before after : Option (List ℕ)) (fault : ReplayFault)
+        → IsLineFault fault → Stopped fault (Some all) (Some left) before after → HasFault all fault }
 {}

@@ -14,11 +14,16 @@ mod pieces;
 mod reading;
 mod replaying;
 mod state;
+#[cfg(test)]
+mod tests;
 mod trace;
 mod writing;
 
 pub use fault::ReplayFault;
 pub use feed::{TraceFeed, TraceLine};
-pub use laws::{bytes_have_one_reading, pieces_do_not_show, what_is_held_is_spelled};
+pub use laws::{
+    a_stopped_replay_names_the_fault, bytes_have_one_reading, pieces_do_not_show,
+    what_is_held_is_spelled,
+};
 pub use replaying::replay;
 pub use trace::{MOST_EVENTS, Trace, read_trace, write_trace};

@@ -6,7 +6,7 @@ ghost use Rattle.hp_base.specs.Text.{sizes};
 ghost use Rattle.hp_replay.specs.Lines.{header, event, line_of, listed, held_after, lines_after, end_of};
 ghost use Rattle.hp_core.specs.Sound.{IsBuilt};
 ghost use Rattle.hp_replay.specs.Fits.{EventFits};
-ghost use Rattle.hp_replay.specs.Traces.{HasFault, IsTrace, event_line, trace_text};
+ghost use Rattle.hp_replay.specs.Traces.{HasFault, IsLineFault, IsTrace, SpellsSome, event_line, trace_text};
 ghost use Rattle.hp_replay.specs.Writing.{Wrote, IsWriteFault};
 ghost use Rattle.hp_replay.specs.Collecting.{CanFollow, CanFollowIfSome, PieceNotKept, ReadsTrace, IsReadFault};
 
@@ -45,7 +45,7 @@ pub fn write_trace<W: Write>(
     trace: &Trace,
     writer: &mut W,
 ) -> Result<(), ReplayFault>
-    requires { length trace.now.events.items ≤ 1000000 }
+    requires { length trace.now.events.items ≤ MOST_EVENTS }
     ensures ok { OnOk result (Appends (W.contents writer.old) (W.contents writer.new)
         (trace_text (sizes trace.now.config) trace.now.events.items)) }
     ensures spells { OnOk result (All IsBuilt trace.now.events.items
@@ -163,6 +163,8 @@ pub fn read_trace<R: Read>(alloc: Global, reader: &mut R) -> Result<Trace, Repla
         (sizes trace.config) trace.events.items) }
     ensures fault { IfErr result IsReadFault }
     ensures bad { IfErr result (λ fault. IfSome (R.remaining reader.old) (λ bytes. HasFault bytes fault)) }
+    ensures only { IfErr result (λ fault. IsLineFault fault
+        → IfSome (R.remaining reader.old) (λ bytes. ¬ (SpellsSome bytes))) }
 {
     let mut feed = TraceFeed::new();
     let mut draft = Draft::new();

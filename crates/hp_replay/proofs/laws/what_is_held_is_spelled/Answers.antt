@@ -1,8 +1,11 @@
 use Rattle.hp_replay.proofs.Whole.{taken, fault_of, end_fault, end_trace}
 use Rattle.hp_replay.proofs.laws.what_is_held_is_spelled.Goals as goal
 
+pub returns-clause-text : goal.returns-clause-text
+returns-clause-text c = λ bytes ok. (taken bytes ok).text
+
 pub returns-clause-lines : goal.returns-clause-lines
-returns-clause-lines c = λ bytes ok. (taken bytes ok).text
+returns-clause-lines c = λ bytes ok. (taken bytes ok).are
 
 pub returns-clause-fault : goal.returns-clause-fault
 returns-clause-fault c = fault_of

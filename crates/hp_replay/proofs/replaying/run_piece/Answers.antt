@@ -1,4 +1,4 @@
-use Rattle.std.proofs.Common.{arith, rules, length, ◌≤◌, ◌<◌, ◌≡◌, drop, sym, ◌∙◌, ap}
+use Rattle.std.proofs.Common.{arith, rules, length, ◌<◌, ◌≡◌, drop, ◌∙◌, ap}
 use Rattle.std.specs.Option.{option_map}
 use Rattle.std.specs.Io.BufRead.{take_through}
 use Rattle.std.proofs.lemmas.Result.{err_from_is_err_and}
@@ -24,14 +24,14 @@ run_taken-requires g c = line_can_run c.loop-rest.feed c.take.new.self (option_m
 pub loop-rest-preserved : goal.loop-rest-preserved
 loop-rest-preserved g c =
     let left : c.split_at.result.1.now ≡ drop (length (take_through 10 c.loop-rest.rest.now)) c.loop-rest.rest.now = c.split_at.ensures.back ∙ ap (λ n. drop n c.loop-rest.rest.now) c.in_ok-used.ensures.used in
-    let took : TookLine c.loop-rest.feed c.take.new.self (option_map line_of c.in_ok-used.line) c.loop-rest.rest.now c.split_at.result.1.now = record { held = c.take.ensures.held; lines = c.in_ok-used.ensures.line; left-is = left; ok = c.in_ok-used.ensures.ok } in
+    let took : TookLine c.loop-rest.feed c.take.new.self (option_map line_of c.in_ok-used.line) c.loop-rest.rest.now c.split_at.result.1.now = record { held = c.take.ensures.held; lines = c.in_ok-used.ensures.line; left_is = left; ok = c.in_ok-used.ensures.ok } in
     line_moves c.args.feed.now c.loop-rest.feed c.take.new.self c.args.core.now c.loop-rest.core c.run_taken.new.core (g.W.Write.contents c.args.writer.now) (g.W.Write.contents c.loop-rest.writer) (g.W.Write.contents c.run_taken.new.writer) c.args.piece.now c.loop-rest.rest.now c.split_at.result.1.now (option_map line_of c.in_ok-used.line) c.loop-rest.invariant took c.in_ok-run_taken.ensures.ok
 
 pub returns-in_err-run_taken-clause-err : goal.returns-in_err-run_taken-clause-err
 returns-in_err-run_taken-clause-err g c =
     let p = err_from_is_err_and c.from_residual-in_err-run_taken.result c.from_residual-in_err-run_taken.ensures.1 in
     let left : c.split_at.result.1.now ≡ drop (length (take_through 10 c.loop-rest.rest.now)) c.loop-rest.rest.now = c.split_at.ensures.back ∙ ap (λ n. drop n c.loop-rest.rest.now) c.in_ok-used.ensures.used in
-    let took : TookLine c.loop-rest.feed c.take.new.self (option_map line_of c.in_ok-used.line) c.loop-rest.rest.now c.split_at.result.1.now = record { held = c.take.ensures.held; lines = c.in_ok-used.ensures.line; left-is = left; ok = c.in_ok-used.ensures.ok } in
+    let took : TookLine c.loop-rest.feed c.take.new.self (option_map line_of c.in_ok-used.line) c.loop-rest.rest.now c.split_at.result.1.now = record { held = c.take.ensures.held; lines = c.in_ok-used.ensures.line; left_is = left; ok = c.in_ok-used.ensures.ok } in
     rw (p.1, p.2)
     (line_stops c.args.feed.now c.loop-rest.feed c.take.new.self c.take.new.self c.args.core.now c.loop-rest.core c.run_taken.new.core (g.W.Write.contents c.args.writer.now) (g.W.Write.contents c.loop-rest.writer) (g.W.Write.contents c.run_taken.new.writer) c.args.piece.now c.loop-rest.rest.now c.split_at.result.1.now (option_map line_of c.in_ok-used.line) c.in_err-run_taken.field-0.0 c.loop-rest.invariant took c.in_err-run_taken.ensures.err)
 

@@ -24,7 +24,7 @@ add_taken-requires c = line_can_follow c.loop-rest.feed c.take.new.self (option_
 pub loop-rest-preserved : goal.loop-rest-preserved
 loop-rest-preserved c =
     let left : c.split_at.result.1.now ≡ drop (length (take_through 10 c.loop-rest.rest.now)) c.loop-rest.rest.now = c.split_at.ensures.back ∙ ap (λ n. drop n c.loop-rest.rest.now) c.in_ok-used.ensures.used in
-    let took : TookLine c.loop-rest.feed c.take.new.self (option_map line_of c.in_ok-used.line) c.loop-rest.rest.now c.split_at.result.1.now = record { held = c.take.ensures.held; lines = c.in_ok-used.ensures.line; left-is = left; ok = c.in_ok-used.ensures.ok } in
+    let took : TookLine c.loop-rest.feed c.take.new.self (option_map line_of c.in_ok-used.line) c.loop-rest.rest.now c.split_at.result.1.now = record { held = c.take.ensures.held; lines = c.in_ok-used.ensures.line; left_is = left; ok = c.in_ok-used.ensures.ok } in
     adds c.args.feed.now c.loop-rest.feed c.take.new.self c.args.draft.now c.loop-rest.draft c.add_taken.new.self c.args.piece.now c.loop-rest.rest.now c.split_at.result.1.now (option_map line_of c.in_ok-used.line) c.loop-rest.invariant took c.in_ok-add_taken.ensures
 
 pub loop-rest-smaller : goal.loop-rest-smaller

@@ -27,13 +27,19 @@ pub returns-in_err-end-clause-fault : goal.returns-in_err-end-clause-fault
 returns-in_err-end-clause-fault g c =
     let p = err_from_is_err_and c.from_residual-in_err-end.result c.from_residual-in_err-end.ensures.1 in
     let none = read_none _ _ _ _ c.if-n-eq0.true c.in_ok-n.ensures.bytes in
-    rw (p.1, p.2) (end_failed _ _ _ _ _ c.in_err-end.field-0.0 c.loop-draft.invariant none (c.in_ok-n.ensures.end c.if-n-eq0.true (first_of (omega arith, search rules))) (sym c.in_err-end.ensures)).0
+    rw (p.1, p.2) (end_failed _ _ _ _ _ c.in_err-end.field-0.0 c.loop-draft.invariant none (c.in_ok-n.ensures.end c.if-n-eq0.true (first_of (omega arith, search rules))) (sym c.in_err-end.ensures)).is
 
 pub returns-in_err-end-clause-bad : goal.returns-in_err-end-clause-bad
 returns-in_err-end-clause-bad g c =
     let p = err_from_is_err_and c.from_residual-in_err-end.result c.from_residual-in_err-end.ensures.1 in
     let none = read_none _ _ _ _ c.if-n-eq0.true c.in_ok-n.ensures.bytes in
-    rw (p.1, p.2) (end_failed _ _ _ _ _ c.in_err-end.field-0.0 c.loop-draft.invariant none (c.in_ok-n.ensures.end c.if-n-eq0.true (first_of (omega arith, search rules))) (sym c.in_err-end.ensures)).1
+    rw (p.1, p.2) (end_failed _ _ _ _ _ c.in_err-end.field-0.0 c.loop-draft.invariant none (c.in_ok-n.ensures.end c.if-n-eq0.true (first_of (omega arith, search rules))) (sym c.in_err-end.ensures)).bad
+
+pub returns-in_err-end-clause-only : goal.returns-in_err-end-clause-only
+returns-in_err-end-clause-only g c =
+    let p = err_from_is_err_and c.from_residual-in_err-end.result c.from_residual-in_err-end.ensures.1 in
+    let none = read_none _ _ _ _ c.if-n-eq0.true c.in_ok-n.ensures.bytes in
+    rw (p.1, p.2) (end_failed _ _ _ _ _ c.in_err-end.field-0.0 c.loop-draft.invariant none (c.in_ok-n.ensures.end c.if-n-eq0.true (first_of (omega arith, search rules))) (sym c.in_err-end.ensures)).only
 
 pub returns-then-n-eq0-clause-ok : goal.returns-then-n-eq0-clause-ok
 returns-then-n-eq0-clause-ok g c =
@@ -43,9 +49,14 @@ returns-then-n-eq0-clause-ok g c =
 pub returns-in_err-add_piece-clause-fault : goal.returns-in_err-add_piece-clause-fault
 returns-in_err-add_piece-clause-fault g c =
     let p = err_from_is_err_and c.from_residual-in_err-add_piece.result c.from_residual-in_err-add_piece.ensures.1 in
-    rw (p.1, p.2) (piece_failed _ _ _ c.loop-draft.feed c.add_piece.new.feed _ _ c.in_err-add_piece.field-0.0 c.loop-draft.invariant c.in_ok-n.ensures.bytes c.in_err-add_piece.ensures.err).0
+    rw (p.1, p.2) (piece_failed _ _ _ c.loop-draft.feed c.add_piece.new.feed _ _ c.in_err-add_piece.field-0.0 c.loop-draft.invariant c.in_ok-n.ensures.bytes c.in_err-add_piece.ensures.err).is
 
 pub returns-in_err-add_piece-clause-bad : goal.returns-in_err-add_piece-clause-bad
 returns-in_err-add_piece-clause-bad g c =
     let p = err_from_is_err_and c.from_residual-in_err-add_piece.result c.from_residual-in_err-add_piece.ensures.1 in
-    rw (p.1, p.2) (piece_failed _ _ _ c.loop-draft.feed c.add_piece.new.feed _ _ c.in_err-add_piece.field-0.0 c.loop-draft.invariant c.in_ok-n.ensures.bytes c.in_err-add_piece.ensures.err).1
+    rw (p.1, p.2) (piece_failed _ _ _ c.loop-draft.feed c.add_piece.new.feed _ _ c.in_err-add_piece.field-0.0 c.loop-draft.invariant c.in_ok-n.ensures.bytes c.in_err-add_piece.ensures.err).bad
+
+pub returns-in_err-add_piece-clause-only : goal.returns-in_err-add_piece-clause-only
+returns-in_err-add_piece-clause-only g c =
+    let p = err_from_is_err_and c.from_residual-in_err-add_piece.result c.from_residual-in_err-add_piece.ensures.1 in
+    rw (p.1, p.2) (piece_failed _ _ _ c.loop-draft.feed c.add_piece.new.feed _ _ c.in_err-add_piece.field-0.0 c.loop-draft.invariant c.in_ok-n.ensures.bytes c.in_err-add_piece.ensures.err).only
