@@ -9,5 +9,6 @@
 pub mod map;
 pub mod parts;
 
+pub use hp_machine::{Stopped, Turn};
 pub use map::step_map;
 pub use parts::{FileState, Parts};

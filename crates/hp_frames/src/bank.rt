@@ -121,9 +121,11 @@ impl Bank {
 
     /// Takes a free frame for a reservation that the caller has (Linux: `dequeue_hugetlb_folio_vma`
     /// with `gbl_chg` 0). Its word is 0 once it is placed.
+    #[tactic(auto, using(std::proofs::lemmas::Grind::common_steps, crate::proofs::Frames::set_same))]
     pub fn take_reserved(&mut self) -> Held
         requires { 1 ≤ self.old.resv }
         ensures free { IsFree self.old result }
+        ensures held { InHands self.new result }
         ensures after { self.new ≡ with_resv (with_frame self.old result FrameState.Hand) (self.old.resv - 1) }
     {
         let frame = take_free(&mut self.frames, &mut self.free);
@@ -132,10 +134,12 @@ impl Bank {
     }
 
     /// Takes a free frame that nobody reserved. Its word is 0 once it is placed.
+    #[tactic(auto, using(std::proofs::lemmas::Grind::common_steps, crate::proofs::Frames::set_same))]
     pub fn take_unreserved(&mut self) -> Result<Held, Fault>
         ensures none { IsErrOf result Fault.NoFrame ↔ (free_count self.old ≡ self.old.resv) }
         ensures only { IsErr result → IsErrOf result Fault.NoFrame }
         ensures free { IfOk result (λ held. IsFree self.old held) }
+        ensures held { IfOk result (λ held. InHands self.new held) }
         ensures after { IfOk result (λ held. self.new ≡ with_frame self.old held FrameState.Hand) }
         ensures err { OnErr result (self.new ≡ self.old) }
     {
@@ -147,9 +151,11 @@ impl Bank {
     }
 
     /// The frame becomes a page, with the word 0.
+    #[tactic(auto, using(std::proofs::lemmas::Grind::common_steps, crate::proofs::Frames::set_same))]
     pub fn place(&mut self, held: Held) -> Frame
         requires { InHands self.old held }
         ensures same { result ≡ held }
+        ensures word { HasWord self.new held 0 }
         ensures after { self.new ≡ with_frame self.old held (FrameState.Placed 0) }
     {
         let Held { frame } = held;
@@ -158,9 +164,11 @@ impl Bank {
     }
 
     /// The page's frame comes into the caller's hand.
+    #[tactic(auto, using(std::proofs::lemmas::Grind::common_steps, crate::proofs::Frames::set_same))]
     pub fn evict(&mut self, frame: Frame) -> Held
         requires { IsPlaced self.old frame }
         ensures same { result ≡ frame }
+        ensures held { InHands self.new frame }
         ensures after { self.new ≡ with_frame self.old frame FrameState.Hand }
     {
         move_frame(&mut self.frames, frame, FrameState::Hand);
@@ -198,9 +206,11 @@ impl Bank {
     }
 
     /// Writes the word of a page.
+    #[tactic(auto, using(std::proofs::lemmas::Grind::common_steps, crate::proofs::Frames::set_same))]
     pub fn store(&mut self, frame: Frame, word: u64)
         requires { IsPlaced self.old frame }
-        ensures { self.new ≡ with_frame self.old frame (FrameState.Placed word) }
+        ensures word { HasWord self.new frame word }
+        ensures after { self.new ≡ with_frame self.old frame (FrameState.Placed word) }
     {
         move_frame(&mut self.frames, frame, FrameState::Placed(word));
     }
@@ -271,9 +281,10 @@ mod tests {
         assert_eq!(rt; bank.free(), 2);
         let first = bank.take_unreserved()?;
         let first = bank.place(first);
+        assert_eq!(rt; bank.load(first), 0);
         let second = bank.take_unreserved()?;
         let second = bank.place(second);
-        assert_eq!(rt; (bank.load(first), bank.load(second)), (0, 0));
+        assert_eq!(rt; bank.load(second), 0);
         Ok(())
     }
 

@@ -1,4 +1,7 @@
 //! What the program does, over any words and streams.
+ghost use Rattle.std.specs.Prelude.{◌≡◌};
+ghost use Rattle.hugepool.specs.Status.{status_of};
+
 use crate::command::{Request, read_words};
 use clap::error::ErrorKind;
 use hp_replay::{ReplayFault, replay};
@@ -17,7 +20,9 @@ enum Stop {
 }
 
 impl Stop {
-    fn status(&self) -> u8 {
+    fn status(&self) -> u8
+        ensures { result ≡ status_of self.now }
+    {
         match self {
             Stop::Usage(_) => 2,
             Stop::Replay(_) => 1,

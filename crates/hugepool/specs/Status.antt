@@ -1,0 +1,9 @@
+-- The status that the program ends with.
+use Rattle.std.specs.Prelude.{ℕ}
+use Rattle.hugepool.specs.declared.program.Stop.{Stop}
+use Rattle.hugepool.specs.declared.program.Stop.TheVariants.{Usage, Replay}
+
+-- 2 where the words ask for nothing, 1 after a fault
+abbrev pub status_of : Stop → ℕ
+status_of (Usage error) = 2
+status_of (Replay fault) = 1
