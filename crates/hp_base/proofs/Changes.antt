@@ -1,5 +1,5 @@
 -- What one place does to a count.
-use Rattle.std.proofs.Common.{◌≡◌, ◌≢◌, ℕ, zero, suc, ◌+◌, ◌<◌, Bool, cond, refl, arith, inl, inr}
+use Rattle.std.proofs.Common.{◌≡◌, ◌≢◌, ℕ, zero, suc, ◌+◌, ◌<◌, Bool, cond, arith, inl, inr}
 use Rattle.hp_base.specs.Indices.{count_below}
 use Rattle.hp_base.proofs.Counting.{count_below-ext}
 use Rattle.hp_base.proofs.Puts.{same_or_other}
