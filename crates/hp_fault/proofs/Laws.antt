@@ -1,7 +1,7 @@
 -- What one write to a list does to the functions that the machine sees, and what they tell.
 use Rattle.std.proofs.Common.{◌≡◌, ◌≢◌, ℕ, ◌+◌, ◌-◌, ◌<◌, ◌≤◌, List, length, get_or, set, refl, sym, ◌∙◌, ap, subst, arith, inl, inr}
 use Rattle.std.proofs.Math.Path.{fun_ext}
-use Rattle.std.specs.Prelude.{Bool, true, false, Option, Some, None, ◌==◌, slice_set, slice_index_or}
+use Rattle.std.specs.Prelude.{Bool, false, Option, None, ◌==◌, slice_set, slice_index_or}
 use Rattle.std.specs.Ordering.{nat_cmp}
 use Rattle.std.specs.FinMap.{FinMap, get}
 use Rattle.std.proofs.lemmas.Bool.{ne_eqb}
@@ -9,8 +9,6 @@ use Rattle.std.proofs.lemmas.Bool.Decides.{nat_tests}
 use Rattle.std.proofs.lemmas.Grind.{common_steps}
 use Rattle.std.proofs.lemmas.List.{get_or-set_same, get_or-set_other, length-set}
 use Rattle.hp_base.specs.Numbers.{put}
-use Rattle.hp_base.specs.Indices.{count_below, add_range}
-use Rattle.hp_base.specs.declared.mapping.Mapping.{Mapping}
 use Rattle.hp_base.proofs.Counting.{count_below-ext}
 use Rattle.hp_base.proofs.Puts.{put_same, put_other, put_self, same_or_other}
 use Rattle.hp_base.proofs.Lists.{at_set, at_same}
