@@ -1,6 +1,6 @@
 //! Runs that no clause says: that ample memory meets no want of it, and what the readers tell then.
 use crate::{Core, Life, Outcome, Phase, RunFault, Tally};
-use hp_base::{Config, Event, File, Index, Op, Task};
+use hp_base::{Answer, Config, Event, File, Index, Op, Task};
 use std::test::Fail;
 
 #[test]
@@ -55,6 +55,8 @@ fn numbers_of_a_new_task(rt: HostRuntime) -> Result<(), Fail> {
 
 #[test]
 fn a_second_map_waits_for_the_first(rt: HostRuntime) -> Result<(), Fail> {
+    // Names the type inside `Outcome`, which the borrow checker's part asks for.
+    let _none: Option<Answer> = None;
     let (one, two) = (Task::new(1), Task::new(2));
     let op = Op::Map {
         file: File::new(0),

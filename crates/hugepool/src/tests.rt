@@ -99,6 +99,7 @@ fn two_maps_one_lock(rt: HostRuntime) {
 }
 
 /// A writer that takes no byte: the output is buffered, so the failure shows at the flush.
+#[derive(Drop)]
 struct Full;
 
 impl Write for Full {
