@@ -6,7 +6,7 @@ use Rattle.hp_base.specs.Numbers.{total, bit, is_none}
 use Rattle.hp_base.specs.Indices.{vacant, count_within}
 use Rattle.hp_base.proofs.Totals.{total_same, total_le, total_add, total_has, exchange, at_most_one, count_below-total}
 use Rattle.hp_machine.specs.State.{Geometry, State}
-use Rattle.hp_machine.specs.Parts.{is_there}
+use Rattle.hp_base.specs.Mappings.{is_there}
 use Rattle.hp_machine.specs.Views.{less, more}
 use Rattle.hp_machine.specs.declared.touch.TouchPhase.TheVariants as touch
 use Rattle.hp_machine.specs.declared.map.MapPhase.TheVariants as map

@@ -17,7 +17,8 @@ use Rattle.hp_machine.specs.TouchRows.{TouchRow}
 use Rattle.hp_machine.specs.MapRows.{MapRow}
 use Rattle.hp_machine.specs.AllocRows.{AllocRow}
 use Rattle.hp_machine.specs.PunchRows.{PunchRow}
-use Rattle.hp_machine.specs.TruncateRows.{TruncateRow, IsPagesEnd}
+use Rattle.hp_base.specs.Pages.{IsPagesEnd}
+use Rattle.hp_machine.specs.TruncateRows.{TruncateRow}
 use Rattle.hp_machine.specs.UnmapRows.{UnmapRow}
 use Rattle.hp_machine.specs.ExitRows.{ExitRow}
 use Rattle.hp_machine.specs.Events.{Row, CallRow, BeginRow, StepRow, KillRow, IsReached, is_exit, told, left}

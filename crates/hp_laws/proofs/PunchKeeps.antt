@@ -6,7 +6,7 @@ use Rattle.hp_base.specs.Numbers.{put, bit}
 use Rattle.hp_base.specs.Indices.{splits}
 use Rattle.hp_base.specs.declared.answer.Answer.TheVariants as answer
 use Rattle.hp_base.proofs.Puts.{put_same, put2_same}
-use Rattle.hp_machine.specs.Parts.{without_index}
+use Rattle.hp_base.specs.Mappings.{without_index}
 use Rattle.hp_machine.specs.PunchRows.{PunchRow, PunchLockedRow, PunchUnmapRow, PunchEvictRow, PunchDeleteRow, PunchFreeRow, PunchUnslotRow}
 use Rattle.hp_machine.specs.declared.punch.Locked.{Locked}
 use Rattle.hp_machine.specs.declared.punch.Unmap.{Unmap}

@@ -3,12 +3,11 @@ use Rattle.std.proofs.Common.{◌≡◌, ◌≢◌, ℕ, ◌+◌, ◌-◌, ◌<�
 use Rattle.std.specs.Prelude.{Bool, true, false, max, Option, Some, None, IfSome, ◌==◌, ◌&&◌, List, [], ◌∷◌, if◌then◌else◌, nat_lt}
 use Rattle.std.proofs.lemmas.Bool.Decides.{nat_tests}
 use Rattle.hp_base.specs.Numbers.{put, put2}
-use Rattle.hp_base.specs.Mappings.{covers, find, fits, is_clear, entered, in_mapping, without, IsSpread}
+use Rattle.hp_base.specs.Mappings.{covers, find, fits, is_clear, entered, in_mapping, without, IsSpread, is_there, without_index, without_mapping}
 use Rattle.hp_base.specs.declared.mapping.Mapping.{Mapping}
 use Rattle.hp_base.proofs.Puts.{put_same, put_other, same_or_other, put_tells, put2_tells}
 use Rattle.hp_base.proofs.Spaces.{fits_clear, entered_find, entered_spread, without_find, without_spread}
 use Rattle.hp_machine.specs.State.{Geometry, State, slot_of}
-use Rattle.hp_machine.specs.Parts.{is_there, without_index, without_mapping}
 use Rattle.hp_machine.specs.Views.{less, more}
 use Rattle.hp_machine.specs.declared.call.Call.{Call}
 use Rattle.hp_laws.specs.Sweep.{fills, ahead, passed}

@@ -7,9 +7,10 @@ use Rattle.hp_base.specs.Indices.{count_within}
 use Rattle.hp_base.specs.declared.answer.Answer.TheVariants as answer
 use Rattle.hp_base.proofs.Puts.{put_same, put2_same}
 use Rattle.hp_base.proofs.Sets.{tail_next, tail_wider}
-use Rattle.hp_machine.specs.Parts.{without_index}
+use Rattle.hp_base.specs.Mappings.{without_index}
 use Rattle.hp_machine.specs.State.{Pool, State, pool_of, slot_of}
-use Rattle.hp_machine.specs.TruncateRows.{TruncateRow, TruncateSizeRow, TruncateLockedRow, TruncateUnmapRow, TruncateEvictRow, TruncateUnslotRow, IsPagesEnd}
+use Rattle.hp_base.specs.Pages.{IsPagesEnd}
+use Rattle.hp_machine.specs.TruncateRows.{TruncateRow, TruncateSizeRow, TruncateLockedRow, TruncateUnmapRow, TruncateEvictRow, TruncateUnslotRow}
 use Rattle.hp_machine.specs.declared.truncate.Size.{Size}
 use Rattle.hp_machine.specs.declared.truncate.Locked.{Locked}
 use Rattle.hp_machine.specs.declared.truncate.Unmap.{Unmap}

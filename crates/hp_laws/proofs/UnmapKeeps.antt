@@ -2,11 +2,10 @@
 use Rattle.std.proofs.Common.{◌≡◌, ℕ, ◌+◌, ◌<◌, refl, ap, ◌∙◌}
 use Rattle.std.specs.Prelude.{Bool, List, Some, None}
 use Rattle.hp_base.specs.Numbers.{put}
-use Rattle.hp_base.specs.Mappings.{is_base, without, first_base}
+use Rattle.hp_base.specs.Mappings.{is_base, without, first_base, without_mapping}
 use Rattle.hp_base.specs.declared.mapping.Mapping.{Mapping}
 use Rattle.hp_base.proofs.Puts.{put_same}
 use Rattle.hp_base.proofs.Spaces.{first_is_base}
-use Rattle.hp_machine.specs.Parts.{without_mapping}
 use Rattle.hp_machine.specs.UnmapRows.{UnmapRow}
 use Rattle.hp_machine.specs.ExitRows.{ExitRow}
 use Rattle.hp_machine.specs.declared.unmap.UnmapPhase.{UnmapPhase}

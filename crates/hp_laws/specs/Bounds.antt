@@ -6,7 +6,7 @@ use Rattle.hp_base.specs.declared.event.Op.TheVariants as op
 use Rattle.hp_base.specs.declared.event.Event.{Event}
 use Rattle.hp_base.specs.declared.event.Event.TheVariants.{Begin, Step}
 use Rattle.hp_machine.specs.State.{Geometry, State, slot_of}
-use Rattle.hp_machine.specs.TruncateRows.{IsPagesEnd}
+use Rattle.hp_base.specs.Pages.{IsPagesEnd}
 use Rattle.hp_machine.specs.Events.{Row, Run}
 use Rattle.hp_machine.specs.Views.{wants_slot, wants_lock, slot_held, locked_file}
 use Rattle.hp_machine.specs.declared.outcome.Outcome.{Outcome}

@@ -1,12 +1,11 @@
 -- What rows of more than one operation say: outcomes, locks and slots, takes, changes, and the pages and
 -- entries that go.
-use Rattle.std.specs.Prelude.{◌≡◌, ℕ, ◌+◌, ◌-◌, ◌≤◌, ◌&&◌, ◌||◌, ◌==◌, Bool, false, not, Option, Some, None, List, max, nat_le, nat_lt, MatchBool, MatchOption, if◌then◌else◌}
+use Rattle.std.specs.Prelude.{◌≡◌, ℕ, ◌+◌, ◌-◌, ◌≤◌, ◌&&◌, ◌||◌, ◌==◌, Bool, not, Option, Some, None, max, nat_le, nat_lt, MatchBool, MatchOption, if◌then◌else◌}
 use Rattle.hp_base.specs.Numbers.{put, put2}
 use Rattle.hp_base.specs.Indices.{missing, add_range, touches}
-use Rattle.hp_base.specs.Mappings.{find, in_mapping}
+use Rattle.hp_base.specs.Mappings.{without_index, without_mapping}
 use Rattle.hp_base.specs.declared.answer.Answer.{Answer}
 use Rattle.hp_base.specs.declared.answer.Answer.TheVariants as answer
-use Rattle.hp_base.specs.declared.mapping.Mapping.{Mapping}
 use Rattle.hp_frames.specs.declared.frame.FrameState.{FrameState}
 use Rattle.hp_frames.specs.declared.frame.FrameState.TheVariants.{Free, Hand, Placed}
 use Rattle.hp_region.specs.Change.{Change}
@@ -121,15 +120,6 @@ abbrev pub frame_after : Access → (ℕ → FrameState) → (page : ℕ) → �
 frame_after Load frame x = frame
 frame_after (Store new) frame x = put frame x (Placed new)
 
--- what was found is that file and index
-abbrev pub is_there : Option (ℕ × ℕ) → (file index : ℕ) → Bool
-is_there None f i = false
-is_there (Some place) f i = (place.0 == f) && (place.1 == i)
-
--- the entries without those that stand for that file and index
-unfoldable pub without_index : List Mapping → (ℕ → Option ℕ) → (file index : ℕ) → ℕ → Option ℕ
-without_index areas entries f i = λ v. if is_there (find areas v) f i then None else entries v
-
 -- one task's entries of the index are cleared; then the next task's, or the page may go
 -- (Linux: `hugetlb_vmdelete_list`)
 abbrev pub UnmapIndexRow : {P : Type 0} → Pool → (task file index : ℕ) → (more last : P) → Turn P → Pool → Type 0
@@ -143,10 +133,6 @@ UnmapIndexRow s k f i more last turn new =
 abbrev pub EvictRow : {P : Type 0} → Pool → (file index : ℕ) → (next : ℕ → P) → Turn P → Pool → Type 0
 EvictRow s f i next turn new =
     (x : ℕ) × (s.pages f i ≡ Some x) × Goes (next x) (record s { pages = put2 s.pages f i None; frame = put s.frame x Hand }) turn new
-
--- the entries without those of the mapping that begins at base
-unfoldable pub without_mapping : List Mapping → (ℕ → Option ℕ) → (base : ℕ) → ℕ → Option ℕ
-without_mapping areas entries base = λ v. if in_mapping areas base v then None else entries v
 
 -- the task's entries of the mapping are cleared (Linux: `unmap_vmas`)
 abbrev pub cleared : Pool → (task base : ℕ) → Pool

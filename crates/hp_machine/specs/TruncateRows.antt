@@ -2,6 +2,7 @@
 use Rattle.std.specs.Prelude.{◌≡◌, ℕ, ◌+◌, ◌-◌, ◌≤◌, Bool, Option, None, MatchBool, is_some, max, nat_lt}
 use Rattle.hp_base.specs.Numbers.{put}
 use Rattle.hp_base.specs.Indices.{count_within, cut_tail}
+use Rattle.hp_base.specs.Pages.{IsPagesEnd}
 use Rattle.hp_base.specs.declared.answer.Answer.TheVariants as answer
 use Rattle.hp_frames.specs.declared.frame.FrameState.TheVariants as frame
 use Rattle.hp_machine.specs.State.{Pool}
@@ -25,10 +26,6 @@ use Rattle.hp_machine.specs.declared.call.Turn.{Turn}
 abbrev pub TruncateStartRow : Pool → (task : ℕ) → (killed : Bool) → Start → Turn TruncatePhase → Pool → Type 0
 TruncateStartRow s t killed p turn new =
     StartRow s t killed p.truncation.file (nat_lt s.geometry.limit p.truncation.new) answer.Killed (at.Start p) (at.Size (record { truncation = p.truncation })) turn new
-
--- one more than the highest index that has a page, or 0 where none has
-abbrev pub IsPagesEnd : (ℕ → Option ℕ) → ℕ → Type 0
-IsPagesEnd pages end = ((i : ℕ) → end ≤ i → pages i ≡ None) × ((other : ℕ) → ((i : ℕ) → other ≤ i → pages i ≡ None) → end ≤ other)
 
 -- the top is the larger of size and the end of the pages; size becomes new. Top above new: to want with the
 -- index below the top. Else to tail
