@@ -7,7 +7,7 @@ use Rattle.std.proofs.lemmas.Bool.Decides.{nat_tests}
 use Rattle.std.proofs.lemmas.List.{get_or-replicate, length-replicate}
 use Rattle.std.proofs.lemmas.List.Elements.{All-get_or}
 use Rattle.std.specs.Prelude.{Bool, true, false, Option, Some, None, IfSome, All, nat_lt, nat_le, ◌==◌, ◌&&◌, replicate, if◌then◌else◌}
-use Rattle.std.specs.FinMap.{get, get-empty}
+use Rattle.std.specs.FinMap.{FinMap, get, get-empty}
 use Rattle.std.specs.Ordering.{nat_cmp}
 use Rattle.hp_base.specs.Text.{Sizes, sizes}
 use Rattle.hp_base.specs.Limits.{IsWithinLimits}
@@ -137,7 +137,7 @@ module _ (z : Sizes) (p : PartsState) (seats : List Seat) (h : AreFresh z p seat
 
   pages_are : pages_of p.files ≡ (λ _ _. None)
   unfolding pages_of
-  pages_are = refl
+  pages_are = fun_ext (λ f. fun_ext (λ i. file_is (λ y. get y.cache i ≡ None) (λ y fresh. ap (λ (m : FinMap nat_cmp ℕ). get m i) fresh.cache ∙ get-empty nat_cmp i) (get-empty nat_cmp i) f))
 
   prepared_are : prepared_of p.spaces ≡ (λ _. false)
   unfolding prepared_of

@@ -1,15 +1,34 @@
 -- The rows of the machine, put together from what the steps ensure.
-use Rattle.std.proofs.Common.{◌≡◌, ℕ}
-use Rattle.std.specs.Prelude.{Bool, Option}
+use Rattle.std.proofs.Common.{◌≡◌, ℕ, refl, sym, subst}
+use Rattle.std.specs.Prelude.{Bool, Option, Result, Ok, Err, IfOk}
 use Rattle.hp_machine.specs.State.{Pool}
+use Rattle.hp_machine.specs.Events.{CallRow, TurnRow}
+use Rattle.hp_machine.specs.TouchRows.{TouchRow}
 use Rattle.hp_machine.specs.MapRows.{MapRow}
-use Rattle.hp_machine.specs.Events.{CallRow, told, left}
+use Rattle.hp_machine.specs.declared.touch.TouchPhase.{TouchPhase}
 use Rattle.hp_machine.specs.declared.map.MapPhase.{MapPhase}
-use Rattle.hp_machine.specs.declared.call.Turn.{Turn}
 use Rattle.hp_machine.specs.declared.call.Call.{Call}
 use Rattle.hp_machine.specs.declared.call.Call.TheVariants as call
+use Rattle.hp_machine.specs.declared.call.Stopped.{Stopped}
+use Rattle.hp_machine.specs.declared.call.Turn.{Turn}
 use Rattle.hp_machine.specs.declared.outcome.Outcome.{Outcome}
+use Rattle.hp_core.specs.Turns.{finished}
 
-pub map_row : (s : Pool) (t : ℕ) (killed grant : Bool) (p : MapPhase) (tells : Outcome) (new : Pool) (next : Option Call) (turn : Turn MapPhase) → MapRow s t killed grant p turn new → tells ≡ told call.Map turn → next ≡ left call.Map turn → CallRow s t killed grant (call.Map p) tells new next
+-- what a step is told as, where its turn is a row of its operation
+abbrev pub Done : Type 0
+Done = Result (Outcome × Option Call) Call
+
+turn_row : {P : Type 0} (inflight : P → Call) (row : Turn P → Pool → Type 0) (new : Pool) (stepped : Result (Turn P) (Stopped P)) → IfOk stepped (λ turn. row turn new) → IfOk (finished inflight stepped) (λ d. TurnRow inflight row d.0 new d.1)
+turn_row inflight row new (Ok turn) r = (turn, r, refl, refl)
+turn_row inflight row new (Err stopped) r = tt
+
+finished_row : {P : Type 0} (inflight : P → Call) (row : Turn P → Pool → Type 0) (new : Pool) (stepped : Result (Turn P) (Stopped P)) (done : Done) → done ≡ finished inflight stepped → IfOk stepped (λ turn. row turn new) → IfOk done (λ d. TurnRow inflight row d.0 new d.1)
+finished_row inflight row new stepped done e h = subst (λ (r : Done). IfOk r (λ d. TurnRow inflight row d.0 new d.1)) (sym e) (turn_row inflight row new stepped h)
+
+pub touch_row : (s : Pool) (t : ℕ) (killed grant : Bool) (p : TouchPhase) (new : Pool) (stepped : Result (Turn TouchPhase) (Stopped TouchPhase)) (done : Done) → done ≡ finished call.Touch stepped → IfOk stepped (λ turn. TouchRow s t killed grant p turn new) → IfOk done (λ d. CallRow s t killed grant (call.Touch p) d.0 new d.1)
 unfolding CallRow
-map_row s t killed grant p tells new next turn row e d = (turn, row, e, d)
+touch_row s t killed grant p new stepped done e h = finished_row call.Touch (TouchRow s t killed grant p) new stepped done e h
+
+pub map_row : (s : Pool) (t : ℕ) (killed grant : Bool) (p : MapPhase) (new : Pool) (stepped : Result (Turn MapPhase) (Stopped MapPhase)) (done : Done) → done ≡ finished call.Map stepped → IfOk stepped (λ turn. MapRow s t killed grant p turn new) → IfOk done (λ d. CallRow s t killed grant (call.Map p) d.0 new d.1)
+unfolding CallRow
+map_row s t killed grant p new stepped done e h = finished_row call.Map (MapRow s t killed grant p) new stepped done e h

@@ -170,7 +170,7 @@ step_row p n seats t grant told inflight y alive some built row same =
   where
     stays : (inflight : Call) (next : Option Call) (lives : ℕ → Life) (t : ℕ) → IsBuiltCall inflight → lives_after lives t inflight next ≡ lives
     stays (call.Map phase) next lives t built = refl
-    stays (call.Touch phase) next lives t built = absurd built
+    stays (call.Touch phase) next lives t built = refl
     stays (call.Alloc phase) next lives t built = absurd built
     stays (call.Punch phase) next lives t built = absurd built
     stays (call.Truncate phase) next lives t built = absurd built

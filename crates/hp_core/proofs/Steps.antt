@@ -18,7 +18,6 @@ use Rattle.hp_machine.specs.declared.call.Call.{Call}
 use Rattle.hp_machine.specs.declared.call.Call.TheVariants as call
 use Rattle.hp_machine.specs.declared.call.Turn.{Turn}
 use Rattle.hp_machine.specs.declared.call.Turn.TheVariants.{Moved, Blocked, Ended}
-use Rattle.hp_machine.specs.declared.map.MapPhase.{MapPhase}
 use Rattle.hp_machine.specs.declared.outcome.Outcome.{Outcome}
 use Rattle.hp_fault.specs.State.{PartsState, SizesStay}
 use Rattle.hp_fault.specs.View.{pool_of, geometry_of}
@@ -33,7 +32,7 @@ use Rattle.hp_core.proofs.Seats.{begin_row, kill_row, dead_row, idle_row, step_r
 -- what fits is built
 fit_built : (p : PartsState) (t : ℕ) (inflight : Call) → CallFits p t inflight → IsBuiltCall inflight
 fit_built p t (call.Map phase) fit = tt
-fit_built p t (call.Touch phase) fit = fit
+fit_built p t (call.Touch phase) fit = tt
 fit_built p t (call.Alloc phase) fit = fit
 fit_built p t (call.Punch phase) fit = fit
 fit_built p t (call.Truncate phase) fit = fit
@@ -92,22 +91,22 @@ first_built : (o : Op) → IsTrue (is_built o) → IsBuiltCall (rows.first o)
 first_built (op.Map file from len) h = tt
 first_built (op.MapNoReserve file from len) h = tt
 first_built (op.Unmap base) h = absurd (true≢false (sym h))
-first_built (op.Load vpn) h = absurd (true≢false (sym h))
-first_built (op.Store vpn word) h = absurd (true≢false (sym h))
+first_built (op.Load vpn) h = tt
+first_built (op.Store vpn word) h = tt
 first_built (op.Alloc file from len keep) h = absurd (true≢false (sym h))
 first_built (op.Punch file from len) h = absurd (true≢false (sym h))
 first_built (op.Truncate file new) h = absurd (true≢false (sym h))
 first_built op.Exit h = absurd (true≢false (sym h))
 
-left_built : (turn : Turn MapPhase) → IfSome (rows.left call.Map turn) IsBuiltCall
-left_built (Moved p) = tt
-left_built (Blocked p holder) = tt
-left_built (Ended a) = tt
+left_built : {P : Type 0} (inflight : P → Call) → ((p : P) → IsBuiltCall (inflight p)) → (turn : Turn P) → IfSome (rows.left inflight turn) IsBuiltCall
+left_built inflight built (Moved p) = built p
+left_built inflight built (Blocked p holder) = built p
+left_built inflight built (Ended a) = tt
 
 row_built : (s new : Pool) (t : ℕ) (killed grant : Bool) (inflight : Call) (told : Outcome) (next : Option Call) → IsBuiltCall inflight → rows.CallRow s t killed grant inflight told new next → IfSome next IsBuiltCall
 unfolding rows.CallRow
-row_built s new t killed grant (call.Map p) told next built row = subst (λ (o : Option Call). IfSome o IsBuiltCall) (sym row.3) (left_built row.0)
-row_built s new t killed grant (call.Touch p) told next built row = absurd built
+row_built s new t killed grant (call.Map p) told next built row = subst (λ (o : Option Call). IfSome o IsBuiltCall) (sym row.3) (left_built call.Map (λ _. tt) row.0)
+row_built s new t killed grant (call.Touch p) told next built row = subst (λ (o : Option Call). IfSome o IsBuiltCall) (sym row.3) (left_built call.Touch (λ _. tt) row.0)
 row_built s new t killed grant (call.Alloc p) told next built row = absurd built
 row_built s new t killed grant (call.Punch p) told next built row = absurd built
 row_built s new t killed grant (call.Truncate p) told next built row = absurd built

@@ -1,16 +1,20 @@
 -- Who is blocked, and by whom: the reader against the rows of the machine.
-use Rattle.std.proofs.Common.{◌≡◌, ℕ, ◌+◌, ◌≤◌, refl, sym, ◌∙◌, ap, subst, arith, inl, inr, true≢false}
-use Rattle.std.specs.Prelude.{Bool, true, false, ◌||◌, ◌==◌, Option, Some, None, MatchBool, MatchOption, length, nat_le, nat_lt, if◌then◌else◌, slice_index_or}
+use Rattle.std.proofs.Common.{◌≡◌, ℕ, ◌+◌, ◌-◌, ◌≤◌, refl, sym, ◌∙◌, ap, subst, arith, inl, inr, true≢false}
+use Rattle.std.specs.Prelude.{Bool, true, false, ◌||◌, ◌==◌, Option, Some, None, MatchBool, MatchOption, length, is_some, nat_le, nat_lt, if◌then◌else◌, slice_index_or}
 use Rattle.hp_base.specs.declared.event.Event.TheVariants.{Step}
 use Rattle.hp_base.specs.declared.limits.TheConstants.{LIMIT}
-use Rattle.hp_base.specs.Numbers.{put}
+use Rattle.hp_base.specs.Numbers.{put, put2}
 use Rattle.hp_base.proofs.Puts.{put_self}
 use Rattle.hp_base.specs.declared.answer.Answer.{Answer}
 use Rattle.hp_base.specs.declared.answer.Answer.TheVariants as answer
 use Rattle.hp_machine.specs.declared.outcome.Life.{Life}
-use Rattle.hp_machine.specs.State.{Pool, State, is_dead, is_killed}
+use Rattle.hp_machine.specs.State.{Pool, State, frees, is_dead, is_killed}
 use Rattle.hp_machine.specs.Events as rows
+use Rattle.hp_frames.specs.Bank.{frame_at}
+use Rattle.hp_frames.specs.declared.frame.FrameState.TheVariants.{Free, Hand, Placed}
+use Rattle.hp_machine.specs.Parts.{Goes, Ends, TakeRow, answer_of, frame_after}
 use Rattle.hp_machine.specs.MapRows.{MapRow}
+use Rattle.hp_machine.specs.TouchRows.{TouchRow}
 use Rattle.hp_machine.specs.declared.call.Call.{Call}
 use Rattle.hp_machine.specs.declared.call.Call.TheVariants as call
 use Rattle.hp_machine.specs.declared.call.Turn.{Turn}
@@ -18,16 +22,19 @@ use Rattle.hp_machine.specs.declared.call.Turn.TheVariants.{Moved, Blocked, Ende
 use Rattle.hp_machine.specs.declared.map.Start.{Start}
 use Rattle.hp_machine.specs.declared.map.MapPhase.{MapPhase}
 use Rattle.hp_machine.specs.declared.map.MapPhase.TheVariants as at
+use Rattle.hp_machine.specs.declared.touch.TouchPhase.{TouchPhase}
+use Rattle.hp_machine.specs.declared.touch.TouchPhase.TheVariants as touch
 use Rattle.hp_machine.specs.declared.outcome.Outcome.{Outcome}
 use Rattle.hp_machine.specs.declared.outcome.Outcome.TheVariants as outcome
+use Rattle.hp_slots.specs.Holders.{slot_number}
 use Rattle.hp_fault.specs.State.{PartsState, IsSized}
-use Rattle.hp_fault.specs.View.{pool_of, holders_of}
+use Rattle.hp_fault.specs.View.{pool_of, holders_of, sizes_of, pages_of, entries_of}
 use Rattle.hp_core.specs.declared.seat.Seat.{Seat}
 use Rattle.hp_core.specs.State.{CoreState, seat_at, calls_of, lives_of, as_state}
 use Rattle.hp_core.specs.Sound.{IsSound, IsBuiltCall}
 use Rattle.hp_core.specs.Runs.{Row}
 use Rattle.hp_core.specs.Waiting.{WaitsFor}
-use Rattle.hp_core.specs.Blockers.{map_blocker, call_blocker, seat_call_blocker, task_blocker}
+use Rattle.hp_core.specs.Blockers.{map_blocker, touch_blocker, call_blocker, seat_call_blocker, task_blocker}
 use Rattle.hp_core.proofs.Seats.{by_test, by_option, at_false, at_some}
 use Rattle.hp_core.proofs.Steps.{if_some}
 
@@ -110,15 +117,88 @@ map_blocks p t killed grant (at.Settle q) h e = nobody h e
 map_blocks p t killed grant (at.Enter q) h e = nobody h e
 map_blocks p t killed grant (at.Leave q) h e = nobody h e
 
-told_held : (turn : Turn MapPhase) → told_of (rows.told call.Map turn) ≡ held_up turn
-told_held (Moved p) = refl
-told_held (Blocked p h) = refl
-told_held (Ended a) = refl
+-- where a slot is wanted, a kill comes first
+want_blocks : {P : Type 0} (killed : Bool) (o : Option ℕ) (h : ℕ) (s taken : Pool) (a : Answer) (next here : P) → (if killed then None else o) ≡ Some h
+    → MatchBool killed ((Blocked here h ≡ Ended a) × (s ≡ s)) (MatchOption o ((Blocked here h ≡ Moved next) × (s ≡ taken)) (λ k. (Blocked here h ≡ Blocked here k) × (s ≡ s)))
+want_blocks true o h s taken a next here e = nobody h e
+want_blocks false None h s taken a next here e = nobody h e
+want_blocks false (Some k) h s taken a next here e = (ap (λ (u : ℕ). Blocked here u) (sym (same_holder k h e)), refl)
+
+take_cases : {P : Type 0} (none all : Bool) (turn : Turn P) (s new : Pool) (no_frame : P) (Reserved Unreserved : Type 0)
+    → MatchBool none Reserved (MatchBool all ((turn ≡ Moved no_frame) × (new ≡ s)) Unreserved) → (Reserved → held_up turn ≡ None) → (Unreserved → held_up turn ≡ None) → held_up turn ≡ None
+take_cases true all turn s new no_frame Reserved Unreserved r first second = first r
+take_cases false true turn s new no_frame Reserved Unreserved r first second = ap held_up r.0
+take_cases false false turn s new no_frame Reserved Unreserved r first second = second r
+
+-- a frame is taken, or there is none
+take_held : {P : Type 0} (s : Pool) (missing : ℕ) (no_frame : P) (taken : ℕ → P) (turn : Turn P) (new : Pool) → TakeRow s missing no_frame taken turn new → held_up turn ≡ None
+take_held s missing no_frame taken turn new row =
+    take_cases (missing == 0) (frees s == s.resv) turn s new no_frame
+    ((x : ℕ) × (s.frame x ≡ Free) × (1 ≤ s.resv) × Goes (taken x) (record s { frame = put s.frame x Hand; resv = s.resv - 1 }) turn new)
+    ((x : ℕ) × (s.frame x ≡ Free) × Goes (taken x) (record s { frame = put s.frame x Hand }) turn new)
+    row (λ r. ap held_up r.3.0) (λ r. ap held_up r.2.0)
+
+-- a look for a page and its entry
+look_held : {P : Type 0} (place : Option (ℕ × ℕ)) (entry : Option ℕ) (turn : Turn P) (s new : Pool) (a : Answer) (next : ℕ × ℕ → P) (Reads : ℕ → Type 0)
+    → MatchOption place ((turn ≡ Ended a) × (new ≡ s)) (λ k. MatchOption entry ((turn ≡ Moved (next k)) × (new ≡ s)) Reads) → ((x : ℕ) → Reads x → held_up turn ≡ None) → held_up turn ≡ None
+look_held None entry turn s new a next Reads r reads = ap held_up r.0
+look_held (Some k) None turn s new a next Reads r reads = ap held_up r.0
+look_held (Some k) (Some x) turn s new a next Reads r reads = reads x r
+
+found_held : {P : Type 0} (a b : Bool) (turn : Turn P) (s new : Pool) (x z : P) (Reads : Type 0)
+    → MatchBool a ((turn ≡ Moved x) × (new ≡ s)) (MatchBool b Reads ((turn ≡ Moved z) × (new ≡ s))) → (Reads → held_up turn ≡ None) → held_up turn ≡ None
+found_held true b turn s new x z Reads r reads = ap held_up r.0
+found_held false true turn s new x z Reads r reads = reads r
+found_held false false turn s new x z Reads r reads = ap held_up r.0
+
+-- a turn of a touch is held up by whom the reader names
+touch_held : (p : PartsState) (t : ℕ) (killed grant : Bool) (phase : TouchPhase) (turn : Turn TouchPhase) (new : Pool) → TouchRow (pool_of p) t killed grant phase turn new → held_up turn ≡ touch_blocker p killed phase
+unfolding holders_of
+touch_held p t killed grant (touch.Look q) turn new row = look_held _ _ turn _ new _ _ (λ x. (word : ℕ) × (frame_at p.bank.frames x ≡ Placed word) × Ends (answer_of q.access word) (record (pool_of p) { frame = frame_after q.access (frame_at p.bank.frames) x }) turn new) row (λ x r. ap held_up r.2.0)
+touch_held p t killed grant (touch.Want q) turn new row = by_test killed row
+    (λ e r. rw e (ap held_up r.0))
+    (λ e r. rw e (by_option _ r (λ none m. ap held_up m.0 ∙ sym none) (λ h some m. ap held_up m.0 ∙ sym some)))
+touch_held p t killed grant (touch.Locked q) turn new row = moves_on (nat_le (sizes_of p.files q.touch.file) q.touch.index) (is_some (pages_of p.files q.touch.file q.touch.index)) turn _ _ _ new _ _ _ row
+touch_held p t killed grant (touch.Missing q) turn new row = moves _ turn _ _ new _ _ row
+touch_held p t killed grant (touch.Changed q) turn new row = by_test killed row (λ _ r. ap held_up r.0) (λ _ r. take_held (pool_of p) q.pending.missing _ _ turn new r)
+touch_held p t killed grant (touch.Abort q) turn new row = ap held_up row.0
+touch_held p t killed grant (touch.Taken q) turn new row = moves _ turn _ _ new _ _ row
+touch_held p t killed grant (touch.Settle q) turn new row = ap held_up row.1.0
+touch_held p t killed grant (touch.Committed q) turn new row = moves_on (nat_le (sizes_of p.files q.touch.file) q.touch.index) grant turn _ _ _ new _ _ _ row
+touch_held p t killed grant (touch.Restore q) turn new row = ap held_up row.0
+touch_held p t killed grant (touch.Found q) turn new row =
+    found_held _ grant turn _ new _ _
+    ((x : ℕ) × (word : ℕ) × (pages_of p.files q.touch.file q.touch.index ≡ Some x) × (frame_at p.bank.frames x ≡ Placed word)
+    × Goes (touch.Leave (record { touch = q.touch; answer = answer_of q.touch.access word })) (record (pool_of p) { table = put2 (entries_of p.spaces) t q.touch.vpn (Some x); frame = frame_after q.touch.access (frame_at p.bank.frames) x }) turn new)
+    row (λ r. ap held_up r.4.0)
+touch_held p t killed grant (touch.Leave q) turn new row = ap held_up row.0
+
+-- and where it names someone, the turn that waits for it is a row
+touch_blocks : (p : PartsState) (t : ℕ) (killed grant : Bool) (phase : TouchPhase) (h : ℕ) → touch_blocker p killed phase ≡ Some h → TouchRow (pool_of p) t killed grant phase (Blocked phase h) (pool_of p)
+unfolding holders_of
+touch_blocks p t killed grant (touch.Look q) h e = nobody h e
+touch_blocks p t killed grant (touch.Want q) h e =
+    want_blocks killed (slice_index_or p.slots (slot_number (length p.slots) q.touch.file q.touch.index) None) h (pool_of p) _ answer.Killed (touch.Locked (record { touch = q.touch })) (touch.Want q) e
+touch_blocks p t killed grant (touch.Locked q) h e = nobody h e
+touch_blocks p t killed grant (touch.Missing q) h e = nobody h e
+touch_blocks p t killed grant (touch.Changed q) h e = nobody h e
+touch_blocks p t killed grant (touch.Abort q) h e = nobody h e
+touch_blocks p t killed grant (touch.Taken q) h e = nobody h e
+touch_blocks p t killed grant (touch.Settle q) h e = nobody h e
+touch_blocks p t killed grant (touch.Committed q) h e = nobody h e
+touch_blocks p t killed grant (touch.Restore q) h e = nobody h e
+touch_blocks p t killed grant (touch.Found q) h e = nobody h e
+touch_blocks p t killed grant (touch.Leave q) h e = nobody h e
+
+told_held : {P : Type 0} (inflight : P → Call) (turn : Turn P) → told_of (rows.told inflight turn) ≡ held_up turn
+told_held inflight (Moved p) = refl
+told_held inflight (Blocked p h) = refl
+told_held inflight (Ended a) = refl
 
 call_held : (p : PartsState) (t : ℕ) (killed grant : Bool) (inflight : Call) (told : Outcome) (new : Pool) (next : Option Call) → IsBuiltCall inflight → rows.CallRow (pool_of p) t killed grant inflight told new next → told_of told ≡ call_blocker p killed inflight
 unfolding rows.CallRow
-call_held p t killed grant (call.Map phase) told new next built row = ap told_of row.2 ∙ (told_held row.0 ∙ map_held p t killed grant phase row.0 new row.1)
-call_held p t killed grant (call.Touch phase) told new next built row = absurd built
+call_held p t killed grant (call.Map phase) told new next built row = ap told_of row.2 ∙ (told_held call.Map row.0 ∙ map_held p t killed grant phase row.0 new row.1)
+call_held p t killed grant (call.Touch phase) told new next built row = ap told_of row.2 ∙ (told_held call.Touch row.0 ∙ touch_held p t killed grant phase row.0 new row.1)
 call_held p t killed grant (call.Alloc phase) told new next built row = absurd built
 call_held p t killed grant (call.Punch phase) told new next built row = absurd built
 call_held p t killed grant (call.Truncate phase) told new next built row = absurd built
@@ -128,7 +208,7 @@ call_held p t killed grant (call.Exit phase) told new next built row = absurd bu
 call_blocks : (p : PartsState) (t : ℕ) (killed grant : Bool) (inflight : Call) (h : ℕ) → call_blocker p killed inflight ≡ Some h → rows.CallRow (pool_of p) t killed grant inflight (outcome.Blocked h) (pool_of p) (Some inflight)
 unfolding rows.CallRow
 call_blocks p t killed grant (call.Map phase) h e = (Blocked phase h, map_blocks p t killed grant phase h e, refl, refl)
-call_blocks p t killed grant (call.Touch phase) h e = nobody h e
+call_blocks p t killed grant (call.Touch phase) h e = (Blocked phase h, touch_blocks p t killed grant phase h e, refl, refl)
 call_blocks p t killed grant (call.Alloc phase) h e = nobody h e
 call_blocks p t killed grant (call.Punch phase) h e = nobody h e
 call_blocks p t killed grant (call.Truncate phase) h e = nobody h e

@@ -4,13 +4,14 @@ use Rattle.hp_base.specs.declared.event.Event.{Event}
 use Rattle.hp_base.specs.declared.event.Event.TheVariants.{Begin, Step, Kill}
 use Rattle.hp_machine.specs.declared.call.Call.{Call}
 use Rattle.hp_machine.specs.declared.call.Call.TheVariants as call
-use Rattle.hp_fault.specs.Fits.{MapFits}
+use Rattle.hp_fault.specs.Fits.{MapFits, TouchFits}
 use Rattle.hp_fault.specs.State.{PartsState, IsSized}
 use Rattle.hp_fault.specs.View.{pool_of}
 use Rattle.hp_core.specs.declared.seat.Seat.{Seat}
 use Rattle.hp_core.specs.State.{seat_at}
 
 abbrev pub CallFits : PartsState → (task : ℕ) → Call → Type 0
+CallFits p t (call.Touch phase) = TouchFits (pool_of p) t phase
 CallFits p t (call.Map phase) = IsSized p × MapFits (pool_of p) t phase
 CallFits p t other = ⊥
 

@@ -6,4 +6,5 @@ pub mod Runs
 pub mod Seats
 pub mod Sound
 pub mod State
+pub mod Turns
 pub mod Waiting

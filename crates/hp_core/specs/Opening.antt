@@ -1,15 +1,17 @@
 -- A core that nothing has happened to.
 use Rattle.std.specs.Prelude.{◌≡◌, None, []}
+use Rattle.std.specs.FinMap.{empty}
 use Rattle.hp_machine.specs.declared.outcome.Life.TheVariants.{Alive}
 use Rattle.hp_fault.specs.declared.parts.FileState.{FileState}
 use Rattle.hp_core.specs.declared.seat.Seat.{Seat}
 
--- an empty file, with no reservation
+-- an empty file, with no reservation and no page
 pub record IsFresh (file : FileState) : Type 0 where
   pub size : file.size ≡ 0
   pub regions : file.map.regions ≡ []
   pub pending : file.map.pending ≡ 0
   pub spare : file.map.spare ≡ 0
+  pub cache : file.cache ≡ empty
 
 -- a task that is alive and has no call
 pub record IsVacant (seat : Seat) : Type 0 where

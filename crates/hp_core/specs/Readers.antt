@@ -62,6 +62,10 @@ mappings_of s t = length ((as_state s).areas t)
 unfoldable pub entries_of : CoreState → (task : ℕ) → ℕ
 entries_of s t = map.len (table_of s.parts.spaces t).entries
 
+-- the frame that a virtual page of the task is translated to, if it is
+unfoldable pub translation_of : CoreState → (task vpn : ℕ) → Option ℕ
+translation_of s t v = (as_state s).table t v
+
 -- the word of the phase in which the task's call stands, if one is in flight
 unfoldable pub phase_of : CoreState → (task : ℕ) → Option Phase
 phase_of s t = option_map word_of ((as_state s).calls t)

@@ -2,7 +2,7 @@
 use Rattle.std.specs.Prelude.{◌≡◌, ℕ, length, IfSome, IsTrue, Bool, true, false}
 use Rattle.hp_base.specs.Limits.{IsWithinLimits}
 use Rattle.hp_base.specs.declared.event.Op.{Op}
-use Rattle.hp_base.specs.declared.event.Op.TheVariants.{Map, MapNoReserve}
+use Rattle.hp_base.specs.declared.event.Op.TheVariants.{Map, MapNoReserve, Load, Store}
 use Rattle.hp_base.specs.declared.event.Event.{Event}
 use Rattle.hp_base.specs.declared.event.Event.TheVariants.{Begin, Step, Kill}
 use Rattle.hp_machine.specs.declared.call.Call.{Call}
@@ -15,6 +15,8 @@ use Rattle.hp_core.specs.State.{CoreState, as_state, calls_of}
 abbrev pub is_built : Op → Bool
 is_built (Map file from len) = true
 is_built (MapNoReserve file from len) = true
+is_built (Load vpn) = true
+is_built (Store vpn word) = true
 is_built other = false
 
 -- the events that it takes so far: those that begin no other operation
@@ -25,6 +27,7 @@ IsBuilt (Kill task) = Unit {0}
 
 -- and so the calls that are in flight
 abbrev pub IsBuiltCall : Call → Type 0
+IsBuiltCall (call.Touch phase) = Unit {0}
 IsBuiltCall (call.Map phase) = Unit {0}
 IsBuiltCall other = ⊥
 

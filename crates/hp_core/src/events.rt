@@ -12,9 +12,10 @@ ghost use Rattle.hp_core.specs.State.{state_with, seat_at};
 ghost use Rattle.hp_core.specs.Runs.{StepWants, WantsGrowth};
 
 use crate::seat::{Seat, is_dead, is_killed, step_seat};
-use hp_base::{Event, Op, Task};
+use hp_base::{Event, File, Index, Op, Task, Vpn};
 use hp_fault::Parts;
 use hp_machine::map::{MapPhase, MapRequest, Start};
+use hp_machine::touch::{Access, Look, TouchPhase};
 use hp_machine::{Call, Life, Outcome, Refusal};
 use std::alloc::AllocError;
 
@@ -23,28 +24,35 @@ fn first_call(op: Op) -> Call
     requires { IsTrue (is_built op) }
     ensures { result ≡ rows.first op }
 {
-    let map = match op {
-        Op::Map { file, from, len } => MapRequest {
-            reserve: true,
-            file,
-            from,
-            len,
-        },
-        Op::MapNoReserve { file, from, len } => MapRequest {
-            reserve: false,
-            file,
-            from,
-            len,
-        },
+    match op {
+        Op::Map { file, from, len } => map(true, file, from, len),
+        Op::MapNoReserve { file, from, len } => map(false, file, from, len),
+        Op::Load { vpn } => touch(vpn, Access::Load),
+        Op::Store { vpn, word } => touch(vpn, Access::Store(word)),
         Op::Unmap { .. }
-        | Op::Load { .. }
-        | Op::Store { .. }
         | Op::Alloc { .. }
         | Op::Punch { .. }
         | Op::Truncate { .. }
         | Op::Exit => unreachable!(),
+    }
+}
+
+fn map(reserve: bool, file: File, from: Index, len: u32) -> Call
+    ensures { result ≡ Call.Map (MapPhase.Start (record { map = record { reserve = reserve; file = file; from = from; len = len } })) }
+{
+    let map = MapRequest {
+        reserve,
+        file,
+        from,
+        len,
     };
     Call::Map(MapPhase::Start(Start { map }))
+}
+
+fn touch(vpn: Vpn, access: Access) -> Call
+    ensures { result ≡ Call.Touch (TouchPhase.Look (record { vpn = vpn; access = access })) }
+{
+    Call::Touch(TouchPhase::Look(Look { vpn, access }))
 }
 
 fn is_exit(op: &Op) -> bool

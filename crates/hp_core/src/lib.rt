@@ -8,6 +8,7 @@
 
 pub mod core_state;
 mod events;
+mod in_flight;
 mod opening;
 pub mod readers;
 pub mod run;

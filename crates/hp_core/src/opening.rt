@@ -5,6 +5,7 @@ ghost use Rattle.hp_core.specs.State.{CoreState};
 ghost use Rattle.hp_fault.specs.View.{no_table};
 
 use crate::seat::Seat;
+use hp_cache::PageCache;
 use hp_fault::FileState;
 use hp_machine::Life;
 use hp_region::RegionMap;
@@ -21,6 +22,7 @@ pub fn new_files(alloc: Global, count: u32) -> Result<Vec<FileState>, AllocError
         files.push(FileState {
             size: 0,
             map: RegionMap::new(alloc),
+            cache: PageCache::new(alloc),
         })?;
     }
     Ok(files)

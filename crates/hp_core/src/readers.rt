@@ -4,13 +4,13 @@ ghost use Rattle.hp_base.specs.Numbers.{total};
 ghost use Rattle.hp_base.specs.Indices.{count_below};
 ghost use Rattle.hp_fault.specs.View.{sets_of};
 ghost use Rattle.hp_core.specs.State.{CoreState, seat_at};
-ghost use Rattle.hp_core.specs.Readers.{config_of, free_of, resv_of, calls_of, size_of, reserved_of, regions_of, pages_of, changes_of, spare_of, life_of, mappings_of, entries_of, phase_of, all_reserved_of, all_pages_of};
+ghost use Rattle.hp_core.specs.Readers.{config_of, free_of, resv_of, calls_of, size_of, reserved_of, regions_of, pages_of, changes_of, spare_of, life_of, mappings_of, entries_of, translation_of, phase_of, all_reserved_of, all_pages_of};
 ghost use Rattle.hp_core.specs.Runs.{Headline};
 
 use crate::core_state::Core;
 use crate::seat::Seat;
 use crate::words::phase_word;
-use hp_base::{File, LIMIT, Task};
+use hp_base::{File, Frame, LIMIT, Task, Vpn};
 use hp_machine::{Life, Phase};
 
 /// The numbers of a pool as a whole.
@@ -121,8 +121,7 @@ impl Core {
         ensures count { result ≡ pages_of self.now file }
         ensures in_limit { result ≤ LIMIT }
     {
-        let _ = file;
-        0
+        self.parts.files[file.number() as usize].cache.count()
     }
 
     /// The changes of its reserve map that are in progress.
@@ -169,6 +168,15 @@ impl Core {
         ensures { result ≡ entries_of self.now task }
     {
         self.parts.spaces[(task.number() - 1) as usize].entries()
+    }
+
+    /// The frame that a virtual page of it is translated to, if it is.
+    pub fn translate(&self, task: Task, vpn: Vpn) -> Option<Frame>
+        requires first { 1 ≤ task }
+        requires last { task ≤ (config_of self.now).tasks }
+        ensures { result ≡ translation_of self.now task vpn }
+    {
+        self.parts.spaces[(task.number() - 1) as usize].translate(vpn)
     }
 
     /// The word of the phase in which its call stands, where one is in flight.

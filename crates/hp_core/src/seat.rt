@@ -1,17 +1,16 @@
 //! A task's life and its call in flight, and one step of it.
 ghost use Rattle.std.specs.Prelude.{◌≡◌, true, IfOk, IfErr, IfSome, OnErr, MatchOption, IsSome, IfNone, None, ◌≤◌};
-ghost use Rattle.hp_machine.specs.Events.{CallRow, told, left};
+ghost use Rattle.hp_machine.specs.Events.{CallRow};
 ghost use Rattle.hp_machine.specs.State as machine;
 ghost use Rattle.hp_machine.specs.Wants.{Wants};
 ghost use Rattle.hp_fault.specs.State.{state_of, SizesStay};
 ghost use Rattle.hp_fault.specs.View.{view};
 ghost use Rattle.hp_core.specs.Fits.{CallFits};
 
-use crate::words::phase_word;
+use crate::in_flight::finish;
 use hp_base::Task;
-use hp_fault::{Parts, step_map};
-use hp_machine::map::MapPhase;
-use hp_machine::{Call, Life, Outcome, Turn};
+use hp_fault::{Parts, step_map, step_touch};
+use hp_machine::{Call, Life, Outcome};
 use std::alloc::AllocError;
 
 /// What the core keeps of a task.
@@ -41,21 +40,6 @@ pub fn is_dead(life: Life) -> bool
     }
 }
 
-// What a turn of a map is told as, and the call that it leaves in flight.
-fn end_map(turn: Turn<MapPhase>) -> (Outcome, Option<Call>)
-    ensures told { result.0 ≡ told Call.Map turn }
-    ensures left { result.1 ≡ left Call.Map turn }
-{
-    match turn {
-        Turn::Moved(phase) => {
-            let call = Call::Map(phase);
-            (Outcome::Moved(phase_word(&call)), Some(call))
-        }
-        Turn::Blocked(phase, holder) => (Outcome::Blocked(holder), Some(Call::Map(phase))),
-        Turn::Ended(answer) => (Outcome::Ended(answer), None),
-    }
-}
-
 // One step of a call. Without memory nothing changed, and the call is handed back.
 fn step_call(
     parts: &mut Parts,
@@ -73,12 +57,9 @@ fn step_call(
     ensures wanted { OnErr result (Wants (view parts.old) task call) }
 {
     match call {
-        Call::Map(phase) => match step_map(parts, task, killed, grant, phase) {
-            Ok(turn) => Ok(end_map(turn)),
-            Err(stopped) => Err(Call::Map(stopped.phase)),
-        },
-        Call::Touch(_)
-        | Call::Alloc(_)
+        Call::Touch(phase) => finish(step_touch(parts, task, killed, grant, phase)),
+        Call::Map(phase) => finish(step_map(parts, task, killed, grant, phase)),
+        Call::Alloc(_)
         | Call::Punch(_)
         | Call::Truncate(_)
         | Call::Unmap(_)

@@ -1,16 +1,17 @@
 -- What one write to a list does to the functions that the machine sees, and what they tell.
 use Rattle.std.proofs.Common.{◌≡◌, ◌≢◌, ℕ, ◌+◌, ◌-◌, ◌<◌, ◌≤◌, List, length, get_or, set, refl, sym, ◌∙◌, ap, subst, arith, inl, inr}
 use Rattle.std.proofs.Math.Path.{fun_ext}
-use Rattle.std.specs.Prelude.{Bool, false, Option, None, ◌==◌, slice_set, slice_index_or}
+use Rattle.std.specs.Prelude.{Bool, false, Option, Some, None, ◌==◌, ◌⊎◌, slice_get, slice_set, slice_index_or}
 use Rattle.std.specs.Ordering.{nat_cmp}
-use Rattle.std.specs.FinMap.{FinMap, get}
+use Rattle.std.specs.FinMap.{FinMap, get, insert, gets}
 use Rattle.std.proofs.lemmas.Bool.{ne_eqb}
 use Rattle.std.proofs.lemmas.Bool.Decides.{nat_tests}
 use Rattle.std.proofs.lemmas.Grind.{common_steps}
 use Rattle.std.proofs.lemmas.List.{get_or-set_same, get_or-set_other, length-set}
-use Rattle.hp_base.specs.Numbers.{put}
+use Rattle.std.proofs.lemmas.Option.{get_or_from_slice_get, slice_get-get_or, slice_get_within}
+use Rattle.hp_base.specs.Numbers.{put, put2}
 use Rattle.hp_base.proofs.Counting.{count_below-ext}
-use Rattle.hp_base.proofs.Puts.{put_same, put_other, put_self, same_or_other}
+use Rattle.hp_base.proofs.Puts.{put_same, put_other, put_self, put_tells, same_or_other}
 use Rattle.hp_base.proofs.Lists.{at_set, at_same}
 use Rattle.hp_frames.specs.Bank as bank
 use Rattle.hp_frames.specs.declared.frame.FrameState.{FrameState}
@@ -40,6 +41,13 @@ holders_set xs k h l = at_set (λ o. o) None xs k h l
 pub holders_at : (xs : List (Option ℕ)) (k : ℕ) → holders_of xs k ≡ slice_index_or xs k None
 unfolding holders_of
 holders_at xs x = refl
+
+-- what a finite map tells after one of its keys has a value
+get_inserted : (m : FinMap nat_cmp ℕ) (k x : ℕ) → ◌≡◌ {A = ℕ → Option ℕ} (λ j. get (insert m k x) j) (put (λ j. get m j) k (Some x))
+get_inserted m k x = fun_ext (λ j. here j (put_tells (λ j. get m j) k (Some x) j))
+  where
+    here : (j : ℕ) → ((j ≡ k) × (put (λ j. get m j) k (Some x) j ≡ Some x)) ⊎ ((j ≢ k) × (put (λ j. get m j) k (Some x) j ≡ get m j)) → get (insert m k x) j ≡ put (λ j. get m j) k (Some x) j
+    here j tells = grind (arith, gets, nat_tests)
 
 -- files
 pub sizes_at : (xs : List FileState) (f : ℕ) → sizes_of xs f ≡ (slice_index_or xs f no_file).size
@@ -90,9 +98,21 @@ pub sets_same : (xs : List FileState) (f : ℕ) (y : FileState) → f < length x
 unfolding sets_of
 sets_same xs f y l e = at_same {B = ℕ → Bool} (λ file. is_member file.map.regions) no_file xs f y l (ap {B = ℕ → Bool} (λ (rs : List Region). is_member rs) e)
 
-pub pages_same : (xs : List FileState) (f : ℕ) (y : FileState) → f < length xs → pages_of (slice_set xs f y) ≡ pages_of xs
+pub pages_at : (xs : List FileState) (f i : ℕ) → pages_of xs f i ≡ get (slice_index_or xs f no_file).cache i
 unfolding pages_of
-pages_same xs f y l = refl
+pages_at xs f i = refl
+
+pub pages_same : (xs : List FileState) (f : ℕ) (y : FileState) → f < length xs → y.cache ≡ (slice_index_or xs f no_file).cache → pages_of (slice_set xs f y) ≡ pages_of xs
+unfolding pages_of
+pages_same xs f y l e = at_same {B = ℕ → Option ℕ} (λ file. get file.cache) no_file xs f y l (ap {B = ℕ → Option ℕ} (λ (m : FinMap nat_cmp ℕ). get m) e)
+
+-- one page comes, or goes
+pages_put : (xs : List FileState) (f i : ℕ) (o : Option ℕ) (y : FileState) → f < length xs → ◌≡◌ {A = ℕ → Option ℕ} (λ j. get y.cache j) (put (λ j. get (slice_index_or xs f no_file).cache j) i o) → pages_of (slice_set xs f y) ≡ put2 (pages_of xs) f i o
+unfolding pages_of
+pages_put xs f i o y l e = at_set {B = ℕ → Option ℕ} (λ file. get file.cache) no_file xs f y l ∙ ap (λ (m : ℕ → Option ℕ). put (λ (k : ℕ). get (slice_index_or xs k no_file).cache) f m) e
+
+pub pages_placed : (xs : List FileState) (f i x : ℕ) (y : FileState) → f < length xs → y.cache ≡ insert (slice_index_or xs f no_file).cache i x → pages_of (slice_set xs f y) ≡ put2 (pages_of xs) f i (Some x)
+pages_placed xs f i x y l e = pages_put xs f i (Some x) y l (ap {B = ℕ → Option ℕ} (λ (m : FinMap nat_cmp ℕ) (j : ℕ). get m j) e ∙ get_inserted (slice_index_or xs f no_file).cache i x)
 
 -- tasks
 pub prepared_at : (xs : List Table) (t : ℕ) → prepared_of xs t ≡ (table_of xs t).ready
@@ -136,6 +156,10 @@ pub prepared_set : (xs : List Table) (t : ℕ) (y : Table) → 1 ≤ t → t ≤
 unfolding prepared_of
 prepared_set xs t y low high = seen_set (λ (d : Table). d.ready) xs t y low high
 
+pub prepared_same : (xs : List Table) (t : ℕ) (y : Table) → 1 ≤ t → t ≤ length xs → y.ready ≡ (table_of xs t).ready → prepared_of (slice_set xs (t - 1) y) ≡ prepared_of xs
+unfolding prepared_of
+prepared_same xs t y low high e = seen_set (λ (d : Table). d.ready) xs t y low high ∙ put_known (λ j. (table_of xs j).ready) t y.ready (sym e)
+
 pub areas_set : (xs : List Table) (t : ℕ) (y : Table) → 1 ≤ t → t ≤ length xs → areas_of (slice_set xs (t - 1) y) ≡ put (areas_of xs) t y.mappings
 unfolding areas_of
 areas_set xs t y low high = seen_set (λ (d : Table). d.mappings) xs t y low high
@@ -144,11 +168,35 @@ pub areas_same : (xs : List Table) (t : ℕ) (y : Table) → 1 ≤ t → t ≤ l
 unfolding areas_of
 areas_same xs t y low high e = seen_set (λ (d : Table). d.mappings) xs t y low high ∙ put_known (λ j. (table_of xs j).mappings) t y.mappings (sym e)
 
+pub entries_at : (xs : List Table) (t v : ℕ) → entries_of xs t v ≡ get (table_of xs t).entries v
+unfolding entries_of
+entries_at xs t v = refl
+
 pub entries_same : (xs : List Table) (t : ℕ) (y : Table) → 1 ≤ t → t ≤ length xs → y.entries ≡ (table_of xs t).entries → entries_of (slice_set xs (t - 1) y) ≡ entries_of xs
 unfolding entries_of
 entries_same xs t y low high e =
     seen_set {B = ℕ → Option ℕ} (λ (d : Table) (w : ℕ). get d.entries w) xs t y low high
     ∙ put_known {A = ℕ → Option ℕ} (λ j w. get (table_of xs j).entries w) t (λ w. get y.entries w) (ap {B = ℕ → Option ℕ} (λ (m : FinMap nat_cmp ℕ) (w : ℕ). get m w) (sym e))
+
+-- one entry comes
+pub entries_installed : (xs : List Table) (t v x : ℕ) (y : Table) → 1 ≤ t → t ≤ length xs → y.entries ≡ insert (table_of xs t).entries v x → entries_of (slice_set xs (t - 1) y) ≡ put2 (entries_of xs) t v (Some x)
+unfolding entries_of
+entries_installed xs t v x y low high e =
+    seen_set {B = ℕ → Option ℕ} (λ (d : Table) (w : ℕ). get d.entries w) xs t y low high
+    ∙ ap (λ (m : ℕ → Option ℕ). put (λ (j : ℕ) (w : ℕ). get (table_of xs j).entries w) t m) (ap {B = ℕ → Option ℕ} (λ (m : FinMap nat_cmp ℕ) (w : ℕ). get m w) e ∙ get_inserted (table_of xs t).entries v x)
+
+-- frames
+pub frame_at_set : (xs : List FrameState) (x : ℕ) (s : FrameState) → x < length xs → bank.frame_at (slice_set xs x s) ≡ put (bank.frame_at xs) x s
+unfolding bank.frame_at
+frame_at_set xs x s l = at_set (λ (state : FrameState). state) Hand xs x s l
+
+pub frame_at_is : (xs : List FrameState) (x : ℕ) (s : FrameState) → slice_get xs x ≡ Some s → bank.frame_at xs x ≡ s
+unfolding bank.frame_at
+frame_at_is xs x s e = get_or_from_slice_get xs x s Hand e
+
+pub frame_got : (xs : List FrameState) (x : ℕ) (s : FrameState) → x < length xs → bank.frame_at xs x ≡ s → slice_get xs x ≡ Some s
+unfolding bank.frame_at
+frame_got xs x s l e = slice_get-get_or xs x Hand l ∙ ap Some e
 
 pub ruleset lock_laws = (holders_at, holders_set, length-set)
 
@@ -159,3 +207,17 @@ pub ruleset change_laws = (sizes_same, pendings_at, pendings_set, spares_at, spa
 pub ruleset commit_laws = (sizes_same, pendings_at, pendings_set, spares_at, spares_set, sets_at, sets_set, pages_same, length-set)
 
 pub ruleset enter_laws = (nat_tests, ne_eqb, sizes_at, sizes_set, pendings_same, spares_same, sets_same, pages_same, areas_at, areas_set, prepared_at, prepared_set, entries_same, length-set)
+
+pub ruleset frame_laws = (frame_at_set, frame_at_is, frame_got, slice_get_within, length-set)
+
+pub ruleset take_laws = (free_frames_is, frame_at_set, frame_at_is, slice_get_within, length-set)
+
+pub ruleset look_laws = (nat_tests, ne_eqb, areas_at, entries_at, frame_at_is, frame_got)
+
+pub ruleset size_laws = (sizes_at, sizes_set, pendings_same, spares_same, sets_same, pages_same, length-set)
+
+pub ruleset page_laws = (sizes_at, pages_at)
+
+pub ruleset place_laws = (sizes_at, sizes_same, pendings_same, spares_same, sets_same, pages_at, pages_placed, frame_at_set, frame_at_is, frame_got, length-set)
+
+pub ruleset install_laws = (nat_tests, ne_eqb, sizes_at, pages_at, areas_at, areas_same, prepared_same, entries_at, entries_installed, frame_at_is, frame_got, length-set)

@@ -13,7 +13,7 @@ use Rattle.hp_fault.specs.State.{PartsState, state_of}
 
 -- stands for a file that isn't there
 abbrev pub no_file : FileState
-no_file = record { size = 0; map = record { regions = []; pending = 0; spare = 0 } }
+no_file = record { size = 0; map = record { regions = []; pending = 0; spare = 0 }; cache = empty }
 
 -- stands for the space of a task that isn't there
 abbrev pub no_table : Table
@@ -34,9 +34,8 @@ spares_of files f = (slice_index_or files f no_file).map.spare
 unfoldable pub sets_of : List FileState → ℕ → ℕ → Bool
 sets_of files f = is_member (slice_index_or files f no_file).map.regions
 
--- no page is cached before there are faults
 unfoldable pub pages_of : List FileState → ℕ → ℕ → Option ℕ
-pages_of files f i = None
+pages_of files f i = get (slice_index_or files f no_file).cache i
 
 -- tasks are counted from 1
 abbrev pub table_of : List Table → ℕ → Table

@@ -1,5 +1,5 @@
 //! One function for each phase of a map (Linux: `hugetlb_reserve_pages`, `hugetlbfs_file_mmap`).
-ghost use Rattle.std.specs.Prelude.{◌≡◌, ◌≤◌, ◌<◌, ◌+◌, ◌==◌, ◌||◌, nat_lt, length, true, Some, IfOk, IfErr, OnErr};
+ghost use Rattle.std.specs.Prelude.{◌≡◌, ◌≤◌, ◌<◌, ◌+◌, length, true, Some, IfOk, IfErr, OnErr};
 ghost use Rattle.hp_machine.specs.MapRows.{MapRow, MapStartRow, MapRoomRow, MapMissingRow, MapChangedRow, MapAbortRow, MapAccountedRow, MapSettleRow, MapEnterRow, MapLeaveRow};
 ghost use Rattle.hp_machine.specs.Wants.{map_wants};
 ghost use Rattle.hp_base.specs.Mappings.{fits};
@@ -8,6 +8,7 @@ ghost use Rattle.hp_fault.specs.State.{state_of, IsSized, SizesStay};
 ghost use Rattle.hp_fault.specs.Fits.{MapFits, IsTaskOf, IsFileOf};
 
 use crate::parts::Parts;
+use crate::shared::{carry, is_bad_range, leave_lock, start};
 use hp_base::{Answer, Index, LIMIT, Task, VPNS};
 use hp_machine::map::{
     Abort, Accounted, Changed, Enter, Leave, MapPhase, MapRequest, Missing, Room, Settle, Start,
@@ -55,34 +56,17 @@ pub fn step_map(
     }
 }
 
-/// Whether the range is empty, or ends above the limit of a file.
-pub fn is_bad_range(from: Index, len: u32) -> bool
-    ensures { result ≡ ((len == 0) || nat_lt LIMIT (from + len)) }
-{
-    len == 0 || u64::from(from.number()) + u64::from(len) > u64::from(LIMIT)
-}
-
-#[tactic(auto, using(std::proofs::lemmas::Grind::common_steps, crate::proofs::Laws::lock_laws))]
+#[tactic(auto, using(std::proofs::lemmas::Grind::common_steps, crate::proofs::Carrying::carry_start))]
 fn from_start(parts: &mut Parts, task: Task, killed: bool, phase: Start) -> Turn<MapPhase>
     requires { IsSized (state_of parts.old) }
     ensures row { MapStartRow (view parts.old) task killed phase result (view parts.new) }
     ensures sizes { SizesStay (state_of parts.old) (state_of parts.new) }
 {
-    let Start { map } = phase;
-    let files = parts.files.len();
-    if map.file.number() as usize >= files {
-        return Turn::Ended(Answer::BadFile);
-    }
-    if is_bad_range(map.from, map.len) {
-        return Turn::Ended(Answer::BadRange);
-    }
-    if killed {
-        return Turn::Ended(Answer::Killed);
-    }
-    match parts.locks.try_take(map.file.number(), task) {
-        Ok(()) => Turn::Moved(MapPhase::Room(Room { map })),
-        Err(fault) => Turn::Blocked(MapPhase::Start(Start { map }), fault.holder()),
-    }
+    let map = phase.map;
+    let is_bad = is_bad_range(map.from, map.len);
+    let turn = start(parts, task, killed, map.file, is_bad, Answer::Killed);
+    let next = MapPhase::Room(Room { map });
+    carry(turn, MapPhase::Start(phase), next)
 }
 
 #[tactic(auto, using(std::proofs::lemmas::Grind::common_steps, crate::proofs::Laws::room_laws))]
@@ -219,14 +203,13 @@ fn from_enter(parts: &mut Parts, task: Task, phase: Enter) -> Turn<MapPhase>
     leave(map, Answer::Mapped(base))
 }
 
-#[tactic(auto, using(std::proofs::lemmas::Grind::common_steps, crate::proofs::Laws::lock_laws))]
 fn from_leave(parts: &mut Parts, task: Task, phase: Leave) -> Turn<MapPhase>
     requires { (view parts.old).locks phase.map.file ≡ Some task }
     ensures row { MapLeaveRow (view parts.old) phase result (view parts.new) }
     ensures sizes { SizesStay (state_of parts.old) (state_of parts.new) }
 {
     let Leave { map, answer } = phase;
-    parts.locks.leave(map.file.number(), task);
+    leave_lock(parts, task, map.file);
     Turn::Ended(answer)
 }
 

@@ -1,14 +1,16 @@
 //! What all calls share.
+use hp_cache::PageCache;
 use hp_frames::Bank;
 use hp_region::RegionMap;
 use hp_slots::SlotTable;
 use hp_table::Space;
 
-/// A file: its size in pages, and the map of its reservations.
+/// A file: its size in pages, the map of its reservations, and its pages.
 #[derive(Drop)]
 pub struct FileState {
     pub size: u32,
     pub map: RegionMap,
+    pub cache: PageCache,
 }
 
 /// What all calls of a pool share. A step is lent it as `&mut Parts`.

@@ -13,7 +13,7 @@ use Rattle.hp_base.specs.declared.event.Event.{Event}
 use Rattle.hp_base.specs.declared.event.Event.TheVariants.{Begin, Step, Kill}
 use Rattle.hp_core.specs.Sound.{is_built, IsBuilt}
 use Rattle.hp_replay.specs.Fits.{IsShort, OpFits, IsTraceEvent}
-use Rattle.hp_replay.specs.Reading.{◌>>=◌, after_word, number_at, field_at, ended, last_at, range_at, behind, op_at, event_at, last_field_at, sizes_at, header_at, limit}
+use Rattle.hp_replay.specs.Reading.{◌>>=◌, after_word, number_at, field_at, ended, last_at, range_at, pair_at, behind, op_at, event_at, last_field_at, sizes_at, header_at, limit, word_limit}
 use Rattle.hp_replay.proofs.Numbers.{chosen, bind_some, number_takes, number_again, word_takes, Stops}
 
 ended_takes : {A : Type 0} (x : A) (bytes : List ℕ) (y : A) → ended x bytes ≡ Some y → (bytes ≡ []) × (x ≡ y)
@@ -68,6 +68,26 @@ range_again file from len file_fits from_fits len_fits =
     let third : field_at limit (field len) ≡ Some (len, []) = ap (field_at limit) (sym (append-nil (field len))) ∙ field_again limit len [] (omega arith) (omega arith) tt in
     rw (first, second, third) refl
 
+-- two numbers
+pair_takes : (most : ℕ) (bytes : List ℕ) (r : ℕ × ℕ) → 9 ≤ most → most < 2 ^ 64 → pair_at most bytes ≡ Some r → (bytes ≡ decimal r.0 ++ field r.1) × IsShort r.0 × (r.1 ≤ most)
+unfolding pair_at
+pair_takes most bytes r low high e =
+    let a = bind_some (number_at limit bytes) (λ first. field_at most first.1 >>= λ second. ended (first.0, second.0) second.1) r e in
+    let b = bind_some (field_at most a.0.1) (λ second. ended (a.0.0, second.0) second.1) r a.2 in
+    let first = number_takes limit bytes a.0.0 a.0.1 (omega arith) (omega arith) a.1 in
+    let second = field_takes most a.0.1 b.0.0 b.0.1 low high b.1 in
+    let end = ended_takes (a.0.0, b.0.0) b.0.1 r b.2 in
+    let last : a.0.1 ≡ field b.0.0 = second.0 ∙ rw end.0 (append-nil (field b.0.0)) in
+    let whole : bytes ≡ decimal a.0.0 ++ field b.0.0 = first.0 ∙ ap (λ (t : List ℕ). decimal a.0.0 ++ t) last in
+    subst (λ (r : ℕ × ℕ). (bytes ≡ decimal r.0 ++ field r.1) × IsShort r.0 × (r.1 ≤ most)) end.1 (whole, omega (arith, first.1), second.1)
+
+pair_again : (most a b : ℕ) → most < 2 ^ 64 → IsShort a → b ≤ most → pair_at most (decimal a ++ field b) ≡ Some (a, b)
+unfolding pair_at
+pair_again most a b high a_fits b_fits =
+    let first = number_again limit a (field b) (omega arith) (omega arith) refl in
+    let second : field_at most (field b) ≡ Some (b, []) = ap (field_at most) (sym (append-nil (field b))) ∙ field_again most b [] high b_fits tt in
+    rw (first, second) refl
+
 -- ---- operations
 
 behind_some : {A : Type 0} (word bytes : List ℕ) (read : List ℕ → Option A) (other : Option A) (y : A) → behind word bytes read other ≡ Some y → ((rest : List ℕ) × (bytes ≡ word ++ rest) × (read rest ≡ Some y)) ⊎ (other ≡ Some y)
@@ -92,8 +112,10 @@ op_again (MapNoReserve file from len) fits built =
     let regrouped = append_assoc (decimal file) (field from) (field len) in
     rw (regrouped, range_again file from len fits.0 fits.1 fits.2) refl
 op_again (Unmap base) fits built = absurd cc
-op_again (Load vpn) fits built = absurd cc
-op_again (Store vpn word) fits built = absurd cc
+op_again (Load vpn) fits built = rw (last_again vpn fits) refl
+op_again (Store vpn word) fits built =
+    let regrouped : (codes "store" ++ field vpn) ++ field word ≡ codes "store " ++ (decimal vpn ++ field word) = append_assoc (codes "store") (field vpn) (field word) in
+    rw (regrouped, pair_again word_limit vpn word (omega arith) fits.0 (let l : word < 2 ^ 64 = fits.1 in omega arith)) refl
 op_again (Alloc file from len keep) fits built = absurd cc
 op_again (Punch file from len) fits built = absurd cc
 op_again (Truncate file new) fits built = absurd cc
@@ -108,6 +130,22 @@ range_case word bytes rest make op fits built spelled parts e =
     let whole : bytes ≡ op_text (make a.0.0 a.0.1 a.0.2) = parts ∙ ap (λ (t : List ℕ). word ++ t) text ∙ spelled a.0.0 a.0.1 a.0.2 in
     subst (λ (op : Op). Spells bytes op) (some_is _ _ a.2) (whole, fits a.0.0 a.0.1 a.0.2 (t.1, t.2, t.3), built a.0.0 a.0.1 a.0.2)
 
+-- what is made of one number
+number_case : (word bytes rest : List ℕ) (make : ℕ → Op) (op : Op) → ((n : ℕ) → IsShort n → OpFits (make n)) → ((n : ℕ) → is_built (make n) ≡ true) → ((n : ℕ) → word ++ decimal n ≡ op_text (make n)) → bytes ≡ word ++ rest → (last_at rest >>= λ n. Some (make n)) ≡ Some op → Spells bytes op
+number_case word bytes rest make op fits built spelled parts e =
+    let a = bind_some (last_at rest) (λ n. Some (make n)) op e in
+    let t = last_takes rest a.0 a.1 in
+    let whole : bytes ≡ op_text (make a.0) = parts ∙ ap (λ (t : List ℕ). word ++ t) t.0 ∙ spelled a.0 in
+    subst (λ (op : Op). Spells bytes op) (some_is _ _ a.2) (whole, fits a.0 t.1, built a.0)
+
+-- and of two
+pair_case : (most : ℕ) (word bytes rest : List ℕ) (make : ℕ → ℕ → Op) (op : Op) → 9 ≤ most → most < 2 ^ 64 → ((a b : ℕ) → IsShort a → b ≤ most → OpFits (make a b)) → ((a b : ℕ) → is_built (make a b) ≡ true) → ((a b : ℕ) → word ++ (decimal a ++ field b) ≡ op_text (make a b)) → bytes ≡ word ++ rest → (pair_at most rest >>= λ r. Some (make r.0 r.1)) ≡ Some op → Spells bytes op
+pair_case most word bytes rest make op low high fits built spelled parts e =
+    let a = bind_some (pair_at most rest) (λ r. Some (make r.0 r.1)) op e in
+    let t = pair_takes most rest a.0 low high a.1 in
+    let whole : bytes ≡ op_text (make a.0.0 a.0.1) = parts ∙ ap (λ (t : List ℕ). word ++ t) t.0 ∙ spelled a.0.0 a.0.1 in
+    subst (λ (op : Op). Spells bytes op) (some_is _ _ a.2) (whole, fits a.0.0 a.0.1 t.1 t.2, built a.0.0 a.0.1)
+
 pub op_takes : (bytes : List ℕ) (op : Op) → op_at bytes ≡ Some op → Spells bytes op
 unfolding op_at
 op_takes bytes op e =
@@ -115,7 +153,13 @@ op_takes bytes op e =
       | inl w ↦ range_case (codes "map ") bytes w.0 Map op (λ _ _ _ f. f) (λ _ _ _. refl) (λ _ _ _. refl) w.1 w.2
       | inr e0 ↦ elim (behind_some (codes "mapn ") bytes _ _ op e0) [
         | inl w ↦ range_case (codes "mapn ") bytes w.0 MapNoReserve op (λ _ _ _ f. f) (λ _ _ _. refl) (λ _ _ _. refl) w.1 w.2
-        | inr e1 ↦ absurd (none_some e1)
+        | inr e1 ↦ elim (behind_some (codes "load ") bytes _ _ op e1) [
+          | inl w ↦ number_case (codes "load ") bytes w.0 Load op (λ _ f. f) (λ _. refl) (λ _. refl) w.1 w.2
+          | inr e2 ↦ elim (behind_some (codes "store ") bytes _ _ op e2) [
+            | inl w ↦ pair_case word_limit (codes "store ") bytes w.0 Store op (omega arith) (omega arith) (λ _ word f g. (f, omega (arith, g))) (λ _ _. refl) (λ vpn word. sym (append_assoc (codes "store") (field vpn) (field word))) w.1 w.2
+            | inr e3 ↦ absurd (none_some e3)
+          ]
+        ]
       ]
     ]
   where

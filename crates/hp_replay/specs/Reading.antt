@@ -6,7 +6,7 @@ use Rattle.std.specs.Char.{is_ascii_digit}
 use Rattle.hp_base.specs.Limits.{within_limits}
 use Rattle.hp_base.specs.Text.{Sizes}
 use Rattle.hp_base.specs.declared.event.Op.{Op}
-use Rattle.hp_base.specs.declared.event.Op.TheVariants.{Map, MapNoReserve}
+use Rattle.hp_base.specs.declared.event.Op.TheVariants.{Map, MapNoReserve, Load, Store}
 use Rattle.hp_base.specs.declared.event.Event.{Event}
 use Rattle.hp_base.specs.declared.event.Event.TheVariants.{Begin, Step, Kill}
 
@@ -56,6 +56,17 @@ range_at bytes = do
   len ← field_at limit from.1
   ended (file.0, from.0, len.0) len.1
 
+-- the most that the word of a page can be
+abbrev pub word_limit : ℕ
+word_limit = 2 ^ 64 - 1
+
+-- a number of 32 bits, and another of at most `most` as the last of a line
+unfoldable pub pair_at : ℕ → List ℕ → Option (ℕ × ℕ)
+pair_at most bytes = do
+  first ← number_at limit bytes
+  second ← field_at most first.1
+  ended (first.0, second.0) second.1
+
 -- what is read behind the word; where the bytes don't begin with it, other
 abbrev pub behind : {A : Type 0} → List ℕ → List ℕ → (List ℕ → Option A) → Option A → Option A
 behind word bytes read other = option_map_or read (after_word word bytes) other
@@ -64,7 +75,9 @@ behind word bytes read other = option_map_or read (after_word word bytes) other
 unfoldable pub op_at : List ℕ → Option Op
 op_at bytes =
     behind (codes "map ") bytes (λ rest. range_at rest >>= λ r. Some (Map r.0 r.1 r.2))
-    (behind (codes "mapn ") bytes (λ rest. range_at rest >>= λ r. Some (MapNoReserve r.0 r.1 r.2)) None)
+    (behind (codes "mapn ") bytes (λ rest. range_at rest >>= λ r. Some (MapNoReserve r.0 r.1 r.2))
+    (behind (codes "load ") bytes (λ rest. last_at rest >>= λ vpn. Some (Load vpn))
+    (behind (codes "store ") bytes (λ rest. pair_at word_limit rest >>= λ s. Some (Store s.0 s.1)) None)))
 
 -- a line behind the first, without its end
 unfoldable pub event_at : List ℕ → Option Event

@@ -2,9 +2,9 @@
 ghost use Rattle.std.specs.Prelude.{◌≡◌, ◌≤◌, length, IfSome};
 ghost use Rattle.std.specs.Option.{option_map};
 ghost use Rattle.hp_base.specs.Text.{sizes};
-ghost use Rattle.hp_replay.specs.Reading.{header_at, sizes_at, last_field_at, after_word, number_at, field_at, last_at, range_at, op_at, event_at, limit};
+ghost use Rattle.hp_replay.specs.Reading.{header_at, sizes_at, last_field_at, after_word, number_at, field_at, last_at, range_at, pair_at, op_at, event_at, limit, word_limit};
 
-use hp_base::{Config, Event, File, Index, Op, Task};
+use hp_base::{Config, Event, File, Index, Op, Task, Vpn};
 
 /// The bytes behind the word, where they begin with it.
 fn after_word<'a>(word: &[u8], bytes: &'a [u8]) -> Option<&'a [u8]>
@@ -91,6 +91,19 @@ fn range_at(bytes: &[u8]) -> Option<(File, Index, u32)>
     Some((File::new(file), Index::new(from), len))
 }
 
+/// A virtual page and the word that is stored there, as the last of a line.
+#[tactic(auto, unfolding(crate::specs::Reading::pair_at, crate::specs::Reading::field_at))]
+fn store_at(bytes: &[u8]) -> Option<(Vpn, u64)>
+    ensures { option_map (λ s. (s.0, s.1)) result ≡ pair_at word_limit bytes.now }
+{
+    let (vpn, rest) = short_at(bytes)?;
+    let (word, rest) = number_at(u64::MAX, after_word(b" ", rest)?)?;
+    if !rest.is_empty() {
+        return None;
+    }
+    Some((Vpn::new(vpn), word))
+}
+
 /// The operation that the rest of a line spells.
 #[tactic(auto, unfolding(crate::specs::Reading::op_at))]
 fn op_at(bytes: &[u8]) -> Option<Op>
@@ -102,6 +115,12 @@ fn op_at(bytes: &[u8]) -> Option<Op>
     } else if let Some(rest) = after_word(b"mapn ", bytes) {
         let (file, from, len) = range_at(rest)?;
         Some(Op::MapNoReserve { file, from, len })
+    } else if let Some(rest) = after_word(b"load ", bytes) {
+        let vpn = Vpn::new(last_at(rest)?);
+        Some(Op::Load { vpn })
+    } else if let Some(rest) = after_word(b"store ", bytes) {
+        let (vpn, word) = store_at(rest)?;
+        Some(Op::Store { vpn, word })
     } else {
         None
     }

@@ -24,7 +24,7 @@ pub begun_none : (space low : ℕ) (ms : List Mapping) (v : ℕ) → IsSpread sp
 begun_none space low [] v spread under = refl
 begun_none space low (m ∷ ms) v spread under = rw (lt-leb m.base v (omega (arith, spread.0))) refl
 
-holder_none : (space low : ℕ) (ms : List Mapping) (v : ℕ) → IsSpread space low ms → v < low → list.find (λ m. covers m v) ms ≡ None
+pub holder_none : (space low : ℕ) (ms : List Mapping) (v : ℕ) → IsSpread space low ms → v < low → list.find (λ m. covers m v) ms ≡ None
 holder_none space low [] v spread under = refl
 holder_none space low (m ∷ ms) v spread under = rw (lt-leb m.base v (omega (arith, spread.0)), holder_none space (m.base + m.len) ms v spread.2 (omega (arith, spread.0))) refl
 
@@ -63,7 +63,7 @@ holder_absent space low (m ∷ ms) v spread =
 covered_not : (m : Mapping) (v : ℕ) → m.base + m.len ≤ v → covers m v ≡ false
 covered_not m v past = grind (arith, nat_tests)
 
-past_first : (space : ℕ) (m : Mapping) (ms : List Mapping) (v j : ℕ) → IsSpread space (m.base + m.len) ms → prefix_len (begins v) ms ≡ suc j → m.base + m.len ≤ v
+pub past_first : (space : ℕ) (m : Mapping) (ms : List Mapping) (v j : ℕ) → IsSpread space (m.base + m.len) ms → prefix_len (begins v) ms ≡ suc j → m.base + m.len ≤ v
 past_first space m ms v j spread begun =
     elim (nat_le (m.base + m.len) v) as (λ b. nat_le (m.base + m.len) v ≡ b → m.base + m.len ≤ v) [
       | true ↦ λ e. leb-true (m.base + m.len) v e

@@ -7,6 +7,7 @@
 //! owns a frame.
 #![tactic(auto)]
 
+mod entries;
 mod search;
 mod space;
 

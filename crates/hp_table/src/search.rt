@@ -1,10 +1,11 @@
 //! Searches in a list of mappings that are in order.
-ghost use Rattle.std.specs.Prelude.{◌≡◌, nat_le};
-ghost use Rattle.std.specs.List.{prefix_len};
+ghost use Rattle.std.specs.Prelude.{◌≡◌, ◌==◌, ◌&&◌, ◌+◌, ◌-◌, ◌≤◌, nat_le, if◌then◌else◌, None, Some};
+ghost use Rattle.std.specs.List.{position, prefix_len};
 ghost use Rattle.std.specs.List as list;
+ghost use Rattle.hp_base.specs.Indices.{is_within};
 ghost use Rattle.hp_base.specs.Mappings.{covers, IsRoom, IsSpread};
 
-use hp_base::{Mapping, VPNS, Vpn};
+use hp_base::{File, Index, Mapping, VPNS, Vpn};
 
 // How many mappings begin at or below a page.
 pub fn begun(mappings: &[Mapping], vpn: Vpn) -> usize
@@ -22,6 +23,29 @@ pub fn holder(mappings: &[Mapping], vpn: Vpn) -> Option<Mapping>
     let last = begun(mappings, vpn).checked_sub(1)?;
     let mapping = mappings[last];
     (vpn.number() - mapping.base.number() < mapping.len).then_some(mapping)
+}
+
+// The place of the mapping that begins at a page.
+pub fn place_of(mappings: &[Mapping], base: Vpn) -> Option<usize>
+    requires { IsSpread VPNS 0 mappings.now }
+    ensures { result ≡ position (λ m. m.base == base) mappings.now }
+{
+    let last = begun(mappings, base).checked_sub(1)?;
+    (mappings[last].base == base).then_some(last)
+}
+
+// The page of a mapping that stands for that index of the file.
+pub fn page_of(mapping: Mapping, file: File, index: Index) -> Option<Vpn>
+    requires { mapping.base + mapping.len ≤ VPNS }
+    ensures { result
+        ≡ (if (mapping.file == file) && is_within mapping.from (mapping.from + mapping.len) index
+        then Some (mapping.base + (index - mapping.from)) else None) }
+{
+    let offset = index.number().checked_sub(mapping.from.number())?;
+    if mapping.file != file || mapping.len <= offset {
+        return None;
+    }
+    Some(Vpn::new(mapping.base.number() + offset))
 }
 
 // The least base at which a mapping of that length fits.

@@ -1,10 +1,10 @@
 //! The space of a task.
-ghost use Rattle.std.specs.Prelude.{◌≡◌, ◌+◌, ◌<◌, ◌≤◌, ◌↔◌, [], length, true, false, IsTrue, OnOk, OnErr, IfSome, All};
+ghost use Rattle.std.specs.Prelude.{◌≡◌, ◌+◌, ◌<◌, ◌≤◌, ◌↔◌, [], ℕ, None, length, true, false, IsTrue, IsSome, OnOk, OnErr, IfSome, All};
 ghost use Rattle.std.specs.FinMap as map;
-ghost use Rattle.hp_base.specs.Mappings.{find, base_of, is_base, fits, entered, first_base, IsRoom, IsSpread};
+ghost use Rattle.hp_base.specs.Mappings.{find, base_of, is_base, fits, entered, in_mapping, first_base, without, without_index, without_mapping, IsRoom, IsSpread};
 ghost use Rattle.hp_table.specs.Table.{Table};
 
-use crate::search;
+use crate::{entries, search};
 use hp_base::{File, Frame, Index, LIMIT, Mapping, VPNS, Vpn};
 use std::alloc::{AllocError, Global};
 use std::marker::Model;
@@ -21,11 +21,11 @@ pub struct Space {
 }
 
 impl Model for Space {
-    ghost use Rattle.std.specs.Prelude.{◌+◌, ◌<◌, ◌≤◌, IsTrue, All, vec_len, vec_capacity};
+    ghost use Rattle.std.specs.Prelude.{◌+◌, ◌<◌, ◌≤◌, ℕ, IsTrue, IsSome, All, vec_len, vec_capacity};
     ghost use Rattle.std.specs.Ordering.{nat_cmp};
     ghost use Rattle.std.specs.FinMap as map;
     ghost use Rattle.hp_base.specs.declared.limits.TheConstants.{LIMIT, VPNS};
-    ghost use Rattle.hp_base.specs.Mappings.{IsSpread};
+    ghost use Rattle.hp_base.specs.Mappings.{find, IsSpread};
     ghost use Rattle.hp_table.specs.Table.{Table, table_code};
 
     ghost Value = { Table };
@@ -38,6 +38,7 @@ impl Model for Space {
       spread : IsSpread VPNS 0 s.mappings.items;
       in_files : All (λ m. m.from + m.len ≤ LIMIT) s.mappings.items;
       in_order : IsTrue (map.is_sorted nat_cmp s.entries.items);
+      mapped : (vpn : ℕ) → IsSome (map.find nat_cmp vpn s.entries.items) → IsSome (find s.mappings.items vpn);
       room : IsTrue s.ready → vec_len s.mappings < vec_capacity s.mappings;
     } };
 }
@@ -125,6 +126,61 @@ impl Space {
         Some(holder.base)
     }
 
+    /// The frame that a virtual page is translated to, found by binary search (Linux: `hugetlb_walk`).
+    pub fn translate(&self, vpn: Vpn) -> Option<Frame>
+        ensures { result ≡ map.get self.now.entries vpn }
+    {
+        entries::frame_of(&self.entries, vpn)
+    }
+
+    /// Translates a mapped virtual page to a frame. The entry's place is found by binary search
+    /// (Linux: `set_huge_pte_at`).
+    pub fn install(&mut self, vpn: Vpn, frame: Frame) -> Result<(), AllocError>
+        requires mapped { IsSome (find self.old.mappings vpn) }
+        requires bare { map.get self.old.entries vpn ≡ None }
+        ensures ok { OnOk result (self.new ≡ record self.old { entries = map.insert self.old.entries vpn frame }) }
+        ensures err { OnErr result (self.new ≡ self.old) }
+    {
+        self.entries.reserve(1)?;
+        let at = entries::before(&self.entries, vpn);
+        self.entries.insert(at, (vpn, frame)).unwrap();
+        Ok(())
+    }
+
+    /// Clears every entry that stands for that index of the file, and no other. The mappings are
+    /// looked at once, and the entry of each is found by binary search (Linux: `hugetlb_vmdelete_list`).
+    pub fn clear_index(&mut self, file: File, index: Index)
+        ensures mappings { self.new.mappings ≡ self.old.mappings }
+        ensures entries { map.get self.new.entries ≡ without_index self.old.mappings (map.get self.old.entries) file index }
+        ensures ready { self.new.ready ≡ self.old.ready }
+    {
+        entries::clear_index(&mut self.entries, &self.mappings, file, index);
+    }
+
+    /// Clears the entries of the mapping that begins at that base, where one does. It and its entries
+    /// are found by binary search, and go at once (Linux: `unmap_vmas`).
+    pub fn clear_mapping(&mut self, base: Vpn)
+        ensures mappings { self.new.mappings ≡ self.old.mappings }
+        ensures entries { map.get self.new.entries ≡ without_mapping self.old.mappings (map.get self.old.entries) base }
+        ensures ready { self.new.ready ≡ self.old.ready }
+    {
+        if let Some(at) = search::place_of(&self.mappings, base) {
+            entries::clear(&mut self.entries, base, self.mappings[at].len);
+        }
+    }
+
+    /// The mapping that begins at that base goes, where one does (Linux: `remove_vma`).
+    pub fn drop_mapping(&mut self, base: Vpn)
+        requires bare { (vpn : ℕ) → IsTrue (in_mapping self.old.mappings base vpn) → map.get self.old.entries vpn ≡ None }
+        ensures mappings { self.new.mappings ≡ without self.old.mappings base }
+        ensures entries { self.new.entries ≡ self.old.entries }
+        ensures ready { self.new.ready ≡ self.old.ready }
+    {
+        if let Some(at) = search::place_of(&self.mappings, base) {
+            self.mappings.remove(at);
+        }
+    }
+
     /// The least base of a mapping.
     pub fn first(&self) -> Option<Vpn>
         ensures { result ≡ first_base self.now.mappings }
@@ -145,7 +201,10 @@ impl Space {
 
     /// The number of virtual pages that are translated.
     pub fn entries(&self) -> usize
-        ensures { result ≡ map.len self.now.entries }
+        ensures value { result ≡ map.len self.now.entries }
+
+        // Each of them lies in a mapping.
+        ensures mapped { (vpn : ℕ) → IsSome (map.get self.now.entries vpn) → IsSome (find self.now.mappings vpn) }
     {
         self.entries.len()
     }

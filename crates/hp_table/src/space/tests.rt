@@ -55,7 +55,86 @@ fn no_address_is_left(rt: HostRuntime) -> Result<(), Fail> {
     Ok(())
 }
 
-// With `--fail-alloc 1` the first growth is refused: nothing is prepared, and the next try succeeds.
+// Translates a page to a frame, where it is mapped and not yet translated.
+fn touch(space: &mut Space, vpn: u32, frame: u32) -> Result<bool, AllocError> {
+    let vpn = Vpn::new(vpn);
+    if space.find(vpn).is_none() || space.translate(vpn).is_some() {
+        return Ok(false);
+    }
+    space.install(vpn, Frame::new(frame))?;
+    Ok(true)
+}
+
+// The frames of the first six pages.
+fn frames(space: &Space) -> [Option<u32>; 6] {
+    [0, 1, 2, 3, 4, 5].map(|vpn| space.translate(Vpn::new(vpn)).map(Frame::number))
+}
+
+// Clears the entries of a mapping, and then drops it.
+fn unmap(space: &mut Space, base: u32) {
+    space.clear_mapping(Vpn::new(base));
+    space.drop_mapping(Vpn::new(base));
+}
+
+#[test]
+fn a_page_is_translated(rt: HostRuntime) -> Result<(), Fail> {
+    let mut space = Space::new(rt.alloc());
+    assert_eq!(rt; map(&mut space, 4)?, Some(Vpn::new(0)));
+    for (vpn, frame) in [(2, 7), (0, 9), (3, 8)] {
+        assert!(rt; touch(&mut space, vpn, frame)?);
+    }
+    assert!(rt; !touch(&mut space, 4, 1)?);
+    assert!(rt; !touch(&mut space, 2, 1)?);
+    assert_eq!(rt;
+        frames(&space),
+        [Some(9), None, Some(7), Some(8), None, None]
+    );
+    assert_eq!(rt; (space.mappings(), space.entries()), (1, 3));
+    Ok(())
+}
+
+// Two mappings of one file, from its begin on: pages 0, 1 and 2, 3, 4. Its index 1 is pages 1 and 3.
+#[test]
+fn an_index_is_cleared_in_each_mapping(rt: HostRuntime) -> Result<(), Fail> {
+    let mut space = Space::new(rt.alloc());
+    assert_eq!(rt; map(&mut space, 2)?, Some(Vpn::new(0)));
+    assert_eq!(rt; map(&mut space, 3)?, Some(Vpn::new(2)));
+    for (vpn, frame) in [(1, 7), (2, 6), (3, 7), (4, 5)] {
+        assert!(rt; touch(&mut space, vpn, frame)?);
+    }
+    space.clear_index(File::new(2), Index::new(1));
+    space.clear_index(File::new(1), Index::new(3));
+    assert_eq!(rt; space.entries(), 4);
+
+    space.clear_index(File::new(1), Index::new(1));
+    assert_eq!(rt; frames(&space), [None, None, Some(6), None, Some(5), None]);
+    assert_eq!(rt; (space.mappings(), space.entries()), (2, 2));
+    Ok(())
+}
+
+#[test]
+fn a_mapping_goes_with_its_entries(rt: HostRuntime) -> Result<(), Fail> {
+    let mut space = Space::new(rt.alloc());
+    for (len, base) in [(2, 0), (3, 2), (1, 5)] {
+        assert_eq!(rt; map(&mut space, len)?, Some(Vpn::new(base)));
+    }
+    for (vpn, frame) in [(1, 7), (2, 6), (4, 5), (5, 4)] {
+        assert!(rt; touch(&mut space, vpn, frame)?);
+    }
+    unmap(&mut space, 3);
+    assert_eq!(rt; (space.mappings(), space.entries()), (3, 4));
+
+    unmap(&mut space, 2);
+    assert_eq!(rt; frames(&space), [None, Some(7), None, None, None, Some(4)]);
+    assert_eq!(rt; (space.mappings(), space.entries()), (2, 2));
+    assert_eq!(rt;
+        (space.room(3), space.room(4)),
+        (Some(Vpn::new(2)), Some(Vpn::new(6)))
+    );
+    Ok(())
+}
+
+// With `--fail-alloc N` one growth is refused: nothing has changed, and the next try succeeds.
 #[test]
 fn refused_growth_changes_nothing(rt: HostRuntime) -> Result<(), Fail> {
     let mut space = Space::new(rt.alloc());
@@ -65,5 +144,13 @@ fn refused_growth_changes_nothing(rt: HostRuntime) -> Result<(), Fail> {
         space.prepare()?;
     }
     assert!(rt; space.ready());
+
+    assert_eq!(rt; map(&mut space, 4)?, Some(Vpn::new(0)));
+    if touch(&mut space, 2, 7).is_err() {
+        assert_eq!(rt; frames(&space), [None; 6]);
+        assert_eq!(rt; (space.mappings(), space.entries()), (1, 0));
+        assert!(rt; touch(&mut space, 2, 7)?);
+    }
+    assert_eq!(rt; frames(&space), [None, None, Some(7), None, None, None]);
     Ok(())
 }

@@ -23,4 +23,4 @@ returns c =
     let low : 1 ≤ c.args.task = c.requires.first in
     let high : c.args.task ≤ (config_of s).tasks = subst (λ (z : CoreState). c.args.task ≤ (config_of z).tasks) (sym c.self.view_is) c.requires.last in
     let read = space_read s _ _ _ c.self.invariant c.number.ensures low high c.index.ensures in
-    c.entries.ensures ∙ (ap (λ (y : Table). map.len y.entries) read ∙ ap (λ (z : CoreState). entries_of z c.args.task) c.self.view_is)
+    c.entries.ensures.value ∙ (ap (λ (y : Table). map.len y.entries) read ∙ ap (λ (z : CoreState). entries_of z c.args.task) c.self.view_is)

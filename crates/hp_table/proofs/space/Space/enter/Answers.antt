@@ -4,6 +4,7 @@ use Rattle.hp_base.specs.declared.limits.TheConstants.{LIMIT, VPNS}
 use Rattle.hp_base.specs.declared.mapping.Mapping.{Mapping}
 use Rattle.hp_base.specs.Mappings.{entered, fits}
 use Rattle.hp_table.specs.Table.{Table}
+use Rattle.hp_table.proofs.Mapped.{found_stays}
 use Rattle.hp_table.proofs.Spread.{begins, insert_is, All-entered, IsSpread-entered}
 use Rattle.hp_table.proofs.space.Space.enter.Goals as goal
 
@@ -19,10 +20,12 @@ pub invariant_of-self : goal.invariant_of-self
 invariant_of-self c =
     let ms = c.self.inside.mappings.items in
     let new : Mapping = record { base = c.args.base; file = c.args.file; from = c.args.from; len = c.args.len } in
+    let room = ap (λ (t : Table). fits VPNS t.mappings c.args.base c.args.len) c.self.view_is ∙ c.requires.fits in
     record {
-      spread = rw (items c) (IsSpread-entered VPNS 0 ms new c.self.invariant.spread (omega arith) c.requires.some (ap (λ (t : Table). fits VPNS t.mappings c.args.base c.args.len) c.self.view_is ∙ c.requires.fits));
+      spread = rw (items c) (IsSpread-entered VPNS 0 ms new c.self.invariant.spread (omega arith) c.requires.some room);
       in_files = rw (items c) (All-entered (λ m. m.from + m.len ≤ LIMIT) ms new c.self.invariant.in_files c.requires.in_file);
       in_order = c.self.invariant.in_order;
+      mapped = rw (items c) (λ v some. found_stays ms new VPNS v room (c.self.invariant.mapped v some));
       room = λ ready. absurd (true≢false (sym ready));
     }
 

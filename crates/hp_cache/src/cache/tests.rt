@@ -1,0 +1,39 @@
+use super::*;
+use std::test::Fail;
+
+#[test]
+fn pages_come_and_go(rt: HostRuntime) -> Result<(), Fail> {
+    let mut cache = PageCache::new(rt.alloc());
+    assert_eq!(rt; cache.get(Index::new(3)), None);
+    assert_eq!(rt; (cache.top(), cache.count()), (0, 0));
+
+    cache.place(Index::new(3), Frame::new(7))?;
+    assert_eq!(rt; cache.get(Index::new(1)), None);
+    assert_eq!(rt; (cache.top(), cache.count()), (4, 1));
+
+    cache.place(Index::new(1), Frame::new(9))?;
+    assert_eq!(rt; cache.get(Index::new(3)), Some(Frame::new(7)));
+    assert_eq!(rt; (cache.top(), cache.count()), (4, 2));
+
+    assert_eq!(rt; cache.evict(Index::new(3)), Frame::new(7));
+    assert_eq!(rt; cache.get(Index::new(1)), Some(Frame::new(9)));
+    assert_eq!(rt; (cache.top(), cache.count()), (2, 1));
+
+    assert_eq!(rt; cache.evict(Index::new(1)), Frame::new(9));
+    assert_eq!(rt; (cache.top(), cache.count()), (0, 0));
+    Ok(())
+}
+
+// With `--fail-alloc 1` the first growth is refused: no page is there, and the next try succeeds.
+#[test]
+fn refused_growth_changes_nothing(rt: HostRuntime) -> Result<(), Fail> {
+    let mut cache = PageCache::new(rt.alloc());
+    assert_eq!(rt; cache.get(Index::new(3)), None);
+    if cache.place(Index::new(3), Frame::new(7)).is_err() {
+        assert_eq!(rt; cache.get(Index::new(3)), None);
+        assert_eq!(rt; cache.count(), 0);
+        cache.place(Index::new(3), Frame::new(7))?;
+    }
+    assert_eq!(rt; cache.get(Index::new(3)), Some(Frame::new(7)));
+    Ok(())
+}

@@ -1,0 +1,53 @@
+//! A step's turn, told as an outcome, with the call that it leaves in flight.
+ghost use Rattle.std.specs.Prelude.{◌≡◌};
+ghost use Rattle.hp_machine.specs.declared.call.Call.{Call};
+ghost use Rattle.hp_core.specs.Turns.{finished};
+
+use crate::words::phase_word;
+use hp_machine::map::MapPhase;
+use hp_machine::touch::TouchPhase;
+use hp_machine::{Call, Outcome, Stopped, Turn};
+
+/// The phases of one operation.
+pub trait InFlight {
+    ghost call_of: { Self → Call };
+
+    /// The call that stands in this phase.
+    fn into_call(self) -> Call
+        ensures { result ≡ call_of self };
+}
+
+impl InFlight for TouchPhase {
+    ghost call_of = { Call.Touch };
+
+    fn into_call(self) -> Call {
+        Call::Touch(self)
+    }
+}
+
+impl InFlight for MapPhase {
+    ghost call_of = { Call.Map };
+
+    fn into_call(self) -> Call {
+        Call::Map(self)
+    }
+}
+
+/// What a step is told as, and the call that it leaves; or without memory the call as it stood.
+pub fn finish<P: InFlight>(
+    stepped: Result<Turn<P>, Stopped<P>>,
+) -> Result<(Outcome, Option<Call>), Call>
+    ensures { result ≡ finished P.call_of stepped }
+{
+    match stepped {
+        Ok(Turn::Moved(phase)) => {
+            let call = phase.into_call();
+            Ok((Outcome::Moved(phase_word(&call)), Some(call)))
+        }
+        Ok(Turn::Blocked(phase, holder)) => {
+            Ok((Outcome::Blocked(holder), Some(phase.into_call())))
+        }
+        Ok(Turn::Ended(answer)) => Ok((Outcome::Ended(answer), None)),
+        Err(stopped) => Err(stopped.phase.into_call()),
+    }
+}

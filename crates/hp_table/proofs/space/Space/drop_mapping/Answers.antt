@@ -1,0 +1,47 @@
+use Rattle.std.proofs.Common.{Option, true≢false, ℕ, ◌≡◌, ◌+◌, ◌≤◌, None, sym, ap, ◌∙◌, arith}
+use Rattle.std.specs.FinMap as map
+use Rattle.std.specs.FinMap.{find}
+use Rattle.std.specs.List.{position}
+use Rattle.std.specs.Ordering.{nat_cmp}
+use Rattle.std.specs.Prelude.{IsTrue, IsSome, is_some}
+use Rattle.hp_base.proofs.Spaces.{without_spread}
+use Rattle.hp_base.specs.Mappings.{in_mapping, without}
+use Rattle.hp_base.specs.declared.limits.TheConstants.{LIMIT, VPNS}
+use Rattle.hp_table.proofs.Bases.{begins_at, without_found, without_absent}
+use Rattle.hp_table.proofs.Mapped.{All-without, found_without}
+use Rattle.hp_table.proofs.PageTable.{get_is}
+use Rattle.hp_table.specs.Table.{Table}
+use Rattle.hp_table.proofs.space.Space.drop_mapping.Goals as goal
+
+items : (c : goal.After-remove) → c.remove.new.self.items ≡ without c.self.inside.mappings.items c.args.base
+items c =
+    let found = c.in-Some.ensures {u = tt} ∙ ap (position (begins_at c.args.base)) c.deref.ensures.value in
+    c.remove.ensures.items ∙ sym (without_found c.self.inside.mappings.items c.args.base c.in-Some.at found)
+
+some_or_none : (o : Option ℕ) → IsSome o → o ≡ None → ⊥
+some_or_none o some none = true≢false (sym some ∙ ap (λ (o : Option ℕ). is_some o) none)
+
+bare : (c : goal.After-remove) (v : ℕ) → IsSome (find nat_cmp v c.self.inside.entries.items) → IsTrue (in_mapping c.self.inside.mappings.items c.args.base v) → ⊥
+bare c v some lies =
+    let there = ap (λ (t : Table). in_mapping t.mappings c.args.base v) (sym c.self.view_is) ∙ lies in
+    let none = sym (get_is c.self.inside.entries.items v c.self.invariant.in_order) ∙ (ap (λ (t : Table). map.get t.entries v) c.self.view_is ∙ c.requires.bare v there) in
+    some_or_none (find nat_cmp v c.self.inside.entries.items) some none
+
+pub invariant_of-self : goal.invariant_of-self
+invariant_of-self c =
+    let ms = c.self.inside.mappings.items in
+    record {
+      spread = rw (items c) (without_spread VPNS 0 ms c.args.base c.self.invariant.spread);
+      in_files = rw (items c) (All-without (λ m. m.from + m.len ≤ LIMIT) ms c.args.base c.self.invariant.in_files);
+      in_order = c.self.invariant.in_order;
+      mapped = rw (items c) (λ v some. found_without ms c.args.base v (bare c v some) (c.self.invariant.mapped v some));
+      room = λ ready. omega (arith, c.self.invariant.room ready, c.remove.ensures.len, c.remove.ensures.capacity);
+    }
+
+pub returns-in-Some-clause-mappings : goal.returns-in-Some-clause-mappings
+returns-in-Some-clause-mappings c = rw (← c.self.view_is) (items c)
+
+pub returns-in_default-clause-mappings : goal.returns-in_default-clause-mappings
+returns-in_default-clause-mappings c =
+    let absent = c.in_default.ensures {u = tt} ∙ ap (position (begins_at c.args.base)) c.deref.ensures.value in
+    rw (← c.self.view_is) (sym (without_absent c.self.inside.mappings.items c.args.base absent))
