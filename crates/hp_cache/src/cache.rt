@@ -64,7 +64,7 @@ impl PageCache {
     }
 
     /// Puts a page into the cache (Linux: `hugetlb_add_to_page_cache`). Its place is found as `get`
-    /// does.
+    /// finds it; the pages above are moved.
     pub fn place(&mut self, index: Index, frame: Frame) -> Result<(), AllocError>
         requires vacant { map.get self.old index ≡ None }
         requires in_file { index < LIMIT }
@@ -77,7 +77,7 @@ impl PageCache {
     }
 
     /// Takes a page out of the cache and tells its frame (Linux: `hugetlb_delete_from_page_cache`).
-    /// It is found as `get` does.
+    /// It is found as `get` finds it; the pages above are moved.
     pub fn evict(&mut self, index: Index) -> Frame
         requires present { IsSome (map.get self.old index) }
         ensures frame { map.get self.old index ≡ Some result }

@@ -3,7 +3,7 @@ use Rattle.std.proofs.Common.{◌≡◌, ◌≢◌, ℕ, ◌+◌, ◌-◌, ◌<�
 use Rattle.std.proofs.Math.Path.{fun_ext}
 use Rattle.std.specs.Prelude.{Bool, false, Option, Some, None, ◌==◌, ◌⊎◌, slice_get, slice_set, slice_index_or}
 use Rattle.std.specs.Ordering.{nat_cmp}
-use Rattle.std.specs.FinMap.{FinMap, get, insert, gets}
+use Rattle.std.specs.FinMap.{FinMap, get, insert, remove, gets}
 use Rattle.std.proofs.lemmas.Bool.{ne_eqb}
 use Rattle.std.proofs.lemmas.Bool.Decides.{nat_tests}
 use Rattle.std.proofs.lemmas.Grind.{common_steps}
@@ -47,6 +47,12 @@ get_inserted : (m : FinMap nat_cmp ℕ) (k x : ℕ) → ◌≡◌ {A = ℕ → O
 get_inserted m k x = fun_ext (λ j. here j (put_tells (λ j. get m j) k (Some x) j))
   where
     here : (j : ℕ) → ((j ≡ k) × (put (λ j. get m j) k (Some x) j ≡ Some x)) ⊎ ((j ≢ k) × (put (λ j. get m j) k (Some x) j ≡ get m j)) → get (insert m k x) j ≡ put (λ j. get m j) k (Some x) j
+    here j tells = grind (arith, gets, nat_tests)
+
+get_removed : (m : FinMap nat_cmp ℕ) (k : ℕ) → ◌≡◌ {A = ℕ → Option ℕ} (λ j. get (remove m k) j) (put (λ j. get m j) k None)
+get_removed m k = fun_ext (λ j. here j (put_tells (λ j. get m j) k None j))
+  where
+    here : (j : ℕ) → ((j ≡ k) × (put (λ j. get m j) k None j ≡ None)) ⊎ ((j ≢ k) × (put (λ j. get m j) k None j ≡ get m j)) → get (remove m k) j ≡ put (λ j. get m j) k None j
     here j tells = grind (arith, gets, nat_tests)
 
 -- files
@@ -102,6 +108,10 @@ pub pages_at : (xs : List FileState) (f i : ℕ) → pages_of xs f i ≡ get (sl
 unfolding pages_of
 pages_at xs f i = refl
 
+pub pages_are : (xs : List FileState) (f : ℕ) → ◌≡◌ {A = ℕ → Option ℕ} (pages_of xs f) (get (slice_index_or xs f no_file).cache)
+unfolding pages_of
+pages_are xs f = refl
+
 pub pages_same : (xs : List FileState) (f : ℕ) (y : FileState) → f < length xs → y.cache ≡ (slice_index_or xs f no_file).cache → pages_of (slice_set xs f y) ≡ pages_of xs
 unfolding pages_of
 pages_same xs f y l e = at_same {B = ℕ → Option ℕ} (λ file. get file.cache) no_file xs f y l (ap {B = ℕ → Option ℕ} (λ (m : FinMap nat_cmp ℕ). get m) e)
@@ -113,6 +123,14 @@ pages_put xs f i o y l e = at_set {B = ℕ → Option ℕ} (λ file. get file.ca
 
 pub pages_placed : (xs : List FileState) (f i x : ℕ) (y : FileState) → f < length xs → y.cache ≡ insert (slice_index_or xs f no_file).cache i x → pages_of (slice_set xs f y) ≡ put2 (pages_of xs) f i (Some x)
 pages_placed xs f i x y l e = pages_put xs f i (Some x) y l (ap {B = ℕ → Option ℕ} (λ (m : FinMap nat_cmp ℕ) (j : ℕ). get m j) e ∙ get_inserted (slice_index_or xs f no_file).cache i x)
+
+pub pages_evicted : (xs : List FileState) (f i : ℕ) (y : FileState) → f < length xs → y.cache ≡ remove (slice_index_or xs f no_file).cache i → pages_of (slice_set xs f y) ≡ put2 (pages_of xs) f i None
+pages_evicted xs f i y l e = pages_put xs f i None y l (ap {B = ℕ → Option ℕ} (λ (m : FinMap nat_cmp ℕ) (j : ℕ). get m j) e ∙ get_removed (slice_index_or xs f no_file).cache i)
+
+-- one index leaves a file's set
+pub sets_without : (xs : List FileState) (f i : ℕ) (y : FileState) → f < length xs → is_member y.map.regions ≡ put (is_member (slice_index_or xs f no_file).map.regions) i false → sets_of (slice_set xs f y) ≡ put2 (sets_of xs) f i false
+unfolding sets_of
+sets_without xs f i y l e = at_set {B = ℕ → Bool} (λ file. is_member file.map.regions) no_file xs f y l ∙ ap (λ (m : ℕ → Bool). put (λ (k : ℕ). is_member (slice_index_or xs k no_file).map.regions) f m) e
 
 -- tasks
 pub prepared_at : (xs : List Table) (t : ℕ) → prepared_of xs t ≡ (table_of xs t).ready
@@ -185,6 +203,15 @@ entries_installed xs t v x y low high e =
     seen_set {B = ℕ → Option ℕ} (λ (d : Table) (w : ℕ). get d.entries w) xs t y low high
     ∙ ap (λ (m : ℕ → Option ℕ). put (λ (j : ℕ) (w : ℕ). get (table_of xs j).entries w) t m) (ap {B = ℕ → Option ℕ} (λ (m : FinMap nat_cmp ℕ) (w : ℕ). get m w) e ∙ get_inserted (table_of xs t).entries v x)
 
+pub entries_are : (xs : List Table) (t : ℕ) → ◌≡◌ {A = ℕ → Option ℕ} (entries_of xs t) (get (table_of xs t).entries)
+unfolding entries_of
+entries_are xs t = refl
+
+-- some go
+pub entries_set : (xs : List Table) (t : ℕ) (y : Table) → 1 ≤ t → t ≤ length xs → entries_of (slice_set xs (t - 1) y) ≡ put (entries_of xs) t (get y.entries)
+unfolding entries_of
+entries_set xs t y low high = seen_set {B = ℕ → Option ℕ} (λ (d : Table) (w : ℕ). get d.entries w) xs t y low high
+
 -- frames
 pub frame_at_set : (xs : List FrameState) (x : ℕ) (s : FrameState) → x < length xs → bank.frame_at (slice_set xs x s) ≡ put (bank.frame_at xs) x s
 unfolding bank.frame_at
@@ -221,3 +248,13 @@ pub ruleset page_laws = (sizes_at, pages_at)
 pub ruleset place_laws = (sizes_at, sizes_same, pendings_same, spares_same, sets_same, pages_at, pages_placed, frame_at_set, frame_at_is, frame_got, length-set)
 
 pub ruleset install_laws = (nat_tests, ne_eqb, sizes_at, pages_at, areas_at, areas_same, prepared_same, entries_at, entries_installed, frame_at_is, frame_got, length-set)
+
+pub ruleset clear_laws = (nat_tests, ne_eqb, areas_at, areas_same, prepared_same, entries_are, entries_set, length-set)
+
+pub ruleset drop_laws = (nat_tests, ne_eqb, areas_at, areas_set, prepared_same, entries_at, entries_same, length-set)
+
+pub ruleset evict_laws = (sizes_same, pendings_same, spares_same, sets_same, pages_at, pages_evicted, frame_at_set, frame_at_is, frame_got, slice_get_within, length-set)
+
+pub ruleset delete_laws = (nat_tests, sizes_same, pendings_at, pendings_same, spares_at, spares_set, sets_at, sets_without, pages_same, length-set)
+
+pub ruleset tail_laws = (sizes_same, pendings_at, pendings_same, spares_at, spares_same, sets_at, sets_set, pages_same, length-set)

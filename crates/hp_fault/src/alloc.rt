@@ -13,7 +13,7 @@ use crate::shared::{
 };
 use hp_base::{Answer, Index, LIMIT, Task};
 use hp_machine::alloc::{
-    Abort, Allocation, AllocPhase, Changed, Committed, Extend, Head, Leave, Locked, Missing,
+    Abort, AllocPhase, Allocation, Changed, Committed, Extend, Head, Leave, Locked, Missing,
     Restore, Settle, Start, Taken, Unslot, Want,
 };
 use hp_machine::{Stopped, Turn};
@@ -73,7 +73,14 @@ fn from_start(parts: &mut Parts, task: Task, killed: bool, phase: Start) -> Turn
     let allocation = phase.allocation;
     let index = allocation.from;
     let is_bad = is_bad_range(index, allocation.len);
-    let turn = start(parts, task, killed, allocation.file, is_bad, Answer::Interrupted);
+    let turn = start(
+        parts,
+        task,
+        killed,
+        allocation.file,
+        is_bad,
+        Answer::Interrupted,
+    );
     let next = AllocPhase::Head(Head { allocation, index });
     carry(turn, AllocPhase::Start(phase), next)
 }
@@ -117,11 +124,7 @@ fn from_locked(parts: &mut Parts, phase: Locked) -> Turn<AllocPhase>
 }
 
 #[tactic(auto, using(std::proofs::lemmas::Grind::common_steps, crate::proofs::Laws::change_laws))]
-fn from_missing(
-    parts: &mut Parts,
-    grant: bool,
-    phase: Missing,
-) -> Result<Turn<AllocPhase>, Missing>
+fn from_missing(parts: &mut Parts, grant: bool, phase: Missing) -> Result<Turn<AllocPhase>, Missing>
     requires file { IsFileOf (view parts.old) phase.allocation.file }
     requires in_limit { phase.index < LIMIT }
     ensures row { IfOk result (λ turn. AllocMissingRow (view parts.old) grant phase turn (view parts.new)) }
@@ -183,7 +186,9 @@ fn from_abort(parts: &mut Parts, phase: Abort) -> Turn<AllocPhase>
         pending,
         answer,
     } = phase;
-    parts.files[allocation.file.number() as usize].map.abort(pending);
+    parts.files[allocation.file.number() as usize]
+        .map
+        .abort(pending);
     unslot(allocation, index, Some(answer))
 }
 
@@ -201,7 +206,9 @@ fn from_taken(parts: &mut Parts, phase: Taken) -> Turn<AllocPhase>
         held,
     } = phase;
     let missing = pending.missing();
-    let added = parts.files[allocation.file.number() as usize].map.commit(pending);
+    let added = parts.files[allocation.file.number() as usize]
+        .map
+        .commit(pending);
     if added < missing {
         Turn::Moved(AllocPhase::Settle(Settle {
             allocation,
@@ -360,12 +367,7 @@ fn unslot(allocation: Allocation, index: Index, answer: Option<Answer>) -> Turn<
 }
 
 // To the abort phase, with the answer.
-fn abort(
-    allocation: Allocation,
-    index: Index,
-    pending: Pending,
-    answer: Answer,
-) -> Turn<AllocPhase>
+fn abort(allocation: Allocation, index: Index, pending: Pending, answer: Answer) -> Turn<AllocPhase>
     ensures { result ≡ Turn.Moved (AllocPhase.Abort (record { allocation = allocation; index = index; pending = pending; answer = answer })) }
 {
     Turn::Moved(AllocPhase::Abort(Abort {

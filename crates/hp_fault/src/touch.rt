@@ -123,11 +123,7 @@ fn from_locked(parts: &mut Parts, phase: Locked) -> Turn<TouchPhase>
 }
 
 #[tactic(auto, using(std::proofs::lemmas::Grind::common_steps, crate::proofs::Laws::change_laws))]
-fn from_missing(
-    parts: &mut Parts,
-    grant: bool,
-    phase: Missing,
-) -> Result<Turn<TouchPhase>, Missing>
+fn from_missing(parts: &mut Parts, grant: bool, phase: Missing) -> Result<Turn<TouchPhase>, Missing>
     requires file { IsFileOf (view parts.old) phase.touch.file }
     requires in_limit { phase.touch.index < LIMIT }
     ensures row { IfOk result (λ turn. TouchMissingRow (view parts.old) grant phase turn (view parts.new)) }
@@ -196,7 +192,9 @@ fn from_taken(parts: &mut Parts, phase: Taken) -> Turn<TouchPhase>
         held,
     } = phase;
     let missing = pending.missing();
-    let added = parts.files[touch.file.number() as usize].map.commit(pending);
+    let added = parts.files[touch.file.number() as usize]
+        .map
+        .commit(pending);
     if added < missing {
         Turn::Moved(TouchPhase::Settle(Settle { touch, held }))
     } else {

@@ -1,0 +1,3 @@
+pub mod Cleared
+pub mod Leading
+pub mod Tops

@@ -1,0 +1,69 @@
+//! One function for each phase of the end of a task (Linux: `exit_mmap`).
+ghost use Rattle.std.specs.Prelude.{◌≡◌, ℕ, Some, None, true};
+ghost use Rattle.hp_base.specs.Mappings.{in_mapping};
+ghost use Rattle.hp_machine.specs.ExitRows.{ExitRow, ExitStartRow, ExitClearRow, ExitDropRow};
+ghost use Rattle.hp_fault.specs.View.{view};
+ghost use Rattle.hp_fault.specs.State.{state_of, SizesStay};
+ghost use Rattle.hp_fault.specs.Fits.{IsTaskOf};
+ghost use Rattle.hp_remove.specs.Fits.{ExitFits};
+
+use crate::pages::{clear_mapping, drop_mapping};
+use hp_base::{Answer, Task};
+use hp_fault::Parts;
+use hp_machine::Turn;
+use hp_machine::exit::{Clear, Drop, ExitPhase};
+
+/// One step of an exit. It wants no memory, and no kill is noticed in it.
+pub fn step_exit(
+    parts: &mut Parts,
+    task: Task,
+    killed: bool,
+    grant: bool,
+    phase: ExitPhase,
+) -> Turn<ExitPhase>
+    requires { ExitFits (view parts.old) task phase }
+    ensures row { ExitRow (view parts.old) task killed grant phase result (view parts.new) }
+    ensures sizes { SizesStay (state_of parts.old) (state_of parts.new) }
+{
+    let _ = (killed, grant);
+    match phase {
+        ExitPhase::Start => from_start(parts, task),
+        ExitPhase::Clear(phase) => from_clear(parts, task, phase),
+        ExitPhase::Drop(phase) => from_drop(parts, task, phase),
+        ExitPhase::Leave => Turn::Ended(Answer::Done),
+    }
+}
+
+#[tactic(auto, using(std::proofs::lemmas::Grind::common_steps, hp_fault::proofs::Laws::look_laws))]
+fn from_start(parts: &mut Parts, task: Task) -> Turn<ExitPhase>
+    requires { IsTaskOf (view parts.old) task }
+    ensures row { ExitStartRow (view parts.old) task result (view parts.new) }
+    ensures sizes { SizesStay (state_of parts.old) (state_of parts.new) }
+{
+    match parts.spaces[(task.number() - 1) as usize].first() {
+        Some(base) => Turn::Moved(ExitPhase::Clear(Clear { base })),
+        None => Turn::Moved(ExitPhase::Leave),
+    }
+}
+
+fn from_clear(parts: &mut Parts, task: Task, phase: Clear) -> Turn<ExitPhase>
+    requires { IsTaskOf (view parts.old) task }
+    ensures row { ExitClearRow (view parts.old) task phase result (view parts.new) }
+    ensures sizes { SizesStay (state_of parts.old) (state_of parts.new) }
+{
+    let Clear { base } = phase;
+    clear_mapping(parts, task, base);
+    Turn::Moved(ExitPhase::Drop(Drop { base }))
+}
+
+#[tactic(auto, using(std::proofs::lemmas::Grind::common_steps, hp_fault::proofs::Laws::look_laws, hp_base::proofs::Puts::put_same))]
+fn from_drop(parts: &mut Parts, task: Task, phase: Drop) -> Turn<ExitPhase>
+    requires task { IsTaskOf (view parts.old) task }
+    requires bare { (vpn : ℕ) → in_mapping ((view parts.old).areas task) phase.base vpn ≡ true → (view parts.old).table task vpn ≡ None }
+    ensures row { ExitDropRow (view parts.old) task phase result (view parts.new) }
+    ensures sizes { SizesStay (state_of parts.old) (state_of parts.new) }
+{
+    let Drop { base } = phase;
+    drop_mapping(parts, task, base);
+    from_start(parts, task)
+}

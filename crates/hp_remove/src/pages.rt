@@ -1,0 +1,62 @@
+//! How a page goes: its translations, and its place in the cache; and how a mapping goes.
+ghost use Rattle.std.specs.Prelude.{◌≡◌, ℕ, Some, None, true};
+ghost use Rattle.hp_base.specs.Numbers.{put, put2};
+ghost use Rattle.hp_base.specs.Mappings.{in_mapping, without, without_index};
+ghost use Rattle.hp_frames.specs.declared.frame.FrameState.TheVariants.{Hand};
+ghost use Rattle.hp_machine.specs.Parts.{cleared};
+ghost use Rattle.hp_fault.specs.View.{view};
+ghost use Rattle.hp_fault.specs.State.{state_of, SizesStay};
+ghost use Rattle.hp_fault.specs.Fits.{IsTaskOf, IsFileOf, IsPage};
+
+use hp_base::{File, Index, Task, Vpn};
+use hp_fault::Parts;
+use hp_frames::Held;
+
+/// Clears the task's entries of an index (Linux: `hugetlb_vmdelete_list`).
+#[tactic(auto, using(std::proofs::lemmas::Grind::common_steps, hp_fault::proofs::Laws::clear_laws))]
+pub fn clear_index(parts: &mut Parts, task: Task, file: File, index: Index)
+    requires { IsTaskOf (view parts.old) task }
+    ensures after { view parts.new ≡ record (view parts.old) {
+      table = put (view parts.old).table task (without_index ((view parts.old).areas task) ((view parts.old).table task) file index);
+    } }
+    ensures sizes { SizesStay (state_of parts.old) (state_of parts.new) }
+{
+    parts.spaces[(task.number() - 1) as usize].clear_index(file, index);
+}
+
+/// The page goes from the cache into the call's hand (Linux: `hugetlb_delete_from_page_cache`).
+#[tactic(auto, using(std::proofs::lemmas::Grind::common_steps, hp_fault::proofs::Laws::evict_laws))]
+pub fn evict_page(parts: &mut Parts, file: File, index: Index) -> Held
+    requires file { IsFileOf (view parts.old) file }
+    requires page { (x : ℕ) × ((view parts.old).pages file index ≡ Some x) × IsPage (view parts.old) x }
+    ensures page { (view parts.old).pages file index ≡ Some result }
+    ensures after { view parts.new ≡ record (view parts.old) {
+      pages = put2 (view parts.old).pages file index None;
+      frame = put (view parts.old).frame result Hand;
+    } }
+    ensures sizes { SizesStay (state_of parts.old) (state_of parts.new) }
+{
+    let frame = parts.files[file.number() as usize].cache.evict(index);
+    parts.bank.evict(frame)
+}
+
+/// Clears the task's entries of a mapping (Linux: `unmap_vmas`).
+#[tactic(auto, using(std::proofs::lemmas::Grind::common_steps, hp_fault::proofs::Laws::clear_laws))]
+pub fn clear_mapping(parts: &mut Parts, task: Task, base: Vpn)
+    requires { IsTaskOf (view parts.old) task }
+    ensures after { view parts.new ≡ cleared (view parts.old) task base }
+    ensures sizes { SizesStay (state_of parts.old) (state_of parts.new) }
+{
+    parts.spaces[(task.number() - 1) as usize].clear_mapping(base);
+}
+
+/// The mapping goes (Linux: `remove_vma`).
+#[tactic(auto, using(std::proofs::lemmas::Grind::common_steps, hp_fault::proofs::Laws::drop_laws))]
+pub fn drop_mapping(parts: &mut Parts, task: Task, base: Vpn)
+    requires task { IsTaskOf (view parts.old) task }
+    requires bare { (vpn : ℕ) → in_mapping ((view parts.old).areas task) base vpn ≡ true → (view parts.old).table task vpn ≡ None }
+    ensures after { view parts.new ≡ record (view parts.old) { areas = put (view parts.old).areas task (without ((view parts.old).areas task) base) } }
+    ensures sizes { SizesStay (state_of parts.old) (state_of parts.new) }
+{
+    parts.spaces[(task.number() - 1) as usize].drop_mapping(base);
+}

@@ -1,0 +1,282 @@
+//! One function for each phase of a truncation (Linux: `hugetlb_vmtruncate`, `remove_inode_hugepages`).
+ghost use Rattle.std.specs.Prelude.{◌≡◌, ◌≤◌, ◌<◌, ◌+◌, ◌^◌, ℕ, Some, max};
+ghost use Rattle.hp_base.specs.Indices.{count_within};
+ghost use Rattle.hp_base.specs.Numbers.{put};
+ghost use Rattle.hp_base.specs.Pages.{IsPagesEnd};
+ghost use Rattle.hp_machine.specs.State.{slot_of};
+ghost use Rattle.hp_machine.specs.TruncateRows.{TruncateRow, TruncateStartRow, TruncateSizeRow, TruncateWantRow, TruncateLockedRow, TruncateUnmapRow, TruncateEvictRow, TruncateFreeRow, TruncateUnslotRow, TruncateTailRow, TruncateSettleRow, TruncateLeaveRow};
+ghost use Rattle.hp_fault.specs.View.{view};
+ghost use Rattle.hp_fault.specs.State.{state_of, IsSized, SizesStay};
+ghost use Rattle.hp_fault.specs.Fits.{IsTaskOf, IsFileOf, IsHeld, IsPage};
+ghost use Rattle.hp_remove.specs.Fits.{TruncateFits};
+
+use crate::pages::{clear_index, evict_page};
+use hp_base::{Answer, File, Index, LIMIT, Task};
+use hp_fault::Parts;
+use hp_fault::shared::{carry, leave_lock, leave_slot, start, want_slot};
+use hp_machine::Turn;
+use hp_machine::truncate::{
+    Evict, Free, Leave, Locked, Settle, Size, Start, Tail, TruncatePhase, Unmap, Unslot, Want,
+};
+
+/// One step of a truncation. It wants no memory; a kill is noticed at its start alone.
+pub fn step_truncate(
+    parts: &mut Parts,
+    task: Task,
+    killed: bool,
+    grant: bool,
+    phase: TruncatePhase,
+) -> Turn<TruncatePhase>
+    requires sized { IsSized (state_of parts.old) }
+    requires fits { TruncateFits (view parts.old) task phase }
+    ensures row { TruncateRow (view parts.old) task killed grant phase result (view parts.new) }
+    ensures sizes { SizesStay (state_of parts.old) (state_of parts.new) }
+{
+    let _ = grant;
+    match phase {
+        TruncatePhase::Start(phase) => from_start(parts, task, killed, phase),
+        TruncatePhase::Size(phase) => from_size(parts, phase),
+        TruncatePhase::Want(phase) => from_want(parts, task, phase),
+        TruncatePhase::Locked(phase) => from_locked(parts, phase),
+        TruncatePhase::Unmap(phase) => from_unmap(parts, phase),
+        TruncatePhase::Evict(phase) => from_evict(parts, phase),
+        TruncatePhase::Free(phase) => from_free(parts, phase),
+        TruncatePhase::Unslot(phase) => from_unslot(parts, task, phase),
+        TruncatePhase::Tail(phase) => from_tail(parts, phase),
+        TruncatePhase::Settle(phase) => from_settle(parts, phase),
+        TruncatePhase::Leave(phase) => from_leave(parts, task, phase),
+    }
+}
+
+#[tactic(auto, using(std::proofs::lemmas::Grind::common_steps, hp_fault::proofs::Carrying::carry_start))]
+fn from_start(parts: &mut Parts, task: Task, killed: bool, phase: Start) -> Turn<TruncatePhase>
+    requires { IsSized (state_of parts.old) }
+    ensures row { TruncateStartRow (view parts.old) task killed phase result (view parts.new) }
+    ensures sizes { SizesStay (state_of parts.old) (state_of parts.new) }
+{
+    let truncation = phase.truncation;
+    let is_bad = truncation.new > LIMIT;
+    let turn = start(parts, task, killed, truncation.file, is_bad, Answer::Killed);
+    let next = TruncatePhase::Size(Size { truncation });
+    carry(turn, TruncatePhase::Start(phase), next)
+}
+
+#[tactic(auto, using(std::proofs::lemmas::Grind::common_steps, crate::proofs::Leading::size_row))]
+fn from_size(parts: &mut Parts, phase: Size) -> Turn<TruncatePhase>
+    requires { IsFileOf (view parts.old) phase.truncation.file }
+    ensures row { TruncateSizeRow (view parts.old) phase result (view parts.new) }
+    ensures sizes { SizesStay (state_of parts.old) (state_of parts.new) }
+{
+    let Size { truncation } = phase;
+    let top = set_size(parts, truncation.file, truncation.new);
+    if truncation.new < top {
+        Turn::Moved(TruncatePhase::Want(Want {
+            truncation,
+            index: Index::new(top - 1),
+            evicted: 0,
+        }))
+    } else {
+        Turn::Moved(TruncatePhase::Tail(Tail {
+            truncation,
+            evicted: 0,
+        }))
+    }
+}
+
+// Sets the file's size, and tells where the sweep begins: the larger of the old size and the end of the
+// pages.
+#[tactic(auto, using(std::proofs::lemmas::Grind::common_steps, hp_fault::proofs::Laws::size_laws, hp_fault::proofs::Laws::pages_are))]
+fn set_size(parts: &mut Parts, file: File, new: u32) -> u32
+    requires { IsFileOf (view parts.old) file }
+    ensures top { (end : ℕ) × IsPagesEnd ((view parts.old).pages file) end × (result ≡ max ((view parts.old).size file) end) }
+    ensures after { view parts.new ≡ record (view parts.old) { size = put (view parts.old).size file new } }
+    ensures sizes { SizesStay (state_of parts.old) (state_of parts.new) }
+{
+    let file = &mut parts.files[file.number() as usize];
+    let top = file.size.max(file.cache.top());
+    file.size = new;
+    top
+}
+
+#[tactic(auto, using(std::proofs::lemmas::Grind::common_steps, hp_fault::proofs::Carrying::carry_want))]
+fn from_want(parts: &mut Parts, task: Task, phase: Want) -> Turn<TruncatePhase>
+    ensures row { TruncateWantRow (view parts.old) task phase result (view parts.new) }
+    ensures sizes { SizesStay (state_of parts.old) (state_of parts.new) }
+{
+    let (truncation, index, evicted) = (phase.truncation, phase.index, phase.evicted);
+    let turn = want_slot(parts, task, truncation.file, index);
+    let next = TruncatePhase::Locked(Locked {
+        truncation,
+        index,
+        evicted,
+    });
+    carry(turn, TruncatePhase::Want(phase), next)
+}
+
+#[tactic(auto, using(std::proofs::lemmas::Grind::common_steps, hp_fault::proofs::Laws::page_laws))]
+fn from_locked(parts: &mut Parts, phase: Locked) -> Turn<TruncatePhase>
+    requires { IsFileOf (view parts.old) phase.truncation.file }
+    ensures row { TruncateLockedRow (view parts.old) phase result (view parts.new) }
+    ensures sizes { SizesStay (state_of parts.old) (state_of parts.new) }
+{
+    let Locked {
+        truncation,
+        index,
+        evicted,
+    } = phase;
+    match parts.files[truncation.file.number() as usize]
+        .cache
+        .get(index)
+    {
+        Some(_) => Turn::Moved(TruncatePhase::Unmap(Unmap {
+            truncation,
+            index,
+            evicted,
+            task: Task::new(1),
+        })),
+        None => Turn::Moved(TruncatePhase::Unslot(Unslot {
+            truncation,
+            index,
+            evicted,
+        })),
+    }
+}
+
+fn from_unmap(parts: &mut Parts, phase: Unmap) -> Turn<TruncatePhase>
+    requires task { IsTaskOf (view parts.old) phase.task }
+    requires few { (view parts.old).geometry.tasks < 2 ^ 32 }
+    ensures row { TruncateUnmapRow (view parts.old) phase result (view parts.new) }
+    ensures sizes { SizesStay (state_of parts.old) (state_of parts.new) }
+{
+    let Unmap {
+        truncation,
+        index,
+        evicted,
+        task,
+    } = phase;
+    clear_index(parts, task, truncation.file, index);
+    if (task.number() as usize) < parts.spaces.len() {
+        Turn::Moved(TruncatePhase::Unmap(Unmap {
+            truncation,
+            index,
+            evicted,
+            task: Task::new(task.number() + 1),
+        }))
+    } else {
+        Turn::Moved(TruncatePhase::Evict(Evict {
+            truncation,
+            index,
+            evicted,
+        }))
+    }
+}
+
+fn from_evict(parts: &mut Parts, phase: Evict) -> Turn<TruncatePhase>
+    requires file { IsFileOf (view parts.old) phase.truncation.file }
+    requires page { (x : ℕ) × ((view parts.old).pages phase.truncation.file phase.index ≡ Some x) × IsPage (view parts.old) x }
+    requires few { phase.evicted ≤ LIMIT }
+    ensures row { TruncateEvictRow (view parts.old) phase result (view parts.new) }
+    ensures sizes { SizesStay (state_of parts.old) (state_of parts.new) }
+{
+    let Evict {
+        truncation,
+        index,
+        evicted,
+    } = phase;
+    let held = evict_page(parts, truncation.file, index);
+    Turn::Moved(TruncatePhase::Free(Free {
+        truncation,
+        index,
+        evicted: evicted + 1,
+        held,
+    }))
+}
+
+#[tactic(auto, using(std::proofs::lemmas::Grind::common_steps, hp_fault::proofs::Laws::frame_laws))]
+fn from_free(parts: &mut Parts, phase: Free) -> Turn<TruncatePhase>
+    requires { IsHeld (view parts.old) phase.held }
+    ensures row { TruncateFreeRow (view parts.old) phase result (view parts.new) }
+    ensures sizes { SizesStay (state_of parts.old) (state_of parts.new) }
+{
+    let Free {
+        truncation,
+        index,
+        evicted,
+        held,
+    } = phase;
+    parts.bank.give(held);
+    Turn::Moved(TruncatePhase::Unslot(Unslot {
+        truncation,
+        index,
+        evicted,
+    }))
+}
+
+fn from_unslot(parts: &mut Parts, task: Task, phase: Unslot) -> Turn<TruncatePhase>
+    requires { (view parts.old).slots (slot_of (view parts.old).geometry phase.truncation.file phase.index) ≡ Some task }
+    ensures row { TruncateUnslotRow (view parts.old) phase result (view parts.new) }
+    ensures sizes { SizesStay (state_of parts.old) (state_of parts.new) }
+{
+    let Unslot {
+        truncation,
+        index,
+        evicted,
+    } = phase;
+    leave_slot(parts, task, truncation.file, index);
+    if truncation.new < index.number() {
+        Turn::Moved(TruncatePhase::Want(Want {
+            truncation,
+            index: Index::new(index.number() - 1),
+            evicted,
+        }))
+    } else {
+        Turn::Moved(TruncatePhase::Tail(Tail {
+            truncation,
+            evicted,
+        }))
+    }
+}
+
+#[tactic(auto, using(std::proofs::lemmas::Grind::common_steps, hp_fault::proofs::Laws::tail_laws))]
+fn from_tail(parts: &mut Parts, phase: Tail) -> Turn<TruncatePhase>
+    requires file { IsFileOf (view parts.old) phase.truncation.file }
+    requires evicted { phase.evicted ≤ count_within ((view parts.old).reserved phase.truncation.file) phase.truncation.new LIMIT }
+    ensures row { TruncateTailRow (view parts.old) phase result (view parts.new) }
+    ensures sizes { SizesStay (state_of parts.old) (state_of parts.new) }
+{
+    let Tail {
+        truncation,
+        evicted,
+    } = phase;
+    let file = &mut parts.files[truncation.file.number() as usize];
+    let removed = file.map.remove_tail(Index::new(truncation.new));
+    let surplus = removed - evicted;
+    Turn::Moved(TruncatePhase::Settle(Settle {
+        truncation,
+        surplus,
+    }))
+}
+
+#[tactic(auto, using(std::proofs::lemmas::Grind::common_steps))]
+fn from_settle(parts: &mut Parts, phase: Settle) -> Turn<TruncatePhase>
+    requires { phase.surplus ≤ (view parts.old).resv }
+    ensures row { TruncateSettleRow (view parts.old) phase result (view parts.new) }
+    ensures sizes { SizesStay (state_of parts.old) (state_of parts.new) }
+{
+    let Settle {
+        truncation,
+        surplus,
+    } = phase;
+    parts.bank.settle(surplus);
+    Turn::Moved(TruncatePhase::Leave(Leave { truncation }))
+}
+
+fn from_leave(parts: &mut Parts, task: Task, phase: Leave) -> Turn<TruncatePhase>
+    requires { (view parts.old).locks phase.truncation.file ≡ Some task }
+    ensures row { TruncateLeaveRow (view parts.old) phase result (view parts.new) }
+    ensures sizes { SizesStay (state_of parts.old) (state_of parts.new) }
+{
+    let Leave { truncation } = phase;
+    leave_lock(parts, task, truncation.file);
+    Turn::Ended(Answer::Done)
+}
