@@ -4,16 +4,16 @@ use Rattle.std.proofs.Math.Path.{fun_ext}
 use Rattle.std.specs.FinMap as map
 use Rattle.std.specs.FinMap.{from_sorted, is_sorted}
 use Rattle.std.specs.Ordering.{nat_cmp}
-use Rattle.hp_base.specs.Indices.{is_within}
-use Rattle.hp_table.proofs.Mapped.{ends_in_space}
-use Rattle.hp_table.proofs.PageTable.{get-cleared}
 use Rattle.std.specs.Prelude.{filter, IsTrue, nat_le, nat_lt, if◌then◌else◌}
 use Rattle.std.specs.List.{position, position_or_len, prefix_len, remove}
 use Rattle.std.proofs.lemmas.Bool.{leb-false, ltb-true, ltb-false, lt-ltb, le-ltb}
 use Rattle.std.proofs.lemmas.List.Sums.{prefix_len-le-length}
 use Rattle.std.proofs.lemmas.Bool.Decides.{nat_tests}
+use Rattle.hp_base.specs.Indices.{is_within}
 use Rattle.hp_base.specs.declared.mapping.Mapping.{Mapping}
 use Rattle.hp_base.specs.Mappings.{covers, in_mapping, without, without_mapping, IsSpread}
+use Rattle.hp_table.proofs.Mapped.{ends_in_space}
+use Rattle.hp_table.proofs.PageTable.{get-cleared}
 use Rattle.hp_table.proofs.Spread.{begins, past_first}
 
 -- whether a mapping begins at a page
@@ -75,7 +75,7 @@ pub position_there : {A : Type 0} (p : A → Bool) (xs : List A) (k : ℕ) (b : 
 position_there p xs k true within there = position_some p xs k within there
 position_there p xs k false within none = position_none p xs none
 
-pub place_found : {A : Type 0} (p : A → Bool) (xs : List A) (k : ℕ) → Some k ≡ position p xs → (position_or_len p xs ≡ k) × (k < length xs)
+place_found : {A : Type 0} (p : A → Bool) (xs : List A) (k : ℕ) → Some k ≡ position p xs → (position_or_len p xs ≡ k) × (k < length xs)
 place_found p xs k =
     elim (nat_lt (position_or_len p xs) (length xs)) as (λ b. nat_lt (position_or_len p xs) (length xs) ≡ b → Some k ≡ cond b (Some (position_or_len p xs)) None → (position_or_len p xs ≡ k) × (k < length xs)) [
       | true ↦ λ e found.
@@ -85,7 +85,7 @@ place_found p xs k =
       | false ↦ λ e found. let d : ◌≡◌ {A = Option ℕ} (Some k) None = found in absurd (cc)
     ] refl
 
-pub place_absent : {A : Type 0} (p : A → Bool) (xs : List A) → None ≡ position p xs → position_or_len p xs ≡ length xs
+place_absent : {A : Type 0} (p : A → Bool) (xs : List A) → None ≡ position p xs → position_or_len p xs ≡ length xs
 place_absent p xs =
     elim (nat_lt (position_or_len p xs) (length xs)) as (λ b. nat_lt (position_or_len p xs) (length xs) ≡ b → None ≡ cond b (Some (position_or_len p xs)) None → position_or_len p xs ≡ length xs) [
       | true ↦ λ e absent. let d : ◌≡◌ {A = Option ℕ} None (Some (position_or_len p xs)) = absent in absurd (cc)
@@ -96,7 +96,7 @@ place_absent p xs =
     ] refl
 
 -- the mapping at that place is the one that begins there
-pub base_at : (ms : List Mapping) (base k : ℕ) (d : Mapping) → position_or_len (begins_at base) ms ≡ k → k < length ms → (get_or ms k d).base ≡ base
+base_at : (ms : List Mapping) (base k : ℕ) (d : Mapping) → position_or_len (begins_at base) ms ≡ k → k < length ms → (get_or ms k d).base ≡ base
 base_at [] base k d place within = absurd (omega arith)
 base_at (m ∷ ms) base k d place within = here (λ j place within. base_at ms base j d place within) (m.base == base) refl k place within
   where
@@ -109,7 +109,7 @@ base_at (m ∷ ms) base k d place within = here (λ j place within. base_at ms b
     here rest false e zero place within = absurd (omega arith)
     here rest false e (suc k) place within = rest k (omega arith) (omega arith)
 
-pub in_mapping-at : (ms : List Mapping) (base k : ℕ) (d : Mapping) (v : ℕ) → position_or_len (begins_at base) ms ≡ k → k < length ms → in_mapping ms base v ≡ covers (get_or ms k d) v
+in_mapping-at : (ms : List Mapping) (base k : ℕ) (d : Mapping) (v : ℕ) → position_or_len (begins_at base) ms ≡ k → k < length ms → in_mapping ms base v ≡ covers (get_or ms k d) v
 in_mapping-at [] base k d v place within = absurd (omega arith)
 in_mapping-at (m ∷ ms) base k d v place within = here (λ j place within. in_mapping-at ms base j d v place within) (m.base == base) k place within
   where
@@ -119,7 +119,7 @@ in_mapping-at (m ∷ ms) base k d v place within = here (λ j place within. in_m
     here rest false zero place within = absurd (omega arith)
     here rest false (suc k) place within = rest k (omega arith) (omega arith)
 
-pub in_mapping-none : (ms : List Mapping) (base v : ℕ) → position_or_len (begins_at base) ms ≡ length ms → in_mapping ms base v ≡ false
+in_mapping-none : (ms : List Mapping) (base v : ℕ) → position_or_len (begins_at base) ms ≡ length ms → in_mapping ms base v ≡ false
 in_mapping-none [] base v none = refl
 in_mapping-none (m ∷ ms) base v none = here (λ none. in_mapping-none ms base v none) (m.base == base) none
   where
@@ -127,7 +127,7 @@ in_mapping-none (m ∷ ms) base v none = here (λ none. in_mapping-none ms base 
     here rest true none = absurd (omega arith)
     here rest false none = rest (omega arith)
 
-pub without-at : (ms : List Mapping) (base k : ℕ) → position_or_len (begins_at base) ms ≡ k → k < length ms → without ms base ≡ remove ms k
+without-at : (ms : List Mapping) (base k : ℕ) → position_or_len (begins_at base) ms ≡ k → k < length ms → without ms base ≡ remove ms k
 without-at [] base k place within = absurd (omega arith)
 without-at (m ∷ ms) base k place within = here (λ j place within. without-at ms base j place within) (m.base == base) k place within
   where
@@ -137,7 +137,7 @@ without-at (m ∷ ms) base k place within = here (λ j place within. without-at 
     here rest false zero place within = absurd (omega arith)
     here rest false (suc k) place within = ap (λ xs. m ∷ xs) (rest k (omega arith) (omega arith))
 
-pub without-none : (ms : List Mapping) (base : ℕ) → position_or_len (begins_at base) ms ≡ length ms → without ms base ≡ ms
+without-none : (ms : List Mapping) (base : ℕ) → position_or_len (begins_at base) ms ≡ length ms → without ms base ≡ ms
 without-none [] base none = refl
 without-none (m ∷ ms) base none = here (λ none. without-none ms base none) (m.base == base) none
   where

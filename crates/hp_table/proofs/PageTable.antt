@@ -170,7 +170,7 @@ put_cons v f e es new at o rest true p c q none =
 put_cons v f e es new at o rest false p true q none = let d : ◌≡◌ {A = Option ℕ} (Some e.1) None = sym (ap (λ (t : Bool). cond t (Some e.1) o) (tie v e.0 ∙ q)) ∙ none in cc
 put_cons v f e es new at o rest false p false q none = rw (compared v e.0 false false p q) refl
 
-pub put-insert : (es : List (ℕ × ℕ)) (v f : ℕ) → find nat_cmp v es ≡ None → put nat_cmp v f es ≡ insert es (prefix_len (stands_before v) es) (v, f)
+put-insert : (es : List (ℕ × ℕ)) (v f : ℕ) → find nat_cmp v es ≡ None → put nat_cmp v f es ≡ insert es (prefix_len (stands_before v) es) (v, f)
 put-insert [] v f bare = refl
 put-insert (e ∷ es) v f bare = put_cons v f e es (put nat_cmp v f es) (prefix_len (stands_before v) es) (find nat_cmp v es) (λ none. put-insert es v f none) (nat_lt e.0 v) refl (v == e.0) refl bare
 
@@ -197,7 +197,7 @@ turned : (b : Bool) (o : Option ℕ) → cond (not b) o None ≡ (if b then None
 turned true o = refl
 turned false o = refl
 
-pub find-cleared : (gone : ℕ → Bool) (es : List (ℕ × ℕ)) (v : ℕ) → find nat_cmp v (filter (λ e. not (gone e.0)) es) ≡ (if gone v then None else find nat_cmp v es)
+find-cleared : (gone : ℕ → Bool) (es : List (ℕ × ℕ)) (v : ℕ) → find nat_cmp v (filter (λ e. not (gone e.0)) es) ≡ (if gone v then None else find nat_cmp v es)
 find-cleared gone es v = find-where_key nat_cmp (λ k. not (gone k)) v (λ k same. ap (λ (j : ℕ). not (gone j)) (sym (nat_cmp-IsAntisymmetric v k same))) es ∙ turned (gone v) (find nat_cmp v es)
 
 pub get-cleared : (gone : ℕ → Bool) (es : List (ℕ × ℕ)) (v : ℕ) → IsTrue (is_sorted nat_cmp es) → map.get (from_sorted {R = nat_cmp} (filter (λ e. not (gone e.0)) es)) v ≡ (if gone v then None else map.get (from_sorted {R = nat_cmp} es) v)

@@ -3,8 +3,8 @@
 //!
 //! It stands on hp_base. A space is seen as the list of its mappings in order of their bases, the
 //! finite map of its entries from virtual page to frame, and whether room for a mapping is prepared.
-//! Its mappings share no page and end within the space. It knows neither what a file holds nor who
-//! owns a frame.
+//! Its mappings share no page and end within the space, and each entry lies in one of them. It knows
+//! neither what a file holds nor who owns a frame.
 #![tactic(auto)]
 
 mod entries;

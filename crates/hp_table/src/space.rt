@@ -14,7 +14,7 @@ use std::marker::Model;
 pub struct Space {
     // in order of their bases
     mappings: Vec<Mapping>,
-    // in order of the virtual pages
+    // in order of the virtual pages, each of which lies in a mapping
     entries: Vec<(Vpn, Frame)>,
     // whether room for one mapping more is prepared
     ready: bool,
