@@ -1,7 +1,10 @@
 -- What a step takes for granted holds of every core: each of its facts is one of every state that the
 -- machine reaches.
-use Rattle.std.proofs.Common.{◌≡◌, ℕ, ◌≤◌, refl, ap}
-use Rattle.std.specs.Prelude.{Option, Some, None, IfSome, IsSome, is_some}
+use Rattle.std.proofs.Common.{◌≡◌, ℕ, ◌+◌, ◌<◌, ◌≤◌, ◌^◌, refl, ap, sym, ◌∙◌, true≢false, arith}
+use Rattle.std.specs.Prelude.{Bool, true, false, Option, Some, None, IfSome, IsSome, is_some}
+use Rattle.hp_base.specs.Indices.{count_within}
+use Rattle.hp_base.specs.Mappings.{in_mapping}
+use Rattle.hp_base.proofs.Counting.{count_within-missing}
 use Rattle.hp_base.specs.declared.event.Event.{Event}
 use Rattle.hp_base.specs.declared.event.Event.TheVariants.{Begin, Step, Kill}
 use Rattle.hp_machine.specs.State.{State, pool_of}
@@ -10,13 +13,27 @@ use Rattle.hp_machine.specs.declared.map.MapPhase.{MapPhase}
 use Rattle.hp_machine.specs.declared.map.MapPhase.TheVariants as map
 use Rattle.hp_machine.specs.declared.touch.TouchPhase.{TouchPhase}
 use Rattle.hp_machine.specs.declared.touch.TouchPhase.TheVariants as touch
+use Rattle.hp_machine.specs.declared.alloc.AllocPhase.{AllocPhase}
+use Rattle.hp_machine.specs.declared.alloc.AllocPhase.TheVariants as alloc
+use Rattle.hp_machine.specs.declared.punch.PunchPhase.{PunchPhase}
+use Rattle.hp_machine.specs.declared.punch.PunchPhase.TheVariants as punch
+use Rattle.hp_machine.specs.declared.truncate.TruncatePhase.{TruncatePhase}
+use Rattle.hp_machine.specs.declared.truncate.TruncatePhase.TheVariants as truncate
+use Rattle.hp_machine.specs.declared.unmap.UnmapPhase.{UnmapPhase}
+use Rattle.hp_machine.specs.declared.unmap.UnmapPhase.TheVariants as unmap
+use Rattle.hp_machine.specs.declared.exit.ExitPhase.{ExitPhase}
+use Rattle.hp_machine.specs.declared.exit.ExitPhase.TheVariants as exit
 use Rattle.hp_machine.specs.declared.call.Call.{Call}
 use Rattle.hp_machine.specs.declared.call.Call.TheVariants as call
 use Rattle.hp_laws.proofs.Meets.{task_there, busy_lives, entry_placed, touch_stands, map_stands}
-use Rattle.hp_fault.specs.Fits.{MapFits, TouchFits, IsTaskOf, IsPage}
+use Rattle.hp_laws.proofs.Meets as laws
+use Rattle.hp_fault.specs.Fits.{MapFits, TouchFits, AllocFits, IsTaskOf, IsPage}
+use Rattle.hp_remove.specs.Fits.{PunchFits, TruncateFits, UnmapFits, ExitFits}
+use Rattle.hp_remove.specs.Fits as remove
 use Rattle.hp_core.specs.State.{CoreState, seat_at, calls_of, as_state}
 use Rattle.hp_core.specs.Fits.{CallFits, EventFits}
-use Rattle.hp_core.specs.Sound.{IsSound, IsKept, IsBuiltCall}
+use Rattle.hp_core.specs.Sound.{IsSound, IsKept}
+use Rattle.hp_core.proofs.Reading.{few_tasks}
 
 -- a task with a call in flight is there
 is_task : (s : State) (t : ℕ) (c : Call) → IsReached s → s.calls t ≡ Some c → IsTaskOf (pool_of s) t
@@ -72,21 +89,93 @@ map_fits s t (map.Enter p) reached e =
     }
 map_fits s t (map.Leave p) reached e = (map_stands s t _ reached e).lock
 
-call_fits : (s : CoreState) (t : ℕ) (c : Call) → IsReached (as_state s) → IsKept s → (as_state s).calls t ≡ Some c → IsBuiltCall c → CallFits s.parts t c
-call_fits s t (call.Touch phase) reached kept e built = touch_fits (as_state s) t phase reached e
-call_fits s t (call.Map phase) reached kept e built = (kept.locks, map_fits (as_state s) t phase reached e)
-call_fits s t (call.Alloc phase) reached kept e built = built
-call_fits s t (call.Punch phase) reached kept e built = built
-call_fits s t (call.Truncate phase) reached kept e built = built
-call_fits s t (call.Unmap phase) reached kept e built = built
-call_fits s t (call.Exit phase) reached kept e built = built
+-- the page of an index, as a step asks for it
+page_at : (s : State) (f i : ℕ) → laws.HasPage s f i → remove.HasPage (pool_of s) f i
+page_at s f i h = (h.0, h.2, (h.4, (h.1, h.3)))
 
-step_fits : (s : CoreState) (t : ℕ) (o : Option Call) → IsReached (as_state s) → IsKept s → (as_state s).calls t ≡ o → IfSome o IsBuiltCall → IfSome o (λ c. CallFits s.parts t c)
-step_fits s t None reached kept e built = tt
-step_fits s t (Some c) reached kept e built = call_fits s t c reached kept e built
+alloc_fits : (s : State) (t : ℕ) (phase : AllocPhase) → IsReached s → s.calls t ≡ Some (call.Alloc phase) → AllocFits (pool_of s) t phase
+alloc_fits s t (alloc.Start p) reached e = tt
+alloc_fits s t (alloc.Head p) reached e = tt
+alloc_fits s t (alloc.Want p) reached e = tt
+alloc_fits s t (alloc.Locked p) reached e = (laws.alloc_stands s t _ reached e).file
+alloc_fits s t (alloc.Missing p) reached e = let h = laws.alloc_stands s t _ reached e in (h.file, h.index)
+alloc_fits s t (alloc.Changed p) reached e = (laws.alloc_stands s t _ reached e).enough
+alloc_fits s t (alloc.Abort p) reached e = let h = laws.alloc_stands s t _ reached e in (h.file, h.pending)
+alloc_fits s t (alloc.Taken p) reached e = let h = laws.alloc_stands s t _ reached e in (h.file, h.pending)
+alloc_fits s t (alloc.Settle p) reached e = (laws.alloc_stands s t _ reached e).enough
+alloc_fits s t (alloc.Committed p) reached e = let h = laws.alloc_stands s t _ reached e in record { file = h.file; in_limit = h.index; bare = h.bare; held = (h.hand.1, h.hand.0) }
+alloc_fits s t (alloc.Restore p) reached e = let h = laws.alloc_stands s t _ reached e in (h.hand.1, h.hand.0)
+alloc_fits s t (alloc.Unslot p) reached e = let h = laws.alloc_stands s t _ reached e in record { slot = h.slot; in_limit = h.range; index = h.index }
+alloc_fits s t (alloc.Extend p) reached e = let h = laws.alloc_stands s t _ reached e in (h.file, h.range)
+alloc_fits s t (alloc.Leave p) reached e = (laws.alloc_stands s t _ reached e).lock
+
+punch_fits : (s : State) (t : ℕ) (phase : PunchPhase) → IsReached s → s.geometry.tasks < 2 ^ 32 → s.calls t ≡ Some (call.Punch phase) → PunchFits (pool_of s) t phase
+punch_fits s t (punch.Start p) reached few e = tt
+punch_fits s t (punch.Want p) reached few e = tt
+punch_fits s t (punch.Locked p) reached few e = (laws.punch_stands s t _ reached e).file
+punch_fits s t (punch.Unmap p) reached few e = ((laws.punch_stands s t _ reached e).task, few)
+punch_fits s t (punch.Evict p) reached few e = let h = laws.punch_stands s t _ reached e in (h.file, page_at s p.hole.file p.index h.page)
+punch_fits s t (punch.Delete p) reached few e = ((laws.punch_stands s t _ reached e).file, laws.pending_spared s p.hole.file reached)
+punch_fits s t (punch.Free p) reached few e = let h = laws.punch_stands s t _ reached e in (h.hand.1, h.hand.0)
+punch_fits s t (punch.Unslot p) reached few e = let h = laws.punch_stands s t _ reached e in record { slot = h.slot; in_limit = h.range; index = h.index }
+punch_fits s t (punch.Leave p) reached few e = (laws.punch_stands s t _ reached e).lock
+
+-- what was evicted fits in the limit
+few_evicted : (r : ℕ → Bool) (from limit evicted : ℕ) → evicted ≤ count_within r from limit → evicted ≤ limit
+few_evicted r from limit evicted l = let all = count_within-missing r from limit in omega (arith, all, l)
+
+truncate_fits : (s : State) (t : ℕ) (phase : TruncatePhase) → IsReached s → s.geometry.tasks < 2 ^ 32 → s.calls t ≡ Some (call.Truncate phase) → TruncateFits (pool_of s) t phase
+truncate_fits s t (truncate.Start p) reached few e = tt
+truncate_fits s t (truncate.Size p) reached few e = (laws.truncate_stands s t _ reached e).file
+truncate_fits s t (truncate.Want p) reached few e = tt
+truncate_fits s t (truncate.Locked p) reached few e = (laws.truncate_stands s t _ reached e).file
+truncate_fits s t (truncate.Unmap p) reached few e = ((laws.truncate_stands s t _ reached e).task, few)
+truncate_fits s t (truncate.Evict p) reached few e =
+    let h = laws.truncate_stands s t _ reached e in (h.file, page_at s p.truncation.file p.index h.page, few_evicted (s.reserved p.truncation.file) (p.index + 1) s.geometry.limit p.evicted h.evicted)
+truncate_fits s t (truncate.Free p) reached few e = let h = laws.truncate_stands s t _ reached e in (h.hand.1, h.hand.0)
+truncate_fits s t (truncate.Unslot p) reached few e = (laws.truncate_stands s t _ reached e).slot
+truncate_fits s t (truncate.Tail p) reached few e = let h = laws.truncate_stands s t _ reached e in (h.file, h.evicted)
+truncate_fits s t (truncate.Settle p) reached few e = (laws.truncate_stands s t _ reached e).enough
+truncate_fits s t (truncate.Leave p) reached few e = (laws.truncate_stands s t _ reached e).lock
+
+-- a mapping whose entries were cleared has none
+cleared : (s : State) (t base : ℕ) → ((v x : ℕ) → s.table t v ≡ Some x → in_mapping (s.areas t) base v ≡ false) → remove.IsCleared (pool_of s) t base
+cleared s t base empty v within = by_entry (s.table t v) refl
+  where
+    by_entry : (o : Option ℕ) → s.table t v ≡ o → s.table t v ≡ None
+    by_entry None e = e
+    by_entry (Some x) e = absurd (true≢false (sym within ∙ empty v x e))
+
+unmap_fits : (s : State) (t : ℕ) (phase : UnmapPhase) → IsReached s → s.calls t ≡ Some (call.Unmap phase) → UnmapFits (pool_of s) t phase
+unmap_fits s t (unmap.Start p) reached e = is_task s t _ reached e
+unmap_fits s t (unmap.Clear p) reached e = is_task s t _ reached e
+unmap_fits s t (unmap.Drop p) reached e = (is_task s t _ reached e, cleared s t p.base (laws.unmap_stands s t _ reached e).empty)
+
+exit_fits : (s : State) (t : ℕ) (phase : ExitPhase) → IsReached s → s.calls t ≡ Some (call.Exit phase) → ExitFits (pool_of s) t phase
+exit_fits s t exit.Start reached e = is_task s t _ reached e
+exit_fits s t (exit.Clear p) reached e = is_task s t _ reached e
+exit_fits s t (exit.Drop p) reached e = (is_task s t _ reached e, cleared s t p.base (laws.exit_stands s t _ reached e).empty)
+exit_fits s t exit.Leave reached e = tt
+
+-- tasks are few
+few_there : (s : CoreState) → IsKept s → (as_state s).geometry.tasks < 2 ^ 32
+few_there s kept = let all = kept.spaces in let few = few_tasks s.sizes.frames s.sizes.files s.sizes.slots s.sizes.tasks kept.limits in omega (arith, all, few)
+
+call_fits : (s : CoreState) (t : ℕ) (c : Call) → IsReached (as_state s) → IsKept s → (as_state s).calls t ≡ Some c → CallFits s.parts t c
+call_fits s t (call.Touch phase) reached kept e = touch_fits (as_state s) t phase reached e
+call_fits s t (call.Map phase) reached kept e = (kept.locks, map_fits (as_state s) t phase reached e)
+call_fits s t (call.Alloc phase) reached kept e = (kept.locks, alloc_fits (as_state s) t phase reached e)
+call_fits s t (call.Punch phase) reached kept e = (kept.locks, punch_fits (as_state s) t phase reached (few_there s kept) e)
+call_fits s t (call.Truncate phase) reached kept e = (kept.locks, truncate_fits (as_state s) t phase reached (few_there s kept) e)
+call_fits s t (call.Unmap phase) reached kept e = unmap_fits (as_state s) t phase reached e
+call_fits s t (call.Exit phase) reached kept e = exit_fits (as_state s) t phase reached e
+
+step_fits : (s : CoreState) (t : ℕ) (o : Option Call) → IsReached (as_state s) → IsKept s → (as_state s).calls t ≡ o → IfSome o (λ c. CallFits s.parts t c)
+step_fits s t None reached kept e = tt
+step_fits s t (Some c) reached kept e = call_fits s t c reached kept e
 
 pub fits_from_sound : (s : CoreState) (e : Event) → IsSound s → EventFits s.parts s.seats e
 unfolding IsSound calls_of
 fits_from_sound s (Begin t op) h = tt
-fits_from_sound s (Step t grant) h = step_fits s t (seat_at s.seats t).call h.0 h.1 refl (h.1.built t)
+fits_from_sound s (Step t grant) h = step_fits s t (seat_at s.seats t).call h.0 h.1 refl
 fits_from_sound s (Kill t) h = tt

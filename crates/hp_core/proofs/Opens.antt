@@ -28,7 +28,7 @@ use Rattle.hp_fault.specs.View.{no_file, no_table, table_of, holders_of, sizes_o
 use Rattle.hp_core.specs.declared.seat.Seat.{Seat}
 use Rattle.hp_core.specs.State.{CoreState, seat_at, no_seat, calls_of, lives_of, state_with, as_state}
 use Rattle.hp_core.specs.Opening.{IsFresh, IsVacant}
-use Rattle.hp_core.specs.Sound.{IsSound, IsKept, IsBuiltCall}
+use Rattle.hp_core.specs.Sound.{IsSound, IsKept}
 use Rattle.hp_core.specs.Runs.{IsOpening, geometry}
 
 -- what stands in a list of equal things, at a default that is one of them
@@ -191,7 +191,6 @@ module _ (z : Sizes) (p : PartsState) (seats : List Seat) (h : AreFresh z p seat
       spaces = h.spaces_long;
       seats = h.seats_long;
       limits = within;
-      built = λ t. subst (λ (o : Option _). IfSome o IsBuiltCall) (ap (λ (f : ℕ → Option _). f t) (sym calls_are)) tt;
     },
   )
 

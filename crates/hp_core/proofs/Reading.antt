@@ -38,7 +38,7 @@ seat_read s n task y h e low high is =
     let q : (task == 0) ≡ false = ne_eqb task 0 (λ z. omega (arith, z, low)) in
     rw q (is ∙ (get_or_default s.seats (n - 1) y no_seat (seat_in s n task h e low high) ∙ ap (λ (k : ℕ). get_or s.seats (k - 1) no_seat) e))
 
-few_tasks : (a b c d : ℕ) → IsWithinLimits a b c d → d ≤ 64
+pub few_tasks : (a b c d : ℕ) → IsWithinLimits a b c d → d ≤ 64
 few_tasks a b c d h = grind (arith, nat_tests, h)
 
 pub few_seats : (s : CoreState) → IsSound s → length s.seats ≤ 64

@@ -5,8 +5,18 @@ use Rattle.hp_machine.specs.State.{Pool}
 use Rattle.hp_machine.specs.Events.{CallRow, TurnRow}
 use Rattle.hp_machine.specs.TouchRows.{TouchRow}
 use Rattle.hp_machine.specs.MapRows.{MapRow}
+use Rattle.hp_machine.specs.ExitRows.{ExitRow}
+use Rattle.hp_machine.specs.UnmapRows.{UnmapRow}
+use Rattle.hp_machine.specs.TruncateRows.{TruncateRow}
+use Rattle.hp_machine.specs.PunchRows.{PunchRow}
+use Rattle.hp_machine.specs.AllocRows.{AllocRow}
 use Rattle.hp_machine.specs.declared.touch.TouchPhase.{TouchPhase}
 use Rattle.hp_machine.specs.declared.map.MapPhase.{MapPhase}
+use Rattle.hp_machine.specs.declared.alloc.AllocPhase.{AllocPhase}
+use Rattle.hp_machine.specs.declared.punch.PunchPhase.{PunchPhase}
+use Rattle.hp_machine.specs.declared.truncate.TruncatePhase.{TruncatePhase}
+use Rattle.hp_machine.specs.declared.unmap.UnmapPhase.{UnmapPhase}
+use Rattle.hp_machine.specs.declared.exit.ExitPhase.{ExitPhase}
 use Rattle.hp_machine.specs.declared.call.Call.{Call}
 use Rattle.hp_machine.specs.declared.call.Call.TheVariants as call
 use Rattle.hp_machine.specs.declared.call.Stopped.{Stopped}
@@ -32,3 +42,23 @@ touch_row s t killed grant p new stepped done e h = finished_row call.Touch (Tou
 pub map_row : (s : Pool) (t : ℕ) (killed grant : Bool) (p : MapPhase) (new : Pool) (stepped : Result (Turn MapPhase) (Stopped MapPhase)) (done : Done) → done ≡ finished call.Map stepped → IfOk stepped (λ turn. MapRow s t killed grant p turn new) → IfOk done (λ d. CallRow s t killed grant (call.Map p) d.0 new d.1)
 unfolding CallRow
 map_row s t killed grant p new stepped done e h = finished_row call.Map (MapRow s t killed grant p) new stepped done e h
+
+pub alloc_row : (s : Pool) (t : ℕ) (killed grant : Bool) (p : AllocPhase) (new : Pool) (stepped : Result (Turn AllocPhase) (Stopped AllocPhase)) (done : Done) → done ≡ finished call.Alloc stepped → IfOk stepped (λ turn. AllocRow s t killed grant p turn new) → IfOk done (λ d. CallRow s t killed grant (call.Alloc p) d.0 new d.1)
+unfolding CallRow
+alloc_row s t killed grant p new stepped done e h = finished_row call.Alloc (AllocRow s t killed grant p) new stepped done e h
+
+pub punch_row : (s : Pool) (t : ℕ) (killed grant : Bool) (p : PunchPhase) (new : Pool) (stepped : Result (Turn PunchPhase) (Stopped PunchPhase)) (done : Done) → done ≡ finished call.Punch stepped → IfOk stepped (λ turn. PunchRow s t killed grant p turn new) → IfOk done (λ d. CallRow s t killed grant (call.Punch p) d.0 new d.1)
+unfolding CallRow
+punch_row s t killed grant p new stepped done e h = finished_row call.Punch (PunchRow s t killed grant p) new stepped done e h
+
+pub truncate_row : (s : Pool) (t : ℕ) (killed grant : Bool) (p : TruncatePhase) (new : Pool) (turn : Turn TruncatePhase) (done : Done) → done ≡ finished call.Truncate (Ok turn) → TruncateRow s t killed grant p turn new → IfOk done (λ d. CallRow s t killed grant (call.Truncate p) d.0 new d.1)
+unfolding CallRow
+truncate_row s t killed grant p new turn done e h = finished_row call.Truncate (TruncateRow s t killed grant p) new (Ok turn) done e h
+
+pub unmap_row : (s : Pool) (t : ℕ) (killed grant : Bool) (p : UnmapPhase) (new : Pool) (turn : Turn UnmapPhase) (done : Done) → done ≡ finished call.Unmap (Ok turn) → UnmapRow s t killed grant p turn new → IfOk done (λ d. CallRow s t killed grant (call.Unmap p) d.0 new d.1)
+unfolding CallRow
+unmap_row s t killed grant p new turn done e h = finished_row call.Unmap (UnmapRow s t killed grant p) new (Ok turn) done e h
+
+pub exit_row : (s : Pool) (t : ℕ) (killed grant : Bool) (p : ExitPhase) (new : Pool) (turn : Turn ExitPhase) (done : Done) → done ≡ finished call.Exit (Ok turn) → ExitRow s t killed grant p turn new → IfOk done (λ d. CallRow s t killed grant (call.Exit p) d.0 new d.1)
+unfolding CallRow
+exit_row s t killed grant p new turn done e h = finished_row call.Exit (ExitRow s t killed grant p) new (Ok turn) done e h

@@ -21,10 +21,10 @@ use Rattle.hp_machine.specs.declared.outcome.Outcome.TheVariants as outcome
 use Rattle.hp_machine.specs.declared.outcome.Refusal.TheVariants as refusal
 use Rattle.hp_fault.specs.State.{PartsState}
 use Rattle.hp_fault.specs.View.{pool_of}
-use Rattle.hp_core.specs.Sound.{IsBuiltCall}
 use Rattle.hp_core.specs.declared.seat.Seat.{Seat}
 use Rattle.hp_core.specs.State.{seat_at, no_seat, calls_of, lives_of, state_with}
 use Rattle.hp_core.specs.Seats.{BeginSeats, KillSeats, with_seat}
+use Rattle.hp_core.specs.Turns.{life_after}
 
 -- a task that isn't dead has a seat
 pub seated : (seats : List Seat) (t : ℕ) → is_dead (seat_at seats t).life ≡ false → (1 ≤ t) × (t ≤ length seats)
@@ -156,23 +156,26 @@ pub idle_row : (p : PartsState) (seats : List Seat) (t : ℕ) (grant : Bool) →
 unfolding StepRow lives_of calls_of
 idle_row p seats t grant alive none = at_false _ _ _ alive (at_none _ _ _ none (refl, refl))
 
--- a step of a seat's call is one of the machine
-pub step_row : (p n : PartsState) (seats : List Seat) (t : ℕ) (grant : Bool) (told : Outcome) (inflight : Call) (y : Seat) → is_dead (seat_at seats t).life ≡ false → (seat_at seats t).call ≡ Some inflight → IsBuiltCall inflight
-    → CallRow (pool_of p) t (is_killed (seat_at seats t).life) grant inflight told (pool_of n) y.call → y.life ≡ (seat_at seats t).life → StepRow (state_with p seats) t grant told (state_with n (with_seat seats t y))
-unfolding StepRow lives_of calls_of
-step_row p n seats t grant told inflight y alive some built row same =
-    let l = seated seats t alive in
-    let lives = lives_same seats t y l.0 l.1 same in
-    let calls = calls_set seats t y l.0 l.1 in
-    let after : state_with n (with_seat seats t y) ≡ record (state_with n seats) { calls = put (calls_of seats) t y.call } = λ i. record (state_with n seats) { life = lives i; calls = calls i } in
-    let kept : record (state_with n seats) { calls = put (calls_of seats) t y.call } ≡ record (state_with n seats) { life = lives_after (lives_of seats) t inflight y.call; calls = put (calls_of seats) t y.call } = λ i. record (state_with n seats) { life = sym (stays inflight y.call (lives_of seats) t built) i; calls = put (calls_of seats) t y.call } in
-    at_false _ _ _ alive (at_some _ _ _ inflight some (pool_of n, y.call, row, after ∙ kept))
+-- how tasks live after a step of one of them
+lives_step : (seats : List Seat) (t : ℕ) (y : Seat) (inflight : Call) → 1 ≤ t → t ≤ length seats → y.life ≡ life_after (seat_at seats t).life inflight y.call → lives_of (with_seat seats t y) ≡ lives_after (lives_of seats) t inflight y.call
+lives_step seats t y (call.Touch p) low high e = lives_same seats t y low high e
+lives_step seats t y (call.Map p) low high e = lives_same seats t y low high e
+lives_step seats t y (call.Alloc p) low high e = lives_same seats t y low high e
+lives_step seats t y (call.Punch p) low high e = lives_same seats t y low high e
+lives_step seats t y (call.Truncate p) low high e = lives_same seats t y low high e
+lives_step seats t y (call.Unmap p) low high e = lives_same seats t y low high e
+lives_step seats t y (call.Exit p) low high e = by_end y.call e
   where
-    stays : (inflight : Call) (next : Option Call) (lives : ℕ → Life) (t : ℕ) → IsBuiltCall inflight → lives_after lives t inflight next ≡ lives
-    stays (call.Map phase) next lives t built = refl
-    stays (call.Touch phase) next lives t built = refl
-    stays (call.Alloc phase) next lives t built = absurd built
-    stays (call.Punch phase) next lives t built = absurd built
-    stays (call.Truncate phase) next lives t built = absurd built
-    stays (call.Unmap phase) next lives t built = absurd built
-    stays (call.Exit phase) next lives t built = absurd built
+    by_end : (o : Option Call) → y.life ≡ life_after (seat_at seats t).life (call.Exit p) o → lives_of (with_seat seats t y) ≡ lives_after (lives_of seats) t (call.Exit p) o
+    by_end None d = lives_set seats t y low high ∙ ap (put (lives_of seats) t) d
+    by_end (Some next) d = lives_same seats t y low high d
+
+-- a step of a seat's call is one of the machine
+pub step_row : (p n : PartsState) (seats : List Seat) (t : ℕ) (grant : Bool) (told : Outcome) (inflight : Call) (y : Seat) → is_dead (seat_at seats t).life ≡ false → (seat_at seats t).call ≡ Some inflight
+    → CallRow (pool_of p) t (is_killed (seat_at seats t).life) grant inflight told (pool_of n) y.call → y.life ≡ life_after (seat_at seats t).life inflight y.call → StepRow (state_with p seats) t grant told (state_with n (with_seat seats t y))
+unfolding StepRow lives_of calls_of
+step_row p n seats t grant told inflight y alive some row lives =
+    let l = seated seats t alive in
+    let life = lives_step seats t y inflight l.0 l.1 lives in
+    let calls = calls_set seats t y l.0 l.1 in
+    at_false _ _ _ alive (at_some _ _ _ inflight some (pool_of n, y.call, row, λ i. record (state_with n seats) { life = life i; calls = calls i }))

@@ -15,6 +15,11 @@ use Rattle.hp_frames.specs.declared.frame.FrameState.TheVariants.{Free, Hand, Pl
 use Rattle.hp_machine.specs.Parts.{Goes, Ends, TakeRow, answer_of, frame_after}
 use Rattle.hp_machine.specs.MapRows.{MapRow}
 use Rattle.hp_machine.specs.TouchRows.{TouchRow}
+use Rattle.hp_machine.specs.ExitRows.{ExitRow}
+use Rattle.hp_machine.specs.UnmapRows.{UnmapRow}
+use Rattle.hp_machine.specs.TruncateRows.{TruncateRow}
+use Rattle.hp_machine.specs.PunchRows.{PunchRow}
+use Rattle.hp_machine.specs.AllocRows.{AllocRow}
 use Rattle.hp_machine.specs.declared.call.Call.{Call}
 use Rattle.hp_machine.specs.declared.call.Call.TheVariants as call
 use Rattle.hp_machine.specs.declared.call.Turn.{Turn}
@@ -24,6 +29,16 @@ use Rattle.hp_machine.specs.declared.map.MapPhase.{MapPhase}
 use Rattle.hp_machine.specs.declared.map.MapPhase.TheVariants as at
 use Rattle.hp_machine.specs.declared.touch.TouchPhase.{TouchPhase}
 use Rattle.hp_machine.specs.declared.touch.TouchPhase.TheVariants as touch
+use Rattle.hp_machine.specs.declared.alloc.AllocPhase.{AllocPhase}
+use Rattle.hp_machine.specs.declared.alloc.AllocPhase.TheVariants as alloc
+use Rattle.hp_machine.specs.declared.punch.PunchPhase.{PunchPhase}
+use Rattle.hp_machine.specs.declared.punch.PunchPhase.TheVariants as punch
+use Rattle.hp_machine.specs.declared.truncate.TruncatePhase.{TruncatePhase}
+use Rattle.hp_machine.specs.declared.truncate.TruncatePhase.TheVariants as truncate
+use Rattle.hp_machine.specs.declared.unmap.UnmapPhase.{UnmapPhase}
+use Rattle.hp_machine.specs.declared.unmap.UnmapPhase.TheVariants as unmap
+use Rattle.hp_machine.specs.declared.exit.ExitPhase.{ExitPhase}
+use Rattle.hp_machine.specs.declared.exit.ExitPhase.TheVariants as exit
 use Rattle.hp_machine.specs.declared.outcome.Outcome.{Outcome}
 use Rattle.hp_machine.specs.declared.outcome.Outcome.TheVariants as outcome
 use Rattle.hp_slots.specs.Holders.{slot_number}
@@ -31,10 +46,10 @@ use Rattle.hp_fault.specs.State.{PartsState, IsSized}
 use Rattle.hp_fault.specs.View.{pool_of, holders_of, sizes_of, pages_of, entries_of}
 use Rattle.hp_core.specs.declared.seat.Seat.{Seat}
 use Rattle.hp_core.specs.State.{CoreState, seat_at, calls_of, lives_of, as_state}
-use Rattle.hp_core.specs.Sound.{IsSound, IsBuiltCall}
+use Rattle.hp_core.specs.Sound.{IsSound}
 use Rattle.hp_core.specs.Runs.{Row}
 use Rattle.hp_core.specs.Waiting.{WaitsFor}
-use Rattle.hp_core.specs.Blockers.{map_blocker, touch_blocker, call_blocker, seat_call_blocker, task_blocker}
+use Rattle.hp_core.specs.Blockers.{is_bad, slot_blocker, touch_blocker, map_blocker, alloc_blocker, punch_blocker, truncate_blocker, call_blocker, seat_call_blocker, task_blocker}
 use Rattle.hp_core.proofs.Seats.{by_test, by_option, at_false, at_some}
 use Rattle.hp_core.proofs.Steps.{if_some}
 
@@ -118,11 +133,11 @@ map_blocks p t killed grant (at.Enter q) h e = nobody h e
 map_blocks p t killed grant (at.Leave q) h e = nobody h e
 
 -- where a slot is wanted, a kill comes first
-want_blocks : {P : Type 0} (killed : Bool) (o : Option ℕ) (h : ℕ) (s taken : Pool) (a : Answer) (next here : P) → (if killed then None else o) ≡ Some h
-    → MatchBool killed ((Blocked here h ≡ Ended a) × (s ≡ s)) (MatchOption o ((Blocked here h ≡ Moved next) × (s ≡ taken)) (λ k. (Blocked here h ≡ Blocked here k) × (s ≡ s)))
-want_blocks true o h s taken a next here e = nobody h e
-want_blocks false None h s taken a next here e = nobody h e
-want_blocks false (Some k) h s taken a next here e = (ap (λ (u : ℕ). Blocked here u) (sym (same_holder k h e)), refl)
+want_blocks : {P : Type 0} (killed : Bool) (o : Option ℕ) (h : ℕ) (s taken : Pool) (At : Type 0) (next here : P) → (if killed then None else o) ≡ Some h
+    → MatchBool killed At (MatchOption o ((Blocked here h ≡ Moved next) × (s ≡ taken)) (λ k. (Blocked here h ≡ Blocked here k) × (s ≡ s)))
+want_blocks true o h s taken At next here e = nobody h e
+want_blocks false None h s taken At next here e = nobody h e
+want_blocks false (Some k) h s taken At next here e = (ap (λ (u : ℕ). Blocked here u) (sym (same_holder k h e)), refl)
 
 take_cases : {P : Type 0} (none all : Bool) (turn : Turn P) (s new : Pool) (no_frame : P) (Reserved Unreserved : Type 0)
     → MatchBool none Reserved (MatchBool all ((turn ≡ Moved no_frame) × (new ≡ s)) Unreserved) → (Reserved → held_up turn ≡ None) → (Unreserved → held_up turn ≡ None) → held_up turn ≡ None
@@ -178,7 +193,7 @@ touch_blocks : (p : PartsState) (t : ℕ) (killed grant : Bool) (phase : TouchPh
 unfolding holders_of
 touch_blocks p t killed grant (touch.Look q) h e = nobody h e
 touch_blocks p t killed grant (touch.Want q) h e =
-    want_blocks killed (slice_index_or p.slots (slot_number (length p.slots) q.touch.file q.touch.index) None) h (pool_of p) _ answer.Killed (touch.Locked (record { touch = q.touch })) (touch.Want q) e
+    want_blocks killed (slice_index_or p.slots (slot_number (length p.slots) q.touch.file q.touch.index) None) h (pool_of p) _ _ (touch.Locked (record { touch = q.touch })) (touch.Want q) e
 touch_blocks p t killed grant (touch.Locked q) h e = nobody h e
 touch_blocks p t killed grant (touch.Missing q) h e = nobody h e
 touch_blocks p t killed grant (touch.Changed q) h e = nobody h e
@@ -190,28 +205,163 @@ touch_blocks p t killed grant (touch.Restore q) h e = nobody h e
 touch_blocks p t killed grant (touch.Found q) h e = nobody h e
 touch_blocks p t killed grant (touch.Leave q) h e = nobody h e
 
+-- the slot is taken, or its holder is waited for
+slot_held_up : {P : Type 0} (o : Option ℕ) (turn : Turn P) (s new taken : Pool) (next here : P) → MatchOption o ((turn ≡ Moved next) × (new ≡ taken)) (λ h. (turn ≡ Blocked here h) × (new ≡ s)) → held_up turn ≡ o
+slot_held_up None turn s new taken next here r = ap held_up r.0
+slot_held_up (Some h) turn s new taken next here r = ap held_up r.0
+
+-- the slot is left: to the next index, or on with the answer
+unslot_held : {P : Type 0} (o : Option Answer) (a b : Bool) (turn : Turn P) (after new : Pool) (x y z : P) (w : Answer → P)
+    → MatchOption o (MatchBool a ((turn ≡ Moved x) × (new ≡ after)) (MatchBool b ((turn ≡ Moved y) × (new ≡ after)) ((turn ≡ Moved z) × (new ≡ after)))) (λ k. (turn ≡ Moved (w k)) × (new ≡ after)) → held_up turn ≡ None
+unslot_held None a b turn after new x y z w r = moves_on a b turn after after after new x y z r
+unslot_held (Some k) a b turn after new x y z w r = ap held_up r.0
+
+-- to the mapping with the least base, or to the end
+leads_on : {P : Type 0} (o : Option ℕ) (turn : Turn P) (after new : Pool) (x : P) (y : ℕ → P) → MatchOption o ((turn ≡ Moved x) × (new ≡ after)) (λ base. (turn ≡ Moved (y base)) × (new ≡ after)) → held_up turn ≡ None
+leads_on None turn after new x y r = ap held_up r.0
+leads_on (Some base) turn after new x y r = ap held_up r.0
+
+-- a turn of an allocation is held up by whom the reader names
+alloc_held : (p : PartsState) (t : ℕ) (killed grant : Bool) (phase : AllocPhase) (turn : Turn AllocPhase) (new : Pool) → AllocRow (pool_of p) t killed grant phase turn new → held_up turn ≡ alloc_blocker p killed phase
+unfolding holders_of
+alloc_held p t killed grant (alloc.Start q) turn new row =
+    start_held (nat_le (length p.files) q.allocation.file) (is_bad q.allocation.from q.allocation.len) killed (slice_index_or p.locks q.allocation.file None) turn (pool_of p) new
+    answer.BadFile answer.BadRange answer.Interrupted _ (alloc.Start q) _ row
+alloc_held p t killed grant (alloc.Head q) turn new row = moves killed turn _ _ new _ _ row
+alloc_held p t killed grant (alloc.Want q) turn new row = by_test killed row
+    (λ e r. rw e (ap held_up r.0))
+    (λ e r. rw e (slot_held_up _ turn _ new _ _ _ r))
+alloc_held p t killed grant (alloc.Locked q) turn new row = moves _ turn _ _ new _ _ row
+alloc_held p t killed grant (alloc.Missing q) turn new row = moves _ turn _ _ new _ _ row
+alloc_held p t killed grant (alloc.Changed q) turn new row = by_test killed row (λ _ r. ap held_up r.0) (λ _ r. take_held (pool_of p) q.pending.missing _ _ turn new r)
+alloc_held p t killed grant (alloc.Abort q) turn new row = ap held_up row.0
+alloc_held p t killed grant (alloc.Taken q) turn new row = moves _ turn _ _ new _ _ row
+alloc_held p t killed grant (alloc.Settle q) turn new row = ap held_up row.1.0
+alloc_held p t killed grant (alloc.Committed q) turn new row = moves grant turn _ _ new _ _ row
+alloc_held p t killed grant (alloc.Restore q) turn new row = ap held_up row.0
+alloc_held p t killed grant (alloc.Unslot q) turn new row = unslot_held q.answer (nat_lt (q.index + 1) (q.allocation.from + q.allocation.len)) q.allocation.keep turn _ new _ _ _ _ row
+alloc_held p t killed grant (alloc.Extend q) turn new row = ap held_up row.0
+alloc_held p t killed grant (alloc.Leave q) turn new row = ap held_up row.0
+
+alloc_blocks : (p : PartsState) (t : ℕ) (killed grant : Bool) (phase : AllocPhase) (h : ℕ) → alloc_blocker p killed phase ≡ Some h → AllocRow (pool_of p) t killed grant phase (Blocked phase h) (pool_of p)
+unfolding holders_of
+alloc_blocks p t killed grant (alloc.Start q) h e =
+    start_blocks (nat_le (length p.files) q.allocation.file) (is_bad q.allocation.from q.allocation.len) killed (slice_index_or p.locks q.allocation.file None) h (pool_of p)
+    answer.BadFile answer.BadRange answer.Interrupted (alloc.Head (record { allocation = q.allocation; index = q.allocation.from })) (alloc.Start q) (record (pool_of p) { locks = put (holders_of p.locks) q.allocation.file (Some t) }) e
+alloc_blocks p t killed grant (alloc.Head q) h e = nobody h e
+alloc_blocks p t killed grant (alloc.Want q) h e = want_blocks killed (slot_blocker p q.allocation.file q.index) h (pool_of p) _ _ (alloc.Locked (record { allocation = q.allocation; index = q.index })) (alloc.Want q) e
+alloc_blocks p t killed grant (alloc.Locked q) h e = nobody h e
+alloc_blocks p t killed grant (alloc.Missing q) h e = nobody h e
+alloc_blocks p t killed grant (alloc.Changed q) h e = nobody h e
+alloc_blocks p t killed grant (alloc.Abort q) h e = nobody h e
+alloc_blocks p t killed grant (alloc.Taken q) h e = nobody h e
+alloc_blocks p t killed grant (alloc.Settle q) h e = nobody h e
+alloc_blocks p t killed grant (alloc.Committed q) h e = nobody h e
+alloc_blocks p t killed grant (alloc.Restore q) h e = nobody h e
+alloc_blocks p t killed grant (alloc.Unslot q) h e = nobody h e
+alloc_blocks p t killed grant (alloc.Extend q) h e = nobody h e
+alloc_blocks p t killed grant (alloc.Leave q) h e = nobody h e
+
+-- of a punch
+punch_held : (p : PartsState) (t : ℕ) (killed grant : Bool) (phase : PunchPhase) (turn : Turn PunchPhase) (new : Pool) → PunchRow (pool_of p) t killed grant phase turn new → held_up turn ≡ punch_blocker p killed phase
+unfolding holders_of
+punch_held p t killed grant (punch.Start q) turn new row =
+    start_held (nat_le (length p.files) q.hole.file) (is_bad q.hole.from q.hole.len) killed (slice_index_or p.locks q.hole.file None) turn (pool_of p) new
+    answer.BadFile answer.BadRange answer.Killed _ (punch.Start q) _ row
+punch_held p t killed grant (punch.Want q) turn new row = slot_held_up _ turn _ new _ _ _ row
+punch_held p t killed grant (punch.Locked q) turn new row = moves _ turn _ _ new _ _ row
+punch_held p t killed grant (punch.Unmap q) turn new row = moves _ turn _ _ new _ _ row
+punch_held p t killed grant (punch.Evict q) turn new row = ap held_up row.2.0
+punch_held p t killed grant (punch.Delete q) turn new row = moves _ turn _ _ new _ _ row
+punch_held p t killed grant (punch.Free q) turn new row = ap held_up row.0
+punch_held p t killed grant (punch.Unslot q) turn new row = moves _ turn _ _ new _ _ row
+punch_held p t killed grant (punch.Leave q) turn new row = ap held_up row.0
+
+punch_blocks : (p : PartsState) (t : ℕ) (killed grant : Bool) (phase : PunchPhase) (h : ℕ) → punch_blocker p killed phase ≡ Some h → PunchRow (pool_of p) t killed grant phase (Blocked phase h) (pool_of p)
+unfolding holders_of
+punch_blocks p t killed grant (punch.Start q) h e =
+    start_blocks (nat_le (length p.files) q.hole.file) (is_bad q.hole.from q.hole.len) killed (slice_index_or p.locks q.hole.file None) h (pool_of p)
+    answer.BadFile answer.BadRange answer.Killed (punch.Want (record { hole = q.hole; index = q.hole.from })) (punch.Start q) (record (pool_of p) { locks = put (holders_of p.locks) q.hole.file (Some t) }) e
+punch_blocks p t killed grant (punch.Want q) h e = want_blocks false (slot_blocker p q.hole.file q.index) h (pool_of p) _ (Unit {0}) (punch.Locked (record { hole = q.hole; index = q.index })) (punch.Want q) e
+punch_blocks p t killed grant (punch.Locked q) h e = nobody h e
+punch_blocks p t killed grant (punch.Unmap q) h e = nobody h e
+punch_blocks p t killed grant (punch.Evict q) h e = nobody h e
+punch_blocks p t killed grant (punch.Delete q) h e = nobody h e
+punch_blocks p t killed grant (punch.Free q) h e = nobody h e
+punch_blocks p t killed grant (punch.Unslot q) h e = nobody h e
+punch_blocks p t killed grant (punch.Leave q) h e = nobody h e
+
+-- of a truncation
+truncate_held : (p : PartsState) (t : ℕ) (killed grant : Bool) (phase : TruncatePhase) (turn : Turn TruncatePhase) (new : Pool) → TruncateRow (pool_of p) t killed grant phase turn new → held_up turn ≡ truncate_blocker p killed phase
+unfolding holders_of
+truncate_held p t killed grant (truncate.Start q) turn new row =
+    start_held (nat_le (length p.files) q.truncation.file) (nat_lt LIMIT q.truncation.new) killed (slice_index_or p.locks q.truncation.file None) turn (pool_of p) new
+    answer.BadFile answer.BadRange answer.Killed _ (truncate.Start q) _ row
+truncate_held p t killed grant (truncate.Size q) turn new row = moves _ turn _ _ new _ _ row.2
+truncate_held p t killed grant (truncate.Want q) turn new row = slot_held_up _ turn _ new _ _ _ row
+truncate_held p t killed grant (truncate.Locked q) turn new row = moves _ turn _ _ new _ _ row
+truncate_held p t killed grant (truncate.Unmap q) turn new row = moves _ turn _ _ new _ _ row
+truncate_held p t killed grant (truncate.Evict q) turn new row = ap held_up row.2.0
+truncate_held p t killed grant (truncate.Free q) turn new row = ap held_up row.0
+truncate_held p t killed grant (truncate.Unslot q) turn new row = moves _ turn _ _ new _ _ row
+truncate_held p t killed grant (truncate.Tail q) turn new row = ap held_up row.0
+truncate_held p t killed grant (truncate.Settle q) turn new row = ap held_up row.1.0
+truncate_held p t killed grant (truncate.Leave q) turn new row = ap held_up row.0
+
+truncate_blocks : (p : PartsState) (t : ℕ) (killed grant : Bool) (phase : TruncatePhase) (h : ℕ) → truncate_blocker p killed phase ≡ Some h → TruncateRow (pool_of p) t killed grant phase (Blocked phase h) (pool_of p)
+unfolding holders_of
+truncate_blocks p t killed grant (truncate.Start q) h e =
+    start_blocks (nat_le (length p.files) q.truncation.file) (nat_lt LIMIT q.truncation.new) killed (slice_index_or p.locks q.truncation.file None) h (pool_of p)
+    answer.BadFile answer.BadRange answer.Killed (truncate.Size (record { truncation = q.truncation })) (truncate.Start q) (record (pool_of p) { locks = put (holders_of p.locks) q.truncation.file (Some t) }) e
+truncate_blocks p t killed grant (truncate.Size q) h e = nobody h e
+truncate_blocks p t killed grant (truncate.Want q) h e = want_blocks false (slot_blocker p q.truncation.file q.index) h (pool_of p) _ (Unit {0}) (truncate.Locked (record { truncation = q.truncation; index = q.index; evicted = q.evicted })) (truncate.Want q) e
+truncate_blocks p t killed grant (truncate.Locked q) h e = nobody h e
+truncate_blocks p t killed grant (truncate.Unmap q) h e = nobody h e
+truncate_blocks p t killed grant (truncate.Evict q) h e = nobody h e
+truncate_blocks p t killed grant (truncate.Free q) h e = nobody h e
+truncate_blocks p t killed grant (truncate.Unslot q) h e = nobody h e
+truncate_blocks p t killed grant (truncate.Tail q) h e = nobody h e
+truncate_blocks p t killed grant (truncate.Settle q) h e = nobody h e
+truncate_blocks p t killed grant (truncate.Leave q) h e = nobody h e
+
+-- unmaps and exits wait for nobody
+moves_or_ends : {P : Type 0} (b : Bool) (turn : Turn P) (s new : Pool) (x : P) (a : Answer) → MatchBool b ((turn ≡ Moved x) × (new ≡ s)) ((turn ≡ Ended a) × (new ≡ s)) → held_up turn ≡ None
+moves_or_ends true turn s new x a r = ap held_up r.0
+moves_or_ends false turn s new x a r = ap held_up r.0
+
+unmap_held : (p : PartsState) (t : ℕ) (killed grant : Bool) (phase : UnmapPhase) (turn : Turn UnmapPhase) (new : Pool) → UnmapRow (pool_of p) t killed grant phase turn new → held_up turn ≡ None
+unmap_held p t killed grant (unmap.Start q) turn new row = moves_or_ends _ turn _ new _ _ row
+unmap_held p t killed grant (unmap.Clear q) turn new row = ap held_up row.0
+unmap_held p t killed grant (unmap.Drop q) turn new row = ap held_up row.0
+
+exit_held : (p : PartsState) (t : ℕ) (killed grant : Bool) (phase : ExitPhase) (turn : Turn ExitPhase) (new : Pool) → ExitRow (pool_of p) t killed grant phase turn new → held_up turn ≡ None
+exit_held p t killed grant exit.Start turn new row = leads_on _ turn _ new _ _ row
+exit_held p t killed grant (exit.Clear q) turn new row = ap held_up row.0
+exit_held p t killed grant (exit.Drop q) turn new row = leads_on _ turn _ new _ _ row
+exit_held p t killed grant exit.Leave turn new row = ap held_up row.0
+
 told_held : {P : Type 0} (inflight : P → Call) (turn : Turn P) → told_of (rows.told inflight turn) ≡ held_up turn
 told_held inflight (Moved p) = refl
 told_held inflight (Blocked p h) = refl
 told_held inflight (Ended a) = refl
 
-call_held : (p : PartsState) (t : ℕ) (killed grant : Bool) (inflight : Call) (told : Outcome) (new : Pool) (next : Option Call) → IsBuiltCall inflight → rows.CallRow (pool_of p) t killed grant inflight told new next → told_of told ≡ call_blocker p killed inflight
+call_held : (p : PartsState) (t : ℕ) (killed grant : Bool) (inflight : Call) (told : Outcome) (new : Pool) (next : Option Call) → rows.CallRow (pool_of p) t killed grant inflight told new next → told_of told ≡ call_blocker p killed inflight
 unfolding rows.CallRow
-call_held p t killed grant (call.Map phase) told new next built row = ap told_of row.2 ∙ (told_held call.Map row.0 ∙ map_held p t killed grant phase row.0 new row.1)
-call_held p t killed grant (call.Touch phase) told new next built row = ap told_of row.2 ∙ (told_held call.Touch row.0 ∙ touch_held p t killed grant phase row.0 new row.1)
-call_held p t killed grant (call.Alloc phase) told new next built row = absurd built
-call_held p t killed grant (call.Punch phase) told new next built row = absurd built
-call_held p t killed grant (call.Truncate phase) told new next built row = absurd built
-call_held p t killed grant (call.Unmap phase) told new next built row = absurd built
-call_held p t killed grant (call.Exit phase) told new next built row = absurd built
+call_held p t killed grant (call.Touch phase) told new next row = ap told_of row.2 ∙ (told_held call.Touch row.0 ∙ touch_held p t killed grant phase row.0 new row.1)
+call_held p t killed grant (call.Map phase) told new next row = ap told_of row.2 ∙ (told_held call.Map row.0 ∙ map_held p t killed grant phase row.0 new row.1)
+call_held p t killed grant (call.Alloc phase) told new next row = ap told_of row.2 ∙ (told_held call.Alloc row.0 ∙ alloc_held p t killed grant phase row.0 new row.1)
+call_held p t killed grant (call.Punch phase) told new next row = ap told_of row.2 ∙ (told_held call.Punch row.0 ∙ punch_held p t killed grant phase row.0 new row.1)
+call_held p t killed grant (call.Truncate phase) told new next row = ap told_of row.2 ∙ (told_held call.Truncate row.0 ∙ truncate_held p t killed grant phase row.0 new row.1)
+call_held p t killed grant (call.Unmap phase) told new next row = ap told_of row.2 ∙ (told_held call.Unmap row.0 ∙ unmap_held p t killed grant phase row.0 new row.1)
+call_held p t killed grant (call.Exit phase) told new next row = ap told_of row.2 ∙ (told_held call.Exit row.0 ∙ exit_held p t killed grant phase row.0 new row.1)
 
 call_blocks : (p : PartsState) (t : ℕ) (killed grant : Bool) (inflight : Call) (h : ℕ) → call_blocker p killed inflight ≡ Some h → rows.CallRow (pool_of p) t killed grant inflight (outcome.Blocked h) (pool_of p) (Some inflight)
 unfolding rows.CallRow
-call_blocks p t killed grant (call.Map phase) h e = (Blocked phase h, map_blocks p t killed grant phase h e, refl, refl)
 call_blocks p t killed grant (call.Touch phase) h e = (Blocked phase h, touch_blocks p t killed grant phase h e, refl, refl)
-call_blocks p t killed grant (call.Alloc phase) h e = nobody h e
-call_blocks p t killed grant (call.Punch phase) h e = nobody h e
-call_blocks p t killed grant (call.Truncate phase) h e = nobody h e
+call_blocks p t killed grant (call.Map phase) h e = (Blocked phase h, map_blocks p t killed grant phase h e, refl, refl)
+call_blocks p t killed grant (call.Alloc phase) h e = (Blocked phase h, alloc_blocks p t killed grant phase h e, refl, refl)
+call_blocks p t killed grant (call.Punch phase) h e = (Blocked phase h, punch_blocks p t killed grant phase h e, refl, refl)
+call_blocks p t killed grant (call.Truncate phase) h e = (Blocked phase h, truncate_blocks p t killed grant phase h e, refl, refl)
 call_blocks p t killed grant (call.Unmap phase) h e = nobody h e
 call_blocks p t killed grant (call.Exit phase) h e = nobody h e
 
@@ -223,7 +373,7 @@ step_held s t grant told new h row =
     (λ dead r. ap told_of r.0 ∙ rw dead refl)
     (λ alive rest. by_option (seat_at s.seats t).call rest
     (λ none r. ap told_of r.0 ∙ rw (alive, none) refl)
-    (λ inflight some r. call_held s.parts t _ grant inflight told r.0 r.1 (if_some IsBuiltCall (seat_at s.seats t).call inflight some (h.1.built t)) r.2 ∙ rw (alive, some) refl))
+    (λ inflight some r. call_held s.parts t _ grant inflight told r.0 r.1 r.2 ∙ rw (alive, some) refl))
 
 blocker_parts : (p : PartsState) (dead killed : Bool) (o : Option Call) (h : ℕ) → (if dead then None else seat_call_blocker p killed o) ≡ Some h → (dead ≡ false) × ((inflight : Call) × (o ≡ Some inflight) × (call_blocker p killed inflight ≡ Some h))
 blocker_parts p true killed o h e = nobody h e

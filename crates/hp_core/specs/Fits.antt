@@ -4,7 +4,8 @@ use Rattle.hp_base.specs.declared.event.Event.{Event}
 use Rattle.hp_base.specs.declared.event.Event.TheVariants.{Begin, Step, Kill}
 use Rattle.hp_machine.specs.declared.call.Call.{Call}
 use Rattle.hp_machine.specs.declared.call.Call.TheVariants as call
-use Rattle.hp_fault.specs.Fits.{MapFits, TouchFits}
+use Rattle.hp_fault.specs.Fits.{MapFits, TouchFits, AllocFits}
+use Rattle.hp_remove.specs.Fits.{PunchFits, TruncateFits, UnmapFits, ExitFits}
 use Rattle.hp_fault.specs.State.{PartsState, IsSized}
 use Rattle.hp_fault.specs.View.{pool_of}
 use Rattle.hp_core.specs.declared.seat.Seat.{Seat}
@@ -13,7 +14,11 @@ use Rattle.hp_core.specs.State.{seat_at}
 abbrev pub CallFits : PartsState → (task : ℕ) → Call → Type 0
 CallFits p t (call.Touch phase) = TouchFits (pool_of p) t phase
 CallFits p t (call.Map phase) = IsSized p × MapFits (pool_of p) t phase
-CallFits p t other = ⊥
+CallFits p t (call.Alloc phase) = IsSized p × AllocFits (pool_of p) t phase
+CallFits p t (call.Punch phase) = IsSized p × PunchFits (pool_of p) t phase
+CallFits p t (call.Truncate phase) = IsSized p × TruncateFits (pool_of p) t phase
+CallFits p t (call.Unmap phase) = UnmapFits (pool_of p) t phase
+CallFits p t (call.Exit phase) = ExitFits (pool_of p) t phase
 
 -- what a step of the task's call takes for granted
 abbrev pub StepFits : PartsState → List Seat → (task : ℕ) → Type 0

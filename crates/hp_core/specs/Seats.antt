@@ -14,6 +14,7 @@ use Rattle.hp_fault.specs.State.{PartsState}
 use Rattle.hp_fault.specs.View.{pool_of}
 use Rattle.hp_core.specs.declared.seat.Seat.{Seat}
 use Rattle.hp_core.specs.State.{seat_at}
+use Rattle.hp_core.specs.Turns.{life_after}
 
 abbrev pub RefusesSeats : Refusal → List Seat → Outcome → List Seat → Type 0
 RefusesSeats why seats told new = (told ≡ outcome.Refused why) × (new ≡ seats)
@@ -45,7 +46,7 @@ StepSeats p seats t grant told after new =
     (MatchOption (seat_at seats t).call
     (RefusesSeats refusal.Idle seats told new × (after ≡ p))
     (λ inflight. (seat : Seat) × CallRow (pool_of p) t (is_killed (seat_at seats t).life) grant inflight told (pool_of after) seat.call
-    × (seat.life ≡ (seat_at seats t).life) × (new ≡ with_seat seats t seat)))
+    × (seat.life ≡ life_after (seat_at seats t).life inflight seat.call) × (new ≡ with_seat seats t seat)))
 
 -- what an event makes of the parts and the seats
 unfoldable pub EventSeats : PartsState → List Seat → Event → Outcome → PartsState → List Seat → Type 0

@@ -1,12 +1,24 @@
--- A step's turn, told as an outcome, with the call that it leaves in flight.
-use Rattle.std.specs.Prelude.{Option, Result, Ok, Err}
+-- A step's turn, told as an outcome, with the call that it leaves in flight, and how its task lives on.
+use Rattle.std.specs.Prelude.{Bool, true, false, ◌&&◌, Option, Result, Ok, Err, if◌then◌else◌}
+use Rattle.hp_base.specs.Numbers.{is_none}
 use Rattle.hp_machine.specs.Events.{told, left}
 use Rattle.hp_machine.specs.declared.call.Call.{Call}
+use Rattle.hp_machine.specs.declared.call.Call.TheVariants as call
 use Rattle.hp_machine.specs.declared.call.Stopped.{Stopped}
 use Rattle.hp_machine.specs.declared.call.Turn.{Turn}
+use Rattle.hp_machine.specs.declared.outcome.Life.{Life}
+use Rattle.hp_machine.specs.declared.outcome.Life.TheVariants.{Dead}
 use Rattle.hp_machine.specs.declared.outcome.Outcome.{Outcome}
 
 -- how a turn is told and the call that it leaves; without memory the call as it stood
 abbrev pub finished : {P : Type 0} → (P → Call) → Result (Turn P) (Stopped P) → Result (Outcome × Option Call) Call
 finished call (Ok turn) = Ok (told call turn, left call turn)
 finished call (Err stopped) = Err (call stopped.phase)
+
+abbrev pub is_exit_call : Call → Bool
+is_exit_call (call.Exit phase) = true
+is_exit_call other = false
+
+-- how the task lives after a step of its call: an exit that is over leaves it dead
+abbrev pub life_after : Life → Call → Option Call → Life
+life_after life inflight next = if is_exit_call inflight && is_none next then Dead else life

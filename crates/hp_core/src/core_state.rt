@@ -2,7 +2,6 @@
 ghost use Rattle.std.specs.Prelude.{◌≡◌, IfOk, OnErr, All};
 ghost use Rattle.hp_base.specs.Text.{sizes};
 ghost use Rattle.hp_core.specs.State.{CoreState};
-ghost use Rattle.hp_core.specs.Sound.{IsBuilt};
 ghost use Rattle.hp_core.specs.Runs.{Row, Run, IsOpening, Headline, WantsGrowth};
 ghost use Rattle.hp_core.specs.Readers.{config_of};
 
@@ -67,7 +66,6 @@ impl Core {
     /// One event. After want of memory nothing changed; it comes only in a granted step whose row wants
     /// growth.
     pub fn step(&mut self, event: Event) -> Result<Outcome, AllocError>
-        requires built { IsBuilt event }
         ensures row { IfOk result (λ told. Row self.old event told self.new) }
         ensures err { OnErr result (self.new ≡ self.old) }
         ensures growth { OnErr result (WantsGrowth self.old.parts self.old.seats event) }

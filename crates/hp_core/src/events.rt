@@ -1,5 +1,5 @@
 //! What an event does to the parts and the seats.
-ghost use Rattle.std.specs.Prelude.{◌≡◌, true, IsTrue, IfOk, IfSome, OnErr, length};
+ghost use Rattle.std.specs.Prelude.{◌≡◌, true, IfOk, IfSome, OnErr, length};
 ghost use Rattle.hp_machine.specs.State as machine;
 ghost use Rattle.hp_machine.specs.Events as rows;
 ghost use Rattle.hp_machine.specs.Wants.{Wants};
@@ -7,37 +7,59 @@ ghost use Rattle.hp_fault.specs.State.{state_of, SizesStay};
 ghost use Rattle.hp_fault.specs.View.{view};
 ghost use Rattle.hp_core.specs.Fits.{EventFits, StepFits};
 ghost use Rattle.hp_core.specs.Seats.{BeginSeats, StepSeats, KillSeats, EventSeats};
-ghost use Rattle.hp_core.specs.Sound.{is_built, IsBuilt};
 ghost use Rattle.hp_core.specs.State.{state_with, seat_at};
 ghost use Rattle.hp_core.specs.Runs.{StepWants, WantsGrowth};
 
 use crate::seat::{Seat, is_dead, is_killed, step_seat};
 use hp_base::{Event, File, Index, Op, Task, Vpn};
 use hp_fault::Parts;
-use hp_machine::map::{MapPhase, MapRequest, Start};
+use hp_machine::alloc::{AllocPhase, Allocation};
+use hp_machine::exit::ExitPhase;
+use hp_machine::map::{MapPhase, MapRequest};
+use hp_machine::punch::{Hole, PunchPhase};
 use hp_machine::touch::{Access, Look, TouchPhase};
-use hp_machine::{Call, Life, Outcome, Refusal};
+use hp_machine::truncate::{TruncatePhase, Truncation};
+use hp_machine::unmap::UnmapPhase;
+use hp_machine::{Call, Life, Outcome, Refusal, alloc, map, punch, truncate, unmap};
 use std::alloc::AllocError;
 
 // Where a call of the operation begins.
 fn first_call(op: Op) -> Call
-    requires { IsTrue (is_built op) }
     ensures { result ≡ rows.first op }
 {
     match op {
-        Op::Map { file, from, len } => map(true, file, from, len),
-        Op::MapNoReserve { file, from, len } => map(false, file, from, len),
-        Op::Load { vpn } => touch(vpn, Access::Load),
-        Op::Store { vpn, word } => touch(vpn, Access::Store(word)),
-        Op::Unmap { .. }
-        | Op::Alloc { .. }
-        | Op::Punch { .. }
-        | Op::Truncate { .. }
-        | Op::Exit => unreachable!(),
+        Op::Map { file, from, len } => first_map(true, file, from, len),
+        Op::MapNoReserve { file, from, len } => first_map(false, file, from, len),
+        Op::Unmap { base } => Call::Unmap(UnmapPhase::Start(unmap::Start { base })),
+        Op::Load { vpn } => first_touch(vpn, Access::Load),
+        Op::Store { vpn, word } => first_touch(vpn, Access::Store(word)),
+        Op::Alloc {
+            file,
+            from,
+            len,
+            keep,
+        } => {
+            let allocation = Allocation {
+                file,
+                from,
+                len,
+                keep,
+            };
+            Call::Alloc(AllocPhase::Start(alloc::Start { allocation }))
+        }
+        Op::Punch { file, from, len } => {
+            let hole = Hole { file, from, len };
+            Call::Punch(PunchPhase::Start(punch::Start { hole }))
+        }
+        Op::Truncate { file, new } => {
+            let truncation = Truncation { file, new };
+            Call::Truncate(TruncatePhase::Start(truncate::Start { truncation }))
+        }
+        Op::Exit => Call::Exit(ExitPhase::Start),
     }
 }
 
-fn map(reserve: bool, file: File, from: Index, len: u32) -> Call
+fn first_map(reserve: bool, file: File, from: Index, len: u32) -> Call
     ensures { result ≡ Call.Map (MapPhase.Start (record { map = record { reserve = reserve; file = file; from = from; len = len } })) }
 {
     let map = MapRequest {
@@ -46,10 +68,10 @@ fn map(reserve: bool, file: File, from: Index, len: u32) -> Call
         from,
         len,
     };
-    Call::Map(MapPhase::Start(Start { map }))
+    Call::Map(MapPhase::Start(map::Start { map }))
 }
 
-fn touch(vpn: Vpn, access: Access) -> Call
+fn first_touch(vpn: Vpn, access: Access) -> Call
     ensures { result ≡ Call.Touch (TouchPhase.Look (record { vpn = vpn; access = access })) }
 {
     Call::Touch(TouchPhase::Look(Look { vpn, access }))
@@ -63,7 +85,6 @@ fn is_exit(op: &Op) -> bool
 
 // A Begin of an operation.
 fn begin(seats: &mut Vec<Seat>, task: Task, op: Op) -> Outcome
-    requires { IsTrue (is_built op) }
     ensures row { BeginSeats seats.old.items task op result seats.new.items }
     ensures seats { length seats.new.items ≡ length seats.old.items }
 {
@@ -143,8 +164,7 @@ pub fn step_event(
     seats: &mut Vec<Seat>,
     event: Event,
 ) -> Result<Outcome, AllocError>
-    requires built { IsBuilt event }
-    requires fits { EventFits (state_of parts.old) seats.old.items event }
+    requires { EventFits (state_of parts.old) seats.old.items event }
     ensures row { IfOk result (λ told. EventSeats (state_of parts.old) seats.old.items event told (state_of parts.new) seats.new.items) }
     ensures sizes { SizesStay (state_of parts.old) (state_of parts.new) }
     ensures seats { length seats.new.items ≡ length seats.old.items }

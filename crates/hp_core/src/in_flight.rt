@@ -4,8 +4,13 @@ ghost use Rattle.hp_machine.specs.declared.call.Call.{Call};
 ghost use Rattle.hp_core.specs.Turns.{finished};
 
 use crate::words::phase_word;
+use hp_machine::alloc::AllocPhase;
+use hp_machine::exit::ExitPhase;
 use hp_machine::map::MapPhase;
+use hp_machine::punch::PunchPhase;
 use hp_machine::touch::TouchPhase;
+use hp_machine::truncate::TruncatePhase;
+use hp_machine::unmap::UnmapPhase;
 use hp_machine::{Call, Outcome, Stopped, Turn};
 
 /// The phases of one operation.
@@ -30,6 +35,46 @@ impl InFlight for MapPhase {
 
     fn into_call(self) -> Call {
         Call::Map(self)
+    }
+}
+
+impl InFlight for AllocPhase {
+    ghost call_of = { Call.Alloc };
+
+    fn into_call(self) -> Call {
+        Call::Alloc(self)
+    }
+}
+
+impl InFlight for PunchPhase {
+    ghost call_of = { Call.Punch };
+
+    fn into_call(self) -> Call {
+        Call::Punch(self)
+    }
+}
+
+impl InFlight for TruncatePhase {
+    ghost call_of = { Call.Truncate };
+
+    fn into_call(self) -> Call {
+        Call::Truncate(self)
+    }
+}
+
+impl InFlight for UnmapPhase {
+    ghost call_of = { Call.Unmap };
+
+    fn into_call(self) -> Call {
+        Call::Unmap(self)
+    }
+}
+
+impl InFlight for ExitPhase {
+    ghost call_of = { Call.Exit };
+
+    fn into_call(self) -> Call {
+        Call::Exit(self)
     }
 }
 

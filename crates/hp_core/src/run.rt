@@ -1,7 +1,6 @@
 //! A list of events, one after the other.
-ghost use Rattle.std.specs.Prelude.{◌≡◌, ◌≤◌, List, All, IfOk, IfErr, length, take};
+ghost use Rattle.std.specs.Prelude.{◌≡◌, ◌≤◌, List, IfOk, IfErr, length, take};
 ghost use Rattle.hp_machine.specs.declared.outcome.Outcome.{Outcome};
-ghost use Rattle.hp_core.specs.Sound.{IsBuilt};
 ghost use Rattle.hp_core.specs.Runs.{Run, Headline};
 
 use crate::core_state::Core;
@@ -20,7 +19,6 @@ pub struct RunFault {
 impl Core {
     /// The events, one after the other, with their outcomes.
     pub fn run(&mut self, alloc: Global, events: &[Event]) -> Result<Vec<Outcome>, RunFault>
-        requires built { All IsBuilt events.now }
         ensures run { IfOk result (λ told. Run self.old events.now told.items self.new) }
         ensures within { IfErr result (λ fault. fault.done ≤ length events.now) }
         ensures stopped { IfErr result (λ fault. (told : List Outcome) × Run self.old (take fault.done events.now) told self.new) }

@@ -6,11 +6,13 @@ ghost use Rattle.hp_machine.specs.Wants.{Wants};
 ghost use Rattle.hp_fault.specs.State.{state_of, SizesStay};
 ghost use Rattle.hp_fault.specs.View.{view};
 ghost use Rattle.hp_core.specs.Fits.{CallFits};
+ghost use Rattle.hp_core.specs.Turns.{is_exit_call, life_after};
 
 use crate::in_flight::finish;
 use hp_base::Task;
-use hp_fault::{Parts, step_map, step_touch};
+use hp_fault::{Parts, step_alloc, step_map, step_touch};
 use hp_machine::{Call, Life, Outcome};
+use hp_remove::{step_exit, step_punch, step_truncate, step_unmap};
 use std::alloc::AllocError;
 
 /// What the core keeps of a task.
@@ -40,6 +42,13 @@ pub fn is_dead(life: Life) -> bool
     }
 }
 
+// Whether the call is the end of its task.
+fn is_exit(call: &Call) -> bool
+    ensures { result ≡ is_exit_call call.now }
+{
+    matches!(call, Call::Exit(_))
+}
+
 // One step of a call. Without memory nothing changed, and the call is handed back.
 fn step_call(
     parts: &mut Parts,
@@ -59,11 +68,11 @@ fn step_call(
     match call {
         Call::Touch(phase) => finish(step_touch(parts, task, killed, grant, phase)),
         Call::Map(phase) => finish(step_map(parts, task, killed, grant, phase)),
-        Call::Alloc(_)
-        | Call::Punch(_)
-        | Call::Truncate(_)
-        | Call::Unmap(_)
-        | Call::Exit(_) => unreachable!(),
+        Call::Alloc(phase) => finish(step_alloc(parts, task, killed, grant, phase)),
+        Call::Punch(phase) => finish(step_punch(parts, task, killed, grant, phase)),
+        Call::Truncate(phase) => finish(Ok(step_truncate(parts, task, killed, grant, phase))),
+        Call::Unmap(phase) => finish(Ok(step_unmap(parts, task, killed, grant, phase))),
+        Call::Exit(phase) => finish(Ok(step_exit(parts, task, killed, grant, phase))),
     }
 }
 
@@ -78,7 +87,7 @@ pub fn step_seat(
     ensures idle { IfOk result (λ told. MatchOption seat.old.call (told ≡ None) (λ call. IsSome told)) }
     ensures row { IfOk result (λ told. IfSome told (λ outcome. IfSome seat.old.call (λ call. CallRow (view parts.old) task (machine.is_killed seat.old.life) grant call outcome (view parts.new) seat.new.call))) }
     ensures same { IfOk result (λ told. IfNone told ((state_of parts.new ≡ state_of parts.old) × (seat.new ≡ seat.old))) }
-    ensures life { seat.new.life ≡ seat.old.life }
+    ensures life { IfOk result (λ told. IfSome told (λ outcome. IfSome seat.old.call (λ call. seat.new.life ≡ life_after seat.old.life call seat.new.call))) }
     ensures sizes { SizesStay (state_of parts.old) (state_of parts.new) }
     ensures err { OnErr result ((state_of parts.new ≡ state_of parts.old) × (seat.new ≡ seat.old)) }
     ensures growth { OnErr result (grant ≡ true) }
@@ -87,8 +96,12 @@ pub fn step_seat(
     let Some(call) = seat.call.take() else {
         return Ok(None);
     };
+    let exits = is_exit(&call);
     match step_call(parts, task, is_killed(seat.life), grant, call) {
         Ok((outcome, next)) => {
+            if exits && next.is_none() {
+                seat.life = Life::Dead;
+            }
             seat.call = next;
             Ok(Some(outcome))
         }

@@ -1,48 +1,108 @@
 //! Whom a task waits for.
 ghost use Rattle.std.specs.Prelude.{◌≡◌, ◌≤◌, length};
 ghost use Rattle.hp_fault.specs.State.{state_of, IsSized};
-ghost use Rattle.hp_core.specs.Blockers.{map_blocker, touch_blocker, call_blocker, task_blocker};
+ghost use Rattle.hp_core.specs.Blockers.{lock_blocker, slot_blocker, touch_blocker, map_blocker, alloc_blocker, punch_blocker, truncate_blocker, call_blocker, task_blocker};
 ghost use Rattle.hp_core.specs.Readers.{config_of};
 ghost use Rattle.hp_core.specs.Waiting.{WaitsFor};
 
 use crate::core_state::Core;
 use crate::seat::{Seat, is_dead, is_killed};
-use hp_base::Task;
+use hp_base::{File, Index, LIMIT, Task};
 use hp_fault::Parts;
 use hp_fault::shared::is_bad_range;
 use hp_machine::Call;
+use hp_machine::alloc::AllocPhase;
 use hp_machine::map::MapPhase;
+use hp_machine::punch::PunchPhase;
 use hp_machine::touch::TouchPhase;
+use hp_machine::truncate::TruncatePhase;
 
-// Who holds the lock that the map's next step would take.
+// Who holds the lock that a call on the file would take at its start, unless it ends there.
+fn lock_blocker(parts: &Parts, killed: bool, file: File, is_bad: bool) -> Option<Task>
+    requires { IsSized (state_of parts.now) }
+    ensures { result ≡ lock_blocker (state_of parts.now) killed file is_bad }
+{
+    let files = parts.files.len();
+    if file.number() as usize >= files || is_bad || killed {
+        return None;
+    }
+    parts.locks.holder(file.number())
+}
+
+// Who holds the slot of the index.
+fn slot_blocker(parts: &Parts, file: File, index: Index) -> Option<Task>
+    ensures { result ≡ slot_blocker (state_of parts.now) file index }
+{
+    let slot = parts.slots.slot_of(file, index);
+    parts.slots.holder(slot)
+}
+
+fn touch_blocker(parts: &Parts, killed: bool, phase: &TouchPhase) -> Option<Task>
+    ensures { result ≡ touch_blocker (state_of parts.now) killed phase.now }
+{
+    match phase {
+        TouchPhase::Want(want) if !killed => {
+            slot_blocker(parts, want.touch.file, want.touch.index)
+        }
+        _ => None,
+    }
+}
+
 fn map_blocker(parts: &Parts, killed: bool, phase: &MapPhase) -> Option<Task>
     requires { IsSized (state_of parts.now) }
     ensures { result ≡ map_blocker (state_of parts.now) killed phase.now }
 {
-    let MapPhase::Start(start) = phase else {
-        return None;
-    };
-    let map = &start.map;
-    let files = parts.files.len();
-    if map.file.number() as usize >= files || is_bad_range(map.from, map.len) || killed {
-        return None;
+    match phase {
+        MapPhase::Start(start) => {
+            let is_bad = is_bad_range(start.map.from, start.map.len);
+            lock_blocker(parts, killed, start.map.file, is_bad)
+        }
+        _ => None,
     }
-    parts.locks.holder(map.file.number())
 }
 
-// Who holds the slot that the touch's next step would take.
-fn touch_blocker(parts: &Parts, killed: bool, phase: &TouchPhase) -> Option<Task>
-    ensures { result ≡ touch_blocker (state_of parts.now) killed phase.now }
+fn alloc_blocker(parts: &Parts, killed: bool, phase: &AllocPhase) -> Option<Task>
+    requires { IsSized (state_of parts.now) }
+    ensures { result ≡ alloc_blocker (state_of parts.now) killed phase.now }
 {
-    let TouchPhase::Want(want) = phase else {
-        return None;
-    };
-    if killed {
-        return None;
+    match phase {
+        AllocPhase::Start(start) => {
+            let is_bad = is_bad_range(start.allocation.from, start.allocation.len);
+            lock_blocker(parts, killed, start.allocation.file, is_bad)
+        }
+        AllocPhase::Want(want) if !killed => {
+            slot_blocker(parts, want.allocation.file, want.index)
+        }
+        _ => None,
     }
-    let touch = &want.touch;
-    let slot = parts.slots.slot_of(touch.file, touch.index);
-    parts.slots.holder(slot)
+}
+
+fn punch_blocker(parts: &Parts, killed: bool, phase: &PunchPhase) -> Option<Task>
+    requires { IsSized (state_of parts.now) }
+    ensures { result ≡ punch_blocker (state_of parts.now) killed phase.now }
+{
+    match phase {
+        PunchPhase::Start(start) => {
+            let is_bad = is_bad_range(start.hole.from, start.hole.len);
+            lock_blocker(parts, killed, start.hole.file, is_bad)
+        }
+        PunchPhase::Want(want) => slot_blocker(parts, want.hole.file, want.index),
+        _ => None,
+    }
+}
+
+fn truncate_blocker(parts: &Parts, killed: bool, phase: &TruncatePhase) -> Option<Task>
+    requires { IsSized (state_of parts.now) }
+    ensures { result ≡ truncate_blocker (state_of parts.now) killed phase.now }
+{
+    match phase {
+        TruncatePhase::Start(start) => {
+            let is_bad = start.truncation.new > LIMIT;
+            lock_blocker(parts, killed, start.truncation.file, is_bad)
+        }
+        TruncatePhase::Want(want) => slot_blocker(parts, want.truncation.file, want.index),
+        _ => None,
+    }
 }
 
 fn call_blocker(parts: &Parts, killed: bool, call: &Call) -> Option<Task>
@@ -52,11 +112,10 @@ fn call_blocker(parts: &Parts, killed: bool, call: &Call) -> Option<Task>
     match call {
         Call::Touch(phase) => touch_blocker(parts, killed, phase),
         Call::Map(phase) => map_blocker(parts, killed, phase),
-        Call::Alloc(_)
-        | Call::Punch(_)
-        | Call::Truncate(_)
-        | Call::Unmap(_)
-        | Call::Exit(_) => None,
+        Call::Alloc(phase) => alloc_blocker(parts, killed, phase),
+        Call::Punch(phase) => punch_blocker(parts, killed, phase),
+        Call::Truncate(phase) => truncate_blocker(parts, killed, phase),
+        Call::Unmap(_) | Call::Exit(_) => None,
     }
 }
 

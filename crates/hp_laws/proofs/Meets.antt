@@ -4,7 +4,7 @@ use Rattle.std.proofs.Common.{◌≡◌, ◌≢◌, ℕ, ◌+◌, ◌<◌, ◌�
 use Rattle.std.specs.Prelude.{true, false, ◌==◌, Option, Some, None}
 use Rattle.std.proofs.lemmas.Bool.Decides.{nat_tests}
 use Rattle.hp_base.specs.Indices.{count_within}
-use Rattle.hp_base.specs.Mappings.{find, fits, is_base}
+use Rattle.hp_base.specs.Mappings.{find, fits, is_base, in_mapping}
 use Rattle.hp_frames.specs.declared.frame.FrameState.TheVariants as state
 use Rattle.hp_machine.specs.State.{State, slot_of, free_frames, is_dead}
 use Rattle.hp_machine.specs.Events.{IsReached}
@@ -234,12 +234,12 @@ truncate_stands s t phase reached e = let h = always s reached in let o = h.live
 abbrev pub UnmapStands : State → (task : ℕ) → UnmapPhase → Type 0
 UnmapStands s t (unmap.Start p) = Unit {0}
 UnmapStands s t (unmap.Clear p) = record { base : is_base (s.areas t) p.base ≡ true }
-UnmapStands s t (unmap.Drop p) = record { base : is_base (s.areas t) p.base ≡ true }
+UnmapStands s t (unmap.Drop p) = record { base : is_base (s.areas t) p.base ≡ true; empty : (v x : ℕ) → s.table t v ≡ Some x → in_mapping (s.areas t) p.base v ≡ false }
 
 unmap_facts : (s : State) (t : ℕ) (phase : UnmapPhase) → Inv s.geometry s → t < s.geometry.tasks + 1 → s.calls t ≡ Some (call.Unmap phase) → UnmapStands s t phase
 unmap_facts s t (unmap.Start p) h l e = tt
 unmap_facts s t (unmap.Clear p) h l e = let y = stands_at s t _ h e in record { base = y.facts.base }
-unmap_facts s t (unmap.Drop p) h l e = let y = stands_at s t _ h e in record { base = y.facts.base }
+unmap_facts s t (unmap.Drop p) h l e = let y = stands_at s t _ h e in record { base = y.facts.base; empty = y.facts.empty }
 
 pub unmap_stands : (s : State) (t : ℕ) (phase : UnmapPhase) → IsReached s → s.calls t ≡ Some (call.Unmap phase) → UnmapStands s t phase
 unmap_stands s t phase reached e = let h = always s reached in let o = h.lives.there t (h.lives.busy t (call.Unmap phase) e) in unmap_facts s t phase h.inv (let a = o.1 in omega arith) e
@@ -247,13 +247,13 @@ unmap_stands s t phase reached e = let h = always s reached in let o = h.lives.t
 abbrev pub ExitStands : State → (task : ℕ) → ExitPhase → Type 0
 ExitStands s t exit.Start = Unit {0}
 ExitStands s t (exit.Clear p) = record { base : is_base (s.areas t) p.base ≡ true }
-ExitStands s t (exit.Drop p) = record { base : is_base (s.areas t) p.base ≡ true }
+ExitStands s t (exit.Drop p) = record { base : is_base (s.areas t) p.base ≡ true; empty : (v x : ℕ) → s.table t v ≡ Some x → in_mapping (s.areas t) p.base v ≡ false }
 ExitStands s t exit.Leave = Unit {0}
 
 exit_facts : (s : State) (t : ℕ) (phase : ExitPhase) → Inv s.geometry s → t < s.geometry.tasks + 1 → s.calls t ≡ Some (call.Exit phase) → ExitStands s t phase
 exit_facts s t exit.Start h l e = tt
 exit_facts s t (exit.Clear p) h l e = let y = stands_at s t _ h e in record { base = y.facts.base }
-exit_facts s t (exit.Drop p) h l e = let y = stands_at s t _ h e in record { base = y.facts.base }
+exit_facts s t (exit.Drop p) h l e = let y = stands_at s t _ h e in record { base = y.facts.base; empty = y.facts.empty }
 exit_facts s t exit.Leave h l e = tt
 
 pub exit_stands : (s : State) (t : ℕ) (phase : ExitPhase) → IsReached s → s.calls t ≡ Some (call.Exit phase) → ExitStands s t phase

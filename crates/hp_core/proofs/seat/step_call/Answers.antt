@@ -1,4 +1,4 @@
-use Rattle.hp_core.proofs.Rows.{touch_row, map_row}
+use Rattle.hp_core.proofs.Rows.{touch_row, map_row, alloc_row, punch_row, truncate_row, unmap_row, exit_row}
 use Rattle.hp_core.proofs.seat.step_call.Goals as goal
 
 pub returns-in-Touch-clause-row : goal.returns-in-Touch-clause-row
@@ -6,3 +6,18 @@ returns-in-Touch-clause-row c = rw c.in-Touch.is (touch_row _ _ _ _ _ _ _ _ c.fi
 
 pub returns-in-Map-clause-row : goal.returns-in-Map-clause-row
 returns-in-Map-clause-row c = rw c.in-Map.is (map_row _ _ _ _ _ _ _ _ c.finish-in-Map.ensures c.step_map.ensures.row)
+
+pub returns-in-Alloc-clause-row : goal.returns-in-Alloc-clause-row
+returns-in-Alloc-clause-row c = rw c.in-Alloc.is (alloc_row _ _ _ _ _ _ _ _ c.finish-in-Alloc.ensures c.step_alloc.ensures.row)
+
+pub returns-in-Punch-clause-row : goal.returns-in-Punch-clause-row
+returns-in-Punch-clause-row c = rw c.in-Punch.is (punch_row _ _ _ _ _ _ _ _ c.finish-in-Punch.ensures c.step_punch.ensures.row)
+
+pub returns-in-Truncate-clause-row : goal.returns-in-Truncate-clause-row
+returns-in-Truncate-clause-row c = rw c.in-Truncate.is (truncate_row _ _ _ _ _ _ _ _ c.finish-in-Truncate.ensures c.step_truncate.ensures.row)
+
+pub returns-in-Unmap-clause-row : goal.returns-in-Unmap-clause-row
+returns-in-Unmap-clause-row c = rw c.in-Unmap.is (unmap_row _ _ _ _ _ _ _ _ c.finish-in-Unmap.ensures c.step_unmap.ensures.row)
+
+pub returns-in-Exit-clause-row : goal.returns-in-Exit-clause-row
+returns-in-Exit-clause-row c = rw c.in-Exit.is (exit_row _ _ _ _ _ _ _ _ c.finish-in-Exit.ensures c.step_exit.ensures.row)

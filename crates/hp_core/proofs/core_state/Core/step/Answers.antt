@@ -8,13 +8,13 @@ use Rattle.hp_core.proofs.Meets.{fits_from_sound}
 use Rattle.hp_core.proofs.Steps.{sound_result, row_result}
 use Rattle.hp_core.proofs.core_state.Core.step.Goals as goal
 
-pub step_event-requires-clause-fits : goal.step_event-requires-clause-fits
-step_event-requires-clause-fits c = fits_from_sound (record { sizes = sizes c.self.inside.config; parts = state_of c.self.inside.parts; seats = c.self.inside.seats.items }) c.args.event c.self.invariant
+pub step_event-requires : goal.step_event-requires
+step_event-requires c = fits_from_sound (record { sizes = sizes c.self.inside.config; parts = state_of c.self.inside.parts; seats = c.self.inside.seats.items }) c.args.event c.self.invariant
 
 pub invariant_of-self : goal.invariant_of-self
 invariant_of-self c =
     let s : CoreState = record { sizes = sizes c.self.inside.config; parts = state_of c.self.inside.parts; seats = c.self.inside.seats.items } in
-    sound_result s c.args.event c.step_event.result _ _ c.requires.built c.self.invariant (fits_from_sound s c.args.event c.self.invariant) c.step_event.ensures.row c.step_event.ensures.sizes c.step_event.ensures.seats c.step_event.ensures.err
+    sound_result s c.args.event c.step_event.result _ _ c.self.invariant (fits_from_sound s c.args.event c.self.invariant) c.step_event.ensures.row c.step_event.ensures.sizes c.step_event.ensures.seats c.step_event.ensures.err
 
 pub returns-clause-row : goal.returns-clause-row
 returns-clause-row c =
@@ -24,7 +24,7 @@ returns-clause-row c =
 pub returns-clause-headline : goal.returns-clause-headline
 returns-clause-headline c =
     let s : CoreState = record { sizes = sizes c.self.inside.config; parts = state_of c.self.inside.parts; seats = c.self.inside.seats.items } in
-    headline_of _ (sound_result s c.args.event c.step_event.result _ _ c.requires.built c.self.invariant (fits_from_sound s c.args.event c.self.invariant) c.step_event.ensures.row c.step_event.ensures.sizes c.step_event.ensures.seats c.step_event.ensures.err)
+    headline_of _ (sound_result s c.args.event c.step_event.result _ _ c.self.invariant (fits_from_sound s c.args.event c.self.invariant) c.step_event.ensures.row c.step_event.ensures.sizes c.step_event.ensures.seats c.step_event.ensures.err)
 
 pub returns-clause-config : goal.returns-clause-config
 unfolding config_of
