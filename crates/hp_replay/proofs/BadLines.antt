@@ -30,7 +30,7 @@ unread zero rest back no_end none = λ s more within e.
     let read : line_at 0 rest ≡ Some (header s) = rw (is.0, header_again s within) refl in
     none_some _ (header s) none read
 unread (suc n) rest back no_end none = inr (λ x more trace e.
-    let is = line_is rest (event_text x) back more no_end (event_width x trace.fits).no_end (line_first _ (event_text x) more e) in
+    let is = line_is rest (event_text x) back more no_end (event_width x trace).no_end (line_first _ (event_text x) more e) in
     let read : line_at (suc n) rest ≡ Some (event x) = rw (is.0, event_again x trace) refl in
     none_some _ (event x) none read)
 
@@ -40,7 +40,7 @@ past_width zero rest back no_end lt = λ s more within e.
     let fits = (sizes_width s within).width in
     no_line_within rest back (sizes_text s) more no_end (omega arith) (line_first _ (sizes_text s) more e)
 past_width (suc n) rest back no_end lt = inr (λ x more trace e.
-    let fits = (event_width x trace.fits).width in
+    let fits = (event_width x trace).width in
     no_line_within rest back (event_text x) more no_end (omega arith) (line_first _ (event_text x) more e))
 
 -- the bytes are over, and no line ended in them

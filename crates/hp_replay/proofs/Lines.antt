@@ -11,9 +11,8 @@ use Rattle.hp_base.specs.declared.event.Op.{Op}
 use Rattle.hp_base.specs.declared.event.Op.TheVariants.{Map, MapNoReserve, Unmap, Load, Store, Alloc, Punch, Truncate, Exit}
 use Rattle.hp_base.specs.declared.event.Event.{Event}
 use Rattle.hp_base.specs.declared.event.Event.TheVariants.{Begin, Step, Kill}
-use Rattle.hp_core.specs.Sound.{is_built, IsBuilt}
-use Rattle.hp_replay.specs.Fits.{IsShort, OpFits, IsTraceEvent}
-use Rattle.hp_replay.specs.Reading.{◌>>=◌, after_word, number_at, field_at, ended, last_at, range_at, pair_at, behind, op_at, event_at, last_field_at, sizes_at, header_at, limit, word_limit}
+use Rattle.hp_replay.specs.Fits.{IsShort, OpFits, EventFits}
+use Rattle.hp_replay.specs.Reading.{◌>>=◌, after_word, number_at, field_at, ended, last_at, range_at, pair_at, option_or, behind, range_op_at, plain_op_at, op_at, event_at, last_field_at, sizes_at, header_at, limit, word_limit}
 use Rattle.hp_replay.proofs.Numbers.{chosen, bind_some, number_takes, number_again, word_takes, Stops}
 
 ended_takes : {A : Type 0} (x : A) (bytes : List ℕ) (y : A) → ended x bytes ≡ Some y → (bytes ≡ []) × (x ≡ y)
@@ -101,87 +100,134 @@ some_is : {A : Type 0} (x y : A) → Some x ≡ Some y → x ≡ y
 some_is x y e = cc
 
 abbrev pub Spells : List ℕ → Op → Type 0
-Spells bytes op = (bytes ≡ op_text op) × OpFits op × (is_built op ≡ true)
+Spells bytes op = (bytes ≡ op_text op) × OpFits op
 
-pub op_again : (op : Op) → OpFits op → is_built op ≡ true → op_at (op_text op) ≡ Some op
-unfolding op_at
-op_again (Map file from len) fits built =
+pub op_again : (op : Op) → OpFits op → op_at (op_text op) ≡ Some op
+unfolding op_at range_op_at plain_op_at
+op_again (Map file from len) fits =
     let regrouped = append_assoc (decimal file) (field from) (field len) in
     rw (regrouped, range_again file from len fits.0 fits.1 fits.2) refl
-op_again (MapNoReserve file from len) fits built =
+op_again (MapNoReserve file from len) fits =
     let regrouped = append_assoc (decimal file) (field from) (field len) in
     rw (regrouped, range_again file from len fits.0 fits.1 fits.2) refl
-op_again (Unmap base) fits built = absurd cc
-op_again (Load vpn) fits built = rw (last_again vpn fits) refl
-op_again (Store vpn word) fits built =
+op_again (Unmap base) fits = rw (last_again base fits) refl
+op_again (Load vpn) fits = rw (last_again vpn fits) refl
+op_again (Store vpn word) fits =
     let regrouped : (codes "store" ++ field vpn) ++ field word ≡ codes "store " ++ (decimal vpn ++ field word) = append_assoc (codes "store") (field vpn) (field word) in
     rw (regrouped, pair_again word_limit vpn word (omega arith) fits.0 (let l : word < 2 ^ 64 = fits.1 in omega arith)) refl
-op_again (Alloc file from len keep) fits built = absurd cc
-op_again (Punch file from len) fits built = absurd cc
-op_again (Truncate file new) fits built = absurd cc
-op_again Exit fits built = absurd cc
+op_again (Alloc file from len true) fits =
+    let regrouped = append_assoc (decimal file) (field from) (field len) in
+    rw (regrouped, range_again file from len fits.0 fits.1 fits.2) refl
+op_again (Alloc file from len false) fits =
+    let regrouped = append_assoc (decimal file) (field from) (field len) in
+    rw (regrouped, range_again file from len fits.0 fits.1 fits.2) refl
+op_again (Punch file from len) fits =
+    let regrouped = append_assoc (decimal file) (field from) (field len) in
+    rw (regrouped, range_again file from len fits.0 fits.1 fits.2) refl
+op_again (Truncate file new) fits =
+    let regrouped : (codes "trunc" ++ field file) ++ field new ≡ codes "trunc " ++ (decimal file ++ field new) = append_assoc (codes "trunc") (field file) (field new) in
+    rw (regrouped, pair_again limit file new (omega arith) fits.0 (let l : new < 2 ^ 32 = fits.1 in omega arith)) refl
+op_again Exit fits = refl
 
 -- what is made of a range
-range_case : (word bytes rest : List ℕ) (make : ℕ → ℕ → ℕ → Op) (op : Op) → ((file from len : ℕ) → IsShort file × IsShort from × IsShort len → OpFits (make file from len)) → ((file from len : ℕ) → is_built (make file from len) ≡ true) → ((file from len : ℕ) → word ++ ((decimal file ++ field from) ++ field len) ≡ op_text (make file from len)) → bytes ≡ word ++ rest → (range_at rest >>= λ r. Some (make r.0 r.1 r.2)) ≡ Some op → Spells bytes op
-range_case word bytes rest make op fits built spelled parts e =
+range_case : (word bytes rest : List ℕ) (make : ℕ → ℕ → ℕ → Op) (op : Op) → ((file from len : ℕ) → IsShort file × IsShort from × IsShort len → OpFits (make file from len)) → ((file from len : ℕ) → word ++ ((decimal file ++ field from) ++ field len) ≡ op_text (make file from len)) → bytes ≡ word ++ rest → (range_at rest >>= λ r. Some (make r.0 r.1 r.2)) ≡ Some op → Spells bytes op
+range_case word bytes rest make op fits spelled parts e =
     let a = bind_some (range_at rest) (λ r. Some (make r.0 r.1 r.2)) op e in
     let t = range_takes rest a.0 a.1 in
     let text : rest ≡ (decimal a.0.0 ++ field a.0.1) ++ field a.0.2 = t.0 ∙ sym (append_assoc (decimal a.0.0) (field a.0.1) (field a.0.2)) in
     let whole : bytes ≡ op_text (make a.0.0 a.0.1 a.0.2) = parts ∙ ap (λ (t : List ℕ). word ++ t) text ∙ spelled a.0.0 a.0.1 a.0.2 in
-    subst (λ (op : Op). Spells bytes op) (some_is _ _ a.2) (whole, fits a.0.0 a.0.1 a.0.2 (t.1, t.2, t.3), built a.0.0 a.0.1 a.0.2)
+    subst (λ (op : Op). Spells bytes op) (some_is _ _ a.2) (whole, fits a.0.0 a.0.1 a.0.2 (t.1, t.2, t.3))
 
 -- what is made of one number
-number_case : (word bytes rest : List ℕ) (make : ℕ → Op) (op : Op) → ((n : ℕ) → IsShort n → OpFits (make n)) → ((n : ℕ) → is_built (make n) ≡ true) → ((n : ℕ) → word ++ decimal n ≡ op_text (make n)) → bytes ≡ word ++ rest → (last_at rest >>= λ n. Some (make n)) ≡ Some op → Spells bytes op
-number_case word bytes rest make op fits built spelled parts e =
+number_case : (word bytes rest : List ℕ) (make : ℕ → Op) (op : Op) → ((n : ℕ) → IsShort n → OpFits (make n)) → ((n : ℕ) → word ++ decimal n ≡ op_text (make n)) → bytes ≡ word ++ rest → (last_at rest >>= λ n. Some (make n)) ≡ Some op → Spells bytes op
+number_case word bytes rest make op fits spelled parts e =
     let a = bind_some (last_at rest) (λ n. Some (make n)) op e in
     let t = last_takes rest a.0 a.1 in
     let whole : bytes ≡ op_text (make a.0) = parts ∙ ap (λ (t : List ℕ). word ++ t) t.0 ∙ spelled a.0 in
-    subst (λ (op : Op). Spells bytes op) (some_is _ _ a.2) (whole, fits a.0 t.1, built a.0)
+    subst (λ (op : Op). Spells bytes op) (some_is _ _ a.2) (whole, fits a.0 t.1)
 
 -- and of two
-pair_case : (most : ℕ) (word bytes rest : List ℕ) (make : ℕ → ℕ → Op) (op : Op) → 9 ≤ most → most < 2 ^ 64 → ((a b : ℕ) → IsShort a → b ≤ most → OpFits (make a b)) → ((a b : ℕ) → is_built (make a b) ≡ true) → ((a b : ℕ) → word ++ (decimal a ++ field b) ≡ op_text (make a b)) → bytes ≡ word ++ rest → (pair_at most rest >>= λ r. Some (make r.0 r.1)) ≡ Some op → Spells bytes op
-pair_case most word bytes rest make op low high fits built spelled parts e =
+pair_case : (most : ℕ) (word bytes rest : List ℕ) (make : ℕ → ℕ → Op) (op : Op) → 9 ≤ most → most < 2 ^ 64 → ((a b : ℕ) → IsShort a → b ≤ most → OpFits (make a b)) → ((a b : ℕ) → word ++ (decimal a ++ field b) ≡ op_text (make a b)) → bytes ≡ word ++ rest → (pair_at most rest >>= λ r. Some (make r.0 r.1)) ≡ Some op → Spells bytes op
+pair_case most word bytes rest make op low high fits spelled parts e =
     let a = bind_some (pair_at most rest) (λ r. Some (make r.0 r.1)) op e in
     let t = pair_takes most rest a.0 low high a.1 in
     let whole : bytes ≡ op_text (make a.0.0 a.0.1) = parts ∙ ap (λ (t : List ℕ). word ++ t) t.0 ∙ spelled a.0.0 a.0.1 in
-    subst (λ (op : Op). Spells bytes op) (some_is _ _ a.2) (whole, fits a.0.0 a.0.1 t.1 t.2, built a.0.0 a.0.1)
+    subst (λ (op : Op). Spells bytes op) (some_is _ _ a.2) (whole, fits a.0.0 a.0.1 t.1 t.2)
 
-pub op_takes : (bytes : List ℕ) (op : Op) → op_at bytes ≡ Some op → Spells bytes op
-unfolding op_at
-op_takes bytes op e =
+-- and of nothing
+exit_case : (bytes rest : List ℕ) (op : Op) → bytes ≡ codes "exit" ++ rest → ended Exit rest ≡ Some op → Spells bytes op
+exit_case bytes rest op parts e =
+    let t = ended_takes Exit rest op e in
+    let whole : bytes ≡ op_text Exit = parts ∙ ap (λ (t : List ℕ). codes "exit" ++ t) t.0 in
+    subst (λ (op : Op). Spells bytes op) t.1 (whole, tt)
+
+none_op : {A : Type 0} {x : A} → None ≡ Some x → ⊥
+none_op e = cc
+
+range_op_takes : (bytes : List ℕ) (op : Op) → range_op_at bytes ≡ Some op → Spells bytes op
+unfolding range_op_at
+range_op_takes bytes op e =
     elim (behind_some (codes "map ") bytes _ _ op e) [
-      | inl w ↦ range_case (codes "map ") bytes w.0 Map op (λ _ _ _ f. f) (λ _ _ _. refl) (λ _ _ _. refl) w.1 w.2
+      | inl w ↦ range_case (codes "map ") bytes w.0 Map op (λ _ _ _ f. f) (λ _ _ _. refl) w.1 w.2
       | inr e0 ↦ elim (behind_some (codes "mapn ") bytes _ _ op e0) [
-        | inl w ↦ range_case (codes "mapn ") bytes w.0 MapNoReserve op (λ _ _ _ f. f) (λ _ _ _. refl) (λ _ _ _. refl) w.1 w.2
-        | inr e1 ↦ elim (behind_some (codes "load ") bytes _ _ op e1) [
-          | inl w ↦ number_case (codes "load ") bytes w.0 Load op (λ _ f. f) (λ _. refl) (λ _. refl) w.1 w.2
-          | inr e2 ↦ elim (behind_some (codes "store ") bytes _ _ op e2) [
-            | inl w ↦ pair_case word_limit (codes "store ") bytes w.0 Store op (omega arith) (omega arith) (λ _ word f g. (f, omega (arith, g))) (λ _ _. refl) (λ vpn word. sym (append_assoc (codes "store") (field vpn) (field word))) w.1 w.2
-            | inr e3 ↦ absurd (none_some e3)
+        | inl w ↦ range_case (codes "mapn ") bytes w.0 MapNoReserve op (λ _ _ _ f. f) (λ _ _ _. refl) w.1 w.2
+        | inr e1 ↦ elim (behind_some (codes "alloc ") bytes _ _ op e1) [
+          | inl w ↦ range_case (codes "alloc ") bytes w.0 (λ file from len. Alloc file from len false) op (λ _ _ _ f. f) (λ _ _ _. refl) w.1 w.2
+          | inr e2 ↦ elim (behind_some (codes "allock ") bytes _ _ op e2) [
+            | inl w ↦ range_case (codes "allock ") bytes w.0 (λ file from len. Alloc file from len true) op (λ _ _ _ f. f) (λ _ _ _. refl) w.1 w.2
+            | inr e3 ↦ elim (behind_some (codes "punch ") bytes _ _ op e3) [
+              | inl w ↦ range_case (codes "punch ") bytes w.0 Punch op (λ _ _ _ f. f) (λ _ _ _. refl) w.1 w.2
+              | inr e4 ↦ absurd (none_op e4)
+            ]
           ]
         ]
       ]
     ]
+
+plain_op_takes : (bytes : List ℕ) (op : Op) → plain_op_at bytes ≡ Some op → Spells bytes op
+unfolding plain_op_at
+plain_op_takes bytes op e =
+    elim (behind_some (codes "load ") bytes _ _ op e) [
+      | inl w ↦ number_case (codes "load ") bytes w.0 Load op (λ _ f. f) (λ _. refl) w.1 w.2
+      | inr e0 ↦ elim (behind_some (codes "store ") bytes _ _ op e0) [
+        | inl w ↦ pair_case word_limit (codes "store ") bytes w.0 Store op (omega arith) (omega arith) (λ _ word f g. (f, omega (arith, g))) (λ vpn word. sym (append_assoc (codes "store") (field vpn) (field word))) w.1 w.2
+        | inr e1 ↦ elim (behind_some (codes "unmap ") bytes _ _ op e1) [
+          | inl w ↦ number_case (codes "unmap ") bytes w.0 Unmap op (λ _ f. f) (λ _. refl) w.1 w.2
+          | inr e2 ↦ elim (behind_some (codes "trunc ") bytes _ _ op e2) [
+            | inl w ↦ pair_case limit (codes "trunc ") bytes w.0 Truncate op (omega arith) (omega arith) (λ _ new f g. (f, omega (arith, g))) (λ file new. sym (append_assoc (codes "trunc") (field file) (field new))) w.1 w.2
+            | inr e3 ↦ elim (behind_some (codes "exit") bytes _ _ op e3) [
+              | inl w ↦ exit_case bytes w.0 op w.1 w.2
+              | inr e4 ↦ absurd (none_op e4)
+            ]
+          ]
+        ]
+      ]
+    ]
+
+pub op_takes : (bytes : List ℕ) (op : Op) → op_at bytes ≡ Some op → Spells bytes op
+unfolding op_at
+op_takes bytes op e = by (range_op_at bytes) refl e
   where
-    none_some : {A : Type 0} {x : A} → None ≡ Some x → ⊥
-    none_some e = cc
+    by : (first : Option Op) → range_op_at bytes ≡ first → option_or first (plain_op_at bytes) ≡ Some op → Spells bytes op
+    by (Some found) is d = range_op_takes bytes op (is ∙ d)
+    by None is d = plain_op_takes bytes op d
 
 -- ---- events
 
 abbrev pub SpellsEvent : List ℕ → Event → Type 0
-SpellsEvent bytes event = (bytes ≡ event_text event) × IsTraceEvent event
+SpellsEvent bytes event = (bytes ≡ event_text event) × EventFits event
 
-pub event_again : (event : Event) → IsTraceEvent event → event_at (event_text event) ≡ Some event
+pub event_again : (event : Event) → EventFits event → event_at (event_text event) ≡ Some event
 unfolding event_at
 event_again (Begin task op) is =
-    let fits : IsShort task × OpFits op = is.fits in
+    let fits : IsShort task × OpFits op = is in
     let regrouped = append_assoc (decimal task) (codes " ") (op_text op) in
-    rw (regrouped, number_again limit task (codes " " ++ op_text op) (omega arith) (omega (arith, fits.0)) refl, op_again op fits.1 is.built) refl
-event_again (Step task true) is = rw (last_again task is.fits) refl
-event_again (Step task false) is = rw (last_again task is.fits) refl
-event_again (Kill task) is = rw (last_again task is.fits) refl
+    rw (regrouped, number_again limit task (codes " " ++ op_text op) (omega arith) (omega (arith, fits.0)) refl, op_again op fits.1) refl
+event_again (Step task true) is = rw (last_again task is) refl
+event_again (Step task false) is = rw (last_again task is) refl
+event_again (Kill task) is = rw (last_again task is) refl
 
-task_case : (word bytes rest : List ℕ) (make : ℕ → Event) (event : Event) → ((n : ℕ) → IsShort n → IsTraceEvent (make n)) → ((n : ℕ) → word ++ decimal n ≡ event_text (make n)) → bytes ≡ word ++ rest → (last_at rest >>= λ n. Some (make n)) ≡ Some event → SpellsEvent bytes event
+task_case : (word bytes rest : List ℕ) (make : ℕ → Event) (event : Event) → ((n : ℕ) → IsShort n → EventFits (make n)) → ((n : ℕ) → word ++ decimal n ≡ event_text (make n)) → bytes ≡ word ++ rest → (last_at rest >>= λ n. Some (make n)) ≡ Some event → SpellsEvent bytes event
 task_case word bytes rest make event is spelled parts e =
     let a = bind_some (last_at rest) (λ n. Some (make n)) event e in
     let t = last_takes rest a.0 a.1 in
@@ -199,18 +245,18 @@ begin_case bytes rest event parts e =
     let text : rest ≡ decimal a.0.0 ++ (32 ∷ op_text d.0) = task.0 ∙ ap (λ (t : List ℕ). decimal a.0.0 ++ t) (space ∙ ap (λ (t : List ℕ). 32 ∷ t) op.0) in
     let regrouped : decimal a.0.0 ++ (32 ∷ op_text d.0) ≡ (decimal a.0.0 ++ (32 ∷ [])) ++ op_text d.0 = sym (append_assoc (decimal a.0.0) (32 ∷ []) (op_text d.0)) in
     let whole : bytes ≡ event_text (Begin a.0.0 d.0) = parts ∙ ap (λ (t : List ℕ). codes "begin " ++ t) (text ∙ regrouped) in
-    let is : IsTraceEvent (Begin a.0.0 d.0) = record { fits = (omega (arith, task.1), op.1); built = op.2 } in
+    let is : EventFits (Begin a.0.0 d.0) = (omega (arith, task.1), op.1) in
     subst (λ (event : Event). SpellsEvent bytes event) (some_is _ _ d.2) (whole, is)
 
 pub event_takes : (bytes : List ℕ) (event : Event) → event_at bytes ≡ Some event → SpellsEvent bytes event
 unfolding event_at
 event_takes bytes event e =
     elim (behind_some (codes "step ") bytes _ _ event e) [
-      | inl w ↦ task_case (codes "step ") bytes w.0 (λ n. Step n true) event (λ _ f. record { fits = f; built = tt }) (λ _. refl) w.1 w.2
+      | inl w ↦ task_case (codes "step ") bytes w.0 (λ n. Step n true) event (λ _ f. f) (λ _. refl) w.1 w.2
       | inr e0 ↦ elim (behind_some (codes "deny ") bytes _ _ event e0) [
-        | inl w ↦ task_case (codes "deny ") bytes w.0 (λ n. Step n false) event (λ _ f. record { fits = f; built = tt }) (λ _. refl) w.1 w.2
+        | inl w ↦ task_case (codes "deny ") bytes w.0 (λ n. Step n false) event (λ _ f. f) (λ _. refl) w.1 w.2
         | inr e1 ↦ elim (behind_some (codes "kill ") bytes _ _ event e1) [
-          | inl w ↦ task_case (codes "kill ") bytes w.0 Kill event (λ _ f. record { fits = f; built = tt }) (λ _. refl) w.1 w.2
+          | inl w ↦ task_case (codes "kill ") bytes w.0 Kill event (λ _ f. f) (λ _. refl) w.1 w.2
           | inr e2 ↦ elim (behind_some (codes "begin ") bytes _ _ event e2) [
             | inl w ↦ begin_case bytes w.0 event w.1 w.2
             | inr e3 ↦ absurd (none_some e3)

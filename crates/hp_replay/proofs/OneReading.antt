@@ -7,7 +7,7 @@ use Rattle.hp_base.specs.Text.{Sizes, sizes_text, event_text}
 use Rattle.hp_base.specs.declared.event.Event.{Event}
 use Rattle.hp_replay.specs.declared.fault.ReplayFault.{ReplayFault}
 use Rattle.hp_replay.specs.declared.fault.ReplayFault.TheVariants.{BadLine, BadHeader, Read, Write, Memory}
-use Rattle.hp_replay.specs.Fits.{IsTraceEvent}
+use Rattle.hp_replay.specs.Fits.{EventFits}
 use Rattle.hp_replay.specs.Reading.{header_at, event_at}
 use Rattle.hp_replay.specs.Replaying.{Stopped}
 use Rattle.hp_replay.specs.Traces.{BeginsNoHeader, AreWithinLimits, IsTrace, Spells, HasFault, HasBadLine, IsBadRest, IsLineFault, trace_text, events_text, event_line, header_line}
@@ -19,9 +19,9 @@ some_is : {A : Type 0} (x y : A) → Some x ≡ Some y → x ≡ y
 some_is x y e = cc
 
 -- equal lines are of equal events, and what follows them is equal
-same_event : (e f : Event) (xs ys : List ℕ) → IsTraceEvent e → IsTraceEvent f → event_line e ++ xs ≡ event_line f ++ ys → (e ≡ f) × (xs ≡ ys)
+same_event : (e f : Event) (xs ys : List ℕ) → EventFits e → EventFits f → event_line e ++ xs ≡ event_line f ++ ys → (e ≡ f) × (xs ≡ ys)
 same_event e f xs ys is of same =
-    let t = line_is (event_text e) (event_text f) xs ys (event_width e is.fits).no_end (event_width f of.fits).no_end (sym (append_assoc (event_text e) (10 ∷ []) xs) ∙ same ∙ append_assoc (event_text f) (10 ∷ []) ys) in
+    let t = line_is (event_text e) (event_text f) xs ys (event_width e is).no_end (event_width f of).no_end (sym (append_assoc (event_text e) (10 ∷ []) xs) ∙ same ∙ append_assoc (event_text f) (10 ∷ []) ys) in
     (some_is e f (sym (event_again e is) ∙ ap event_at t.0 ∙ event_again f of), t.1)
 
 same_header : (s t : Sizes) (xs ys : List ℕ) → AreWithinLimits s → AreWithinLimits t → header_line s ++ xs ≡ header_line t ++ ys → (s ≡ t) × (xs ≡ ys)
@@ -33,11 +33,11 @@ same_header s t xs ys is of same =
 abbrev pub EndsAt : ℕ → List ℕ → Type 0
 EndsAt n rest = IsBadRest n rest ⊎ (rest ≡ [])
 
-first_is : (e : Event) (events : List Event) → All IsTraceEvent (e ∷ events) → IsTraceEvent e × All IsTraceEvent events
-first_is e events all = let p = recursion_from_All IsTraceEvent (e ∷ events) all in (p.0, All-from_recursion IsTraceEvent events p.1)
+first_is : (e : Event) (events : List Event) → All EventFits (e ∷ events) → EventFits e × All EventFits events
+first_is e events all = let p = recursion_from_All EventFits (e ∷ events) all in (p.0, All-from_recursion EventFits events p.1)
 
 -- where the events end, no more event follows
-no_more : (n : ℕ) (rest : List ℕ) (e : Event) (events : List Event) (more : List ℕ) → EndsAt n rest → n + suc (length events) ≤ 1000000 → All IsTraceEvent (e ∷ events) → rest ≡ events_text (e ∷ events) ++ more → ⊥
+no_more : (n : ℕ) (rest : List ℕ) (e : Event) (events : List Event) (more : List ℕ) → EndsAt n rest → n + suc (length events) ≤ 1000000 → All EventFits (e ∷ events) → rest ≡ events_text (e ∷ events) ++ more → ⊥
 no_more n rest e events more (inl (some, inl all)) few each same = omega arith
 no_more n rest e events more (inl (some, inr none)) few each same =
     none e (events_text events ++ more) (first_is e events each).0 (same ∙ append_assoc (event_line e) (events_text events) more)
@@ -48,7 +48,7 @@ no_more n rest e events more (inr over) few each same =
     let none : length rest ≡ 0 = ap length over in
     omega arith
 
-pub same_events : (n : ℕ) (es fs : List Event) (xs ys : List ℕ) → All IsTraceEvent es → All IsTraceEvent fs → n + length es ≤ 1000000 → n + length fs ≤ 1000000 → EndsAt (n + length es) xs → EndsAt (n + length fs) ys → events_text es ++ xs ≡ events_text fs ++ ys → (es ≡ fs) × (xs ≡ ys)
+pub same_events : (n : ℕ) (es fs : List Event) (xs ys : List ℕ) → All EventFits es → All EventFits fs → n + length es ≤ 1000000 → n + length fs ≤ 1000000 → EndsAt (n + length es) xs → EndsAt (n + length fs) ys → events_text es ++ xs ≡ events_text fs ++ ys → (es ≡ fs) × (xs ≡ ys)
 same_events n [] [] xs ys each every few short end over same = (refl, same)
 same_events n [] (f ∷ fs) xs ys each every few short end over same =
     absurd (no_more n xs f fs ys (subst (λ (k : ℕ). EndsAt k xs) (omega arith) end) short every same)

@@ -144,7 +144,7 @@ can_run (suc n) (event e) None are opened = absurd (none_is (opened (omega arith
   where
     none_is : IsSome {T = CoreState} None → ⊥
     none_is e = cc
-can_run (suc n) (event e) (Some core) are opened = are.0.built
+can_run (suc n) (event e) (Some core) are opened = tt
 
 -- a line that comes finds the core that it needs
 pub line_can_run : (h next : Held) (line : Option Line) (rest : List ℕ) (core : Option CoreState) → next ≡ held_after h (take_through 10 rest) → listed line [] ≡ lines_after h (take_through 10 rest) → next.fault ≡ None → IsOpened h core → CanRunIfSome core line

@@ -8,7 +8,7 @@ use Rattle.hp_base.specs.Text.{Sizes}
 use Rattle.hp_base.specs.declared.event.Event.{Event}
 use Rattle.hp_replay.specs.declared.fault.ReplayFault.{ReplayFault}
 use Rattle.hp_replay.specs.declared.fault.ReplayFault.TheVariants.{BadLine, BadHeader}
-use Rattle.hp_replay.specs.Fits.{IsTraceEvent}
+use Rattle.hp_replay.specs.Fits.{EventFits}
 use Rattle.hp_replay.specs.Lines.{Held, opening_held, Line, header, event, line_text, AreLines, take_byte, fault_at, held_after, lines_after, end_of, end_at}
 use Rattle.hp_replay.specs.Traces.{IsTrace, Spells, HasFault, trace_text, events_text}
 use Rattle.hp_replay.proofs.Bytes.{IsHeld, keeps_held, room}
@@ -38,12 +38,12 @@ holds h (b ∷ bytes) is ok =
 pub record EventLines (lines : List Line) : Type 0 where
   pub events : List Event
   pub is : lines ≡ map event events
-  pub each : All IsTraceEvent events
+  pub each : All EventFits events
   pub text : flat_map line_text lines ≡ events_text events
   pub count : length lines ≡ length events
 
 pub event_lines : (n : ℕ) (lines : List Line) → AreLines (suc n) lines → EventLines lines
-event_lines n [] are = record { events = []; is = refl; each = All-nil IsTraceEvent; text = refl; count = refl }
+event_lines n [] are = record { events = []; is = refl; each = All-nil EventFits; text = refl; count = refl }
 event_lines n (header s ∷ lines) are = absurd are
 event_lines n (event e ∷ lines) are =
     let later : AreLines (suc (suc n)) lines = let add : suc n + 1 ≡ suc (suc n) = omega arith in subst (λ (k : ℕ). AreLines k lines) add are.1 in
@@ -51,7 +51,7 @@ event_lines n (event e ∷ lines) are =
     record {
       events = e ∷ more.events;
       is = ap (λ (x : List Line). event e ∷ x) more.is;
-      each = All-cons IsTraceEvent e more.events are.0 more.each;
+      each = All-cons EventFits e more.events are.0 more.each;
       text = ap (λ (x : List ℕ). line_text (event e) ++ x) more.text;
       count = ap suc more.count;
     }

@@ -8,7 +8,6 @@ use Rattle.std.proofs.lemmas.List.Elements.{All-nil, All-cons, All-append}
 use Rattle.std.proofs.lemmas.Grind.{flat_map-append}
 use Rattle.hp_base.specs.Text.{Sizes}
 use Rattle.hp_base.specs.declared.event.Event.{Event}
-use Rattle.hp_core.specs.Sound.{IsBuilt}
 use Rattle.hp_replay.specs.Fits.{EventFits}
 use Rattle.hp_replay.specs.Traces.{AreWithinLimits, IsTrace, header_line, event_line, events_text, trace_text}
 use Rattle.hp_replay.specs.Writing.{Wrote}
@@ -58,7 +57,7 @@ pub all_written : (o o' : Option (List ℕ)) (s : Sizes) (events items : List Ev
 all_written o o' s events items n same le w = subst (λ (x : List Event). Appends o o' (trace_text s x)) (all_taken o o' s events items n same le) w.wrote
 
 -- what was written spells the trace
-pub written_is : (o o' : Option (List ℕ)) (s : Sizes) (events items : List Event) (n : ℕ) → items ≡ events → length items ≤ n → WritingTrace o o' s events n → AreWithinLimits s → length events ≤ 1000000 → All IsBuilt events → IsTrace s events
-written_is o o' s events items n same le w within few built =
+pub written_is : (o o' : Option (List ℕ)) (s : Sizes) (events items : List Event) (n : ℕ) → items ≡ events → length items ≤ n → WritingTrace o o' s events n → AreWithinLimits s → length events ≤ 1000000 → IsTrace s events
+written_is o o' s events items n same le w within few =
     let fits : All EventFits events = subst (λ (x : List Event). All EventFits x) (all_taken o o' s events items n same le) w.fits in
-    record { within = within; each = λ k d lt. record { fits = fits k d lt; built = built k d lt }; few = few }
+    record { within = within; each = fits; few = few }

@@ -4,7 +4,6 @@ use Rattle.hp_base.specs.declared.event.Op.{Op}
 use Rattle.hp_base.specs.declared.event.Op.TheVariants.{Map, MapNoReserve, Unmap, Load, Store, Alloc, Punch, Truncate, Exit}
 use Rattle.hp_base.specs.declared.event.Event.{Event}
 use Rattle.hp_base.specs.declared.event.Event.TheVariants.{Begin, Step, Kill}
-use Rattle.hp_core.specs.Sound.{IsBuilt}
 
 -- a number of 32 bits, as each but a word is
 abbrev pub IsShort : ℕ → Type 0
@@ -26,8 +25,3 @@ abbrev pub EventFits : Event → Type 0
 EventFits (Begin task op) = IsShort task × OpFits op
 EventFits (Step task granted) = IsShort task
 EventFits (Kill task) = IsShort task
-
--- an event that a line may spell: the core can take it
-pub record IsTraceEvent (event : Event) : Type 0 where
-  pub fits : EventFits event
-  pub built : IsBuilt event

@@ -2,7 +2,7 @@
 use Rattle.std.specs.Prelude.{ℕ, zero, suc, ◌+◌, List, [], ◌∷◌, ◌++◌, length, Option, Some, None, Result, Ok, Err, ◌==◌, if◌then◌else◌, IsTrue}
 use Rattle.hp_base.specs.Limits.{within_limits}
 use Rattle.hp_base.specs.Text.{Sizes, sizes, sizes_text, event_text}
-use Rattle.hp_replay.specs.Fits.{IsTraceEvent}
+use Rattle.hp_replay.specs.Fits.{EventFits}
 use Rattle.hp_base.specs.declared.event.Event.{Event}
 use Rattle.hp_replay.specs.declared.fault.ReplayFault.{ReplayFault}
 use Rattle.hp_replay.specs.declared.fault.ReplayFault.TheVariants.{BadLine, BadHeader}
@@ -94,6 +94,6 @@ line_text (event e) = event_text e ++ 10 ∷ []
 abbrev pub AreLines : ℕ → List Line → Type 0
 AreLines n [] = Unit {0}
 AreLines zero (header s ∷ lines) = IsTrue (within_limits s.frames s.files s.slots s.tasks) × AreLines 1 lines
-AreLines (suc n) (event e ∷ lines) = IsTraceEvent e × AreLines (suc n + 1) lines
+AreLines (suc n) (event e ∷ lines) = EventFits e × AreLines (suc n + 1) lines
 AreLines zero (event e ∷ lines) = ⊥
 AreLines (suc n) (header s ∷ lines) = ⊥

@@ -6,7 +6,7 @@ use Rattle.std.specs.Char.{is_ascii_digit}
 use Rattle.hp_base.specs.Limits.{within_limits}
 use Rattle.hp_base.specs.Text.{Sizes}
 use Rattle.hp_base.specs.declared.event.Op.{Op}
-use Rattle.hp_base.specs.declared.event.Op.TheVariants.{Map, MapNoReserve, Load, Store}
+use Rattle.hp_base.specs.declared.event.Op.TheVariants.{Map, MapNoReserve, Unmap, Load, Store, Alloc, Punch, Truncate, Exit}
 use Rattle.hp_base.specs.declared.event.Event.{Event}
 use Rattle.hp_base.specs.declared.event.Event.TheVariants.{Begin, Step, Kill}
 
@@ -67,17 +67,36 @@ pair_at most bytes = do
   second ← field_at most first.1
   ended (first.0, second.0) second.1
 
+-- the first, or where there is none the second
+abbrev pub option_or : {A : Type 0} → Option A → Option A → Option A
+option_or (Some x) other = Some x
+option_or None other = other
+
 -- what is read behind the word; where the bytes don't begin with it, other
 abbrev pub behind : {A : Type 0} → List ℕ → List ℕ → (List ℕ → Option A) → Option A → Option A
 behind word bytes read other = option_map_or read (after_word word bytes) other
 
--- the operation behind a task
-unfoldable pub op_at : List ℕ → Option Op
-op_at bytes =
+-- an operation on a range of a file
+unfoldable pub range_op_at : List ℕ → Option Op
+range_op_at bytes =
     behind (codes "map ") bytes (λ rest. range_at rest >>= λ r. Some (Map r.0 r.1 r.2))
     (behind (codes "mapn ") bytes (λ rest. range_at rest >>= λ r. Some (MapNoReserve r.0 r.1 r.2))
-    (behind (codes "load ") bytes (λ rest. last_at rest >>= λ vpn. Some (Load vpn))
-    (behind (codes "store ") bytes (λ rest. pair_at word_limit rest >>= λ s. Some (Store s.0 s.1)) None)))
+    (behind (codes "alloc ") bytes (λ rest. range_at rest >>= λ r. Some (Alloc r.0 r.1 r.2 false))
+    (behind (codes "allock ") bytes (λ rest. range_at rest >>= λ r. Some (Alloc r.0 r.1 r.2 true))
+    (behind (codes "punch ") bytes (λ rest. range_at rest >>= λ r. Some (Punch r.0 r.1 r.2)) None))))
+
+-- another operation
+unfoldable pub plain_op_at : List ℕ → Option Op
+plain_op_at bytes =
+    behind (codes "load ") bytes (λ rest. last_at rest >>= λ vpn. Some (Load vpn))
+    (behind (codes "store ") bytes (λ rest. pair_at word_limit rest >>= λ s. Some (Store s.0 s.1))
+    (behind (codes "unmap ") bytes (λ rest. last_at rest >>= λ base. Some (Unmap base))
+    (behind (codes "trunc ") bytes (λ rest. pair_at limit rest >>= λ s. Some (Truncate s.0 s.1))
+    (behind (codes "exit") bytes (λ rest. ended Exit rest) None))))
+
+-- the operation behind a task
+unfoldable pub op_at : List ℕ → Option Op
+op_at bytes = option_or (range_op_at bytes) (plain_op_at bytes)
 
 -- a line behind the first, without its end
 unfoldable pub event_at : List ℕ → Option Event

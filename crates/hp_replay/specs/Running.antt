@@ -5,7 +5,6 @@ use Rattle.hp_base.specs.Text.{sizes}
 use Rattle.hp_base.specs.declared.config.Config.{Config}
 use Rattle.hp_machine.specs.declared.outcome.Outcome.{Outcome}
 use Rattle.hp_core.specs.Runs.{Row, IsOpening}
-use Rattle.hp_core.specs.Sound.{IsBuilt}
 use Rattle.hp_core.specs.State.{CoreState}
 use Rattle.hp_replay.specs.declared.fault.ReplayFault.{ReplayFault}
 use Rattle.hp_replay.specs.Lines.{Held, Line, header, event, held_after, lines_after}
@@ -25,11 +24,11 @@ abbrev pub LinesRun : Option CoreState → List Line → Option CoreState → Li
 LinesRun old [] new text = (new ≡ old) × (text ≡ [])
 LinesRun old (line ∷ lines) new text = (mid : Option CoreState) × (first : List ℕ) × (others : List ℕ) × LineRuns old line mid first × LinesRun mid lines new others × (text ≡ first ++ others)
 
--- an event needs a core that can take it
+-- an event needs a core
 abbrev pub CanRun : Option CoreState → Line → Type 0
 CanRun core (header s) = Unit {0}
 CanRun None (event e) = ⊥
-CanRun (Some core) (event e) = IsBuilt e
+CanRun (Some core) (event e) = Unit {0}
 
 abbrev pub CanRunIfSome : Option CoreState → Option Line → Type 0
 CanRunIfSome core None = Unit {0}

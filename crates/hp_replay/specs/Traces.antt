@@ -4,7 +4,7 @@ use Rattle.std.specs.List.{flat_map, list_all}
 use Rattle.hp_base.specs.Limits.{IsWithinLimits}
 use Rattle.hp_base.specs.Text.{Sizes, sizes_text, event_text}
 use Rattle.hp_base.specs.declared.event.Event.{Event}
-use Rattle.hp_replay.specs.Fits.{IsTraceEvent}
+use Rattle.hp_replay.specs.Fits.{EventFits}
 use Rattle.hp_replay.specs.declared.fault.ReplayFault.{ReplayFault}
 use Rattle.hp_replay.specs.declared.fault.ReplayFault.TheVariants.{BadLine, BadHeader, Read, Write, Memory}
 
@@ -36,7 +36,7 @@ AreWithinLimits s = IsWithinLimits s.frames s.files s.slots s.tasks
 -- what a text may spell
 pub record IsTrace (s : Sizes) (events : List Event) : Type 0 where
   pub within : AreWithinLimits s
-  pub each : All IsTraceEvent events
+  pub each : All EventFits events
   pub few : length events ≤ 1000000
 
 -- the bytes are the text of this trace
@@ -49,7 +49,7 @@ abbrev pub BeginsNoHeader : List ℕ → Type 0
 BeginsNoHeader bytes = (s : Sizes) (more : List ℕ) → AreWithinLimits s → bytes ≢ header_line s ++ more
 
 abbrev pub BeginsNoEvent : List ℕ → Type 0
-BeginsNoEvent bytes = (e : Event) (more : List ℕ) → IsTraceEvent e → bytes ≢ event_line e ++ more
+BeginsNoEvent bytes = (e : Event) (more : List ℕ) → EventFits e → bytes ≢ event_line e ++ more
 
 -- behind so many events these bytes are no more lines of the trace
 abbrev pub IsBadRest : ℕ → List ℕ → Type 0

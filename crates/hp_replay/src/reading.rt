@@ -2,7 +2,7 @@
 ghost use Rattle.std.specs.Prelude.{◌≡◌, ◌≤◌, length, IfSome};
 ghost use Rattle.std.specs.Option.{option_map};
 ghost use Rattle.hp_base.specs.Text.{sizes};
-ghost use Rattle.hp_replay.specs.Reading.{header_at, sizes_at, last_field_at, after_word, number_at, field_at, last_at, range_at, pair_at, op_at, event_at, limit, word_limit};
+ghost use Rattle.hp_replay.specs.Reading.{header_at, sizes_at, last_field_at, after_word, number_at, field_at, last_at, range_at, pair_at, range_op_at, plain_op_at, op_at, event_at, limit, word_limit};
 
 use hp_base::{Config, Event, File, Index, Op, Task, Vpn};
 
@@ -104,10 +104,23 @@ fn store_at(bytes: &[u8]) -> Option<(Vpn, u64)>
     Some((Vpn::new(vpn), word))
 }
 
-/// The operation that the rest of a line spells.
-#[tactic(auto, unfolding(crate::specs::Reading::op_at))]
-fn op_at(bytes: &[u8]) -> Option<Op>
-    ensures { result ≡ op_at bytes.now }
+/// A file and its new size, as the last of a line.
+#[tactic(auto, unfolding(crate::specs::Reading::pair_at))]
+fn truncation_at(bytes: &[u8]) -> Option<(File, u32)>
+    ensures { option_map (λ s. (s.0, s.1)) result ≡ pair_at limit bytes.now }
+{
+    let (file, rest) = short_at(bytes)?;
+    let (new, rest) = field_at(rest)?;
+    if !rest.is_empty() {
+        return None;
+    }
+    Some((File::new(file), new))
+}
+
+/// An operation on a range of a file.
+#[tactic(auto, unfolding(crate::specs::Reading::range_op_at))]
+fn range_op_at(bytes: &[u8]) -> Option<Op>
+    ensures { result ≡ range_op_at bytes.now }
 {
     if let Some(rest) = after_word(b"map ", bytes) {
         let (file, from, len) = range_at(rest)?;
@@ -115,14 +128,64 @@ fn op_at(bytes: &[u8]) -> Option<Op>
     } else if let Some(rest) = after_word(b"mapn ", bytes) {
         let (file, from, len) = range_at(rest)?;
         Some(Op::MapNoReserve { file, from, len })
-    } else if let Some(rest) = after_word(b"load ", bytes) {
+    } else if let Some(rest) = after_word(b"alloc ", bytes) {
+        let (file, from, len) = range_at(rest)?;
+        Some(alloc(file, from, len, false))
+    } else if let Some(rest) = after_word(b"allock ", bytes) {
+        let (file, from, len) = range_at(rest)?;
+        Some(alloc(file, from, len, true))
+    } else if let Some(rest) = after_word(b"punch ", bytes) {
+        let (file, from, len) = range_at(rest)?;
+        Some(Op::Punch { file, from, len })
+    } else {
+        None
+    }
+}
+
+fn alloc(file: File, from: Index, len: u32, keep: bool) -> Op
+    ensures { result ≡ Op.Alloc file from len keep }
+{
+    Op::Alloc {
+        file,
+        from,
+        len,
+        keep,
+    }
+}
+
+/// An operation on something else.
+#[tactic(auto, unfolding(crate::specs::Reading::plain_op_at))]
+fn plain_op_at(bytes: &[u8]) -> Option<Op>
+    ensures { result ≡ plain_op_at bytes.now }
+{
+    if let Some(rest) = after_word(b"load ", bytes) {
         let vpn = Vpn::new(last_at(rest)?);
         Some(Op::Load { vpn })
     } else if let Some(rest) = after_word(b"store ", bytes) {
         let (vpn, word) = store_at(rest)?;
         Some(Op::Store { vpn, word })
+    } else if let Some(rest) = after_word(b"unmap ", bytes) {
+        let base = Vpn::new(last_at(rest)?);
+        Some(Op::Unmap { base })
+    } else if let Some(rest) = after_word(b"trunc ", bytes) {
+        let (file, new) = truncation_at(rest)?;
+        Some(Op::Truncate { file, new })
     } else {
-        None
+        match after_word(b"exit", bytes)? {
+            [] => Some(Op::Exit),
+            _ => None,
+        }
+    }
+}
+
+/// The operation that the rest of a line spells.
+#[tactic(auto, unfolding(crate::specs::Reading::op_at))]
+fn op_at(bytes: &[u8]) -> Option<Op>
+    ensures { result ≡ op_at bytes.now }
+{
+    match range_op_at(bytes) {
+        Some(op) => Some(op),
+        None => plain_op_at(bytes),
     }
 }
 

@@ -4,7 +4,6 @@ ghost use Rattle.std.specs.Option.{option_map};
 ghost use Rattle.std.specs.Io.KnownBytes.{Appends};
 ghost use Rattle.hp_base.specs.Text.{sizes};
 ghost use Rattle.hp_replay.specs.Lines.{header, event, line_of, listed, held_after, lines_after, end_of};
-ghost use Rattle.hp_core.specs.Sound.{IsBuilt};
 ghost use Rattle.hp_replay.specs.Fits.{EventFits};
 ghost use Rattle.hp_replay.specs.Traces.{HasFault, IsLineFault, IsTrace, SpellsSome, event_line, trace_text};
 ghost use Rattle.hp_replay.specs.Writing.{Wrote, IsWriteFault};
@@ -48,8 +47,7 @@ pub fn write_trace<W: Write>(
     requires { length trace.now.events.items ≤ MOST_EVENTS }
     ensures ok { OnOk result (Appends (W.contents writer.old) (W.contents writer.new)
         (trace_text (sizes trace.now.config) trace.now.events.items)) }
-    ensures spells { OnOk result (All IsBuilt trace.now.events.items
-        → IsTrace (sizes trace.now.config) trace.now.events.items) }
+    ensures spells { OnOk result (IsTrace (sizes trace.now.config) trace.now.events.items) }
     ensures err { IfErr result (λ fault. IsWriteFault fault × Wrote (W.contents writer.old) (W.contents writer.new)
         (trace_text (sizes trace.now.config) trace.now.events.items)) }
 {
