@@ -1,3 +1,5 @@
+mod rows;
+
 use crate::program::program;
 use std::alloc::Global;
 use std::io;
