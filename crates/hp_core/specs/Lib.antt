@@ -1,5 +1,6 @@
 pub mod Blockers
 pub mod Fits
+pub mod Laws
 pub mod Opening
 pub mod Readers
 pub mod Runs

@@ -9,6 +9,7 @@
 pub mod core_state;
 mod events;
 mod in_flight;
+mod laws;
 mod opening;
 pub mod readers;
 pub mod run;
