@@ -6,5 +6,6 @@ pub mod Rows
 pub mod RunsOn
 pub mod Seats
 pub mod Steps
+pub mod Sums
 pub mod Tallies
 pub mod Waits

@@ -1,5 +1,5 @@
 -- The numbers of a core, in the machine's words.
-use Rattle.std.specs.Prelude.{ℕ, Option, length, count_by, is_some}
+use Rattle.std.specs.Prelude.{ℕ, ℤ, pos, ◌-ℤ◌, Option, length, count_by, is_some}
 use Rattle.std.specs.Option.{option_map}
 use Rattle.std.specs.FinMap as map
 use Rattle.hp_base.specs.Numbers.{total}
@@ -8,6 +8,7 @@ use Rattle.hp_base.specs.Text.{Sizes}
 use Rattle.hp_base.specs.declared.limits.TheConstants.{LIMIT}
 use Rattle.hp_machine.specs.State.{free_frames}
 use Rattle.hp_machine.specs.Events.{word_of}
+use Rattle.hp_machine.specs.Headline.{all_less, all_more}
 use Rattle.hp_machine.specs.declared.outcome.Life.{Life}
 use Rattle.hp_machine.specs.declared.phase.Phase.{Phase}
 use Rattle.hp_fault.specs.View.{table_of}
@@ -24,6 +25,10 @@ free_of s = free_frames (as_state s).frame (as_state s).frames
 -- the reserve count
 unfoldable pub resv_of : CoreState → ℕ
 resv_of s = (as_state s).resv
+
+-- what the calls in flight owe to the reserve count
+unfoldable pub owed_of : CoreState → ℤ
+owed_of s = pos (all_more (as_state s)) -ℤ pos (all_less (as_state s))
 
 -- how many calls are in flight
 unfoldable pub calls_of : CoreState → ℕ

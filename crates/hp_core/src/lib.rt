@@ -11,6 +11,7 @@ mod events;
 mod in_flight;
 mod laws;
 mod opening;
+mod owing;
 pub mod readers;
 pub mod run;
 pub mod seat;
