@@ -1,0 +1,77 @@
+-- How often a frame is counted.
+use Rattle.std.proofs.Common.{◌≡◌, ℕ, ◌+◌, ◌<◌, ◌≤◌, true, false, cond, ◌==◌, List, [], ◌∷◌, length, take, get_or, refl, ap, subst, arith}
+use Rattle.std.specs.Prelude.{All, count_by, sum_by, nat_lt}
+use Rattle.std.proofs.lemmas.Bool.{eqb-true, ltb-true, ltb-false}
+use Rattle.std.proofs.lemmas.List.Sums.{sum_by-cons, sum_by_more}
+use Rattle.std.proofs.lemmas.List.Elements.{All-head, All-tail}
+use Rattle.hp_audit.specs.declared.picture.FilePicture.{FilePicture}
+use Rattle.hp_audit.specs.declared.picture.Picture.{Picture}
+use Rattle.hp_audit.specs.Findings.{place_count, IsOnePlace}
+
+-- how many pages of a file are in the frame
+abbrev pub pages_in : ℕ → FilePicture → ℕ
+pages_in x file = count_by (λ page. page.1 == x) file.pages.items
+
+-- how many places have the frame, of the pages those of these files
+unfoldable pub count_in : Picture → ℕ → List FilePicture → ℕ
+count_in p x files = count_by (λ frame. frame == x) p.free.items + count_by (λ frame. frame == x) p.hands.items + sum_by (pages_in x) files
+
+pub count_in-none : (p : Picture) (x : ℕ) (files : List FilePicture) → count_by (λ frame. frame == x) p.free.items + count_by (λ frame. frame == x) p.hands.items ≡ count_in p x (take 0 files)
+unfolding count_in
+count_in-none p x files = omega arith
+
+pub count_in-more : (p : Picture) (x i : ℕ) (files : List FilePicture) (file : FilePicture) → i < length files → file ≡ get_or files i file → count_in p x (take (i + 1) files) ≡ count_in p x (take i files) + pages_in x file
+unfolding count_in
+count_in-more p x i files file within is =
+    let more = sum_by_more (pages_in x) files i file within in
+    let here = ap (pages_in x) is in
+    omega (arith, more, here)
+
+pub count_in-all : (p : Picture) (x : ℕ) → count_in p x p.files.items ≡ place_count p x
+unfolding count_in place_count
+count_in-all p x = refl
+
+-- what holds of each element holds of one that is counted
+counted : {X : Type 0} (key : X → ℕ) (P : ℕ → Type 0) (x : ℕ) (xs : List X) → All (λ y. P (key y)) xs → 0 < count_by (λ y. key y == x) xs → P x
+counted key P x [] all some = absurd (omega arith)
+counted {X} key P x (y ∷ ys) all some =
+    let Q : X → Type 0 = λ z. P (key z) in
+    let more = sum_by-cons (λ (z : X). cond (key z == x) 1 0) y ys in
+    elim (key y == x) as (λ b. (key y == x) ≡ b → P x) [
+      | true ↦ λ e. subst P (eqb-true (key y) x e) (All-head Q y ys all)
+      | false ↦ λ e. let here : cond {A = ℕ} (key y == x) 1 0 ≡ 0 = rw e refl in counted key P x ys (All-tail Q y ys all) (omega (arith, more, here))
+    ] refl
+
+counted_in : (P : ℕ → Type 0) (x : ℕ) (files : List FilePicture) → All (λ file. All (λ page. P page.1) file.pages.items) files → 0 < sum_by (pages_in x) files → P x
+counted_in P x [] all some = absurd (omega arith)
+counted_in P x (file ∷ files) all some =
+    let Q : FilePicture → Type 0 = λ f. All (λ (page : ℕ × ℕ). P page.1) f.pages.items in
+    let more = sum_by-cons (pages_in x) file files in
+    elim (nat_lt 0 (pages_in x file)) as (λ b. nat_lt 0 (pages_in x file) ≡ b → P x) [
+      | true ↦ λ e. counted (λ (page : ℕ × ℕ). page.1) P x file.pages.items (All-head Q file files all) (ltb-true 0 (pages_in x file) e)
+      | false ↦ λ e. counted_in P x files (All-tail Q file files all) (omega (arith, more, ltb-false 0 (pages_in x file) e))
+    ] refl
+
+-- where a fact holds of each frame that is counted, it holds of each that is anywhere
+anywhere : (P : ℕ → Type 0) (x free hands pages : ℕ) → (0 < free → P x) → (0 < hands → P x) → (0 < pages → P x) → 0 < free + hands + pages → P x
+anywhere P x free hands pages in_free in_hands in_pages some =
+    elim (nat_lt 0 free) as (λ b. nat_lt 0 free ≡ b → P x) [
+      | true ↦ λ e. in_free (ltb-true 0 free e)
+      | false ↦ λ e. elim (nat_lt 0 hands) as (λ b. nat_lt 0 hands ≡ b → P x) [
+        | true ↦ λ e'. in_hands (ltb-true 0 hands e')
+        | false ↦ λ e'. in_pages (omega (arith, ltb-false 0 free e, ltb-false 0 hands e'))
+      ] refl
+    ] refl
+
+one_of_counted : (p : Picture) (P : ℕ → Type 0) (x : ℕ) → (0 < count_by (λ frame. frame == x) p.free.items → P x) → (0 < count_by (λ frame. frame == x) p.hands.items → P x) → (0 < sum_by (pages_in x) p.files.items → P x) → 0 < place_count p x → P x
+unfolding place_count
+one_of_counted p P x in_free in_hands in_pages some = anywhere P x (count_by (λ frame. frame == x) p.free.items) (count_by (λ frame. frame == x) p.hands.items) (sum_by (pages_in x) p.files.items) in_free in_hands in_pages some
+
+-- no frame is at two places where none is of those that are anywhere
+pub IsOnePlace-of_all : (p : Picture) → All (λ x. place_count p x ≤ 1) p.free.items → All (λ x. place_count p x ≤ 1) p.hands.items → All (λ file. All (λ page. place_count p page.1 ≤ 1) file.pages.items) p.files.items → IsOnePlace p
+IsOnePlace-of_all p free hands files x =
+    let P : ℕ → Type 0 = λ y. place_count p y ≤ 1 in
+    elim (nat_lt 0 (place_count p x)) as (λ b. nat_lt 0 (place_count p x) ≡ b → place_count p x ≤ 1) [
+      | true ↦ λ e. one_of_counted p P x (λ some. counted (λ (y : ℕ). y) P x p.free.items free some) (λ some. counted (λ (y : ℕ). y) P x p.hands.items hands some) (λ some. counted_in P x p.files.items files some) (ltb-true 0 (place_count p x) e)
+      | false ↦ λ e. omega (arith, ltb-false 0 (place_count p x) e)
+    ] refl

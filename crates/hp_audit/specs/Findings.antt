@@ -1,0 +1,59 @@
+-- What is right with a picture: one fact for each finding.
+use Rattle.std.specs.Prelude.{◌≡◌, ◌≢◌, ℕ, ◌+◌, ◌<◌, ◌≤◌, Bool, false, ◌==◌, ◌&&◌, not, pos, ◌+ℤ◌, List, length, All, AllPairs, Contains, count_by, sum_by, slice_get, IsSomeAnd, IfSome}
+use Rattle.std.specs.List.{list_any}
+use Rattle.hp_base.specs.Indices.{is_within, count_below}
+use Rattle.hp_base.specs.declared.limits.TheConstants.{LIMIT}
+use Rattle.hp_audit.specs.declared.picture.FilePicture.{FilePicture}
+use Rattle.hp_audit.specs.declared.picture.Picture.{Picture}
+
+-- some range has the index
+abbrev pub is_reserved : (regions : List (ℕ × ℕ)) → ℕ → Bool
+is_reserved regions i = list_any (λ region. is_within region.0 region.1 i) regions
+
+-- some page has the index
+abbrev pub has_page : (pages : List (ℕ × ℕ)) → ℕ → Bool
+has_page pages i = list_any (λ page. page.0 == i) pages
+
+-- each range and each page of the file lies below the limit, and no index has two pages
+pub record IsFileShaped (file : FilePicture) : Type 0 where
+  pub regions : All (λ region. (region.0 ≤ region.1) × (region.1 ≤ LIMIT)) file.regions.items
+  pub pages : All (λ page. page.0 < LIMIT) file.pages.items
+  pub once : AllPairs (λ page other. page.0 ≢ other.0) file.pages.items
+
+-- so has each file, and each translation is of an index below the limit of a file that is there
+pub record IsShaped (p : Picture) : Type 0 where
+  pub files : All IsFileShaped p.files.items
+  pub tables : All (λ entry. (entry.1 < length p.files.items) × (entry.2 < LIMIT)) p.tables.items
+
+-- each translation is to the file's page at that index
+abbrev pub Agrees : Picture → Type 0
+Agrees p = All (λ entry. IsSomeAnd (slice_get p.files.items entry.1) (λ file. Contains file.pages.items (entry.2, entry.3))) p.tables.items
+
+-- how many places have the frame: free ones, hands and pages
+unfoldable pub place_count : Picture → ℕ → ℕ
+place_count p x = count_by (λ frame. frame == x) p.free.items + count_by (λ frame. frame == x) p.hands.items + sum_by (λ file. count_by (λ page. page.1 == x) file.pages.items) p.files.items
+
+-- no frame is at two places
+abbrev pub IsOnePlace : Picture → Type 0
+IsOnePlace p = (x : ℕ) → place_count p x ≤ 1
+
+-- each translation of a file that isn't locked is of an index below the file's size
+abbrev pub IsBelow : Picture → Type 0
+IsBelow p = All (λ entry. IfSome (slice_get p.files.items entry.1) (λ file. file.locked ≡ false → entry.2 < file.size)) p.tables.items
+
+-- the index is reserved and has no page
+abbrev pub is_vacant : FilePicture → ℕ → Bool
+is_vacant file i = is_reserved file.regions.items i && not (has_page file.pages.items i)
+
+-- how many indices of the file are
+unfoldable pub vacant_of : FilePicture → ℕ
+vacant_of file = count_below (is_vacant file) LIMIT
+
+-- how many indices of all files are reserved and have no page
+abbrev pub vacant_in : Picture → ℕ
+vacant_in p = sum_by vacant_of p.files.items
+
+-- the reserve count is that number plus what is owed, and at most the number of free frames
+pub record IsCounted (p : Picture) : Type 0 where
+  pub exact : pos p.resv ≡ pos (vacant_in p) +ℤ p.owed
+  pub enough : p.resv ≤ length p.free.items
