@@ -24,7 +24,7 @@ use Rattle.hp_laws.proofs.Shared.{by_test}
 use Rattle.hp_meaning.specs.Meaning.{IsReady, Looks, Checked, is_bad_range, available, Filled, AllocMeans}
 use Rattle.hp_meaning.proofs.Alone.{if_true, if_false, if_none, Leads, next, moves, goes_on, ends_so, from_pool, put_put, Comes}
 use Rattle.hp_meaning.proofs.Idle.{so_true, so_false, finish, idle_again, free_slot, free_lock, put_back, pending_back, not_below_itself, and_false, checked}
-use Rattle.hp_meaning.proofs.Filling.{count_next, missing_next, count_empty, missing_empty, missing_longer, bare_parts, range_more, range_same, range_empty, range_past, none_filled, fills_same, fills_more}
+use Rattle.hp_meaning.proofs.Filling.{count_next, missing_next, count_empty, missing_empty, missing_longer, bare_parts, range_more, range_same, range_empty, range_past, range_gains, none_filled, fills_same, fills_more}
 
 -- granted steps of a task that isn't killed
 abbrev pub AllocSteps : (task : ℕ) → Pool → AllocPhase → Turn AllocPhase → Pool → Type 0
@@ -323,12 +323,13 @@ alloc_means s t f from len keep b n h ready (end, last, k, is) =
           let within = z.to.upto.within in
           let enough : nat_le (missing (s.reserved f) from (from + len)) (available s) ≡ true = grind (arith, nat_tests) in
           let r = range_paged s t f from (from + len) (size_after s a) end z.to in
+          let gains = range_gains (s.reserved f) (s.pages f) from (from + len) (h.inside.bare f) in
           let resv = r.1 in
           finish call.Alloc s t last (AllocMeans s f from len keep) _ (z.done, z.to.ends) is (so_true _ _ enough (refl, (z.to.pages, z.to.frame, z.to.upto.filled, r.0, refl)))
           (λ j. record s {
             frame = z.to.frame;
             pages = put s.pages f z.to.pages;
-            reserved = put s.reserved f (add_range (s.reserved f) from (from + len));
+            reserved = put s.reserved f (gains j);
             resv = resv j;
             size = size_after s a;
             spare = z.to.spare;
@@ -342,12 +343,13 @@ alloc_means s t f from len keep b n h ready (end, last, k, is) =
           let all = z.all in
           let short : nat_le (missing (s.reserved f) from (from + len)) (available s) ≡ false = grind (arith, nat_tests) in
           let r = range_paged s t f from z.x s.size end z.to in
+          let gains = range_gains (s.reserved f) (s.pages f) from z.x (h.inside.bare f) in
           let resv = r.1 in
           finish call.Alloc s t last (AllocMeans s f from len keep) _ (z.none, z.to.ends) is (so_false _ _ short (z.x, in_range, z.lacks, z.all, refl, (z.to.pages, z.to.frame, z.to.upto.filled, r.0, refl)))
           (λ j. record s {
             frame = z.to.frame;
             pages = put s.pages f z.to.pages;
-            reserved = put s.reserved f (add_range (s.reserved f) from z.x);
+            reserved = put s.reserved f (gains j);
             resv = resv j;
             spare = z.to.spare;
             calls = calls j;

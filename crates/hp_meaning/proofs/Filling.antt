@@ -93,6 +93,18 @@ pub range_past : (reserved : ℕ → Bool) (from i : ℕ) → add_range reserved
 unfolding add_range
 range_past reserved from i = let a : is_within from i i ≡ false = grind (arith, nat_tests) in ap (λ (c : Bool). c || reserved i) a
 
+-- where pages are reserved, a range adds its indices that have no page
+pub range_gains : (reserved : ℕ → Bool) (pages : ℕ → Option ℕ) (from to : ℕ) → ((i : ℕ) → reserved i ≡ false → pages i ≡ None) → add_range reserved from to ≡ (λ j. reserved j || (is_within from to j && is_none (pages j)))
+unfolding add_range
+range_gains reserved pages from to bare = fun_ext (λ j. each (is_within from to j) (reserved j) (pages j) (bare j))
+  where
+    each : (a r : Bool) (o : Option ℕ) → (r ≡ false → o ≡ None) → (a || r) ≡ (r || (a && is_none o))
+    each true true o h = refl
+    each true false None h = refl
+    each true false (Some x) h = (let z : Some x ≡ None = h refl in absurd (cc))
+    each false true o h = refl
+    each false false o h = refl
+
 -- nothing is filled yet
 pub none_filled : (frames : ℕ) (pages : ℕ → Option ℕ) (frame : ℕ → FrameState) (from : ℕ) → Filled frames pages frame from from pages frame
 none_filled frames pages frame from = record {

@@ -193,12 +193,14 @@ pub record Filled (frames : ℕ) (pages : ℕ → Option ℕ) (before : ℕ → 
   pub others : (x : ℕ) → ((j : ℕ) → pages j ≡ None → after j ≢ Some x) → frame x ≡ before x
   pub count : free_frames frame frames + count_within (λ j. is_none (pages j)) from to ≡ free_frames before frames
 
--- the range [from, to) has pages and is reserved, and resv loses the new pages at indices that were reserved
+-- the range [from, to) has pages; the reserved indices gain those that gained a page, and resv loses the new pages
+-- at indices that were reserved
 abbrev pub RangePaged : State → (file from to : ℕ) → (size : ℕ → ℕ) → State → Type 0
 RangePaged s f from to size m =
+    let gains = λ (j : ℕ). is_within from to j && is_none (s.pages f j) in
     let promised = count_within (λ j. s.reserved f j && is_none (s.pages f j)) from to in
     (pages : ℕ → Option ℕ) × (frame : ℕ → FrameState) × Filled s.frames (s.pages f) s.frame from to pages frame × (promised ≤ s.resv)
-    × (m ≡ record s { frame = frame; pages = put s.pages f pages; reserved = put s.reserved f (add_range (s.reserved f) from to); resv = s.resv - promised; size = size })
+    × (m ≡ record s { frame = frame; pages = put s.pages f pages; reserved = put s.reserved f (λ j. s.reserved f j || gains j); resv = s.resv - promised; size = size })
 
 -- Alloc (Linux: `hugetlbfs_fallocate`). No more of the range is missing from the reserved indices than frames are
 -- available: the range is paged, and size grows to its end unless it is to be kept: Done. Else the range is
