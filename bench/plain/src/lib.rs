@@ -1,0 +1,387 @@
+//! The same steps with nothing proved: what a plain program makes of a trace.
+
+const LIMIT: u32 = 4096;
+const VPNS: u32 = 16_384;
+
+#[derive(Clone, Copy, PartialEq)]
+pub enum Phase {
+    Start, Look, Want, Locked, Missing, Changed, Abort, Taken, Settle, Committed, Restore, Found,
+    Leave, Room, Accounted, Enter, Head, Unslot, Extend, Unmap, Evict, Delete, Free, Size, Tail,
+    Clear, Drop,
+}
+
+pub const WORDS: [&str; 27] = [
+    "start", "look", "want", "locked", "missing", "changed", "abort", "taken", "settle", "committed",
+    "restore", "found", "leave", "room", "accounted", "enter", "head", "unslot", "extend", "unmap",
+    "evict", "delete", "free", "size", "tail", "clear", "drop",
+];
+
+#[derive(Clone, Copy)]
+pub enum Answer {
+    Mapped(u32), Word(u64), Done, Segv, Beyond, NoFrame, NoMemory, Interrupted, Killed, BadFile,
+    BadRange, NotMapped, NoAddress,
+}
+
+#[derive(Clone, Copy, PartialEq)]
+pub enum Kind { Load, Store, Map, MapNoReserve, Alloc, Punch, Truncate, Unmap, Exit }
+
+#[derive(Clone, Copy)]
+pub struct Call {
+    pub kind: Kind, phase: Phase, file: u32, from: u32, len: u32, keep: bool, vpn: u32, word: u64,
+    index: u32, missing: u32, surplus: u32, base: u32, held: u32, task: u32, denied: bool,
+    evicted: u32, answer: Option<Answer>,
+}
+
+pub enum Outcome { Begun, Moved(Phase), Blocked(u32), Ended(Answer), Marked, NotAlive, InCall, Idle }
+
+#[derive(Clone, Copy, PartialEq)]
+pub enum Life { Alive, Killed, Dead }
+
+#[derive(Clone, Copy)]
+pub struct Mapping { base: u32, file: u32, from: u32, len: u32 }
+
+#[derive(Default, Clone)]
+pub struct File { pub size: u32, pub regions: Vec<(u32, u32)>, pub pending: u32, pub spare: u32, pub pages: Vec<(u32, u32)> }
+
+pub struct Task { pub life: Life, pub call: Option<Call>, pub mappings: Vec<Mapping>, pub entries: Vec<(u32, u32)> }
+
+pub struct Pool {
+    words: Vec<u64>, pub free: Vec<u32>, pub resv: u32, pub files: Vec<File>, slots: Vec<Option<u32>>,
+    locks: Vec<Option<u32>>, pub tasks: Vec<Task>,
+}
+
+impl File {
+    fn first(&self, i: u32) -> usize { self.regions.partition_point(|r| r.1 <= i) }
+    fn missing(&self, from: u32, to: u32) -> u32 {
+        let held: u32 = self.regions[self.first(from)..].iter().take_while(|r| r.0 < to)
+            .map(|r| r.1.min(to) - r.0.max(from)).sum();
+        to - from - held
+    }
+    fn add(&mut self, from: u32, to: u32) -> u32 {
+        let added = self.missing(from, to);
+        let first = self.regions.partition_point(|r| r.1 < from);
+        let end = self.regions.partition_point(|r| r.0 <= to);
+        if first == end {
+            self.regions.insert(first, (from, to));
+            self.spare -= 1;
+        } else {
+            let merged = (from.min(self.regions[first].0), to.max(self.regions[end - 1].1));
+            self.regions[first] = merged;
+            self.regions.drain(first + 1..end);
+        }
+        self.pending -= 1;
+        added
+    }
+    fn change(&mut self, grant: bool) -> bool {
+        if self.spare == self.pending {
+            if !grant { return false; }
+            self.spare += 1;
+        }
+        self.pending += 1;
+        true
+    }
+    fn delete(&mut self, grant: bool, i: u32) -> bool {
+        let at = self.first(i);
+        let Some(&(from, to)) = self.regions.get(at) else { return true };
+        if i < from { return true; }
+        match (from == i, i + 1 == to) {
+            (true, true) => { self.regions.remove(at); }
+            (true, false) => self.regions[at].0 = i + 1,
+            (false, true) => self.regions[at].1 = i,
+            (false, false) => {
+                if self.spare > self.pending { self.spare -= 1 } else if !grant { return false; }
+                self.regions[at].1 = i;
+                self.regions.insert(at + 1, (i + 1, to));
+            }
+        }
+        true
+    }
+    fn tail(&mut self, from: u32) -> u32 {
+        let removed = LIMIT - from - self.missing(from, LIMIT.max(from));
+        let at = self.first(from);
+        if let Some(region) = self.regions.get_mut(at) {
+            if region.0 < from { region.1 = from; self.regions.truncate(at + 1) } else { self.regions.truncate(at) }
+        }
+        removed
+    }
+    fn page(&self, i: u32) -> Option<u32> {
+        self.pages.binary_search_by_key(&i, |p| p.0).ok().map(|at| self.pages[at].1)
+    }
+}
+
+impl Task {
+    fn find(&self, vpn: u32) -> Option<(u32, u32)> {
+        let at = self.mappings.partition_point(|m| m.base <= vpn).checked_sub(1)?;
+        let m = self.mappings[at];
+        (vpn - m.base < m.len).then(|| (m.file, m.from + vpn - m.base))
+    }
+    fn translate(&self, vpn: u32) -> Option<u32> {
+        self.entries.binary_search_by_key(&vpn, |e| e.0).ok().map(|at| self.entries[at].1)
+    }
+    fn room(&self, len: u32) -> Option<u32> {
+        let mut base = 0;
+        for m in &self.mappings {
+            if len <= m.base - base { return Some(base); }
+            base = m.base + m.len;
+        }
+        (len <= VPNS - base).then_some(base)
+    }
+    fn clear(&mut self, base: u32) {
+        if let Ok(at) = self.mappings.binary_search_by_key(&base, |m| m.base) {
+            let end = base + self.mappings[at].len;
+            let first = self.entries.partition_point(|e| e.0 < base);
+            let last = self.entries.partition_point(|e| e.0 < end);
+            self.entries.drain(first..last);
+        }
+    }
+    fn clear_index(&mut self, file: u32, i: u32) {
+        for m in &self.mappings {
+            if m.file == file && m.from <= i && i - m.from < m.len {
+                let vpn = m.base + i - m.from;
+                if let Ok(at) = self.entries.binary_search_by_key(&vpn, |e| e.0) { self.entries.remove(at); }
+            }
+        }
+    }
+}
+
+impl Pool {
+    pub fn new(frames: u32, files: u32, slots: u32, tasks: u32) -> Self {
+        Pool {
+            words: vec![0; frames as usize], free: (0..frames).collect(), resv: 0, files: vec![File::default(); files as usize],
+            slots: vec![None; slots as usize], locks: vec![None; files as usize],
+            tasks: (0..tasks).map(|_| Task { life: Life::Alive, call: None, mappings: vec![], entries: vec![] }).collect(),
+        }
+    }
+
+    pub fn step(&mut self, t: u32, grant: bool) -> Outcome {
+        let Some(task) = (t as usize).checked_sub(1).and_then(|at| self.tasks.get(at)) else { return Outcome::NotAlive };
+        if task.life == Life::Dead { return Outcome::NotAlive; }
+        let Some(mut call) = task.call else { return Outcome::Idle };
+        let killed = task.life == Life::Killed;
+        let outcome = self.row(t, killed, grant, &mut call);
+        let task = &mut self.tasks[t as usize - 1];
+        match outcome {
+            Outcome::Moved(phase) => { call.phase = phase; task.call = Some(call) }
+            Outcome::Ended(_) => {
+                task.call = None;
+                if call.kind == Kind::Exit { task.life = Life::Dead }
+            }
+            _ => {}
+        }
+        outcome
+    }
+
+    fn row(&mut self, t: u32, killed: bool, grant: bool, c: &mut Call) -> Outcome {
+        use Phase::*;
+        let at = t as usize - 1;
+        let f = c.file as usize;
+        let go = |c: &mut Call, phase: Phase, answer: Answer| { c.answer = Some(answer); Outcome::Moved(phase) };
+        let touches = matches!(c.kind, Kind::Load | Kind::Store);
+        match c.phase {
+            Start => match c.kind {
+                Kind::Unmap => if self.tasks[at].mappings.iter().any(|m| m.base == c.base) { Outcome::Moved(Clear) } else { Outcome::Ended(Answer::NotMapped) },
+                Kind::Exit => self.next_mapping(at, c),
+                _ => self.start(t, killed, c),
+            },
+            Look => {
+                let Some((file, index)) = self.tasks[at].find(c.vpn) else { return Outcome::Ended(Answer::Segv) };
+                match self.tasks[at].translate(c.vpn) {
+                    Some(frame) => Outcome::Ended(self.access(c, frame)),
+                    None => { c.file = file; c.index = index; Outcome::Moved(Want) }
+                }
+            }
+            Head => if killed { go(c, Leave, Answer::Interrupted) } else { Outcome::Moved(Want) },
+            Want => {
+                if killed && touches { return Outcome::Ended(Answer::Killed); }
+                if killed && c.kind == Kind::Alloc { return go(c, Leave, Answer::Interrupted); }
+                let slot = self.slot(c);
+                match self.slots[slot] {
+                    Some(holder) => Outcome::Blocked(holder),
+                    None => { self.slots[slot] = Some(t); Outcome::Moved(Locked) }
+                }
+            }
+            Locked => {
+                let page = self.files[f].page(c.index).is_some();
+                match c.kind {
+                    Kind::Punch | Kind::Truncate => { c.task = 1; Outcome::Moved(if page { Unmap } else { Unslot }) }
+                    Kind::Alloc => Outcome::Moved(if page { Unslot } else { Missing }),
+                    _ if c.index >= self.files[f].size => go(c, Leave, Answer::Beyond),
+                    _ => Outcome::Moved(if page { Found } else { Missing }),
+                }
+            }
+            Room => match self.tasks[at].room(c.len) {
+                None => go(c, Leave, Answer::NoAddress),
+                Some(_) if !grant => go(c, Leave, Answer::NoMemory),
+                Some(base) => { c.base = base; Outcome::Moved(if c.kind == Kind::Map { Missing } else { Enter }) }
+            },
+            Missing => {
+                let (from, to) = if c.kind == Kind::Map { (c.from, c.from + c.len) } else { (c.index, c.index + 1) };
+                if !self.files[f].change(grant) { return go(c, if c.kind == Kind::Alloc { Unslot } else { Leave }, Answer::NoMemory); }
+                c.missing = self.files[f].missing(from, to);
+                Outcome::Moved(Changed)
+            }
+            Changed => {
+                if killed { return go(c, Abort, if c.kind == Kind::Alloc { Answer::Interrupted } else { Answer::Killed }); }
+                let free = self.free.len() as u32;
+                if c.kind == Kind::Map {
+                    if c.missing > free - self.resv { return go(c, Abort, Answer::NoFrame); }
+                    self.resv += c.missing;
+                    return Outcome::Moved(Accounted);
+                }
+                if c.missing == 0 { self.resv -= 1 } else if free == self.resv { return go(c, Abort, Answer::NoFrame); }
+                c.held = self.free.pop().expect("a free frame");
+                Outcome::Moved(Taken)
+            }
+            Abort => { self.files[f].pending -= 1; Outcome::Moved(if c.kind == Kind::Alloc { Unslot } else { Leave }) }
+            Accounted => {
+                let added = self.files[f].add(c.from, c.from + c.len);
+                c.surplus = c.missing - added;
+                Outcome::Moved(if added < c.missing { Settle } else { Enter })
+            }
+            Taken => {
+                let added = self.files[f].add(c.index, c.index + 1);
+                c.surplus = 1;
+                Outcome::Moved(if added < c.missing { Settle } else { Committed })
+            }
+            Settle => {
+                self.resv -= c.surplus;
+                match c.kind {
+                    Kind::Map => Outcome::Moved(Enter),
+                    Kind::Truncate => go(c, Leave, Answer::Done),
+                    _ => Outcome::Moved(Committed),
+                }
+            }
+            Committed => {
+                if touches && c.index >= self.files[f].size { return go(c, Restore, Answer::Beyond); }
+                if !grant { return go(c, Restore, Answer::NoMemory); }
+                let pages = &mut self.files[f].pages;
+                let place = pages.partition_point(|p| p.0 < c.index);
+                pages.insert(place, (c.index, c.held));
+                self.words[c.held as usize] = 0;
+                Outcome::Moved(if touches { Found } else { Unslot })
+            }
+            Restore => { self.free.push(c.held); self.resv += 1; Outcome::Moved(if touches { Leave } else { Unslot }) }
+            Found => {
+                if c.index >= self.files[f].size { return go(c, Leave, Answer::Beyond); }
+                if !grant { return go(c, Leave, Answer::NoMemory); }
+                let frame = self.files[f].page(c.index).expect("a page");
+                let entries = &mut self.tasks[at].entries;
+                let place = entries.partition_point(|e| e.0 < c.vpn);
+                entries.insert(place, (c.vpn, frame));
+                let answer = self.access(c, frame);
+                go(c, Leave, answer)
+            }
+            Enter => {
+                let mappings = &mut self.tasks[at].mappings;
+                let place = mappings.partition_point(|m| m.base < c.base);
+                mappings.insert(place, Mapping { base: c.base, file: c.file, from: c.from, len: c.len });
+                self.files[f].size = self.files[f].size.max(c.from + c.len);
+                go(c, Leave, Answer::Mapped(c.base))
+            }
+            Extend => { self.files[f].size = self.files[f].size.max(c.from + c.len); go(c, Leave, Answer::Done) }
+            Unmap => {
+                self.tasks[c.task as usize - 1].clear_index(c.file, c.index);
+                c.task += 1;
+                Outcome::Moved(if c.task as usize <= self.tasks.len() { Unmap } else { Evict })
+            }
+            Evict => {
+                let pages = &mut self.files[f].pages;
+                let place = pages.binary_search_by_key(&c.index, |p| p.0).expect("a page");
+                c.held = pages.remove(place).1;
+                c.evicted += 1;
+                Outcome::Moved(if c.kind == Kind::Punch { Delete } else { Free })
+            }
+            Delete => { c.denied = !self.files[f].delete(grant, c.index); Outcome::Moved(Free) }
+            Free => { self.free.push(c.held); self.resv += u32::from(c.denied); Outcome::Moved(Unslot) }
+            Unslot => {
+                let slot = self.slot(c);
+                self.slots[slot] = None;
+                match c.kind {
+                    Kind::Truncate if c.index > c.len => { c.index -= 1; Outcome::Moved(Want) }
+                    Kind::Truncate => Outcome::Moved(Tail),
+                    Kind::Alloc if c.answer.is_some() => Outcome::Moved(Leave),
+                    _ if c.index + 1 < c.from + c.len => { c.index += 1; Outcome::Moved(if c.kind == Kind::Alloc { Head } else { Want }) }
+                    Kind::Alloc if !c.keep => Outcome::Moved(Extend),
+                    _ => go(c, Leave, Answer::Done),
+                }
+            }
+            Size => {
+                let end = self.files[f].pages.last().map_or(0, |p| p.0 + 1);
+                let top = self.files[f].size.max(end);
+                self.files[f].size = c.len;
+                if top > c.len { c.index = top - 1; Outcome::Moved(Want) } else { Outcome::Moved(Tail) }
+            }
+            Tail => { c.surplus = self.files[f].tail(c.len) - c.evicted; Outcome::Moved(Settle) }
+            Clear => { self.tasks[at].clear(c.base); Outcome::Moved(Drop) }
+            Drop => {
+                self.tasks[at].mappings.retain(|m| m.base != c.base);
+                if c.kind == Kind::Exit { self.next_mapping(at, c) } else { Outcome::Ended(Answer::Done) }
+            }
+            Leave => {
+                if touches { let slot = self.slot(c); self.slots[slot] = None } else if c.kind != Kind::Exit { self.locks[f] = None }
+                Outcome::Ended(c.answer.unwrap_or(Answer::Done))
+            }
+        }
+    }
+
+    fn start(&mut self, t: u32, killed: bool, c: &mut Call) -> Outcome {
+        if c.file as usize >= self.files.len() { return Outcome::Ended(Answer::BadFile); }
+        let bad = if c.kind == Kind::Truncate { c.len > LIMIT } else { c.len == 0 || u64::from(c.from) + u64::from(c.len) > u64::from(LIMIT) };
+        if bad { return Outcome::Ended(Answer::BadRange); }
+        if killed { return Outcome::Ended(if c.kind == Kind::Alloc { Answer::Interrupted } else { Answer::Killed }); }
+        if let Some(holder) = self.locks[c.file as usize] { return Outcome::Blocked(holder); }
+        self.locks[c.file as usize] = Some(t);
+        c.index = c.from;
+        Outcome::Moved(match c.kind { Kind::Alloc => Phase::Head, Kind::Punch => Phase::Want, Kind::Truncate => Phase::Size, _ => Phase::Room })
+    }
+
+    fn next_mapping(&self, at: usize, c: &mut Call) -> Outcome {
+        match self.tasks[at].mappings.first() {
+            Some(m) => { c.base = m.base; Outcome::Moved(Phase::Clear) }
+            None => Outcome::Moved(Phase::Leave),
+        }
+    }
+
+    fn slot(&self, c: &Call) -> usize { (c.index as usize + 31 * c.file as usize) % self.slots.len() }
+
+    fn access(&mut self, c: &Call, frame: u32) -> Answer {
+        if c.kind == Kind::Store { self.words[frame as usize] = c.word; Answer::Done } else { Answer::Word(self.words[frame as usize]) }
+    }
+
+    pub fn begin(&mut self, t: u32, call: Call) -> Outcome {
+        let Some(task) = (t as usize).checked_sub(1).and_then(|at| self.tasks.get_mut(at)) else { return Outcome::NotAlive };
+        if task.life == Life::Dead { return Outcome::NotAlive; }
+        if task.call.is_some() { return Outcome::InCall; }
+        if task.life == Life::Killed && call.kind != Kind::Exit { return Outcome::NotAlive; }
+        task.call = Some(call);
+        Outcome::Begun
+    }
+
+    pub fn kill(&mut self, t: u32) -> Outcome {
+        match (t as usize).checked_sub(1).and_then(|at| self.tasks.get_mut(at)) {
+            Some(task) if task.life == Life::Alive => { task.life = Life::Killed; Outcome::Marked }
+            _ => Outcome::NotAlive,
+        }
+    }
+}
+
+pub fn parse(words: &[&str]) -> Call {
+    let n = |k: usize| words.get(k).map_or(0, |w| w.parse::<u64>().expect("a number"));
+    let mut call = Call {
+        kind: Kind::Exit, phase: Phase::Start, file: 0, from: 0, len: 0, keep: false, vpn: 0, word: 0, index: 0,
+        missing: 0, surplus: 0, base: 0, held: 0, task: 1, denied: false, evicted: 0, answer: None,
+    };
+    let kind = match words[0] {
+        "map" => Kind::Map, "mapn" => Kind::MapNoReserve, "alloc" | "allock" => Kind::Alloc, "punch" => Kind::Punch,
+        "trunc" => Kind::Truncate, "unmap" => Kind::Unmap, "load" => Kind::Load, "store" => Kind::Store, _ => Kind::Exit,
+    };
+    call.kind = kind;
+    match kind {
+        Kind::Load | Kind::Store => { call.phase = Phase::Look; call.vpn = n(1) as u32; call.word = n(2) }
+        Kind::Unmap => call.base = n(1) as u32,
+        Kind::Truncate => { call.file = n(1) as u32; call.len = n(2) as u32 }
+        _ => { call.file = n(1) as u32; call.from = n(2) as u32; call.len = n(3) as u32; call.keep = words[0] == "allock" }
+    }
+    call
+}
+
