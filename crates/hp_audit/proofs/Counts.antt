@@ -6,25 +6,25 @@ use Rattle.std.proofs.lemmas.List.Sums.{sum_by-cons, sum_by_more}
 use Rattle.std.proofs.lemmas.List.Elements.{All-head, All-tail}
 use Rattle.hp_audit.specs.declared.picture.FilePicture.{FilePicture}
 use Rattle.hp_audit.specs.declared.picture.Picture.{Picture}
-use Rattle.hp_audit.specs.Findings.{place_count, IsOnePlace}
+use Rattle.hp_audit.specs.Findings.{times_in, pages_in, place_count, IsOnePlace}
 
 -- how many pages of a file are in the frame
-abbrev pub pages_in : ℕ → FilePicture → ℕ
-pages_in x file = count_by (λ page. page.1 == x) file.pages.items
+abbrev pub pages_of : ℕ → FilePicture → ℕ
+pages_of x file = pages_in file.pages.items x
 
 -- how many places have the frame, of the pages those of these files
 unfoldable pub count_in : Picture → ℕ → List FilePicture → ℕ
-count_in p x files = count_by (λ frame. frame == x) p.free.items + count_by (λ frame. frame == x) p.hands.items + sum_by (pages_in x) files
+count_in p x files = times_in p.free.items x + times_in p.hands.items x + sum_by (pages_of x) files
 
-pub count_in-none : (p : Picture) (x : ℕ) (files : List FilePicture) → count_by (λ frame. frame == x) p.free.items + count_by (λ frame. frame == x) p.hands.items ≡ count_in p x (take 0 files)
+pub count_in-none : (p : Picture) (x : ℕ) (files : List FilePicture) → times_in p.free.items x + times_in p.hands.items x ≡ count_in p x (take 0 files)
 unfolding count_in
 count_in-none p x files = omega arith
 
-pub count_in-more : (p : Picture) (x i : ℕ) (files : List FilePicture) (file : FilePicture) → i < length files → file ≡ get_or files i file → count_in p x (take (i + 1) files) ≡ count_in p x (take i files) + pages_in x file
+pub count_in-more : (p : Picture) (x i : ℕ) (files : List FilePicture) (file : FilePicture) → i < length files → file ≡ get_or files i file → count_in p x (take (i + 1) files) ≡ count_in p x (take i files) + pages_of x file
 unfolding count_in
 count_in-more p x i files file within is =
-    let more = sum_by_more (pages_in x) files i file within in
-    let here = ap (pages_in x) is in
+    let more = sum_by_more (pages_of x) files i file within in
+    let here = ap (pages_of x) is in
     omega (arith, more, here)
 
 pub count_in-all : (p : Picture) (x : ℕ) → count_in p x p.files.items ≡ place_count p x
@@ -42,14 +42,14 @@ counted {X} key P x (y ∷ ys) all some =
       | false ↦ λ e. let here : cond {A = ℕ} (key y == x) 1 0 ≡ 0 = rw e refl in counted key P x ys (All-tail Q y ys all) (omega (arith, more, here))
     ] refl
 
-counted_in : (P : ℕ → Type 0) (x : ℕ) (files : List FilePicture) → All (λ file. All (λ page. P page.1) file.pages.items) files → 0 < sum_by (pages_in x) files → P x
+counted_in : (P : ℕ → Type 0) (x : ℕ) (files : List FilePicture) → All (λ file. All (λ page. P page.1) file.pages.items) files → 0 < sum_by (pages_of x) files → P x
 counted_in P x [] all some = absurd (omega arith)
 counted_in P x (file ∷ files) all some =
     let Q : FilePicture → Type 0 = λ f. All (λ (page : ℕ × ℕ). P page.1) f.pages.items in
-    let more = sum_by-cons (pages_in x) file files in
-    elim (nat_lt 0 (pages_in x file)) as (λ b. nat_lt 0 (pages_in x file) ≡ b → P x) [
-      | true ↦ λ e. counted (λ (page : ℕ × ℕ). page.1) P x file.pages.items (All-head Q file files all) (ltb-true 0 (pages_in x file) e)
-      | false ↦ λ e. counted_in P x files (All-tail Q file files all) (omega (arith, more, ltb-false 0 (pages_in x file) e))
+    let more = sum_by-cons (pages_of x) file files in
+    elim (nat_lt 0 (pages_of x file)) as (λ b. nat_lt 0 (pages_of x file) ≡ b → P x) [
+      | true ↦ λ e. counted (λ (page : ℕ × ℕ). page.1) P x file.pages.items (All-head Q file files all) (ltb-true 0 (pages_of x file) e)
+      | false ↦ λ e. counted_in P x files (All-tail Q file files all) (omega (arith, more, ltb-false 0 (pages_of x file) e))
     ] refl
 
 -- where a fact holds of each frame that is counted, it holds of each that is anywhere
@@ -63,9 +63,9 @@ anywhere P x free hands pages in_free in_hands in_pages some =
       ] refl
     ] refl
 
-one_of_counted : (p : Picture) (P : ℕ → Type 0) (x : ℕ) → (0 < count_by (λ frame. frame == x) p.free.items → P x) → (0 < count_by (λ frame. frame == x) p.hands.items → P x) → (0 < sum_by (pages_in x) p.files.items → P x) → 0 < place_count p x → P x
+one_of_counted : (p : Picture) (P : ℕ → Type 0) (x : ℕ) → (0 < times_in p.free.items x → P x) → (0 < times_in p.hands.items x → P x) → (0 < sum_by (pages_of x) p.files.items → P x) → 0 < place_count p x → P x
 unfolding place_count
-one_of_counted p P x in_free in_hands in_pages some = anywhere P x (count_by (λ frame. frame == x) p.free.items) (count_by (λ frame. frame == x) p.hands.items) (sum_by (pages_in x) p.files.items) in_free in_hands in_pages some
+one_of_counted p P x in_free in_hands in_pages some = anywhere P x (times_in p.free.items x) (times_in p.hands.items x) (sum_by (pages_of x) p.files.items) in_free in_hands in_pages some
 
 -- no frame is at two places where none is of those that are anywhere
 pub IsOnePlace-of_all : (p : Picture) → All (λ x. place_count p x ≤ 1) p.free.items → All (λ x. place_count p x ≤ 1) p.hands.items → All (λ file. All (λ page. place_count p page.1 ≤ 1) file.pages.items) p.files.items → IsOnePlace p

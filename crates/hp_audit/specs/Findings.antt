@@ -20,7 +20,7 @@ pub record IsFileShaped (file : FilePicture) : Type 0 where
   pub pages : All (λ page. page.0 < LIMIT) file.pages.items
   pub once : AllPairs (λ page other. page.0 ≢ other.0) file.pages.items
 
--- so has each file, and each translation is of an index below the limit of a file that is there
+-- each file is so, and each translation is of an index below the limit of a file that is there
 pub record IsShaped (p : Picture) : Type 0 where
   pub files : All IsFileShaped p.files.items
   pub tables : All (λ entry. (entry.1 < length p.files.items) × (entry.2 < LIMIT)) p.tables.items
@@ -29,9 +29,17 @@ pub record IsShaped (p : Picture) : Type 0 where
 abbrev pub Agrees : Picture → Type 0
 Agrees p = All (λ entry. IsSomeAnd (slice_get p.files.items entry.1) (λ file. Contains file.pages.items (entry.2, entry.3))) p.tables.items
 
+-- how often the frame stands in the list
+abbrev pub times_in : (frames : List ℕ) → ℕ → ℕ
+times_in frames x = count_by (λ frame. frame == x) frames
+
+-- how many of the pages are in the frame
+abbrev pub pages_in : (pages : List (ℕ × ℕ)) → ℕ → ℕ
+pages_in pages x = count_by (λ page. page.1 == x) pages
+
 -- how many places have the frame: free ones, hands and pages
 unfoldable pub place_count : Picture → ℕ → ℕ
-place_count p x = count_by (λ frame. frame == x) p.free.items + count_by (λ frame. frame == x) p.hands.items + sum_by (λ file. count_by (λ page. page.1 == x) file.pages.items) p.files.items
+place_count p x = times_in p.free.items x + times_in p.hands.items x + sum_by (λ file. pages_in file.pages.items x) p.files.items
 
 -- no frame is at two places
 abbrev pub IsOnePlace : Picture → Type 0
@@ -45,7 +53,7 @@ IsBelow p = All (λ entry. IfSome (slice_get p.files.items entry.1) (λ file. fi
 abbrev pub is_vacant : FilePicture → ℕ → Bool
 is_vacant file i = is_reserved file.regions.items i && not (has_page file.pages.items i)
 
--- how many indices of the file are
+-- how many indices of the file are reserved and have no page
 unfoldable pub vacant_of : FilePicture → ℕ
 vacant_of file = count_below (is_vacant file) LIMIT
 

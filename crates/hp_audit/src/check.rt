@@ -58,8 +58,8 @@ fn agrees(picture: &Picture) -> bool
 fn places(picture: &Picture, frame: Frame) -> u128
     ensures { result ≡ place_count picture.now frame }
 {
-    let mut places = file::times(&picture.free, frame) as u128;
-    places += file::times(&picture.hands, frame) as u128;
+    let mut places = file::times_in(&picture.free, frame) as u128;
+    places += file::times_in(&picture.hands, frame) as u128;
     for file in &picture.files {
         places += file::pages_in(&file.pages, frame) as u128;
     }

@@ -1,6 +1,6 @@
 //! Questions to the lists of a file.
-ghost use Rattle.std.specs.Prelude.{◌≡◌, ◌≢◌, ◌<◌, ◌≤◌, ◌==◌, ◌↔◌, IsTrue, All, AllPairs, Contains, count_by};
-ghost use Rattle.hp_audit.specs.Findings.{has_page, is_reserved, is_vacant, vacant_of, IsFileShaped};
+ghost use Rattle.std.specs.Prelude.{◌≡◌, ◌≢◌, ◌<◌, ◌≤◌, ◌↔◌, IsTrue, All, AllPairs, Contains};
+ghost use Rattle.hp_audit.specs.Findings.{has_page, is_reserved, is_vacant, pages_in, times_in, vacant_of, IsFileShaped};
 
 use crate::picture::FilePicture;
 use hp_base::{Frame, Index, LIMIT};
@@ -84,15 +84,15 @@ pub fn has_page_in(file: &FilePicture, index: Index, frame: Frame) -> bool
 }
 
 // How often a frame is in a list.
-pub fn times(frames: &[Frame], frame: Frame) -> usize
-    ensures { result ≡ count_by (λ other. other == frame) frames.now }
+pub fn times_in(frames: &[Frame], frame: Frame) -> usize
+    ensures { result ≡ times_in frames.now frame }
 {
     frames.iter().filter(|&&other| other == frame).count()
 }
 
 // How many pages are in a frame.
 pub fn pages_in(pages: &[(Index, Frame)], frame: Frame) -> usize
-    ensures { result ≡ count_by (λ page. page.1 == frame) pages.now }
+    ensures { result ≡ pages_in pages.now frame }
 {
     pages.iter().filter(|page| page.1 == frame).count()
 }

@@ -2,7 +2,7 @@
 use hp_base::{File, Frame, Index, Task};
 
 /// A pool's state at one moment. Nothing is promised of it: it may be wrong.
-#[derive(Debug, Drop)]
+#[derive(Debug, PartialEq, Eq, Drop)]
 pub struct Picture {
     /// The free frames.
     pub free: Vec<Frame>,
@@ -20,7 +20,7 @@ pub struct Picture {
 }
 
 /// A file's state at one moment.
-#[derive(Debug, Drop)]
+#[derive(Debug, PartialEq, Eq, Drop)]
 pub struct FilePicture {
     /// Its size in pages.
     pub size: u32,

@@ -1,4 +1,4 @@
--- A row of a turn that names no phase is that of an operation's.
+-- From the row of a turn that names no phase, the row of an operation.
 use Rattle.std.proofs.Common.{◌≡◌, ℕ, ap}
 use Rattle.std.specs.Prelude.{Bool, true, false, Option, Some, None, MatchBool, MatchOption, nat_le}
 use Rattle.hp_base.specs.declared.answer.Answer.{Answer}

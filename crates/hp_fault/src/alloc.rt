@@ -1,5 +1,5 @@
 //! One function for each phase of an allocation (Linux: `hugetlbfs_fallocate`).
-ghost use Rattle.std.specs.Prelude.{◌≡◌, ◌≤◌, ◌<◌, ◌+◌, ℕ, true, None, Some, IfOk, IfErr, OnErr};
+ghost use Rattle.std.specs.Prelude.{◌≡◌, ◌≤◌, ◌<◌, ◌+◌, true, None, Some, IfOk, IfErr, OnErr};
 ghost use Rattle.hp_machine.specs.State.{Pool, slot_of};
 ghost use Rattle.hp_machine.specs.AllocRows.{AllocRow, AllocStartRow, AllocHeadRow, AllocWantRow, AllocLockedRow, AllocMissingRow, AllocChangedRow, AllocAbortRow, AllocTakenRow, AllocSettleRow, AllocCommittedRow, AllocRestoreRow, AllocUnslotRow, AllocExtendRow, AllocLeaveRow};
 ghost use Rattle.hp_machine.specs.Wants.{alloc_wants};

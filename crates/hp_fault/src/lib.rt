@@ -4,6 +4,10 @@
 //! its contracts cite: each function takes a phase, and what it answers and makes of the parts is the row
 //! of that phase, over the parts read as functions (`view`). It has no rule of its own. It knows neither
 //! who calls nor whether a call is in flight.
+//!
+//! A step is told whether its task was killed (`killed`) and whether it may take memory (`grant`). Where its row
+//! wants growth that isn't granted, the step is denied; where growth is granted and memory runs out all the
+//! same, the step didn't happen (`Stopped`).
 #![tactic(auto)]
 
 pub mod alloc;

@@ -1,6 +1,6 @@
 //! What steps of several operations have in common: how a call on a file starts, how slots are taken and
 //! left, and how a page comes into a file.
-ghost use Rattle.std.specs.Prelude.{◌≡◌, ◌<◌, ◌≤◌, ◌+◌, ◌-◌, ◌↔◌, ◌==◌, ◌||◌, ℕ, nat_lt, None, Some, OnOk, OnErr, IfErr, IfSome, OnSome, IfNone, IsNone, length, if◌then◌else◌};
+ghost use Rattle.std.specs.Prelude.{◌≡◌, ◌<◌, ◌≤◌, ◌+◌, ◌-◌, ◌↔◌, ◌==◌, ◌||◌, ℕ, nat_lt, None, Some, OnOk, OnErr, IfErr, IfSome, IfNone, IsNone, length, if◌then◌else◌};
 ghost use Rattle.hp_frames.specs.Bank.{HasWord, IsPlaced, IsFree, frame_at, free_count, with_frame, with_resv};
 ghost use Rattle.hp_frames.specs.declared.frame.FrameState.TheVariants.{Hand};
 ghost use Rattle.hp_machine.specs.State.{slot_of};
@@ -16,14 +16,16 @@ use hp_frames::{Bank, Held};
 use hp_machine::Turn;
 use hp_machine::touch::Access;
 
-/// Whether the range is empty, or ends above the limit of a file.
+/// Whether the range of `len` pages from index `from` on is empty, or ends above the limit of a file.
 pub fn is_bad_range(from: Index, len: u32) -> bool
     ensures { result ≡ ((len == 0) || nat_lt LIMIT (from + len)) }
 {
     len == 0 || u64::from(from.number()) + u64::from(len) > u64::from(LIMIT)
 }
 
-/// The start of a call on a file: the range check, a kill, and the file's lock (Linux: `inode_lock`).
+/// The start of a call on a file. It ends with `BadFile` where there is no such file, with `BadRange` where
+/// `is_bad`, and with `at_kill` where the task was killed, in that order. Else it takes the file's lock, or is
+/// blocked by the task that holds it (Linux: `inode_lock`).
 #[tactic(auto, using(std::proofs::lemmas::Grind::common_steps, crate::proofs::Laws::lock_laws))]
 pub fn start(
     parts: &mut Parts,
@@ -66,7 +68,7 @@ pub fn want_slot(parts: &mut Parts, task: Task, file: File, index: Index) -> Tur
     }
 }
 
-/// The turn, from a phase to the next.
+/// The turn of a call that stands at `here` and moves to `next`.
 pub fn carry<P: Drop>(turn: Turn<()>, here: P, next: P) -> Turn<P>
     ensures { result ≡ carried here next turn }
 {
@@ -77,7 +79,7 @@ pub fn carry<P: Drop>(turn: Turn<()>, here: P, next: P) -> Turn<P>
     }
 }
 
-/// Leaves the slot of an index.
+/// Leaves the slot of an index, which the task holds.
 #[tactic(auto, using(std::proofs::lemmas::Grind::common_steps, crate::proofs::Laws::lock_laws))]
 pub fn leave_slot(parts: &mut Parts, task: Task, file: File, index: Index)
     requires { (view parts.old).slots (slot_of (view parts.old).geometry file index) ≡ Some task }
@@ -88,7 +90,7 @@ pub fn leave_slot(parts: &mut Parts, task: Task, file: File, index: Index)
     parts.slots.leave(slot, task);
 }
 
-/// Leaves the file's lock.
+/// Leaves the file's lock, which the task holds (Linux: `inode_unlock`).
 #[tactic(auto, using(std::proofs::lemmas::Grind::common_steps, crate::proofs::Laws::lock_laws))]
 pub fn leave_lock(parts: &mut Parts, task: Task, file: File)
     requires { (view parts.old).locks file ≡ Some task }
@@ -115,8 +117,8 @@ pub fn take_frame(bank: &mut Bank, missing: u32) -> Option<Held>
     bank.take_unreserved().ok()
 }
 
-/// The frame becomes the page of an index that has none. Without memory for it the frame is handed back,
-/// and nothing changed.
+/// The frame becomes the page of an index that has none (Linux: `hugetlb_add_to_page_cache`). Without memory
+/// for it the frame is handed back, and nothing changed.
 #[tactic(auto, using(std::proofs::lemmas::Grind::common_steps, crate::proofs::Laws::place_laws))]
 pub fn place_page(parts: &mut Parts, file: File, index: Index, held: Held) -> Result<(), Held>
     requires file { IsFileOf (view parts.old) file }
@@ -136,7 +138,7 @@ pub fn place_page(parts: &mut Parts, file: File, index: Index, held: Held) -> Re
     Ok(())
 }
 
-/// Reads or writes the word of a page.
+/// Reads or writes the word of a page: a load answers the word, a store `Done`.
 #[tactic(auto, using(std::proofs::lemmas::Grind::common_steps, crate::proofs::Laws::frame_laws))]
 pub fn use_page(bank: &mut Bank, frame: Frame, access: Access) -> Answer
     requires { IsPlaced bank.old frame }

@@ -29,6 +29,10 @@ fn sound(alloc: Global) -> Result<Picture, AllocError> {
 fn a_sound_picture(rt: HostRuntime) -> Result<(), Fail> {
     let picture = sound(rt.alloc())?;
     assert_eq!(rt; audit(&picture), Ok(()));
+    let mut other = sound(rt.alloc())?;
+    assert!(rt; picture == other);
+    other.resv = 1;
+    assert!(rt; picture != other);
     Ok(())
 }
 
