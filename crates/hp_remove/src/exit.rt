@@ -1,11 +1,9 @@
 //! One function for each phase of the end of a task (Linux: `exit_mmap`).
-ghost use Rattle.std.specs.Prelude.{◌≡◌, ℕ, Some, None, true};
-ghost use Rattle.hp_base.specs.Mappings.{in_mapping};
 ghost use Rattle.hp_machine.specs.ExitRows.{ExitRow, ExitStartRow, ExitClearRow, ExitDropRow};
 ghost use Rattle.hp_fault.specs.View.{view};
 ghost use Rattle.hp_fault.specs.State.{state_of, SizesStay};
 ghost use Rattle.hp_fault.specs.Fits.{IsTaskOf};
-ghost use Rattle.hp_remove.specs.Fits.{ExitFits};
+ghost use Rattle.hp_remove.specs.Fits.{ExitFits, IsCleared};
 
 use crate::pages::{clear_mapping, drop_mapping};
 use hp_base::{Answer, Task};
@@ -59,7 +57,7 @@ fn from_clear(parts: &mut Parts, task: Task, phase: Clear) -> Turn<ExitPhase>
 #[tactic(auto, using(std::proofs::lemmas::Grind::common_steps, hp_fault::proofs::Laws::look_laws, hp_base::proofs::Puts::put_same))]
 fn from_drop(parts: &mut Parts, task: Task, phase: Drop) -> Turn<ExitPhase>
     requires task { IsTaskOf (view parts.old) task }
-    requires bare { (vpn : ℕ) → in_mapping ((view parts.old).areas task) phase.base vpn ≡ true → (view parts.old).table task vpn ≡ None }
+    requires bare { IsCleared (view parts.old) task phase.base }
     ensures row { ExitDropRow (view parts.old) task phase result (view parts.new) }
     ensures sizes { SizesStay (state_of parts.old) (state_of parts.new) }
 {

@@ -1,18 +1,19 @@
 //! How a page goes: its translations, and its place in the cache; and how a mapping goes.
-ghost use Rattle.std.specs.Prelude.{◌≡◌, ℕ, Some, None, true};
+ghost use Rattle.std.specs.Prelude.{◌≡◌, Some, None};
 ghost use Rattle.hp_base.specs.Numbers.{put, put2};
-ghost use Rattle.hp_base.specs.Mappings.{in_mapping, without, without_index};
+ghost use Rattle.hp_base.specs.Mappings.{without, without_index};
 ghost use Rattle.hp_frames.specs.declared.frame.FrameState.TheVariants.{Hand};
 ghost use Rattle.hp_machine.specs.Parts.{cleared};
 ghost use Rattle.hp_fault.specs.View.{view};
 ghost use Rattle.hp_fault.specs.State.{state_of, SizesStay};
-ghost use Rattle.hp_fault.specs.Fits.{IsTaskOf, IsFileOf, IsPage};
+ghost use Rattle.hp_fault.specs.Fits.{IsTaskOf, IsFileOf};
+ghost use Rattle.hp_remove.specs.Fits.{HasPage, IsCleared};
 
 use hp_base::{File, Index, Task, Vpn};
 use hp_fault::Parts;
 use hp_frames::Held;
 
-/// Clears the task's entries of an index (Linux: `hugetlb_vmdelete_list`).
+/// Clears the task's entries of an index, in each of its mappings (Linux: `hugetlb_vmdelete_list`).
 #[tactic(auto, using(std::proofs::lemmas::Grind::common_steps, hp_fault::proofs::Laws::clear_laws))]
 pub fn clear_index(parts: &mut Parts, task: Task, file: File, index: Index)
     requires { IsTaskOf (view parts.old) task }
@@ -28,7 +29,7 @@ pub fn clear_index(parts: &mut Parts, task: Task, file: File, index: Index)
 #[tactic(auto, using(std::proofs::lemmas::Grind::common_steps, hp_fault::proofs::Laws::evict_laws))]
 pub fn evict_page(parts: &mut Parts, file: File, index: Index) -> Held
     requires file { IsFileOf (view parts.old) file }
-    requires page { (x : ℕ) × ((view parts.old).pages file index ≡ Some x) × IsPage (view parts.old) x }
+    requires page { HasPage (view parts.old) file index }
     ensures page { (view parts.old).pages file index ≡ Some result }
     ensures after { view parts.new ≡ record (view parts.old) {
       pages = put2 (view parts.old).pages file index None;
@@ -50,11 +51,11 @@ pub fn clear_mapping(parts: &mut Parts, task: Task, base: Vpn)
     parts.spaces[(task.number() - 1) as usize].clear_mapping(base);
 }
 
-/// The mapping goes (Linux: `remove_vma`).
+/// The mapping goes, once no page of it is translated (Linux: `remove_vma`).
 #[tactic(auto, using(std::proofs::lemmas::Grind::common_steps, hp_fault::proofs::Laws::drop_laws))]
 pub fn drop_mapping(parts: &mut Parts, task: Task, base: Vpn)
     requires task { IsTaskOf (view parts.old) task }
-    requires bare { (vpn : ℕ) → in_mapping ((view parts.old).areas task) base vpn ≡ true → (view parts.old).table task vpn ≡ None }
+    requires bare { IsCleared (view parts.old) task base }
     ensures after { view parts.new ≡ record (view parts.old) { areas = put (view parts.old).areas task (without ((view parts.old).areas task) base) } }
     ensures sizes { SizesStay (state_of parts.old) (state_of parts.new) }
 {

@@ -1,12 +1,12 @@
 //! One function for each phase of a punch (Linux: `hugetlbfs_punch_hole`, `remove_inode_hugepages`).
-ghost use Rattle.std.specs.Prelude.{◌≡◌, ◌≤◌, ◌<◌, ◌+◌, ◌^◌, ℕ, true, Some, IfOk, IfErr, OnErr};
+ghost use Rattle.std.specs.Prelude.{◌≡◌, ◌≤◌, ◌<◌, ◌+◌, ◌^◌, true, Some, IfOk, IfErr, OnErr};
 ghost use Rattle.hp_machine.specs.State.{slot_of};
 ghost use Rattle.hp_machine.specs.PunchRows.{PunchRow, PunchStartRow, PunchWantRow, PunchLockedRow, PunchUnmapRow, PunchEvictRow, PunchDeleteRow, PunchFreeRow, PunchUnslotRow, PunchLeaveRow};
 ghost use Rattle.hp_machine.specs.Wants.{punch_wants};
 ghost use Rattle.hp_fault.specs.View.{view};
 ghost use Rattle.hp_fault.specs.State.{state_of, IsSized, SizesStay};
-ghost use Rattle.hp_fault.specs.Fits.{IsTaskOf, IsFileOf, IsHeld, IsPage};
-ghost use Rattle.hp_remove.specs.Fits.{PunchFits};
+ghost use Rattle.hp_fault.specs.Fits.{IsTaskOf, IsFileOf, IsHeld};
+ghost use Rattle.hp_remove.specs.Fits.{PunchFits, HasPage};
 
 use crate::pages::{clear_index, evict_page};
 use hp_base::{Answer, Index, LIMIT, Task};
@@ -19,7 +19,8 @@ use hp_machine::punch::{
 use hp_machine::{Stopped, Turn};
 use hp_region::DelFault;
 
-/// One step of a punch. Where it finds no memory nothing changed, and the phase is handed back.
+/// One step of a punch. Where it finds no memory nothing changed, and the phase is handed back. A kill is noticed
+/// at its start alone.
 pub fn step_punch(
     parts: &mut Parts,
     task: Task,
@@ -114,7 +115,7 @@ fn from_unmap(parts: &mut Parts, phase: Unmap) -> Turn<PunchPhase>
 
 fn from_evict(parts: &mut Parts, phase: Evict) -> Turn<PunchPhase>
     requires file { IsFileOf (view parts.old) phase.hole.file }
-    requires page { (x : ℕ) × ((view parts.old).pages phase.hole.file phase.index ≡ Some x) × IsPage (view parts.old) x }
+    requires page { HasPage (view parts.old) phase.hole.file phase.index }
     ensures row { PunchEvictRow (view parts.old) phase result (view parts.new) }
     ensures sizes { SizesStay (state_of parts.old) (state_of parts.new) }
 {

@@ -7,8 +7,8 @@ ghost use Rattle.hp_machine.specs.State.{slot_of};
 ghost use Rattle.hp_machine.specs.TruncateRows.{TruncateRow, TruncateStartRow, TruncateSizeRow, TruncateWantRow, TruncateLockedRow, TruncateUnmapRow, TruncateEvictRow, TruncateFreeRow, TruncateUnslotRow, TruncateTailRow, TruncateSettleRow, TruncateLeaveRow};
 ghost use Rattle.hp_fault.specs.View.{view};
 ghost use Rattle.hp_fault.specs.State.{state_of, IsSized, SizesStay};
-ghost use Rattle.hp_fault.specs.Fits.{IsTaskOf, IsFileOf, IsHeld, IsPage};
-ghost use Rattle.hp_remove.specs.Fits.{TruncateFits};
+ghost use Rattle.hp_fault.specs.Fits.{IsTaskOf, IsFileOf, IsHeld};
+ghost use Rattle.hp_remove.specs.Fits.{TruncateFits, HasPage};
 
 use crate::pages::{clear_index, evict_page};
 use hp_base::{Answer, File, Index, LIMIT, Task};
@@ -173,7 +173,7 @@ fn from_unmap(parts: &mut Parts, phase: Unmap) -> Turn<TruncatePhase>
 
 fn from_evict(parts: &mut Parts, phase: Evict) -> Turn<TruncatePhase>
     requires file { IsFileOf (view parts.old) phase.truncation.file }
-    requires page { (x : ℕ) × ((view parts.old).pages phase.truncation.file phase.index ≡ Some x) × IsPage (view parts.old) x }
+    requires page { HasPage (view parts.old) phase.truncation.file phase.index }
     requires few { phase.evicted ≤ LIMIT }
     ensures row { TruncateEvictRow (view parts.old) phase result (view parts.new) }
     ensures sizes { SizesStay (state_of parts.old) (state_of parts.new) }

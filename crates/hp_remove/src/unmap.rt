@@ -1,11 +1,9 @@
 //! One function for each phase of an unmap of a whole mapping (Linux: `do_munmap`).
-ghost use Rattle.std.specs.Prelude.{◌≡◌, ◌↔◌, ℕ, Some, None, true, IsTrue};
-ghost use Rattle.hp_base.specs.Mappings.{in_mapping};
 ghost use Rattle.hp_machine.specs.UnmapRows.{UnmapRow, UnmapStartRow, UnmapClearRow, UnmapDropRow};
 ghost use Rattle.hp_fault.specs.View.{view};
 ghost use Rattle.hp_fault.specs.State.{state_of, SizesStay};
 ghost use Rattle.hp_fault.specs.Fits.{IsTaskOf};
-ghost use Rattle.hp_remove.specs.Fits.{UnmapFits};
+ghost use Rattle.hp_remove.specs.Fits.{UnmapFits, IsCleared};
 
 use crate::pages::{clear_mapping, drop_mapping};
 use hp_base::{Answer, Task};
@@ -60,7 +58,7 @@ fn from_clear(parts: &mut Parts, task: Task, phase: Clear) -> Turn<UnmapPhase>
 
 fn from_drop(parts: &mut Parts, task: Task, phase: Drop) -> Turn<UnmapPhase>
     requires task { IsTaskOf (view parts.old) task }
-    requires bare { (vpn : ℕ) → in_mapping ((view parts.old).areas task) phase.base vpn ≡ true → (view parts.old).table task vpn ≡ None }
+    requires bare { IsCleared (view parts.old) task phase.base }
     ensures row { UnmapDropRow (view parts.old) task phase result (view parts.new) }
     ensures sizes { SizesStay (state_of parts.old) (state_of parts.new) }
 {
