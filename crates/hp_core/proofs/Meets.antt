@@ -1,7 +1,7 @@
 -- What a step takes for granted holds of every core: each of its facts is one of every state that the
 -- machine reaches.
 use Rattle.std.proofs.Common.{◌≡◌, ℕ, ◌+◌, ◌<◌, ◌≤◌, ◌^◌, refl, ap, sym, ◌∙◌, true≢false, arith}
-use Rattle.std.specs.Prelude.{Bool, true, false, Option, Some, None, IfSome, IsSome, is_some}
+use Rattle.std.specs.Prelude.{Bool, false, Option, Some, None, IfSome, IsSome, is_some}
 use Rattle.hp_base.specs.Indices.{count_within}
 use Rattle.hp_base.specs.Mappings.{in_mapping}
 use Rattle.hp_base.proofs.Counting.{count_within-missing}

@@ -1,12 +1,12 @@
 -- A core that nothing has happened to is the machine's opening, and sound.
-use Rattle.std.proofs.Common.{◌≡◌, ℕ, ◌-◌, ◌≤◌, ◌<◌, List, [], length, get_or, refl, sym, ◌∙◌, ap, subst, arith, inl, inr}
+use Rattle.std.proofs.Common.{◌≡◌, ℕ, ◌-◌, List, [], length, get_or, refl, sym, ◌∙◌, ap, subst, arith, inl, inr}
 use Rattle.std.proofs.Math.Path.{fun_ext}
 use Rattle.std.proofs.Math.ListN.{get_or-eq_default}
 use Rattle.std.proofs.lemmas.Bool.{cases_lt, ne_eqb}
 use Rattle.std.proofs.lemmas.Bool.Decides.{nat_tests}
 use Rattle.std.proofs.lemmas.List.{get_or-replicate, length-replicate}
 use Rattle.std.proofs.lemmas.List.Elements.{All-get_or}
-use Rattle.std.specs.Prelude.{Bool, true, false, Option, Some, None, IfSome, All, nat_lt, nat_le, ◌==◌, ◌&&◌, replicate, if◌then◌else◌}
+use Rattle.std.specs.Prelude.{true, false, Option, None, All, nat_lt, nat_le, ◌==◌, ◌&&◌, replicate, if◌then◌else◌}
 use Rattle.std.specs.FinMap.{FinMap, get, get-empty}
 use Rattle.std.specs.Ordering.{nat_cmp}
 use Rattle.hp_base.specs.Text.{Sizes, sizes}
@@ -18,17 +18,15 @@ use Rattle.hp_frames.specs.declared.frame.FrameState.{FrameState}
 use Rattle.hp_frames.specs.declared.frame.FrameState.TheVariants as frame
 use Rattle.hp_region.specs.Regions.{is_member}
 use Rattle.hp_table.specs.Table.{Table}
-use Rattle.hp_machine.specs.State as machine
 use Rattle.hp_machine.specs.Events as rows
-use Rattle.hp_machine.specs.declared.outcome.Life.{Life}
 use Rattle.hp_machine.specs.declared.outcome.Life.TheVariants as life
 use Rattle.hp_fault.specs.declared.parts.FileState.{FileState}
 use Rattle.hp_fault.specs.State.{PartsState}
 use Rattle.hp_fault.specs.View.{no_file, no_table, table_of, holders_of, sizes_of, pendings_of, spares_of, sets_of, pages_of, prepared_of, areas_of, entries_of, geometry_of}
 use Rattle.hp_core.specs.declared.seat.Seat.{Seat}
-use Rattle.hp_core.specs.State.{CoreState, seat_at, no_seat, calls_of, lives_of, state_with, as_state}
+use Rattle.hp_core.specs.State.{seat_at, no_seat, calls_of, lives_of, state_with}
 use Rattle.hp_core.specs.Opening.{IsFresh, IsVacant}
-use Rattle.hp_core.specs.Sound.{IsSound, IsKept}
+use Rattle.hp_core.specs.Sound.{IsSound}
 use Rattle.hp_core.specs.Runs.{IsOpening, geometry}
 
 -- what stands in a list of equal things, at a default that is one of them

@@ -1,33 +1,21 @@
 -- A sound core after an event is sound, and the event is a row of the machine.
-use Rattle.std.proofs.Common.{◌≡◌, ℕ, ◌+◌, ◌≤◌, List, [], ◌∷◌, ◌++◌, length, refl, sym, ◌∙◌, ap, subst, arith, inl, inr, true≢false}
-use Rattle.std.specs.Prelude.{not, ◌&&◌, Bool, true, false, Option, Some, None, IfSome, IsTrue, MatchBool, MatchOption, Result, Ok, Err, IfOk, OnErr}
+use Rattle.std.proofs.Common.{◌≡◌, ℕ, List, [], ◌∷◌, ◌++◌, length, refl, sym, ◌∙◌, subst}
+use Rattle.std.specs.Prelude.{Bool, Option, Some, IfSome, Result, Ok, Err, IfOk, OnErr}
 use Rattle.std.specs.declared.alloc.AllocError.{AllocError}
-use Rattle.hp_base.specs.Numbers.{put}
-use Rattle.hp_base.specs.Text.{Sizes}
-use Rattle.hp_base.specs.declared.event.Op.{Op}
-use Rattle.hp_base.specs.declared.event.Op.TheVariants as op
 use Rattle.hp_base.specs.declared.event.Event.{Event}
 use Rattle.hp_base.specs.declared.event.Event.TheVariants.{Begin, Step, Kill}
-use Rattle.hp_base.proofs.Puts.{same_or_other, put_same, put_other}
-use Rattle.hp_machine.specs.State.{State, Pool, is_alive, is_dead, is_killed}
-use Rattle.hp_machine.specs.declared.outcome.Life.{Life}
-use Rattle.hp_machine.specs.declared.outcome.Life.TheVariants as life
+use Rattle.hp_machine.specs.State.{State, is_dead}
 use Rattle.hp_machine.specs.Events as rows
-use Rattle.hp_machine.specs.Headline as head
-use Rattle.hp_machine.specs.declared.call.Call.{Call}
-use Rattle.hp_machine.specs.declared.call.Call.TheVariants as call
-use Rattle.hp_machine.specs.declared.call.Turn.{Turn}
-use Rattle.hp_machine.specs.declared.call.Turn.TheVariants.{Moved, Blocked, Ended}
 use Rattle.hp_machine.specs.declared.outcome.Outcome.{Outcome}
 use Rattle.hp_fault.specs.State.{PartsState, SizesStay}
-use Rattle.hp_fault.specs.View.{pool_of, geometry_of}
+use Rattle.hp_fault.specs.View.{geometry_of}
 use Rattle.hp_core.specs.declared.seat.Seat.{Seat}
-use Rattle.hp_core.specs.State.{CoreState, seat_at, calls_of, state_with, as_state}
-use Rattle.hp_core.specs.Fits.{CallFits, EventFits}
-use Rattle.hp_core.specs.Seats.{BeginSeats, StepSeats, KillSeats, EventSeats, with_seat}
-use Rattle.hp_core.specs.Sound.{IsSound, IsKept}
-use Rattle.hp_core.specs.Runs.{Row, Headline}
-use Rattle.hp_core.proofs.Seats.{begin_row, kill_row, dead_row, idle_row, step_row, seated, at_seat, off_seat, by_test, by_option}
+use Rattle.hp_core.specs.State.{CoreState, seat_at, state_with, as_state}
+use Rattle.hp_core.specs.Fits.{EventFits}
+use Rattle.hp_core.specs.Seats.{StepSeats, EventSeats}
+use Rattle.hp_core.specs.Sound.{IsSound}
+use Rattle.hp_core.specs.Runs.{Row}
+use Rattle.hp_core.proofs.Seats.{begin_row, kill_row, dead_row, idle_row, step_row, by_test, by_option}
 
 pub if_some : {A : Type 0} (P : A → Type 0) (o : Option A) (x : A) → o ≡ Some x → IfSome o P → P x
 if_some {A} P o x e h = subst (λ (c : Option A). IfSome c P) e h

@@ -1,5 +1,5 @@
 -- Sums over files, file by file.
-use Rattle.std.proofs.Common.{◌≡◌, ℕ, ◌+◌, ◌*◌, ◌<◌, ◌≤◌, refl, sym, ◌∙◌, ap, arith, add-one}
+use Rattle.std.proofs.Common.{◌≡◌, ℕ, ◌+◌, ◌*◌, ◌≤◌, refl, ◌∙◌, ap, arith, add-one}
 use Rattle.hp_base.specs.Numbers.{total}
 use Rattle.hp_base.specs.declared.limits.TheConstants.{LIMIT}
 

@@ -1,7 +1,6 @@
 -- Who is blocked, and by whom: the reader against the rows of the machine.
-use Rattle.std.proofs.Common.{◌≡◌, ℕ, ◌+◌, ◌-◌, ◌≤◌, refl, sym, ◌∙◌, ap, subst, arith, inl, inr, true≢false}
+use Rattle.std.proofs.Common.{◌≡◌, ℕ, ◌+◌, ◌-◌, ◌≤◌, refl, sym, ◌∙◌, ap, subst, true≢false}
 use Rattle.std.specs.Prelude.{Bool, true, false, ◌||◌, ◌==◌, Option, Some, None, MatchBool, MatchOption, length, is_some, nat_le, nat_lt, if◌then◌else◌, slice_index_or}
-use Rattle.hp_base.specs.declared.event.Event.TheVariants.{Step}
 use Rattle.hp_base.specs.declared.limits.TheConstants.{LIMIT}
 use Rattle.hp_base.specs.Numbers.{put, put2}
 use Rattle.hp_base.proofs.Puts.{put_self}
@@ -24,7 +23,6 @@ use Rattle.hp_machine.specs.declared.call.Call.{Call}
 use Rattle.hp_machine.specs.declared.call.Call.TheVariants as call
 use Rattle.hp_machine.specs.declared.call.Turn.{Turn}
 use Rattle.hp_machine.specs.declared.call.Turn.TheVariants.{Moved, Blocked, Ended}
-use Rattle.hp_machine.specs.declared.map.Start.{Start}
 use Rattle.hp_machine.specs.declared.map.MapPhase.{MapPhase}
 use Rattle.hp_machine.specs.declared.map.MapPhase.TheVariants as at
 use Rattle.hp_machine.specs.declared.touch.TouchPhase.{TouchPhase}
@@ -44,14 +42,12 @@ use Rattle.hp_machine.specs.declared.outcome.Outcome.TheVariants as outcome
 use Rattle.hp_slots.specs.Holders.{slot_number}
 use Rattle.hp_fault.specs.State.{PartsState, IsSized}
 use Rattle.hp_fault.specs.View.{pool_of, holders_of, sizes_of, pages_of, entries_of}
-use Rattle.hp_core.specs.declared.seat.Seat.{Seat}
 use Rattle.hp_core.specs.State.{CoreState, seat_at, calls_of, lives_of, as_state}
 use Rattle.hp_core.specs.Sound.{IsSound}
 use Rattle.hp_core.specs.Runs.{Row}
 use Rattle.hp_core.specs.Waiting.{WaitsFor}
 use Rattle.hp_core.specs.Blockers.{is_bad, slot_blocker, touch_blocker, map_blocker, alloc_blocker, punch_blocker, truncate_blocker, call_blocker, seat_call_blocker, task_blocker}
 use Rattle.hp_core.proofs.Seats.{by_test, by_option, at_false, at_some}
-use Rattle.hp_core.proofs.Steps.{if_some}
 
 -- the holder that a turn was blocked by
 abbrev pub held_up : {P : Type 0} → Turn P → Option ℕ

@@ -1,4 +1,4 @@
-use Rattle.std.proofs.Common.{rules, arith, ◌≡◌, ◌∙◌, ap, length}
+use Rattle.std.proofs.Common.{rules, arith, ◌∙◌, ap, length}
 use Rattle.hp_base.specs.Text.{sizes}
 use Rattle.hp_fault.specs.State.{state_of}
 use Rattle.hp_core.specs.State.{CoreState}

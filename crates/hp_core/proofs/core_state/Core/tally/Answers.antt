@@ -1,4 +1,4 @@
-use Rattle.std.proofs.Common.{◌≡◌, ℕ, ◌∙◌, ap, sym, arith, ◌≤◌}
+use Rattle.std.proofs.Common.{◌≡◌, ℕ, ◌∙◌, ap, arith}
 use Rattle.hp_base.specs.Numbers.{total}
 use Rattle.hp_base.specs.Text.{Sizes}
 use Rattle.hp_core.specs.Readers.{config_of, reserved_of, pages_of, all_reserved_of, all_pages_of}

@@ -1,10 +1,9 @@
-use Rattle.std.proofs.Common.{◌≡◌, ℕ, ◌<◌, ◌≤◌, ◌∙◌, ap, arith, subst, sym, Option}
+use Rattle.std.proofs.Common.{◌≤◌, ◌∙◌, ap, arith, subst, sym}
 use Rattle.hp_base.specs.Text.{sizes}
 use Rattle.hp_fault.specs.State.{state_of}
 use Rattle.hp_core.specs.declared.seat.Seat.{Seat}
 use Rattle.hp_core.specs.Blockers.{task_blocker}
 use Rattle.hp_core.specs.Readers.{config_of}
-use Rattle.hp_core.specs.Sound.{IsSound}
 use Rattle.hp_core.specs.State.{CoreState}
 use Rattle.hp_core.specs.Waiting.{WaitsFor}
 use Rattle.hp_core.proofs.Reading.{seat_in, seat_read}
