@@ -1,5 +1,5 @@
 //! The page cache of a file.
-ghost use Rattle.std.specs.Prelude.{◌≡◌, ◌<◌, ◌≤◌, IsTrue, OnOk, OnErr, Some, None, IsSome, is_some, nat_lt};
+ghost use Rattle.std.specs.Prelude.{◌≡◌, ◌<◌, ◌≤◌, IsTrue, OnOk, OnErr, Some, None, IsSome, is_some, nat_lt, All};
 ghost use Rattle.std.specs.List.{prefix_len};
 ghost use Rattle.std.specs.Ordering.{nat_cmp};
 ghost use Rattle.std.specs.FinMap as map;
@@ -97,6 +97,14 @@ impl PageCache {
             Some(page) => page.0.number() + 1,
             None => 0,
         }
+    }
+
+    /// The pages in order of their indices. Nothing is copied.
+    pub fn pages(&self) -> &[(Index, Frame)]
+        ensures pages { result.now ≡ map.entries self.now }
+        ensures in_file { All (λ page. page.0 < LIMIT) result.now }
+    {
+        &self.pages
     }
 
     /// How many indices have a page (Linux: `nrpages`).

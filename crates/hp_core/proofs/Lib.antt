@@ -1,6 +1,9 @@
+pub mod Copying
+pub mod FilePictures
 pub mod Headlines
 pub mod Meets
 pub mod Opens
+pub mod Pictures
 pub mod Reading
 pub mod Rows
 pub mod RunsOn
@@ -8,4 +11,5 @@ pub mod Seats
 pub mod Steps
 pub mod Sums
 pub mod Tallies
+pub mod Translations
 pub mod Waits

@@ -29,7 +29,7 @@ sum_upto f xs none (suc k) l =
     let same : take (suc k) xs ≡ take (k + 1) xs = ap (λ (n : ℕ). take n xs) (sym (add-one k)) in
     ap (λ (ys : List Seat). sum_by (λ (seat : Seat). f seat.call) ys) same ∙ (next ∙ (ap (λ (n : ℕ). n + f (get_or xs k no_seat).call) before ∙ ap (λ (y : Seat). total (suc k) (λ t. f (seat_at xs t).call) + f y.call) (sym (seat_next xs k))))
 
-sum_is : (f : Option Call → ℕ) (xs : List Seat) (n : ℕ) → f None ≡ 0 → n ≡ length xs → sum_by (λ seat. f seat.call) xs ≡ total (n + 1) (λ t. f (calls_of xs t))
+pub sum_is : (f : Option Call → ℕ) (xs : List Seat) (n : ℕ) → f None ≡ 0 → n ≡ length xs → sum_by (λ seat. f seat.call) xs ≡ total (n + 1) (λ t. f (calls_of xs t))
 unfolding calls_of
 sum_is f xs n none e =
     let all = sum_upto f xs none (length xs) (omega arith) in

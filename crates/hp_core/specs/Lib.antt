@@ -1,7 +1,9 @@
 pub mod Blockers
+pub mod Copies
 pub mod Fits
 pub mod Laws
 pub mod Opening
+pub mod Pictures
 pub mod Readers
 pub mod Runs
 pub mod Seats

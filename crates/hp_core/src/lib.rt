@@ -8,10 +8,12 @@
 
 pub mod core_state;
 mod events;
+mod hands;
 mod in_flight;
 mod laws;
 mod opening;
 mod owing;
+mod picture;
 pub mod readers;
 pub mod run;
 pub mod seat;
@@ -19,6 +21,7 @@ mod waiting;
 pub mod words;
 
 pub use core_state::Core;
+pub use hp_audit::{FilePicture, Finding, Picture, audit};
 pub use hp_base::Answer;
 pub use hp_machine::{Life, Outcome, Phase, Refusal};
 pub use readers::Tally;

@@ -1,6 +1,7 @@
 //! Runs that no clause says: that ample memory meets no want of it, and what the readers tell then.
-use crate::{Core, Life, Outcome, Phase, RunFault, Tally};
-use hp_base::{Answer, Config, Event, File, Index, Op, Task};
+use crate::{Core, Life, Outcome, Phase, RunFault, Tally, audit};
+use hp_base::{Answer, Config, Event, File, Frame, Index, Op, Task, Vpn};
+use std::alloc::AllocError;
 use std::test::Fail;
 
 #[test]
@@ -71,6 +72,51 @@ fn a_second_map_waits_for_the_first(rt: HostRuntime) -> Result<(), Fail> {
     assert_eq!(rt; core.waits_for(two), Some(one));
     assert_eq!(rt; core.waits_for(one), None);
     assert_eq!(rt; core.step(Event::Step(two, true))?, Outcome::Blocked(one));
+    Ok(())
+}
+
+// Begins a call and steps it until it ends, within 32 steps.
+fn call(core: &mut Core, task: Task, op: Op) -> Result<Option<Answer>, AllocError> {
+    core.step(Event::Begin(task, op))?;
+    for _ in 0..32 {
+        if let Outcome::Ended(answer) = core.step(Event::Step(task, true))? {
+            return Ok(Some(answer));
+        }
+    }
+    Ok(None)
+}
+
+#[test]
+fn two_tasks_share_a_page(rt: HostRuntime) -> Result<(), Fail> {
+    let alloc = rt.alloc();
+    let (file, base, first) = (File::new(0), Vpn::new(0), Index::new(0));
+    let mut core = Core::new(alloc, Config::new(1, 1, 1, 2)?)?;
+    for task in [Task::new(1), Task::new(2)] {
+        let map = Op::Map {
+            file,
+            from: first,
+            len: 1,
+        };
+        assert_eq!(rt; call(&mut core, task, map)?, Some(Answer::Mapped(base)));
+        let store = Op::Store { vpn: base, word: 7 };
+        assert_eq!(rt; call(&mut core, task, store)?, Some(Answer::Done));
+    }
+    let picture = core.picture(alloc)?;
+    assert_eq!(rt; audit(&picture), Ok(()));
+    assert!(rt; picture.free.is_empty() && picture.hands.is_empty());
+    assert_eq!(rt; (picture.resv, picture.owed), (0, 0));
+    assert_eq!(rt; picture.files.len(), 1);
+    let told = &picture.files[0];
+    assert_eq!(rt; (told.size, told.locked), (1, false));
+    let ranges = [(first, Index::new(1))];
+    assert_eq!(rt; told.regions.as_slice(), ranges.as_slice());
+    let pages = [(first, Frame::new(0))];
+    assert_eq!(rt; told.pages.as_slice(), pages.as_slice());
+    let entries = [
+        (Task::new(1), file, first, Frame::new(0)),
+        (Task::new(2), file, first, Frame::new(0)),
+    ];
+    assert_eq!(rt; picture.tables.as_slice(), entries.as_slice());
     Ok(())
 }
 

@@ -199,6 +199,13 @@ impl Space {
         self.mappings.len()
     }
 
+    /// The translations in order of the virtual pages. Nothing is copied.
+    pub fn translations(&self) -> &[(Vpn, Frame)]
+        ensures { result.now ≡ map.entries self.now.entries }
+    {
+        &self.entries
+    }
+
     /// The number of virtual pages that are translated.
     pub fn entries(&self) -> usize
         ensures value { result ≡ map.len self.now.entries }

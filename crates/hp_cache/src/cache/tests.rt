@@ -14,6 +14,11 @@ fn pages_come_and_go(rt: HostRuntime) -> Result<(), Fail> {
     cache.place(Index::new(1), Frame::new(9))?;
     assert_eq!(rt; cache.get(Index::new(3)), Some(Frame::new(7)));
     assert_eq!(rt; (cache.top(), cache.count()), (4, 2));
+    let pages = [
+        (Index::new(1), Frame::new(9)),
+        (Index::new(3), Frame::new(7)),
+    ];
+    assert_eq!(rt; cache.pages(), pages.as_slice());
 
     assert_eq!(rt; cache.evict(Index::new(3)), Frame::new(7));
     assert_eq!(rt; cache.get(Index::new(1)), Some(Frame::new(9)));

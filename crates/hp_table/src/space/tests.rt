@@ -90,6 +90,12 @@ fn a_page_is_translated(rt: HostRuntime) -> Result<(), Fail> {
         [Some(9), None, Some(7), Some(8), None, None]
     );
     assert_eq!(rt; (space.mappings(), space.entries()), (1, 3));
+    let translations = [
+        (Vpn::new(0), Frame::new(9)),
+        (Vpn::new(2), Frame::new(7)),
+        (Vpn::new(3), Frame::new(8)),
+    ];
+    assert_eq!(rt; space.translations(), translations.as_slice());
     Ok(())
 }
 

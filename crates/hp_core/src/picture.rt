@@ -1,0 +1,133 @@
+//! A core as plain data.
+ghost use Rattle.std.specs.Prelude.{◌≡◌, ℕ, ◌<◌, ◌≤◌, ◌++◌, ◌==◌, IfOk, OnOk, All, HoldsAt, length, count_by, is_some, slice_index_or, map};
+ghost use Rattle.std.specs.FinMap.{entries};
+ghost use Rattle.hp_base.specs.Numbers.{bit};
+ghost use Rattle.hp_base.specs.declared.limits.TheConstants.{LIMIT};
+ghost use Rattle.hp_frames.specs.Bank.{free_frames, frame_at, is_free};
+ghost use Rattle.hp_region.specs.Regions.{IsApartFrom};
+ghost use Rattle.hp_slots.specs.Holders.{holder_of};
+ghost use Rattle.hp_audit.specs.declared.picture.FilePicture.{FilePicture};
+ghost use Rattle.hp_fault.specs.View.{no_file};
+ghost use Rattle.hp_core.specs.Copies.{IsCopy, translations, all_translations};
+ghost use Rattle.hp_core.specs.Pictures.{IsPicture};
+
+use crate::core_state::Core;
+use crate::hands::hands;
+use hp_audit::{FilePicture, Picture};
+use hp_base::{File, Frame, Index, Task};
+use hp_fault::FileState;
+use hp_frames::Bank;
+use hp_region::RegionMap;
+use hp_slots::SlotTable;
+use hp_table::Space;
+use std::alloc::{AllocError, Global};
+
+// The free frames in order of their numbers.
+fn free_frames(alloc: Global, bank: &Bank, frames: u32) -> Result<Vec<Frame>, AllocError>
+    requires { frames ≡ length bank.now.frames }
+    ensures each { IfOk result (λ free. (x : ℕ)
+        → count_by (λ frame. frame == x) free.items ≡ bit (is_free (frame_at bank.now.frames x))) }
+    ensures count { IfOk result (λ free. length free.items ≡ free_frames bank.now.frames) }
+{
+    let mut free = Vec::new(alloc);
+    for number in 0..frames {
+        let frame = Frame::new(number);
+        if bank.is_free(frame) {
+            free.push(frame)?;
+        }
+    }
+    Ok(free)
+}
+
+// The regions of a map, as pairs.
+fn ranges(alloc: Global, reserved: &RegionMap) -> Result<Vec<(Index, Index)>, AllocError>
+    ensures ranges { IfOk result (λ ranges.
+        ranges.items ≡ map (λ r. (r.from, r.to)) reserved.now.regions) }
+    ensures apart { IsApartFrom 0 reserved.now.regions }
+{
+    let mut ranges = Vec::new(alloc);
+    for place in 0..reserved.regions() {
+        ranges.push(reserved.region(place).unwrap())?;
+    }
+    Ok(ranges)
+}
+
+// A file, which some call has locked, or none.
+fn file_picture(alloc: Global, file: &FileState, locked: bool) -> Result<FilePicture, AllocError>
+    ensures { IfOk result (λ picture. IsCopy file.now locked picture) }
+{
+    Ok(FilePicture {
+        size: file.size,
+        locked,
+        regions: ranges(alloc, &file.map)?,
+        pages: Vec::from_slice(alloc, file.cache.pages())?,
+    })
+}
+
+// The files in order of their numbers.
+fn file_pictures(
+    alloc: Global,
+    files: &[FileState],
+    locks: &SlotTable,
+) -> Result<Vec<FilePicture>, AllocError>
+    requires { length files.now ≤ 16 }
+    ensures count { IfOk result (λ pictures. length pictures.items ≡ length files.now) }
+    ensures each { IfOk result (λ pictures. (f : ℕ) → f < length files.now → HoldsAt
+        (IsCopy (slice_index_or files.now f no_file) (is_some (holder_of locks.now f)))
+        pictures.items f) }
+{
+    let mut pictures = Vec::new(alloc);
+    for (number, file) in files.iter().enumerate() {
+        let locked = locks.holder(number as u32).is_some();
+        pictures.push(file_picture(alloc, file, locked)?)?;
+    }
+    Ok(pictures)
+}
+
+// Adds the translations of a task.
+fn add_translations(
+    tables: &mut Vec<(Task, File, Index, Frame)>,
+    task: Task,
+    space: &Space,
+) -> Result<(), AllocError>
+    ensures { OnOk result (tables.new.items
+        ≡ tables.old.items ++ translations task space.now) }
+{
+    for &(vpn, frame) in space.translations() {
+        if let Some((file, index)) = space.find(vpn) {
+            tables.push((task, file, index, frame))?;
+        }
+    }
+    Ok(())
+}
+
+// The translations of all tasks.
+fn tables(alloc: Global, spaces: &[Space]) -> Result<Vec<(Task, File, Index, Frame)>, AllocError>
+    requires { length spaces.now ≤ 64 }
+    ensures { IfOk result (λ tables.
+        tables.items ≡ all_translations spaces.now (length spaces.now)) }
+{
+    let mut tables = Vec::new(alloc);
+    for (place, space) in spaces.iter().enumerate() {
+        add_translations(&mut tables, Task::new(place as u32 + 1), space)?;
+    }
+    Ok(tables)
+}
+
+impl Core {
+    /// The state as plain data, which `audit` checks. Each frame, file and task is looked at once, and
+    /// of these each region, page and translation; so it takes time for as much as is there, and memory
+    /// for the lists alone.
+    pub fn picture(&self, alloc: Global) -> Result<Picture, AllocError>
+        ensures picture { IfOk result (λ picture. IsPicture self.now picture) }
+    {
+        Ok(Picture {
+            free: free_frames(alloc, &self.parts.bank, self.config.frames)?,
+            resv: self.resv(),
+            owed: self.owed(),
+            hands: hands(alloc, &self.seats)?,
+            files: file_pictures(alloc, &self.parts.files, &self.parts.locks)?,
+            tables: tables(alloc, &self.parts.spaces)?,
+        })
+    }
+}
