@@ -13,6 +13,8 @@ from pathlib import Path
 
 TOP = Path(__file__).resolve().parent.parent
 PROGRAM = TOP / "crates" / "hugepool" / "out" / "hugepool"
+# a load or store that Linux answers and this pool finds beyond the file's size
+KNOWN = "known"
 
 
 def scripts(path):
@@ -56,7 +58,7 @@ def told(lines, files, tasks):
 
 
 def compare(name, header, lines):
-    """How many calls agree, and what was different, if anything was."""
+    """How many calls agree, and how the script ended: None, KNOWN, or what was different."""
     _, files, _, tasks = (int(word) for word in header.split()[1:])
     trace, events, agreed = header + "\n", 0, 0
     for line in lines:
@@ -76,22 +78,24 @@ def compare(name, header, lines):
         events += 1 + own
         got = (answer, *told(replay(trace), files, tasks))
         if got != wanted:
-            is_known = answer == "beyond" and wanted[0] != "beyond"
-            return agreed, None if is_known else f"{name}: {call}: {got}, but Linux: {wanted}"
+            is_known = words[2] in ("load", "store") and answer == "beyond" and re.fullmatch(r"word \d+|done", wanted[0])
+            return agreed, KNOWN if is_known else f"{name}: {call}: {got}, but Linux: {wanted}"
         agreed += 1
     return agreed, None
 
 
 def main():
     subprocess.run([TOP / "hugepool", "--help"], stdout=subprocess.DEVNULL, check=True)
-    total, calls, different = 0, 0, []
+    total, calls, known, different = 0, 0, 0, []
     for path in sorted(Path(__file__).parent.glob("calls-*.txt")):
         for name, header, lines in scripts(path):
             agreed, difference = compare(name, header, lines)
             total, calls = total + 1, calls + agreed
-            if difference:
+            if difference == KNOWN:
+                known += 1
+            elif difference:
                 different.append(difference)
-    print(f"{total} scripts, {calls} calls agree, {len(different)} differ")
+    print(f"{total} scripts, {calls} calls agree, {known} scripts end at the known difference, {len(different)} differ")
     print("\n".join(different), end="")
     sys.exit(bool(different))
 

@@ -27,9 +27,8 @@ use Rattle.hp_machine.specs.declared.call.Call.{Call}
 use Rattle.hp_machine.specs.declared.call.Call.TheVariants as call
 use Rattle.hp_laws.proofs.Meets.{task_there, busy_lives, entry_placed, touch_stands, map_stands}
 use Rattle.hp_laws.proofs.Meets as laws
-use Rattle.hp_fault.specs.Fits.{MapFits, TouchFits, AllocFits, IsTaskOf, IsPage}
-use Rattle.hp_remove.specs.Fits.{PunchFits, TruncateFits, UnmapFits, ExitFits}
-use Rattle.hp_remove.specs.Fits as remove
+use Rattle.hp_fault.specs.Fits.{MapFits, TouchFits, AllocFits, IsTaskOf, IsPage, HasPage}
+use Rattle.hp_remove.specs.Fits.{PunchFits, TruncateFits, UnmapFits, ExitFits, IsCleared}
 use Rattle.hp_core.specs.State.{CoreState, seat_at, calls_of, as_state}
 use Rattle.hp_core.specs.Fits.{CallFits, EventFits}
 use Rattle.hp_core.specs.Sound.{IsSound, IsKept}
@@ -90,7 +89,7 @@ map_fits s t (map.Enter p) reached e =
 map_fits s t (map.Leave p) reached e = (map_stands s t _ reached e).lock
 
 -- the page of an index, as a step asks for it
-page_at : (s : State) (f i : ℕ) → laws.HasPage s f i → remove.HasPage (pool_of s) f i
+page_at : (s : State) (f i : ℕ) → laws.HasPage s f i → HasPage (pool_of s) f i
 page_at s f i h = (h.0, h.2, (h.4, (h.1, h.3)))
 
 alloc_fits : (s : State) (t : ℕ) (phase : AllocPhase) → IsReached s → s.calls t ≡ Some (call.Alloc phase) → AllocFits (pool_of s) t phase
@@ -139,7 +138,7 @@ truncate_fits s t (truncate.Settle p) reached few e = (laws.truncate_stands s t 
 truncate_fits s t (truncate.Leave p) reached few e = (laws.truncate_stands s t _ reached e).lock
 
 -- a mapping whose entries were cleared has none
-cleared : (s : State) (t base : ℕ) → ((v x : ℕ) → s.table t v ≡ Some x → in_mapping (s.areas t) base v ≡ false) → remove.IsCleared (pool_of s) t base
+cleared : (s : State) (t base : ℕ) → ((v x : ℕ) → s.table t v ≡ Some x → in_mapping (s.areas t) base v ≡ false) → IsCleared (pool_of s) t base
 cleared s t base empty v within = by_entry (s.table t v) refl
   where
     by_entry : (o : Option ℕ) → s.table t v ≡ o → s.table t v ≡ None

@@ -1,4 +1,5 @@
-//! The laws of the machine, said of a core. There is nothing to run.
+//! The laws of the machine, said of a core. There is nothing to run: a body names the theorem that it stands
+//! on, and looks at a field, which brings to hand what always holds of a core.
 ghost use Rattle.hp_machine.specs.Events.{IsReached};
 ghost use Rattle.hp_core.specs.State.{as_state};
 ghost use Rattle.hp_core.specs.Laws.{NeverShort, TouchTakes, AllocTakes, PromisedIsServed, TruncationCuts, FewOwnSteps, BlockedByHolders, SlotHoldersGoOn, LockHoldersWaitForSlots, SomeCallGoesOn};

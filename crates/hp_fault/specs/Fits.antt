@@ -25,6 +25,10 @@ IsHeld s x = (x < s.frames) × (s.frame x ≡ Hand)
 abbrev pub IsPage : Pool → ℕ → Type 0
 IsPage s x = (x < s.frames) × ((word : ℕ) × (s.frame x ≡ Placed word))
 
+-- the index has a page, whose frame has a word
+abbrev pub HasPage : Pool → (file index : ℕ) → Type 0
+HasPage s f i = (x : ℕ) × (s.pages f i ≡ Some x) × IsPage s x
+
 abbrev pub MapFits : Pool → (task : ℕ) → MapPhase → Type 0
 MapFits s t (at.Start p) = Unit {0}
 MapFits s t (at.Room p) = IsTaskOf s t
@@ -64,7 +68,7 @@ TouchFits s t (touch.Found p) = record {
   file : IsFileOf s p.touch.file;
   mapped : IsSome (find (s.areas t) p.touch.vpn);
   untranslated : s.table t p.touch.vpn ≡ None;
-  page : (x : ℕ) × (s.pages p.touch.file p.touch.index ≡ Some x) × IsPage s x;
+  page : HasPage s p.touch.file p.touch.index;
 }
 TouchFits s t (touch.Leave p) = s.slots (slot_of s.geometry p.touch.file p.touch.index) ≡ Some t
 

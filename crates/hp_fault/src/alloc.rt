@@ -19,7 +19,8 @@ use hp_machine::alloc::{
 use hp_machine::{Stopped, Turn};
 use hp_region::{ChangeFault, Pending};
 
-/// One step of an allocation. Where it finds no memory nothing changed, and the phase is handed back.
+/// One step of an allocation. Where it finds no memory nothing changed, and the phase is handed back. A kill is
+/// noticed at its start, between two indices, where it wants a slot, and where it would take a frame.
 pub fn step_alloc(
     parts: &mut Parts,
     task: Task,
@@ -41,22 +42,18 @@ pub fn step_alloc(
         AllocPhase::Head(phase) => Ok(from_head(killed, phase)),
         AllocPhase::Want(phase) => Ok(from_want(parts, task, killed, phase)),
         AllocPhase::Locked(phase) => Ok(from_locked(parts, phase)),
-        AllocPhase::Missing(phase) => match from_missing(parts, grant, phase) {
-            Ok(turn) => Ok(turn),
-            Err(again) => Err(Stopped {
-                phase: AllocPhase::Missing(again),
-            }),
-        },
+        AllocPhase::Missing(phase) => from_missing(parts, grant, phase).map_err(|again| Stopped {
+            phase: AllocPhase::Missing(again),
+        }),
         AllocPhase::Changed(phase) => Ok(from_changed(parts, killed, phase)),
         AllocPhase::Abort(phase) => Ok(from_abort(parts, phase)),
         AllocPhase::Taken(phase) => Ok(from_taken(parts, phase)),
         AllocPhase::Settle(phase) => Ok(from_settle(parts, phase)),
-        AllocPhase::Committed(phase) => match from_committed(parts, grant, phase) {
-            Ok(turn) => Ok(turn),
-            Err(again) => Err(Stopped {
+        AllocPhase::Committed(phase) => from_committed(parts, grant, phase).map_err(
+            |again| Stopped {
                 phase: AllocPhase::Committed(again),
-            }),
-        },
+            },
+        ),
         AllocPhase::Restore(phase) => Ok(from_restore(parts, phase)),
         AllocPhase::Unslot(phase) => Ok(from_unslot(parts, task, phase)),
         AllocPhase::Extend(phase) => Ok(from_extend(parts, phase)),

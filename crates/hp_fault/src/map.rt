@@ -35,18 +35,12 @@ pub fn step_map(
 {
     match phase {
         MapPhase::Start(phase) => Ok(from_start(parts, task, killed, phase)),
-        MapPhase::Room(phase) => match from_room(parts, task, grant, phase) {
-            Ok(turn) => Ok(turn),
-            Err(again) => Err(Stopped {
-                phase: MapPhase::Room(again),
-            }),
-        },
-        MapPhase::Missing(phase) => match from_missing(parts, grant, phase) {
-            Ok(turn) => Ok(turn),
-            Err(again) => Err(Stopped {
-                phase: MapPhase::Missing(again),
-            }),
-        },
+        MapPhase::Room(phase) => from_room(parts, task, grant, phase).map_err(|again| Stopped {
+            phase: MapPhase::Room(again),
+        }),
+        MapPhase::Missing(phase) => from_missing(parts, grant, phase).map_err(|again| Stopped {
+            phase: MapPhase::Missing(again),
+        }),
         MapPhase::Changed(phase) => Ok(from_changed(parts, killed, phase)),
         MapPhase::Abort(phase) => Ok(from_abort(parts, phase)),
         MapPhase::Accounted(phase) => Ok(from_accounted(parts, phase)),

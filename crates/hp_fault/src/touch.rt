@@ -6,7 +6,7 @@ ghost use Rattle.hp_machine.specs.Wants.{touch_wants};
 ghost use Rattle.hp_base.specs.Mappings.{find};
 ghost use Rattle.hp_fault.specs.View.{view};
 ghost use Rattle.hp_fault.specs.State.{state_of, SizesStay};
-ghost use Rattle.hp_fault.specs.Fits.{TouchFits, IsTaskOf, IsFileOf, IsHeld, IsPage};
+ghost use Rattle.hp_fault.specs.Fits.{TouchFits, IsTaskOf, IsFileOf, IsHeld, IsPage, HasPage};
 
 use crate::parts::Parts;
 use crate::shared::{carry, leave_slot, place_page, take_frame, use_page, want_slot};
@@ -19,7 +19,8 @@ use hp_machine::touch::{
 use hp_machine::{Stopped, Turn};
 use hp_region::{ChangeFault, Pending};
 
-/// One step of a load or a store. Where it finds no memory nothing changed, and the phase is handed back.
+/// One step of a load or a store. Where it finds no memory nothing changed, and the phase is handed back. A kill is
+/// noticed where it wants the slot, and where it would take a frame.
 pub fn step_touch(
     parts: &mut Parts,
     task: Task,
@@ -39,29 +40,24 @@ pub fn step_touch(
         TouchPhase::Look(phase) => Ok(from_look(parts, task, phase)),
         TouchPhase::Want(phase) => Ok(from_want(parts, task, killed, phase)),
         TouchPhase::Locked(phase) => Ok(from_locked(parts, phase)),
-        TouchPhase::Missing(phase) => match from_missing(parts, grant, phase) {
-            Ok(turn) => Ok(turn),
-            Err(again) => Err(Stopped {
-                phase: TouchPhase::Missing(again),
-            }),
-        },
+        TouchPhase::Missing(phase) => from_missing(parts, grant, phase).map_err(|again| Stopped {
+            phase: TouchPhase::Missing(again),
+        }),
         TouchPhase::Changed(phase) => Ok(from_changed(parts, killed, phase)),
         TouchPhase::Abort(phase) => Ok(from_abort(parts, phase)),
         TouchPhase::Taken(phase) => Ok(from_taken(parts, phase)),
         TouchPhase::Settle(phase) => Ok(from_settle(parts, phase)),
-        TouchPhase::Committed(phase) => match from_committed(parts, grant, phase) {
-            Ok(turn) => Ok(turn),
-            Err(again) => Err(Stopped {
+        TouchPhase::Committed(phase) => from_committed(parts, grant, phase).map_err(
+            |again| Stopped {
                 phase: TouchPhase::Committed(again),
-            }),
-        },
+            },
+        ),
         TouchPhase::Restore(phase) => Ok(from_restore(parts, phase)),
-        TouchPhase::Found(phase) => match from_found(parts, task, grant, phase) {
-            Ok(turn) => Ok(turn),
-            Err(again) => Err(Stopped {
+        TouchPhase::Found(phase) => from_found(parts, task, grant, phase).map_err(
+            |again| Stopped {
                 phase: TouchPhase::Found(again),
-            }),
-        },
+            },
+        ),
         TouchPhase::Leave(phase) => Ok(from_leave(parts, task, phase)),
     }
 }
@@ -269,7 +265,7 @@ fn from_found(
     requires file { IsFileOf (view parts.old) phase.touch.file }
     requires mapped { IsSome (find ((view parts.old).areas task) phase.touch.vpn) }
     requires untranslated { (view parts.old).table task phase.touch.vpn ≡ None }
-    requires page { (x : ℕ) × ((view parts.old).pages phase.touch.file phase.touch.index ≡ Some x) × IsPage (view parts.old) x }
+    requires page { HasPage (view parts.old) phase.touch.file phase.touch.index }
     ensures row { IfOk result (λ turn. TouchFoundRow (view parts.old) task grant phase turn (view parts.new)) }
     ensures sizes { SizesStay (state_of parts.old) (state_of parts.new) }
     ensures phase { IfErr result (λ again. again ≡ phase) }

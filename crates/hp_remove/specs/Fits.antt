@@ -12,15 +12,7 @@ use Rattle.hp_machine.specs.declared.unmap.UnmapPhase.{UnmapPhase}
 use Rattle.hp_machine.specs.declared.unmap.UnmapPhase.TheVariants as unmap
 use Rattle.hp_machine.specs.declared.exit.ExitPhase.{ExitPhase}
 use Rattle.hp_machine.specs.declared.exit.ExitPhase.TheVariants as exit
-use Rattle.hp_fault.specs.Fits.{IsTaskOf, IsFileOf, IsHeld, IsPage}
-
--- the index has a page, whose frame has a word
-abbrev pub HasPage : Pool → (file index : ℕ) → Type 0
-HasPage s f i = (x : ℕ) × (s.pages f i ≡ Some x) × IsPage s x
-
--- the task is there, and tasks are few enough to be counted
-abbrev pub IsNextTask : Pool → ℕ → Type 0
-IsNextTask s t = IsTaskOf s t × (s.geometry.tasks < 2 ^ 32)
+use Rattle.hp_fault.specs.Fits.{IsTaskOf, IsFileOf, IsHeld, HasPage}
 
 -- no virtual page of the mapping is translated
 abbrev pub IsCleared : Pool → (task base : ℕ) → Type 0
@@ -30,7 +22,7 @@ abbrev pub PunchFits : Pool → (task : ℕ) → PunchPhase → Type 0
 PunchFits s t (punch.Start p) = Unit {0}
 PunchFits s t (punch.Want p) = Unit {0}
 PunchFits s t (punch.Locked p) = IsFileOf s p.hole.file
-PunchFits s t (punch.Unmap p) = IsNextTask s p.task
+PunchFits s t (punch.Unmap p) = IsTaskOf s p.task × (s.geometry.tasks < 2 ^ 32)
 PunchFits s t (punch.Evict p) = IsFileOf s p.hole.file × HasPage s p.hole.file p.index
 PunchFits s t (punch.Delete p) = IsFileOf s p.hole.file × (s.pending p.hole.file ≤ s.spare p.hole.file)
 PunchFits s t (punch.Free p) = IsHeld s p.held
@@ -46,7 +38,7 @@ TruncateFits s t (truncate.Start p) = Unit {0}
 TruncateFits s t (truncate.Size p) = IsFileOf s p.truncation.file
 TruncateFits s t (truncate.Want p) = Unit {0}
 TruncateFits s t (truncate.Locked p) = IsFileOf s p.truncation.file
-TruncateFits s t (truncate.Unmap p) = IsNextTask s p.task
+TruncateFits s t (truncate.Unmap p) = IsTaskOf s p.task × (s.geometry.tasks < 2 ^ 32)
 TruncateFits s t (truncate.Evict p) = IsFileOf s p.truncation.file × HasPage s p.truncation.file p.index × (p.evicted ≤ s.geometry.limit)
 TruncateFits s t (truncate.Free p) = IsHeld s p.held
 TruncateFits s t (truncate.Unslot p) = s.slots (slot_of s.geometry p.truncation.file p.index) ≡ Some t

@@ -6,8 +6,8 @@ ghost use Rattle.hp_frames.specs.declared.frame.FrameState.TheVariants.{Hand};
 ghost use Rattle.hp_machine.specs.Parts.{cleared};
 ghost use Rattle.hp_fault.specs.View.{view};
 ghost use Rattle.hp_fault.specs.State.{state_of, SizesStay};
-ghost use Rattle.hp_fault.specs.Fits.{IsTaskOf, IsFileOf};
-ghost use Rattle.hp_remove.specs.Fits.{HasPage, IsCleared};
+ghost use Rattle.hp_fault.specs.Fits.{IsTaskOf, IsFileOf, HasPage};
+ghost use Rattle.hp_remove.specs.Fits.{IsCleared};
 
 use hp_base::{File, Index, Task, Vpn};
 use hp_fault::Parts;

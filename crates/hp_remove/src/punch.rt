@@ -5,8 +5,8 @@ ghost use Rattle.hp_machine.specs.PunchRows.{PunchRow, PunchStartRow, PunchWantR
 ghost use Rattle.hp_machine.specs.Wants.{punch_wants};
 ghost use Rattle.hp_fault.specs.View.{view};
 ghost use Rattle.hp_fault.specs.State.{state_of, IsSized, SizesStay};
-ghost use Rattle.hp_fault.specs.Fits.{IsTaskOf, IsFileOf, IsHeld};
-ghost use Rattle.hp_remove.specs.Fits.{PunchFits, HasPage};
+ghost use Rattle.hp_fault.specs.Fits.{IsTaskOf, IsFileOf, IsHeld, HasPage};
+ghost use Rattle.hp_remove.specs.Fits.{PunchFits};
 
 use crate::pages::{clear_index, evict_page};
 use hp_base::{Answer, Index, LIMIT, Task};
@@ -43,12 +43,9 @@ pub fn step_punch(
         PunchPhase::Locked(phase) => Ok(from_locked(parts, phase)),
         PunchPhase::Unmap(phase) => Ok(from_unmap(parts, phase)),
         PunchPhase::Evict(phase) => Ok(from_evict(parts, phase)),
-        PunchPhase::Delete(phase) => match from_delete(parts, grant, phase) {
-            Ok(turn) => Ok(turn),
-            Err(again) => Err(Stopped {
-                phase: PunchPhase::Delete(again),
-            }),
-        },
+        PunchPhase::Delete(phase) => from_delete(parts, grant, phase).map_err(|again| Stopped {
+            phase: PunchPhase::Delete(again),
+        }),
         PunchPhase::Free(phase) => Ok(from_free(parts, phase)),
         PunchPhase::Unslot(phase) => Ok(from_unslot(parts, task, phase)),
         PunchPhase::Leave(phase) => Ok(from_leave(parts, task, phase)),

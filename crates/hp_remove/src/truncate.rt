@@ -7,8 +7,8 @@ ghost use Rattle.hp_machine.specs.State.{slot_of};
 ghost use Rattle.hp_machine.specs.TruncateRows.{TruncateRow, TruncateStartRow, TruncateSizeRow, TruncateWantRow, TruncateLockedRow, TruncateUnmapRow, TruncateEvictRow, TruncateFreeRow, TruncateUnslotRow, TruncateTailRow, TruncateSettleRow, TruncateLeaveRow};
 ghost use Rattle.hp_fault.specs.View.{view};
 ghost use Rattle.hp_fault.specs.State.{state_of, IsSized, SizesStay};
-ghost use Rattle.hp_fault.specs.Fits.{IsTaskOf, IsFileOf, IsHeld};
-ghost use Rattle.hp_remove.specs.Fits.{TruncateFits, HasPage};
+ghost use Rattle.hp_fault.specs.Fits.{IsTaskOf, IsFileOf, IsHeld, HasPage};
+ghost use Rattle.hp_remove.specs.Fits.{TruncateFits};
 
 use crate::pages::{clear_index, evict_page};
 use hp_base::{Answer, File, Index, LIMIT, Task};
@@ -19,7 +19,8 @@ use hp_machine::truncate::{
     Evict, Free, Leave, Locked, Settle, Size, Start, Tail, TruncatePhase, Unmap, Unslot, Want,
 };
 
-/// One step of a truncation. It wants no memory; a kill is noticed at its start alone.
+/// One step of a truncation. It wants no memory, so `grant`, which every step takes, changes nothing; a kill is
+/// noticed at its start alone.
 pub fn step_truncate(
     parts: &mut Parts,
     task: Task,

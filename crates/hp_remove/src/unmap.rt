@@ -11,7 +11,8 @@ use hp_fault::Parts;
 use hp_machine::Turn;
 use hp_machine::unmap::{Clear, Drop, Start, UnmapPhase};
 
-/// One step of an unmap. It wants no memory, and no kill is noticed in it.
+/// One step of an unmap. It wants no memory, and no kill is noticed in it: `killed` and `grant` are taken as every
+/// step takes them, and change nothing.
 pub fn step_unmap(
     parts: &mut Parts,
     task: Task,
