@@ -1,5 +1,5 @@
 //! The page cache of a file.
-ghost use Rattle.std.specs.Prelude.{◌≡◌, ◌<◌, ◌≤◌, IsTrue, OnOk, OnErr, Some, None, IsSome, is_some, nat_lt, All};
+ghost use Rattle.std.specs.Prelude.{◌≡◌, ◌<◌, ◌≤◌, IsTrue, OnOk, OnErr, IfOk, Some, None, IsSome, is_some, nat_lt, All};
 ghost use Rattle.std.specs.List.{prefix_len};
 ghost use Rattle.std.specs.Ordering.{nat_cmp};
 ghost use Rattle.std.specs.FinMap as map;
@@ -99,12 +99,12 @@ impl PageCache {
         }
     }
 
-    /// The pages in order of their indices. Nothing is copied.
-    pub fn pages(&self) -> &[(Index, Frame)]
-        ensures pages { result.now ≡ map.entries self.now }
-        ensures in_file { All (λ page. page.0 < LIMIT) result.now }
+    /// A copy of the pages, in order of their indices.
+    pub fn pages(&self, alloc: Global) -> Result<Vec<(Index, Frame)>, AllocError>
+        ensures pages { IfOk result (λ pages. pages.items ≡ map.entries self.now) }
+        ensures in_file { IfOk result (λ pages. All (λ page. page.0 < LIMIT) pages.items) }
     {
-        &self.pages
+        Ok(Vec::from_slice(alloc, &self.pages)?)
     }
 
     /// How many indices have a page (Linux: `nrpages`).

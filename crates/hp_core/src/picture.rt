@@ -60,7 +60,7 @@ fn file_picture(alloc: Global, file: &FileState, locked: bool) -> Result<FilePic
         size: file.size,
         locked,
         regions: ranges(alloc, &file.map)?,
-        pages: Vec::from_slice(alloc, file.cache.pages())?,
+        pages: file.cache.pages(alloc)?,
     })
 }
 

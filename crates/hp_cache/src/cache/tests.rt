@@ -18,7 +18,7 @@ fn pages_come_and_go(rt: HostRuntime) -> Result<(), Fail> {
         (Index::new(1), Frame::new(9)),
         (Index::new(3), Frame::new(7)),
     ];
-    assert_eq!(rt; cache.pages(), pages.as_slice());
+    assert_eq!(rt; cache.pages(rt.alloc())?.as_slice(), pages.as_slice());
 
     assert_eq!(rt; cache.evict(Index::new(3)), Frame::new(7));
     assert_eq!(rt; cache.get(Index::new(1)), Some(Frame::new(9)));

@@ -8,4 +8,4 @@ pub returns-clause-pages : goal.returns-clause-pages
 returns-clause-pages c =
     let es = c.self.inside.pages.items in
     let all = map.entries-from_sorted nat_cmp es (subst T (sym c.self.invariant.in_order) tt) in
-    c.deref.ensures.value ∙ (sym all ∙ ap (λ (m : map.FinMap nat_cmp ℕ). map.entries m) c.self.view_is)
+    c.in_ok-from_slice.ensures.items ∙ (c.deref.ensures.value ∙ (sym all ∙ ap (λ (m : map.FinMap nat_cmp ℕ). map.entries m) c.self.view_is))
