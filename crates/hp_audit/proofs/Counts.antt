@@ -1,9 +1,9 @@
 -- How often a frame is counted.
 use Rattle.std.proofs.Common.{◌≡◌, ℕ, ◌+◌, ◌<◌, ◌≤◌, true, false, cond, ◌==◌, List, [], ◌∷◌, length, take, get_or, refl, ap, subst, arith}
-use Rattle.std.specs.Prelude.{All, count_by, sum_by, nat_lt}
+use Rattle.std.specs.Prelude.{Bool, All, count_by, sum_by, nat_lt}
 use Rattle.std.proofs.lemmas.Bool.{eqb-true, ltb-true, ltb-false}
-use Rattle.std.proofs.lemmas.List.Sums.{sum_by-cons, sum_by_more}
-use Rattle.std.proofs.lemmas.List.Elements.{All-head, All-tail}
+use Rattle.std.proofs.lemmas.List.Sums.{sum_by_more}
+use Rattle.hp_base.proofs.Sums.{sum_somewhere}
 use Rattle.hp_audit.specs.declared.picture.FilePicture.{FilePicture}
 use Rattle.hp_audit.specs.declared.picture.Picture.{Picture}
 use Rattle.hp_audit.specs.Findings.{times_in, pages_in, place_count, IsOnePlace}
@@ -31,26 +31,24 @@ pub count_in-all : (p : Picture) (x : ℕ) → count_in p x p.files.items ≡ pl
 unfolding count_in place_count
 count_in-all p x = refl
 
+-- a test that counts passed
+pub counts : (b : Bool) → 0 < cond {A = ℕ} b 1 0 → b ≡ true
+counts true some = refl
+counts false some = absurd (omega (arith, some))
+
 -- what holds of each element holds of one that is counted
-counted : {X : Type 0} (key : X → ℕ) (P : ℕ → Type 0) (x : ℕ) (xs : List X) → All (λ y. P (key y)) xs → 0 < count_by (λ y. key y == x) xs → P x
+pub counted : {X : Type 0} (key : X → ℕ) (P : ℕ → Type 0) (x : ℕ) (xs : List X) → All (λ y. P (key y)) xs → 0 < count_by (λ y. key y == x) xs → P x
 counted key P x [] all some = absurd (omega arith)
 counted {X} key P x (y ∷ ys) all some =
-    let Q : X → Type 0 = λ z. P (key z) in
-    let more = sum_by-cons (λ (z : X). cond (key z == x) 1 0) y ys in
-    elim (key y == x) as (λ b. (key y == x) ≡ b → P x) [
-      | true ↦ λ e. subst P (eqb-true (key y) x e) (All-head Q y ys all)
-      | false ↦ λ e. let here : cond {A = ℕ} (key y == x) 1 0 ≡ 0 = rw e refl in counted key P x ys (All-tail Q y ys all) (omega (arith, more, here))
-    ] refl
+    let at = sum_somewhere (λ (z : X). cond (key z == x) 1 0) (y ∷ ys) some in
+    let found : X = get_or (y ∷ ys) at.0 y in
+    subst P (eqb-true (key found) x (counts (key found == x) (at.2 y))) (all at.0 y at.1)
 
-counted_in : (P : ℕ → Type 0) (x : ℕ) (files : List FilePicture) → All (λ file. All (λ page. P page.1) file.pages.items) files → 0 < sum_by (pages_of x) files → P x
+pub counted_in : (P : ℕ → Type 0) (x : ℕ) (files : List FilePicture) → All (λ file. All (λ page. P page.1) file.pages.items) files → 0 < sum_by (pages_of x) files → P x
 counted_in P x [] all some = absurd (omega arith)
 counted_in P x (file ∷ files) all some =
-    let Q : FilePicture → Type 0 = λ f. All (λ (page : ℕ × ℕ). P page.1) f.pages.items in
-    let more = sum_by-cons (pages_of x) file files in
-    elim (nat_lt 0 (pages_of x file)) as (λ b. nat_lt 0 (pages_of x file) ≡ b → P x) [
-      | true ↦ λ e. counted (λ (page : ℕ × ℕ). page.1) P x file.pages.items (All-head Q file files all) (ltb-true 0 (pages_of x file) e)
-      | false ↦ λ e. counted_in P x files (All-tail Q file files all) (omega (arith, more, ltb-false 0 (pages_of x file) e))
-    ] refl
+    let at = sum_somewhere (pages_of x) (file ∷ files) some in
+    counted (λ (page : ℕ × ℕ). page.1) P x (get_or (file ∷ files) at.0 file).pages.items (all at.0 file at.1) (at.2 file)
 
 -- where a fact holds of each frame that is counted, it holds of each that is anywhere
 anywhere : (P : ℕ → Type 0) (x free hands pages : ℕ) → (0 < free → P x) → (0 < hands → P x) → (0 < pages → P x) → 0 < free + hands + pages → P x

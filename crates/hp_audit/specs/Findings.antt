@@ -65,3 +65,7 @@ vacant_in p = sum_by vacant_of p.files.items
 pub record IsCounted (p : Picture) : Type 0 where
   pub exact : pos p.resv ≡ pos (vacant_in p) +ℤ p.owed
   pub enough : p.resv ≤ length p.free.items
+
+-- nothing is wrong with the picture
+abbrev pub IsRight : Picture → Type 0
+IsRight p = IsShaped p × Agrees p × IsOnePlace p × IsBelow p × IsCounted p

@@ -1,6 +1,6 @@
 //! The audit of a picture.
 ghost use Rattle.std.specs.Prelude.{◌≡◌, ◌<◌, ◌≤◌, ◌^◌, ◌↔◌, length, All, Contains, slice_get, IsTrue, IsSomeAnd, IsOk, IsErrOf};
-ghost use Rattle.hp_audit.specs.Findings.{place_count, vacant_in, IsFileShaped, IsShaped, Agrees, IsOnePlace, IsBelow, IsCounted};
+ghost use Rattle.hp_audit.specs.Findings.{place_count, vacant_in, IsFileShaped, IsShaped, Agrees, IsOnePlace, IsBelow, IsCounted, IsRight};
 ghost use Rattle.hp_audit.specs.declared.finding.Finding.TheVariants as Finding;
 
 use crate::file;
@@ -136,8 +136,7 @@ fn is_counted(picture: &Picture) -> bool
 /// file with p pages and r ranges at p * p pages, at p for each translation and at p + r for each
 /// index below `LIMIT`.
 pub fn audit(picture: &Picture) -> Result<(), Finding>
-    ensures ok { IsOk result ↔ (IsShaped picture.now × Agrees picture.now × IsOnePlace picture.now
-        × IsBelow picture.now × IsCounted picture.now) }
+    ensures ok { IsOk result ↔ IsRight picture.now }
 
     // A finding comes where what is named for it fails, and what is named for those before it holds.
     ensures shape { IsErrOf result Finding.Shape ↔ ¬ IsShaped picture.now }

@@ -6,4 +6,5 @@ pub mod Puts
 pub mod Searches
 pub mod Sets
 pub mod Spaces
+pub mod Sums
 pub mod Totals

@@ -1,6 +1,7 @@
 -- Sums of functions on numbers, and counts of members as sums.
 use Rattle.std.proofs.Common.{◌≡◌, ◌≢◌, ℕ, zero, suc, ◌+◌, ◌<◌, ◌≤◌, refl, ap, sym, ◌∙◌, arith, inl, inr}
-use Rattle.std.specs.Prelude.{Bool, true, false, cond}
+use Rattle.std.specs.Prelude.{Bool, true, false, cond, nat_lt}
+use Rattle.std.proofs.lemmas.Bool.{ltb-true, ltb-false}
 use Rattle.hp_base.specs.Numbers.{total, bit}
 use Rattle.hp_base.specs.Indices.{count_below}
 use Rattle.hp_base.proofs.Puts.{same_or_other}
@@ -44,6 +45,16 @@ total_has (suc n) k f l = elim (same_or_other k n) [
   | inl e ↦ rw e (omega arith)
   | inr e ↦ (let a : f k ≤ total n f = total_has n k f (omega arith) in omega arith)
 ]
+
+-- some term of a sum that isn't nothing is something
+pub total_somewhere : (n : ℕ) (f : ℕ → ℕ) → 0 < total n f → (k : ℕ) × (k < n) × (0 < f k)
+unfolding total
+total_somewhere zero f some = absurd (omega arith)
+total_somewhere (suc n) f some =
+    elim (nat_lt 0 (f n)) as (λ b. nat_lt 0 (f n) ≡ b → (k : ℕ) × (k < suc n) × (0 < f k)) [
+      | true ↦ λ e. (n, omega arith, ltb-true 0 (f n) e)
+      | false ↦ λ e. (let rest = total_somewhere n f (omega (arith, some, ltb-false 0 (f n) e)) in (rest.0, omega (arith, rest.1), rest.2))
+    ] refl
 
 pub cond_bit : (b : Bool) → cond b 1 0 ≡ bit b
 cond_bit true = refl

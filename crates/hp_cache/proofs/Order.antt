@@ -1,11 +1,13 @@
 -- Entries whose keys rise.
-use Rattle.std.proofs.Common.{◌≡◌, ℕ, zero, suc, ◌<◌, ◌≤◌, true, List, [], ◌∷◌, Some, None, length, get_or, refl, arith}
-use Rattle.std.specs.Prelude.{All}
+use Rattle.std.proofs.Common.{◌≡◌, ℕ, zero, suc, ◌<◌, ◌≤◌, true, List, [], ◌∷◌, Some, None, length, get_or, unwrap_or, refl, sym, ◌∙◌, ap, inl, inr, arith}
+use Rattle.std.specs.Prelude.{◌≢◌, ◌==◌, Option, is_some, All, AllPairs, Contains}
+use Rattle.std.specs.List.{list_any}
 use Rattle.std.specs.Ordering.{nat_cmp}
 use Rattle.std.specs.FinMap.{find, is_sorted}
 use Rattle.std.specs.FinMap.Entries.{below_all}
 use Rattle.std.specs.List.Sorted.{IsNonDecreasingBy}
 use Rattle.std.proofs.lemmas.Bool.Decides.{nat_tests}
+use Rattle.hp_base.proofs.Puts.{same_or_other}
 
 module _ {X : Type 0} where
   -- a key lies below those of a list in order, one by one
@@ -64,3 +66,34 @@ module _ {X : Type 0} where
       let above = below_at e.0 es i d parts.0 (omega arith) in
       let rest = find_at es i d parts.1 (omega arith) in
       grind (arith, nat_tests, above, rest)
+
+  differ : (e : ℕ × X) (es : List (ℕ × X)) → below_all nat_cmp e.0 es ≡ true → AllPairs (λ e other. e.0 ≢ other.0) es → (i j : ℕ) (d : ℕ × X) → i < j → j < length (e ∷ es) → (get_or (e ∷ es) i d).0 ≢ (get_or (e ∷ es) j d).0
+  differ e es below rest i zero d lt within = absurd (omega (arith, lt))
+  differ e es below rest zero (suc j) d lt within = (let above = below_at e.0 es j d below (omega (arith, within)) in λ same. omega (arith, above, same))
+  differ e es below rest (suc i) (suc j) d lt within = rest i j d (omega (arith, lt)) (omega (arith, within))
+
+  -- no two that stand there have one key
+  pub keys_differ : (es : List (ℕ × X)) → is_sorted nat_cmp es ≡ true → AllPairs (λ e other. e.0 ≢ other.0) es
+  keys_differ [] sorted = λ i j d lt within. absurd (omega arith)
+  keys_differ (e ∷ es) sorted =
+      let parts = sorted_first e es sorted in
+      differ e es parts.0 (keys_differ es parts.1)
+
+-- a key is found where some entry has it
+pub found_somewhere : {X : Type 0} (k : ℕ) (es : List (ℕ × X)) → list_any (λ e. e.0 == k) es ≡ is_some (find nat_cmp k es)
+found_somewhere k [] = refl
+found_somewhere k (e ∷ es) = let rest = found_somewhere k es in grind (arith, nat_tests, rest)
+
+-- and what is found is an entry
+pub found_entry : {X : Type 0} (k : ℕ) (x : X) (es : List (ℕ × X)) → find nat_cmp k es ≡ Some x → Contains es (k, x)
+found_entry k x [] found = (let d : None ≡ Some x = found in absurd (cc))
+found_entry {X} k x (e ∷ es) found = elim (same_or_other k e.0) [
+  | inl same ↦ (let word : Some e.1 ≡ Some x = sym (here e es same) ∙ found in let value : e.1 ≡ x = ap (λ (o : Option X). unwrap_or o x) word in (0, omega arith, λ i. (sym same i, value i)))
+  | inr other ↦ (let rest = found_entry k x es (sym (later e es other) ∙ found) in (suc rest.0, omega (arith, rest.1), rest.2))
+]
+  where
+    here : (e : ℕ × X) (es : List (ℕ × X)) → k ≡ e.0 → find nat_cmp k (e ∷ es) ≡ Some e.1
+    here e es same = grind (arith, nat_tests)
+
+    later : (e : ℕ × X) (es : List (ℕ × X)) → k ≢ e.0 → find nat_cmp k (e ∷ es) ≡ find nat_cmp k es
+    later e es other = grind (arith, nat_tests)

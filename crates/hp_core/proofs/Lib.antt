@@ -1,3 +1,4 @@
+pub mod Audited
 pub mod Copying
 pub mod FilePictures
 pub mod Headlines

@@ -1,18 +1,17 @@
 -- The translations that a picture copies are those of the machine.
 use Rattle.std.proofs.Common.{◌≡◌, ℕ, zero, suc, ◌+◌, ◌-◌, ◌≤◌, List, [], ◌∷◌, length, get_or, refl, sym, ◌∙◌, ap, subst, arith, add-one, length-append, inl, inr}
 use Rattle.std.proofs.Math.ListN.{get_or-eq_default}
-use Rattle.std.specs.Prelude.{◌≢◌, Bool, true, false, Option, Some, None, T, ◌==◌, IsSome, IfSome, is_some, All, Contains, filter_map}
-use Rattle.std.specs.Option.{option_map, unwrap_or}
+use Rattle.std.specs.Prelude.{Bool, true, false, Option, Some, None, T, ◌==◌, IsSome, IfSome, is_some, All, Contains, filter_map}
+use Rattle.std.specs.Option.{option_map}
 use Rattle.std.specs.List.{cons_option}
 use Rattle.std.specs.FinMap as finite
 use Rattle.std.specs.Ordering.{nat_cmp}
 use Rattle.std.proofs.lemmas.Bool.{cases_lt, ne_eqb}
-use Rattle.std.proofs.lemmas.Bool.Decides.{nat_tests}
 use Rattle.std.proofs.lemmas.List.Elements.{All-cons, All-nil, All-tail, All-head, All-append, Contains-append_left, Contains-append_right}
 use Rattle.hp_base.specs.Numbers.{total}
 use Rattle.hp_base.specs.Mappings.{find}
 use Rattle.hp_base.proofs.Puts.{same_or_other}
-use Rattle.hp_cache.proofs.Order.{find_at}
+use Rattle.hp_cache.proofs.Order.{find_at, found_entry}
 use Rattle.hp_table.specs.Table.{Table}
 use Rattle.hp_fault.specs.View.{no_table, table_of, areas_of, entries_of}
 use Rattle.hp_machine.specs.Headline as head
@@ -39,23 +38,15 @@ as_many {X} {Y} h (e ∷ es) all = onto (h e) (All-head (λ (e : X). IsSome (h e
     onto None one rest = (let d : false ≡ true = one in absurd (cc))
     onto (Some y) one rest = omega (arith, rest)
 
--- what the entry of a key gives is there
-key_same : (v : ℕ) (e : ℕ × ℕ) (es : List (ℕ × ℕ)) → v ≡ e.0 → finite.find nat_cmp v (e ∷ es) ≡ Some e.1
-key_same v e es same = grind (arith, nat_tests)
-
-key_other : (v : ℕ) (e : ℕ × ℕ) (es : List (ℕ × ℕ)) → v ≢ e.0 → finite.find nat_cmp v (e ∷ es) ≡ finite.find nat_cmp v es
-key_other v e es other = grind (arith, nat_tests)
-
-given : {Y : Type 0} (h : ℕ × ℕ → Option Y) (es : List (ℕ × ℕ)) (v x : ℕ) (y : Y) → finite.find nat_cmp v es ≡ Some x → h (v, x) ≡ Some y → Contains (filter_map h es) y
-given {Y} h [] v x y found gives = (let d : None ≡ Some x = found in absurd (cc))
-given {Y} h (e ∷ es) v x y found gives = elim (same_or_other v e.0) [
-  | inl same ↦ (let k : Some e.1 ≡ Some x = sym (key_same v e es same) ∙ found in let word : e.1 ≡ x = ap (λ (o : Option ℕ). unwrap_or o x) k in let here : h e ≡ Some y = ap (λ (p : ℕ × ℕ). h p) (λ i. (sym same i, word i)) ∙ gives in first (h e) here)
-  | inr other ↦ later (h e) (given h es v x y (sym (key_other v e es other) ∙ found) gives)
-]
+-- what a value of the list gives is there
+given : {X Y : Type 0} (h : X → Option Y) (es : List X) (e : X) (y : Y) → Contains es e → h e ≡ Some y → Contains (filter_map h es) y
+given h [] e y there gives = absurd (omega (arith, there.1))
+given {X} {Y} h (z ∷ es) e y (zero, within, is) gives = first (h z) (ap h is ∙ gives)
   where
     first : (o : Option Y) → o ≡ Some y → Contains (cons_option o (filter_map h es)) y
-    first o is = subst (λ (p : Option Y). Contains (cons_option p (filter_map h es)) y) (sym is) (0, (omega arith), refl)
-
+    first o some = subst (λ (p : Option Y). Contains (cons_option p (filter_map h es)) y) (sym some) (0, (omega arith), refl)
+given {X} {Y} h (z ∷ es) e y (suc k, within, is) gives = later (h z) (given h es e y (k, omega (arith, within), is) gives)
+  where
     later : (o : Option Y) → Contains (filter_map h es) y → Contains (cons_option o (filter_map h es)) y
     later None rest = rest
     later (Some z) rest = Contains-append_right (z ∷ []) (filter_map h es) y rest
@@ -92,7 +83,7 @@ whole_at : (s : CoreState) (t v x f i : ℕ) → (as_state s).table t v ≡ Some
 unfolding translations areas_of entries_of
 whole_at s t v x f i has stands =
     let table : Table = table_of s.parts.spaces t in
-    given (translation t table.mappings) (finite.entries table.entries) v x (t, f, i, x) (sym (finite.get-entries table.entries v) ∙ has) (ap (λ (o : Option (ℕ × ℕ)). option_map (λ place. (t, place.0, place.1, x)) o) stands)
+    given (translation t table.mappings) (finite.entries table.entries) (v, x) (t, f, i, x) (found_entry v x (finite.entries table.entries) (sym (finite.get-entries table.entries v) ∙ has)) (ap (λ (o : Option (ℕ × ℕ)). option_map (λ place. (t, place.0, place.1, x)) o) stands)
 
 whole_upto : (s : CoreState) (n t : ℕ) (y : ℕ × ℕ × ℕ × ℕ) → 1 ≤ t → t ≤ n → Contains (translations t (table_of s.parts.spaces t)) y → Contains (all_translations s.parts.spaces n) y
 unfolding all_translations

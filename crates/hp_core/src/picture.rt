@@ -6,6 +6,7 @@ ghost use Rattle.hp_base.specs.declared.limits.TheConstants.{LIMIT};
 ghost use Rattle.hp_frames.specs.Bank.{free_frames, frame_at, is_free};
 ghost use Rattle.hp_region.specs.Regions.{IsApartFrom};
 ghost use Rattle.hp_slots.specs.Holders.{holder_of};
+ghost use Rattle.hp_audit.specs.Findings.{IsRight};
 ghost use Rattle.hp_audit.specs.declared.picture.FilePicture.{FilePicture};
 ghost use Rattle.hp_fault.specs.View.{no_file};
 ghost use Rattle.hp_core.specs.Copies.{IsCopy, translations, all_translations};
@@ -120,6 +121,8 @@ impl Core {
     /// for the lists alone.
     pub fn picture(&self, alloc: Global) -> Result<Picture, AllocError>
         ensures picture { IfOk result (λ picture. IsPicture self.now picture) }
+        // The audit passes it.
+        ensures audited { IfOk result (λ picture. IsRight picture) }
     {
         Ok(Picture {
             free: free_frames(alloc, &self.parts.bank, self.config.frames)?,

@@ -1,0 +1,261 @@
+-- Nothing is wrong with a picture of a core.
+use Rattle.std.proofs.Common.{◌≡◌, ℕ, zero, suc, ◌+◌, ◌<◌, ◌≤◌, length, get_or, refl, sym, ◌∙◌, ap, subst, arith, inl, inr}
+use Rattle.std.specs.Prelude.{Bool, true, false, not, ◌&&◌, ◌==◌, nat_lt, cond, Option, Some, None, is_some, IsSomeAnd, IfSome, All, Contains, slice_get, sum_by, ℤ, pos, ◌+ℤ◌, ◌-ℤ◌}
+use Rattle.std.specs.Option.{unwrap_or}
+use Rattle.std.specs.FinMap as finite
+use Rattle.std.specs.Ordering.{nat_cmp}
+use Rattle.std.proofs.lemmas.Bool.{ltb-true, ltb-false, eqb-true}
+use Rattle.std.proofs.lemmas.Int.{ints}
+use Rattle.std.proofs.lemmas.Option.{slice_get_cases}
+use Rattle.std.proofs.lemmas.List.Elements.{All-weaker}
+use Rattle.std.proofs.Math.ListN.{get_or-eq_default}
+use Rattle.hp_base.specs.Numbers.{bit, is_none, total}
+use Rattle.hp_base.specs.Indices.{vacant}
+use Rattle.hp_base.specs.declared.limits.TheConstants.{LIMIT}
+use Rattle.hp_base.proofs.Counting.{count_below-ext}
+use Rattle.hp_base.proofs.Sums.{sum_by-total, sum_at_most_one}
+use Rattle.hp_base.proofs.Totals.{total_somewhere, at_most_one}
+use Rattle.hp_frames.specs.declared.frame.FrameState.{FrameState}
+use Rattle.hp_frames.specs.declared.frame.FrameState.TheVariants as frame
+use Rattle.hp_cache.proofs.Order.{find_at, keys_differ, found_entry, found_somewhere}
+use Rattle.hp_machine.specs.State.{is_free}
+use Rattle.hp_machine.specs.Views.{hand}
+use Rattle.hp_machine.specs.Headline as head
+use Rattle.hp_machine.specs.Headline.{Place, Free, Hand, Page, IsAt}
+use Rattle.hp_laws.proofs.Meets.{page_inside}
+use Rattle.hp_laws.proofs.Moves.{same_place}
+use Rattle.hp_audit.specs.declared.picture.FilePicture.{FilePicture}
+use Rattle.hp_audit.specs.declared.picture.Picture.{Picture}
+use Rattle.hp_audit.specs.Findings.{IsFileShaped, IsShaped, Agrees, IsOnePlace, IsBelow, IsCounted, IsRight, times_in, pages_in, place_count, is_vacant, vacant_of, vacant_in, has_page}
+use Rattle.hp_audit.proofs.Counts.{counts as passed, counted, counted_in}
+use Rattle.hp_fault.specs.View.{no_file, pages_of}
+use Rattle.hp_core.specs.State.{CoreState, as_state}
+use Rattle.hp_core.specs.Sound.{IsSound}
+use Rattle.hp_core.specs.Runs.{Headline}
+use Rattle.hp_core.specs.Pictures.{IsPicture, IsFilePicture, IsTranslation, is_that}
+use Rattle.hp_core.specs.Readers.{free_of, resv_of, owed_of}
+use Rattle.hp_core.proofs.Headlines.{reached_of, headline_of}
+
+-- the headline, seen as the machine's
+head_of : (s : CoreState) → IsSound s → head.Headline (as_state s)
+unfolding Headline
+head_of s h = headline_of s h
+
+-- SHAPE
+
+-- each page that a file's picture tells is the state's
+pages_told : (s : CoreState) (f : ℕ) (file : FilePicture) → IsFilePicture (as_state s) f file → All (λ page. (as_state s).pages f page.0 ≡ Some page.1) file.pages.items
+pages_told s f file is = λ k d within. sym (is.pages (get_or file.pages.items k d).0) ∙ find_at file.pages.items k d is.in_order within
+
+file_shaped : (s : CoreState) (f : ℕ) (file : FilePicture) → IsFilePicture (as_state s) f file → IsFileShaped file
+file_shaped s f file is = record {
+  regions = All-weaker (λ (region : ℕ × ℕ). (region.0 < region.1) × (region.1 ≤ LIMIT)) (λ (region : ℕ × ℕ). (region.0 ≤ region.1) × (region.1 ≤ LIMIT)) (λ region h. (omega (arith, h.0), h.1)) file.regions.items is.ranges;
+  pages = is.in_file;
+  once = keys_differ file.pages.items is.in_order;
+}
+
+-- what holds of the picture of each file holds of all that are told
+each_file : (s : CoreState) (p : Picture) (P : FilePicture → Type 0) → IsPicture s p → ((f : ℕ) (file : FilePicture) → IsFilePicture (as_state s) f file → P file) → All P p.files.items
+each_file s p P h each = λ k d within. each k (get_or p.files.items k d) (h.files k (omega (arith, h.as_many, within)) d)
+
+-- a file that has a page is there
+file_there : (s : CoreState) (f i x : ℕ) → (as_state s).pages f i ≡ Some x → f < length s.parts.files
+unfolding pages_of
+file_there s f i x has = elim (nat_lt f (length s.parts.files)) as (λ b. nat_lt f (length s.parts.files) ≡ b → f < length s.parts.files) [
+  | true ↦ λ e. ltb-true f (length s.parts.files) e
+  | false ↦ λ e.
+      let none : get_or s.parts.files f no_file ≡ no_file = get_or-eq_default s.parts.files no_file (ltb-false f (length s.parts.files) e) in
+      let bare : (as_state s).pages f i ≡ None = ap (λ file. finite.get file.cache i) none ∙ finite.get-empty nat_cmp i in
+      let d : ◌≡◌ {A = Option ℕ} None (Some x) = sym bare ∙ has in absurd (cc)
+] refl
+
+-- a translation is to its file's page
+page_told : (s : CoreState) (e : ℕ × ℕ × ℕ × ℕ) → IsSound s → IsTranslation (as_state s) e → (as_state s).pages e.1 e.2 ≡ Some e.3
+page_told s e h is =
+    let a = (head_of s h).agree e.0 is.0 e.3 is.1 in
+    let same : Some (e.1, e.2) ≡ Some a.0 = sym is.2 ∙ a.1 in
+    let place : (e.1, e.2) ≡ a.0 = ap (λ (o : Option (ℕ × ℕ)). unwrap_or o (e.1, e.2)) same in
+    ap (λ (q : ℕ × ℕ). (as_state s).pages q.0 q.1) place ∙ a.2
+
+shaped : (s : CoreState) (p : Picture) → IsSound s → IsPicture s p → IsShaped p
+shaped s p h is = record {
+  files = each_file s p IsFileShaped is (λ f file of. file_shaped s f file of);
+  tables = All-weaker (IsTranslation (as_state s)) (λ (entry : ℕ × ℕ × ℕ × ℕ). (entry.1 < length p.files.items) × (entry.2 < LIMIT)) (λ e of. within e of) p.tables.items is.sound;
+}
+  where
+    within : (e : ℕ × ℕ × ℕ × ℕ) → IsTranslation (as_state s) e → (e.1 < length p.files.items) × (e.2 < LIMIT)
+    within e of =
+        let page = page_told s e h of in
+        (omega (arith, file_there s e.1 e.2 e.3 page, is.as_many), page_inside (as_state s) e.1 e.2 e.3 (reached_of s h) page)
+
+-- TRANSLATIONS
+
+-- the picture of a file that is there
+file_told : (s : CoreState) (p : Picture) (f : ℕ) → IsPicture s p → f < length s.parts.files → (file : FilePicture) × (slice_get p.files.items f ≡ Some file) × IsFilePicture (as_state s) f file
+file_told s p f h l = elim (slice_get_cases p.files.items f).1 [
+  | inl there ↦ (there.0, there.2, subst (λ (file : FilePicture). IsFilePicture (as_state s) f file) there.3 (h.files f l there.0))
+  | inr past ↦ absurd (omega (arith, h.as_many, l, past.0))
+]
+
+agrees : (s : CoreState) (p : Picture) → IsSound s → IsPicture s p → Agrees p
+agrees s p h is = λ k d within. of_entry (get_or p.tables.items k d) (is.sound k d within)
+  where
+    of_entry : (e : ℕ × ℕ × ℕ × ℕ) → IsTranslation (as_state s) e → IsSomeAnd (slice_get p.files.items e.1) (λ file. Contains file.pages.items (e.2, e.3))
+    of_entry e of =
+        let page = page_told s e h of in
+        let told = file_told s p e.1 is (file_there s e.1 e.2 e.3 page) in
+        rw told.1 (found_entry e.2 e.3 told.0.pages.items (told.2.pages e.2 ∙ page))
+
+below : (s : CoreState) (p : Picture) → IsSound s → IsPicture s p → IsBelow p
+below s p h is = λ k d within. of_entry (get_or p.tables.items k d) (is.sound k d within)
+  where
+    unlocked : (o : Option ℕ) → is_some o ≡ false → o ≡ None
+    unlocked None e = refl
+    unlocked (Some u) e = (let d : true ≡ false = e in absurd (cc))
+
+    of_entry : (e : ℕ × ℕ × ℕ × ℕ) → IsTranslation (as_state s) e → IfSome (slice_get p.files.items e.1) (λ file. file.locked ≡ false → e.2 < file.size)
+    of_entry e of =
+        let told = file_told s p e.1 is (file_there s e.1 e.2 e.3 (page_told s e h of)) in
+        rw told.1 (λ idle.
+        let low = (head_of s h).below e.0 of.0 e.3 e.1 e.2 of.1 of.2 (unlocked ((as_state s).locks e.1) (sym told.2.locked ∙ idle)) in
+        omega (arith, low, told.2.size))
+
+-- COUNT
+
+not_some : (o : Option ℕ) → not (is_some o) ≡ is_none o
+not_some None = refl
+not_some (Some x) = refl
+
+vacant_same : (s : CoreState) (f : ℕ) (file : FilePicture) → IsFilePicture (as_state s) f file → vacant_of file ≡ vacant LIMIT ((as_state s).reserved f) ((as_state s).pages f)
+unfolding vacant_of vacant
+vacant_same s f file is = count_below-ext (is_vacant file) (λ i. (as_state s).reserved f i && is_none ((as_state s).pages f i)) LIMIT (λ i low.
+    let page : has_page file.pages.items i ≡ is_some ((as_state s).pages f i) = found_somewhere i file.pages.items ∙ ap (λ (o : Option ℕ). is_some o) (is.pages i) in
+    ap (λ (b : Bool). b && not (has_page file.pages.items i)) (is.reserved i) ∙ ap (λ (b : Bool). (as_state s).reserved f i && b) (ap not page ∙ not_some ((as_state s).pages f i)))
+
+vacant_all : (s : CoreState) (p : Picture) → IsPicture s p → vacant_in p ≡ head.vacant_in (as_state s)
+vacant_all s p is =
+    let of_files : ℕ → ℕ = λ f. vacant LIMIT ((as_state s).reserved f) ((as_state s).pages f) in
+    sum_by-total vacant_of of_files p.files.items (λ f within d. vacant_same s f (get_or p.files.items f d) (is.files f (omega (arith, is.as_many, within)) d)) ∙ ap (λ (n : ℕ). total n of_files) is.as_many
+
+signed : (r v less more : ℕ) → r + less ≡ v + more → pos r ≡ pos v +ℤ (pos more -ℤ pos less)
+signed r v less more h = grind (arith, ints, h)
+
+counts : (s : CoreState) (p : Picture) → IsSound s → IsPicture s p → IsCounted p
+unfolding owed_of resv_of free_of
+counts s p h is =
+    let top = head_of s h in
+    record {
+      exact = ap (λ (n : ℕ). pos n) is.resv ∙ (signed (as_state s).resv (vacant_in p) (head.all_less (as_state s)) (head.all_more (as_state s)) (top.count ∙ ap (λ (n : ℕ). n + head.all_more (as_state s)) (sym (vacant_all s p is))) ∙ ap (λ (z : ℤ). pos (vacant_in p) +ℤ z) (sym is.owed));
+      enough = omega (arith, is.resv, top.enough, is.frees);
+    }
+
+-- PLACES
+
+-- the frame is at that place
+abbrev IsPlaced : CoreState → ℕ → Place → Type 0
+IsPlaced s x q = IsAt (as_state s).frame (λ t. hand ((as_state s).calls t)) (as_state s).pages x q
+
+alone : (s : CoreState) (x : ℕ) (q r : Place) → IsSound s → IsPlaced s x q → IsPlaced s x r → q ≡ r
+alone s x q r h a b = same_place (as_state s).frames (as_state s).frame (λ t. hand ((as_state s).calls t)) (as_state s).pages (head_of s h).place x q r a b
+
+is_one : (b : Bool) → 0 < bit b → b ≡ true
+is_one true some = refl
+is_one false some = absurd (omega (arith, some))
+
+bit_one : (b : Bool) → bit b ≤ 1
+bit_one true = omega arith
+bit_one false = omega arith
+
+free_is : (f : FrameState) → is_free f ≡ true → f ≡ frame.Free
+free_is frame.Free e = refl
+free_is frame.Hand e = (let d : false ≡ true = e in absurd (cc))
+free_is (frame.Placed word) e = (let d : false ≡ true = e in absurd (cc))
+
+that_is : (x : ℕ) (o : Option ℕ) → is_that x o ≡ true → o ≡ Some x
+that_is x None e = (let d : false ≡ true = e in absurd (cc))
+that_is x (Some y) e = ap (λ (z : ℕ). Some z) (eqb-true y x e)
+
+-- FREE ONES
+free_at : (s : CoreState) (p : Picture) (x : ℕ) → IsPicture s p → 0 < times_in p.free.items x → IsPlaced s x Free
+free_at s p x is some = free_is ((as_state s).frame x) (is_one (is_free ((as_state s).frame x)) (omega (arith, some, is.free x)))
+
+free_once : (s : CoreState) (p : Picture) (x : ℕ) → IsPicture s p → times_in p.free.items x ≤ 1
+free_once s p x is = omega (arith, is.free x, bit_one (is_free ((as_state s).frame x)))
+
+-- HANDS
+hand_at : (s : CoreState) (p : Picture) (x : ℕ) → IsPicture s p → 0 < times_in p.hands.items x → (t : ℕ) × IsPlaced s x (Hand t)
+hand_at s p x is some =
+    let at = total_somewhere ((as_state s).geometry.tasks + 1) (λ t. bit (is_that x (hand ((as_state s).calls t)))) (omega (arith, some, is.hands x)) in
+    (at.0, that_is x (hand ((as_state s).calls at.0)) (is_one (is_that x (hand ((as_state s).calls at.0))) at.2))
+
+same_task : {a b : ℕ} → Hand a ≡ Hand b → a ≡ b
+same_task e = cc
+
+hand_once : (s : CoreState) (p : Picture) (x : ℕ) → IsSound s → IsPicture s p → times_in p.hands.items x ≤ 1
+hand_once s p x h is =
+    let holds : ℕ → Bool = λ t. is_that x (hand ((as_state s).calls t)) in
+    let few = at_most_one ((as_state s).geometry.tasks + 1) holds true (λ t e. refl) (λ t u a b. same_task (alone s x (Hand t) (Hand u) h (that_is x (hand ((as_state s).calls t)) a) (that_is x (hand ((as_state s).calls u)) b))) in
+    omega (arith, few, is.hands x)
+
+-- PAGES
+same_file : {a b i j : ℕ} → Page a i ≡ Page b j → a ≡ b
+same_file e = cc
+
+same_index : {a b i j : ℕ} → Page a i ≡ Page b j → i ≡ j
+same_index e = cc
+
+-- a frame that a file's picture has is the file's page
+page_of : (s : CoreState) (f x : ℕ) (file : FilePicture) → IsFilePicture (as_state s) f file → 0 < pages_in file.pages.items x → (i : ℕ) × IsPlaced s x (Page f i)
+page_of s f x file is some = counted (λ (page : ℕ × ℕ). page.1) (λ y. (i : ℕ) × ((as_state s).pages f i ≡ Some y)) x file.pages.items (λ k d within. ((get_or file.pages.items k d).0, pages_told s f file is k d within)) some
+
+page_at : (s : CoreState) (p : Picture) (x : ℕ) → IsPicture s p → 0 < sum_by (λ file. pages_in file.pages.items x) p.files.items → (place : ℕ × ℕ) × IsPlaced s x (Page place.0 place.1)
+page_at s p x is some =
+    let P : ℕ → Type 0 = λ y. (place : ℕ × ℕ) × ((as_state s).pages place.0 place.1 ≡ Some y) in
+    counted_in P x p.files.items (each_file s p (λ file. All (λ page. P page.1) file.pages.items) is (λ f file of k d within. ((f, (get_or file.pages.items k d).0), pages_told s f file of k d within))) some
+
+-- a file has a frame at one index
+once_in_file : (s : CoreState) (f x : ℕ) (file : FilePicture) → IsSound s → IsFilePicture (as_state s) f file → pages_in file.pages.items x ≤ 1
+once_in_file s f x file h is = sum_at_most_one (λ (page : ℕ × ℕ). cond (page.1 == x) 1 0) file.pages.items (λ k d within. one ((get_or file.pages.items k d).1 == x)) (λ i j d lt within a b.
+    keys_differ file.pages.items is.in_order i j d lt within (same_index (alone s x (Page f (get_or file.pages.items i d).0) (Page f (get_or file.pages.items j d).0) h (at i d (omega (arith, lt, within)) a) (at j d within b))))
+  where
+    one : (b : Bool) → cond {A = ℕ} b 1 0 ≤ 1
+    one true = omega arith
+    one false = omega arith
+
+    at : (k : ℕ) (d : ℕ × ℕ) → k < length file.pages.items → 0 < cond {A = ℕ} ((get_or file.pages.items k d).1 == x) 1 0 → IsPlaced s x (Page f (get_or file.pages.items k d).0)
+    at k d within some = pages_told s f file is k d within ∙ ap (λ (y : ℕ). Some y) (eqb-true (get_or file.pages.items k d).1 x (passed ((get_or file.pages.items k d).1 == x) some))
+
+page_once : (s : CoreState) (p : Picture) (x : ℕ) → IsSound s → IsPicture s p → sum_by (λ file. pages_in file.pages.items x) p.files.items ≤ 1
+page_once s p x h is = sum_at_most_one (λ (file : FilePicture). pages_in file.pages.items x) p.files.items (each_file s p (λ file. pages_in file.pages.items x ≤ 1) is (λ f file of. once_in_file s f x file h of)) (λ i j d lt within a b.
+    let here = page_of s i x (get_or p.files.items i d) (is.files i (omega (arith, is.as_many, lt, within)) d) a in
+    let there = page_of s j x (get_or p.files.items j d) (is.files j (omega (arith, is.as_many, within)) d) b in
+    let same : i ≡ j = same_file (alone s x (Page i here.0) (Page j there.0) h here.1 there.1) in
+    absurd (omega (arith, lt, same)))
+
+-- of three that are one at most, of which no two count
+few_places : (a b c : ℕ) → a ≤ 1 → b ≤ 1 → c ≤ 1 → (0 < a → 0 < b → ⊥) → (0 < a → 0 < c → ⊥) → (0 < b → 0 < c → ⊥) → a + b + c ≤ 1
+few_places zero zero c la lb lc ab ac bc = omega (arith, lc)
+few_places zero (suc b) zero la lb lc ab ac bc = omega (arith, lb)
+few_places zero (suc b) (suc c) la lb lc ab ac bc = absurd (bc (omega arith) (omega arith))
+few_places (suc a) zero zero la lb lc ab ac bc = omega (arith, la)
+few_places (suc a) zero (suc c) la lb lc ab ac bc = absurd (ac (omega arith) (omega arith))
+few_places (suc a) (suc b) c la lb lc ab ac bc = absurd (ab (omega arith) (omega arith))
+
+one_place : (s : CoreState) (p : Picture) → IsSound s → IsPicture s p → IsOnePlace p
+unfolding place_count
+one_place s p h is = λ x. few_places (times_in p.free.items x) (times_in p.hands.items x) (sum_by (λ file. pages_in file.pages.items x) p.files.items) (free_once s p x is) (hand_once s p x h is) (page_once s p x h is)
+    (λ a b. (let there = hand_at s p x is b in not_hand (alone s x Free (Hand there.0) h (free_at s p x is a) there.1)))
+    (λ a c. (let there = page_at s p x is c in not_page (alone s x Free (Page there.0.0 there.0.1) h (free_at s p x is a) there.1)))
+    (λ b c. (let here = hand_at s p x is b in let there = page_at s p x is c in apart (alone s x (Hand here.0) (Page there.0.0 there.0.1) h here.1 there.1)))
+  where
+    not_hand : {t : ℕ} → Free ≡ Hand t → ⊥
+    not_hand e = cc
+
+    not_page : {f i : ℕ} → Free ≡ Page f i → ⊥
+    not_page e = cc
+
+    apart : {t f i : ℕ} → Hand t ≡ Page f i → ⊥
+    apart e = cc
+
+pub right_of : (s : CoreState) (p : Picture) → IsSound s → IsPicture s p → IsRight p
+right_of s p h is = (shaped s p h is, agrees s p h is, one_place s p h is, below s p h is, counts s p h is)
