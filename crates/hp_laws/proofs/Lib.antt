@@ -3,6 +3,7 @@ pub mod Apart
 pub mod Claims
 pub mod Cover
 pub mod Cuts
+pub mod Denials
 pub mod Effects
 pub mod Histories
 pub mod Holding

@@ -5,7 +5,7 @@
 //! the crates above prove that their steps are the machine's rows, and have these theorems then.
 #![tactic(auto)]
 
-ghost use Rattle.std.specs.Prelude.{◌≡◌, ◌≢◌, ◌≤◌, ◌<◌, ℕ, Bool, true, false, Some, List, ◌∷◌, length};
+ghost use Rattle.std.specs.Prelude.{◌≡◌, ◌≢◌, ◌↔◌, ◌≤◌, ◌<◌, ℕ, Bool, true, false, Some, List, ◌∷◌, length};
 ghost use Rattle.hp_base.specs.Mappings.{find};
 ghost use Rattle.hp_frames.specs.declared.frame.FrameState.TheVariants.{Free};
 ghost use Rattle.hp_base.specs.declared.answer.Answer.{Answer};
@@ -13,9 +13,10 @@ ghost use Rattle.hp_base.specs.declared.answer.Answer.TheVariants.{Done, NoFrame
 ghost use Rattle.hp_base.specs.declared.event.Op.{Op};
 ghost use Rattle.hp_base.specs.declared.event.Event.{Event};
 ghost use Rattle.hp_base.specs.declared.event.Event.TheVariants.{Begin, Step};
-ghost use Rattle.hp_machine.specs.State.{Geometry, State, is_dead, is_killed};
+ghost use Rattle.hp_machine.specs.State.{Geometry, State, pool_of, is_dead, is_killed};
 ghost use Rattle.hp_machine.specs.Events.{IsReached, Row, Run, first, opening, word_of};
 ghost use Rattle.hp_machine.specs.Headline.{Headline};
+ghost use Rattle.hp_machine.specs.Wants.{Wants};
 ghost use Rattle.hp_machine.specs.Views.{slot_held, locked_file};
 ghost use Rattle.hp_machine.specs.declared.call.Call.{Call};
 ghost use Rattle.hp_machine.specs.declared.call.Call.TheVariants as call;
@@ -110,6 +111,15 @@ pub fn own_steps_are_few()
 /// that the step would take, and it changes nothing.
 pub fn a_blocked_step_waits_for_a_holder()
     ensures { (s : State) (t : ℕ) (grant : Bool) (u : ℕ) (after : State) → IsReached s → Row s (Step t grant) (Blocked u) after → (after ≡ s) × (u ≢ t) × HoldsUp s u t }
+{}
+
+/// A denied step does what a granted one does, where its row wants no growth. Where it wants growth,
+/// the two never leave the call at the same place.
+pub fn a_denial_shows_where_growth_is_wanted()
+    ensures unwanted { (s : State) (t : ℕ) (c : Call) (o : Outcome) (after : State) → s.calls t ≡ Some c → ¬ Wants (pool_of s) t c
+        → Row s (Step t false) o after ↔ Row s (Step t true) o after }
+    ensures wanted { (s : State) (t : ℕ) (c : Call) (denied granted : Outcome) (after other : State) → s.calls t ≡ Some c → is_dead (s.life t) ≡ false → Wants (pool_of s) t c
+        → Row s (Step t false) denied after → Row s (Step t true) granted other → after.calls t ≢ other.calls t }
 {}
 
 /// A call that holds a slot is never blocked.
