@@ -104,7 +104,7 @@ impl PageCache {
         ensures pages { IfOk result (λ pages. pages.items ≡ map.entries self.now) }
         ensures in_file { IfOk result (λ pages. All (λ page. page.0 < LIMIT) pages.items) }
     {
-        Ok(Vec::from_slice(alloc, &self.pages)?)
+        Vec::from_slice(alloc, &self.pages)
     }
 
     /// How many indices have a page (Linux: `nrpages`).

@@ -23,7 +23,8 @@ use Rattle.hp_machine.specs.Views.{hand}
 use Rattle.hp_machine.specs.Headline as head
 use Rattle.hp_machine.specs.Headline.{Place, Free, Hand, Page, IsAt}
 use Rattle.hp_laws.proofs.Meets.{page_inside}
-use Rattle.hp_laws.proofs.Moves.{same_place}
+use Rattle.hp_laws.proofs.Moves.{Placing, same_place, other_hand, other_page}
+use Rattle.hp_laws.proofs.Runs.{always}
 use Rattle.hp_audit.specs.declared.picture.FilePicture.{FilePicture}
 use Rattle.hp_audit.specs.declared.picture.Picture.{Picture}
 use Rattle.hp_audit.specs.Findings.{IsFileShaped, IsShaped, Agrees, IsOnePlace, IsBelow, IsCounted, IsRight, times_in, pages_in, place_count, is_vacant, vacant_of, vacant_in, has_page}
@@ -40,8 +41,6 @@ use Rattle.hp_core.proofs.Headlines.{reached_of, headline_of}
 head_of : (s : CoreState) → IsSound s → head.Headline (as_state s)
 unfolding Headline
 head_of s h = headline_of s h
-
--- SHAPE
 
 -- each page that a file's picture tells is the state's
 pages_told : (s : CoreState) (f : ℕ) (file : FilePicture) → IsFilePicture (as_state s) f file → All (λ page. (as_state s).pages f page.0 ≡ Some page.1) file.pages.items
@@ -88,8 +87,6 @@ shaped s p h is = record {
         let page = page_told s e h of in
         (omega (arith, file_there s e.1 e.2 e.3 page, is.as_many), page_inside (as_state s) e.1 e.2 e.3 (reached_of s h) page)
 
--- TRANSLATIONS
-
 -- the picture of a file that is there
 file_told : (s : CoreState) (p : Picture) (f : ℕ) → IsPicture s p → f < length s.parts.files → (file : FilePicture) × (slice_get p.files.items f ≡ Some file) × IsFilePicture (as_state s) f file
 file_told s p f h l = elim (slice_get_cases p.files.items f).1 [
@@ -120,8 +117,6 @@ below s p h is = λ k d within. of_entry (get_or p.tables.items k d) (is.sound k
         let low = (head_of s h).below e.0 of.0 e.3 e.1 e.2 of.1 of.2 (unlocked ((as_state s).locks e.1) (sym told.2.locked ∙ idle)) in
         omega (arith, low, told.2.size))
 
--- COUNT
-
 not_some : (o : Option ℕ) → not (is_some o) ≡ is_none o
 not_some None = refl
 not_some (Some x) = refl
@@ -149,8 +144,6 @@ counts s p h is =
       enough = omega (arith, is.resv, top.enough, is.frees);
     }
 
--- PLACES
-
 -- the frame is at that place
 abbrev IsPlaced : CoreState → ℕ → Place → Type 0
 IsPlaced s x q = IsAt (as_state s).frame (λ t. hand ((as_state s).calls t)) (as_state s).pages x q
@@ -175,34 +168,32 @@ that_is : (x : ℕ) (o : Option ℕ) → is_that x o ≡ true → o ≡ Some x
 that_is x None e = (let d : false ≡ true = e in absurd (cc))
 that_is x (Some y) e = ap (λ (z : ℕ). Some z) (eqb-true y x e)
 
--- FREE ONES
+-- a frame that is told as free is free
 free_at : (s : CoreState) (p : Picture) (x : ℕ) → IsPicture s p → 0 < times_in p.free.items x → IsPlaced s x Free
 free_at s p x is some = free_is ((as_state s).frame x) (is_one (is_free ((as_state s).frame x)) (omega (arith, some, is.free x)))
 
 free_once : (s : CoreState) (p : Picture) (x : ℕ) → IsPicture s p → times_in p.free.items x ≤ 1
 free_once s p x is = omega (arith, is.free x, bit_one (is_free ((as_state s).frame x)))
 
--- HANDS
+-- one that is told in a hand is in some call's
 hand_at : (s : CoreState) (p : Picture) (x : ℕ) → IsPicture s p → 0 < times_in p.hands.items x → (t : ℕ) × IsPlaced s x (Hand t)
 hand_at s p x is some =
     let at = total_somewhere ((as_state s).geometry.tasks + 1) (λ t. bit (is_that x (hand ((as_state s).calls t)))) (omega (arith, some, is.hands x)) in
     (at.0, that_is x (hand ((as_state s).calls at.0)) (is_one (is_that x (hand ((as_state s).calls at.0))) at.2))
 
-same_task : {a b : ℕ} → Hand a ≡ Hand b → a ≡ b
-same_task e = cc
+-- each frame has its place, as the machine's invariant says it
+placing : (s : CoreState) → IsSound s → Placing (as_state s).frames (as_state s).frame (λ t. hand ((as_state s).calls t)) (as_state s).pages
+placing s h = (always (as_state s) (reached_of s h)).inv.place
 
 hand_once : (s : CoreState) (p : Picture) (x : ℕ) → IsSound s → IsPicture s p → times_in p.hands.items x ≤ 1
 hand_once s p x h is =
     let holds : ℕ → Bool = λ t. is_that x (hand ((as_state s).calls t)) in
-    let few = at_most_one ((as_state s).geometry.tasks + 1) holds true (λ t e. refl) (λ t u a b. same_task (alone s x (Hand t) (Hand u) h (that_is x (hand ((as_state s).calls t)) a) (that_is x (hand ((as_state s).calls u)) b))) in
+    let few = at_most_one ((as_state s).geometry.tasks + 1) holds true (λ t e. refl) (λ t u a b. other_hand (as_state s).frames (as_state s).frame (λ v. hand ((as_state s).calls v)) (as_state s).pages u t x (placing s h) (that_is x (hand ((as_state s).calls u)) b) (that_is x (hand ((as_state s).calls t)) a)) in
     omega (arith, few, is.hands x)
 
--- PAGES
-same_file : {a b i j : ℕ} → Page a i ≡ Page b j → a ≡ b
-same_file e = cc
-
-same_index : {a b i j : ℕ} → Page a i ≡ Page b j → i ≡ j
-same_index e = cc
+-- two pages in one frame are one
+one_page : (s : CoreState) (x f i k j : ℕ) → IsSound s → (as_state s).pages f i ≡ Some x → (as_state s).pages k j ≡ Some x → (f ≡ k) × (i ≡ j)
+one_page s x f i k j h a b = other_page (as_state s).frames (as_state s).frame (λ t. hand ((as_state s).calls t)) (as_state s).pages k j f i x (placing s h) b a
 
 -- a frame that a file's picture has is the file's page
 page_of : (s : CoreState) (f x : ℕ) (file : FilePicture) → IsFilePicture (as_state s) f file → 0 < pages_in file.pages.items x → (i : ℕ) × IsPlaced s x (Page f i)
@@ -216,7 +207,7 @@ page_at s p x is some =
 -- a file has a frame at one index
 once_in_file : (s : CoreState) (f x : ℕ) (file : FilePicture) → IsSound s → IsFilePicture (as_state s) f file → pages_in file.pages.items x ≤ 1
 once_in_file s f x file h is = sum_at_most_one (λ (page : ℕ × ℕ). cond (page.1 == x) 1 0) file.pages.items (λ k d within. one ((get_or file.pages.items k d).1 == x)) (λ i j d lt within a b.
-    keys_differ file.pages.items is.in_order i j d lt within (same_index (alone s x (Page f (get_or file.pages.items i d).0) (Page f (get_or file.pages.items j d).0) h (at i d (omega (arith, lt, within)) a) (at j d within b))))
+    keys_differ file.pages.items is.in_order i j d lt within (one_page s x f (get_or file.pages.items i d).0 f (get_or file.pages.items j d).0 h (at i d (omega (arith, lt, within)) a) (at j d within b)).1)
   where
     one : (b : Bool) → cond {A = ℕ} b 1 0 ≤ 1
     one true = omega arith
@@ -229,7 +220,7 @@ page_once : (s : CoreState) (p : Picture) (x : ℕ) → IsSound s → IsPicture 
 page_once s p x h is = sum_at_most_one (λ (file : FilePicture). pages_in file.pages.items x) p.files.items (each_file s p (λ file. pages_in file.pages.items x ≤ 1) is (λ f file of. once_in_file s f x file h of)) (λ i j d lt within a b.
     let here = page_of s i x (get_or p.files.items i d) (is.files i (omega (arith, is.as_many, lt, within)) d) a in
     let there = page_of s j x (get_or p.files.items j d) (is.files j (omega (arith, is.as_many, within)) d) b in
-    let same : i ≡ j = same_file (alone s x (Page i here.0) (Page j there.0) h here.1 there.1) in
+    let same : i ≡ j = (one_page s x i here.0 j there.0 h here.1 there.1).0 in
     absurd (omega (arith, lt, same)))
 
 -- of three that are one at most, of which no two count

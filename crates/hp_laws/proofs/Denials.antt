@@ -48,8 +48,6 @@ use Rattle.hp_laws.proofs.Holding.{some_same}
 use Rattle.hp_laws.proofs.Reading.{step_of}
 use Rattle.hp_laws.proofs.Shared.{by_test}
 
--- WHERE NO GROWTH IS WANTED
-
 alike : {A : Type 0} → A ↔ A
 alike = (λ a. a, λ a. a)
 
@@ -141,8 +139,6 @@ same_step s t c o after some unwanted =
     let steps : (Bool → Call → Type 0) = λ grant call. (pool : Pool) × (next : Option Call) × CallRow (pool_of s) t (is_killed (s.life t)) grant call o pool next × (after ≡ record (with_pool s pool) { life = lives_after s.life t call next; calls = put s.calls t next }) in
     let same : (pool : Pool) (next : Option Call) → CallRow (pool_of s) t (is_killed (s.life t)) false c o pool next ↔ CallRow (pool_of s) t (is_killed (s.life t)) true c o pool next = λ pool next. call_same (pool_of s) t (is_killed (s.life t)) c o pool next unwanted in
     in_life _ _ _ (is_dead (s.life t)) (in_call (steps false) (steps true) _ (s.calls t) c some (λ r. (r.0, r.1, (same r.0 r.1).0 r.2, r.3), λ r. (r.0, r.1, (same r.0 r.1).1 r.2, r.3)))
-
--- WHERE GROWTH IS WANTED
 
 -- the two rows move to different phases
 abbrev Parted : {P : Type 0} → (R Q : Turn P → Pool → Type 0) → Type 0

@@ -142,7 +142,7 @@ takes_frame n states hands pages t x h e a = record {
     isnt_free y w d = λ q. (let z : states x ≡ state.Placed w = ap states (sym q) ∙ d in absurd (cc))
 
 -- a frame in a hand isn't where another is
-other_hand : (n : ℕ) (states : ℕ → FrameState) (hands : ℕ → Option ℕ) (pages : ℕ → ℕ → Option ℕ) (t u x : ℕ) → Placing n states hands pages → hands t ≡ Some x → hands u ≡ Some x → u ≡ t
+pub other_hand : (n : ℕ) (states : ℕ → FrameState) (hands : ℕ → Option ℕ) (pages : ℕ → ℕ → Option ℕ) (t u x : ℕ) → Placing n states hands pages → hands t ≡ Some x → hands u ≡ Some x → u ≡ t
 other_hand n states hands pages t u x h e d = same_task (same_place n states hands pages h.one x (Hand u) (Hand t) d e)
   where
     same_task : {a b : ℕ} → Hand a ≡ Hand b → a ≡ b
