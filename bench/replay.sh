@@ -1,31 +1,24 @@
 #!/usr/bin/env bash
-# Replays 1,000,000 lines `step 1`, and times a plain Rust loop that parses the same file, in turn, five
-# times each. Prints the best times, their ratio, and the memory that a trace ten times as long needs.
-# Needs cargo, and python3 for the sums.
+# Replays 1,000,000 lines `step 1`, each of which is refused, and a plain Rust loop that only parses the same file.
+# Prints the processor time of each, and the peak memory on that file and on one a tenth as long. Needs cargo and python3.
 set -euo pipefail
 cd "$(dirname "${BASH_SOURCE[0]}")/.."
-./hugepool --help > /dev/null
-(cd bench/plain && cargo build --quiet --release)
-dir=$(mktemp -d)
-trap 'rm -rf "$dir"' EXIT
-lines() { echo 'pool 1 1 1 1'; yes 'step 1' | head -n "$1"; }
-lines 1000000 > "$dir/long" || true
-lines 100000 > "$dir/short" || true
-python3 - "$dir" <<'P'
-import resource, subprocess, sys, time
-folder = sys.argv[1]
-programs = {"hugepool": ["crates/hugepool/out/hugepool", "replay"], "plain": ["bench/plain/target/release/plain"]}
-def run(words, trace):
-    with open(f"{folder}/{trace}") as source:
-        start = time.perf_counter()
-        child = subprocess.Popen(words, stdin=source, stdout=subprocess.DEVNULL)
-        _, status, used = __import__("os").wait4(child.pid, 0)
-        assert status == 0, status
-        return time.perf_counter() - start, used.ru_maxrss
-best = {name: min(run(words, "long")[0] for _ in range(5)) for name, words in programs.items()}
-for name, seconds in best.items():
-    print(f"{name}: {seconds:.3f} s for 1,000,000 lines")
-print(f"ratio: {best['hugepool'] / best['plain']:.2f}")
-for trace in ("short", "long"):
-    print(f"hugepool, {trace} trace: {run(programs['hugepool'], trace)[1]} KiB at most")
+if ! command -v python3 > /dev/null; then
+    echo "bench: 'python3', which measures, is not on the PATH" >&2
+    exit 127
+fi
+PYTHONPATH=bench exec python3 -B - <<'P'
+import tempfile
+from pathlib import Path
+from measure import PLAIN, PROVED, in_turn, prepare, print_memory
+
+prepare()
+programs = {"hugepool": PROVED, "plain": [str(PLAIN / "plain")]}
+with tempfile.TemporaryDirectory() as folder:
+    traces = {}
+    for lines in (1_000_000, 100_000):
+        traces[lines] = Path(folder) / str(lines)
+        traces[lines].write_text("pool 1 1 1 1\n" + "step 1\n" * lines)
+    in_turn("1,000,000 refused lines", traces[1_000_000], programs, 15)
+    print_memory([(f"hugepool on {lines:,} lines", PROVED, trace) for lines, trace in traces.items()])
 P

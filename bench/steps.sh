@@ -1,32 +1,35 @@
 #!/usr/bin/env bash
 # Replays two traces that are made here, of 200,000 events of maps, loads and stores and of 300,000 events of all
-# operations, each by eight tasks; and times a plain Rust program that makes the same steps, with nothing proved, in
-# turn, nine times each. Says whether both wrote the same, and prints the best times and their ratio. Needs cargo, and
-# python3 for the sums.
+# operations, each by eight tasks; and so does a plain Rust program that makes the same steps, with nothing proved.
+# Says whether both wrote the same, and prints the processor time and peak memory of each. Needs cargo and python3.
 set -euo pipefail
 cd "$(dirname "${BASH_SOURCE[0]}")/.."
-./hugepool --help > /dev/null
-(cd bench/plain && cargo build --quiet --release)
-plain=bench/plain/target/release
-dir=$(mktemp -d)
-trap 'rm -rf "$dir"' EXIT
-"$plain/generate" 200000 touches > "$dir/touches"
-"$plain/generate" 300000 mixed > "$dir/mixed"
-for kind in touches mixed; do
-    "$plain/simulate" < "$dir/$kind" > "$dir/$kind.plain"
-    crates/hugepool/out/hugepool replay < "$dir/$kind" > "$dir/$kind.proved"
-    cmp "$dir/$kind.plain" "$dir/$kind.proved"
-done
-python3 - "$dir" "$plain/simulate" <<'P'
-import subprocess, sys, time
-folder, plain = sys.argv[1:]
-programs = {"hugepool": ["crates/hugepool/out/hugepool", "replay"], "plain": [plain]}
-def run(words, trace):
-    with open(f"{folder}/{trace}") as source:
-        start = time.perf_counter()
-        subprocess.run(words, stdin=source, stdout=subprocess.DEVNULL, check=True)
-        return time.perf_counter() - start
-for trace in ("touches", "mixed"):
-    best = {name: min(run(words, trace) for _ in range(9)) for name, words in programs.items()}
-    print(f"{trace}: hugepool {best['hugepool']:.3f} s, plain {best['plain']:.3f} s, ratio {best['hugepool'] / best['plain']:.2f}; both wrote the same")
+if ! command -v python3 > /dev/null; then
+    echo "bench: 'python3', which measures, is not on the PATH" >&2
+    exit 127
+fi
+PYTHONPATH=bench exec python3 -B - <<'P'
+import subprocess
+import sys
+import tempfile
+from pathlib import Path
+from measure import PLAIN, PROVED, in_turn, prepare, print_memory
+
+
+def output(words, trace):
+    """What the program writes."""
+    with open(trace) as source:
+        return subprocess.run(words, stdin=source, capture_output=True, check=True).stdout
+
+
+prepare()
+programs = {"hugepool": PROVED, "plain": [str(PLAIN / "simulate")]}
+with tempfile.TemporaryDirectory() as folder:
+    for kind, events in (("touches", 200_000), ("mixed", 300_000)):
+        trace = Path(folder) / kind
+        trace.write_bytes(subprocess.run([PLAIN / "generate", str(events), kind], capture_output=True, check=True).stdout)
+        if output(PROVED, trace) != output(programs["plain"], trace):
+            sys.exit(f"bench: the two wrote different lines on the trace of {kind}")
+        in_turn(f"{kind}, {events:,} events, both wrote the same", trace, programs, 15)
+        print_memory([(f"{name} on {kind}", words, trace) for name, words in programs.items()])
 P

@@ -4,7 +4,7 @@
 Each line of a script is one call that ran to its end, with what the kernel said then:
 `begin T OP = ANSWER | FREE RESV | SIZE PAGES, .. | ENTRIES ..` (one `SIZE PAGES` a file, one number of
 translations a task). A script is compared up to the first touch of a page that is cached at or above the
-file's size, where this pool answers beyond and Linux the word; scripts of byte calls are left out.
+file's size, where this pool answers beyond and Linux the word, or up to the first byte call (`x..`).
 """
 import re
 import subprocess
@@ -96,7 +96,8 @@ def main():
             elif difference:
                 different.append(difference)
     print(f"{total} scripts, {calls} calls agree, {known} scripts end at the known difference, {len(different)} differ")
-    print("\n".join(different), end="")
+    print("".join(f"  {difference}\n" for difference in different), end="")
+    print(f"linux: {total - len(different)} passed, {len(different)} failed")
     sys.exit(bool(different))
 
 

@@ -165,6 +165,3 @@ pub fn audit(picture: &Picture) -> Result<(), Finding>
     }
     Ok(())
 }
-
-#[cfg(test)]
-mod tests;

@@ -7,7 +7,8 @@ use Rattle.hp_base.specs.Indices.{is_within, count_below, count_within, missing,
 use Rattle.hp_base.specs.Numbers.{put}
 
 -- the general law: where each number counts in r as it does in p and q together, so do all of them
-pub count_below-sum : (p q r : ℕ → Bool) (n : ℕ) → ((k : ℕ) → k < n → cond (r k) 1 0 ≡ cond (p k) 1 0 + cond (q k) 1 0) → count_below r n ≡ count_below p n + count_below q n
+pub count_below-sum : (p q r : ℕ → Bool) (n : ℕ) → ((k : ℕ) → k < n → cond (r k) 1 0 ≡ cond (p k) 1 0 + cond (q k) 1 0)
+    → count_below r n ≡ count_below p n + count_below q n
 unfolding count_below
 count_below-sum p q r zero each = refl
 count_below-sum p q r (suc n) each = omega (arith, count_below-sum p q r n (λ k below. each k (omega arith)), each n (omega arith))
@@ -53,7 +54,8 @@ count_within-missing p from to =
     omega (arith, parts, all)
 
 -- nothing more is missing from a set that has, within the range, all that another has
-pub missing_anti : (p q : ℕ → Bool) (from to : ℕ) → ((k : ℕ) → from ≤ k → k < to → p k ≡ true → q k ≡ true) → missing q from to ≤ missing p from to
+pub missing_anti : (p q : ℕ → Bool) (from to : ℕ) → ((k : ℕ) → from ≤ k → k < to → p k ≡ true → q k ≡ true)
+    → missing q from to ≤ missing p from to
 unfolding missing
 missing_anti p q from to keeps =
     count_below_mono (λ k. nat_le from k && not (q k)) (λ k. nat_le from k && not (p k)) to (λ k below out. grind (arith, nat_tests, keeps k))
@@ -71,11 +73,13 @@ count_below_past p m (suc n) le none =
     ] refl
 
 -- what a range adds to the members that are not in c, where c lies within the set
-pub count_below-add_range : (p c : ℕ → Bool) (from to n : ℕ) → to ≤ n → ((k : ℕ) → c k ≡ true → p k ≡ true) → count_below (λ k. add_range p from to k && not (c k)) n ≡ count_below (λ k. p k && not (c k)) n + missing p from to
+pub count_below-add_range : (p c : ℕ → Bool) (from to n : ℕ) → to ≤ n → ((k : ℕ) → c k ≡ true → p k ≡ true)
+    → count_below (λ k. add_range p from to k && not (c k)) n ≡ count_below (λ k. p k && not (c k)) n + missing p from to
 unfolding missing add_range
 count_below-add_range p c from to n within inside =
     let fresh : ℕ → Bool = λ k. is_within from to k && not (p k) in
-    let parts = count_below-sum (λ k. p k && not (c k)) fresh (λ k. (is_within from to k || p k) && not (c k)) n (λ k below. grind (arith, nat_tests, inside k)) in
+    let parts = count_below-sum (λ k. p k && not (c k)) fresh (λ k. (is_within from to k || p k) && not (c k)) n
+      (λ k below. grind (arith, nat_tests, inside k)) in
     let short = count_below_past fresh to n within (λ k past. grind (arith, nat_tests)) in
     let same = count_below-ext fresh (λ k. nat_le from k && not (p k)) to (λ k below. grind (arith, nat_tests)) in
     omega (arith, parts, short, same)
@@ -108,7 +112,8 @@ other_number : (k i : ℕ) → nat_eq k i ≡ false → k ≡ i → ⊥
 other_number k i e same = grind (arith, nat_tests)
 
 -- one member less
-pub count_below_one : (p q : ℕ → Bool) (i n : ℕ) → i < n → p i ≡ true → q i ≡ false → ((k : ℕ) → (k ≡ i → ⊥) → p k ≡ q k) → count_below p n ≡ count_below q n + 1
+pub count_below_one : (p q : ℕ → Bool) (i n : ℕ) → i < n → p i ≡ true → q i ≡ false → ((k : ℕ) → (k ≡ i → ⊥) → p k ≡ q k)
+    → count_below p n ≡ count_below q n + 1
 count_below_one p q i n within there gone others =
     let parts = count_below-sum q (is_within i (i + 1)) p n (λ k below.
     elim (nat_eq k i) as (λ b. nat_eq k i ≡ b → cond (p k) 1 0 ≡ cond (q k) 1 0 + cond (is_within i (i + 1) k) 1 0) [

@@ -12,14 +12,18 @@ other : {A : Type 0} (d : A) (xs : List A) (i j : ℕ) (y : A) → j ≢ i → g
 other d xs i j y h = grind (arith, elements)
 
 -- one place changes
-pub at_set : {A B : Type 0} (v : A → B) (d : A) (xs : List A) (i : ℕ) (y : A) → i < length xs → ◌≡◌ {A = ℕ → B} (λ j. v (get_or (set xs i y) j d)) (put (λ j. v (get_or xs j d)) i (v y))
+pub at_set : {A B : Type 0} (v : A → B) (d : A) (xs : List A) (i : ℕ) (y : A) → i < length xs
+    → ◌≡◌ {A = ℕ → B} (λ j. v (get_or (set xs i y) j d)) (put (λ j. v (get_or xs j d)) i (v y))
 at_set {A} {B} v d xs i y l = fun_ext (λ j. elim (same_or_other j i) [
-  | inl e ↦ ap (λ (m : ℕ). v (get_or (set xs i y) m d)) e ∙ (ap v (get_or-set_same xs i y d l) ∙ sym (ap (put (λ (k : ℕ). v (get_or xs k d)) i (v y)) e ∙ put_same (λ (k : ℕ). v (get_or xs k d)) i (v y)))
+  | inl e ↦ ap (λ (m : ℕ). v (get_or (set xs i y) m d)) e
+      ∙ (ap v (get_or-set_same xs i y d l)
+      ∙ sym (ap (put (λ (k : ℕ). v (get_or xs k d)) i (v y)) e ∙ put_same (λ (k : ℕ). v (get_or xs k d)) i (v y)))
   | inr e ↦ ap v (other d xs i j y e) ∙ sym (put_other (λ (k : ℕ). v (get_or xs k d)) i (v y) j e)
 ])
 
 -- a write that can't be seen
-pub at_same : {A B : Type 0} (v : A → B) (d : A) (xs : List A) (i : ℕ) (y : A) → i < length xs → v y ≡ v (get_or xs i d) → ◌≡◌ {A = ℕ → B} (λ j. v (get_or (set xs i y) j d)) (λ j. v (get_or xs j d))
+pub at_same : {A B : Type 0} (v : A → B) (d : A) (xs : List A) (i : ℕ) (y : A) → i < length xs → v y ≡ v (get_or xs i d)
+    → ◌≡◌ {A = ℕ → B} (λ j. v (get_or (set xs i y) j d)) (λ j. v (get_or xs j d))
 at_same {A} {B} v d xs i y l same = fun_ext (λ j. elim (same_or_other j i) [
   | inl e ↦ ap (λ (m : ℕ). v (get_or (set xs i y) m d)) e ∙ (ap v (get_or-set_same xs i y d l) ∙ (same ∙ ap (λ (m : ℕ). v (get_or xs m d)) (sym e)))
   | inr e ↦ ap v (other d xs i j y e)

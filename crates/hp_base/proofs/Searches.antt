@@ -43,20 +43,27 @@ some_room space ms len = elim (first_of_kind (space + 1) (λ base. fits space ms
     low : (base : ℕ) → nat_le base space ≡ true → base < space + 1
     low base e = grind (arith, nat_tests)
 
-    here : ((k : ℕ) → k < space + 1 → fits space ms k len ≡ false) → (base : ℕ) (b : Bool) → nat_le base space ≡ b → fits space ms base len ≡ false
+    here : ((k : ℕ) → k < space + 1 → fits space ms k len ≡ false) → (base : ℕ) (b : Bool) → nat_le base space ≡ b
+        → fits space ms base len ≡ false
     here none base true e = none base (low base e)
     here none base false e = ap (λ (b : Bool). b && is_clear ms base len) (high base e)
 
 -- the end of what a finite list of places uses
-pub last_used : (n : ℕ) (c : ℕ → Option ℕ) → (top : ℕ) × (top ≤ n) × ((i : ℕ) → top ≤ i → i < n → c i ≡ None) × ((other : ℕ) → ((i : ℕ) → other ≤ i → i < n → c i ≡ None) → top ≤ other)
+pub last_used : (n : ℕ) (c : ℕ → Option ℕ)
+    → (top : ℕ) × (top ≤ n) × ((i : ℕ) → top ≤ i → i < n → c i ≡ None) × ((other : ℕ) → ((i : ℕ) → other ≤ i → i < n → c i ≡ None) → top ≤ other)
 last_used zero c = (0, omega arith, λ i a b. absurd (omega arith), λ other h. omega arith)
 last_used (suc n) c = here (last_used n c) (c n) refl
   where
-    here : ((top : ℕ) × (top ≤ n) × ((i : ℕ) → top ≤ i → i < n → c i ≡ None) × ((other : ℕ) → ((i : ℕ) → other ≤ i → i < n → c i ≡ None) → top ≤ other)) → (o : Option ℕ) → c n ≡ o
-        → (top : ℕ) × (top ≤ suc n) × ((i : ℕ) → top ≤ i → i < suc n → c i ≡ None) × ((other : ℕ) → ((i : ℕ) → other ≤ i → i < suc n → c i ≡ None) → top ≤ other)
+    here : ((top : ℕ) × (top ≤ n) × ((i : ℕ) → top ≤ i → i < n → c i ≡ None) × ((other : ℕ) → ((i : ℕ) → other ≤ i → i < n → c i ≡ None) → top ≤ other))
+        → (o : Option ℕ) → c n ≡ o
+        → (top : ℕ) × (top ≤ suc n) × ((i : ℕ) → top ≤ i → i < suc n → c i ≡ None)
+          × ((other : ℕ) → ((i : ℕ) → other ≤ i → i < suc n → c i ≡ None) → top ≤ other)
     here rest (Some x) e = (suc n, omega arith, λ i a b. absurd (omega arith), λ other h. enough other (nat_le other n) refl h)
       where
         enough : (other : ℕ) (b : Bool) → nat_le other n ≡ b → ((i : ℕ) → other ≤ i → i < suc n → c i ≡ None) → suc n ≤ other
-        enough other true d h = (let z : other ≤ n = grind (arith, nat_tests) in let y : ◌≡◌ {A = Option ℕ} None (Some x) = sym (h n z (omega arith)) ∙ e in absurd (cc))
+        enough other true d h = (let z : other ≤ n = grind (arith, nat_tests) in let y : ◌≡◌ {A = Option ℕ} None (Some x) =
+          sym (h n z (omega arith)) ∙ e in absurd (cc))
         enough other false d h = grind (arith, nat_tests)
-    here o None e = (o.0, (let z = o.1 in omega arith), λ i a b. elim (eqb_tells i n) [ inl d ↦ ap c d.1 ∙ e | inr d ↦ o.2 i a (let z = d.1 in omega arith) ], λ other h. o.3 other (λ i a b. h i a (omega arith)))
+    here o None e = (o.0, (let z = o.1 in omega arith),
+      λ i a b. elim (eqb_tells i n) [ inl d ↦ ap c d.1 ∙ e | inr d ↦ o.2 i a (let z = d.1 in omega arith) ],
+      λ other h. o.3 other (λ i a b. h i a (omega arith)))

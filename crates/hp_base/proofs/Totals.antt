@@ -69,8 +69,19 @@ count_below-total p (suc n) =
     let here = cond_bit (p n) in
     omega arith
 
+bit_true : (b : Bool) → 0 < bit b → b ≡ true
+bit_true true some = refl
+bit_true false some = absurd (omega (arith, some))
+
+-- some number of a count that isn't nothing is a member
+pub count_below_somewhere : (p : ℕ → Bool) (n : ℕ) → 0 < count_below p n → (k : ℕ) × (k < n) × (p k ≡ true)
+count_below_somewhere p n some =
+    let at = total_somewhere n (λ k. bit (p k)) (omega (arith, some, count_below-total p n)) in
+    (at.0, at.1, bit_true (p at.0) at.2)
+
 -- one number changes
-pub count_below-change : (p q : ℕ → Bool) (k n : ℕ) → k < n → ((j : ℕ) → j ≢ k → q j ≡ p j) → count_below q n + bit (p k) ≡ count_below p n + bit (q k)
+pub count_below-change : (p q : ℕ → Bool) (k n : ℕ) → k < n → ((j : ℕ) → j ≢ k → q j ≡ p j)
+    → count_below q n + bit (p k) ≡ count_below p n + bit (q k)
 count_below-change p q k n l same =
     let a = total_change n k (λ j. bit (p j)) (λ j. bit (q j)) l (λ j d. ap bit (same j d)) in
     let b = count_below-total p n in
@@ -115,7 +126,8 @@ few (suc n) p one = last (p n) (few n p one) refl
     last false h d = (let b : bit (p n) ≡ 0 = ap bit d in omega arith)
 
 -- of tests of which one passes at most, and only where v holds
-pub at_most_one : (n : ℕ) (p : ℕ → Bool) (v : Bool) → ((t : ℕ) → p t ≡ true → v ≡ true) → ((t u : ℕ) → p t ≡ true → p u ≡ true → t ≡ u) → total n (λ t. bit (p t)) ≤ bit v
+pub at_most_one : (n : ℕ) (p : ℕ → Bool) (v : Bool) → ((t : ℕ) → p t ≡ true → v ≡ true)
+    → ((t u : ℕ) → p t ≡ true → p u ≡ true → t ≡ u) → total n (λ t. bit (p t)) ≤ bit v
 at_most_one n p v h one = found v refl
   where
     none : v ≡ false → (t : ℕ) → bit (p t) ≡ 0

@@ -1,6 +1,6 @@
 //! How large a pool is.
 ghost use Rattle.std.specs.Prelude.{◌≡◌, ◌↔◌, IfOk, IsOk, IsErrOf, Some};
-ghost use Rattle.hp_base.specs.Limits.{IsWithinLimits};
+ghost use Rattle.hp_base.specs.Limits.{IsWithinLimits, is_in};
 
 use std::fmt;
 use thiserror::Error;
@@ -40,10 +40,10 @@ impl Config {
         ensures slots { IfOk result (λ config. config.slots ≡ slots) }
         ensures tasks { IfOk result (λ config. config.tasks ≡ tasks) }
     {
-        let within = (1..=Self::MAX_FRAMES).contains(&frames)
-            && (1..=Self::MAX_FILES).contains(&files)
-            && (1..=Self::MAX_SLOTS).contains(&slots)
-            && (1..=Self::MAX_TASKS).contains(&tasks);
+        let within = is_in(1, Self::MAX_FRAMES, frames)
+            && is_in(1, Self::MAX_FILES, files)
+            && is_in(1, Self::MAX_SLOTS, slots)
+            && is_in(1, Self::MAX_TASKS, tasks);
         if !within {
             return Err(Fault::BadConfig);
         }
@@ -54,6 +54,13 @@ impl Config {
             tasks,
         })
     }
+}
+
+/// Whether a number is at least `low` and at most `high`.
+fn is_in(low: u32, high: u32, number: u32) -> bool
+    ensures { result ≡ is_in low high number }
+{
+    (low..=high).contains(&number)
 }
 
 /// The header of a trace: `pool F N S T`.

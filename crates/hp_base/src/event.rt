@@ -46,8 +46,8 @@ pub enum Op {
         from: Index,
         len: u32,
     },
-    /// `ftruncate` to `new` pages (`hugetlb_vmtruncate`). Unlike Linux's it never raises what is
-    /// mapped.
+    /// `ftruncate` to `new` pages, fewer or more than there are (`hugetlbfs_setattr`,
+    /// `hugetlb_vmtruncate`).
     Truncate {
         file: File,
         new: u32,

@@ -15,7 +15,8 @@ module _ {X : Type 0} where
   other_key : (k : ℕ) (e : ℕ × X) (es : List (ℕ × X)) → (k ≡ e.0 → ⊥) → is_some (find nat_cmp k (e ∷ es)) ≡ is_some (find nat_cmp k es)
   other_key k e es other = grind (arith, nat_tests)
 
-  pub length-count : (limit : ℕ) (es : List (ℕ × X)) → is_sorted nat_cmp es ≡ true → All (λ e. e.0 < limit) es → length es ≡ count_below (λ k. is_some (find nat_cmp k es)) limit
+  pub length-count : (limit : ℕ) (es : List (ℕ × X)) → is_sorted nat_cmp es ≡ true → All (λ e. e.0 < limit) es
+      → length es ≡ count_below (λ k. is_some (find nat_cmp k es)) limit
   length-count limit [] sorted under = sym (count_below_none (λ k. is_some (find {X = X} nat_cmp k [])) limit (λ k below. refl))
   length-count limit (e ∷ es) sorted under =
       let parts = sorted_first e es sorted in

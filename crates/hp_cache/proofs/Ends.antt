@@ -17,7 +17,8 @@ pub end_of_same : (pages others : ℕ → Option ℕ) (end : ℕ) → ((i : ℕ)
 end_of_same pages others end same is = (λ i above. same i ∙ is.0 i above, λ other past. is.1 other (λ i above. sym (same i) ∙ past i above))
 
 -- the last of the pages ends them
-pub end_at_last : (es : List (ℕ × ℕ)) (last : ℕ × ℕ) → is_sorted nat_cmp es ≡ true → slice_get es (length es - 1) ≡ Some last → IsPagesEnd (λ i. find nat_cmp i es) (last.0 + 1)
+pub end_at_last : (es : List (ℕ × ℕ)) (last : ℕ × ℕ) → is_sorted nat_cmp es ≡ true → slice_get es (length es - 1) ≡ Some last
+    → IsPagesEnd (λ i. find nat_cmp i es) (last.0 + 1)
 end_at_last es last sorted is = (λ i above. find_above i es (all_below i above), λ other past. least other past)
   where
     at : ℕ

@@ -31,19 +31,23 @@ module _ {X : Type 0} where
   get-find es m q seen = ap (λ (m : map.FinMap nat_cmp X). map.get m q) (sym seen.1) ∙ map.get-from_sorted nat_cmp es q (from_test _ seen.0)
 
   -- entries whose keys lie below a limit are as many as there are keys below it
-  pub length-keys : (limit : ℕ) (es : List (ℕ × X)) (m : map.FinMap nat_cmp X) → IsSeenAs es m → All (λ e. e.0 < limit) es → length es ≡ count_below (map.contains_key m) limit
+  pub length-keys : (limit : ℕ) (es : List (ℕ × X)) (m : map.FinMap nat_cmp X) → IsSeenAs es m → All (λ e. e.0 < limit) es
+      → length es ≡ count_below (map.contains_key m) limit
   length-keys limit es m seen under =
       length-count limit es seen.0 under ∙ count_below-ext (λ k. is_some (map.find nat_cmp k es)) (map.contains_key m) limit (λ k below. ap is_some (sym (get-find es m k seen)))
 
-  pub length_le_limit : (limit : ℕ) (es : List (ℕ × X)) (m : map.FinMap nat_cmp X) → IsSeenAs es m → All (λ e. e.0 < limit) es → length es ≤ limit
+  pub length_le_limit : (limit : ℕ) (es : List (ℕ × X)) (m : map.FinMap nat_cmp X) → IsSeenAs es m → All (λ e. e.0 < limit) es
+      → length es ≤ limit
   length_le_limit limit es m seen under = omega (arith, length-keys limit es m seen under, count_below_le (map.contains_key m) limit)
 
   -- a list that answers as a map does is seen as that map
-  seen_by_get : (es : List (ℕ × X)) (m : map.FinMap nat_cmp X) → map.is_sorted nat_cmp es ≡ true → ((q : ℕ) → map.find nat_cmp q es ≡ map.get m q) → IsSeenAs es m
+  seen_by_get : (es : List (ℕ × X)) (m : map.FinMap nat_cmp X) → map.is_sorted nat_cmp es ≡ true
+      → ((q : ℕ) → map.find nat_cmp q es ≡ map.get m q) → IsSeenAs es m
   seen_by_get es m sorted same =
       (sorted, map.same_map nat_cmp_total map.nat_cmp-IsAntisymmetric _ _ (λ q. get-find es (map.from_sorted es) q (sorted, refl) ∙ same q))
 
-  put_is : (es : List (ℕ × X)) (m : map.FinMap nat_cmp X) (k : ℕ) (v : X) → IsSeenAs es m → IsSeenAs (map.put nat_cmp k v es) (map.insert m k v)
+  put_is : (es : List (ℕ × X)) (m : map.FinMap nat_cmp X) (k : ℕ) (v : X) → IsSeenAs es m
+      → IsSeenAs (map.put nat_cmp k v es) (map.insert m k v)
   put_is es m k v seen =
       seen_by_get (map.put nat_cmp k v es) (map.insert m k v) (to_test _ (is_sorted-put nat_cmp nat_cmp_total k v es (from_test _ seen.0))) (λ q.
       find-put nat_cmp nat_cmp_total q k v es
@@ -52,18 +56,21 @@ module _ {X : Type 0} where
   turned : (k q : ℕ) (found : Option X) → cond (is_other k q) found None ≡ cond (eq_by_cmp nat_cmp q k) None found
   turned k q found = grind (arith, nat_tests)
 
-  where_key_is : (es : List (ℕ × X)) (m : map.FinMap nat_cmp X) (k : ℕ) → IsSeenAs es m → IsSeenAs (where_key nat_cmp (is_other k) es) (map.remove m k)
+  where_key_is : (es : List (ℕ × X)) (m : map.FinMap nat_cmp X) (k : ℕ) → IsSeenAs es m
+      → IsSeenAs (where_key nat_cmp (is_other k) es) (map.remove m k)
   where_key_is es m k seen =
       seen_by_get (where_key nat_cmp (is_other k) es) (map.remove m k) (to_test _ (is_sorted-where_key nat_cmp (is_other k) es (from_test _ seen.0))) (λ q.
       find-where_key nat_cmp (is_other k) q (λ x tied. ap (is_other k) (sym (map.nat_cmp-IsAntisymmetric q x tied))) es
       ∙ (turned k q (map.find nat_cmp q es) ∙ (ap (cond (eq_by_cmp nat_cmp q k) None) (sym (get-find es m q seen)) ∙ sym (map.get-remove nat_cmp_total m k q))))
 
   -- with a new key at its place
-  pub IsSeenAs-insert : (es edited : List (ℕ × X)) (m : map.FinMap nat_cmp X) (k at : ℕ) (v : X) → IsSeenAs es m → map.get m k ≡ None → at ≡ place k es → edited ≡ insert es at (k, v) → IsSeenAs edited (map.insert m k v)
+  pub IsSeenAs-insert : (es edited : List (ℕ × X)) (m : map.FinMap nat_cmp X) (k at : ℕ) (v : X) → IsSeenAs es m
+      → map.get m k ≡ None → at ≡ place k es → edited ≡ insert es at (k, v) → IsSeenAs edited (map.insert m k v)
   IsSeenAs-insert es edited m k at v seen vacant placed is =
       rw (is, placed, ← put-insert k v es (sym (get-find es m k seen) ∙ vacant)) (put_is es m k v seen)
 
   -- without what stands at the place of a key that is there
-  pub IsSeenAs-remove : (es edited : List (ℕ × X)) (m : map.FinMap nat_cmp X) (k at : ℕ) → IsSeenAs es m → is_some (map.get m k) ≡ true → at ≡ place k es → edited ≡ remove es at → IsSeenAs edited (map.remove m k)
+  pub IsSeenAs-remove : (es edited : List (ℕ × X)) (m : map.FinMap nat_cmp X) (k at : ℕ) → IsSeenAs es m
+      → is_some (map.get m k) ≡ true → at ≡ place k es → edited ≡ remove es at → IsSeenAs edited (map.remove m k)
   IsSeenAs-remove es edited m k at seen present placed is =
       rw (is, placed, ← where_key-remove k es seen.0 (ap is_some (sym (get-find es m k seen)) ∙ present)) (where_key_is es m k seen)

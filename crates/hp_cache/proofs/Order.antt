@@ -11,7 +11,8 @@ use Rattle.hp_base.proofs.Puts.{same_or_other}
 
 module _ {X : Type 0} where
   -- a key lies below those of a list in order, one by one
-  pub below_first : (k : ℕ) (e : ℕ × X) (es : List (ℕ × X)) → below_all nat_cmp k (e ∷ es) ≡ true → (k < e.0) × (below_all nat_cmp k es ≡ true)
+  pub below_first : (k : ℕ) (e : ℕ × X) (es : List (ℕ × X)) → below_all nat_cmp k (e ∷ es) ≡ true
+      → (k < e.0) × (below_all nat_cmp k es ≡ true)
   below_first k e es below = (grind (arith, nat_tests), grind (arith, nat_tests))
 
   pub below_lower : (k low : ℕ) (es : List (ℕ × X)) → k ≤ low → below_all nat_cmp low es ≡ true → below_all nat_cmp k es ≡ true
@@ -21,7 +22,8 @@ module _ {X : Type 0} where
       let rest = below_lower k low es le parts.1 in
       grind (arith, nat_tests, parts, rest)
 
-  pub sorted_first : (e : ℕ × X) (es : List (ℕ × X)) → is_sorted nat_cmp (e ∷ es) ≡ true → (below_all nat_cmp e.0 es ≡ true) × (is_sorted nat_cmp es ≡ true)
+  pub sorted_first : (e : ℕ × X) (es : List (ℕ × X)) → is_sorted nat_cmp (e ∷ es) ≡ true
+      → (below_all nat_cmp e.0 es ≡ true) × (is_sorted nat_cmp es ≡ true)
   sorted_first e es sorted = (grind arith, grind arith)
 
   below_at : (k : ℕ) (es : List (ℕ × X)) (i : ℕ) (d : ℕ × X) → below_all nat_cmp k es ≡ true → i < length es → k < (get_or es i d).0
@@ -29,7 +31,8 @@ module _ {X : Type 0} where
   below_at k (e ∷ es) zero d below within = (below_first k e es below).0
   below_at k (e ∷ es) (suc i) d below within = below_at k es i d (below_first k e es below).1 (omega arith)
 
-  rises : (e : ℕ × X) (es : List (ℕ × X)) → below_all nat_cmp e.0 es ≡ true → IsNonDecreasingBy (λ e. e.0) es → (i j : ℕ) (d : ℕ × X) → i ≤ j → j < length (e ∷ es) → (get_or (e ∷ es) i d).0 ≤ (get_or (e ∷ es) j d).0
+  rises : (e : ℕ × X) (es : List (ℕ × X)) → below_all nat_cmp e.0 es ≡ true → IsNonDecreasingBy (λ e. e.0) es
+      → (i j : ℕ) (d : ℕ × X) → i ≤ j → j < length (e ∷ es) → (get_or (e ∷ es) i d).0 ≤ (get_or (e ∷ es) j d).0
   rises e es below rest zero zero d le within = omega arith
   rises e es below rest zero (suc j) d le within = omega (arith, below_at e.0 es j d below (omega arith))
   rises e es below rest (suc i) zero d le within = absurd (omega arith)
@@ -58,7 +61,8 @@ module _ {X : Type 0} where
       grind (arith, nat_tests, here, rest)
 
   -- and each that stands there is
-  pub find_at : (es : List (ℕ × X)) (i : ℕ) (d : ℕ × X) → is_sorted nat_cmp es ≡ true → i < length es → find nat_cmp (get_or es i d).0 es ≡ Some (get_or es i d).1
+  pub find_at : (es : List (ℕ × X)) (i : ℕ) (d : ℕ × X) → is_sorted nat_cmp es ≡ true → i < length es
+      → find nat_cmp (get_or es i d).0 es ≡ Some (get_or es i d).1
   find_at [] i d sorted within = absurd (omega arith)
   find_at (e ∷ es) zero d sorted within = grind (arith, nat_tests)
   find_at (e ∷ es) (suc i) d sorted within =
@@ -67,7 +71,8 @@ module _ {X : Type 0} where
       let rest = find_at es i d parts.1 (omega arith) in
       grind (arith, nat_tests, above, rest)
 
-  differ : (e : ℕ × X) (es : List (ℕ × X)) → below_all nat_cmp e.0 es ≡ true → AllPairs (λ e other. e.0 ≢ other.0) es → (i j : ℕ) (d : ℕ × X) → i < j → j < length (e ∷ es) → (get_or (e ∷ es) i d).0 ≢ (get_or (e ∷ es) j d).0
+  differ : (e : ℕ × X) (es : List (ℕ × X)) → below_all nat_cmp e.0 es ≡ true → AllPairs (λ e other. e.0 ≢ other.0) es
+      → (i j : ℕ) (d : ℕ × X) → i < j → j < length (e ∷ es) → (get_or (e ∷ es) i d).0 ≢ (get_or (e ∷ es) j d).0
   differ e es below rest i zero d lt within = absurd (omega (arith, lt))
   differ e es below rest zero (suc j) d lt within = (let above = below_at e.0 es j d below (omega (arith, within)) in λ same. omega (arith, above, same))
   differ e es below rest (suc i) (suc j) d lt within = rest i j d (omega (arith, lt)) (omega (arith, within))

@@ -50,7 +50,8 @@ module _ {X : Type 0} where
       ] refl
 
   -- a look at its place finds a key
-  pub find-place : (k : ℕ) (es : List (ℕ × X)) → is_sorted nat_cmp es ≡ true → find nat_cmp k es ≡ option_and_then (value_if k) (slice_get es (place k es))
+  pub find-place : (k : ℕ) (es : List (ℕ × X)) → is_sorted nat_cmp es ≡ true
+      → find nat_cmp k es ≡ option_and_then (value_if k) (slice_get es (place k es))
   find-place k [] sorted = refl
   find-place k (e ∷ es) sorted =
       let parts = sorted_first e es sorted in
@@ -59,7 +60,8 @@ module _ {X : Type 0} where
         | false ↦ λ is. at_front k e es (ltb-false e.0 k is) parts.0
       ] refl
 
-  ahead : (k : ℕ) (v : X) (e : ℕ × X) (es : List (ℕ × X)) → k ≤ e.0 → find nat_cmp k (e ∷ es) ≡ None → put nat_cmp k v (e ∷ es) ≡ (k, v) ∷ e ∷ es
+  ahead : (k : ℕ) (v : X) (e : ℕ × X) (es : List (ℕ × X)) → k ≤ e.0 → find nat_cmp k (e ∷ es) ≡ None
+      → put nat_cmp k v (e ∷ es) ≡ (k, v) ∷ e ∷ es
   ahead k v e es le vacant = grind (arith, nat_tests)
 
   later : (k : ℕ) (v : X) (e : ℕ × X) (es : List (ℕ × X)) → e.0 < k → put nat_cmp k v (e ∷ es) ≡ e ∷ put nat_cmp k v es
@@ -84,7 +86,8 @@ module _ {X : Type 0} where
       let rest = where_key-below k es parts.1 in
       grind (arith, nat_tests, parts, rest)
 
-  from_front : (k : ℕ) (e : ℕ × X) (es : List (ℕ × X)) → k ≤ e.0 → below_all nat_cmp e.0 es ≡ true → is_some (find nat_cmp k (e ∷ es)) ≡ true → where_key nat_cmp (is_other k) (e ∷ es) ≡ es
+  from_front : (k : ℕ) (e : ℕ × X) (es : List (ℕ × X)) → k ≤ e.0 → below_all nat_cmp e.0 es ≡ true
+      → is_some (find nat_cmp k (e ∷ es)) ≡ true → where_key nat_cmp (is_other k) (e ∷ es) ≡ es
   from_front k e es le below present =
       let rest = where_key-below k es (below_lower k e.0 es le below) in
       let none = find_below k es (below_lower k e.0 es le below) in
@@ -94,7 +97,8 @@ module _ {X : Type 0} where
       ] refl
 
   -- a key that is there goes from its place
-  pub where_key-remove : (k : ℕ) (es : List (ℕ × X)) → is_sorted nat_cmp es ≡ true → is_some (find nat_cmp k es) ≡ true → where_key nat_cmp (is_other k) es ≡ remove es (place k es)
+  pub where_key-remove : (k : ℕ) (es : List (ℕ × X)) → is_sorted nat_cmp es ≡ true → is_some (find nat_cmp k es) ≡ true
+      → where_key nat_cmp (is_other k) es ≡ remove es (place k es)
   where_key-remove k [] sorted present = refl
   where_key-remove k (e ∷ es) sorted present =
       let parts = sorted_first e es sorted in
@@ -113,7 +117,8 @@ module _ {X : Type 0} where
   find_past k es sorted past = find-place k es sorted ∙ ap (option_and_then (value_if k)) (slice_get_past es (place k es) past)
 
   -- and else what stands at its place tells
-  pub find_within : (k : ℕ) (es : List (ℕ × X)) (d : ℕ × X) → is_sorted nat_cmp es ≡ true → place k es < length es → find nat_cmp k es ≡ value_if k (get_or es (place k es) d)
+  pub find_within : (k : ℕ) (es : List (ℕ × X)) (d : ℕ × X) → is_sorted nat_cmp es ≡ true → place k es < length es
+      → find nat_cmp k es ≡ value_if k (get_or es (place k es) d)
   find_within k es d sorted within = find-place k es sorted ∙ ap (option_and_then (value_if k)) (slice_get-get_or es (place k es) d within)
 
   -- so the place of a key that is there lies within
@@ -125,7 +130,8 @@ module _ {X : Type 0} where
       ] refl
 
   -- and its value stands there
-  pub find_present : (k : ℕ) (es : List (ℕ × X)) (d : ℕ × X) → is_sorted nat_cmp es ≡ true → is_some (find nat_cmp k es) ≡ true → find nat_cmp k es ≡ Some (get_or es (place k es) d).1
+  pub find_present : (k : ℕ) (es : List (ℕ × X)) (d : ℕ × X) → is_sorted nat_cmp es ≡ true → is_some (find nat_cmp k es) ≡ true
+      → find nat_cmp k es ≡ Some (get_or es (place k es) d).1
   find_present k es d sorted present =
       let there = find_within k es d sorted (place_within k es sorted present) in
       there ∙ value_there k (get_or es (place k es) d) (ap is_some (sym there) ∙ present)

@@ -54,7 +54,7 @@ impl PageCache {
         }
     }
 
-    /// The frame of an index, where it has a page (Linux: `filemap_get_folio`). It is found by binary
+    /// The frame of an index, where it has a page (Linux: `find_lock_page`). It is found by binary
     /// search, which looks at O(log n) of n pages.
     pub fn get(&self, index: Index) -> Option<Frame>
         ensures { result ≡ map.get self.now index }
@@ -115,6 +115,3 @@ impl PageCache {
         self.pages.len() as u32
     }
 }
-
-#[cfg(test)]
-mod tests;

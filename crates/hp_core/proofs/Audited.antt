@@ -1,24 +1,28 @@
 -- Nothing is wrong with a picture of a core.
 use Rattle.std.proofs.Common.{◌≡◌, ℕ, zero, suc, ◌+◌, ◌<◌, ◌≤◌, length, get_or, refl, sym, ◌∙◌, ap, subst, arith, inl, inr}
-use Rattle.std.specs.Prelude.{Bool, true, false, not, ◌&&◌, ◌==◌, nat_lt, cond, Option, Some, None, is_some, IsSomeAnd, IfSome, All, Contains, slice_get, sum_by, ℤ, pos, ◌+ℤ◌, ◌-ℤ◌}
+use Rattle.std.specs.Prelude.{Bool, true, false, not, ◌&&◌, ◌==◌, nat_lt, cond, Option, Some, None, is_some, IsSomeAnd, IfSome, All, Contains, slice_get, sum_by, count_by, ℤ, pos, ◌+ℤ◌, ◌-ℤ◌}
 use Rattle.std.specs.Option.{unwrap_or}
 use Rattle.std.specs.FinMap as finite
 use Rattle.std.specs.Ordering.{nat_cmp}
 use Rattle.std.proofs.lemmas.Bool.{ltb-true, ltb-false, eqb-true}
+use Rattle.std.proofs.lemmas.Bool.Decides.{nat_tests}
 use Rattle.std.proofs.lemmas.Int.{ints}
 use Rattle.std.proofs.lemmas.Option.{slice_get_cases}
 use Rattle.std.proofs.lemmas.List.Elements.{All-weaker}
+use Rattle.std.proofs.lemmas.List.Sums.{get_or-le-sum_by}
 use Rattle.std.proofs.Math.ListN.{get_or-eq_default}
 use Rattle.hp_base.specs.Numbers.{bit, is_none, total}
 use Rattle.hp_base.specs.Indices.{vacant}
-use Rattle.hp_base.specs.declared.limits.TheConstants.{LIMIT}
+use Rattle.hp_base.specs.Mappings.{find, is_there}
+use Rattle.hp_base.specs.declared.limits.TheConstants.{LIMIT, VPNS}
 use Rattle.hp_base.proofs.Counting.{count_below-ext}
+use Rattle.hp_base.proofs.Spaces.{both_true}
 use Rattle.hp_base.proofs.Sums.{sum_by-total, sum_at_most_one}
-use Rattle.hp_base.proofs.Totals.{total_somewhere, at_most_one}
+use Rattle.hp_base.proofs.Totals.{total_somewhere, at_most_one, count_below_somewhere}
 use Rattle.hp_frames.specs.declared.frame.FrameState.{FrameState}
 use Rattle.hp_frames.specs.declared.frame.FrameState.TheVariants as frame
 use Rattle.hp_cache.proofs.Order.{find_at, keys_differ, found_entry, found_somewhere}
-use Rattle.hp_machine.specs.State.{is_free}
+use Rattle.hp_machine.specs.State.{State, is_free}
 use Rattle.hp_machine.specs.Views.{hand}
 use Rattle.hp_machine.specs.Headline as head
 use Rattle.hp_machine.specs.Headline.{Place, Free, Hand, Page, IsAt}
@@ -33,7 +37,7 @@ use Rattle.hp_fault.specs.View.{no_file, pages_of}
 use Rattle.hp_core.specs.State.{CoreState, as_state}
 use Rattle.hp_core.specs.Sound.{IsSound}
 use Rattle.hp_core.specs.Runs.{Headline}
-use Rattle.hp_core.specs.Pictures.{IsPicture, IsFilePicture, IsTranslation, is_that}
+use Rattle.hp_core.specs.Pictures.{IsPicture, IsFilePicture, is_that, is_entry, translates}
 use Rattle.hp_core.specs.Readers.{free_of, resv_of, owed_of}
 use Rattle.hp_core.proofs.Headlines.{reached_of, headline_of}
 
@@ -43,7 +47,8 @@ unfolding Headline
 head_of s h = headline_of s h
 
 -- each page that a file's picture tells is the state's
-pages_told : (s : CoreState) (f : ℕ) (file : FilePicture) → IsFilePicture (as_state s) f file → All (λ page. (as_state s).pages f page.0 ≡ Some page.1) file.pages.items
+pages_told : (s : CoreState) (f : ℕ) (file : FilePicture) → IsFilePicture (as_state s) f file
+    → All (λ page. (as_state s).pages f page.0 ≡ Some page.1) file.pages.items
 pages_told s f file is = λ k d within. sym (is.pages (get_or file.pages.items k d).0) ∙ find_at file.pages.items k d is.in_order within
 
 file_shaped : (s : CoreState) (f : ℕ) (file : FilePicture) → IsFilePicture (as_state s) f file → IsFileShaped file
@@ -54,7 +59,8 @@ file_shaped s f file is = record {
 }
 
 -- what holds of the picture of each file holds of all that are told
-each_file : (s : CoreState) (p : Picture) (P : FilePicture → Type 0) → IsPicture s p → ((f : ℕ) (file : FilePicture) → IsFilePicture (as_state s) f file → P file) → All P p.files.items
+each_file : (s : CoreState) (p : Picture) (P : FilePicture → Type 0) → IsPicture s p
+    → ((f : ℕ) (file : FilePicture) → IsFilePicture (as_state s) f file → P file) → All P p.files.items
 each_file s p P h each = λ k d within. each k (get_or p.files.items k d) (h.files k (omega (arith, h.as_many, within)) d)
 
 -- a file that has a page is there
@@ -68,6 +74,51 @@ file_there s f i x has = elim (nat_lt f (length s.parts.files)) as (λ b. nat_lt
       let d : ◌≡◌ {A = Option ℕ} None (Some x) = sym bare ∙ has in absurd (cc)
 ] refl
 
+-- a test that counts has passed, and says what it asked
+is_one : (b : Bool) → 0 < bit b → b ≡ true
+is_one true some = refl
+is_one false some = absurd (omega (arith, some))
+
+that_is : (x : ℕ) (o : Option ℕ) → is_that x o ≡ true → o ≡ Some x
+that_is x None e = (let d : false ≡ true = e in absurd (cc))
+that_is x (Some y) e = ap (λ (z : ℕ). Some z) (eqb-true y x e)
+
+there_is : (f i : ℕ) (o : Option (ℕ × ℕ)) → is_there o f i ≡ true → o ≡ Some (f, i)
+there_is f i None e = (let d : false ≡ true = e in absurd (cc))
+there_is f i (Some place) e =
+    let both = both_true (place.0 == f) (place.1 == i) e in
+    λ j. Some (eqb-true place.0 f both.0 j, eqb-true place.1 i both.1 j)
+
+-- some virtual page of the task stands for that index of the file, and is translated to the frame
+abbrev IsTranslation : State → ℕ × ℕ × ℕ × ℕ → Type 0
+IsTranslation s entry = (v : ℕ) × (s.table entry.0 v ≡ Some entry.3) × (find (s.areas entry.0) v ≡ Some (entry.1, entry.2))
+
+-- an entry is of its own task, index and frame
+its_own : (e : ℕ × ℕ × ℕ × ℕ) → is_entry e.0 e.1 e.2 e.3 e ≡ true
+its_own e = grind (arith, nat_tests)
+
+-- each entry that is told is one
+told : (s : CoreState) (p : Picture) → IsPicture s p → All (IsTranslation (as_state s)) p.tables.items
+told s p is = λ k d within. of_entry (get_or p.tables.items k d) (there k d within)
+  where
+    times : ℕ × ℕ × ℕ × ℕ → ℕ
+    times e = count_by (is_entry e.0 e.1 e.2 e.3) p.tables.items
+
+    there : (k : ℕ) (d : ℕ × ℕ × ℕ × ℕ) → k < length p.tables.items → 0 < times (get_or p.tables.items k d)
+    there k d within =
+        let e : ℕ × ℕ × ℕ × ℕ = get_or p.tables.items k d in
+        let one : cond {A = ℕ} (is_entry e.0 e.1 e.2 e.3 e) 1 0 ≡ 1 = ap (λ (b : Bool). cond b 1 0) (its_own e) in
+        let all = get_or-le-sum_by (λ entry. cond (is_entry e.0 e.1 e.2 e.3 entry) 1 0) p.tables.items k d within in
+        omega (arith, one, all)
+
+    of_entry : (e : ℕ × ℕ × ℕ × ℕ) → 0 < times e → IsTranslation (as_state s) e
+    of_entry e some =
+        let at = count_below_somewhere (translates (as_state s) e.0 e.1 e.2 e.3) VPNS (omega (arith, some, is.tables e.0 e.1 e.2 e.3)) in
+        let place : Option (ℕ × ℕ) = find ((as_state s).areas e.0) at.0 in
+        let frame : Option ℕ = (as_state s).table e.0 at.0 in
+        let both = both_true (is_there place e.1 e.2) (is_that e.3 frame) at.2 in
+        (at.0, that_is e.3 frame both.1, there_is e.1 e.2 place both.0)
+
 -- a translation is to its file's page
 page_told : (s : CoreState) (e : ℕ × ℕ × ℕ × ℕ) → IsSound s → IsTranslation (as_state s) e → (as_state s).pages e.1 e.2 ≡ Some e.3
 page_told s e h is =
@@ -79,7 +130,7 @@ page_told s e h is =
 shaped : (s : CoreState) (p : Picture) → IsSound s → IsPicture s p → IsShaped p
 shaped s p h is = record {
   files = each_file s p IsFileShaped is (λ f file of. file_shaped s f file of);
-  tables = All-weaker (IsTranslation (as_state s)) (λ (entry : ℕ × ℕ × ℕ × ℕ). (entry.1 < length p.files.items) × (entry.2 < LIMIT)) (λ e of. within e of) p.tables.items is.sound;
+  tables = All-weaker (IsTranslation (as_state s)) (λ (entry : ℕ × ℕ × ℕ × ℕ). (entry.1 < length p.files.items) × (entry.2 < LIMIT)) (λ e of. within e of) p.tables.items (told s p is);
 }
   where
     within : (e : ℕ × ℕ × ℕ × ℕ) → IsTranslation (as_state s) e → (e.1 < length p.files.items) × (e.2 < LIMIT)
@@ -88,29 +139,32 @@ shaped s p h is = record {
         (omega (arith, file_there s e.1 e.2 e.3 page, is.as_many), page_inside (as_state s) e.1 e.2 e.3 (reached_of s h) page)
 
 -- the picture of a file that is there
-file_told : (s : CoreState) (p : Picture) (f : ℕ) → IsPicture s p → f < length s.parts.files → (file : FilePicture) × (slice_get p.files.items f ≡ Some file) × IsFilePicture (as_state s) f file
+file_told : (s : CoreState) (p : Picture) (f : ℕ) → IsPicture s p → f < length s.parts.files
+    → (file : FilePicture) × (slice_get p.files.items f ≡ Some file) × IsFilePicture (as_state s) f file
 file_told s p f h l = elim (slice_get_cases p.files.items f).1 [
   | inl there ↦ (there.0, there.2, subst (λ (file : FilePicture). IsFilePicture (as_state s) f file) there.3 (h.files f l there.0))
   | inr past ↦ absurd (omega (arith, h.as_many, l, past.0))
 ]
 
 agrees : (s : CoreState) (p : Picture) → IsSound s → IsPicture s p → Agrees p
-agrees s p h is = λ k d within. of_entry (get_or p.tables.items k d) (is.sound k d within)
+agrees s p h is = λ k d within. of_entry (get_or p.tables.items k d) (told s p is k d within)
   where
-    of_entry : (e : ℕ × ℕ × ℕ × ℕ) → IsTranslation (as_state s) e → IsSomeAnd (slice_get p.files.items e.1) (λ file. Contains file.pages.items (e.2, e.3))
+    of_entry : (e : ℕ × ℕ × ℕ × ℕ) → IsTranslation (as_state s) e
+        → IsSomeAnd (slice_get p.files.items e.1) (λ file. Contains file.pages.items (e.2, e.3))
     of_entry e of =
         let page = page_told s e h of in
         let told = file_told s p e.1 is (file_there s e.1 e.2 e.3 page) in
         rw told.1 (found_entry e.2 e.3 told.0.pages.items (told.2.pages e.2 ∙ page))
 
 below : (s : CoreState) (p : Picture) → IsSound s → IsPicture s p → IsBelow p
-below s p h is = λ k d within. of_entry (get_or p.tables.items k d) (is.sound k d within)
+below s p h is = λ k d within. of_entry (get_or p.tables.items k d) (told s p is k d within)
   where
     unlocked : (o : Option ℕ) → is_some o ≡ false → o ≡ None
     unlocked None e = refl
     unlocked (Some u) e = (let d : true ≡ false = e in absurd (cc))
 
-    of_entry : (e : ℕ × ℕ × ℕ × ℕ) → IsTranslation (as_state s) e → IfSome (slice_get p.files.items e.1) (λ file. file.locked ≡ false → e.2 < file.size)
+    of_entry : (e : ℕ × ℕ × ℕ × ℕ) → IsTranslation (as_state s) e
+        → IfSome (slice_get p.files.items e.1) (λ file. file.locked ≡ false → e.2 < file.size)
     of_entry e of =
         let told = file_told s p e.1 is (file_there s e.1 e.2 e.3 (page_told s e h of)) in
         rw told.1 (λ idle.
@@ -121,7 +175,8 @@ not_some : (o : Option ℕ) → not (is_some o) ≡ is_none o
 not_some None = refl
 not_some (Some x) = refl
 
-vacant_same : (s : CoreState) (f : ℕ) (file : FilePicture) → IsFilePicture (as_state s) f file → vacant_of file ≡ vacant LIMIT ((as_state s).reserved f) ((as_state s).pages f)
+vacant_same : (s : CoreState) (f : ℕ) (file : FilePicture) → IsFilePicture (as_state s) f file
+    → vacant_of file ≡ vacant LIMIT ((as_state s).reserved f) ((as_state s).pages f)
 unfolding vacant_of vacant
 vacant_same s f file is = count_below-ext (is_vacant file) (λ i. (as_state s).reserved f i && is_none ((as_state s).pages f i)) LIMIT (λ i low.
     let page : has_page file.pages.items i ≡ is_some ((as_state s).pages f i) = found_somewhere i file.pages.items ∙ ap (λ (o : Option ℕ). is_some o) (is.pages i) in
@@ -151,10 +206,6 @@ IsPlaced s x q = IsAt (as_state s).frame (λ t. hand ((as_state s).calls t)) (as
 alone : (s : CoreState) (x : ℕ) (q r : Place) → IsSound s → IsPlaced s x q → IsPlaced s x r → q ≡ r
 alone s x q r h a b = same_place (as_state s).frames (as_state s).frame (λ t. hand ((as_state s).calls t)) (as_state s).pages (head_of s h).place x q r a b
 
-is_one : (b : Bool) → 0 < bit b → b ≡ true
-is_one true some = refl
-is_one false some = absurd (omega (arith, some))
-
 bit_one : (b : Bool) → bit b ≤ 1
 bit_one true = omega arith
 bit_one false = omega arith
@@ -163,10 +214,6 @@ free_is : (f : FrameState) → is_free f ≡ true → f ≡ frame.Free
 free_is frame.Free e = refl
 free_is frame.Hand e = (let d : false ≡ true = e in absurd (cc))
 free_is (frame.Placed word) e = (let d : false ≡ true = e in absurd (cc))
-
-that_is : (x : ℕ) (o : Option ℕ) → is_that x o ≡ true → o ≡ Some x
-that_is x None e = (let d : false ≡ true = e in absurd (cc))
-that_is x (Some y) e = ap (λ (z : ℕ). Some z) (eqb-true y x e)
 
 -- a frame that is told as free is free
 free_at : (s : CoreState) (p : Picture) (x : ℕ) → IsPicture s p → 0 < times_in p.free.items x → IsPlaced s x Free
@@ -192,20 +239,24 @@ hand_once s p x h is =
     omega (arith, few, is.hands x)
 
 -- two pages in one frame are one
-one_page : (s : CoreState) (x f i k j : ℕ) → IsSound s → (as_state s).pages f i ≡ Some x → (as_state s).pages k j ≡ Some x → (f ≡ k) × (i ≡ j)
+one_page : (s : CoreState) (x f i k j : ℕ) → IsSound s → (as_state s).pages f i ≡ Some x → (as_state s).pages k j ≡ Some x
+    → (f ≡ k) × (i ≡ j)
 one_page s x f i k j h a b = other_page (as_state s).frames (as_state s).frame (λ t. hand ((as_state s).calls t)) (as_state s).pages k j f i x (placing s h) b a
 
 -- a frame that a file's picture has is the file's page
-page_of : (s : CoreState) (f x : ℕ) (file : FilePicture) → IsFilePicture (as_state s) f file → 0 < pages_in file.pages.items x → (i : ℕ) × IsPlaced s x (Page f i)
+page_of : (s : CoreState) (f x : ℕ) (file : FilePicture) → IsFilePicture (as_state s) f file → 0 < pages_in file.pages.items x
+    → (i : ℕ) × IsPlaced s x (Page f i)
 page_of s f x file is some = counted (λ (page : ℕ × ℕ). page.1) (λ y. (i : ℕ) × ((as_state s).pages f i ≡ Some y)) x file.pages.items (λ k d within. ((get_or file.pages.items k d).0, pages_told s f file is k d within)) some
 
-page_at : (s : CoreState) (p : Picture) (x : ℕ) → IsPicture s p → 0 < sum_by (λ file. pages_in file.pages.items x) p.files.items → (place : ℕ × ℕ) × IsPlaced s x (Page place.0 place.1)
+page_at : (s : CoreState) (p : Picture) (x : ℕ) → IsPicture s p → 0 < sum_by (λ file. pages_in file.pages.items x) p.files.items
+    → (place : ℕ × ℕ) × IsPlaced s x (Page place.0 place.1)
 page_at s p x is some =
     let P : ℕ → Type 0 = λ y. (place : ℕ × ℕ) × ((as_state s).pages place.0 place.1 ≡ Some y) in
     counted_in P x p.files.items (each_file s p (λ file. All (λ page. P page.1) file.pages.items) is (λ f file of k d within. ((f, (get_or file.pages.items k d).0), pages_told s f file of k d within))) some
 
 -- a file has a frame at one index
-once_in_file : (s : CoreState) (f x : ℕ) (file : FilePicture) → IsSound s → IsFilePicture (as_state s) f file → pages_in file.pages.items x ≤ 1
+once_in_file : (s : CoreState) (f x : ℕ) (file : FilePicture) → IsSound s → IsFilePicture (as_state s) f file
+    → pages_in file.pages.items x ≤ 1
 once_in_file s f x file h is = sum_at_most_one (λ (page : ℕ × ℕ). cond (page.1 == x) 1 0) file.pages.items (λ k d within. one ((get_or file.pages.items k d).1 == x)) (λ i j d lt within a b.
     keys_differ file.pages.items is.in_order i j d lt within (one_page s x f (get_or file.pages.items i d).0 f (get_or file.pages.items j d).0 h (at i d (omega (arith, lt, within)) a) (at j d within b)).1)
   where
@@ -213,10 +264,12 @@ once_in_file s f x file h is = sum_at_most_one (λ (page : ℕ × ℕ). cond (pa
     one true = omega arith
     one false = omega arith
 
-    at : (k : ℕ) (d : ℕ × ℕ) → k < length file.pages.items → 0 < cond {A = ℕ} ((get_or file.pages.items k d).1 == x) 1 0 → IsPlaced s x (Page f (get_or file.pages.items k d).0)
+    at : (k : ℕ) (d : ℕ × ℕ) → k < length file.pages.items → 0 < cond {A = ℕ} ((get_or file.pages.items k d).1 == x) 1 0
+        → IsPlaced s x (Page f (get_or file.pages.items k d).0)
     at k d within some = pages_told s f file is k d within ∙ ap (λ (y : ℕ). Some y) (eqb-true (get_or file.pages.items k d).1 x (passed ((get_or file.pages.items k d).1 == x) some))
 
-page_once : (s : CoreState) (p : Picture) (x : ℕ) → IsSound s → IsPicture s p → sum_by (λ file. pages_in file.pages.items x) p.files.items ≤ 1
+page_once : (s : CoreState) (p : Picture) (x : ℕ) → IsSound s → IsPicture s p
+    → sum_by (λ file. pages_in file.pages.items x) p.files.items ≤ 1
 page_once s p x h is = sum_at_most_one (λ (file : FilePicture). pages_in file.pages.items x) p.files.items (each_file s p (λ file. pages_in file.pages.items x ≤ 1) is (λ f file of. once_in_file s f x file h of)) (λ i j d lt within a b.
     let here = page_of s i x (get_or p.files.items i d) (is.files i (omega (arith, is.as_many, lt, within)) d) a in
     let there = page_of s j x (get_or p.files.items j d) (is.files j (omega (arith, is.as_many, within)) d) b in

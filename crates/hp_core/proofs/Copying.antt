@@ -37,7 +37,8 @@ free_test xs x b h = by_state (slice_get xs x) refl b h
     is_kept Hand c e k = not_free c (λ t. (let d : Some Hand ≡ Some Free = sym e ∙ k.0 t in absurd (cc)))
     is_kept (Placed w) c e k = not_free c (λ t. (let d : Some (Placed w) ≡ Some Free = sym e ∙ k.0 t in absurd (cc)))
 
-    by_state : (o : Option FrameState) → slice_get xs x ≡ o → (c : Bool) → (IsTrue c ↔ (slice_get xs x ≡ Some Free)) → is_free (frame_at xs x) ≡ c
+    by_state : (o : Option FrameState) → slice_get xs x ≡ o → (c : Bool) → (IsTrue c ↔ (slice_get xs x ≡ Some Free))
+        → is_free (frame_at xs x) ≡ c
     by_state (Some s) e c k = ap (λ (y : FrameState). is_free y) (frame_at_is xs x s e) ∙ is_kept s c e k
     by_state None e c k = ap (λ (y : FrameState). is_free y) (frame_at_none xs x e) ∙ not_free c (λ t. (let d : None ≡ Some Free = sym e ∙ k.0 t in absurd (cc)))
 
@@ -49,14 +50,20 @@ one_more fr n x = elim (same_or_other x n) [
 ]
   where
     here : (b : Bool) → bit (nat_lt n n && b) + cond ((n == n) && b) 1 0 ≡ bit (nat_lt n (n + 1) && b)
-    here b = let a : nat_lt n n ≡ false = grind (arith, nat_tests) in let c : nat_lt n (n + 1) ≡ true = grind (arith, nat_tests) in let e : (n == n) ≡ true = grind (arith, nat_tests) in rw (a, c, e) (same b)
+    here b =
+        let a : nat_lt n n ≡ false = grind (arith, nat_tests) in
+        let c : nat_lt n (n + 1) ≡ true = grind (arith, nat_tests) in
+        let e : (n == n) ≡ true = grind (arith, nat_tests) in
+        rw (a, c, e) (same b)
       where
         same : (b : Bool) → 0 + cond b 1 0 ≡ bit b
         same true = refl
         same false = refl
 
 -- and is free
-pub free_more : (fr : ℕ → Bool) (n : ℕ) (xs ys : List ℕ) → fr n ≡ true → ys ≡ xs ++ n ∷ [] → ((x : ℕ) → count_by (λ frame. frame == x) xs ≡ bit (nat_lt x n && fr x)) → (x : ℕ) → count_by (λ frame. frame == x) ys ≡ bit (nat_lt x (n + 1) && fr x)
+pub free_more : (fr : ℕ → Bool) (n : ℕ) (xs ys : List ℕ) → fr n ≡ true → ys ≡ xs ++ n ∷ []
+    → ((x : ℕ) → count_by (λ frame. frame == x) xs ≡ bit (nat_lt x n && fr x)) → (x : ℕ)
+    → count_by (λ frame. frame == x) ys ≡ bit (nat_lt x (n + 1) && fr x)
 free_more fr n xs ys free is before x =
     let last : count_by {X = ℕ} (λ frame. frame == x) (n ∷ []) ≡ 0 + cond (n == x) 1 0 = refl in
     let both : count_by (λ frame. frame == x) (xs ++ n ∷ []) ≡ count_by (λ frame. frame == x) xs + count_by (λ frame. frame == x) (n ∷ []) = sum_by-append (λ (frame : ℕ). cond (frame == x) 1 0) xs (n ∷ []) in
@@ -71,7 +78,9 @@ free_more fr n xs ys free is before x =
     onto false = refl
 
 -- or isn't
-pub free_same : (fr : ℕ → Bool) (n : ℕ) (xs ys : List ℕ) → fr n ≡ false → ys ≡ xs → ((x : ℕ) → count_by (λ frame. frame == x) xs ≡ bit (nat_lt x n && fr x)) → (x : ℕ) → count_by (λ frame. frame == x) ys ≡ bit (nat_lt x (n + 1) && fr x)
+pub free_same : (fr : ℕ → Bool) (n : ℕ) (xs ys : List ℕ) → fr n ≡ false → ys ≡ xs
+    → ((x : ℕ) → count_by (λ frame. frame == x) xs ≡ bit (nat_lt x n && fr x)) → (x : ℕ)
+    → count_by (λ frame. frame == x) ys ≡ bit (nat_lt x (n + 1) && fr x)
 free_same fr n xs ys taken is before x =
     let kept : count_by (λ frame. frame == x) ys ≡ count_by (λ frame. frame == x) xs = ap (λ (zs : List ℕ). count_by (λ frame. frame == x) zs) is in
     let same : cond {A = ℕ} ((n == x) && fr n) 1 0 ≡ 0 = rw taken (onto (n == x)) in
@@ -88,7 +97,9 @@ unfolding frame_at
 past_none xs x l = ap (λ (y : FrameState). is_free y) (get_or-eq_default xs Hand l)
 
 -- all are looked at
-pub free_all : (frames : List FrameState) (n : ℕ) (xs : List ℕ) → length frames ≤ n → ((x : ℕ) → count_by (λ frame. frame == x) xs ≡ bit (nat_lt x n && is_free (frame_at frames x))) → (x : ℕ) → count_by (λ frame. frame == x) xs ≡ bit (is_free (frame_at frames x))
+pub free_all : (frames : List FrameState) (n : ℕ) (xs : List ℕ) → length frames ≤ n
+    → ((x : ℕ) → count_by (λ frame. frame == x) xs ≡ bit (nat_lt x n && is_free (frame_at frames x))) → (x : ℕ)
+    → count_by (λ frame. frame == x) xs ≡ bit (is_free (frame_at frames x))
 free_all frames n xs all before x = before x ∙ elim (cases_lt x n) [
   | inl l ↦ (let q : nat_lt x n ≡ true = grind (arith, nat_tests, l) in rw q refl)
   | inr l ↦ (let none = past_none frames x (omega arith) in rw none (off (nat_lt x n)))
@@ -107,7 +118,9 @@ unfolding count_below
 count_more fr n a b t is before more = rw (add-one, is) (more ∙ ap (λ (k : ℕ). k + cond t 1 0) before)
 
 -- one region more
-pub ranges_more : (regions : List Region) (k : ℕ) (o : Option (ℕ × ℕ)) (r : ℕ × ℕ) (xs ys : List (ℕ × ℕ)) → o ≡ option_map (λ r. (r.from, r.to)) (slice_get regions k) → o ≡ Some r → xs ≡ map (λ r. (r.from, r.to)) (take k regions) → ys ≡ xs ++ r ∷ [] → ys ≡ map (λ r. (r.from, r.to)) (take (k + 1) regions)
+pub ranges_more : (regions : List Region) (k : ℕ) (o : Option (ℕ × ℕ)) (r : ℕ × ℕ) (xs ys : List (ℕ × ℕ))
+    → o ≡ option_map (λ r. (r.from, r.to)) (slice_get regions k) → o ≡ Some r → xs ≡ map (λ r. (r.from, r.to)) (take k regions)
+    → ys ≡ xs ++ r ∷ [] → ys ≡ map (λ r. (r.from, r.to)) (take (k + 1) regions)
 ranges_more regions k o r xs ys read some before is = by_region (slice_get regions k) refl
   where
     by_region : (g : Option Region) → slice_get regions k ≡ g → ys ≡ map (λ r. (r.from, r.to)) (take (k + 1) regions)
@@ -124,7 +137,9 @@ unfolding all_translations
 no_translations spaces = refl
 
 -- one task more
-pub more_translations : (spaces : List Table) (k task : ℕ) (table : Table) (xs ys : List (ℕ × ℕ × ℕ × ℕ)) → k < length spaces → task ≡ k + 1 → table ≡ get_or spaces k table → xs ≡ all_translations spaces k → ys ≡ xs ++ translations task table → ys ≡ all_translations spaces (k + 1)
+pub more_translations : (spaces : List Table) (k task : ℕ) (table : Table) (xs ys : List (ℕ × ℕ × ℕ × ℕ)) → k < length spaces
+    → task ≡ k + 1 → table ≡ get_or spaces k table → xs ≡ all_translations spaces k → ys ≡ xs ++ translations task table
+    → ys ≡ all_translations spaces (k + 1)
 unfolding all_translations
 more_translations spaces k task table xs ys within numbered is before more =
     let next : task ≡ suc k = numbered ∙ add-one k in

@@ -46,7 +46,8 @@ to_test : (b : Bool) → T b → IsTrue b
 to_test true is = refl
 to_test false is = absurd is
 
-pub file_picture_of : (s : CoreState) (f : ℕ) (p : FilePicture) → IsCopy (get_or s.parts.files f no_file) (is_some (holder_of s.parts.locks f)) p → IsFilePicture (as_state s) f p
+pub file_picture_of : (s : CoreState) (f : ℕ) (p : FilePicture)
+    → IsCopy (get_or s.parts.files f no_file) (is_some (holder_of s.parts.locks f)) p → IsFilePicture (as_state s) f p
 unfolding sizes_of sets_of pages_of holders_of
 file_picture_of s f p h =
     let file : FileState = get_or s.parts.files f no_file in

@@ -1,9 +1,12 @@
 -- A sound core is at a state that a run reached, so it has the headline.
+use Rattle.std.proofs.Common.{◌≡◌, subst}
+use Rattle.hp_machine.specs.State.{State}
 use Rattle.hp_laws.proofs.Runs as runs
 use Rattle.hp_machine.specs.Events.{IsReached}
 use Rattle.hp_core.specs.State.{CoreState, as_state}
 use Rattle.hp_core.specs.Sound.{IsSound}
-use Rattle.hp_core.specs.Runs.{Headline}
+use Rattle.hp_base.specs.declared.limits.TheConstants.{LIMIT, VPNS}
+use Rattle.hp_core.specs.Runs.{IsOfConfig, Headline}
 
 pub reached_of : (s : CoreState) → IsSound s → IsReached (as_state s)
 unfolding IsSound
@@ -12,3 +15,13 @@ reached_of s h = h.0
 pub headline_of : (s : CoreState) → IsSound s → Headline s
 unfolding IsSound Headline
 headline_of s h = runs.headline (as_state s) h.0
+
+-- its state has the sizes of its config
+pub of_config : (s : CoreState) → IsSound s → IsOfConfig s
+unfolding IsSound
+of_config s h = (λ i. record { files = h.1.files i; slots = h.1.slots i; tasks = h.1.spaces i; limit = LIMIT; space = VPNS }, h.1.frames)
+
+-- what is a law of states that a run reached holds of the state of a core
+pub law_of : (P : State → Type 0) → ((s : State) → IsReached s → P s) → (inside seen : CoreState) → inside ≡ seen → IsSound inside
+    → P (as_state seen)
+law_of P law inside seen e h = subst (λ (s : CoreState). P (as_state s)) e (law (as_state inside) (reached_of inside h))

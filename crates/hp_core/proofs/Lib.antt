@@ -1,4 +1,6 @@
+pub mod Alike
 pub mod Audited
+pub mod Blocked
 pub mod Copying
 pub mod FilePictures
 pub mod Headlines

@@ -55,7 +55,9 @@ touch_fits s t (touch.Changed p) reached e = (touch_stands s t _ reached e).enou
 touch_fits s t (touch.Abort p) reached e = let h = touch_stands s t _ reached e in (h.file, h.pending)
 touch_fits s t (touch.Taken p) reached e = let h = touch_stands s t _ reached e in (h.file, h.pending)
 touch_fits s t (touch.Settle p) reached e = (touch_stands s t _ reached e).enough
-touch_fits s t (touch.Committed p) reached e = let h = touch_stands s t _ reached e in record { file = h.file; in_limit = h.index; bare = h.bare; held = (h.hand.1, h.hand.0) }
+touch_fits s t (touch.Committed p) reached e =
+    let h = touch_stands s t _ reached e in
+    record { file = h.file; in_limit = h.index; bare = h.bare; held = (h.hand.1, h.hand.0) }
 touch_fits s t (touch.Restore p) reached e = let h = touch_stands s t _ reached e in (h.hand.1, h.hand.0)
 touch_fits s t (touch.Found p) reached e =
     let h = touch_stands s t _ reached e in
@@ -102,13 +104,18 @@ alloc_fits s t (alloc.Changed p) reached e = (laws.alloc_stands s t _ reached e)
 alloc_fits s t (alloc.Abort p) reached e = let h = laws.alloc_stands s t _ reached e in (h.file, h.pending)
 alloc_fits s t (alloc.Taken p) reached e = let h = laws.alloc_stands s t _ reached e in (h.file, h.pending)
 alloc_fits s t (alloc.Settle p) reached e = (laws.alloc_stands s t _ reached e).enough
-alloc_fits s t (alloc.Committed p) reached e = let h = laws.alloc_stands s t _ reached e in record { file = h.file; in_limit = h.index; bare = h.bare; held = (h.hand.1, h.hand.0) }
+alloc_fits s t (alloc.Committed p) reached e =
+    let h = laws.alloc_stands s t _ reached e in
+    record { file = h.file; in_limit = h.index; bare = h.bare; held = (h.hand.1, h.hand.0) }
 alloc_fits s t (alloc.Restore p) reached e = let h = laws.alloc_stands s t _ reached e in (h.hand.1, h.hand.0)
-alloc_fits s t (alloc.Unslot p) reached e = let h = laws.alloc_stands s t _ reached e in record { slot = h.slot; in_limit = h.range; index = h.index }
+alloc_fits s t (alloc.Unslot p) reached e =
+    let h = laws.alloc_stands s t _ reached e in
+    record { slot = h.slot; in_limit = h.range; index = h.index }
 alloc_fits s t (alloc.Extend p) reached e = let h = laws.alloc_stands s t _ reached e in (h.file, h.range)
 alloc_fits s t (alloc.Leave p) reached e = (laws.alloc_stands s t _ reached e).lock
 
-punch_fits : (s : State) (t : ℕ) (phase : PunchPhase) → IsReached s → s.geometry.tasks < 2 ^ 32 → s.calls t ≡ Some (call.Punch phase) → PunchFits (pool_of s) t phase
+punch_fits : (s : State) (t : ℕ) (phase : PunchPhase) → IsReached s → s.geometry.tasks < 2 ^ 32
+    → s.calls t ≡ Some (call.Punch phase) → PunchFits (pool_of s) t phase
 punch_fits s t (punch.Start p) reached few e = tt
 punch_fits s t (punch.Want p) reached few e = tt
 punch_fits s t (punch.Locked p) reached few e = (laws.punch_stands s t _ reached e).file
@@ -116,14 +123,17 @@ punch_fits s t (punch.Unmap p) reached few e = ((laws.punch_stands s t _ reached
 punch_fits s t (punch.Evict p) reached few e = let h = laws.punch_stands s t _ reached e in (h.file, page_at s p.hole.file p.index h.page)
 punch_fits s t (punch.Delete p) reached few e = ((laws.punch_stands s t _ reached e).file, laws.pending_spared s p.hole.file reached)
 punch_fits s t (punch.Free p) reached few e = let h = laws.punch_stands s t _ reached e in (h.hand.1, h.hand.0)
-punch_fits s t (punch.Unslot p) reached few e = let h = laws.punch_stands s t _ reached e in record { slot = h.slot; in_limit = h.range; index = h.index }
+punch_fits s t (punch.Unslot p) reached few e =
+    let h = laws.punch_stands s t _ reached e in
+    record { slot = h.slot; in_limit = h.range; index = h.index }
 punch_fits s t (punch.Leave p) reached few e = (laws.punch_stands s t _ reached e).lock
 
 -- what was evicted fits in the limit
 few_evicted : (r : ℕ → Bool) (from limit evicted : ℕ) → evicted ≤ count_within r from limit → evicted ≤ limit
 few_evicted r from limit evicted l = let all = count_within-missing r from limit in omega (arith, all, l)
 
-truncate_fits : (s : State) (t : ℕ) (phase : TruncatePhase) → IsReached s → s.geometry.tasks < 2 ^ 32 → s.calls t ≡ Some (call.Truncate phase) → TruncateFits (pool_of s) t phase
+truncate_fits : (s : State) (t : ℕ) (phase : TruncatePhase) → IsReached s → s.geometry.tasks < 2 ^ 32
+    → s.calls t ≡ Some (call.Truncate phase) → TruncateFits (pool_of s) t phase
 truncate_fits s t (truncate.Start p) reached few e = tt
 truncate_fits s t (truncate.Size p) reached few e = (laws.truncate_stands s t _ reached e).file
 truncate_fits s t (truncate.Want p) reached few e = tt
@@ -138,7 +148,8 @@ truncate_fits s t (truncate.Settle p) reached few e = (laws.truncate_stands s t 
 truncate_fits s t (truncate.Leave p) reached few e = (laws.truncate_stands s t _ reached e).lock
 
 -- a mapping whose entries were cleared has none
-cleared : (s : State) (t base : ℕ) → ((v x : ℕ) → s.table t v ≡ Some x → in_mapping (s.areas t) base v ≡ false) → IsCleared (pool_of s) t base
+cleared : (s : State) (t base : ℕ) → ((v x : ℕ) → s.table t v ≡ Some x → in_mapping (s.areas t) base v ≡ false)
+    → IsCleared (pool_of s) t base
 cleared s t base empty v within = by_entry (s.table t v) refl
   where
     by_entry : (o : Option ℕ) → s.table t v ≡ o → s.table t v ≡ None
@@ -158,7 +169,10 @@ exit_fits s t exit.Leave reached e = tt
 
 -- tasks are few
 few_there : (s : CoreState) → IsKept s → (as_state s).geometry.tasks < 2 ^ 32
-few_there s kept = let all = kept.spaces in let few = few_tasks s.sizes.frames s.sizes.files s.sizes.slots s.sizes.tasks kept.limits in omega (arith, all, few)
+few_there s kept =
+    let all = kept.spaces in
+    let few = few_tasks s.sizes.frames s.sizes.files s.sizes.slots s.sizes.tasks kept.limits in
+    omega (arith, all, few)
 
 call_fits : (s : CoreState) (t : ℕ) (c : Call) → IsReached (as_state s) → IsKept s → (as_state s).calls t ≡ Some c → CallFits s.parts t c
 call_fits s t (call.Touch phase) reached kept e = touch_fits (as_state s) t phase reached e
@@ -169,7 +183,8 @@ call_fits s t (call.Truncate phase) reached kept e = (kept.locks, truncate_fits 
 call_fits s t (call.Unmap phase) reached kept e = unmap_fits (as_state s) t phase reached e
 call_fits s t (call.Exit phase) reached kept e = exit_fits (as_state s) t phase reached e
 
-step_fits : (s : CoreState) (t : ℕ) (o : Option Call) → IsReached (as_state s) → IsKept s → (as_state s).calls t ≡ o → IfSome o (λ c. CallFits s.parts t c)
+step_fits : (s : CoreState) (t : ℕ) (o : Option Call) → IsReached (as_state s) → IsKept s → (as_state s).calls t ≡ o
+    → IfSome o (λ c. CallFits s.parts t c)
 step_fits s t None reached kept e = tt
 step_fits s t (Some c) reached kept e = call_fits s t c reached kept e
 

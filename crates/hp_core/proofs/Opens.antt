@@ -53,7 +53,8 @@ same_copies {A} a n i = elim (cases_lt i n) [
 ]
 
 -- a seat of a core that nothing has happened to
-vacant_life : (xs : List Seat) → All IsVacant xs → (t : ℕ) → (seat_at xs t).life ≡ (if nat_le 1 t && nat_le t (length xs) then life.Alive else life.Dead)
+vacant_life : (xs : List Seat) → All IsVacant xs → (t : ℕ)
+    → (seat_at xs t).life ≡ (if nat_le 1 t && nat_le t (length xs) then life.Alive else life.Dead)
 vacant_life xs h t = elim (same_or_other t 0) [
   | inl e ↦ rw e refl
   | inr d ↦ (let q : (t == 0) ≡ false = ne_eqb t 0 d in elim (cases_lt (t - 1) (length xs)) [
@@ -159,20 +160,22 @@ module _ (z : Sizes) (p : PartsState) (seats : List Seat) (h : AreFresh z p seat
 
   pub is_opening : state_with p seats ≡ rows.opening (geometry z) z.frames
   is_opening = λ i. record {
-    geometry = geometry_is i;
-    frames = frames_long i;
-    frame = frame_is i;
-    resv = h.none_reserved i;
-    slots = slots_are i;
-    locks = locks_are i;
-    size = sizes_are i;
-    pending = pendings_are i;
-    spare = spares_are i;
-    reserved = sets_are i;
-    pages = pages_are i;
-    prepared = prepared_are i;
-    areas = areas_are i;
-    table = entries_are i;
+    pool = record {
+      geometry = geometry_is i;
+      frames = frames_long i;
+      frame = frame_is i;
+      resv = h.none_reserved i;
+      slots = slots_are i;
+      locks = locks_are i;
+      size = sizes_are i;
+      pending = pendings_are i;
+      spare = spares_are i;
+      reserved = sets_are i;
+      pages = pages_are i;
+      prepared = prepared_are i;
+      areas = areas_are i;
+      table = entries_are i;
+    };
     life = lives_are i;
     calls = calls_are i;
   }
@@ -193,6 +196,7 @@ module _ (z : Sizes) (p : PartsState) (seats : List Seat) (h : AreFresh z p seat
   )
 
 -- so it opens the machine
-pub opens_as : (config : Config) (p : PartsState) (seats : List Seat) → AreFresh (sizes config) p seats → IsOpening config (record { sizes = sizes config; parts = p; seats = seats })
+pub opens_as : (config : Config) (p : PartsState) (seats : List Seat) → AreFresh (sizes config) p seats
+    → IsOpening config (record { sizes = sizes config; parts = p; seats = seats })
 unfolding IsOpening
 opens_as config p seats h = (refl, is_opening (sizes config) p seats h)

@@ -1,11 +1,11 @@
 -- What a core copies of its lists is its picture.
-use Rattle.std.proofs.Common.{◌≡◌, ℕ, ◌+◌, ◌<◌, ◌≤◌, List, [], ◌∷◌, length, get_or, refl, sym, ◌∙◌, ap, subst, arith}
-use Rattle.std.specs.Prelude.{Bool, true, false, cond, Option, Some, None, ◌==◌, HoldsAt, All, Contains, is_some, count_by, sum_by, filter_map}
-use Rattle.std.specs.List.{cons_option}
-use Rattle.std.proofs.lemmas.List.Sums.{sum_by-cons}
+use Rattle.std.proofs.Common.{◌≡◌, ℕ, ◌+◌, ◌<◌, ◌≤◌, List, length, get_or, refl, sym, ◌∙◌, ap, subst, arith}
+use Rattle.std.specs.Prelude.{Bool, cond, Option, Some, None, ◌==◌, HoldsAt, is_some, count_by, sum_by, filter_map}
 use Rattle.hp_base.specs.Limits.{IsWithinLimits}
 use Rattle.std.proofs.lemmas.Bool.Decides.{nat_tests}
 use Rattle.hp_base.specs.Numbers.{bit, total}
+use Rattle.hp_base.proofs.Sums.{passes, count_by-filter_map}
+use Rattle.hp_base.proofs.Totals.{cond_bit}
 use Rattle.hp_frames.specs.Bank as bank
 use Rattle.hp_frames.specs.declared.frame.FrameState.{FrameState}
 use Rattle.hp_frames.specs.declared.frame.FrameState.TheVariants.{Free, Hand, Placed}
@@ -19,15 +19,13 @@ use Rattle.hp_fault.proofs.Laws.{free_frames_is}
 use Rattle.hp_core.specs.declared.seat.Seat.{Seat}
 use Rattle.hp_core.specs.State.{CoreState, as_state}
 use Rattle.hp_core.specs.Sound.{IsSound}
-use Rattle.hp_core.specs.Runs.{Headline}
 use Rattle.hp_core.specs.Copies.{IsCopy, all_translations}
-use Rattle.hp_core.specs.Pictures.{IsPicture, IsTranslation, is_that}
+use Rattle.hp_core.specs.Pictures.{IsPicture, is_entry, is_that}
 use Rattle.hp_core.specs.Readers.{free_of, resv_of, owed_of}
-use Rattle.hp_core.proofs.Headlines.{headline_of}
 use Rattle.hp_core.proofs.Reading.{few_tasks}
 use Rattle.hp_core.proofs.Sums.{sum_is}
 use Rattle.hp_core.proofs.FilePictures.{file_picture_of}
-use Rattle.hp_core.proofs.Translations.{all_sound, all_whole, all_counted}
+use Rattle.hp_core.proofs.Translations.{all_counted}
 
 -- the bank's free frames are the machine's
 same_free : (s : FrameState) → bank.is_free s ≡ is_free s
@@ -36,27 +34,16 @@ same_free Hand = refl
 same_free (Placed word) = refl
 
 -- a frame is given as often as some seat has it
-given_times : {X : Type 0} (h : X → Option ℕ) (x : ℕ) (ys : List X) → count_by (λ frame. frame == x) (filter_map h ys) ≡ sum_by (λ y. bit (is_that x (h y))) ys
-given_times {X} h x [] = refl
-given_times {X} h x (y ∷ ys) = onto (h y) refl (given_times h x ys)
+given_times : {X : Type 0} (h : X → Option ℕ) (x : ℕ) (ys : List X)
+    → count_by (λ frame. frame == x) (filter_map h ys) ≡ sum_by (λ y. bit (is_that x (h y))) ys
+given_times {X} h x ys = count_by-filter_map (λ frame. frame == x) h ys ∙ (λ i. sum_by (λ (y : X). as_bit (h y) i) ys)
   where
-    as_bit : (b : Bool) → cond b 1 0 ≡ bit b
-    as_bit true = refl
-    as_bit false = refl
+    as_bit : (o : Option ℕ) → cond (passes (λ frame. frame == x) o) 1 0 ≡ bit (is_that x o)
+    as_bit None = refl
+    as_bit (Some y) = cond_bit (y == x)
 
-    onto : (o : Option ℕ) → h y ≡ o → count_by (λ frame. frame == x) (filter_map h ys) ≡ sum_by (λ y. bit (is_that x (h y))) ys → count_by (λ frame. frame == x) (cons_option o (filter_map h ys)) ≡ sum_by (λ y. bit (is_that x (h y))) (y ∷ ys)
-    onto None e rest =
-        let here : bit (is_that x (h y)) ≡ 0 = ap (λ (o : Option ℕ). bit (is_that x o)) e in
-        let sum = sum_by-cons (λ (y : X). bit (is_that x (h y))) y ys in
-        omega (arith, here, rest, sum)
-    onto (Some z) e rest =
-        let here : bit (is_that x (h y)) ≡ bit (z == x) = ap (λ (o : Option ℕ). bit (is_that x o)) e in
-        let sum = sum_by-cons (λ (y : X). bit (is_that x (h y))) y ys in
-        let one = sum_by-cons (λ (frame : ℕ). cond (frame == x) 1 0) z (filter_map h ys) in
-        let same = as_bit (z == x) in
-        omega (arith, here, rest, sum, one, same)
-
-hands_of : (s : CoreState) (hands : List ℕ) (x : ℕ) → IsSound s → hands ≡ filter_map (λ seat. hand seat.call) s.seats → count_by (λ frame. frame == x) hands ≡ total ((as_state s).geometry.tasks + 1) (λ t. bit (is_that x (hand ((as_state s).calls t))))
+hands_of : (s : CoreState) (hands : List ℕ) (x : ℕ) → IsSound s → hands ≡ filter_map (λ seat. hand seat.call) s.seats
+    → count_by (λ frame. frame == x) hands ≡ total ((as_state s).geometry.tasks + 1) (λ t. bit (is_that x (hand ((as_state s).calls t))))
 unfolding IsSound
 hands_of s hands x h is =
     let n : length s.parts.spaces ≡ length s.seats = h.1.spaces ∙ sym h.1.seats in
@@ -81,11 +68,12 @@ pub record AreCopies (s : CoreState) (p : Picture) : Type 0 where
   pub owed : p.owed ≡ owed_of s
   pub hands : p.hands.items ≡ filter_map (λ seat. hand seat.call) s.seats
   pub as_many : length p.files.items ≡ length s.parts.files
-  pub files : (f : ℕ) → f < length s.parts.files → HoldsAt (IsCopy (get_or s.parts.files f no_file) (is_some (holder_of s.parts.locks f))) p.files.items f
+  pub files : (f : ℕ) → f < length s.parts.files
+      → HoldsAt (IsCopy (get_or s.parts.files f no_file) (is_some (holder_of s.parts.locks f))) p.files.items f
   pub tables : p.tables.items ≡ all_translations s.parts.spaces (length s.parts.spaces)
 
 pub picture_of : (s : CoreState) (p : Picture) → IsSound s → AreCopies s p → IsPicture s p
-unfolding free_of Headline
+unfolding free_of
 picture_of s p h c =
     record {
       free = λ x. c.free x ∙ ap (λ (b : Bool). bit b) (same_free (bank.frame_at s.parts.bank.frames x));
@@ -95,9 +83,7 @@ picture_of s p h c =
       hands = λ x. hands_of s p.hands.items x h c.hands;
       as_many = c.as_many;
       files = λ f l d. file_picture_of s f (get_or p.files.items f d) (c.files f l d);
-      sound = subst (λ (xs : List (ℕ × ℕ × ℕ × ℕ)). All (IsTranslation (as_state s)) xs) (sym c.tables) (all_sound s (length s.parts.spaces));
-      whole = λ t v x f i has stands. subst (λ (xs : List (ℕ × ℕ × ℕ × ℕ)). Contains xs (t, f, i, x)) (sym c.tables) (all_whole s t v x f i has stands);
-      entries = ap (λ (xs : List (ℕ × ℕ × ℕ × ℕ)). length xs) c.tables ∙ all_counted s (length s.parts.spaces) (headline_of s h).agree;
+      tables = λ t f i x. ap (λ (xs : List (ℕ × ℕ × ℕ × ℕ)). count_by (is_entry t f i x) xs) c.tables ∙ all_counted s t f i x h;
     }
 
 -- and so where the core is seen as that state

@@ -17,14 +17,16 @@ pub file_in : (s : CoreState) (n file : ℕ) → IsSound s → n ≡ file → fi
 unfolding IsSound config_of
 file_in s n file h e l = let k = h.1.files in omega (arith, k, l, e)
 
-pub file_read : (s : CoreState) (n file : ℕ) (y : FileState) → IsSound s → n ≡ file → file < (config_of s).files → y ≡ get_or s.parts.files n y → y ≡ get_or s.parts.files file no_file
+pub file_read : (s : CoreState) (n file : ℕ) (y : FileState) → IsSound s → n ≡ file → file < (config_of s).files
+    → y ≡ get_or s.parts.files n y → y ≡ get_or s.parts.files file no_file
 file_read s n file y h e l is = is ∙ (get_or_default s.parts.files n y no_file (file_in s n file h e l) ∙ ap (λ (k : ℕ). get_or s.parts.files k no_file) e)
 
 pub space_in : (s : CoreState) (n task : ℕ) → IsSound s → n ≡ task → 1 ≤ task → task ≤ (config_of s).tasks → n - 1 < length s.parts.spaces
 unfolding IsSound config_of
 space_in s n task h e low high = let k = h.1.spaces in omega (arith, k, low, high, e)
 
-pub space_read : (s : CoreState) (n task : ℕ) (y : Table) → IsSound s → n ≡ task → 1 ≤ task → task ≤ (config_of s).tasks → y ≡ get_or s.parts.spaces (n - 1) y → y ≡ table_of s.parts.spaces task
+pub space_read : (s : CoreState) (n task : ℕ) (y : Table) → IsSound s → n ≡ task → 1 ≤ task → task ≤ (config_of s).tasks
+    → y ≡ get_or s.parts.spaces (n - 1) y → y ≡ table_of s.parts.spaces task
 space_read s n task y h e low high is =
     let q : (task == 0) ≡ false = ne_eqb task 0 (λ z. omega (arith, z, low)) in
     rw q (is ∙ (get_or_default s.parts.spaces (n - 1) y no_table (space_in s n task h e low high) ∙ ap (λ (k : ℕ). get_or s.parts.spaces (k - 1) no_table) e))
@@ -33,7 +35,8 @@ pub seat_in : (s : CoreState) (n task : ℕ) → IsSound s → n ≡ task → 1 
 unfolding IsSound config_of
 seat_in s n task h e low high = let k = h.1.seats in omega (arith, k, low, high, e)
 
-pub seat_read : (s : CoreState) (n task : ℕ) (y : Seat) → IsSound s → n ≡ task → 1 ≤ task → task ≤ (config_of s).tasks → y ≡ get_or s.seats (n - 1) y → y ≡ seat_at s.seats task
+pub seat_read : (s : CoreState) (n task : ℕ) (y : Seat) → IsSound s → n ≡ task → 1 ≤ task → task ≤ (config_of s).tasks
+    → y ≡ get_or s.seats (n - 1) y → y ≡ seat_at s.seats task
 seat_read s n task y h e low high is =
     let q : (task == 0) ≡ false = ne_eqb task 0 (λ z. omega (arith, z, low)) in
     rw q (is ∙ (get_or_default s.seats (n - 1) y no_seat (seat_in s n task h e low high) ∙ ap (λ (k : ℕ). get_or s.seats (k - 1) no_seat) e))
@@ -43,4 +46,7 @@ few_tasks a b c d h = grind (arith, nat_tests, h)
 
 pub few_seats : (s : CoreState) → IsSound s → length s.seats ≤ 64
 unfolding IsSound
-few_seats s h = let l = few_tasks s.sizes.frames s.sizes.files s.sizes.slots s.sizes.tasks h.1.limits in let k = h.1.seats in omega (arith, k, l)
+few_seats s h =
+    let l = few_tasks s.sizes.frames s.sizes.files s.sizes.slots s.sizes.tasks h.1.limits in
+    let k = h.1.seats in
+    omega (arith, k, l)

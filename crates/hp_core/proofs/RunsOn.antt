@@ -1,13 +1,16 @@
 -- Runs of a core, event by event.
 use Rattle.std.proofs.Common.{◌≡◌, ℕ, ◌+◌, ◌<◌, List, [], ◌∷◌, ◌++◌, length, take, get_or, ◌≤◌, refl, sym, ◌∙◌, ap, subst, arith}
-use Rattle.std.specs.List.{zip}
+use Rattle.std.specs.List.{zip, HoldsAt}
+use Rattle.std.specs.Prelude.{true, ◌==◌}
+use Rattle.std.proofs.lemmas.Bool.Decides.{nat_tests}
+use Rattle.std.proofs.lemmas.List.Elements.{at_read}
 use Rattle.std.proofs.lemmas.Grind.{common_steps}
 use Rattle.std.proofs.lemmas.List.{take_more, take_all}
 use Rattle.hp_base.specs.declared.event.Event.{Event}
 use Rattle.hp_machine.specs.Events as rows
 use Rattle.hp_machine.specs.declared.outcome.Outcome.{Outcome}
 use Rattle.hp_core.specs.State.{CoreState, as_state}
-use Rattle.hp_core.specs.Runs.{Row, Run}
+use Rattle.hp_core.specs.Runs.{Row, Run, WantsGrowth}
 use Rattle.hp_core.proofs.Steps.{run_on}
 
 -- nothing happened yet
@@ -15,7 +18,8 @@ pub run_none : (s : CoreState) → Run s [] [] s
 unfolding Run
 run_none s = (refl, refl, refl)
 
-zip_more : (es : List Event) (os : List Outcome) (e : Event) (o : Outcome) → length os ≡ length es → zip (es ++ e ∷ []) (os ++ o ∷ []) ≡ zip es os ++ (e, o) ∷ []
+zip_more : (es : List Event) (os : List Outcome) (e : Event) (o : Outcome) → length os ≡ length es
+    → zip (es ++ e ∷ []) (os ++ o ∷ []) ≡ zip es os ++ (e, o) ∷ []
 zip_more [] [] e o l = refl
 zip_more [] (p ∷ os) e o l = absurd (omega (arith, l))
 zip_more (d ∷ es) [] e o l = absurd (omega (arith, l))
@@ -25,7 +29,8 @@ longer : {A : Type 0} (xs : List A) (x : A) → length (xs ++ x ∷ []) ≡ leng
 longer xs x = grind (arith, common_steps)
 
 -- one more event happened
-pub run_more : (s mid new : CoreState) (es : List Event) (os : List Outcome) (e : Event) (o : Outcome) → Run s es os mid → Row mid e o new → Run s (es ++ e ∷ []) (os ++ o ∷ []) new
+pub run_more : (s mid new : CoreState) (es : List Event) (os : List Outcome) (e : Event) (o : Outcome) → Run s es os mid
+    → Row mid e o new → Run s (es ++ e ∷ []) (os ++ o ∷ []) new
 unfolding Run Row
 run_more s mid new es os e o run row =
     let long : length (os ++ o ∷ []) ≡ length (es ++ e ∷ []) = omega (arith, run.1, longer os o, longer es e) in
@@ -38,7 +43,9 @@ run_long s new es os run = run.1
 pub ran_none : (s : CoreState) (os : List Outcome) → os ≡ [] → Run s [] os s
 ran_none s os e = subst (λ (xs : List Outcome). Run s [] xs s) (sym e) (run_none s)
 
-pub ran_next : (s mid new : CoreState) (es : List Event) (i : ℕ) (os more : List Outcome) (e : Event) (o : Outcome) → i < length es → e ≡ get_or es i e → more ≡ os ++ o ∷ [] → Run s (take i es) os mid → Row mid e o new → Run s (take (i + 1) es) more new
+pub ran_next : (s mid new : CoreState) (es : List Event) (i : ℕ) (os more : List Outcome) (e : Event) (o : Outcome)
+    → i < length es → e ≡ get_or es i e → more ≡ os ++ o ∷ [] → Run s (take i es) os mid → Row mid e o new
+    → Run s (take (i + 1) es) more new
 ran_next s mid new es i os more e o within is longer run row =
     subst (λ (xs : List Outcome). Run s (take (i + 1) es) xs new) (sym longer)
     (subst (λ (xs : List Event). Run s xs (os ++ o ∷ []) new) (sym (take_more es i e within ∙ ap (λ (x : Event). take i es ++ x ∷ []) (sym is)))
@@ -53,6 +60,23 @@ told_long s new es i os within run = run_long s new (take i es) os run ∙ taken
 pub ran_all : (s new : CoreState) (es : List Event) (i : ℕ) (os : List Outcome) → length es ≤ i → Run s (take i es) os new → Run s es os new
 ran_all s new es i os past run = subst (λ (xs : List Event). Run s xs os new) (take_all i es past) run
 
-pub ran_stopped : (s mid new : CoreState) (es : List Event) (i n : ℕ) (os : List Outcome) → i ≤ length es → n ≡ length os → new ≡ mid → Run s (take i es) os mid → (x : List Outcome) × Run s (take n es) x new
+pub ran_stopped : (s mid new : CoreState) (es : List Event) (i n : ℕ) (os : List Outcome) → i ≤ length es → n ≡ length os
+    → new ≡ mid → Run s (take i es) os mid → (x : List Outcome) × Run s (take n es) x new
 ran_stopped s mid new es i n os within long same run =
     (os, subst (λ (z : CoreState). Run s (take n es) os z) (sym same) (subst (λ (k : ℕ). Run s (take k es) os mid) (sym (long ∙ told_long s mid es i os within run)) run))
+
+-- of no events nothing happened
+pub ran_empty : (s : CoreState) (es : List Event) (os : List Outcome) → (length es == 0) ≡ true → os ≡ [] → Run s es os s
+ran_empty s [] os e none = ran_none s os none
+ran_empty s (x ∷ es) os e none = absurd (not_none (length (x ∷ es)) e (omega arith))
+  where
+    not_none : (n : ℕ) → (n == 0) ≡ true → 1 ≤ n → ⊥
+    not_none n e some = grind (arith, nat_tests)
+
+-- the event that didn't happen wanted growth, where the run stands
+pub wanted_at : (mid new : CoreState) (es : List Event) (i n : ℕ) (e : Event) → i < length es → e ≡ get_or es i e → n ≡ i
+    → new ≡ mid → WantsGrowth mid.parts mid.seats e
+    → HoldsAt (λ event. WantsGrowth new.parts new.seats event) es n
+wanted_at mid new es i n e within is long same wants =
+    subst (λ (k : ℕ). HoldsAt (λ event. WantsGrowth new.parts new.seats event) es k) (sym long)
+    (at_read es (λ event. WantsGrowth new.parts new.seats event) i e within is (subst (λ (s : CoreState). WantsGrowth s.parts s.seats e) (sym same) wants))

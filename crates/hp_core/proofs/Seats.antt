@@ -49,28 +49,33 @@ off_seat seats t y j low h = elim (same_or_other j 0) [
 ]
 
 -- a part of one seat changes
-seen_set : {B : Type 0} (v : Seat → B) (seats : List Seat) (t : ℕ) (y : Seat) → 1 ≤ t → t ≤ length seats → ◌≡◌ {A = ℕ → B} (λ j. v (seat_at (with_seat seats t y) j)) (put (λ j. v (seat_at seats j)) t (v y))
+seen_set : {B : Type 0} (v : Seat → B) (seats : List Seat) (t : ℕ) (y : Seat) → 1 ≤ t → t ≤ length seats
+    → ◌≡◌ {A = ℕ → B} (λ j. v (seat_at (with_seat seats t y) j)) (put (λ j. v (seat_at seats j)) t (v y))
 seen_set {B} v seats t y low high = fun_ext (λ j. elim (same_or_other j t) [
   | inl e ↦ subst (λ (w : ℕ). v (seat_at (with_seat seats t y) w) ≡ put (λ (k : ℕ). v (seat_at seats k)) t (v y) w) (sym e) (ap v (at_seat seats t y low high) ∙ sym (put_same (λ (k : ℕ). v (seat_at seats k)) t (v y)))
   | inr h ↦ ap v (off_seat seats t y j low h) ∙ sym (put_other (λ (k : ℕ). v (seat_at seats k)) t (v y) j h)
 ])
 
-pub calls_set : (seats : List Seat) (t : ℕ) (y : Seat) → 1 ≤ t → t ≤ length seats → calls_of (with_seat seats t y) ≡ put (calls_of seats) t y.call
+pub calls_set : (seats : List Seat) (t : ℕ) (y : Seat) → 1 ≤ t → t ≤ length seats
+    → calls_of (with_seat seats t y) ≡ put (calls_of seats) t y.call
 unfolding calls_of
 calls_set seats t y low high = seen_set (λ (s : Seat). s.call) seats t y low high
 
-pub lives_set : (seats : List Seat) (t : ℕ) (y : Seat) → 1 ≤ t → t ≤ length seats → lives_of (with_seat seats t y) ≡ put (lives_of seats) t y.life
+pub lives_set : (seats : List Seat) (t : ℕ) (y : Seat) → 1 ≤ t → t ≤ length seats
+    → lives_of (with_seat seats t y) ≡ put (lives_of seats) t y.life
 unfolding lives_of
 lives_set seats t y low high = seen_set (λ (s : Seat). s.life) seats t y low high
 
 put_known : {A : Type 0} (f : ℕ → A) (k : ℕ) (v : A) → f k ≡ v → put f k v ≡ f
 put_known {A} f k v e = subst (λ (w : A). put f k w ≡ f) e (put_self f k)
 
-pub lives_same : (seats : List Seat) (t : ℕ) (y : Seat) → 1 ≤ t → t ≤ length seats → y.life ≡ (seat_at seats t).life → lives_of (with_seat seats t y) ≡ lives_of seats
+pub lives_same : (seats : List Seat) (t : ℕ) (y : Seat) → 1 ≤ t → t ≤ length seats → y.life ≡ (seat_at seats t).life
+    → lives_of (with_seat seats t y) ≡ lives_of seats
 unfolding lives_of
 lives_same seats t y low high same = lives_set seats t y low high ∙ put_known (lives_of seats) t y.life (sym same)
 
-pub calls_same : (seats : List Seat) (t : ℕ) (y : Seat) → 1 ≤ t → t ≤ length seats → y.call ≡ (seat_at seats t).call → calls_of (with_seat seats t y) ≡ calls_of seats
+pub calls_same : (seats : List Seat) (t : ℕ) (y : Seat) → 1 ≤ t → t ≤ length seats → y.call ≡ (seat_at seats t).call
+    → calls_of (with_seat seats t y) ≡ calls_of seats
 unfolding calls_of
 calls_same seats t y low high same = calls_set seats t y low high ∙ put_known (calls_of seats) t y.call (sym same)
 
@@ -79,7 +84,8 @@ map_test : {P Q X Y : Type 0} (b : Bool) → (b ≡ true → P → X) → (b ≡
 map_test true first second m = first refl m
 map_test false first second m = second refl m
 
-map_option : {A P X : Type 0} {Q Y : A → Type 0} (o : Option A) → (o ≡ None → P → X) → ((x : A) → o ≡ Some x → Q x → Y x) → MatchOption o P Q → MatchOption o X Y
+map_option : {A P X : Type 0} {Q Y : A → Type 0} (o : Option A) → (o ≡ None → P → X) → ((x : A) → o ≡ Some x → Q x → Y x)
+    → MatchOption o P Q → MatchOption o X Y
 map_option None none some m = none refl m
 map_option (Some x) none some m = some x refl m
 
@@ -87,7 +93,8 @@ pub by_test : {P Q X : Type 0} (b : Bool) → MatchBool b P Q → (b ≡ true �
 by_test true m first second = first refl m
 by_test false m first second = second refl m
 
-pub by_option : {A P X : Type 0} {Q : A → Type 0} (o : Option A) → MatchOption o P Q → (o ≡ None → P → X) → ((x : A) → o ≡ Some x → Q x → X) → X
+pub by_option : {A P X : Type 0} {Q : A → Type 0} (o : Option A) → MatchOption o P Q → (o ≡ None → P → X)
+    → ((x : A) → o ≡ Some x → Q x → X) → X
 by_option None m none some = none refl m
 by_option (Some x) m none some = some x refl m
 
@@ -105,7 +112,8 @@ pub at_some : {A : Type 0} (P : Type 0) (Q : A → Type 0) (o : Option A) (x : A
 at_some {A} P Q o x e q = subst (λ (c : Option A). MatchOption c P Q) (sym e) q
 
 -- a begin of the seats is one of the machine
-pub begin_row : (p : PartsState) (seats new : List Seat) (t : ℕ) (op : Op) (told : Outcome) → BeginSeats seats t op told new → BeginRow (state_with p seats) t op told (state_with p new)
+pub begin_row : (p : PartsState) (seats new : List Seat) (t : ℕ) (op : Op) (told : Outcome) → BeginSeats seats t op told new
+    → BeginRow (state_with p seats) t op told (state_with p new)
 unfolding BeginRow lives_of calls_of
 begin_row p seats new t op told row =
     map_test (is_dead (seat_at seats t).life)
@@ -126,7 +134,8 @@ begin_row p seats new t op told row =
         λ i. record (state_with p seats) { life = lives i; calls = calls i }
 
 -- so is a kill
-pub kill_row : (p : PartsState) (seats new : List Seat) (t : ℕ) (told : Outcome) → KillSeats seats t told new → KillRow (state_with p seats) t told (state_with p new)
+pub kill_row : (p : PartsState) (seats new : List Seat) (t : ℕ) (told : Outcome) → KillSeats seats t told new
+    → KillRow (state_with p seats) t told (state_with p new)
 unfolding KillRow lives_of
 kill_row p seats new t told row =
     map_test (is_alive (seat_at seats t).life)
@@ -148,16 +157,20 @@ kill_row p seats new t told row =
         λ i. record (state_with p seats) { life = life i; calls = calls i }
 
 -- a step of a task that is dead, or has no call, is refused
-pub dead_row : (p : PartsState) (seats : List Seat) (t : ℕ) (grant : Bool) → is_dead (seat_at seats t).life ≡ true → StepRow (state_with p seats) t grant (outcome.Refused refusal.NotAlive) (state_with p seats)
+pub dead_row : (p : PartsState) (seats : List Seat) (t : ℕ) (grant : Bool) → is_dead (seat_at seats t).life ≡ true
+    → StepRow (state_with p seats) t grant (outcome.Refused refusal.NotAlive) (state_with p seats)
 unfolding StepRow lives_of calls_of
 dead_row p seats t grant dead = at_true _ _ _ dead (refl, refl)
 
-pub idle_row : (p : PartsState) (seats : List Seat) (t : ℕ) (grant : Bool) → is_dead (seat_at seats t).life ≡ false → (seat_at seats t).call ≡ None → StepRow (state_with p seats) t grant (outcome.Refused refusal.Idle) (state_with p seats)
+pub idle_row : (p : PartsState) (seats : List Seat) (t : ℕ) (grant : Bool) → is_dead (seat_at seats t).life ≡ false
+    → (seat_at seats t).call ≡ None → StepRow (state_with p seats) t grant (outcome.Refused refusal.Idle) (state_with p seats)
 unfolding StepRow lives_of calls_of
 idle_row p seats t grant alive none = at_false _ _ _ alive (at_none _ _ _ none (refl, refl))
 
 -- how tasks live after a step of one of them
-lives_step : (seats : List Seat) (t : ℕ) (y : Seat) (inflight : Call) → 1 ≤ t → t ≤ length seats → y.life ≡ life_after (seat_at seats t).life inflight y.call → lives_of (with_seat seats t y) ≡ lives_after (lives_of seats) t inflight y.call
+lives_step : (seats : List Seat) (t : ℕ) (y : Seat) (inflight : Call) → 1 ≤ t → t ≤ length seats
+    → y.life ≡ life_after (seat_at seats t).life inflight y.call
+    → lives_of (with_seat seats t y) ≡ lives_after (lives_of seats) t inflight y.call
 lives_step seats t y (call.Touch p) low high e = lives_same seats t y low high e
 lives_step seats t y (call.Map p) low high e = lives_same seats t y low high e
 lives_step seats t y (call.Alloc p) low high e = lives_same seats t y low high e
@@ -166,13 +179,17 @@ lives_step seats t y (call.Truncate p) low high e = lives_same seats t y low hig
 lives_step seats t y (call.Unmap p) low high e = lives_same seats t y low high e
 lives_step seats t y (call.Exit p) low high e = by_end y.call e
   where
-    by_end : (o : Option Call) → y.life ≡ life_after (seat_at seats t).life (call.Exit p) o → lives_of (with_seat seats t y) ≡ lives_after (lives_of seats) t (call.Exit p) o
+    by_end : (o : Option Call) → y.life ≡ life_after (seat_at seats t).life (call.Exit p) o
+        → lives_of (with_seat seats t y) ≡ lives_after (lives_of seats) t (call.Exit p) o
     by_end None d = lives_set seats t y low high ∙ ap (put (lives_of seats) t) d
     by_end (Some next) d = lives_same seats t y low high d
 
 -- a step of a seat's call is one of the machine
-pub step_row : (p n : PartsState) (seats : List Seat) (t : ℕ) (grant : Bool) (told : Outcome) (inflight : Call) (y : Seat) → is_dead (seat_at seats t).life ≡ false → (seat_at seats t).call ≡ Some inflight
-    → CallRow (pool_of p) t (is_killed (seat_at seats t).life) grant inflight told (pool_of n) y.call → y.life ≡ life_after (seat_at seats t).life inflight y.call → StepRow (state_with p seats) t grant told (state_with n (with_seat seats t y))
+pub step_row : (p n : PartsState) (seats : List Seat) (t : ℕ) (grant : Bool) (told : Outcome) (inflight : Call) (y : Seat)
+    → is_dead (seat_at seats t).life ≡ false → (seat_at seats t).call ≡ Some inflight
+    → CallRow (pool_of p) t (is_killed (seat_at seats t).life) grant inflight told (pool_of n) y.call
+    → y.life ≡ life_after (seat_at seats t).life inflight y.call
+    → StepRow (state_with p seats) t grant told (state_with n (with_seat seats t y))
 unfolding StepRow lives_of calls_of
 step_row p n seats t grant told inflight y alive some row lives =
     let l = seated seats t alive in

@@ -20,7 +20,9 @@ use Rattle.hp_core.proofs.Seats.{begin_row, kill_row, dead_row, idle_row, step_r
 pub if_some : {A : Type 0} (P : A → Type 0) (o : Option A) (x : A) → o ≡ Some x → IfSome o P → P x
 if_some {A} P o x e h = subst (λ (c : Option A). IfSome c P) e h
 
-step_is : (p after : PartsState) (seats new : List Seat) (t : ℕ) (grant : Bool) (told : Outcome) → EventFits p seats (Step t grant) → StepSeats p seats t grant told after new → rows.StepRow (state_with p seats) t grant told (state_with after new)
+step_is : (p after : PartsState) (seats new : List Seat) (t : ℕ) (grant : Bool) (told : Outcome)
+    → EventFits p seats (Step t grant) → StepSeats p seats t grant told after new
+    → rows.StepRow (state_with p seats) t grant told (state_with after new)
 unfolding StepSeats
 step_is p after seats new t grant told fits row =
     by_test (is_dead (seat_at seats t).life) row
@@ -30,23 +32,28 @@ step_is p after seats new t grant told fits row =
     (λ inflight some r. subst (λ (ss : List Seat). rows.StepRow (state_with p seats) t grant told (state_with after ss)) (sym r.3)
     (step_row p after seats t grant told inflight r.0 alive some r.1 r.2)))
   where
-    refused : (p after : PartsState) (seats new : List Seat) (t : ℕ) (grant : Bool) (told : Outcome) {why : Outcome} → told ≡ why → new ≡ seats → after ≡ p → rows.StepRow (state_with p seats) t grant why (state_with p seats) → rows.StepRow (state_with p seats) t grant told (state_with after new)
+    refused : (p after : PartsState) (seats new : List Seat) (t : ℕ) (grant : Bool) (told : Outcome) {why : Outcome} → told ≡ why
+        → new ≡ seats → after ≡ p → rows.StepRow (state_with p seats) t grant why (state_with p seats)
+        → rows.StepRow (state_with p seats) t grant told (state_with after new)
     refused p after seats new t grant told e d f h =
         subst (λ (q : PartsState). rows.StepRow (state_with p seats) t grant told (state_with q new)) (sym f) (subst (λ (ss : List Seat). rows.StepRow (state_with p seats) t grant told (state_with p ss)) (sym d) (subst (λ (o : Outcome). rows.StepRow (state_with p seats) t grant o (state_with p seats)) (sym e) h))
 
 -- what an event makes of the parts and the seats is a row of the machine
-pub event_row : (p after : PartsState) (seats new : List Seat) (e : Event) (told : Outcome) → EventFits p seats e → EventSeats p seats e told after new → rows.Row (state_with p seats) e told (state_with after new)
+pub event_row : (p after : PartsState) (seats new : List Seat) (e : Event) (told : Outcome) → EventFits p seats e
+    → EventSeats p seats e told after new → rows.Row (state_with p seats) e told (state_with after new)
 unfolding EventSeats
 event_row p after seats new (Begin t op) told fits row = subst (λ (q : PartsState). rows.BeginRow (state_with p seats) t op told (state_with q new)) (sym row.1) (begin_row p seats new t op told row.0)
 event_row p after seats new (Step t grant) told fits row = step_is p after seats new t grant told fits row
 event_row p after seats new (Kill t) told fits row = subst (λ (q : PartsState). rows.KillRow (state_with p seats) t told (state_with q new)) (sym row.1) (kill_row p seats new t told row.0)
 
 -- one more event of a run
-pub run_on : (s mid new : State) (es : List (Event × Outcome)) (e : Event) (told : Outcome) → rows.Run s es mid → rows.Row mid e told new → rows.Run s (es ++ (e, told) ∷ []) new
+pub run_on : (s mid new : State) (es : List (Event × Outcome)) (e : Event) (told : Outcome) → rows.Run s es mid
+    → rows.Row mid e told new → rows.Run s (es ++ (e, told) ∷ []) new
 run_on s mid new [] e told run row = (new, subst (λ (z : State). rows.Row z e told new) run row, refl)
 run_on s mid new (x ∷ es) e told run row = (run.0, run.1, run_on run.0 mid new es e told run.2 row)
 
-reached_after : (s new : State) (e : Event) (told : Outcome) → rows.IsReached s → rows.Row s e told new → new.geometry ≡ s.geometry → new.frames ≡ s.frames → rows.IsReached new
+reached_after : (s new : State) (e : Event) (told : Outcome) → rows.IsReached s → rows.Row s e told new
+    → new.geometry ≡ s.geometry → new.frames ≡ s.frames → rows.IsReached new
 reached_after s new e told reached row same long =
     (reached.0 ++ (e, told) ∷ [], subst (λ (o : State). rows.Run o (reached.0 ++ (e, told) ∷ []) new) (λ i. rows.opening (sym same i) (sym long i)) (run_on (rows.opening s.geometry s.frames) s new reached.0 e told reached.1 row))
 
@@ -57,7 +64,8 @@ Stepped s e told after new = EventSeats s.parts s.seats e told after new × Size
 abbrev pub with_fields : CoreState → PartsState → List Seat → CoreState
 with_fields s after new = record { sizes = s.sizes; parts = after; seats = new }
 
-sound_after : (s : CoreState) (e : Event) (told : Outcome) (after : PartsState) (new : List Seat) → IsSound s → EventFits s.parts s.seats e → Stepped s e told after new → IsSound (with_fields s after new)
+sound_after : (s : CoreState) (e : Event) (told : Outcome) (after : PartsState) (new : List Seat) → IsSound s
+    → EventFits s.parts s.seats e → Stepped s e told after new → IsSound (with_fields s after new)
 unfolding IsSound
 sound_after s e told after new h fits done =
     let z = done.1 in
@@ -76,13 +84,17 @@ sound_after s e told after new h fits done =
     )
 
 -- a core stays sound, whether or not it found memory
-pub sound_result : (s : CoreState) (e : Event) (result : Result Outcome AllocError) (after : PartsState) (new : List Seat) → IsSound s → EventFits s.parts s.seats e
-    → IfOk result (λ told. EventSeats s.parts s.seats e told after new) → SizesStay s.parts after → length new ≡ length s.seats → OnErr result ((after ≡ s.parts) × (new ≡ s.seats)) → IsSound (with_fields s after new)
+pub sound_result : (s : CoreState) (e : Event) (result : Result Outcome AllocError) (after : PartsState) (new : List Seat)
+    → IsSound s → EventFits s.parts s.seats e
+    → IfOk result (λ told. EventSeats s.parts s.seats e told after new) → SizesStay s.parts after → length new ≡ length s.seats
+    → OnErr result ((after ≡ s.parts) × (new ≡ s.seats)) → IsSound (with_fields s after new)
 sound_result s e (Ok told) after new h fits row sizes seats err = sound_after s e told after new h fits (row, sizes, seats)
 sound_result s e (Err x) after new h fits row sizes seats err = subst (λ (q : PartsState). IsSound (with_fields s q new)) (sym err.0) (subst (λ (ss : List Seat). IsSound (with_fields s s.parts ss)) (sym err.1) h)
 
 -- and the event is a row of the machine
-pub row_result : (s : CoreState) (e : Event) (result : Result Outcome AllocError) (after : PartsState) (new : List Seat) → EventFits s.parts s.seats e → IfOk result (λ told. EventSeats s.parts s.seats e told after new) → IfOk result (λ told. Row s e told (with_fields s after new))
+pub row_result : (s : CoreState) (e : Event) (result : Result Outcome AllocError) (after : PartsState) (new : List Seat)
+    → EventFits s.parts s.seats e → IfOk result (λ told. EventSeats s.parts s.seats e told after new)
+    → IfOk result (λ told. Row s e told (with_fields s after new))
 unfolding Row
 row_result s e (Ok told) after new fits row = (event_row s.parts after s.seats new e told fits row, refl)
 row_result s e (Err x) after new fits row = tt

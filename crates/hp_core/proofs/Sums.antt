@@ -20,7 +20,8 @@ seat_next xs k =
     rw q (ap (λ (n : ℕ). get_or xs n no_seat) back)
 
 -- of the first seats
-sum_upto : (f : Option Call → ℕ) (xs : List Seat) → f None ≡ 0 → (k : ℕ) → k ≤ length xs → sum_by (λ seat. f seat.call) (take k xs) ≡ total (suc k) (λ t. f (seat_at xs t).call)
+sum_upto : (f : Option Call → ℕ) (xs : List Seat) → f None ≡ 0 → (k : ℕ) → k ≤ length xs
+    → sum_by (λ seat. f seat.call) (take k xs) ≡ total (suc k) (λ t. f (seat_at xs t).call)
 unfolding total
 sum_upto f xs none zero l = omega (arith, none)
 sum_upto f xs none (suc k) l =
@@ -29,14 +30,16 @@ sum_upto f xs none (suc k) l =
     let same : take (suc k) xs ≡ take (k + 1) xs = ap (λ (n : ℕ). take n xs) (sym (add-one k)) in
     ap (λ (ys : List Seat). sum_by (λ (seat : Seat). f seat.call) ys) same ∙ (next ∙ (ap (λ (n : ℕ). n + f (get_or xs k no_seat).call) before ∙ ap (λ (y : Seat). total (suc k) (λ t. f (seat_at xs t).call) + f y.call) (sym (seat_next xs k))))
 
-pub sum_is : (f : Option Call → ℕ) (xs : List Seat) (n : ℕ) → f None ≡ 0 → n ≡ length xs → sum_by (λ seat. f seat.call) xs ≡ total (n + 1) (λ t. f (calls_of xs t))
+pub sum_is : (f : Option Call → ℕ) (xs : List Seat) (n : ℕ) → f None ≡ 0 → n ≡ length xs
+    → sum_by (λ seat. f seat.call) xs ≡ total (n + 1) (λ t. f (calls_of xs t))
 unfolding calls_of
 sum_is f xs n none e =
     let all = sum_upto f xs none (length xs) (omega arith) in
     let whole : take (length xs) xs ≡ xs = take_all (length xs) xs (omega arith) in
     sym (ap (λ (ys : List Seat). sum_by (λ (seat : Seat). f seat.call) ys) whole) ∙ (all ∙ ap (λ (k : ℕ). total k (λ t. f (seat_at xs t).call)) (omega (arith, e)))
 
-pub owed_is : (s : CoreState) (seats : List Seat) (a b : ℕ) → IsSound s → seats ≡ s.seats → b ≡ sum_by (λ seat. less seat.call) seats → a ≡ sum_by (λ seat. more seat.call) seats → (pos a -ℤ pos b) ≡ owed_of s
+pub owed_is : (s : CoreState) (seats : List Seat) (a b : ℕ) → IsSound s → seats ≡ s.seats
+    → b ≡ sum_by (λ seat. less seat.call) seats → a ≡ sum_by (λ seat. more seat.call) seats → (pos a -ℤ pos b) ≡ owed_of s
 unfolding IsSound owed_of
 owed_is s seats a b h e lesses mores =
     let n : length s.parts.spaces ≡ length s.seats = h.1.spaces ∙ sym h.1.seats in

@@ -75,7 +75,8 @@ same_holder k h e = ap (λ (o : Option ℕ). elim o [ None ↦ k | Some x ↦ x 
 nobody : {A : Type 0} (h : ℕ) → ◌≡◌ {A = Option ℕ} None (Some h) → A
 nobody {A} h e = absurd (true≢false (ap (λ (o : Option ℕ). elim o [ None ↦ true | Some x ↦ false ]) e))
 
-start_blocks : {P : Type 0} (x y z : Bool) (o : Option ℕ) (h : ℕ) (s : Pool) (a b c : Answer) (next here : P) (taken : Pool) → (if x || y || z then None else o) ≡ Some h
+start_blocks : {P : Type 0} (x y z : Bool) (o : Option ℕ) (h : ℕ) (s : Pool) (a b c : Answer) (next here : P) (taken : Pool)
+    → (if x || y || z then None else o) ≡ Some h
     → MatchBool x ((Blocked here h ≡ Ended a) × (s ≡ s)) (MatchBool y ((Blocked here h ≡ Ended b) × (s ≡ s)) (MatchBool z ((Blocked here h ≡ Ended c) × (s ≡ s)) (MatchOption o ((Blocked here h ≡ Moved next) × (s ≡ taken)) (λ k. (Blocked here h ≡ Blocked here k) × (s ≡ s)))))
 start_blocks true y z o h s a b c next here taken e = nobody h e
 start_blocks false true z o h s a b c next here taken e = nobody h e
@@ -84,20 +85,26 @@ start_blocks false false false None h s a b c next here taken e = nobody h e
 start_blocks false false false (Some k) h s a b c next here taken e = (ap (λ (u : ℕ). Blocked here u) (sym (same_holder k h e)), refl)
 
 -- whichever way it goes, the call moves on
-moves : {P : Type 0} (b : Bool) (turn : Turn P) (first second new : Pool) (x y : P) → MatchBool b ((turn ≡ Moved x) × (new ≡ first)) ((turn ≡ Moved y) × (new ≡ second)) → held_up turn ≡ None
+moves : {P : Type 0} (b : Bool) (turn : Turn P) (first second new : Pool) (x y : P)
+    → MatchBool b ((turn ≡ Moved x) × (new ≡ first)) ((turn ≡ Moved y) × (new ≡ second)) → held_up turn ≡ None
 moves true turn first second new x y r = ap held_up r.0
 moves false turn first second new x y r = ap held_up r.0
 
-moves_on : {P : Type 0} (a b : Bool) (turn : Turn P) (first second third new : Pool) (x y z : P) → MatchBool a ((turn ≡ Moved x) × (new ≡ first)) (MatchBool b ((turn ≡ Moved y) × (new ≡ second)) ((turn ≡ Moved z) × (new ≡ third))) → held_up turn ≡ None
+moves_on : {P : Type 0} (a b : Bool) (turn : Turn P) (first second third new : Pool) (x y z : P)
+    → MatchBool a ((turn ≡ Moved x) × (new ≡ first)) (MatchBool b ((turn ≡ Moved y) × (new ≡ second)) ((turn ≡ Moved z) × (new ≡ third)))
+    → held_up turn ≡ None
 moves_on true b turn first second third new x y z r = ap held_up r.0
 moves_on false b turn first second third new x y z r = moves b turn second third new y z r
 
-moves_in : {P : Type 0} (a b : Bool) (turn : Turn P) (first second third new : Pool) (x y z : P) → MatchBool a (MatchBool b ((turn ≡ Moved y) × (new ≡ second)) ((turn ≡ Moved z) × (new ≡ third))) ((turn ≡ Moved x) × (new ≡ first)) → held_up turn ≡ None
+moves_in : {P : Type 0} (a b : Bool) (turn : Turn P) (first second third new : Pool) (x y z : P)
+    → MatchBool a (MatchBool b ((turn ≡ Moved y) × (new ≡ second)) ((turn ≡ Moved z) × (new ≡ third))) ((turn ≡ Moved x) × (new ≡ first))
+    → held_up turn ≡ None
 moves_in true b turn first second third new x y z r = moves b turn second third new y z r
 moves_in false b turn first second third new x y z r = ap held_up r.0
 
 -- a turn of a map is held up by whom the reader names
-map_held : (p : PartsState) (t : ℕ) (killed grant : Bool) (phase : MapPhase) (turn : Turn MapPhase) (new : Pool) → MapRow (pool_of p) t killed grant phase turn new → held_up turn ≡ map_blocker p killed phase
+map_held : (p : PartsState) (t : ℕ) (killed grant : Bool) (phase : MapPhase) (turn : Turn MapPhase) (new : Pool)
+    → MapRow (pool_of p) t killed grant phase turn new → held_up turn ≡ map_blocker p killed phase
 unfolding holders_of
 map_held p t killed grant (at.Start q) turn new row =
     start_held (nat_le (length p.files) q.map.file) ((q.map.len == 0) || nat_lt LIMIT (q.map.from + q.map.len)) killed (slice_index_or p.locks q.map.file None) turn (pool_of p) new
@@ -114,7 +121,8 @@ map_held p t killed grant (at.Enter q) turn new row = ap (λ (u : Turn MapPhase)
 map_held p t killed grant (at.Leave q) turn new row = ap (λ (u : Turn MapPhase). held_up u) row.0
 
 -- and where it names someone, the turn that waits for it is a row
-map_blocks : (p : PartsState) (t : ℕ) (killed grant : Bool) (phase : MapPhase) (h : ℕ) → map_blocker p killed phase ≡ Some h → MapRow (pool_of p) t killed grant phase (Blocked phase h) (pool_of p)
+map_blocks : (p : PartsState) (t : ℕ) (killed grant : Bool) (phase : MapPhase) (h : ℕ) → map_blocker p killed phase ≡ Some h
+    → MapRow (pool_of p) t killed grant phase (Blocked phase h) (pool_of p)
 unfolding holders_of
 map_blocks p t killed grant (at.Start q) h e =
     start_blocks (nat_le (length p.files) q.map.file) ((q.map.len == 0) || nat_lt LIMIT (q.map.from + q.map.len)) killed (slice_index_or p.locks q.map.file None) h (pool_of p)
@@ -129,20 +137,23 @@ map_blocks p t killed grant (at.Enter q) h e = nobody h e
 map_blocks p t killed grant (at.Leave q) h e = nobody h e
 
 -- where a slot is wanted, a kill comes first
-want_blocks : {P : Type 0} (killed : Bool) (o : Option ℕ) (h : ℕ) (s taken : Pool) (At : Type 0) (next here : P) → (if killed then None else o) ≡ Some h
+want_blocks : {P : Type 0} (killed : Bool) (o : Option ℕ) (h : ℕ) (s taken : Pool) (At : Type 0) (next here : P)
+    → (if killed then None else o) ≡ Some h
     → MatchBool killed At (MatchOption o ((Blocked here h ≡ Moved next) × (s ≡ taken)) (λ k. (Blocked here h ≡ Blocked here k) × (s ≡ s)))
 want_blocks true o h s taken At next here e = nobody h e
 want_blocks false None h s taken At next here e = nobody h e
 want_blocks false (Some k) h s taken At next here e = (ap (λ (u : ℕ). Blocked here u) (sym (same_holder k h e)), refl)
 
 take_cases : {P : Type 0} (none all : Bool) (turn : Turn P) (s new : Pool) (no_frame : P) (Reserved Unreserved : Type 0)
-    → MatchBool none Reserved (MatchBool all ((turn ≡ Moved no_frame) × (new ≡ s)) Unreserved) → (Reserved → held_up turn ≡ None) → (Unreserved → held_up turn ≡ None) → held_up turn ≡ None
+    → MatchBool none Reserved (MatchBool all ((turn ≡ Moved no_frame) × (new ≡ s)) Unreserved) → (Reserved → held_up turn ≡ None)
+    → (Unreserved → held_up turn ≡ None) → held_up turn ≡ None
 take_cases true all turn s new no_frame Reserved Unreserved r first second = first r
 take_cases false true turn s new no_frame Reserved Unreserved r first second = ap held_up r.0
 take_cases false false turn s new no_frame Reserved Unreserved r first second = second r
 
 -- a frame is taken, or there is none
-take_held : {P : Type 0} (s : Pool) (missing : ℕ) (no_frame : P) (taken : ℕ → P) (turn : Turn P) (new : Pool) → TakeRow s missing no_frame taken turn new → held_up turn ≡ None
+take_held : {P : Type 0} (s : Pool) (missing : ℕ) (no_frame : P) (taken : ℕ → P) (turn : Turn P) (new : Pool)
+    → TakeRow s missing no_frame taken turn new → held_up turn ≡ None
 take_held s missing no_frame taken turn new row =
     take_cases (missing == 0) (frees s == s.resv) turn s new no_frame
     ((x : ℕ) × (s.frame x ≡ Free) × (1 ≤ s.resv) × Goes (taken x) (record s { frame = put s.frame x Hand; resv = s.resv - 1 }) turn new)
@@ -151,19 +162,22 @@ take_held s missing no_frame taken turn new row =
 
 -- a look for a page and its entry
 look_held : {P : Type 0} (place : Option (ℕ × ℕ)) (entry : Option ℕ) (turn : Turn P) (s new : Pool) (a : Answer) (next : ℕ × ℕ → P) (Reads : ℕ → Type 0)
-    → MatchOption place ((turn ≡ Ended a) × (new ≡ s)) (λ k. MatchOption entry ((turn ≡ Moved (next k)) × (new ≡ s)) Reads) → ((x : ℕ) → Reads x → held_up turn ≡ None) → held_up turn ≡ None
+    → MatchOption place ((turn ≡ Ended a) × (new ≡ s)) (λ k. MatchOption entry ((turn ≡ Moved (next k)) × (new ≡ s)) Reads)
+    → ((x : ℕ) → Reads x → held_up turn ≡ None) → held_up turn ≡ None
 look_held None entry turn s new a next Reads r reads = ap held_up r.0
 look_held (Some k) None turn s new a next Reads r reads = ap held_up r.0
 look_held (Some k) (Some x) turn s new a next Reads r reads = reads x r
 
 found_held : {P : Type 0} (a b : Bool) (turn : Turn P) (s new : Pool) (x z : P) (Reads : Type 0)
-    → MatchBool a ((turn ≡ Moved x) × (new ≡ s)) (MatchBool b Reads ((turn ≡ Moved z) × (new ≡ s))) → (Reads → held_up turn ≡ None) → held_up turn ≡ None
+    → MatchBool a ((turn ≡ Moved x) × (new ≡ s)) (MatchBool b Reads ((turn ≡ Moved z) × (new ≡ s)))
+    → (Reads → held_up turn ≡ None) → held_up turn ≡ None
 found_held true b turn s new x z Reads r reads = ap held_up r.0
 found_held false true turn s new x z Reads r reads = reads r
 found_held false false turn s new x z Reads r reads = ap held_up r.0
 
 -- a turn of a touch is held up by whom the reader names
-touch_held : (p : PartsState) (t : ℕ) (killed grant : Bool) (phase : TouchPhase) (turn : Turn TouchPhase) (new : Pool) → TouchRow (pool_of p) t killed grant phase turn new → held_up turn ≡ touch_blocker p killed phase
+touch_held : (p : PartsState) (t : ℕ) (killed grant : Bool) (phase : TouchPhase) (turn : Turn TouchPhase) (new : Pool)
+    → TouchRow (pool_of p) t killed grant phase turn new → held_up turn ≡ touch_blocker p killed phase
 unfolding holders_of
 touch_held p t killed grant (touch.Look q) turn new row = look_held _ _ turn _ new _ _ (λ x. (word : ℕ) × (frame_at p.bank.frames x ≡ Placed word) × Ends (answer_of q.access word) (record (pool_of p) { frame = frame_after q.access (frame_at p.bank.frames) x }) turn new) row (λ x r. ap held_up r.2.0)
 touch_held p t killed grant (touch.Want q) turn new row = by_test killed row
@@ -185,7 +199,8 @@ touch_held p t killed grant (touch.Found q) turn new row =
 touch_held p t killed grant (touch.Leave q) turn new row = ap held_up row.0
 
 -- and where it names someone, the turn that waits for it is a row
-touch_blocks : (p : PartsState) (t : ℕ) (killed grant : Bool) (phase : TouchPhase) (h : ℕ) → touch_blocker p killed phase ≡ Some h → TouchRow (pool_of p) t killed grant phase (Blocked phase h) (pool_of p)
+touch_blocks : (p : PartsState) (t : ℕ) (killed grant : Bool) (phase : TouchPhase) (h : ℕ) → touch_blocker p killed phase ≡ Some h
+    → TouchRow (pool_of p) t killed grant phase (Blocked phase h) (pool_of p)
 unfolding holders_of
 touch_blocks p t killed grant (touch.Look q) h e = nobody h e
 touch_blocks p t killed grant (touch.Want q) h e =
@@ -202,23 +217,27 @@ touch_blocks p t killed grant (touch.Found q) h e = nobody h e
 touch_blocks p t killed grant (touch.Leave q) h e = nobody h e
 
 -- the slot is taken, or its holder is waited for
-slot_held_up : {P : Type 0} (o : Option ℕ) (turn : Turn P) (s new taken : Pool) (next here : P) → MatchOption o ((turn ≡ Moved next) × (new ≡ taken)) (λ h. (turn ≡ Blocked here h) × (new ≡ s)) → held_up turn ≡ o
+slot_held_up : {P : Type 0} (o : Option ℕ) (turn : Turn P) (s new taken : Pool) (next here : P)
+    → MatchOption o ((turn ≡ Moved next) × (new ≡ taken)) (λ h. (turn ≡ Blocked here h) × (new ≡ s)) → held_up turn ≡ o
 slot_held_up None turn s new taken next here r = ap held_up r.0
 slot_held_up (Some h) turn s new taken next here r = ap held_up r.0
 
 -- the slot is left: to the next index, or on with the answer
 unslot_held : {P : Type 0} (o : Option Answer) (a b : Bool) (turn : Turn P) (after new : Pool) (x y z : P) (w : Answer → P)
-    → MatchOption o (MatchBool a ((turn ≡ Moved x) × (new ≡ after)) (MatchBool b ((turn ≡ Moved y) × (new ≡ after)) ((turn ≡ Moved z) × (new ≡ after)))) (λ k. (turn ≡ Moved (w k)) × (new ≡ after)) → held_up turn ≡ None
+    → MatchOption o (MatchBool a ((turn ≡ Moved x) × (new ≡ after)) (MatchBool b ((turn ≡ Moved y) × (new ≡ after)) ((turn ≡ Moved z) × (new ≡ after)))) (λ k. (turn ≡ Moved (w k)) × (new ≡ after))
+    → held_up turn ≡ None
 unslot_held None a b turn after new x y z w r = moves_on a b turn after after after new x y z r
 unslot_held (Some k) a b turn after new x y z w r = ap held_up r.0
 
 -- to the mapping with the least base, or to the end
-leads_on : {P : Type 0} (o : Option ℕ) (turn : Turn P) (after new : Pool) (x : P) (y : ℕ → P) → MatchOption o ((turn ≡ Moved x) × (new ≡ after)) (λ base. (turn ≡ Moved (y base)) × (new ≡ after)) → held_up turn ≡ None
+leads_on : {P : Type 0} (o : Option ℕ) (turn : Turn P) (after new : Pool) (x : P) (y : ℕ → P)
+    → MatchOption o ((turn ≡ Moved x) × (new ≡ after)) (λ base. (turn ≡ Moved (y base)) × (new ≡ after)) → held_up turn ≡ None
 leads_on None turn after new x y r = ap held_up r.0
 leads_on (Some base) turn after new x y r = ap held_up r.0
 
 -- a turn of an allocation is held up by whom the reader names
-alloc_held : (p : PartsState) (t : ℕ) (killed grant : Bool) (phase : AllocPhase) (turn : Turn AllocPhase) (new : Pool) → AllocRow (pool_of p) t killed grant phase turn new → held_up turn ≡ alloc_blocker p killed phase
+alloc_held : (p : PartsState) (t : ℕ) (killed grant : Bool) (phase : AllocPhase) (turn : Turn AllocPhase) (new : Pool)
+    → AllocRow (pool_of p) t killed grant phase turn new → held_up turn ≡ alloc_blocker p killed phase
 unfolding holders_of
 alloc_held p t killed grant (alloc.Start q) turn new row =
     start_held (nat_le (length p.files) q.allocation.file) (is_bad q.allocation.from q.allocation.len) killed (slice_index_or p.locks q.allocation.file None) turn (pool_of p) new
@@ -239,7 +258,8 @@ alloc_held p t killed grant (alloc.Unslot q) turn new row = unslot_held q.answer
 alloc_held p t killed grant (alloc.Extend q) turn new row = ap held_up row.0
 alloc_held p t killed grant (alloc.Leave q) turn new row = ap held_up row.0
 
-alloc_blocks : (p : PartsState) (t : ℕ) (killed grant : Bool) (phase : AllocPhase) (h : ℕ) → alloc_blocker p killed phase ≡ Some h → AllocRow (pool_of p) t killed grant phase (Blocked phase h) (pool_of p)
+alloc_blocks : (p : PartsState) (t : ℕ) (killed grant : Bool) (phase : AllocPhase) (h : ℕ) → alloc_blocker p killed phase ≡ Some h
+    → AllocRow (pool_of p) t killed grant phase (Blocked phase h) (pool_of p)
 unfolding holders_of
 alloc_blocks p t killed grant (alloc.Start q) h e =
     start_blocks (nat_le (length p.files) q.allocation.file) (is_bad q.allocation.from q.allocation.len) killed (slice_index_or p.locks q.allocation.file None) h (pool_of p)
@@ -259,7 +279,8 @@ alloc_blocks p t killed grant (alloc.Extend q) h e = nobody h e
 alloc_blocks p t killed grant (alloc.Leave q) h e = nobody h e
 
 -- of a punch
-punch_held : (p : PartsState) (t : ℕ) (killed grant : Bool) (phase : PunchPhase) (turn : Turn PunchPhase) (new : Pool) → PunchRow (pool_of p) t killed grant phase turn new → held_up turn ≡ punch_blocker p killed phase
+punch_held : (p : PartsState) (t : ℕ) (killed grant : Bool) (phase : PunchPhase) (turn : Turn PunchPhase) (new : Pool)
+    → PunchRow (pool_of p) t killed grant phase turn new → held_up turn ≡ punch_blocker p killed phase
 unfolding holders_of
 punch_held p t killed grant (punch.Start q) turn new row =
     start_held (nat_le (length p.files) q.hole.file) (is_bad q.hole.from q.hole.len) killed (slice_index_or p.locks q.hole.file None) turn (pool_of p) new
@@ -273,7 +294,8 @@ punch_held p t killed grant (punch.Free q) turn new row = ap held_up row.0
 punch_held p t killed grant (punch.Unslot q) turn new row = moves _ turn _ _ new _ _ row
 punch_held p t killed grant (punch.Leave q) turn new row = ap held_up row.0
 
-punch_blocks : (p : PartsState) (t : ℕ) (killed grant : Bool) (phase : PunchPhase) (h : ℕ) → punch_blocker p killed phase ≡ Some h → PunchRow (pool_of p) t killed grant phase (Blocked phase h) (pool_of p)
+punch_blocks : (p : PartsState) (t : ℕ) (killed grant : Bool) (phase : PunchPhase) (h : ℕ) → punch_blocker p killed phase ≡ Some h
+    → PunchRow (pool_of p) t killed grant phase (Blocked phase h) (pool_of p)
 unfolding holders_of
 punch_blocks p t killed grant (punch.Start q) h e =
     start_blocks (nat_le (length p.files) q.hole.file) (is_bad q.hole.from q.hole.len) killed (slice_index_or p.locks q.hole.file None) h (pool_of p)
@@ -288,7 +310,8 @@ punch_blocks p t killed grant (punch.Unslot q) h e = nobody h e
 punch_blocks p t killed grant (punch.Leave q) h e = nobody h e
 
 -- of a truncation
-truncate_held : (p : PartsState) (t : ℕ) (killed grant : Bool) (phase : TruncatePhase) (turn : Turn TruncatePhase) (new : Pool) → TruncateRow (pool_of p) t killed grant phase turn new → held_up turn ≡ truncate_blocker p killed phase
+truncate_held : (p : PartsState) (t : ℕ) (killed grant : Bool) (phase : TruncatePhase) (turn : Turn TruncatePhase) (new : Pool)
+    → TruncateRow (pool_of p) t killed grant phase turn new → held_up turn ≡ truncate_blocker p killed phase
 unfolding holders_of
 truncate_held p t killed grant (truncate.Start q) turn new row =
     start_held (nat_le (length p.files) q.truncation.file) (nat_lt LIMIT q.truncation.new) killed (slice_index_or p.locks q.truncation.file None) turn (pool_of p) new
@@ -304,7 +327,8 @@ truncate_held p t killed grant (truncate.Tail q) turn new row = ap held_up row.0
 truncate_held p t killed grant (truncate.Settle q) turn new row = ap held_up row.1.0
 truncate_held p t killed grant (truncate.Leave q) turn new row = ap held_up row.0
 
-truncate_blocks : (p : PartsState) (t : ℕ) (killed grant : Bool) (phase : TruncatePhase) (h : ℕ) → truncate_blocker p killed phase ≡ Some h → TruncateRow (pool_of p) t killed grant phase (Blocked phase h) (pool_of p)
+truncate_blocks : (p : PartsState) (t : ℕ) (killed grant : Bool) (phase : TruncatePhase) (h : ℕ)
+    → truncate_blocker p killed phase ≡ Some h → TruncateRow (pool_of p) t killed grant phase (Blocked phase h) (pool_of p)
 unfolding holders_of
 truncate_blocks p t killed grant (truncate.Start q) h e =
     start_blocks (nat_le (length p.files) q.truncation.file) (nat_lt LIMIT q.truncation.new) killed (slice_index_or p.locks q.truncation.file None) h (pool_of p)
@@ -321,16 +345,19 @@ truncate_blocks p t killed grant (truncate.Settle q) h e = nobody h e
 truncate_blocks p t killed grant (truncate.Leave q) h e = nobody h e
 
 -- unmaps and exits wait for nobody
-moves_or_ends : {P : Type 0} (b : Bool) (turn : Turn P) (s new : Pool) (x : P) (a : Answer) → MatchBool b ((turn ≡ Moved x) × (new ≡ s)) ((turn ≡ Ended a) × (new ≡ s)) → held_up turn ≡ None
+moves_or_ends : {P : Type 0} (b : Bool) (turn : Turn P) (s new : Pool) (x : P) (a : Answer)
+    → MatchBool b ((turn ≡ Moved x) × (new ≡ s)) ((turn ≡ Ended a) × (new ≡ s)) → held_up turn ≡ None
 moves_or_ends true turn s new x a r = ap held_up r.0
 moves_or_ends false turn s new x a r = ap held_up r.0
 
-unmap_held : (p : PartsState) (t : ℕ) (killed grant : Bool) (phase : UnmapPhase) (turn : Turn UnmapPhase) (new : Pool) → UnmapRow (pool_of p) t killed grant phase turn new → held_up turn ≡ None
+unmap_held : (p : PartsState) (t : ℕ) (killed grant : Bool) (phase : UnmapPhase) (turn : Turn UnmapPhase) (new : Pool)
+    → UnmapRow (pool_of p) t killed grant phase turn new → held_up turn ≡ None
 unmap_held p t killed grant (unmap.Start q) turn new row = moves_or_ends _ turn _ new _ _ row
 unmap_held p t killed grant (unmap.Clear q) turn new row = ap held_up row.0
 unmap_held p t killed grant (unmap.Drop q) turn new row = ap held_up row.0
 
-exit_held : (p : PartsState) (t : ℕ) (killed grant : Bool) (phase : ExitPhase) (turn : Turn ExitPhase) (new : Pool) → ExitRow (pool_of p) t killed grant phase turn new → held_up turn ≡ None
+exit_held : (p : PartsState) (t : ℕ) (killed grant : Bool) (phase : ExitPhase) (turn : Turn ExitPhase) (new : Pool)
+    → ExitRow (pool_of p) t killed grant phase turn new → held_up turn ≡ None
 exit_held p t killed grant exit.Start turn new row = leads_on _ turn _ new _ _ row
 exit_held p t killed grant (exit.Clear q) turn new row = ap held_up row.0
 exit_held p t killed grant (exit.Drop q) turn new row = leads_on _ turn _ new _ _ row
@@ -341,7 +368,8 @@ told_held inflight (Moved p) = refl
 told_held inflight (Blocked p h) = refl
 told_held inflight (Ended a) = refl
 
-call_held : (p : PartsState) (t : ℕ) (killed grant : Bool) (inflight : Call) (told : Outcome) (new : Pool) (next : Option Call) → rows.CallRow (pool_of p) t killed grant inflight told new next → told_of told ≡ call_blocker p killed inflight
+call_held : (p : PartsState) (t : ℕ) (killed grant : Bool) (inflight : Call) (told : Outcome) (new : Pool) (next : Option Call)
+    → rows.CallRow (pool_of p) t killed grant inflight told new next → told_of told ≡ call_blocker p killed inflight
 unfolding rows.CallRow
 call_held p t killed grant (call.Touch phase) told new next row = ap told_of row.2 ∙ (told_held call.Touch row.0 ∙ touch_held p t killed grant phase row.0 new row.1)
 call_held p t killed grant (call.Map phase) told new next row = ap told_of row.2 ∙ (told_held call.Map row.0 ∙ map_held p t killed grant phase row.0 new row.1)
@@ -351,7 +379,8 @@ call_held p t killed grant (call.Truncate phase) told new next row = ap told_of 
 call_held p t killed grant (call.Unmap phase) told new next row = ap told_of row.2 ∙ (told_held call.Unmap row.0 ∙ unmap_held p t killed grant phase row.0 new row.1)
 call_held p t killed grant (call.Exit phase) told new next row = ap told_of row.2 ∙ (told_held call.Exit row.0 ∙ exit_held p t killed grant phase row.0 new row.1)
 
-call_blocks : (p : PartsState) (t : ℕ) (killed grant : Bool) (inflight : Call) (h : ℕ) → call_blocker p killed inflight ≡ Some h → rows.CallRow (pool_of p) t killed grant inflight (outcome.Blocked h) (pool_of p) (Some inflight)
+call_blocks : (p : PartsState) (t : ℕ) (killed grant : Bool) (inflight : Call) (h : ℕ) → call_blocker p killed inflight ≡ Some h
+    → rows.CallRow (pool_of p) t killed grant inflight (outcome.Blocked h) (pool_of p) (Some inflight)
 unfolding rows.CallRow
 call_blocks p t killed grant (call.Touch phase) h e = (Blocked phase h, touch_blocks p t killed grant phase h e, refl, refl)
 call_blocks p t killed grant (call.Map phase) h e = (Blocked phase h, map_blocks p t killed grant phase h e, refl, refl)
@@ -362,7 +391,8 @@ call_blocks p t killed grant (call.Unmap phase) h e = nobody h e
 call_blocks p t killed grant (call.Exit phase) h e = nobody h e
 
 -- a step is held up by whom the reader names
-step_held : (s : CoreState) (t : ℕ) (grant : Bool) (told : Outcome) (new : State) → IsSound s → rows.StepRow (as_state s) t grant told new → told_of told ≡ task_blocker s.parts (seat_at s.seats t)
+step_held : (s : CoreState) (t : ℕ) (grant : Bool) (told : Outcome) (new : State) → IsSound s
+    → rows.StepRow (as_state s) t grant told new → told_of told ≡ task_blocker s.parts (seat_at s.seats t)
 unfolding IsSound rows.StepRow lives_of calls_of
 step_held s t grant told new h row =
     by_test (is_dead (seat_at s.seats t).life) row
@@ -371,7 +401,9 @@ step_held s t grant told new h row =
     (λ none r. ap told_of r.0 ∙ rw (alive, none) refl)
     (λ inflight some r. call_held s.parts t _ grant inflight told r.0 r.1 r.2 ∙ rw (alive, some) refl))
 
-blocker_parts : (p : PartsState) (dead killed : Bool) (o : Option Call) (h : ℕ) → (if dead then None else seat_call_blocker p killed o) ≡ Some h → (dead ≡ false) × ((inflight : Call) × (o ≡ Some inflight) × (call_blocker p killed inflight ≡ Some h))
+blocker_parts : (p : PartsState) (dead killed : Bool) (o : Option Call) (h : ℕ)
+    → (if dead then None else seat_call_blocker p killed o) ≡ Some h
+    → (dead ≡ false) × ((inflight : Call) × (o ≡ Some inflight) × (call_blocker p killed inflight ≡ Some h))
 blocker_parts p true killed o h e = nobody h e
 blocker_parts p false killed None h e = nobody h e
 blocker_parts p false killed (Some c) h e = (refl, (c, refl, e))
@@ -388,7 +420,8 @@ lives_on lives t (call.Exit phase) next = refl
 same_calls : (calls : ℕ → Option Call) (t : ℕ) (inflight : Call) → calls t ≡ Some inflight → put calls t (Some inflight) ≡ calls
 same_calls calls t inflight e = subst (λ (o : Option Call). put calls t o ≡ calls) e (put_self calls t)
 
-step_blocks : (s : CoreState) (t : ℕ) (grant : Bool) (h : ℕ) → task_blocker s.parts (seat_at s.seats t) ≡ Some h → rows.StepRow (as_state s) t grant (outcome.Blocked h) (as_state s)
+step_blocks : (s : CoreState) (t : ℕ) (grant : Bool) (h : ℕ) → task_blocker s.parts (seat_at s.seats t) ≡ Some h
+    → rows.StepRow (as_state s) t grant (outcome.Blocked h) (as_state s)
 unfolding rows.StepRow lives_of calls_of
 step_blocks s t grant h e =
     let b = blocker_parts s.parts (is_dead (seat_at s.seats t).life) (is_killed (seat_at s.seats t).life) (seat_at s.seats t).call h e in

@@ -1,10 +1,10 @@
 pub mod Blockers
 pub mod Copies
 pub mod Fits
-pub mod Laws
 pub mod Opening
 pub mod Pictures
 pub mod Readers
+pub mod RunLaws
 pub mod Runs
 pub mod Seats
 pub mod Sound

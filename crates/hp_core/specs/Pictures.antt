@@ -1,17 +1,18 @@
 -- A core as plain data.
-use Rattle.std.specs.Prelude.{◌≡◌, ℕ, ◌+◌, ◌<◌, ◌≤◌, ◌==◌, Bool, false, Option, Some, None, length, is_some, IsTrue, All, AllPairs, Contains, HoldsAt, count_by}
+use Rattle.std.specs.Prelude.{◌≡◌, ℕ, ◌+◌, ◌<◌, ◌≤◌, ◌==◌, Bool, false, ◌&&◌, Option, Some, None, length, is_some, IsTrue, All, AllPairs, HoldsAt, count_by}
 use Rattle.std.specs.FinMap as map
 use Rattle.std.specs.Ordering.{nat_cmp}
 use Rattle.hp_base.specs.Numbers.{bit, total}
-use Rattle.hp_base.specs.Mappings.{find}
-use Rattle.hp_base.specs.declared.limits.TheConstants.{LIMIT}
+use Rattle.hp_base.specs.Indices.{count_below}
+use Rattle.hp_base.specs.Mappings.{find, is_there}
+use Rattle.hp_base.specs.declared.limits.TheConstants.{LIMIT, VPNS}
 use Rattle.hp_machine.specs.State.{State, is_free}
 use Rattle.hp_machine.specs.Views.{hand}
 use Rattle.hp_audit.specs.Findings.{is_reserved}
 use Rattle.hp_audit.specs.declared.picture.FilePicture.{FilePicture}
 use Rattle.hp_audit.specs.declared.picture.Picture.{Picture}
 use Rattle.hp_core.specs.State.{CoreState, as_state}
-use Rattle.hp_core.specs.Readers.{free_of, resv_of, owed_of, entries_of}
+use Rattle.hp_core.specs.Readers.{free_of, resv_of, owed_of}
 
 -- the picture is of file f: its size, whether its lock has a holder, its regions in order, no two of which
 -- overlap or touch, and its pages in order of their indices
@@ -30,12 +31,17 @@ abbrev pub is_that : (frame : ℕ) → Option ℕ → Bool
 is_that x None = false
 is_that x (Some y) = y == x
 
--- some virtual page of the task stands for that index of the file, and is translated to the frame
-abbrev pub IsTranslation : State → ℕ × ℕ × ℕ × ℕ → Type 0
-IsTranslation s entry = (v : ℕ) × (s.table entry.0 v ≡ Some entry.3) × (find (s.areas entry.0) v ≡ Some (entry.1, entry.2))
+-- the entry is of that task, index of a file, and frame
+abbrev pub is_entry : (task file index frame : ℕ) → ℕ × ℕ × ℕ × ℕ → Bool
+is_entry t f i x entry = (entry.0 == t) && (entry.1 == f) && (entry.2 == i) && (entry.3 == x)
+
+-- the virtual page of the task stands for that index of the file, and is translated to the frame
+abbrev pub translates : State → (task file index frame vpn : ℕ) → Bool
+translates s t f i x v = is_there (find (s.areas t) v) f i && is_that x (s.table t v)
 
 -- The picture is of the core: each frame is among the free ones once where it is free, and never where it
--- isn't; it is in as many hands as calls have it in theirs; and there is an entry for each translation.
+-- isn't; it is in as many hands as calls have it in theirs; and an entry stands there as often as virtual
+-- pages of its task, all of which lie below VPNS, stand for its index and are translated to its frame.
 pub record IsPicture (s : CoreState) (p : Picture) : Type 0 where
   pub free : (x : ℕ) → count_by (λ frame. frame == x) p.free.items ≡ bit (is_free ((as_state s).frame x))
   pub frees : length p.free.items ≡ free_of s
@@ -44,6 +50,4 @@ pub record IsPicture (s : CoreState) (p : Picture) : Type 0 where
   pub hands : (x : ℕ) → count_by (λ frame. frame == x) p.hands.items ≡ total ((as_state s).geometry.tasks + 1) (λ t. bit (is_that x (hand ((as_state s).calls t))))
   pub as_many : length p.files.items ≡ (as_state s).geometry.files
   pub files : (f : ℕ) → f < (as_state s).geometry.files → HoldsAt (IsFilePicture (as_state s) f) p.files.items f
-  pub sound : All (IsTranslation (as_state s)) p.tables.items
-  pub whole : (t v x f i : ℕ) → (as_state s).table t v ≡ Some x → find ((as_state s).areas t) v ≡ Some (f, i) → Contains p.tables.items (t, f, i, x)
-  pub entries : length p.tables.items ≡ total ((as_state s).geometry.tasks + 1) (entries_of s)
+  pub tables : (t f i x : ℕ) → count_by (is_entry t f i x) p.tables.items ≡ count_below (translates (as_state s) t f i x) VPNS

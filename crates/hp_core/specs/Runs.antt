@@ -10,6 +10,7 @@ use Rattle.hp_machine.specs.Events as events
 use Rattle.hp_machine.specs.Headline as head
 use Rattle.hp_machine.specs.Wants.{Wants}
 use Rattle.hp_machine.specs.declared.outcome.Outcome.{Outcome}
+use Rattle.hp_machine.specs.declared.outcome.Outcome.TheVariants as outcome
 use Rattle.hp_base.specs.declared.limits.TheConstants.{LIMIT, VPNS}
 use Rattle.hp_fault.specs.State.{PartsState}
 use Rattle.hp_fault.specs.View.{pool_of}
@@ -19,6 +20,10 @@ use Rattle.hp_core.specs.State.{CoreState, as_state, seat_at}
 -- the geometry of a pool of these sizes
 abbrev pub geometry : Sizes → machine.Geometry
 geometry z = record { files = z.files; slots = z.slots; tasks = z.tasks; limit = LIMIT; space = VPNS }
+
+-- the state of the machine has the sizes of the core's config
+abbrev pub IsOfConfig : CoreState → Type 0
+IsOfConfig s = ((as_state s).geometry ≡ geometry s.sizes) × ((as_state s).frames ≡ s.sizes.frames)
 
 -- the core is the machine's opening state of that config
 unfoldable pub IsOpening : Config → CoreState → Type 0
@@ -31,6 +36,15 @@ Row s event told new = events.Row (as_state s) event told (as_state new) × (new
 -- the events, one after the other, have these outcomes and lead there: a run of the machine
 unfoldable pub Run : CoreState → List Event → List Outcome → CoreState → Type 0
 Run s list told new = events.Run (as_state s) (zip list told) (as_state new) × (length told ≡ length list) × (new.sizes ≡ s.sizes)
+
+-- an outcome of which nothing came: the step was blocked, or the event refused
+abbrev pub IsIdle : Outcome → Type 0
+IsIdle outcome.Begun = ⊥
+IsIdle (outcome.Moved p) = ⊥
+IsIdle (outcome.Blocked holder) = Unit {0}
+IsIdle (outcome.Ended a) = ⊥
+IsIdle outcome.Marked = ⊥
+IsIdle (outcome.Refused why) = Unit {0}
 
 -- the headline of the machine's state
 unfoldable pub Headline : CoreState → Type 0

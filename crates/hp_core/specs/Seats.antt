@@ -1,5 +1,5 @@
 -- What an event makes of the seats, as lists: what the code does before it is read as the machine.
-use Rattle.std.specs.Prelude.{◌≡◌, ℕ, Bool, ◌-◌, ◌&&◌, not, List, Some, slice_set, MatchBool, MatchOption}
+use Rattle.std.specs.Prelude.{◌≡◌, ℕ, Bool, ◌-◌, ◌&&◌, not, List, Some, IfSome, slice_set, MatchBool, MatchOption}
 use Rattle.hp_base.specs.declared.event.Op.{Op}
 use Rattle.hp_machine.specs.State.{is_alive, is_dead, is_killed}
 use Rattle.hp_machine.specs.Events.{first, is_exit, CallRow}
@@ -10,6 +10,8 @@ use Rattle.hp_machine.specs.declared.outcome.Refusal.{Refusal}
 use Rattle.hp_machine.specs.declared.outcome.Refusal.TheVariants as refusal
 use Rattle.hp_base.specs.declared.event.Event.{Event}
 use Rattle.hp_base.specs.declared.event.Event.TheVariants.{Begin, Step, Kill}
+use Rattle.hp_machine.specs.Standings.{standing}
+use Rattle.hp_fault.specs.Turns.{IfWanting}
 use Rattle.hp_fault.specs.State.{PartsState}
 use Rattle.hp_fault.specs.View.{pool_of}
 use Rattle.hp_core.specs.declared.seat.Seat.{Seat}
@@ -53,3 +55,9 @@ unfoldable pub EventSeats : PartsState → List Seat → Event → Outcome → P
 EventSeats p seats (Begin t op) told after new = BeginSeats seats t op told new × (after ≡ p)
 EventSeats p seats (Step t grant) told after new = StepSeats p seats t grant told after new
 EventSeats p seats (Kill t) told after new = KillSeats seats t told new × (after ≡ p)
+
+-- where a step is blocked, parts and seats are what they were; no begin and no kill is
+abbrev pub BlockedStays : PartsState → List Seat → Event → PartsState → List Seat → Type 0
+BlockedStays p seats (Begin t op) after new = ⊥
+BlockedStays p seats (Step t grant) after new = IfSome (seat_at seats t).call (λ inflight. IfWanting (standing inflight).wants ((after ≡ p) × (new ≡ seats)))
+BlockedStays p seats (Kill t) after new = ⊥

@@ -1,13 +1,12 @@
 -- A core as the machine sees it.
-use Rattle.std.specs.Prelude.{ℕ, ◌-◌, ◌==◌, List, Option, None, slice_index_or, if◌then◌else◌, length}
+use Rattle.std.specs.Prelude.{ℕ, ◌-◌, ◌==◌, List, Option, None, slice_index_or, if◌then◌else◌}
 use Rattle.hp_base.specs.Text.{Sizes}
-use Rattle.hp_frames.specs.Bank.{frame_at}
 use Rattle.hp_machine.specs.State.{State}
 use Rattle.hp_machine.specs.declared.call.Call.{Call}
 use Rattle.hp_machine.specs.declared.outcome.Life.{Life}
 use Rattle.hp_machine.specs.declared.outcome.Life.TheVariants.{Dead}
 use Rattle.hp_fault.specs.State.{PartsState}
-use Rattle.hp_fault.specs.View.{geometry_of, holders_of, sizes_of, pendings_of, spares_of, sets_of, pages_of, prepared_of, areas_of, entries_of}
+use Rattle.hp_fault.specs.View.{pool_of}
 use Rattle.hp_core.specs.declared.seat.Seat.{Seat}
 
 -- the numbers of its config, what its parts keep, and the seat of each task
@@ -32,24 +31,7 @@ lives_of seats t = (seat_at seats t).life
 
 -- the parts and the seats as a state of the machine
 abbrev pub state_with : PartsState → List Seat → State
-state_with p seats = record {
-  geometry = geometry_of p;
-  frames = length p.bank.frames;
-  frame = frame_at p.bank.frames;
-  resv = p.bank.resv;
-  slots = holders_of p.slots;
-  locks = holders_of p.locks;
-  size = sizes_of p.files;
-  pending = pendings_of p.files;
-  spare = spares_of p.files;
-  reserved = sets_of p.files;
-  pages = pages_of p.files;
-  prepared = prepared_of p.spaces;
-  areas = areas_of p.spaces;
-  table = entries_of p.spaces;
-  life = lives_of seats;
-  calls = calls_of seats;
-}
+state_with p seats = record { pool = pool_of p; life = lives_of seats; calls = calls_of seats }
 
 abbrev pub as_state : CoreState → State
 as_state s = state_with s.parts s.seats

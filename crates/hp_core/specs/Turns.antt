@@ -9,6 +9,16 @@ use Rattle.hp_machine.specs.declared.call.Turn.{Turn}
 use Rattle.hp_machine.specs.declared.outcome.Life.{Life}
 use Rattle.hp_machine.specs.declared.outcome.Life.TheVariants.{Dead}
 use Rattle.hp_machine.specs.declared.outcome.Outcome.{Outcome}
+use Rattle.hp_machine.specs.declared.outcome.Outcome.TheVariants as outcome
+
+-- where an outcome is Blocked, that holds
+abbrev pub IfToldBlocked : Outcome → Type 0 → Type 0
+IfToldBlocked outcome.Begun Q = Unit {0}
+IfToldBlocked (outcome.Moved p) Q = Unit {0}
+IfToldBlocked (outcome.Blocked holder) Q = Q
+IfToldBlocked (outcome.Ended a) Q = Unit {0}
+IfToldBlocked outcome.Marked Q = Unit {0}
+IfToldBlocked (outcome.Refused why) Q = Unit {0}
 
 -- how a turn is told and the call that it leaves; without memory the call as it stood
 abbrev pub finished : {P : Type 0} → (P → Call) → Result (Turn P) (Stopped P) → Result (Outcome × Option Call) Call

@@ -2,7 +2,7 @@
 ghost use Rattle.std.specs.Prelude.{◌≡◌, IfOk, OnErr, All};
 ghost use Rattle.hp_base.specs.Text.{sizes};
 ghost use Rattle.hp_core.specs.State.{CoreState};
-ghost use Rattle.hp_core.specs.Runs.{Row, Run, IsOpening, Headline, WantsGrowth};
+ghost use Rattle.hp_core.specs.Runs.{Row, Run, IsOpening, IsOfConfig, IsIdle, Headline, WantsGrowth};
 ghost use Rattle.hp_core.specs.Readers.{config_of};
 
 use crate::events::step_event;
@@ -64,20 +64,23 @@ impl Core {
     }
 
     /// One event. After want of memory nothing changed; it comes only in a granted step whose row wants
-    /// growth.
+    /// growth. A step that is blocked and an event that is refused change nothing either.
     pub fn step(&mut self, event: Event) -> Result<Outcome, AllocError>
         ensures row { IfOk result (λ told. Row self.old event told self.new) }
         ensures err { OnErr result (self.new ≡ self.old) }
         ensures growth { OnErr result (WantsGrowth self.old.parts self.old.seats event) }
+        ensures idle { IfOk result (λ told. IsIdle told → self.new ≡ self.old) }
         ensures headline { Headline self.new }
         ensures config { config_of self.new ≡ config_of self.old }
     {
         step_event(&mut self.parts, &mut self.seats, event)
     }
 
-    /// What holds of every pool, whatever happened to it: the headline. There is nothing to run.
+    /// What holds of every pool, whatever happened to it: the headline; and that its state is of the sizes that `config`
+    /// tells. There is nothing to run.
     pub fn always(&self)
-        ensures { Headline self.now }
+        ensures headline { Headline self.now }
+        ensures config { IsOfConfig self.now }
     {
         let _ = &self.config;
     }

@@ -6,7 +6,9 @@ ghost use Rattle.hp_machine.specs.Wants.{Wants};
 ghost use Rattle.hp_fault.specs.State.{state_of, SizesStay};
 ghost use Rattle.hp_fault.specs.View.{view};
 ghost use Rattle.hp_core.specs.Fits.{EventFits, StepFits};
-ghost use Rattle.hp_core.specs.Seats.{BeginSeats, StepSeats, KillSeats, EventSeats};
+ghost use Rattle.hp_core.specs.Seats.{BeginSeats, StepSeats, KillSeats, EventSeats, BlockedStays};
+ghost use Rattle.hp_core.specs.Turns.{IfToldBlocked};
+ghost use Rattle.hp_base.specs.declared.event.Event.TheVariants.{Step};
 ghost use Rattle.hp_core.specs.State.{state_with, seat_at};
 ghost use Rattle.hp_core.specs.Runs.{StepWants, WantsGrowth};
 
@@ -86,6 +88,7 @@ fn is_exit(op: &Op) -> bool
 // A Begin of an operation.
 fn begin(seats: &mut Vec<Seat>, task: Task, op: Op) -> Outcome
     ensures row { BeginSeats seats.old.items task op result seats.new.items }
+    ensures told { IfToldBlocked result ⊥ }
     ensures seats { length seats.new.items ≡ length seats.old.items }
 {
     let number = task.number() as usize;
@@ -110,6 +113,7 @@ fn begin(seats: &mut Vec<Seat>, task: Task, op: Op) -> Outcome
 // A Kill of a task.
 fn kill(seats: &mut Vec<Seat>, task: Task) -> Outcome
     ensures row { KillSeats seats.old.items task result seats.new.items }
+    ensures told { IfToldBlocked result ⊥ }
     ensures seats { length seats.new.items ≡ length seats.old.items }
 {
     let number = task.number() as usize;
@@ -136,6 +140,7 @@ fn step_task(
 ) -> Result<Outcome, AllocError>
     requires { StepFits (state_of parts.old) seats.old.items task }
     ensures row { IfOk result (λ told. StepSeats (state_of parts.old) seats.old.items task grant told (state_of parts.new) seats.new.items) }
+    ensures blocked { IfOk result (λ told. IfToldBlocked told (BlockedStays (state_of parts.old) seats.old.items (Step task grant) (state_of parts.new) seats.new.items)) }
     ensures sizes { SizesStay (state_of parts.old) (state_of parts.new) }
     ensures seats { length seats.new.items ≡ length seats.old.items }
     ensures err { OnErr result ((state_of parts.new ≡ state_of parts.old) × (seats.new.items ≡ seats.old.items)) }
@@ -166,6 +171,7 @@ pub fn step_event(
 ) -> Result<Outcome, AllocError>
     requires { EventFits (state_of parts.old) seats.old.items event }
     ensures row { IfOk result (λ told. EventSeats (state_of parts.old) seats.old.items event told (state_of parts.new) seats.new.items) }
+    ensures blocked { IfOk result (λ told. IfToldBlocked told (BlockedStays (state_of parts.old) seats.old.items event (state_of parts.new) seats.new.items)) }
     ensures sizes { SizesStay (state_of parts.old) (state_of parts.new) }
     ensures seats { length seats.new.items ≡ length seats.old.items }
     ensures err { OnErr result ((state_of parts.new ≡ state_of parts.old) × (seats.new.items ≡ seats.old.items)) }
@@ -173,10 +179,7 @@ pub fn step_event(
 {
     match event {
         Event::Begin(task, op) => Ok(begin(seats, task, op)),
-        Event::Step(task, grant) => {
-            let told = step_task(parts, seats, task, grant)?;
-            Ok(told)
-        }
+        Event::Step(task, grant) => step_task(parts, seats, task, grant),
         Event::Kill(task) => Ok(kill(seats, task)),
     }
 }

@@ -2,7 +2,8 @@
 //! on, and looks at a field, which brings to hand what always holds of a core.
 ghost use Rattle.hp_machine.specs.Events.{IsReached};
 ghost use Rattle.hp_core.specs.State.{as_state};
-ghost use Rattle.hp_core.specs.Laws.{NeverShort, TouchTakes, AllocTakes, PromisedIsServed, TruncationCuts, FewOwnSteps, BlockedByHolders, SlotHoldersGoOn, LockHoldersWaitForSlots, SomeCallGoesOn};
+ghost use Rattle.hp_laws.specs.Laws.{AllocNeverLacks, AllocTakes, BlockedByHolders, EvictedStays, EvictsFew, LockHoldersWaitForSlots, LosesUnderLock, NeverShort, SlotHoldersGoOn, SomeCallGoesOn, TouchNeverLacks, TouchTakes, TruncationCuts};
+ghost use Rattle.hp_laws.specs.Protocol.{BareWhereMade, ChangesAreCalls, HandsApart, LiesWithin, PagesAreReserved, PassedIsBare, SparesSuffice};
 
 use crate::core_state::Core;
 
@@ -40,28 +41,11 @@ impl Core {
         let _ = &self.config;
     }
 
-    /// A load or store whose index a map has promised, and nothing took back, answers with the word or done
-    /// where no step of it is denied and its task isn't killed.
-    pub fn a_promised_touch_is_served(&self)
-        ensures { PromisedIsServed (as_state self.now) }
-    {
-        hp_laws::a_promised_touch_is_served();
-        let _ = &self.config;
-    }
-
     /// Where a truncation ends, nothing of its file at or above the new size is translated, cached or reserved.
     pub fn a_truncation_leaves_nothing_above(&self)
         ensures { TruncationCuts (as_state self.now) }
     {
         hp_laws::a_truncation_leaves_nothing_above();
-        let _ = &self.config;
-    }
-
-    /// A call that begins here ends within its own steps.
-    pub fn own_steps_are_few(&self)
-        ensures { FewOwnSteps (as_state self.now) }
-    {
-        hp_laws::own_steps_are_few();
         let _ = &self.config;
     }
 
@@ -95,6 +79,106 @@ impl Core {
         ensures { SomeCallGoesOn (as_state self.now) }
     {
         hp_laws::some_call_is_not_blocked();
+        let _ = &self.config;
+    }
+
+    /// The pending changes of a file's map are the calls that stand at changed, abort, taken or accounted on it.
+    pub fn pending_changes_are_calls(&self)
+        ensures { ChangesAreCalls (as_state self.now) }
+    {
+        hp_laws::pending_changes_are_calls();
+        let _ = &self.config;
+    }
+
+    /// A file's map has a spare descriptor for each pending change.
+    pub fn each_change_has_a_spare(&self)
+        ensures { SparesSuffice (as_state self.now) }
+    {
+        hp_laws::each_change_has_a_spare();
+        let _ = &self.config;
+    }
+
+    /// An index that has a page is reserved.
+    pub fn pages_are_reserved(&self)
+        ensures { PagesAreReserved (as_state self.now) }
+    {
+        hp_laws::pages_are_reserved();
+        let _ = &self.config;
+    }
+
+    /// What is reserved or has a page lies below the limit of a file that is there: so what `reserved` and `pages`
+    /// count is all there is.
+    pub fn nothing_lies_beyond_the_limits(&self)
+        ensures { LiesWithin (as_state self.now) }
+    {
+        hp_laws::nothing_lies_beyond_the_limits();
+        let _ = &self.config;
+    }
+
+    /// Two calls that hold a frame stand at different indices.
+    pub fn hands_are_apart(&self)
+        ensures { HandsApart (as_state self.now) }
+    {
+        hp_laws::hands_are_apart();
+        let _ = &self.config;
+    }
+
+    /// Where a call makes a page there is none yet.
+    pub fn pages_are_made_where_none_is(&self)
+        ensures { BareWhereMade (as_state self.now) }
+    {
+        hp_laws::pages_are_made_where_none_is();
+        let _ = &self.config;
+    }
+
+    /// An index that a truncation has passed has no page, and no other call works there.
+    pub fn passed_indices_stay_bare(&self)
+        ensures { PassedIsBare (as_state self.now) }
+    {
+        hp_laws::passed_indices_stay_bare();
+        let _ = &self.config;
+    }
+
+    /// A reserved index goes only at a delete or a tail, under the file lock, and never one on which another call
+    /// counts.
+    pub fn reservations_go_under_the_lock(&self)
+        ensures { LosesUnderLock (as_state self.now) }
+    {
+        hp_laws::reservations_go_under_the_lock();
+        let _ = &self.config;
+    }
+
+    /// A touch whose change found nothing missing never answers that there is no frame, whatever comes between.
+    pub fn a_touch_that_misses_nothing_never_lacks_a_frame(&self)
+        ensures { TouchNeverLacks (as_state self.now) }
+    {
+        hp_laws::a_touch_that_misses_nothing_never_lacks_a_frame();
+        let _ = &self.config;
+    }
+
+    /// An allocation whose change found nothing missing at an index doesn't leave that index for want of a frame,
+    /// whatever comes between.
+    pub fn an_alloc_that_misses_nothing_never_lacks_a_frame(&self)
+        ensures { AllocNeverLacks (as_state self.now) }
+    {
+        hp_laws::an_alloc_that_misses_nothing_never_lacks_a_frame();
+        let _ = &self.config;
+    }
+
+    /// An index from which a truncation takes the page stays reserved until the truncation takes its tail out of
+    /// the reserve map.
+    pub fn an_evicted_index_stays_reserved(&self)
+        ensures { EvictedStays (as_state self.now) }
+    {
+        hp_laws::an_evicted_index_stays_reserved();
+        let _ = &self.config;
+    }
+
+    /// A truncation evicted no more pages than its tail takes indices out.
+    pub fn a_truncation_evicts_no_more_than_it_removes(&self)
+        ensures { EvictsFew (as_state self.now) }
+    {
+        hp_laws::a_truncation_evicts_no_more_than_it_removes();
         let _ = &self.config;
     }
 }

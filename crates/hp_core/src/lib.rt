@@ -1,6 +1,6 @@
 //! The core: one state machine over events, which holds the parts of a pool and a seat for each task.
 //!
-//! It stands on hp_fault, whose steps it drives, and on hp_laws, whose theorems it inherits. A core is seen
+//! It stands on hp_fault and hp_remove, whose steps it drives, and on hp_laws, whose theorems it inherits. A core is seen
 //! as its parts and seats, read as a state of hp_machine; its invariant is that a run of the machine reached
 //! that state. So each event is a row of the machine, and whatever is proved of every run holds of every core.
 //! It knows no text, no thread and no client.
@@ -16,6 +16,7 @@ mod owing;
 mod picture;
 pub mod readers;
 pub mod run;
+mod run_laws;
 pub mod seat;
 mod waiting;
 pub mod words;
@@ -27,6 +28,3 @@ pub use hp_machine::{Life, Outcome, Phase, Refusal};
 pub use readers::Tally;
 pub use run::RunFault;
 pub use seat::Seat;
-
-#[cfg(test)]
-mod tests;

@@ -1,7 +1,7 @@
 //! A list of events, one after the other.
-ghost use Rattle.std.specs.Prelude.{◌≡◌, ◌≤◌, List, IfOk, IfErr, length, take};
+ghost use Rattle.std.specs.Prelude.{◌≡◌, ◌<◌, ◌⊎◌, List, HoldsAt, IfOk, IfErr, length, take};
 ghost use Rattle.hp_machine.specs.declared.outcome.Outcome.{Outcome};
-ghost use Rattle.hp_core.specs.Runs.{Run, Headline};
+ghost use Rattle.hp_core.specs.Runs.{Run, Headline, WantsGrowth};
 
 use crate::core_state::Core;
 use hp_base::{Answer, Event};
@@ -20,7 +20,10 @@ impl Core {
     /// The events, one after the other, with their outcomes.
     pub fn run(&mut self, alloc: Global, events: &[Event]) -> Result<Vec<Outcome>, RunFault>
         ensures run { IfOk result (λ told. Run self.old events.now told.items self.new) }
-        ensures within { IfErr result (λ fault. fault.done ≤ length events.now) }
+        ensures within { IfErr result (λ fault. fault.done < length events.now) }
+        // There was no room for the outcomes, or the event that didn't happen is a step whose row wants growth.
+        ensures wanted { IfErr result (λ fault. (fault.done ≡ 0)
+            ⊎ HoldsAt (λ event. WantsGrowth self.new.parts self.new.seats event) events.now fault.done) }
         ensures stopped { IfErr result (λ fault. (told : List Outcome) × Run self.old (take fault.done events.now) told self.new) }
         ensures headline { Headline self.new }
     {
@@ -28,6 +31,9 @@ impl Core {
         // The checker of borrows asks for a mention of the type that an outcome may hold.
         let _none: Option<Answer> = None;
         let mut told = Vec::new(alloc);
+        if events.is_empty() {
+            return Ok(told);
+        }
         if told.reserve(events.len()).is_err() {
             return Err(RunFault { done: 0 });
         }

@@ -1,11 +1,12 @@
 -- From the row of a turn that names no phase, the row of an operation.
-use Rattle.std.proofs.Common.{◌≡◌, ℕ, ap}
+use Rattle.std.proofs.Common.{◌≡◌, ℕ, ap, refl}
 use Rattle.std.specs.Prelude.{Bool, true, false, Option, Some, None, MatchBool, MatchOption, nat_le}
 use Rattle.hp_base.specs.declared.answer.Answer.{Answer}
 use Rattle.hp_machine.specs.State.{Pool, slot_of}
 use Rattle.hp_machine.specs.Parts.{StartRow, WantSlotRow}
 use Rattle.hp_machine.specs.declared.call.Turn.{Turn}
-use Rattle.hp_fault.specs.Turns.{carried}
+use Rattle.hp_machine.specs.declared.call.Turn.TheVariants.{Moved, Blocked, Ended}
+use Rattle.hp_fault.specs.Turns.{carried, IfBlocked}
 
 -- which way a test goes, there and here
 map_test : {P Q X Y : Type 0} (b : Bool) → (P → X) → (Q → Y) → MatchBool b P Q → MatchBool b X Y
@@ -16,15 +17,25 @@ map_option : {A P X : Type 0} {Q Y : A → Type 0} (o : Option A) → (P → X) 
 map_option None none some m = none m
 map_option (Some x) none some m = some x m
 
-carry_leaf : {P : Type 0} (here next : P) (turn wanted : Turn (Unit {0})) (new after : Pool) → (turn ≡ wanted) × (new ≡ after) → (carried here next turn ≡ carried here next wanted) × (new ≡ after)
+carry_leaf : {P : Type 0} (here next : P) (turn wanted : Turn (Unit {0})) (new after : Pool) → (turn ≡ wanted) × (new ≡ after)
+    → (carried here next turn ≡ carried here next wanted) × (new ≡ after)
 carry_leaf here next turn wanted new after e = (ap (carried here next) e.0, e.1)
 
-pub carry_want : {P : Type 0} (s : Pool) (t f i : ℕ) (here next : P) (turn : Turn (Unit {0})) (new : Pool) → WantSlotRow s t f i tt tt turn new → WantSlotRow s t f i here next (carried here next turn) new
+pub carry_want : {P : Type 0} (s : Pool) (t f i : ℕ) (here next : P) (turn : Turn (Unit {0})) (new : Pool)
+    → WantSlotRow s t f i tt tt turn new → WantSlotRow s t f i here next (carried here next turn) new
 carry_want s t f i here next turn new row = map_option (s.slots (slot_of s.geometry f i)) (carry_leaf here next turn _ new _) (λ _. carry_leaf here next turn _ new _) row
 
-pub carry_start : {P : Type 0} (s : Pool) (t : ℕ) (killed : Bool) (f : ℕ) (bad : Bool) (at_kill : Answer) (here next : P) (turn : Turn (Unit {0})) (new : Pool) → StartRow s t killed f bad at_kill tt tt turn new → StartRow s t killed f bad at_kill here next (carried here next turn) new
+pub carry_start : {P : Type 0} (s : Pool) (t : ℕ) (killed : Bool) (f : ℕ) (bad : Bool) (at_kill : Answer) (here next : P) (turn : Turn (Unit {0})) (new : Pool)
+    → StartRow s t killed f bad at_kill tt tt turn new → StartRow s t killed f bad at_kill here next (carried here next turn) new
 carry_start s t killed f bad at_kill here next turn new row =
     map_test (nat_le s.geometry.files f) (carry_leaf here next turn _ new _)
     (map_test bad (carry_leaf here next turn _ new _)
     (map_test killed (carry_leaf here next turn _ new _)
     (map_option (s.locks f) (carry_leaf here next turn _ new _) (λ _. carry_leaf here next turn _ new _)))) row
+
+-- a blocked call stands again where it stood
+pub carry_blocked : {P : Type 0} (here next : P) (turn : Turn (Unit {0})) (Q : Type 0) → IfBlocked turn (λ _. Q)
+    → IfBlocked (carried here next turn) (λ again. (again ≡ here) × Q)
+carry_blocked here next (Moved u) Q h = tt
+carry_blocked here next (Blocked u holder) Q h = (refl, h)
+carry_blocked here next (Ended a) Q h = tt

@@ -7,7 +7,7 @@ use Rattle.std.specs.FinMap.{FinMap, get, insert, remove, gets}
 use Rattle.std.proofs.lemmas.Bool.{ne_eqb}
 use Rattle.std.proofs.lemmas.Bool.Decides.{nat_tests}
 use Rattle.std.proofs.lemmas.Grind.{common_steps}
-use Rattle.std.proofs.lemmas.List.{get_or-set_same, get_or-set_other, length-set}
+use Rattle.std.proofs.lemmas.List.{get_or-set_same, get_or-set_other, get_or_past, get_or_read, set-get_or, length-set}
 use Rattle.std.proofs.lemmas.Option.{get_or_from_slice_get, slice_get-get_or, slice_get_within}
 use Rattle.hp_base.specs.Numbers.{put, put2}
 use Rattle.hp_base.proofs.Counting.{count_below-ext}
@@ -46,13 +46,16 @@ holders_at xs x = refl
 get_inserted : (m : FinMap nat_cmp ℕ) (k x : ℕ) → ◌≡◌ {A = ℕ → Option ℕ} (λ j. get (insert m k x) j) (put (λ j. get m j) k (Some x))
 get_inserted m k x = fun_ext (λ j. here j (put_tells (λ j. get m j) k (Some x) j))
   where
-    here : (j : ℕ) → ((j ≡ k) × (put (λ j. get m j) k (Some x) j ≡ Some x)) ⊎ ((j ≢ k) × (put (λ j. get m j) k (Some x) j ≡ get m j)) → get (insert m k x) j ≡ put (λ j. get m j) k (Some x) j
+    here : (j : ℕ)
+        → ((j ≡ k) × (put (λ j. get m j) k (Some x) j ≡ Some x)) ⊎ ((j ≢ k) × (put (λ j. get m j) k (Some x) j ≡ get m j))
+        → get (insert m k x) j ≡ put (λ j. get m j) k (Some x) j
     here j tells = grind (arith, gets, nat_tests)
 
 get_removed : (m : FinMap nat_cmp ℕ) (k : ℕ) → ◌≡◌ {A = ℕ → Option ℕ} (λ j. get (remove m k) j) (put (λ j. get m j) k None)
 get_removed m k = fun_ext (λ j. here j (put_tells (λ j. get m j) k None j))
   where
-    here : (j : ℕ) → ((j ≡ k) × (put (λ j. get m j) k None j ≡ None)) ⊎ ((j ≢ k) × (put (λ j. get m j) k None j ≡ get m j)) → get (remove m k) j ≡ put (λ j. get m j) k None j
+    here : (j : ℕ) → ((j ≡ k) × (put (λ j. get m j) k None j ≡ None)) ⊎ ((j ≢ k) × (put (λ j. get m j) k None j ≡ get m j))
+        → get (remove m k) j ≡ put (λ j. get m j) k None j
     here j tells = grind (arith, gets, nat_tests)
 
 -- files
@@ -76,31 +79,38 @@ pub sizes_set : (xs : List FileState) (f : ℕ) (y : FileState) → f < length x
 unfolding sizes_of
 sizes_set xs f y l = at_set (λ file. file.size) no_file xs f y l
 
-pub sizes_same : (xs : List FileState) (f : ℕ) (y : FileState) → f < length xs → y.size ≡ (slice_index_or xs f no_file).size → sizes_of (slice_set xs f y) ≡ sizes_of xs
+pub sizes_same : (xs : List FileState) (f : ℕ) (y : FileState) → f < length xs → y.size ≡ (slice_index_or xs f no_file).size
+    → sizes_of (slice_set xs f y) ≡ sizes_of xs
 unfolding sizes_of
 sizes_same xs f y l e = at_same (λ file. file.size) no_file xs f y l e
 
-pub pendings_set : (xs : List FileState) (f : ℕ) (y : FileState) → f < length xs → pendings_of (slice_set xs f y) ≡ put (pendings_of xs) f y.map.pending
+pub pendings_set : (xs : List FileState) (f : ℕ) (y : FileState) → f < length xs
+    → pendings_of (slice_set xs f y) ≡ put (pendings_of xs) f y.map.pending
 unfolding pendings_of
 pendings_set xs f y l = at_set (λ file. file.map.pending) no_file xs f y l
 
-pub pendings_same : (xs : List FileState) (f : ℕ) (y : FileState) → f < length xs → y.map.pending ≡ (slice_index_or xs f no_file).map.pending → pendings_of (slice_set xs f y) ≡ pendings_of xs
+pub pendings_same : (xs : List FileState) (f : ℕ) (y : FileState) → f < length xs
+    → y.map.pending ≡ (slice_index_or xs f no_file).map.pending → pendings_of (slice_set xs f y) ≡ pendings_of xs
 unfolding pendings_of
 pendings_same xs f y l e = at_same (λ file. file.map.pending) no_file xs f y l e
 
-pub spares_set : (xs : List FileState) (f : ℕ) (y : FileState) → f < length xs → spares_of (slice_set xs f y) ≡ put (spares_of xs) f y.map.spare
+pub spares_set : (xs : List FileState) (f : ℕ) (y : FileState) → f < length xs
+    → spares_of (slice_set xs f y) ≡ put (spares_of xs) f y.map.spare
 unfolding spares_of
 spares_set xs f y l = at_set (λ file. file.map.spare) no_file xs f y l
 
-pub spares_same : (xs : List FileState) (f : ℕ) (y : FileState) → f < length xs → y.map.spare ≡ (slice_index_or xs f no_file).map.spare → spares_of (slice_set xs f y) ≡ spares_of xs
+pub spares_same : (xs : List FileState) (f : ℕ) (y : FileState) → f < length xs
+    → y.map.spare ≡ (slice_index_or xs f no_file).map.spare → spares_of (slice_set xs f y) ≡ spares_of xs
 unfolding spares_of
 spares_same xs f y l e = at_same (λ file. file.map.spare) no_file xs f y l e
 
-pub sets_set : (xs : List FileState) (f : ℕ) (y : FileState) → f < length xs → sets_of (slice_set xs f y) ≡ put (sets_of xs) f (is_member y.map.regions)
+pub sets_set : (xs : List FileState) (f : ℕ) (y : FileState) → f < length xs
+    → sets_of (slice_set xs f y) ≡ put (sets_of xs) f (is_member y.map.regions)
 unfolding sets_of
 sets_set xs f y l = at_set {B = ℕ → Bool} (λ file. is_member file.map.regions) no_file xs f y l
 
-pub sets_same : (xs : List FileState) (f : ℕ) (y : FileState) → f < length xs → y.map.regions ≡ (slice_index_or xs f no_file).map.regions → sets_of (slice_set xs f y) ≡ sets_of xs
+pub sets_same : (xs : List FileState) (f : ℕ) (y : FileState) → f < length xs
+    → y.map.regions ≡ (slice_index_or xs f no_file).map.regions → sets_of (slice_set xs f y) ≡ sets_of xs
 unfolding sets_of
 sets_same xs f y l e = at_same {B = ℕ → Bool} (λ file. is_member file.map.regions) no_file xs f y l (ap {B = ℕ → Bool} (λ (rs : List Region). is_member rs) e)
 
@@ -112,23 +122,30 @@ pub pages_are : (xs : List FileState) (f : ℕ) → ◌≡◌ {A = ℕ → Optio
 unfolding pages_of
 pages_are xs f = refl
 
-pub pages_same : (xs : List FileState) (f : ℕ) (y : FileState) → f < length xs → y.cache ≡ (slice_index_or xs f no_file).cache → pages_of (slice_set xs f y) ≡ pages_of xs
+pub pages_same : (xs : List FileState) (f : ℕ) (y : FileState) → f < length xs → y.cache ≡ (slice_index_or xs f no_file).cache
+    → pages_of (slice_set xs f y) ≡ pages_of xs
 unfolding pages_of
 pages_same xs f y l e = at_same {B = ℕ → Option ℕ} (λ file. get file.cache) no_file xs f y l (ap {B = ℕ → Option ℕ} (λ (m : FinMap nat_cmp ℕ). get m) e)
 
 -- one page comes, or goes
-pages_put : (xs : List FileState) (f i : ℕ) (o : Option ℕ) (y : FileState) → f < length xs → ◌≡◌ {A = ℕ → Option ℕ} (λ j. get y.cache j) (put (λ j. get (slice_index_or xs f no_file).cache j) i o) → pages_of (slice_set xs f y) ≡ put2 (pages_of xs) f i o
+pages_put : (xs : List FileState) (f i : ℕ) (o : Option ℕ) (y : FileState) → f < length xs
+    → ◌≡◌ {A = ℕ → Option ℕ} (λ j. get y.cache j) (put (λ j. get (slice_index_or xs f no_file).cache j) i o)
+    → pages_of (slice_set xs f y) ≡ put2 (pages_of xs) f i o
 unfolding pages_of
 pages_put xs f i o y l e = at_set {B = ℕ → Option ℕ} (λ file. get file.cache) no_file xs f y l ∙ ap (λ (m : ℕ → Option ℕ). put (λ (k : ℕ). get (slice_index_or xs k no_file).cache) f m) e
 
-pub pages_placed : (xs : List FileState) (f i x : ℕ) (y : FileState) → f < length xs → y.cache ≡ insert (slice_index_or xs f no_file).cache i x → pages_of (slice_set xs f y) ≡ put2 (pages_of xs) f i (Some x)
+pub pages_placed : (xs : List FileState) (f i x : ℕ) (y : FileState) → f < length xs
+    → y.cache ≡ insert (slice_index_or xs f no_file).cache i x → pages_of (slice_set xs f y) ≡ put2 (pages_of xs) f i (Some x)
 pages_placed xs f i x y l e = pages_put xs f i (Some x) y l (ap {B = ℕ → Option ℕ} (λ (m : FinMap nat_cmp ℕ) (j : ℕ). get m j) e ∙ get_inserted (slice_index_or xs f no_file).cache i x)
 
-pub pages_evicted : (xs : List FileState) (f i : ℕ) (y : FileState) → f < length xs → y.cache ≡ remove (slice_index_or xs f no_file).cache i → pages_of (slice_set xs f y) ≡ put2 (pages_of xs) f i None
+pub pages_evicted : (xs : List FileState) (f i : ℕ) (y : FileState) → f < length xs
+    → y.cache ≡ remove (slice_index_or xs f no_file).cache i → pages_of (slice_set xs f y) ≡ put2 (pages_of xs) f i None
 pages_evicted xs f i y l e = pages_put xs f i None y l (ap {B = ℕ → Option ℕ} (λ (m : FinMap nat_cmp ℕ) (j : ℕ). get m j) e ∙ get_removed (slice_index_or xs f no_file).cache i)
 
 -- one index leaves a file's set
-pub sets_without : (xs : List FileState) (f i : ℕ) (y : FileState) → f < length xs → is_member y.map.regions ≡ put (is_member (slice_index_or xs f no_file).map.regions) i false → sets_of (slice_set xs f y) ≡ put2 (sets_of xs) f i false
+pub sets_without : (xs : List FileState) (f i : ℕ) (y : FileState) → f < length xs
+    → is_member y.map.regions ≡ put (is_member (slice_index_or xs f no_file).map.regions) i false
+    → sets_of (slice_set xs f y) ≡ put2 (sets_of xs) f i false
 unfolding sets_of
 sets_without xs f i y l e = at_set {B = ℕ → Bool} (λ file. is_member file.map.regions) no_file xs f y l ∙ ap (λ (m : ℕ → Bool). put (λ (k : ℕ). is_member (slice_index_or xs k no_file).map.regions) f m) e
 
@@ -142,7 +159,8 @@ unfolding areas_of
 areas_at xs t = refl
 
 -- what is seen of a function that changes at one place
-seen_put : {A B : Type 0} (v : A → B) (f : ℕ → A) (k : ℕ) (a : A) → ◌≡◌ {A = ℕ → B} (λ (j : ℕ). v (put f k a j)) (put (λ (j : ℕ). v (f j)) k (v a))
+seen_put : {A B : Type 0} (v : A → B) (f : ℕ → A) (k : ℕ) (a : A)
+    → ◌≡◌ {A = ℕ → B} (λ (j : ℕ). v (put f k a j)) (put (λ (j : ℕ). v (f j)) k (v a))
 seen_put {A} {B} v f k a = fun_ext (λ j. elim (same_or_other j k) [
   | inl e ↦ subst (λ (w : ℕ). v (put f k a w) ≡ put (λ (u : ℕ). v (f u)) k (v a) w) (sym e) (ap v (put_same f k a) ∙ sym (put_same (λ (u : ℕ). v (f u)) k (v a)))
   | inr h ↦ ap v (put_other f k a j h) ∙ sym (put_other (λ (u : ℕ). v (f u)) k (v a) j h)
@@ -160,29 +178,35 @@ off_task xs t y j low h = elim (same_or_other j 0) [
   | inr d ↦ (let q : (j == 0) ≡ false = ne_eqb j 0 d in rw q (get_or-set_other xs (t - 1) (j - 1) y no_table (λ e. h (omega arith))))
 ]
 
-table_set : (xs : List Table) (t : ℕ) (y : Table) → 1 ≤ t → t ≤ length xs → ◌≡◌ {A = ℕ → Table} (λ j. table_of (slice_set xs (t - 1) y) j) (put (λ j. table_of xs j) t y)
+table_set : (xs : List Table) (t : ℕ) (y : Table) → 1 ≤ t → t ≤ length xs
+    → ◌≡◌ {A = ℕ → Table} (λ j. table_of (slice_set xs (t - 1) y) j) (put (λ j. table_of xs j) t y)
 table_set xs t y low high = fun_ext (λ j. elim (same_or_other j t) [
   | inl e ↦ subst (λ (w : ℕ). table_of (slice_set xs (t - 1) y) w ≡ put (λ j. table_of xs j) t y w) (sym e) (at_task xs t y low high ∙ sym (put_same (λ j. table_of xs j) t y))
   | inr h ↦ off_task xs t y j low h ∙ sym (put_other (λ j. table_of xs j) t y j h)
 ])
 
 -- a part of one task's table changes
-seen_set : {B : Type 0} (v : Table → B) (xs : List Table) (t : ℕ) (y : Table) → 1 ≤ t → t ≤ length xs → ◌≡◌ {A = ℕ → B} (λ j. v (table_of (slice_set xs (t - 1) y) j)) (put (λ j. v (table_of xs j)) t (v y))
+seen_set : {B : Type 0} (v : Table → B) (xs : List Table) (t : ℕ) (y : Table) → 1 ≤ t → t ≤ length xs
+    → ◌≡◌ {A = ℕ → B} (λ j. v (table_of (slice_set xs (t - 1) y) j)) (put (λ j. v (table_of xs j)) t (v y))
 seen_set {B} v xs t y low high = ap {B = ℕ → B} (λ (g : ℕ → Table). λ (j : ℕ). v (g j)) (table_set xs t y low high) ∙ seen_put v (λ j. table_of xs j) t y
 
-pub prepared_set : (xs : List Table) (t : ℕ) (y : Table) → 1 ≤ t → t ≤ length xs → prepared_of (slice_set xs (t - 1) y) ≡ put (prepared_of xs) t y.ready
+pub prepared_set : (xs : List Table) (t : ℕ) (y : Table) → 1 ≤ t → t ≤ length xs
+    → prepared_of (slice_set xs (t - 1) y) ≡ put (prepared_of xs) t y.ready
 unfolding prepared_of
 prepared_set xs t y low high = seen_set (λ (d : Table). d.ready) xs t y low high
 
-pub prepared_same : (xs : List Table) (t : ℕ) (y : Table) → 1 ≤ t → t ≤ length xs → y.ready ≡ (table_of xs t).ready → prepared_of (slice_set xs (t - 1) y) ≡ prepared_of xs
+pub prepared_same : (xs : List Table) (t : ℕ) (y : Table) → 1 ≤ t → t ≤ length xs → y.ready ≡ (table_of xs t).ready
+    → prepared_of (slice_set xs (t - 1) y) ≡ prepared_of xs
 unfolding prepared_of
 prepared_same xs t y low high e = seen_set (λ (d : Table). d.ready) xs t y low high ∙ put_known (λ j. (table_of xs j).ready) t y.ready (sym e)
 
-pub areas_set : (xs : List Table) (t : ℕ) (y : Table) → 1 ≤ t → t ≤ length xs → areas_of (slice_set xs (t - 1) y) ≡ put (areas_of xs) t y.mappings
+pub areas_set : (xs : List Table) (t : ℕ) (y : Table) → 1 ≤ t → t ≤ length xs
+    → areas_of (slice_set xs (t - 1) y) ≡ put (areas_of xs) t y.mappings
 unfolding areas_of
 areas_set xs t y low high = seen_set (λ (d : Table). d.mappings) xs t y low high
 
-pub areas_same : (xs : List Table) (t : ℕ) (y : Table) → 1 ≤ t → t ≤ length xs → y.mappings ≡ (table_of xs t).mappings → areas_of (slice_set xs (t - 1) y) ≡ areas_of xs
+pub areas_same : (xs : List Table) (t : ℕ) (y : Table) → 1 ≤ t → t ≤ length xs → y.mappings ≡ (table_of xs t).mappings
+    → areas_of (slice_set xs (t - 1) y) ≡ areas_of xs
 unfolding areas_of
 areas_same xs t y low high e = seen_set (λ (d : Table). d.mappings) xs t y low high ∙ put_known (λ j. (table_of xs j).mappings) t y.mappings (sym e)
 
@@ -190,14 +214,16 @@ pub entries_at : (xs : List Table) (t v : ℕ) → entries_of xs t v ≡ get (ta
 unfolding entries_of
 entries_at xs t v = refl
 
-pub entries_same : (xs : List Table) (t : ℕ) (y : Table) → 1 ≤ t → t ≤ length xs → y.entries ≡ (table_of xs t).entries → entries_of (slice_set xs (t - 1) y) ≡ entries_of xs
+pub entries_same : (xs : List Table) (t : ℕ) (y : Table) → 1 ≤ t → t ≤ length xs → y.entries ≡ (table_of xs t).entries
+    → entries_of (slice_set xs (t - 1) y) ≡ entries_of xs
 unfolding entries_of
 entries_same xs t y low high e =
     seen_set {B = ℕ → Option ℕ} (λ (d : Table) (w : ℕ). get d.entries w) xs t y low high
     ∙ put_known {A = ℕ → Option ℕ} (λ j w. get (table_of xs j).entries w) t (λ w. get y.entries w) (ap {B = ℕ → Option ℕ} (λ (m : FinMap nat_cmp ℕ) (w : ℕ). get m w) (sym e))
 
 -- one entry comes
-pub entries_installed : (xs : List Table) (t v x : ℕ) (y : Table) → 1 ≤ t → t ≤ length xs → y.entries ≡ insert (table_of xs t).entries v x → entries_of (slice_set xs (t - 1) y) ≡ put2 (entries_of xs) t v (Some x)
+pub entries_installed : (xs : List Table) (t v x : ℕ) (y : Table) → 1 ≤ t → t ≤ length xs
+    → y.entries ≡ insert (table_of xs t).entries v x → entries_of (slice_set xs (t - 1) y) ≡ put2 (entries_of xs) t v (Some x)
 unfolding entries_of
 entries_installed xs t v x y low high e =
     seen_set {B = ℕ → Option ℕ} (λ (d : Table) (w : ℕ). get d.entries w) xs t y low high
@@ -208,12 +234,14 @@ unfolding entries_of
 entries_are xs t = refl
 
 -- some go
-pub entries_set : (xs : List Table) (t : ℕ) (y : Table) → 1 ≤ t → t ≤ length xs → entries_of (slice_set xs (t - 1) y) ≡ put (entries_of xs) t (get y.entries)
+pub entries_set : (xs : List Table) (t : ℕ) (y : Table) → 1 ≤ t → t ≤ length xs
+    → entries_of (slice_set xs (t - 1) y) ≡ put (entries_of xs) t (get y.entries)
 unfolding entries_of
 entries_set xs t y low high = seen_set {B = ℕ → Option ℕ} (λ (d : Table) (w : ℕ). get d.entries w) xs t y low high
 
 -- frames
-pub frame_at_set : (xs : List FrameState) (x : ℕ) (s : FrameState) → x < length xs → bank.frame_at (slice_set xs x s) ≡ put (bank.frame_at xs) x s
+pub frame_at_set : (xs : List FrameState) (x : ℕ) (s : FrameState) → x < length xs
+    → bank.frame_at (slice_set xs x s) ≡ put (bank.frame_at xs) x s
 unfolding bank.frame_at
 frame_at_set xs x s l = at_set (λ (state : FrameState). state) Hand xs x s l
 
@@ -225,11 +253,16 @@ pub frame_got : (xs : List FrameState) (x : ℕ) (s : FrameState) → x < length
 unfolding bank.frame_at
 frame_got xs x s l e = slice_get-get_or xs x Hand l ∙ ap Some e
 
-pub ruleset lock_laws = (holders_at, holders_set, length-set)
+-- a page's frame has a word, as the bank says it
+pub word_of : (xs : List FrameState) (x : ℕ) → x < length xs → ((word : ℕ) × (bank.frame_at xs x ≡ Placed word))
+    → (word : ℕ) × (slice_get xs x ≡ Some (Placed word))
+word_of xs x l placed = (placed.0, frame_got xs x (Placed placed.0) l placed.1)
 
-pub ruleset room_laws = (nat_tests, ne_eqb, areas_at, areas_same, prepared_set, entries_same, length-set)
+pub ruleset lock_laws = (holders_at, holders_set, get_or_past, length-set)
 
-pub ruleset change_laws = (sizes_same, pendings_at, pendings_set, spares_at, spares_set, spares_same, sets_at, sets_same, pages_same, length-set)
+pub ruleset room_laws = (nat_tests, ne_eqb, set-get_or, areas_at, areas_same, prepared_set, entries_same, length-set)
+
+pub ruleset change_laws = (nat_tests, set-get_or, sizes_same, pendings_at, pendings_set, spares_at, spares_set, spares_same, sets_at, sets_same, pages_same, length-set)
 
 pub ruleset commit_laws = (sizes_same, pendings_at, pendings_set, spares_at, spares_set, sets_at, sets_set, pages_same, length-set)
 
@@ -239,7 +272,7 @@ pub ruleset frame_laws = (frame_at_set, frame_at_is, frame_got, slice_get_within
 
 pub ruleset take_laws = (free_frames_is, frame_at_set, frame_at_is, slice_get_within, length-set)
 
-pub ruleset look_laws = (nat_tests, ne_eqb, areas_at, entries_at, frame_at_is, frame_got)
+pub ruleset look_laws = (nat_tests, ne_eqb, get_or_read, areas_at, entries_at, frame_at_is, frame_got)
 
 pub ruleset size_laws = (sizes_at, sizes_set, pendings_same, spares_same, sets_same, pages_same, length-set)
 
@@ -255,6 +288,6 @@ pub ruleset drop_laws = (nat_tests, ne_eqb, areas_at, areas_set, prepared_same, 
 
 pub ruleset evict_laws = (sizes_same, pendings_same, spares_same, sets_same, pages_at, pages_evicted, frame_at_set, frame_at_is, frame_got, slice_get_within, length-set)
 
-pub ruleset delete_laws = (nat_tests, sizes_same, pendings_at, pendings_same, spares_at, spares_set, sets_at, sets_without, pages_same, length-set)
+pub ruleset delete_laws = (nat_tests, set-get_or, sizes_same, pendings_at, pendings_same, spares_at, spares_set, sets_at, sets_without, pages_same, length-set)
 
-pub ruleset tail_laws = (sizes_same, pendings_at, pendings_same, spares_at, spares_same, sets_at, sets_set, pages_same, length-set)
+pub ruleset tail_laws = (get_or_read, sizes_same, pendings_at, pendings_same, spares_at, spares_same, sets_at, sets_set, pages_same, length-set)

@@ -3,6 +3,9 @@ ghost use Rattle.std.specs.Prelude.{◌≡◌, ◌≤◌, ◌<◌, ◌+◌, true
 ghost use Rattle.hp_machine.specs.State.{Pool, slot_of};
 ghost use Rattle.hp_machine.specs.AllocRows.{AllocRow, AllocStartRow, AllocHeadRow, AllocWantRow, AllocLockedRow, AllocMissingRow, AllocChangedRow, AllocAbortRow, AllocTakenRow, AllocSettleRow, AllocCommittedRow, AllocRestoreRow, AllocUnslotRow, AllocExtendRow, AllocLeaveRow};
 ghost use Rattle.hp_machine.specs.Wants.{alloc_wants};
+ghost use Rattle.hp_machine.specs.Standings.{standing};
+ghost use Rattle.hp_machine.specs.declared.call.Call.TheVariants as call;
+ghost use Rattle.hp_fault.specs.Turns.{IfBlocked, IfWanting};
 ghost use Rattle.hp_fault.specs.View.{view};
 ghost use Rattle.hp_fault.specs.State.{state_of, IsSized, SizesStay};
 ghost use Rattle.hp_fault.specs.Fits.{AllocFits, IsFileOf, IsHeld};
@@ -12,7 +15,7 @@ use crate::shared::{
     carry, is_bad_range, leave_lock, leave_slot, place_page, start, take_frame, want_slot,
 };
 use hp_base::{Answer, Index, LIMIT, Task};
-use hp_machine::alloc::{
+pub use hp_machine::alloc::{
     Abort, AllocPhase, Allocation, Changed, Committed, Extend, Head, Leave, Locked, Missing,
     Restore, Settle, Start, Taken, Unslot, Want,
 };
@@ -32,6 +35,8 @@ pub fn step_alloc(
     requires fits { AllocFits (view parts.old) task phase }
     ensures row { IfOk result (λ turn. AllocRow (view parts.old) task killed grant phase turn (view parts.new)) }
     ensures sizes { SizesStay (state_of parts.old) (state_of parts.new) }
+    ensures blocked { IfOk result (λ turn. IfWanting (standing (call.Alloc phase)).wants
+        (IfBlocked turn (λ again. (again ≡ phase) × (state_of parts.new ≡ state_of parts.old)))) }
     ensures phase { IfErr result (λ stopped. stopped.phase ≡ phase) }
     ensures err { OnErr result (state_of parts.new ≡ state_of parts.old) }
     ensures growth { OnErr result (grant ≡ true) }
@@ -61,11 +66,12 @@ pub fn step_alloc(
     }
 }
 
-#[tactic(auto, using(std::proofs::lemmas::Grind::common_steps, crate::proofs::Carrying::carry_start))]
+#[tactic(auto, using(crate::proofs::Carrying::carry_start, crate::proofs::Carrying::carry_blocked))]
 fn from_start(parts: &mut Parts, task: Task, killed: bool, phase: Start) -> Turn<AllocPhase>
     requires { IsSized (state_of parts.old) }
     ensures row { AllocStartRow (view parts.old) task killed phase result (view parts.new) }
     ensures sizes { SizesStay (state_of parts.old) (state_of parts.new) }
+    ensures same { IfBlocked result (λ again. (again ≡ AllocPhase.Start phase) × (state_of parts.new ≡ state_of parts.old)) }
 {
     let allocation = phase.allocation;
     let index = allocation.from;
@@ -92,10 +98,11 @@ fn from_head(killed: bool, phase: Head) -> Turn<AllocPhase>
     Turn::Moved(AllocPhase::Want(Want { allocation, index }))
 }
 
-#[tactic(auto, using(std::proofs::lemmas::Grind::common_steps, crate::proofs::Carrying::carry_want))]
+#[tactic(auto, using(crate::proofs::Carrying::carry_want, crate::proofs::Carrying::carry_blocked))]
 fn from_want(parts: &mut Parts, task: Task, killed: bool, phase: Want) -> Turn<AllocPhase>
     ensures row { AllocWantRow (view parts.old) task killed phase result (view parts.new) }
     ensures sizes { SizesStay (state_of parts.old) (state_of parts.new) }
+    ensures same { IfBlocked result (λ again. (again ≡ AllocPhase.Want phase) × (state_of parts.new ≡ state_of parts.old)) }
 {
     let (allocation, index) = (phase.allocation, phase.index);
     if killed {
@@ -106,7 +113,7 @@ fn from_want(parts: &mut Parts, task: Task, killed: bool, phase: Want) -> Turn<A
     carry(turn, AllocPhase::Want(phase), next)
 }
 
-#[tactic(auto, using(std::proofs::lemmas::Grind::common_steps, crate::proofs::Laws::page_laws))]
+#[tactic(auto, using(crate::proofs::Laws::page_laws))]
 fn from_locked(parts: &mut Parts, phase: Locked) -> Turn<AllocPhase>
     requires { IsFileOf (view parts.old) phase.allocation.file }
     ensures row { AllocLockedRow (view parts.old) phase result (view parts.new) }
@@ -120,7 +127,7 @@ fn from_locked(parts: &mut Parts, phase: Locked) -> Turn<AllocPhase>
     }
 }
 
-#[tactic(auto, using(std::proofs::lemmas::Grind::common_steps, crate::proofs::Laws::change_laws))]
+#[tactic(auto, using(crate::proofs::Laws::change_laws))]
 fn from_missing(parts: &mut Parts, grant: bool, phase: Missing) -> Result<Turn<AllocPhase>, Missing>
     requires file { IsFileOf (view parts.old) phase.allocation.file }
     requires in_limit { phase.index < LIMIT }
@@ -145,7 +152,7 @@ fn from_missing(parts: &mut Parts, grant: bool, phase: Missing) -> Result<Turn<A
     }
 }
 
-#[tactic(auto, using(std::proofs::lemmas::Grind::common_steps, crate::proofs::Laws::take_laws))]
+#[tactic(auto, using(crate::proofs::Laws::take_laws))]
 fn from_changed(parts: &mut Parts, killed: bool, phase: Changed) -> Turn<AllocPhase>
     requires { phase.pending.missing ≡ 0 → 1 ≤ (view parts.old).resv }
     ensures row { AllocChangedRow (view parts.old) killed phase result (view parts.new) }
@@ -170,7 +177,7 @@ fn from_changed(parts: &mut Parts, killed: bool, phase: Changed) -> Turn<AllocPh
     }
 }
 
-#[tactic(auto, using(std::proofs::lemmas::Grind::common_steps, crate::proofs::Laws::change_laws))]
+#[tactic(auto, using(crate::proofs::Laws::change_laws))]
 fn from_abort(parts: &mut Parts, phase: Abort) -> Turn<AllocPhase>
     requires file { IsFileOf (view parts.old) phase.allocation.file }
     requires pending { 1 ≤ (view parts.old).pending phase.allocation.file }
@@ -189,7 +196,7 @@ fn from_abort(parts: &mut Parts, phase: Abort) -> Turn<AllocPhase>
     unslot(allocation, index, Some(answer))
 }
 
-#[tactic(auto, using(std::proofs::lemmas::Grind::common_steps, crate::proofs::Laws::commit_laws))]
+#[tactic(auto, using(crate::proofs::Laws::commit_laws))]
 fn from_taken(parts: &mut Parts, phase: Taken) -> Turn<AllocPhase>
     requires file { IsFileOf (view parts.old) phase.allocation.file }
     requires pending { 1 ≤ (view parts.old).pending phase.allocation.file }
@@ -221,7 +228,6 @@ fn from_taken(parts: &mut Parts, phase: Taken) -> Turn<AllocPhase>
     }
 }
 
-#[tactic(auto, using(std::proofs::lemmas::Grind::common_steps))]
 fn from_settle(parts: &mut Parts, phase: Settle) -> Turn<AllocPhase>
     requires { 1 ≤ (view parts.old).resv }
     ensures row { AllocSettleRow (view parts.old) phase result (view parts.new) }
@@ -278,7 +284,7 @@ fn from_committed(
     }
 }
 
-#[tactic(auto, using(std::proofs::lemmas::Grind::common_steps, crate::proofs::Laws::frame_laws))]
+#[tactic(auto, using(crate::proofs::Laws::frame_laws))]
 fn from_restore(parts: &mut Parts, phase: Restore) -> Turn<AllocPhase>
     requires { IsHeld (view parts.old) phase.held }
     ensures row { AllocRestoreRow (view parts.old) phase result (view parts.new) }
@@ -322,7 +328,7 @@ fn from_unslot(parts: &mut Parts, task: Task, phase: Unslot) -> Turn<AllocPhase>
     }
 }
 
-#[tactic(auto, using(std::proofs::lemmas::Grind::common_steps, crate::proofs::Laws::size_laws))]
+#[tactic(auto, using(crate::proofs::Laws::size_laws))]
 fn from_extend(parts: &mut Parts, phase: Extend) -> Turn<AllocPhase>
     requires file { IsFileOf (view parts.old) phase.allocation.file }
     requires in_limit { phase.allocation.from + phase.allocation.len ≤ LIMIT }

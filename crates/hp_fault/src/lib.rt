@@ -5,6 +5,8 @@
 //! of that phase, over the parts read as functions (`view`). It has no rule of its own. It knows neither
 //! who calls nor whether a call is in flight.
 //!
+//! Phases are hp_machine's; each module here passes on those that its step takes.
+//!
 //! A step is told whether its task was killed (`killed`) and whether it may take memory (`grant`). Where its row
 //! wants growth that isn't granted, the step is denied; where growth is granted and memory runs out all the
 //! same, the step didn't happen (`Stopped`).

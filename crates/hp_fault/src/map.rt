@@ -3,6 +3,9 @@ ghost use Rattle.std.specs.Prelude.{◌≡◌, ◌≤◌, ◌<◌, ◌+◌, true
 ghost use Rattle.hp_machine.specs.MapRows.{MapRow, MapStartRow, MapRoomRow, MapMissingRow, MapChangedRow, MapAbortRow, MapAccountedRow, MapSettleRow, MapEnterRow, MapLeaveRow};
 ghost use Rattle.hp_machine.specs.Wants.{map_wants};
 ghost use Rattle.hp_base.specs.Mappings.{fits};
+ghost use Rattle.hp_machine.specs.Standings.{standing};
+ghost use Rattle.hp_machine.specs.declared.call.Call.TheVariants as call;
+ghost use Rattle.hp_fault.specs.Turns.{IfBlocked, IfWanting};
 ghost use Rattle.hp_fault.specs.View.{view};
 ghost use Rattle.hp_fault.specs.State.{state_of, IsSized, SizesStay};
 ghost use Rattle.hp_fault.specs.Fits.{MapFits, IsTaskOf, IsFileOf};
@@ -10,7 +13,7 @@ ghost use Rattle.hp_fault.specs.Fits.{MapFits, IsTaskOf, IsFileOf};
 use crate::parts::Parts;
 use crate::shared::{carry, is_bad_range, leave_lock, start};
 use hp_base::{Answer, Index, LIMIT, Task, VPNS};
-use hp_machine::map::{
+pub use hp_machine::map::{
     Abort, Accounted, Changed, Enter, Leave, MapPhase, MapRequest, Missing, Room, Settle, Start,
 };
 use hp_machine::{Stopped, Turn};
@@ -28,6 +31,8 @@ pub fn step_map(
     requires fits { MapFits (view parts.old) task phase }
     ensures row { IfOk result (λ turn. MapRow (view parts.old) task killed grant phase turn (view parts.new)) }
     ensures sizes { SizesStay (state_of parts.old) (state_of parts.new) }
+    ensures blocked { IfOk result (λ turn. IfWanting (standing (call.Map phase)).wants
+        (IfBlocked turn (λ again. (again ≡ phase) × (state_of parts.new ≡ state_of parts.old)))) }
     ensures phase { IfErr result (λ stopped. stopped.phase ≡ phase) }
     ensures err { OnErr result (state_of parts.new ≡ state_of parts.old) }
     ensures growth { OnErr result (grant ≡ true) }
@@ -50,11 +55,12 @@ pub fn step_map(
     }
 }
 
-#[tactic(auto, using(std::proofs::lemmas::Grind::common_steps, crate::proofs::Carrying::carry_start))]
+#[tactic(auto, using(crate::proofs::Carrying::carry_start, crate::proofs::Carrying::carry_blocked))]
 fn from_start(parts: &mut Parts, task: Task, killed: bool, phase: Start) -> Turn<MapPhase>
     requires { IsSized (state_of parts.old) }
     ensures row { MapStartRow (view parts.old) task killed phase result (view parts.new) }
     ensures sizes { SizesStay (state_of parts.old) (state_of parts.new) }
+    ensures same { IfBlocked result (λ again. (again ≡ MapPhase.Start phase) × (state_of parts.new ≡ state_of parts.old)) }
 {
     let map = phase.map;
     let is_bad = is_bad_range(map.from, map.len);
@@ -63,7 +69,7 @@ fn from_start(parts: &mut Parts, task: Task, killed: bool, phase: Start) -> Turn
     carry(turn, MapPhase::Start(phase), next)
 }
 
-#[tactic(auto, using(std::proofs::lemmas::Grind::common_steps, crate::proofs::Laws::room_laws))]
+#[tactic(auto, using(crate::proofs::Laws::room_laws))]
 fn from_room(
     parts: &mut Parts,
     task: Task,
@@ -96,7 +102,7 @@ fn from_room(
     }
 }
 
-#[tactic(auto, using(std::proofs::lemmas::Grind::common_steps, crate::proofs::Laws::change_laws))]
+#[tactic(auto, using(crate::proofs::Laws::change_laws))]
 fn from_missing(parts: &mut Parts, grant: bool, phase: Missing) -> Result<Turn<MapPhase>, Missing>
     requires file { IsFileOf (view parts.old) phase.map.file }
     requires some { 1 ≤ phase.map.len }
@@ -118,7 +124,7 @@ fn from_missing(parts: &mut Parts, grant: bool, phase: Missing) -> Result<Turn<M
     }
 }
 
-#[tactic(auto, using(std::proofs::lemmas::Grind::common_steps, crate::proofs::Laws::free_frames_is))]
+#[tactic(auto, using(crate::proofs::Laws::free_frames_is))]
 fn from_changed(parts: &mut Parts, killed: bool, phase: Changed) -> Turn<MapPhase>
     ensures row { MapChangedRow (view parts.old) killed phase result (view parts.new) }
     ensures sizes { SizesStay (state_of parts.old) (state_of parts.new) }
@@ -133,7 +139,7 @@ fn from_changed(parts: &mut Parts, killed: bool, phase: Changed) -> Turn<MapPhas
     }
 }
 
-#[tactic(auto, using(std::proofs::lemmas::Grind::common_steps, crate::proofs::Laws::change_laws))]
+#[tactic(auto, using(crate::proofs::Laws::change_laws))]
 fn from_abort(parts: &mut Parts, phase: Abort) -> Turn<MapPhase>
     requires file { IsFileOf (view parts.old) phase.map.file }
     requires pending { 1 ≤ (view parts.old).pending phase.map.file }
@@ -149,7 +155,7 @@ fn from_abort(parts: &mut Parts, phase: Abort) -> Turn<MapPhase>
     leave(map, answer)
 }
 
-#[tactic(auto, using(std::proofs::lemmas::Grind::common_steps, crate::proofs::Laws::commit_laws))]
+#[tactic(auto, using(crate::proofs::Laws::commit_laws))]
 fn from_accounted(parts: &mut Parts, phase: Accounted) -> Turn<MapPhase>
     requires file { IsFileOf (view parts.old) phase.map.file }
     requires pending { 1 ≤ (view parts.old).pending phase.map.file }
@@ -167,7 +173,6 @@ fn from_accounted(parts: &mut Parts, phase: Accounted) -> Turn<MapPhase>
     }
 }
 
-#[tactic(auto, using(std::proofs::lemmas::Grind::common_steps))]
 fn from_settle(parts: &mut Parts, phase: Settle) -> Turn<MapPhase>
     requires { phase.surplus ≤ (view parts.old).resv }
     ensures row { MapSettleRow (view parts.old) phase result (view parts.new) }
@@ -178,7 +183,7 @@ fn from_settle(parts: &mut Parts, phase: Settle) -> Turn<MapPhase>
     Turn::Moved(MapPhase::Enter(Enter { map, base }))
 }
 
-#[tactic(auto, using(std::proofs::lemmas::Grind::common_steps, crate::proofs::Laws::enter_laws))]
+#[tactic(auto, using(crate::proofs::Laws::enter_laws))]
 fn from_enter(parts: &mut Parts, task: Task, phase: Enter) -> Turn<MapPhase>
     requires task { IsTaskOf (view parts.old) task }
     requires file { IsFileOf (view parts.old) phase.map.file }

@@ -8,7 +8,7 @@ ghost use Rattle.hp_machine.specs.Parts.{StartRow, WantSlotRow, answer_of, frame
 ghost use Rattle.hp_fault.specs.View.{view};
 ghost use Rattle.hp_fault.specs.State.{state_of, IsSized, SizesStay};
 ghost use Rattle.hp_fault.specs.Fits.{IsFileOf, IsHeld};
-ghost use Rattle.hp_fault.specs.Turns.{carried};
+ghost use Rattle.hp_fault.specs.Turns.{carried, IfBlocked};
 
 use crate::parts::Parts;
 use hp_base::{Answer, File, Frame, Index, LIMIT, Task};
@@ -26,7 +26,7 @@ pub fn is_bad_range(from: Index, len: u32) -> bool
 /// The start of a call on a file. It ends with `BadFile` where there is no such file, with `BadRange` where
 /// `is_bad`, and with `at_kill` where the task was killed, in that order. Else it takes the file's lock, or is
 /// blocked by the task that holds it (Linux: `inode_lock`).
-#[tactic(auto, using(std::proofs::lemmas::Grind::common_steps, crate::proofs::Laws::lock_laws))]
+#[tactic(auto, using(crate::proofs::Laws::lock_laws))]
 pub fn start(
     parts: &mut Parts,
     task: Task,
@@ -38,6 +38,7 @@ pub fn start(
     requires { IsSized (state_of parts.old) }
     ensures row { StartRow (view parts.old) task killed file is_bad at_kill tt tt result (view parts.new) }
     ensures sizes { SizesStay (state_of parts.old) (state_of parts.new) }
+    ensures same { IfBlocked result (λ _. state_of parts.new ≡ state_of parts.old) }
 {
     let files = parts.files.len();
     if file.number() as usize >= files {
@@ -56,10 +57,11 @@ pub fn start(
 }
 
 /// Takes the slot of an index, or tells who holds it (Linux: `hugetlb_fault_mutex_table`).
-#[tactic(auto, using(std::proofs::lemmas::Grind::common_steps, crate::proofs::Laws::lock_laws))]
+#[tactic(auto, using(crate::proofs::Laws::lock_laws))]
 pub fn want_slot(parts: &mut Parts, task: Task, file: File, index: Index) -> Turn<()>
     ensures row { WantSlotRow (view parts.old) task file index tt tt result (view parts.new) }
     ensures sizes { SizesStay (state_of parts.old) (state_of parts.new) }
+    ensures same { IfBlocked result (λ _. state_of parts.new ≡ state_of parts.old) }
 {
     let slot = parts.slots.slot_of(file, index);
     match parts.slots.try_take(slot, task) {
@@ -80,7 +82,7 @@ pub fn carry<P: Drop>(turn: Turn<()>, here: P, next: P) -> Turn<P>
 }
 
 /// Leaves the slot of an index, which the task holds.
-#[tactic(auto, using(std::proofs::lemmas::Grind::common_steps, crate::proofs::Laws::lock_laws))]
+#[tactic(auto, using(crate::proofs::Laws::lock_laws))]
 pub fn leave_slot(parts: &mut Parts, task: Task, file: File, index: Index)
     requires { (view parts.old).slots (slot_of (view parts.old).geometry file index) ≡ Some task }
     ensures left { view parts.new ≡ unslotted (view parts.old) file index }
@@ -91,7 +93,7 @@ pub fn leave_slot(parts: &mut Parts, task: Task, file: File, index: Index)
 }
 
 /// Leaves the file's lock, which the task holds (Linux: `inode_unlock`).
-#[tactic(auto, using(std::proofs::lemmas::Grind::common_steps, crate::proofs::Laws::lock_laws))]
+#[tactic(auto, using(crate::proofs::Laws::lock_laws))]
 pub fn leave_lock(parts: &mut Parts, task: Task, file: File)
     requires { (view parts.old).locks file ≡ Some task }
     ensures left { view parts.new ≡ unlocked (view parts.old) file }
@@ -101,8 +103,8 @@ pub fn leave_lock(parts: &mut Parts, task: Task, file: File)
 }
 
 /// A frame for one page: a reserved one where the change missed nothing, else one that isn't reserved,
-/// where there is one (Linux: `dequeue_hugetlb_folio`).
-#[tactic(auto, using(std::proofs::lemmas::Grind::common_steps, crate::proofs::Laws::take_laws))]
+/// where there is one (Linux: `dequeue_huge_page_vma`).
+#[tactic(auto, using(crate::proofs::Laws::take_laws))]
 pub fn take_frame(bank: &mut Bank, missing: u32) -> Option<Held>
     requires { missing ≡ 0 → 1 ≤ bank.old.resv }
     ensures none { IsNone result ↔ ((0 < missing) × (free_count bank.old ≡ bank.old.resv)) }
@@ -119,7 +121,7 @@ pub fn take_frame(bank: &mut Bank, missing: u32) -> Option<Held>
 
 /// The frame becomes the page of an index that has none (Linux: `hugetlb_add_to_page_cache`). Without memory
 /// for it the frame is handed back, and nothing changed.
-#[tactic(auto, using(std::proofs::lemmas::Grind::common_steps, crate::proofs::Laws::place_laws))]
+#[tactic(auto, using(crate::proofs::Laws::place_laws))]
 pub fn place_page(parts: &mut Parts, file: File, index: Index, held: Held) -> Result<(), Held>
     requires file { IsFileOf (view parts.old) file }
     requires in_limit { index < LIMIT }
@@ -139,7 +141,7 @@ pub fn place_page(parts: &mut Parts, file: File, index: Index, held: Held) -> Re
 }
 
 /// Reads or writes the word of a page: a load answers the word, a store `Done`.
-#[tactic(auto, using(std::proofs::lemmas::Grind::common_steps, crate::proofs::Laws::frame_laws))]
+#[tactic(auto, using(crate::proofs::Laws::frame_laws))]
 pub fn use_page(bank: &mut Bank, frame: Frame, access: Access) -> Answer
     requires { IsPlaced bank.old frame }
     ensures answer { (word : ℕ) × HasWord bank.old frame word × (result ≡ answer_of access word) }

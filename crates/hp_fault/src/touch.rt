@@ -4,6 +4,9 @@ ghost use Rattle.hp_machine.specs.State.{slot_of};
 ghost use Rattle.hp_machine.specs.TouchRows.{TouchRow, TouchLookRow, TouchWantRow, TouchLockedRow, TouchMissingRow, TouchChangedRow, TouchAbortRow, TouchTakenRow, TouchSettleRow, TouchCommittedRow, TouchRestoreRow, TouchFoundRow, TouchLeaveRow};
 ghost use Rattle.hp_machine.specs.Wants.{touch_wants};
 ghost use Rattle.hp_base.specs.Mappings.{find};
+ghost use Rattle.hp_machine.specs.Standings.{standing};
+ghost use Rattle.hp_machine.specs.declared.call.Call.TheVariants as call;
+ghost use Rattle.hp_fault.specs.Turns.{IfBlocked, IfWanting};
 ghost use Rattle.hp_fault.specs.View.{view};
 ghost use Rattle.hp_fault.specs.State.{state_of, SizesStay};
 ghost use Rattle.hp_fault.specs.Fits.{TouchFits, IsTaskOf, IsFileOf, IsHeld, IsPage, HasPage};
@@ -12,9 +15,9 @@ use crate::parts::Parts;
 use crate::shared::{carry, leave_slot, place_page, take_frame, use_page, want_slot};
 use hp_base::{Answer, Index, LIMIT, Task};
 use hp_frames::Held;
-use hp_machine::touch::{
-    Abort, Changed, Committed, Found, Leave, Locked, Look, Missing, Restore, Settle, Taken, Touch,
-    TouchPhase, Want,
+pub use hp_machine::touch::{
+    Abort, Access, Changed, Committed, Found, Leave, Locked, Look, Missing, Restore, Settle, Taken,
+    Touch, TouchPhase, Want,
 };
 use hp_machine::{Stopped, Turn};
 use hp_region::{ChangeFault, Pending};
@@ -31,6 +34,8 @@ pub fn step_touch(
     requires { TouchFits (view parts.old) task phase }
     ensures row { IfOk result (λ turn. TouchRow (view parts.old) task killed grant phase turn (view parts.new)) }
     ensures sizes { SizesStay (state_of parts.old) (state_of parts.new) }
+    ensures blocked { IfOk result (λ turn. IfWanting (standing (call.Touch phase)).wants
+        (IfBlocked turn (λ again. (again ≡ phase) × (state_of parts.new ≡ state_of parts.old)))) }
     ensures phase { IfErr result (λ stopped. stopped.phase ≡ phase) }
     ensures err { OnErr result (state_of parts.new ≡ state_of parts.old) }
     ensures growth { OnErr result (grant ≡ true) }
@@ -62,7 +67,7 @@ pub fn step_touch(
     }
 }
 
-#[tactic(auto, using(std::proofs::lemmas::Grind::common_steps, crate::proofs::Laws::look_laws))]
+#[tactic(auto, using(crate::proofs::Laws::look_laws))]
 fn from_look(parts: &mut Parts, task: Task, phase: Look) -> Turn<TouchPhase>
     requires task { IsTaskOf (view parts.old) task }
     requires page { IfSome ((view parts.old).table task phase.vpn) (λ x. IsPage (view parts.old) x) }
@@ -87,10 +92,11 @@ fn from_look(parts: &mut Parts, task: Task, phase: Look) -> Turn<TouchPhase>
     }
 }
 
-#[tactic(auto, using(std::proofs::lemmas::Grind::common_steps, crate::proofs::Carrying::carry_want))]
+#[tactic(auto, using(crate::proofs::Carrying::carry_want, crate::proofs::Carrying::carry_blocked))]
 fn from_want(parts: &mut Parts, task: Task, killed: bool, phase: Want) -> Turn<TouchPhase>
     ensures row { TouchWantRow (view parts.old) task killed phase result (view parts.new) }
     ensures sizes { SizesStay (state_of parts.old) (state_of parts.new) }
+    ensures same { IfBlocked result (λ again. (again ≡ TouchPhase.Want phase) × (state_of parts.new ≡ state_of parts.old)) }
 {
     if killed {
         return Turn::Ended(Answer::Killed);
@@ -101,7 +107,7 @@ fn from_want(parts: &mut Parts, task: Task, killed: bool, phase: Want) -> Turn<T
     carry(turn, TouchPhase::Want(phase), next)
 }
 
-#[tactic(auto, using(std::proofs::lemmas::Grind::common_steps, crate::proofs::Laws::page_laws))]
+#[tactic(auto, using(crate::proofs::Laws::page_laws))]
 fn from_locked(parts: &mut Parts, phase: Locked) -> Turn<TouchPhase>
     requires { IsFileOf (view parts.old) phase.touch.file }
     ensures row { TouchLockedRow (view parts.old) phase result (view parts.new) }
@@ -118,7 +124,7 @@ fn from_locked(parts: &mut Parts, phase: Locked) -> Turn<TouchPhase>
     }
 }
 
-#[tactic(auto, using(std::proofs::lemmas::Grind::common_steps, crate::proofs::Laws::change_laws))]
+#[tactic(auto, using(crate::proofs::Laws::change_laws))]
 fn from_missing(parts: &mut Parts, grant: bool, phase: Missing) -> Result<Turn<TouchPhase>, Missing>
     requires file { IsFileOf (view parts.old) phase.touch.file }
     requires in_limit { phase.touch.index < LIMIT }
@@ -139,7 +145,7 @@ fn from_missing(parts: &mut Parts, grant: bool, phase: Missing) -> Result<Turn<T
     }
 }
 
-#[tactic(auto, using(std::proofs::lemmas::Grind::common_steps, crate::proofs::Laws::take_laws))]
+#[tactic(auto, using(crate::proofs::Laws::take_laws))]
 fn from_changed(parts: &mut Parts, killed: bool, phase: Changed) -> Turn<TouchPhase>
     requires { phase.pending.missing ≡ 0 → 1 ≤ (view parts.old).resv }
     ensures row { TouchChangedRow (view parts.old) killed phase result (view parts.new) }
@@ -159,7 +165,7 @@ fn from_changed(parts: &mut Parts, killed: bool, phase: Changed) -> Turn<TouchPh
     }
 }
 
-#[tactic(auto, using(std::proofs::lemmas::Grind::common_steps, crate::proofs::Laws::change_laws))]
+#[tactic(auto, using(crate::proofs::Laws::change_laws))]
 fn from_abort(parts: &mut Parts, phase: Abort) -> Turn<TouchPhase>
     requires file { IsFileOf (view parts.old) phase.touch.file }
     requires pending { 1 ≤ (view parts.old).pending phase.touch.file }
@@ -175,7 +181,7 @@ fn from_abort(parts: &mut Parts, phase: Abort) -> Turn<TouchPhase>
     leave(touch, answer)
 }
 
-#[tactic(auto, using(std::proofs::lemmas::Grind::common_steps, crate::proofs::Laws::commit_laws))]
+#[tactic(auto, using(crate::proofs::Laws::commit_laws))]
 fn from_taken(parts: &mut Parts, phase: Taken) -> Turn<TouchPhase>
     requires file { IsFileOf (view parts.old) phase.touch.file }
     requires pending { 1 ≤ (view parts.old).pending phase.touch.file }
@@ -198,7 +204,6 @@ fn from_taken(parts: &mut Parts, phase: Taken) -> Turn<TouchPhase>
     }
 }
 
-#[tactic(auto, using(std::proofs::lemmas::Grind::common_steps))]
 fn from_settle(parts: &mut Parts, phase: Settle) -> Turn<TouchPhase>
     requires { 1 ≤ (view parts.old).resv }
     ensures row { TouchSettleRow (view parts.old) phase result (view parts.new) }
@@ -209,7 +214,7 @@ fn from_settle(parts: &mut Parts, phase: Settle) -> Turn<TouchPhase>
     Turn::Moved(TouchPhase::Committed(Committed { touch, held }))
 }
 
-#[tactic(auto, using(std::proofs::lemmas::Grind::common_steps, crate::proofs::Laws::sizes_at))]
+#[tactic(auto, using(crate::proofs::Laws::sizes_at))]
 fn from_committed(
     parts: &mut Parts,
     grant: bool,
@@ -239,7 +244,7 @@ fn from_committed(
     }
 }
 
-#[tactic(auto, using(std::proofs::lemmas::Grind::common_steps, crate::proofs::Laws::frame_laws))]
+#[tactic(auto, using(crate::proofs::Laws::frame_laws))]
 fn from_restore(parts: &mut Parts, phase: Restore) -> Turn<TouchPhase>
     requires { IsHeld (view parts.old) phase.held }
     ensures row { TouchRestoreRow (view parts.old) phase result (view parts.new) }
@@ -254,7 +259,7 @@ fn from_restore(parts: &mut Parts, phase: Restore) -> Turn<TouchPhase>
     leave(touch, answer)
 }
 
-#[tactic(auto, using(std::proofs::lemmas::Grind::common_steps, crate::proofs::Laws::install_laws))]
+#[tactic(auto, using(crate::proofs::Laws::install_laws))]
 fn from_found(
     parts: &mut Parts,
     task: Task,

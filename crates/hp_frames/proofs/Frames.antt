@@ -27,7 +27,8 @@ pub set_other : (xs : List FrameState) (i j : ℕ) (s t : FrameState) → slice_
 set_other xs i j s t h e =
     slice_get-get_or (set xs i t) j s (rw length-set (slice_get_within xs j s h)) ∙ ap Some (get_or-set_other xs i j t s e ∙ get_or_from_slice_get xs j s s h)
 
-pub free_after : (xs : List FrameState) (x : ℕ) (s t : FrameState) → slice_get xs x ≡ Some s → free_frames (set xs x t) + count_one s ≡ free_frames xs + count_one t
+pub free_after : (xs : List FrameState) (x : ℕ) (s t : FrameState) → slice_get xs x ≡ Some s
+    → free_frames (set xs x t) + count_one s ≡ free_frames xs + count_one t
 unfolding free_frames frame_at
 free_after xs x s t h =
     let within = slice_get_within xs x s h in
@@ -38,14 +39,16 @@ free_after xs x s t h =
     rw length-set (subst (λ (u : FrameState). count_below (λ j. is_free (get_or (set xs x t) j Hand)) (length xs) + count_one u ≡ count_below (λ j. is_free (get_or xs j Hand)) (length xs) + count_one t) was m)
 
 -- different states, different frames
-apart : (fs : List FrameState) (x y : ℕ) (s t : FrameState) → slice_get fs x ≡ Some s → slice_get fs y ≡ Some t → is_free s ≡ false → is_free t ≡ true → y ≢ x
+apart : (fs : List FrameState) (x y : ℕ) (s t : FrameState) → slice_get fs x ≡ Some s → slice_get fs y ≡ Some t
+    → is_free s ≡ false → is_free t ≡ true → y ≢ x
 apart fs x y s t at there taken free same =
     let e : Some t ≡ Some s = sym there ∙ (ap (slice_get fs) same ∙ at) in
     let f : true ≡ false = sym free ∙ (ap (λ (o : Option FrameState). elim o [ None ↦ false | Some u ↦ is_free u ]) e ∙ taken) in
     true≢false f
 
 -- the free frames, where another goes elsewhere
-pub moved_free : (fs : List FrameState) (xs : List ℕ) (x : ℕ) (s t : FrameState) → slice_get fs x ≡ Some s → is_free s ≡ false → AreFree fs xs → AreFree (set fs x t) xs
+pub moved_free : (fs : List FrameState) (xs : List ℕ) (x : ℕ) (s t : FrameState) → slice_get fs x ≡ Some s → is_free s ≡ false
+    → AreFree fs xs → AreFree (set fs x t) xs
 moved_free fs [] x s t at taken free = tt
 moved_free fs (y ∷ ys) x s t at taken free =
     (set_other fs x y Free t free.0 (apart fs x y s Free at free.0 taken refl), free.1, moved_free fs ys x s t at taken free.2)
@@ -53,7 +56,8 @@ moved_free fs (y ∷ ys) x s t at taken free =
 any_last : (x y : ℕ) (ys : List ℕ) → list_any (nat_eq y) ys ≡ false → y ≢ x → list_any (nat_eq y) (ys ++ x ∷ []) ≡ false
 any_last x y ys none other = grind (arith, common_steps, nat_tests)
 
-pub given_free : (fs : List FrameState) (xs : List ℕ) (x : ℕ) (s : FrameState) → slice_get fs x ≡ Some s → is_free s ≡ false → AreFree fs xs → AreFree (set fs x Free) (xs ++ x ∷ [])
+pub given_free : (fs : List FrameState) (xs : List ℕ) (x : ℕ) (s : FrameState) → slice_get fs x ≡ Some s → is_free s ≡ false
+    → AreFree fs xs → AreFree (set fs x Free) (xs ++ x ∷ [])
 given_free fs [] x s at taken free = (set_same fs x s Free at, refl, tt)
 given_free fs (y ∷ ys) x s at taken free =
     let other = apart fs x y s Free at free.0 taken refl in
@@ -74,7 +78,8 @@ taken_free fs (y ∷ ys) x free =
     (set_other fs x y Free Hand free.0 other.0, other.1, taken_free fs ys x free.2)
 
 -- a frame that wasn't free goes elsewhere, and not among the free ones
-pub moved : (fs new : List FrameState) (xs : List ℕ) (n x : ℕ) (s t : FrameState) → new ≡ set fs x t → slice_get fs x ≡ Some s → is_free s ≡ false → is_free t ≡ false → IsListed fs xs n → IsListed new xs n
+pub moved : (fs new : List FrameState) (xs : List ℕ) (n x : ℕ) (s t : FrameState) → new ≡ set fs x t → slice_get fs x ≡ Some s
+    → is_free s ≡ false → is_free t ≡ false → IsListed fs xs n → IsListed new xs n
 moved fs new xs n x s t becomes at taken gone listed =
     let count = free_after fs x s t at in
     let was : count_one s ≡ 0 = ap {B = ℕ} (λ (b : Bool). cond b 1 0) taken in
@@ -90,7 +95,8 @@ one_longer : (xs : List ℕ) (x : ℕ) → length (xs ++ x ∷ []) ≡ length xs
 one_longer xs x = grind (arith, common_steps)
 
 -- it goes among them
-pub given : (fs new : List FrameState) (xs more : List ℕ) (n m x : ℕ) → new ≡ set fs x Free → more ≡ xs ++ x ∷ [] → m ≡ n → slice_get fs x ≡ Some Hand → IsListed fs xs n → IsListed new more m × (length more ≡ length xs + 1)
+pub given : (fs new : List FrameState) (xs more : List ℕ) (n m x : ℕ) → new ≡ set fs x Free → more ≡ xs ++ x ∷ [] → m ≡ n
+    → slice_get fs x ≡ Some Hand → IsListed fs xs n → IsListed new more m × (length more ≡ length xs + 1)
 given fs new xs more n m x is longer same at listed =
     let count = free_after fs x Hand Free at in
     let long = one_longer xs x in
@@ -105,7 +111,8 @@ given fs new xs more n m x is longer same at listed =
     )
 
 -- the last of them is taken
-pub taken : (fs new : List FrameState) (xs rest : List ℕ) (n m x : ℕ) → new ≡ set fs x Hand → xs ≡ rest ++ x ∷ [] → m ≡ n → IsListed fs xs n → IsListed new rest m × (length xs ≡ length rest + 1)
+pub taken : (fs new : List FrameState) (xs rest : List ℕ) (n m x : ℕ) → new ≡ set fs x Hand → xs ≡ rest ++ x ∷ [] → m ≡ n
+    → IsListed fs xs n → IsListed new rest m × (length xs ≡ length rest + 1)
 taken fs new xs rest n m x is last same all =
     let listed : IsListed fs (rest ++ x ∷ []) n = subst (λ (ys : List ℕ). IsListed fs ys n) last all in
     let count = free_after fs x Free Hand (last_free fs rest x listed.all_free) in
@@ -125,7 +132,8 @@ AreBelow n [] = Unit {0}
 AreBelow n (x ∷ xs) = (x < n) × AreBelow n xs
 
 -- one more of frames that are listed in order
-pub one_more : (fs : List FrameState) (xs : List ℕ) (x : ℕ) → slice_get fs x ≡ Some Free → AreBelow x xs → AreFree fs xs → AreFree fs (xs ++ x ∷ [])
+pub one_more : (fs : List FrameState) (xs : List ℕ) (x : ℕ) → slice_get fs x ≡ Some Free → AreBelow x xs → AreFree fs xs
+    → AreFree fs (xs ++ x ∷ [])
 one_more fs [] x at below free = (at, refl, tt)
 one_more fs (y ∷ ys) x at below free = (free.0, any_last x y ys free.1 (λ same. omega (arith, same, below.0)), one_more fs ys x at below.1 free.2)
 
@@ -167,13 +175,16 @@ has_room fs xs n x at listed =
     omega (arith, listed.counted, listed.room, one, all, less)
 
 -- one more frame of a bank that is opened
-pub pushed : (fs : List FrameState) (xs more : List ℕ) (n x number : ℕ) → fs ≡ replicate n Free → more ≡ xs ++ x ∷ [] → x ≡ number → number < n → AreFree fs xs → AreBelow number xs → AreFree fs more × AreBelow (number + 1) more × (length more ≡ length xs + 1)
+pub pushed : (fs : List FrameState) (xs more : List ℕ) (n x number : ℕ) → fs ≡ replicate n Free → more ≡ xs ++ x ∷ [] → x ≡ number
+    → number < n → AreFree fs xs → AreBelow number xs
+    → AreFree fs more × AreBelow (number + 1) more × (length more ≡ length xs + 1)
 pushed fs xs more n x number states longer same below free low =
     let at : slice_get fs number ≡ Some Free = ap (λ (s : List FrameState). slice_get s number) states ∙ free_at n number below in
     rw (longer, same) (one_more fs xs number at low free, next_below xs number low, one_longer xs number)
 
 -- a bank that is opened
-pub opened : (fs : List FrameState) (xs : List ℕ) (n m : ℕ) → fs ≡ replicate n Free → AreFree fs xs → length xs ≡ n → n ≤ m → n < 2 ^ 32 → record { listed : IsListed fs xs m; reserved : 0 ≤ length xs }
+pub opened : (fs : List FrameState) (xs : List ℕ) (n m : ℕ) → fs ≡ replicate n Free → AreFree fs xs → length xs ≡ n → n ≤ m
+    → n < 2 ^ 32 → record { listed : IsListed fs xs m; reserved : 0 ≤ length xs }
 opened fs xs n m states free long room fits =
     let count : free_frames fs ≡ n = ap free_frames states ∙ all_free n in
     let wide : length fs ≡ n = ap length states ∙ length-replicate n Free in

@@ -119,7 +119,7 @@ impl Bank {
         self.resv -= n;
     }
 
-    /// Takes a free frame for a reservation that the caller has (Linux: `dequeue_hugetlb_folio_vma`
+    /// Takes a free frame for a reservation that the caller has (Linux: `dequeue_huge_page_vma`
     /// with `gbl_chg` 0). Its word is 0 once it is placed.
     #[tactic(auto, using(std::proofs::lemmas::Grind::common_steps, crate::proofs::Frames::set_same))]
     pub fn take_reserved(&mut self) -> Held
@@ -175,7 +175,7 @@ impl Bank {
         Held { frame }
     }
 
-    /// The frame is free again (Linux: `free_huge_folio`).
+    /// The frame is free again (Linux: `free_huge_page`).
     pub fn give(&mut self, held: Held)
         requires { InHands self.old held }
         ensures { self.new ≡ with_frame self.old held FrameState.Free }
@@ -184,7 +184,7 @@ impl Bank {
         give_free(&mut self.frames, &mut self.free, frame);
     }
 
-    /// The frame is free again, and reserved (Linux: `free_huge_folio` with `restore_reserve`).
+    /// The frame is free again, and reserved (Linux: `free_huge_page` with `restore_reserve`).
     pub fn restore(&mut self, held: Held)
         requires { InHands self.old held }
         ensures { self.new ≡ with_resv (with_frame self.old held FrameState.Free) (self.old.resv + 1) }
@@ -250,50 +250,4 @@ fn give_free(frames: &mut Vec<FrameState>, free: &mut Vec<Frame>, frame: Frame)
 {
     move_frame(frames, frame, FrameState::Free);
     free.push_reserved(frame);
-}
-
-#[cfg(test)]
-mod tests {
-    use super::*;
-    use std::test::Fail;
-
-    #[test]
-    fn two_frames(rt: HostRuntime) -> Result<(), Fail> {
-        let mut bank = Bank::new(rt.alloc(), 2)?;
-        assert_eq!(rt; bank.account(3), Err(Fault::Short));
-        assert_eq!(rt; bank.account(2), Ok(()));
-        assert_eq!(rt; bank.resv(), 2);
-        assert!(rt; matches!(bank.take_unreserved(), Err(Fault::NoFrame)));
-        let held = bank.take_reserved();
-        assert_eq!(rt; (bank.free(), bank.resv()), (1, 1));
-        bank.restore(held);
-        assert_eq!(rt; (bank.free(), bank.resv()), (2, 2));
-        bank.settle(2);
-        let held = bank.take_unreserved()?;
-        let number = held.frame();
-        let frame = bank.place(held);
-        assert_eq!(rt; frame, number);
-        assert!(rt; !bank.is_free(frame));
-        bank.store(frame, 9);
-        assert_eq!(rt; bank.load(frame), 9);
-        let held = bank.evict(frame);
-        bank.give(held);
-        assert_eq!(rt; bank.free(), 2);
-        let first = bank.take_unreserved()?;
-        let first = bank.place(first);
-        assert_eq!(rt; bank.load(first), 0);
-        let second = bank.take_unreserved()?;
-        let second = bank.place(second);
-        assert_eq!(rt; bank.load(second), 0);
-        Ok(())
-    }
-
-    #[test]
-    fn texts(rt: HostRuntime) -> Result<(), Fail> {
-        let short = format!(in rt.alloc(); "{}", Fault::Short)?;
-        assert_eq!(rt; short.as_str(), "too few unreserved frames are free");
-        let none = format!(in rt.alloc(); "{}", Fault::NoFrame)?;
-        assert_eq!(rt; none.as_str(), "no unreserved frame is free");
-        Ok(())
-    }
 }

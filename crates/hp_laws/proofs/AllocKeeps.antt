@@ -32,14 +32,18 @@ use Rattle.hp_laws.proofs.TouchKeeps.{no_page}
 lt : (a b : ℕ) → nat_lt a b ≡ true → a < b
 lt a b e = grind (arith, nat_tests)
 
-alloc_head : (s : State) (t : ℕ) (killed : Bool) (p : Head) (turn : Turn AllocPhase) (new : Pool) → Inv s.geometry s → t < s.geometry.tasks + 1 → s.calls t ≡ Some (call.Alloc (at.Head p)) → AllocHeadRow (pool_of s) killed p turn new → Inv s.geometry (after call.Alloc s t turn new)
+alloc_head : (s : State) (t : ℕ) (killed : Bool) (p : Head) (turn : Turn AllocPhase) (new : Pool) → Inv s.geometry s
+    → t < s.geometry.tasks + 1 → s.calls t ≡ Some (call.Alloc (at.Head p)) → AllocHeadRow (pool_of s) killed p turn new
+    → Inv s.geometry (after call.Alloc s t turn new)
 alloc_head s t killed p turn new h l e row =
     let y = stands_at s t _ h e in
     by_test killed row
     (λ is r. so call.Alloc s t _ turn _ new r (stays s.geometry s t _ (Some (call.Alloc (at.Leave (record { allocation = p.allocation; answer = answer.Interrupted })))) h l e refl tt (record { slot = tt; lock = y.lock; facts = record { file = y.facts.range.0 } })))
     (λ alive r. so call.Alloc s t _ turn _ new r (stays s.geometry s t _ (Some (call.Alloc (at.Want (record { allocation = p.allocation; index = p.index })))) h l e refl tt (record { slot = tt; lock = y.lock; facts = y.facts })))
 
-alloc_want : (s : State) (t : ℕ) (killed : Bool) (p : Want) (turn : Turn AllocPhase) (new : Pool) → Inv s.geometry s → t < s.geometry.tasks + 1 → s.calls t ≡ Some (call.Alloc (at.Want p)) → AllocWantRow (pool_of s) t killed p turn new → Inv s.geometry (after call.Alloc s t turn new)
+alloc_want : (s : State) (t : ℕ) (killed : Bool) (p : Want) (turn : Turn AllocPhase) (new : Pool) → Inv s.geometry s
+    → t < s.geometry.tasks + 1 → s.calls t ≡ Some (call.Alloc (at.Want p)) → AllocWantRow (pool_of s) t killed p turn new
+    → Inv s.geometry (after call.Alloc s t turn new)
 alloc_want s t killed p turn new h l e row =
     let y = stands_at s t _ h e in
     by_test killed row
@@ -47,14 +51,18 @@ alloc_want s t killed p turn new h l e row =
     (λ alive r. want_row call.Alloc s t p.allocation.file p.index (at.Want p) (at.Locked (record { allocation = p.allocation; index = p.index })) turn new h l e r refl refl refl refl refl
     (record { slot = put_same s.slots (slot_of s.geometry p.allocation.file p.index) (Some t); lock = y.lock; facts = y.facts }))
 
-alloc_locked : (s : State) (t : ℕ) (p : Locked) (turn : Turn AllocPhase) (new : Pool) → Inv s.geometry s → t < s.geometry.tasks + 1 → s.calls t ≡ Some (call.Alloc (at.Locked p)) → AllocLockedRow (pool_of s) p turn new → Inv s.geometry (after call.Alloc s t turn new)
+alloc_locked : (s : State) (t : ℕ) (p : Locked) (turn : Turn AllocPhase) (new : Pool) → Inv s.geometry s
+    → t < s.geometry.tasks + 1 → s.calls t ≡ Some (call.Alloc (at.Locked p)) → AllocLockedRow (pool_of s) p turn new
+    → Inv s.geometry (after call.Alloc s t turn new)
 alloc_locked s t p turn new h l e row =
     let y = stands_at s t _ h e in
     by_test (is_some (s.pages p.allocation.file p.index)) row
     (λ page r. so call.Alloc s t _ turn _ new r (stays s.geometry s t _ (Some (call.Alloc (at.Unslot (record { allocation = p.allocation; index = p.index; answer = None })))) h l e refl tt (record { slot = y.slot; lock = y.lock; facts = y.facts })))
     (λ none r. so call.Alloc s t _ turn _ new r (stays s.geometry s t _ (Some (call.Alloc (at.Missing (record { allocation = p.allocation; index = p.index })))) h l e refl tt (record { slot = y.slot; lock = y.lock; facts = record { range = y.facts.range; bare = no_page _ none } })))
 
-alloc_missing : (s : State) (t : ℕ) (grant : Bool) (p : Missing) (turn : Turn AllocPhase) (new : Pool) → Inv s.geometry s → t < s.geometry.tasks + 1 → s.calls t ≡ Some (call.Alloc (at.Missing p)) → AllocMissingRow (pool_of s) grant p turn new → Inv s.geometry (after call.Alloc s t turn new)
+alloc_missing : (s : State) (t : ℕ) (grant : Bool) (p : Missing) (turn : Turn AllocPhase) (new : Pool) → Inv s.geometry s
+    → t < s.geometry.tasks + 1 → s.calls t ≡ Some (call.Alloc (at.Missing p)) → AllocMissingRow (pool_of s) grant p turn new
+    → Inv s.geometry (after call.Alloc s t turn new)
 alloc_missing s t grant p turn new h l e row =
     let y = stands_at s t _ h e in
     let o = one_change (s.reserved p.allocation.file) p.index in
@@ -68,7 +76,9 @@ alloc_missing s t grant p turn new h l e row =
       own = record { slot = y.slot; lock = y.lock; facts = record { range = y.facts.range; bare = y.facts.bare; one = o.0; marked = o.1 } };
     })
 
-alloc_changed : (s : State) (t : ℕ) (killed : Bool) (p : Changed) (turn : Turn AllocPhase) (new : Pool) → Inv s.geometry s → t < s.geometry.tasks + 1 → s.calls t ≡ Some (call.Alloc (at.Changed p)) → AllocChangedRow (pool_of s) killed p turn new → Inv s.geometry (after call.Alloc s t turn new)
+alloc_changed : (s : State) (t : ℕ) (killed : Bool) (p : Changed) (turn : Turn AllocPhase) (new : Pool) → Inv s.geometry s
+    → t < s.geometry.tasks + 1 → s.calls t ≡ Some (call.Alloc (at.Changed p)) → AllocChangedRow (pool_of s) killed p turn new
+    → Inv s.geometry (after call.Alloc s t turn new)
 alloc_changed s t killed p turn new h l e row =
     let y = stands_at s t _ h e in
     let aborts : (b : Answer) → Inv s.geometry (Invariant.to s t (Some (call.Alloc (at.Abort (record { allocation = p.allocation; index = p.index; pending = p.pending; answer = b })))))
@@ -86,7 +96,9 @@ alloc_changed s t killed p turn new h l e row =
       own = λ x. record { slot = y.slot; lock = y.lock; facts = y.facts };
     }))
 
-alloc_taken : (s : State) (t : ℕ) (p : Taken) (turn : Turn AllocPhase) (new : Pool) → Inv s.geometry s → t < s.geometry.tasks + 1 → s.calls t ≡ Some (call.Alloc (at.Taken p)) → AllocTakenRow (pool_of s) p turn new → Inv s.geometry (after call.Alloc s t turn new)
+alloc_taken : (s : State) (t : ℕ) (p : Taken) (turn : Turn AllocPhase) (new : Pool) → Inv s.geometry s → t < s.geometry.tasks + 1
+    → s.calls t ≡ Some (call.Alloc (at.Taken p)) → AllocTakenRow (pool_of s) p turn new
+    → Inv s.geometry (after call.Alloc s t turn new)
 alloc_taken s t p turn new h l e row =
     let y = stands_at s t _ h e in
     let marked = own_reserved s p.allocation.file p.index p.pending y.facts.one in
@@ -113,7 +125,9 @@ alloc_taken s t p turn new h l e row =
       own_next = record { slot = y.slot; lock = y.lock; facts = record { range = y.facts.range; bare = y.facts.bare; marked = marked } };
     })
 
-alloc_committed : (s : State) (t : ℕ) (grant : Bool) (p : Committed) (turn : Turn AllocPhase) (new : Pool) → Inv s.geometry s → t < s.geometry.tasks + 1 → s.calls t ≡ Some (call.Alloc (at.Committed p)) → AllocCommittedRow (pool_of s) grant p turn new → Inv s.geometry (after call.Alloc s t turn new)
+alloc_committed : (s : State) (t : ℕ) (grant : Bool) (p : Committed) (turn : Turn AllocPhase) (new : Pool) → Inv s.geometry s
+    → t < s.geometry.tasks + 1 → s.calls t ≡ Some (call.Alloc (at.Committed p)) → AllocCommittedRow (pool_of s) grant p turn new
+    → Inv s.geometry (after call.Alloc s t turn new)
 alloc_committed s t grant p turn new h l e row =
     let y = stands_at s t _ h e in
     let f = p.allocation.file in
@@ -122,7 +136,9 @@ alloc_committed s t grant p turn new h l e row =
     (λ u a. no_passer s.geometry s t f h y.lock (λ j. ap (λ c. passed c f j) e) u p.index a) tt (record { slot = y.slot; lock = y.lock; facts = record { range = y.facts.range } })))
     (λ denied r. so call.Alloc s t _ turn _ new r (stays s.geometry s t _ (Some (call.Alloc (at.Restore (record { allocation = p.allocation; index = p.index; held = p.held; answer = answer.NoMemory })))) h l e refl tt (record { slot = y.slot; lock = y.lock; facts = y.facts })))
 
-alloc_unslot : (s : State) (t : ℕ) (p : Unslot) (turn : Turn AllocPhase) (new : Pool) → Inv s.geometry s → t < s.geometry.tasks + 1 → s.calls t ≡ Some (call.Alloc (at.Unslot p)) → AllocUnslotRow (pool_of s) p turn new → Inv s.geometry (after call.Alloc s t turn new)
+alloc_unslot : (s : State) (t : ℕ) (p : Unslot) (turn : Turn AllocPhase) (new : Pool) → Inv s.geometry s
+    → t < s.geometry.tasks + 1 → s.calls t ≡ Some (call.Alloc (at.Unslot p)) → AllocUnslotRow (pool_of s) p turn new
+    → Inv s.geometry (after call.Alloc s t turn new)
 alloc_unslot s t p turn new h l e row =
     let y = stands_at s t _ h e in
     let f = p.allocation.file in
@@ -135,7 +151,9 @@ alloc_unslot s t p turn new h l e row =
     (λ grows r. so call.Alloc s t _ turn _ new r (leaves_slot s.geometry s t _ (Some (call.Alloc (at.Extend (record { allocation = p.allocation })))) f p.index h l e refl refl refl refl y.slot tt (record { slot = tt; lock = y.lock; facts = record { range = (y.facts.range.0, (let a = y.facts.range.1 in let b = y.facts.range.2 in omega arith), y.facts.range.3) } })))))
     (λ carried some r. so call.Alloc s t _ turn _ new r (leaves_slot s.geometry s t _ (Some (call.Alloc (at.Leave (record { allocation = p.allocation; answer = carried })))) f p.index h l e refl refl refl refl y.slot tt (record { slot = tt; lock = y.lock; facts = record { file = y.facts.range.0 } })))
 
-pub alloc_row : (s : State) (t : ℕ) (killed grant : Bool) (phase : AllocPhase) (turn : Turn AllocPhase) (new : Pool) → Inv s.geometry s → t < s.geometry.tasks + 1 → s.calls t ≡ Some (call.Alloc phase) → AllocRow (pool_of s) t killed grant phase turn new → Inv s.geometry (after call.Alloc s t turn new)
+pub alloc_row : (s : State) (t : ℕ) (killed grant : Bool) (phase : AllocPhase) (turn : Turn AllocPhase) (new : Pool)
+    → Inv s.geometry s → t < s.geometry.tasks + 1 → s.calls t ≡ Some (call.Alloc phase)
+    → AllocRow (pool_of s) t killed grant phase turn new → Inv s.geometry (after call.Alloc s t turn new)
 alloc_row s t killed grant (at.Start p) turn new h l e row =
     start_row call.Alloc s t killed p.allocation.file _ answer.Interrupted (at.Start p) (at.Head (record { allocation = p.allocation; index = p.allocation.from })) turn new h l e row refl refl refl refl refl refl
     (λ in_files good. let o = good_range s p.allocation.from p.allocation.len good in record { slot = tt; lock = put_same s.locks p.allocation.file (Some t); facts = record { range = (in_files, omega arith, (let a = o.0 in omega arith), o.1) } })

@@ -8,18 +8,21 @@ use Rattle.hp_machine.specs.declared.touch.TouchPhase.TheVariants as touch
 use Rattle.hp_machine.specs.declared.alloc.AllocPhase.TheVariants as alloc
 use Rattle.hp_machine.specs.declared.punch.PunchPhase.TheVariants as punch
 use Rattle.hp_machine.specs.declared.truncate.TruncatePhase.TheVariants as truncate
+use Rattle.hp_machine.specs.declared.map.MapPhase.TheVariants as map
+use Rattle.hp_machine.specs.declared.unmap.UnmapPhase.TheVariants as unmap
+use Rattle.hp_machine.specs.declared.exit.ExitPhase.TheVariants as exit
 use Rattle.hp_machine.specs.declared.call.Call.{Call}
 use Rattle.hp_machine.specs.declared.call.Call.TheVariants as call
 use Rattle.hp_laws.specs.Enough.{CanSettle}
-use Rattle.hp_laws.specs.Protocol.{ChangesAreCalls, SparesSuffice, PagesAreReserved, is_bare, HandsApart, BareWhereMade, works_at, PassedIsBare}
+use Rattle.hp_laws.specs.Protocol.{ChangesAreCalls, SparesSuffice, PagesAreReserved, LiesWithin, is_bare, HandsApart, BareWhereMade, works_at, PassedIsBare}
 use Rattle.hp_laws.specs.Sweep.{fills, ahead}
 use Rattle.hp_laws.proofs.Standing.{Stands}
-use Rattle.hp_laws.proofs.Invariant.{Reached, Inv}
+use Rattle.hp_laws.proofs.Invariant.{Reached, Inv, page_within}
 use Rattle.hp_laws.proofs.Holding.{some_same}
 use Rattle.hp_laws.proofs.Passing.{holds_slot, locks_file, passed_locked, reached_not_passed, same_holder}
 use Rattle.hp_laws.proofs.Removals.{page_marked}
 use Rattle.hp_laws.proofs.Cover.{can_settle}
-use Rattle.hp_laws.proofs.Runs.{always}
+use Rattle.hp_laws.proofs.Runs.{Always, always}
 
 pub never_short : (s : State) (t : ℕ) → IsReached s → t ≤ s.geometry.tasks → CanSettle s (s.calls t)
 never_short s t reached l = let h = (always s reached).inv in can_settle s.geometry s t (s.calls t) h (omega arith) refl (h.stands t)
@@ -33,6 +36,11 @@ spares_suffice s reached = (always s reached).inv.spares
 pub pages_are_reserved : (s : State) → IsReached s → PagesAreReserved s
 pages_are_reserved s reached f i x e = page_marked s.geometry s f i x (always s reached).inv e
 
+pub lies_within : (s : State) → IsReached s → LiesWithin s
+lies_within s reached =
+    let h = (always s reached).inv in
+    record { reserved = h.inside.within; cached = λ f i x e. page_within f i x h.inside e }
+
 hand_slot : (c : Option Call) (x : ℕ) → hand c ≡ Some x → (k : ℕ × ℕ) × (slot_held c ≡ Some k)
 hand_slot (Some (call.Touch (touch.Taken p))) x e = ((p.touch.file, p.touch.index), refl)
 hand_slot (Some (call.Touch (touch.Settle p))) x e = ((p.touch.file, p.touch.index), refl)
@@ -45,6 +53,9 @@ hand_slot (Some (call.Alloc (alloc.Restore p))) x e = ((p.allocation.file, p.ind
 hand_slot (Some (call.Punch (punch.Delete p))) x e = ((p.hole.file, p.index), refl)
 hand_slot (Some (call.Punch (punch.Free p))) x e = ((p.hole.file, p.index), refl)
 hand_slot (Some (call.Truncate (truncate.Free p))) x e = ((p.truncation.file, p.index), refl)
+hand_slot (Some (call.Map (map.Start _))) x e = (let d : ◌≡◌ {A = Option ℕ} None (Some x) = e in absurd (cc))
+hand_slot (Some (call.Unmap (unmap.Start _))) x e = (let d : ◌≡◌ {A = Option ℕ} None (Some x) = e in absurd (cc))
+hand_slot (Some (call.Exit exit.Start)) x e = (let d : ◌≡◌ {A = Option ℕ} None (Some x) = e in absurd (cc))
 hand_slot c x e = (let d : ◌≡◌ {A = Option ℕ} None (Some x) = e in absurd (cc))
 
 pub hands_apart : (s : State) → IsReached s → HandsApart s
@@ -54,7 +65,8 @@ hands_apart s reached t u x y d a b =
     let j = hand_slot (s.calls u) y b in
     (k.0, j.0, k.1, j.1, λ e. d (same_holder t u (s.slots (slot_of s.geometry k.0.0 k.0.1)) (holds_slot s.geometry s t k.0 h k.1) (ap (λ (m : ℕ × ℕ). s.slots (slot_of s.geometry m.0 m.1)) e ∙ holds_slot s.geometry s u j.0 h j.1)))
 
-bare_at : (g : Geometry) (s : State) (t : ℕ) (c : Option Call) (k : ℕ × ℕ) → Stands g s t c → is_bare c ≡ true → slot_held c ≡ Some k → s.pages k.0 k.1 ≡ None
+bare_at : (g : Geometry) (s : State) (t : ℕ) (c : Option Call) (k : ℕ × ℕ) → Stands g s t c → is_bare c ≡ true
+    → slot_held c ≡ Some k → s.pages k.0 k.1 ≡ None
 bare_at g s t (Some (call.Touch (touch.Missing p))) k h b e = subst (λ (m : ℕ × ℕ). s.pages m.0 m.1 ≡ None) (some_same e) h.facts.bare
 bare_at g s t (Some (call.Touch (touch.Changed p))) k h b e = subst (λ (m : ℕ × ℕ). s.pages m.0 m.1 ≡ None) (some_same e) h.facts.bare
 bare_at g s t (Some (call.Touch (touch.Abort p))) k h b e = subst (λ (m : ℕ × ℕ). s.pages m.0 m.1 ≡ None) (some_same e) h.facts.bare
@@ -73,13 +85,20 @@ bare_at g s t (Some (call.Punch (punch.Delete p))) k h b e = subst (λ (m : ℕ 
 bare_at g s t (Some (call.Punch (punch.Free p))) k h b e = subst (λ (m : ℕ × ℕ). s.pages m.0 m.1 ≡ None) (some_same e) h.facts.bare
 bare_at g s t (Some (call.Truncate (truncate.Free p))) k h b e = subst (λ (m : ℕ × ℕ). s.pages m.0 m.1 ≡ None) (some_same e) h.facts.bare
 bare_at g s t (Some (call.Truncate (truncate.Unslot p))) k h b e = subst (λ (m : ℕ × ℕ). s.pages m.0 m.1 ≡ None) (some_same e) h.facts.bare
+bare_at g s t (Some (call.Map (map.Start _))) k h b e = (let d : false ≡ true = b in absurd (cc))
+bare_at g s t (Some (call.Unmap (unmap.Start _))) k h b e = (let d : false ≡ true = b in absurd (cc))
+bare_at g s t (Some (call.Exit exit.Start)) k h b e = (let d : false ≡ true = b in absurd (cc))
 bare_at g s t c k h b e = (let d : false ≡ true = b in absurd (cc))
 
+bare_made : (s : State) → Always s → BareWhereMade s
+bare_made s h t k b e = bare_at s.geometry s t (s.calls t) k (h.inv.stands t) b e
+
 pub bare_where_made : (s : State) → IsReached s → BareWhereMade s
-bare_where_made s reached t k b e = bare_at s.geometry s t (s.calls t) k ((always s reached).inv.stands t) b e
+bare_where_made s reached = bare_made s (always s reached)
 
 -- a call that works at an index holds its slot, and may fill it, found a page there, or holds the file lock
-pub works : (g : Geometry) (s : State) (u : ℕ) (c : Option Call) (k : ℕ × ℕ) → Stands g s u c → works_at c ≡ Some k → (slot_held c ≡ Some k) × ((fills c ≡ Some k) ⊎ ((s.pages k.0 k.1 ≢ None) ⊎ (locked_file c ≡ Some k.0)))
+pub works : (g : Geometry) (s : State) (u : ℕ) (c : Option Call) (k : ℕ × ℕ) → Stands g s u c → works_at c ≡ Some k
+    → (slot_held c ≡ Some k) × ((fills c ≡ Some k) ⊎ ((s.pages k.0 k.1 ≢ None) ⊎ (locked_file c ≡ Some k.0)))
 works g s u (Some (call.Touch (touch.Missing p))) k h e = (e, inl e)
 works g s u (Some (call.Touch (touch.Changed p))) k h e = (e, inl e)
 works g s u (Some (call.Touch (touch.Abort p))) k h e = (e, inl e)
@@ -95,14 +114,20 @@ works g s u (Some (call.Alloc (alloc.Taken p))) k h e = (e, inr (inr (ap (λ (m 
 works g s u (Some (call.Alloc (alloc.Settle p))) k h e = (e, inr (inr (ap (λ (m : ℕ × ℕ). Some m.0) (some_same e))))
 works g s u (Some (call.Alloc (alloc.Committed p))) k h e = (e, inr (inr (ap (λ (m : ℕ × ℕ). Some m.0) (some_same e))))
 works g s u (Some (call.Alloc (alloc.Restore p))) k h e = (e, inr (inr (ap (λ (m : ℕ × ℕ). Some m.0) (some_same e))))
+works g s u (Some (call.Map (map.Start _))) k h e = (let d : ◌≡◌ {A = Option (ℕ × ℕ)} None (Some k) = e in absurd (cc))
+works g s u (Some (call.Punch (punch.Start _))) k h e = (let d : ◌≡◌ {A = Option (ℕ × ℕ)} None (Some k) = e in absurd (cc))
+works g s u (Some (call.Truncate (truncate.Start _))) k h e = (let d : ◌≡◌ {A = Option (ℕ × ℕ)} None (Some k) = e in absurd (cc))
+works g s u (Some (call.Unmap (unmap.Start _))) k h e = (let d : ◌≡◌ {A = Option (ℕ × ℕ)} None (Some k) = e in absurd (cc))
+works g s u (Some (call.Exit exit.Start)) k h e = (let d : ◌≡◌ {A = Option (ℕ × ℕ)} None (Some k) = e in absurd (cc))
 works g s u c k h e = (let d : ◌≡◌ {A = Option (ℕ × ℕ)} None (Some k) = e in absurd (cc))
 
-pub reach_of : (g : Geometry) (s : State) (u : ℕ) (k : ℕ × ℕ) → Inv g s → fills (s.calls u) ≡ Some k → Reached s.size (λ w. ahead (s.calls w)) k.0 k.1
+pub reach_of : (g : Geometry) (s : State) (u : ℕ) (k : ℕ × ℕ) → Inv g s → fills (s.calls u) ≡ Some k
+    → Reached s.size (λ w. ahead (s.calls w)) k.0 k.1
 reach_of g s u k h e = subst (λ (o : Option (ℕ × ℕ)). IfSome o (λ k. Reached s.size (λ w. ahead (s.calls w)) k.0 k.1)) e (h.reach u)
 
-pub passed_is_bare : (s : State) → IsReached s → PassedIsBare s
-passed_is_bare s reached t f j cases =
-    let h = (always s reached).inv in
+pub passed_bare : (s : State) → Always s → PassedIsBare s
+passed_bare s all t f j cases =
+    let h = all.inv in
     elim cases [
       | inl p ↦ (let none = (h.sweep.past t f j p).0 in (
         none,
@@ -115,8 +140,11 @@ passed_is_bare s reached t f j cases =
         ],
       ))
       | inr p ↦ (
-        bare_where_made s reached t (f, j) p.0 p.1,
+        bare_made s all t (f, j) p.0 p.1,
         λ u d e. let w = works s.geometry s u (s.calls u) (f, j) (h.stands u) e in
             d (same_holder u t (s.slots (slot_of s.geometry f j)) (holds_slot s.geometry s u (f, j) h w.0) (holds_slot s.geometry s t (f, j) h p.1)),
       )
     ]
+
+pub passed_is_bare : (s : State) → IsReached s → PassedIsBare s
+passed_is_bare s reached = passed_bare s (always s reached)

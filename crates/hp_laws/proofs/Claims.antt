@@ -88,18 +88,28 @@ record CountsAt (g : Geometry) (s : State) (t : ℕ) (c : Option Call) (k : ℕ 
   who : (fills c ≡ Some k) ⊎ HasLock s t k.0
 
 counted : (g : Geometry) (s : State) (t : ℕ) (c : Option Call) (k : ℕ × ℕ) → Stands g s t c → counts_at c ≡ Some k → CountsAt g s t c k
-counted g s t (Some (call.Touch (touch.Changed p))) k h e = let o = only_of (p.pending.missing == 0) (p.touch.file, p.touch.index) k e in subst (CountsAt g s t (Some (call.Touch (touch.Changed p)))) o.1 (record { marked = h.facts.marked o.0; bare = h.facts.bare; slot = h.slot; who = inl refl })
-counted g s t (Some (call.Touch (touch.Taken p))) k h e = let o = only_of (p.pending.missing == 0) (p.touch.file, p.touch.index) k e in subst (CountsAt g s t (Some (call.Touch (touch.Taken p)))) o.1 (record { marked = h.facts.marked o.0; bare = h.facts.bare; slot = h.slot; who = inl refl })
+counted g s t (Some (call.Touch (touch.Changed p))) k h e =
+    let o = only_of (p.pending.missing == 0) (p.touch.file, p.touch.index) k e in
+    subst (CountsAt g s t (Some (call.Touch (touch.Changed p)))) o.1 (record { marked = h.facts.marked o.0; bare = h.facts.bare; slot = h.slot; who = inl refl })
+counted g s t (Some (call.Touch (touch.Taken p))) k h e =
+    let o = only_of (p.pending.missing == 0) (p.touch.file, p.touch.index) k e in
+    subst (CountsAt g s t (Some (call.Touch (touch.Taken p)))) o.1 (record { marked = h.facts.marked o.0; bare = h.facts.bare; slot = h.slot; who = inl refl })
 counted g s t (Some (call.Touch (touch.Settle p))) k h e = subst (CountsAt g s t (Some (call.Touch (touch.Settle p)))) (some_same e) (record { marked = h.facts.marked; bare = h.facts.bare; slot = h.slot; who = inl refl })
 counted g s t (Some (call.Touch (touch.Committed p))) k h e = subst (CountsAt g s t (Some (call.Touch (touch.Committed p)))) (some_same e) (record { marked = h.facts.marked; bare = h.facts.bare; slot = h.slot; who = inl refl })
 counted g s t (Some (call.Touch (touch.Restore p))) k h e = subst (CountsAt g s t (Some (call.Touch (touch.Restore p)))) (some_same e) (record { marked = h.facts.marked; bare = h.facts.bare; slot = h.slot; who = inl refl })
-counted g s t (Some (call.Alloc (alloc.Changed p))) k h e = let o = only_of (p.pending.missing == 0) (p.allocation.file, p.index) k e in subst (CountsAt g s t (Some (call.Alloc (alloc.Changed p)))) o.1 (record { marked = h.facts.marked o.0; bare = h.facts.bare; slot = h.slot; who = inr h.lock })
-counted g s t (Some (call.Alloc (alloc.Taken p))) k h e = let o = only_of (p.pending.missing == 0) (p.allocation.file, p.index) k e in subst (CountsAt g s t (Some (call.Alloc (alloc.Taken p)))) o.1 (record { marked = h.facts.marked o.0; bare = h.facts.bare; slot = h.slot; who = inr h.lock })
+counted g s t (Some (call.Alloc (alloc.Changed p))) k h e =
+    let o = only_of (p.pending.missing == 0) (p.allocation.file, p.index) k e in
+    subst (CountsAt g s t (Some (call.Alloc (alloc.Changed p)))) o.1 (record { marked = h.facts.marked o.0; bare = h.facts.bare; slot = h.slot; who = inr h.lock })
+counted g s t (Some (call.Alloc (alloc.Taken p))) k h e =
+    let o = only_of (p.pending.missing == 0) (p.allocation.file, p.index) k e in
+    subst (CountsAt g s t (Some (call.Alloc (alloc.Taken p)))) o.1 (record { marked = h.facts.marked o.0; bare = h.facts.bare; slot = h.slot; who = inr h.lock })
 counted g s t (Some (call.Alloc (alloc.Settle p))) k h e = subst (CountsAt g s t (Some (call.Alloc (alloc.Settle p)))) (some_same e) (record { marked = h.facts.marked; bare = h.facts.bare; slot = h.slot; who = inr h.lock })
 counted g s t (Some (call.Alloc (alloc.Committed p))) k h e = subst (CountsAt g s t (Some (call.Alloc (alloc.Committed p)))) (some_same e) (record { marked = h.facts.marked; bare = h.facts.bare; slot = h.slot; who = inr h.lock })
 counted g s t (Some (call.Alloc (alloc.Restore p))) k h e = subst (CountsAt g s t (Some (call.Alloc (alloc.Restore p)))) (some_same e) (record { marked = h.facts.marked; bare = h.facts.bare; slot = h.slot; who = inr h.lock })
 counted g s t (Some (call.Punch (punch.Delete p))) k h e = subst (CountsAt g s t (Some (call.Punch (punch.Delete p)))) (some_same e) (record { marked = h.facts.marked; bare = h.facts.bare; slot = h.slot; who = inr h.lock })
-counted g s t (Some (call.Punch (punch.Free p))) k h e = let o = only_of p.denied (p.hole.file, p.index) k e in subst (CountsAt g s t (Some (call.Punch (punch.Free p)))) o.1 (record { marked = h.facts.marked o.0; bare = h.facts.bare; slot = h.slot; who = inr h.lock })
+counted g s t (Some (call.Punch (punch.Free p))) k h e =
+    let o = only_of p.denied (p.hole.file, p.index) k e in
+    subst (CountsAt g s t (Some (call.Punch (punch.Free p)))) o.1 (record { marked = h.facts.marked o.0; bare = h.facts.bare; slot = h.slot; who = inr h.lock })
 counted g s t c k h e = (let d : ◌≡◌ {A = Option (ℕ × ℕ)} None (Some k) = e in absurd (cc))
 
 -- how a call that counts on an index has it to itself
@@ -112,8 +122,11 @@ pub record Claimed (g : Geometry) (s : State) (t : ℕ) (c : Option Call) (f j :
   pub bare : s.pages f j ≡ None
   pub owns : Owns g s t c f j
 
-by_index : (g : Geometry) (s : State) (t : ℕ) (c : Option Call) (f j : ℕ) → Stands g s t c → is_there (counts_at c) f j ≡ true → Claimed g s t c f j
-by_index g s t c f j h e = let o = counted g s t c (f, j) h (there_is (counts_at c) f j e) in record { marked = o.marked; bare = o.bare; owns = inl (o.slot, o.who) }
+by_index : (g : Geometry) (s : State) (t : ℕ) (c : Option Call) (f j : ℕ) → Stands g s t c → is_there (counts_at c) f j ≡ true
+    → Claimed g s t c f j
+by_index g s t c f j h e =
+    let o = counted g s t c (f, j) h (there_is (counts_at c) f j e) in
+    record { marked = o.marked; bare = o.bare; owns = inl (o.slot, o.who) }
 
 tail_claim : (k f from j : ℕ) (r : Bool) → ((k == f) && (nat_le from j && r)) ≡ true → (k ≡ f) × (from ≤ j) × (r ≡ true)
 tail_claim k f from j r e =
@@ -129,7 +142,8 @@ above k f i j d l = grind (arith, nat_tests)
 on_from : (k f i j : ℕ) → k ≡ f → i ≤ j → ((k == f) && nat_le i j) ≡ true
 on_from k f i j d l = grind (arith, nat_tests)
 
-by_passed : (g : Geometry) (s : State) (t : ℕ) (c : Option Call) (f j : ℕ) → Inv g s → s.calls t ≡ c → passed c f j ≡ true → s.reserved f j ≡ true → Claimed g s t c f j
+by_passed : (g : Geometry) (s : State) (t : ℕ) (c : Option Call) (f j : ℕ) → Inv g s → s.calls t ≡ c → passed c f j ≡ true
+    → s.reserved f j ≡ true → Claimed g s t c f j
 by_passed g s t c f j h e p r = record {
   marked = r;
   bare = (h.sweep.past t f j (ap (λ (m : Option Call). passed m f j) e ∙ p)).0;
@@ -137,7 +151,8 @@ by_passed g s t c f j h e p r = record {
 }
 
 -- at the index where it stands, or above
-by_place : (g : Geometry) (s : State) (t k i : ℕ) (c : Option Call) (f j : ℕ) → Inv g s → s.calls t ≡ c → (k ≡ f) × (i ≤ j) × (s.reserved f j ≡ true)
+by_place : (g : Geometry) (s : State) (t k i : ℕ) (c : Option Call) (f j : ℕ) → Inv g s → s.calls t ≡ c
+    → (k ≡ f) × (i ≤ j) × (s.reserved f j ≡ true)
     → HasSlot g s t k i → s.pages k i ≡ None → HasLock s t k → (k ≡ f → i + 1 ≤ j → passed c f j ≡ true) → Claimed g s t c f j
 by_place g s t k i c f j h e o held bare locked above_it = elim (same_or_other j i) [
   | inl d ↦ record {
@@ -151,16 +166,27 @@ by_place g s t k i c f j h e o held bare locked above_it = elim (same_or_other j
 never : {P : Type 0} → false ≡ true → P
 never e = absurd (cc)
 
-pub claimed : (g : Geometry) (s : State) (t : ℕ) (c : Option Call) (f j : ℕ) → Inv g s → s.calls t ≡ c → Stands g s t c → claim s.reserved c f j ≡ true → Claimed g s t c f j
+pub claimed : (g : Geometry) (s : State) (t : ℕ) (c : Option Call) (f j : ℕ) → Inv g s → s.calls t ≡ c → Stands g s t c
+    → claim s.reserved c f j ≡ true → Claimed g s t c f j
 claimed g s t (Some (call.Truncate (truncate.Start p))) f j h e y q = never q
 claimed g s t (Some (call.Truncate (truncate.Size p))) f j h e y q = never q
-claimed g s t (Some (call.Truncate (truncate.Want p))) f j h e y q = let o = tail_claim p.truncation.file f (p.index + 1) j _ q in by_passed g s t _ f j h e (above p.truncation.file f p.index j o.0 o.1) o.2
-claimed g s t (Some (call.Truncate (truncate.Locked p))) f j h e y q = let o = tail_claim p.truncation.file f (p.index + 1) j _ q in by_passed g s t _ f j h e (above p.truncation.file f p.index j o.0 o.1) o.2
-claimed g s t (Some (call.Truncate (truncate.Unmap p))) f j h e y q = let o = tail_claim p.truncation.file f (p.index + 1) j _ q in by_passed g s t _ f j h e (above p.truncation.file f p.index j o.0 o.1) o.2
-claimed g s t (Some (call.Truncate (truncate.Evict p))) f j h e y q = let o = tail_claim p.truncation.file f (p.index + 1) j _ q in by_passed g s t _ f j h e (above p.truncation.file f p.index j o.0 o.1) o.2
+claimed g s t (Some (call.Truncate (truncate.Want p))) f j h e y q =
+    let o = tail_claim p.truncation.file f (p.index + 1) j _ q in
+    by_passed g s t _ f j h e (above p.truncation.file f p.index j o.0 o.1) o.2
+claimed g s t (Some (call.Truncate (truncate.Locked p))) f j h e y q =
+    let o = tail_claim p.truncation.file f (p.index + 1) j _ q in
+    by_passed g s t _ f j h e (above p.truncation.file f p.index j o.0 o.1) o.2
+claimed g s t (Some (call.Truncate (truncate.Unmap p))) f j h e y q =
+    let o = tail_claim p.truncation.file f (p.index + 1) j _ q in
+    by_passed g s t _ f j h e (above p.truncation.file f p.index j o.0 o.1) o.2
+claimed g s t (Some (call.Truncate (truncate.Evict p))) f j h e y q =
+    let o = tail_claim p.truncation.file f (p.index + 1) j _ q in
+    by_passed g s t _ f j h e (above p.truncation.file f p.index j o.0 o.1) o.2
 claimed g s t (Some (call.Truncate (truncate.Free p))) f j h e y q = by_place g s t p.truncation.file p.index _ f j h e (tail_claim p.truncation.file f p.index j _ q) y.slot y.facts.bare y.lock (λ a b. above p.truncation.file f p.index j a b)
 claimed g s t (Some (call.Truncate (truncate.Unslot p))) f j h e y q = by_place g s t p.truncation.file p.index _ f j h e (tail_claim p.truncation.file f p.index j _ q) y.slot y.facts.bare y.lock (λ a b. above p.truncation.file f p.index j a b)
-claimed g s t (Some (call.Truncate (truncate.Tail p))) f j h e y q = let o = tail_claim p.truncation.file f p.truncation.new j _ q in by_passed g s t _ f j h e (on_from p.truncation.file f p.truncation.new j o.0 o.1) o.2
+claimed g s t (Some (call.Truncate (truncate.Tail p))) f j h e y q =
+    let o = tail_claim p.truncation.file f p.truncation.new j _ q in
+    by_passed g s t _ f j h e (on_from p.truncation.file f p.truncation.new j o.0 o.1) o.2
 claimed g s t (Some (call.Truncate (truncate.Settle p))) f j h e y q = never q
 claimed g s t (Some (call.Truncate (truncate.Leave p))) f j h e y q = never q
 claimed g s t None f j h e y q = never q
@@ -171,7 +197,8 @@ claimed g s t (Some (call.Punch p)) f j h e y q = by_index g s t _ f j y q
 claimed g s t (Some (call.Unmap p)) f j h e y q = by_index g s t _ f j y q
 claimed g s t (Some (call.Exit p)) f j h e y q = by_index g s t _ f j y q
 
-fills_not_passed : {P : Type 0} (g : Geometry) (s : State) (t u f j : ℕ) → Inv g s → fills (s.calls t) ≡ Some (f, j) → passed (s.calls u) f j ≡ true → P
+fills_not_passed : {P : Type 0} (g : Geometry) (s : State) (t u f j : ℕ) → Inv g s → fills (s.calls t) ≡ Some (f, j)
+    → passed (s.calls u) f j ≡ true → P
 fills_not_passed g s t u f j h a p = absurd (reached_not_passed g s f j h (subst (λ (o : Option (ℕ × ℕ)). IfSome o (λ k. Reached s.size (λ w. ahead (s.calls w)) k.0 k.1)) a (h.reach t)) u p)
 
 -- two calls never count on one index

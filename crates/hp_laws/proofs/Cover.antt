@@ -13,6 +13,8 @@ use Rattle.hp_machine.specs.declared.map.MapPhase.TheVariants as map
 use Rattle.hp_machine.specs.declared.alloc.AllocPhase.TheVariants as alloc
 use Rattle.hp_machine.specs.declared.punch.PunchPhase.TheVariants as punch
 use Rattle.hp_machine.specs.declared.truncate.TruncatePhase.TheVariants as truncate
+use Rattle.hp_machine.specs.declared.unmap.UnmapPhase.TheVariants as unmap
+use Rattle.hp_machine.specs.declared.exit.ExitPhase.TheVariants as exit
 use Rattle.hp_machine.specs.declared.call.Call.{Call}
 use Rattle.hp_machine.specs.declared.call.Call.TheVariants as call
 use Rattle.hp_laws.specs.Enough.{CanSettle}
@@ -32,7 +34,8 @@ all_needs g s h =
     let b = total_le g.files (λ f. vacant g.limit (s.reserved f) (s.pages f)) (λ f. total (g.tasks + 1) (λ t. total g.limit (λ j. bit (claim s.reserved (s.calls t) f j)))) (λ f. each f) in
     omega arith
   where
-    each : (f : ℕ) → total (g.tasks + 1) (λ t. total g.limit (λ j. bit (claim s.reserved (s.calls t) f j))) ≤ vacant g.limit (s.reserved f) (s.pages f)
+    each : (f : ℕ)
+        → total (g.tasks + 1) (λ t. total g.limit (λ j. bit (claim s.reserved (s.calls t) f j))) ≤ vacant g.limit (s.reserved f) (s.pages f)
     each f =
         let a : total (g.tasks + 1) (λ t. total g.limit (λ j. bit (claim s.reserved (s.calls t) f j))) ≡ total g.limit (λ j. total (g.tasks + 1) (λ t. bit (claim s.reserved (s.calls t) f j)))
         = exchange (g.tasks + 1) g.limit (λ t j. bit (claim s.reserved (s.calls t) f j)) in
@@ -47,7 +50,8 @@ all_needs g s h =
 self : (f i : ℕ) → ((f == f) && (i == i)) ≡ true
 self f i = grind (arith, nat_tests)
 
-one_claim : (g : Geometry) (s : State) (c : Option Call) (f i : ℕ) (b : Bool) → f < g.files → i < g.limit → (b ≡ true → claim s.reserved c f i ≡ true) → bit b ≤ need g s c
+one_claim : (g : Geometry) (s : State) (c : Option Call) (f i : ℕ) (b : Bool) → f < g.files → i < g.limit
+    → (b ≡ true → claim s.reserved c f i ≡ true) → bit b ≤ need g s c
 one_claim g s c f i false l m e = omega arith
 one_claim g s c f i true l m e =
     let a : total g.limit (λ j. bit (claim s.reserved c f j)) ≤ need g s c = total_has g.files f (λ k. total g.limit (λ j. bit (claim s.reserved c k j))) l in
@@ -90,10 +94,14 @@ less_needs g s t (Some (call.Truncate (truncate.Evict p))) h = tail_needs g s (S
 less_needs g s t (Some (call.Truncate (truncate.Free p))) h = tail_needs g s (Some (call.Truncate (truncate.Free p))) p.truncation.file (p.index) p.evicted h.facts.file h.facts.lost (λ j. refl)
 less_needs g s t (Some (call.Truncate (truncate.Unslot p))) h = tail_needs g s (Some (call.Truncate (truncate.Unslot p))) p.truncation.file (p.index) p.evicted h.facts.file h.facts.lost (λ j. refl)
 less_needs g s t (Some (call.Truncate (truncate.Tail p))) h = tail_needs g s (Some (call.Truncate (truncate.Tail p))) p.truncation.file (p.truncation.new) p.evicted h.facts.file h.facts.lost (λ j. refl)
+less_needs g s t (Some (call.Map (map.Start _))) h = omega arith
+less_needs g s t (Some (call.Unmap (unmap.Start _))) h = omega arith
+less_needs g s t (Some (call.Exit exit.Start)) h = omega arith
 less_needs g s t c h = omega arith
 
 -- there are enough reservations for what a call counted and what it counts on beyond what it owes
-pub enough : (g : Geometry) (s : State) (t : ℕ) (c : Option Call) → Inv g s → t < g.tasks + 1 → s.calls t ≡ c → more c + need g s c ≤ s.resv + less c
+pub enough : (g : Geometry) (s : State) (t : ℕ) (c : Option Call) → Inv g s → t < g.tasks + 1 → s.calls t ≡ c
+    → more c + need g s c ≤ s.resv + less c
 enough g s t c h l e =
     let n : ℕ = g.tasks + 1 in
     let a : total n (λ u. need g s (s.calls u)) ≤ vacant_of g s.reserved s.pages = all_needs g s h in
@@ -110,11 +118,18 @@ enough g s t c h l e =
 is_zero : (m : ℕ) → m ≡ 0 → (m == 0) ≡ true
 is_zero m e = grind (arith, nat_tests)
 
-pub can_settle : (g : Geometry) (s : State) (t : ℕ) (c : Option Call) → Inv g s → t < g.tasks + 1 → s.calls t ≡ c → Stands g s t c → CanSettle s c
+pub can_settle : (g : Geometry) (s : State) (t : ℕ) (c : Option Call) → Inv g s → t < g.tasks + 1 → s.calls t ≡ c → Stands g s t c
+    → CanSettle s c
 can_settle g s t (Some (call.Touch (touch.Changed p))) k l e h = λ z. let o : 1 ≤ need g s (Some (call.Touch (touch.Changed p))) = one_claim g s (Some (call.Touch (touch.Changed p))) p.touch.file p.touch.index true h.facts.aim.1 h.facts.aim.2 (λ d. when (p.pending.missing == 0) p.touch.file p.touch.index (is_zero p.pending.missing z)) in let q = enough g s t _ k l e in omega arith
-can_settle g s t (Some (call.Touch (touch.Settle p))) k l e h = let o : 1 ≤ need g s (Some (call.Touch (touch.Settle p))) = one_claim g s (Some (call.Touch (touch.Settle p))) p.touch.file p.touch.index true h.facts.aim.1 h.facts.aim.2 (λ d. self p.touch.file p.touch.index) in let q = enough g s t _ k l e in omega arith
+can_settle g s t (Some (call.Touch (touch.Settle p))) k l e h =
+    let o : 1 ≤ need g s (Some (call.Touch (touch.Settle p))) = one_claim g s (Some (call.Touch (touch.Settle p))) p.touch.file p.touch.index true h.facts.aim.1 h.facts.aim.2 (λ d. self p.touch.file p.touch.index) in
+    let q = enough g s t _ k l e in
+    omega arith
 can_settle g s t (Some (call.Alloc (alloc.Changed p))) k l e h = λ z. let o : 1 ≤ need g s (Some (call.Alloc (alloc.Changed p))) = one_claim g s (Some (call.Alloc (alloc.Changed p))) p.allocation.file p.index true h.facts.range.0 (let a = h.facts.range.2 in let b = h.facts.range.3 in omega arith) (λ d. when (p.pending.missing == 0) p.allocation.file p.index (is_zero p.pending.missing z)) in let q = enough g s t _ k l e in omega arith
-can_settle g s t (Some (call.Alloc (alloc.Settle p))) k l e h = let o : 1 ≤ need g s (Some (call.Alloc (alloc.Settle p))) = one_claim g s (Some (call.Alloc (alloc.Settle p))) p.allocation.file p.index true h.facts.range.0 (let a = h.facts.range.2 in let b = h.facts.range.3 in omega arith) (λ d. self p.allocation.file p.index) in let q = enough g s t _ k l e in omega arith
+can_settle g s t (Some (call.Alloc (alloc.Settle p))) k l e h =
+    let o : 1 ≤ need g s (Some (call.Alloc (alloc.Settle p))) = one_claim g s (Some (call.Alloc (alloc.Settle p))) p.allocation.file p.index true h.facts.range.0 (let a = h.facts.range.2 in let b = h.facts.range.3 in omega arith) (λ d. self p.allocation.file p.index) in
+    let q = enough g s t _ k l e in
+    omega arith
 can_settle g s t (Some (call.Map (map.Settle p))) k l e h = let q = enough g s t _ k l e in omega arith
 can_settle g s t (Some (call.Truncate (truncate.Settle p))) k l e h = let q = enough g s t _ k l e in omega arith
 can_settle g s t c k l e h = tt

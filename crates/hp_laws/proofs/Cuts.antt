@@ -28,14 +28,17 @@ reach_cases s t b f j P e r low other own = elim r [
   ]
 ]
 
-new_other : (calls : ℕ → Option Call) (t u : ℕ) (c : Option Call) (size : ℕ → ℕ) (f j : ℕ) → u ≢ t → ahead (calls u) f j ≡ true → Reached size (put (λ (w : ℕ). ahead (calls w)) t (ahead c)) f j
+new_other : (calls : ℕ → Option Call) (t u : ℕ) (c : Option Call) (size : ℕ → ℕ) (f j : ℕ) → u ≢ t → ahead (calls u) f j ≡ true
+    → Reached size (put (λ (w : ℕ). ahead (calls w)) t (ahead c)) f j
 new_other calls t u c size f j d p = inr (u, ap (λ (m : ℕ → ℕ → Bool). m f j) (put_other (λ (w : ℕ). ahead (calls w)) t (ahead c) u d) ∙ p)
 
-new_own : (calls : ℕ → Option Call) (t : ℕ) (c : Option Call) (size : ℕ → ℕ) (f j : ℕ) → ahead c f j ≡ true → Reached size (put (λ (w : ℕ). ahead (calls w)) t (ahead c)) f j
+new_own : (calls : ℕ → Option Call) (t : ℕ) (c : Option Call) (size : ℕ → ℕ) (f j : ℕ) → ahead c f j ≡ true
+    → Reached size (put (λ (w : ℕ). ahead (calls w)) t (ahead c)) f j
 new_own calls t c size f j p = inr (t, ap (λ (m : ℕ → ℕ → Bool). m f j) (put_same (λ (w : ℕ). ahead (calls w)) t (ahead c)) ∙ p)
 
 -- what is said of the calls after one goes on is said of another, or of it
-view_cases : (v : Option Call → ℕ → ℕ → Bool) (calls : ℕ → Option Call) (t u : ℕ) (c : Option Call) (f j : ℕ) (P : Type 0) → put (λ (w : ℕ). v (calls w)) t (v c) u f j ≡ true
+view_cases : (v : Option Call → ℕ → ℕ → Bool) (calls : ℕ → Option Call) (t u : ℕ) (c : Option Call) (f j : ℕ) (P : Type 0)
+    → put (λ (w : ℕ). v (calls w)) t (v c) u f j ≡ true
     → (u ≢ t → v (calls u) f j ≡ true → P) → (v c f j ≡ true → P) → P
 view_cases v calls t u c f j P p other own = elim (put_tells (λ (w : ℕ). v (calls w)) t (v c) u) [
   | inl q ↦ own (ap (λ (m : ℕ → ℕ → Bool). m f j) (sym q.1) ∙ p)
@@ -64,7 +67,8 @@ pub cuts : (g : Geometry) (s : State) (t : ℕ) (b c : Option Call) (f new top :
     → ((j : ℕ) → j < top → (j < new) ⊎ (ahead c f j ≡ true))
     → ((k j : ℕ) → passed c k j ≡ true → (k ≡ f) × (top ≤ j) × (new ≤ j))
     → fills c ≡ None → ((k j : ℕ) → gone c k j ≡ true → ⊥)
-    → Stands g (record s { size = put s.size f new }) t c → Inv g (to (record s { size = put s.size f new }) t c)
+    → Stands g (record s { pool = record s.pool { size = put s.size f new } }) t c
+    → Inv g (to (record s { pool = record s.pool { size = put s.size f new } }) t c)
 cuts g s t b c f new top h l e same_held same_hand same_change balance held low size_low bare none_ahead covers passes no_fill none_gone own = goes_on g s n t b c h l e (record {
   geometry = h.geometry;
   entries = h.entries;
@@ -92,7 +96,7 @@ cuts g s t b c f new top h l e same_held same_hand same_change balance held low 
 })
   where
     n : State
-    n = record s { size = put s.size f new }
+    n = record s { pool = record s.pool { size = put s.size f new } }
 
     covered : (k j : ℕ) → Reached s.size (λ u. ahead (s.calls u)) k j → Reached n.size (put (λ (w : ℕ). ahead (s.calls w)) t (ahead c)) k j
     covered k j r = reach_cases s t b k j (Reached n.size (put (λ (w : ℕ). ahead (s.calls w)) t (ahead c)) k j) e r
@@ -113,7 +117,8 @@ pub passes : (g : Geometry) (s : State) (t : ℕ) (b c : Option Call) (f i new :
     → HasSlot g s t f i → s.pages f i ≡ None → s.size f ≡ new
     → ((k j : ℕ) → ahead b k j ≡ true → (k ≡ f) × ((j ≡ i) ⊎ ((j < new) ⊎ (ahead c f j ≡ true))))
     → ((k j : ℕ) → passed c k j ≡ true → (passed b k j ≡ true) ⊎ ((k ≡ f) × (j ≡ i) × (new ≤ j))) → ((k j : ℕ) → gone c k j ≡ true → ⊥)
-    → Stands g (record s { slots = put s.slots (slot_of g f i) None }) t c → Inv g (to (record s { slots = put s.slots (slot_of g f i) None }) t c)
+    → Stands g (record s { pool = record s.pool { slots = put s.slots (slot_of g f i) None } }) t c
+    → Inv g (to (record s { pool = record s.pool { slots = put s.slots (slot_of g f i) None } }) t c)
 passes g s t b c f i new h l e same_lock some none same_hand same_change balance no_b no_c held bare sized aheads passing none_gone own = goes_on g s n t b c h l e (record {
   geometry = h.geometry;
   entries = h.entries;
@@ -144,9 +149,10 @@ passes g s t b c f i new h l e same_lock some none same_hand same_change balance
 })
   where
     n : State
-    n = record s { slots = put s.slots (slot_of g f i) None }
+    n = record s { pool = record s.pool { slots = put s.slots (slot_of g f i) None } }
 
-    covered : (k j : ℕ) → Reached s.size (λ u. ahead (s.calls u)) k j → (k ≡ f → j ≡ i → ⊥) → Reached s.size (put (λ (w : ℕ). ahead (s.calls w)) t (ahead c)) k j
+    covered : (k j : ℕ) → Reached s.size (λ u. ahead (s.calls u)) k j → (k ≡ f → j ≡ i → ⊥)
+        → Reached s.size (put (λ (w : ℕ). ahead (s.calls w)) t (ahead c)) k j
     covered k j r not_here = reach_cases s t b k j (Reached s.size (put (λ (w : ℕ). ahead (s.calls w)) t (ahead c)) k j) e r
         (λ low. inl low)
         (λ u d p. new_other s.calls t u c s.size k j d p)
@@ -174,12 +180,18 @@ passes g s t b c f i new h l e same_lock some none same_hand same_change balance
         let q : ◌≡◌ {A = Option (ℕ × ℕ)} None (Some k) = sym no_b ∙ (ap fills (sym e) ∙ (ap (λ (m : ℕ). fills (s.calls m)) (sym d) ∙ p)) in
         absurd (cc)
 
+was_true : (b c : Bool) → (b ≡ false → c ≡ false) → c ≡ true → b ≡ true
+was_true true c h e = refl
+was_true false c h e = (let z : false ≡ true = sym (h refl) ∙ e in absurd (cc))
+
 -- the tail, which has no page, is cut off
 pub cuts_tail : (g : Geometry) (s : State) (t : ℕ) (b c : Option Call) (f new : ℕ) → Inv g s → t < g.tasks + 1 → s.calls t ≡ b → f < g.files
-    → ahead c ≡ ahead b → passed c ≡ passed b → ((k j : ℕ) → gone c k j ≡ true → (k ≡ f) × (new ≤ j)) → holds c ≡ holds b → hand c ≡ hand b → change_in c ≡ change_in b → fills c ≡ None
+    → ahead c ≡ ahead b → passed c ≡ passed b → ((k j : ℕ) → gone c k j ≡ true → (k ≡ f) × (new ≤ j)) → holds c ≡ holds b
+    → hand c ≡ hand b → change_in c ≡ change_in b → fills c ≡ None
     → less c + more b + count_within (s.reserved f) new g.limit ≡ less b + more c
     → HasLock s t f → ((j : ℕ) → new ≤ j → passed (s.calls t) f j ≡ true)
-    → Stands g (record s { reserved = put s.reserved f (cut_tail (s.reserved f) new) }) t c → Inv g (to (record s { reserved = put s.reserved f (cut_tail (s.reserved f) new) }) t c)
+    → Stands g (record s { pool = record s.pool { reserved = put s.reserved f (cut_tail (s.reserved f) new) } }) t c
+    → Inv g (to (record s { pool = record s.pool { reserved = put s.reserved f (cut_tail (s.reserved f) new) } }) t c)
 cuts_tail g s t b c f new h l e in_files same_ahead same_passed goners same_held same_hand same_change no_fill balance held passing own = goes_on g s n t b c h l e (record {
   geometry = h.geometry;
   entries = h.entries;
@@ -191,7 +203,7 @@ cuts_tail g s t b c f new h l e in_files same_ahead same_passed goners same_held
   count = (let z = lost_tail in omega arith);
   place = place_same g s t b c h e same_hand;
   inside = record {
-    low = h.inside.low;
+    within = λ k j a. h.inside.within k j (was_true (s.reserved k j) (n.reserved k j) (cut_still k j) a);
     bare = λ k j a. elim (same_or_other k f) [
       | inl d ↦ elim (cut_false (s.reserved f) new j (ap (λ (m : ℕ → Bool). m j) (sym (ap n.reserved d ∙ put_same s.reserved f (cut_tail (s.reserved f) new))) ∙ a)) [
         | inl q ↦ ap (λ (m : ℕ). s.pages m j) d ∙ h.inside.bare f j q
@@ -218,7 +230,7 @@ cuts_tail g s t b c f new h l e in_files same_ahead same_passed goners same_held
 })
   where
     n : State
-    n = record s { reserved = put s.reserved f (cut_tail (s.reserved f) new) }
+    n = record s { pool = record s.pool { reserved = put s.reserved f (cut_tail (s.reserved f) new) } }
 
     cut_still : (k j : ℕ) → s.reserved k j ≡ false → n.reserved k j ≡ false
     cut_still k j a = elim (same_or_other k f) [
@@ -240,7 +252,8 @@ cuts_tail g s t b c f new h l e in_files same_ahead same_passed goners same_held
         not_above : (j : ℕ) → (new ≤ j → ⊥) → j < new
         not_above j p = grind arith
 
-    kept : (u : ℕ) → u ≢ t → (k j : ℕ) → (fills (s.calls u) ≡ Some (k, j)) ⊎ (locked_file (s.calls u) ≡ Some k) → s.reserved k j ≡ true → n.reserved k j ≡ true
+    kept : (u : ℕ) → u ≢ t → (k j : ℕ) → (fills (s.calls u) ≡ Some (k, j)) ⊎ (locked_file (s.calls u) ≡ Some k)
+        → s.reserved k j ≡ true → n.reserved k j ≡ true
     kept u d k j who z = elim who [
       | inr o ↦ ap (λ (m : ℕ → Bool). m j) (put_other s.reserved f (cut_tail (s.reserved f) new) k (other_file g s t u k f h held d o)) ∙ z
       | inl o ↦ elim (same_or_other k f) [

@@ -51,31 +51,39 @@ use Rattle.hp_laws.proofs.Shared.{by_test}
 alike : {A : Type 0} → A ↔ A
 alike = (λ a. a, λ a. a)
 
-change_same : {P : Type 0} (s : Pool) (f from to : ℕ) (denied : P) (changed : Change → P) (turn : Turn P) (new : Pool) → ¬ (s.spare f ≡ s.pending f) → ChangeRow s false f from to denied changed turn new ↔ ChangeRow s true f from to denied changed turn new
-change_same s f from to denied changed turn new unwanted = let q : (s.spare f == s.pending f) ≡ false = ne_eqb (s.spare f) (s.pending f) unwanted in rw q alike
+change_same : {P : Type 0} (s : Pool) (f from to : ℕ) (denied : P) (changed : Change → P) (turn : Turn P) (new : Pool)
+    → ¬ (s.spare f ≡ s.pending f)
+    → ChangeRow s false f from to denied changed turn new ↔ ChangeRow s true f from to denied changed turn new
+change_same s f from to denied changed turn new unwanted =
+    let q : (s.spare f == s.pending f) ≡ false = ne_eqb (s.spare f) (s.pending f) unwanted in
+    rw q alike
 
 at_or_above : (i n : ℕ) → ¬ (i < n) → nat_le n i ≡ true
 at_or_above i n unwanted = grind (arith, nat_tests, unwanted)
 
-touch_same : (s : Pool) (t : ℕ) (killed : Bool) (p : TouchPhase) (turn : Turn TouchPhase) (new : Pool) → ¬ touch_wants s p → TouchRow s t killed false p turn new ↔ TouchRow s t killed true p turn new
+touch_same : (s : Pool) (t : ℕ) (killed : Bool) (p : TouchPhase) (turn : Turn TouchPhase) (new : Pool) → ¬ touch_wants s p
+    → TouchRow s t killed false p turn new ↔ TouchRow s t killed true p turn new
 touch_same s t killed (touch.Missing p) turn new unwanted = change_same s p.touch.file p.touch.index (p.touch.index + 1) (touch.Leave (record { touch = p.touch; answer = answer.NoMemory })) (λ change. touch.Changed (record { touch = p.touch; pending = change })) turn new unwanted
 touch_same s t killed (touch.Committed p) turn new unwanted = let q = at_or_above p.touch.index (s.size p.touch.file) unwanted in rw q alike
 touch_same s t killed (touch.Found p) turn new unwanted = let q = at_or_above p.touch.index (s.size p.touch.file) unwanted in rw q alike
 touch_same s t killed p turn new unwanted = alike
 
 -- room that is found is wanted, so there is none
-by_room : {A : Type 0} {B C : ℕ → Type 0} (I : Option ℕ → Type 0) → ((base : ℕ) → ¬ I (Some base)) → (found : Option ℕ) × I found × MatchOption found A B → (found : Option ℕ) × I found × MatchOption found A C
+by_room : {A : Type 0} {B C : ℕ → Type 0} (I : Option ℕ → Type 0) → ((base : ℕ) → ¬ I (Some base))
+    → (found : Option ℕ) × I found × MatchOption found A B → (found : Option ℕ) × I found × MatchOption found A C
 by_room I unwanted (None, is, row) = (None, is, row)
 by_room I unwanted (Some base, is, row) = absurd (unwanted base is)
 
-map_same : (s : Pool) (t : ℕ) (killed : Bool) (p : MapPhase) (turn : Turn MapPhase) (new : Pool) → ¬ map_wants s t p → MapRow s t killed false p turn new ↔ MapRow s t killed true p turn new
+map_same : (s : Pool) (t : ℕ) (killed : Bool) (p : MapPhase) (turn : Turn MapPhase) (new : Pool) → ¬ map_wants s t p
+    → MapRow s t killed false p turn new ↔ MapRow s t killed true p turn new
 map_same s t killed (map.Room p) turn new unwanted =
     let I : Option ℕ → Type 0 = IsRoom s.geometry.space (s.areas t) p.map.len in
     (λ r. by_room I (λ base is. unwanted (base, is)) r, λ r. by_room I (λ base is. unwanted (base, is)) r)
 map_same s t killed (map.Missing p) turn new unwanted = change_same s p.map.file p.map.from (p.map.from + p.map.len) (map.Leave (record { map = p.map; answer = answer.NoMemory })) (λ change. map.Changed (record { map = p.map; base = p.base; pending = change })) turn new unwanted
 map_same s t killed p turn new unwanted = alike
 
-alloc_same : (s : Pool) (t : ℕ) (killed : Bool) (p : AllocPhase) (turn : Turn AllocPhase) (new : Pool) → ¬ alloc_wants s p → AllocRow s t killed false p turn new ↔ AllocRow s t killed true p turn new
+alloc_same : (s : Pool) (t : ℕ) (killed : Bool) (p : AllocPhase) (turn : Turn AllocPhase) (new : Pool) → ¬ alloc_wants s p
+    → AllocRow s t killed false p turn new ↔ AllocRow s t killed true p turn new
 alloc_same s t killed (alloc.Missing p) turn new unwanted = change_same s p.allocation.file p.index (p.index + 1) (alloc.Unslot (record { allocation = p.allocation; index = p.index; answer = Some answer.NoMemory })) (λ change. alloc.Changed (record { allocation = p.allocation; index = p.index; pending = change })) turn new unwanted
 alloc_same s t killed (alloc.Committed p) turn new unwanted = absurd (unwanted tt)
 alloc_same s t killed p turn new unwanted = alike
@@ -90,7 +98,8 @@ match_off P Q true y e d = absurd (cc)
 match_off P Q false true e d = absurd (cc)
 match_off P Q false false e d = alike
 
-punch_same : (s : Pool) (t : ℕ) (killed : Bool) (p : PunchPhase) (turn : Turn PunchPhase) (new : Pool) → ¬ punch_wants s p → PunchRow s t killed false p turn new ↔ PunchRow s t killed true p turn new
+punch_same : (s : Pool) (t : ℕ) (killed : Bool) (p : PunchPhase) (turn : Turn PunchPhase) (new : Pool) → ¬ punch_wants s p
+    → PunchRow s t killed false p turn new ↔ PunchRow s t killed true p turn new
 punch_same s t killed (punch.Delete p) turn new unwanted =
     let f = p.hole.file in
     let a : Bool = splits (s.reserved f) p.index in
@@ -99,22 +108,27 @@ punch_same s t killed (punch.Delete p) turn new unwanted =
     match_off _ _ (a && b && not false) (a && b && not true) (not_both a b true off) (not_both a b false off)
 punch_same s t killed p turn new unwanted = alike
 
-truncate_same : (s : Pool) (t : ℕ) (killed : Bool) (p : TruncatePhase) (turn : Turn TruncatePhase) (new : Pool) → TruncateRow s t killed false p turn new ↔ TruncateRow s t killed true p turn new
+truncate_same : (s : Pool) (t : ℕ) (killed : Bool) (p : TruncatePhase) (turn : Turn TruncatePhase) (new : Pool)
+    → TruncateRow s t killed false p turn new ↔ TruncateRow s t killed true p turn new
 truncate_same s t killed (truncate.Start p) turn new = alike
 truncate_same s t killed p turn new = alike
 
-unmap_same : (s : Pool) (t : ℕ) (killed : Bool) (p : UnmapPhase) (turn : Turn UnmapPhase) (new : Pool) → UnmapRow s t killed false p turn new ↔ UnmapRow s t killed true p turn new
+unmap_same : (s : Pool) (t : ℕ) (killed : Bool) (p : UnmapPhase) (turn : Turn UnmapPhase) (new : Pool)
+    → UnmapRow s t killed false p turn new ↔ UnmapRow s t killed true p turn new
 unmap_same s t killed (unmap.Start p) turn new = alike
 unmap_same s t killed p turn new = alike
 
-exit_same : (s : Pool) (t : ℕ) (killed : Bool) (p : ExitPhase) (turn : Turn ExitPhase) (new : Pool) → ExitRow s t killed false p turn new ↔ ExitRow s t killed true p turn new
+exit_same : (s : Pool) (t : ℕ) (killed : Bool) (p : ExitPhase) (turn : Turn ExitPhase) (new : Pool)
+    → ExitRow s t killed false p turn new ↔ ExitRow s t killed true p turn new
 exit_same s t killed exit.Start turn new = alike
 exit_same s t killed p turn new = alike
 
-turn_same : {P : Type 0} (call : P → Call) (R Q : Turn P → Pool → Type 0) (o : Outcome) (new : Pool) (next : Option Call) → ((turn : Turn P) → R turn new ↔ Q turn new) → TurnRow call R o new next ↔ TurnRow call Q o new next
+turn_same : {P : Type 0} (call : P → Call) (R Q : Turn P → Pool → Type 0) (o : Outcome) (new : Pool) (next : Option Call)
+    → ((turn : Turn P) → R turn new ↔ Q turn new) → TurnRow call R o new next ↔ TurnRow call Q o new next
 turn_same call R Q o new next same = (λ r. (r.0, (same r.0).0 r.1, r.2, r.3), λ r. (r.0, (same r.0).1 r.1, r.2, r.3))
 
-call_same : (s : Pool) (t : ℕ) (killed : Bool) (c : Call) (o : Outcome) (new : Pool) (next : Option Call) → ¬ Wants s t c → CallRow s t killed false c o new next ↔ CallRow s t killed true c o new next
+call_same : (s : Pool) (t : ℕ) (killed : Bool) (c : Call) (o : Outcome) (new : Pool) (next : Option Call) → ¬ Wants s t c
+    → CallRow s t killed false c o new next ↔ CallRow s t killed true c o new next
 unfolding CallRow
 call_same s t killed (call.Touch p) o new next unwanted = turn_same call.Touch (TouchRow s t killed false p) (TouchRow s t killed true p) o new next (λ turn. touch_same s t killed p turn new unwanted)
 call_same s t killed (call.Map p) o new next unwanted = turn_same call.Map (MapRow s t killed false p) (MapRow s t killed true p) o new next (λ turn. map_same s t killed p turn new unwanted)
@@ -133,7 +147,8 @@ in_life I P Q true same = alike
 in_life I P Q false same = same
 
 -- a denied step whose row wants no growth is a granted one
-pub same_step : (s : State) (t : ℕ) (c : Call) (o : Outcome) (after : State) → s.calls t ≡ Some c → ¬ Wants (pool_of s) t c → Row s (Step t false) o after ↔ Row s (Step t true) o after
+pub same_step : (s : State) (t : ℕ) (c : Call) (o : Outcome) (after : State) → s.calls t ≡ Some c → ¬ Wants (pool_of s) t c
+    → Row s (Step t false) o after ↔ Row s (Step t true) o after
 unfolding StepRow
 same_step s t c o after some unwanted =
     let steps : (Bool → Call → Type 0) = λ grant call. (pool : Pool) × (next : Option Call) × CallRow (pool_of s) t (is_killed (s.life t)) grant call o pool next × (after ≡ record (with_pool s pool) { life = lives_after s.life t call next; calls = put s.calls t next }) in
@@ -151,7 +166,9 @@ never : (b : Bool) → (b && false) ≡ false
 never true = refl
 never false = refl
 
-change_other : {P : Type 0} (s : Pool) (f from to : ℕ) (denied : P) (changed : Change → P) → s.spare f ≡ s.pending f → ((change : Change) → denied ≢ changed change) → Parted (ChangeRow s false f from to denied changed) (ChangeRow s true f from to denied changed)
+change_other : {P : Type 0} (s : Pool) (f from to : ℕ) (denied : P) (changed : Change → P) → s.spare f ≡ s.pending f
+    → ((change : Change) → denied ≢ changed change)
+    → Parted (ChangeRow s false f from to denied changed) (ChangeRow s true f from to denied changed)
 change_other s f from to denied changed e apart = λ turn others new news r q.
     let same : Bool = s.spare f == s.pending f in
     by_test (same && not false) r
@@ -168,7 +185,8 @@ abbrev answer_at : TouchPhase → Answer
 answer_at (touch.Leave p) = p.answer
 answer_at p = answer.Done
 
-touch_other : (s : Pool) (t : ℕ) (killed : Bool) (p : TouchPhase) → touch_wants s p → Parted (TouchRow s t killed false p) (TouchRow s t killed true p)
+touch_other : (s : Pool) (t : ℕ) (killed : Bool) (p : TouchPhase) → touch_wants s p
+    → Parted (TouchRow s t killed false p) (TouchRow s t killed true p)
 touch_other s t killed (touch.Missing p) wants = change_other s p.touch.file p.touch.index (p.touch.index + 1) (touch.Leave (record { touch = p.touch; answer = answer.NoMemory })) (λ change. touch.Changed (record { touch = p.touch; pending = change })) wants (λ change e. cc)
 touch_other s t killed (touch.Committed p) wants = λ turn others new news r q.
     let high : Bool = nat_le (s.size p.touch.file) p.touch.index in
@@ -179,7 +197,9 @@ touch_other s t killed (touch.Found p) wants = λ turn others new news r q.
     let low = below_size p.touch.index (s.size p.touch.file) wants in
     by_test high r (λ on _. absurd (clash high on low)) (λ _ a. by_test high q (λ on _. absurd (clash high on low)) (λ _ b. (_, _, a.0, b.4.0, λ e. told p.touch.access b.1 e)))
   where
-    told : (access : Access) (word : ℕ) → touch.Leave (record { touch = p.touch; answer = answer.NoMemory }) ≡ touch.Leave (record { touch = p.touch; answer = answer_of access word }) → ⊥
+    told : (access : Access) (word : ℕ)
+        → touch.Leave (record { touch = p.touch; answer = answer.NoMemory }) ≡ touch.Leave (record { touch = p.touch; answer = answer_of access word })
+        → ⊥
     told Load word e = (let d : answer.NoMemory ≡ answer.Word word = ap answer_at e in absurd (cc))
     told (Store new) word e = (let d : answer.NoMemory ≡ answer.Done = ap answer_at e in absurd (cc))
 touch_other s t killed p wants = absurd wants
@@ -187,17 +207,20 @@ touch_other s t killed p wants = absurd wants
 none_fits : (space len : ℕ) (areas : List Mapping) → IsRoom space areas len None → (base : ℕ) × IsRoom space areas len (Some base) → ⊥
 none_fits space len areas none some = clash (fits space areas some.0 len) some.1.0 (none some.0)
 
-map_other : (s : Pool) (t : ℕ) (killed : Bool) (p : MapPhase) → map_wants s t p → Parted (MapRow s t killed false p) (MapRow s t killed true p)
+map_other : (s : Pool) (t : ℕ) (killed : Bool) (p : MapPhase) → map_wants s t p
+    → Parted (MapRow s t killed false p) (MapRow s t killed true p)
 map_other s t killed (map.Room p) wants = λ turn others new news r q. by_found r q
   where
-    by_found : {turn others : Turn MapPhase} {new news : Pool} → MapRoomRow s t false p turn new → MapRoomRow s t true p others news → (a : MapPhase) × (b : MapPhase) × (turn ≡ Moved a) × (others ≡ Moved b) × (a ≢ b)
+    by_found : {turn others : Turn MapPhase} {new news : Pool} → MapRoomRow s t false p turn new
+        → MapRoomRow s t true p others news → (a : MapPhase) × (b : MapPhase) × (turn ≡ Moved a) × (others ≡ Moved b) × (a ≢ b)
     by_found (None, is, row) q = absurd (none_fits s.geometry.space p.map.len (s.areas t) is wants)
     by_found (Some base, is, row) (None, same, next) = absurd (none_fits s.geometry.space p.map.len (s.areas t) same wants)
     by_found (Some base, is, row) (Some other, same, next) = by_test p.map.reserve next (λ _ n. (_, _, row.0, n.0, λ e. cc)) (λ _ n. (_, _, row.0, n.0, λ e. cc))
 map_other s t killed (map.Missing p) wants = change_other s p.map.file p.map.from (p.map.from + p.map.len) (map.Leave (record { map = p.map; answer = answer.NoMemory })) (λ change. map.Changed (record { map = p.map; base = p.base; pending = change })) wants (λ change e. cc)
 map_other s t killed p wants = absurd wants
 
-alloc_other : (s : Pool) (t : ℕ) (killed : Bool) (p : AllocPhase) → alloc_wants s p → Parted (AllocRow s t killed false p) (AllocRow s t killed true p)
+alloc_other : (s : Pool) (t : ℕ) (killed : Bool) (p : AllocPhase) → alloc_wants s p
+    → Parted (AllocRow s t killed false p) (AllocRow s t killed true p)
 alloc_other s t killed (alloc.Missing p) wants = change_other s p.allocation.file p.index (p.index + 1) (alloc.Unslot (record { allocation = p.allocation; index = p.index; answer = Some answer.NoMemory })) (λ change. alloc.Changed (record { allocation = p.allocation; index = p.index; pending = change })) wants (λ change e. cc)
 alloc_other s t killed (alloc.Committed p) wants = λ turn others new news r q. (_, _, r.0, q.0, λ e. cc)
 alloc_other s t killed p wants = absurd wants
@@ -216,7 +239,8 @@ abbrev is_denied : PunchPhase → Bool
 is_denied (punch.Free p) = p.denied
 is_denied p = true
 
-punch_other : (s : Pool) (t : ℕ) (killed : Bool) (p : PunchPhase) → punch_wants s p → Parted (PunchRow s t killed false p) (PunchRow s t killed true p)
+punch_other : (s : Pool) (t : ℕ) (killed : Bool) (p : PunchPhase) → punch_wants s p
+    → Parted (PunchRow s t killed false p) (PunchRow s t killed true p)
 punch_other s t killed (punch.Delete p) wants = λ turn others new news r q.
     let f = p.hole.file in
     let a : Bool = splits (s.reserved f) p.index in
@@ -228,12 +252,15 @@ punch_other s t killed (punch.Delete p) wants = λ turn others new news r q.
     (λ off _. absurd (clash (a && b && true) (both a b wants.0 (le-leb (s.spare f) (s.pending f) wants.1)) off))
 punch_other s t killed p wants = absurd wants
 
-turn_other : {P : Type 0} (call : P → Call) (R Q : Turn P → Pool → Type 0) (o told : Outcome) (new news : Pool) (next nexts : Option Call) → ((a b : P) → call a ≡ call b → a ≡ b) → Parted R Q → TurnRow call R o new next → TurnRow call Q told news nexts → next ≢ nexts
+turn_other : {P : Type 0} (call : P → Call) (R Q : Turn P → Pool → Type 0) (o told : Outcome) (new news : Pool) (next nexts : Option Call)
+    → ((a b : P) → call a ≡ call b → a ≡ b) → Parted R Q → TurnRow call R o new next → TurnRow call Q told news nexts
+    → next ≢ nexts
 turn_other call R Q o told new news next nexts one parted r q = λ same.
     let w = parted r.0 q.0 new news r.1 q.1 in
     w.4 (one w.0 w.1 (some_same (sym (r.3 ∙ ap (left call) w.2) ∙ (same ∙ (q.3 ∙ ap (left call) w.3)))))
 
-call_other : (s : Pool) (t : ℕ) (killed : Bool) (c : Call) (o told : Outcome) (new news : Pool) (next nexts : Option Call) → Wants s t c → CallRow s t killed false c o new next → CallRow s t killed true c told news nexts → next ≢ nexts
+call_other : (s : Pool) (t : ℕ) (killed : Bool) (c : Call) (o told : Outcome) (new news : Pool) (next nexts : Option Call)
+    → Wants s t c → CallRow s t killed false c o new next → CallRow s t killed true c told news nexts → next ≢ nexts
 unfolding CallRow
 call_other s t killed (call.Touch p) o told new news next nexts wants r q = turn_other call.Touch (TouchRow s t killed false p) (TouchRow s t killed true p) o told new news next nexts (λ a b e. cc) (touch_other s t killed p wants) r q
 call_other s t killed (call.Map p) o told new news next nexts wants r q = turn_other call.Map (MapRow s t killed false p) (MapRow s t killed true p) o told new news next nexts (λ a b e. cc) (map_other s t killed p wants) r q
@@ -242,7 +269,9 @@ call_other s t killed (call.Punch p) o told new news next nexts wants r q = turn
 call_other s t killed c o told new news next nexts wants r q = absurd wants
 
 -- a denied step whose row wants growth leaves another call than a granted one
-pub other_step : (s : State) (t : ℕ) (c : Call) (o told : Outcome) (after others : State) → s.calls t ≡ Some c → is_dead (s.life t) ≡ false → Wants (pool_of s) t c → Row s (Step t false) o after → Row s (Step t true) told others → after.calls t ≢ others.calls t
+pub other_step : (s : State) (t : ℕ) (c : Call) (o told : Outcome) (after others : State) → s.calls t ≡ Some c
+    → is_dead (s.life t) ≡ false → Wants (pool_of s) t c → Row s (Step t false) o after → Row s (Step t true) told others
+    → after.calls t ≢ others.calls t
 other_step s t c o told after others some lives wants r q =
     let a = step_of s t false c o after r lives some in
     let b = step_of s t true c told others q lives some in

@@ -1,6 +1,6 @@
 -- What steps on frames, reservations, changes and pages do to what every row keeps.
-use Rattle.std.proofs.Common.{◌≡◌, ◌≢◌, ℕ, ◌+◌, ◌-◌, ◌<◌, ◌≤◌, refl, ap, sym, ◌∙◌, subst, arith, inl, inr}
-use Rattle.std.specs.Prelude.{Bool, true, false, max, Option, Some, None, IfSome, ◌==◌, if◌then◌else◌}
+use Rattle.std.proofs.Common.{◌≡◌, ◌≢◌, ℕ, ◌+◌, ◌-◌, ◌<◌, ◌≤◌, refl, ap, sym, ◌∙◌, subst, arith, inl, inr, ◌⊎◌}
+use Rattle.std.specs.Prelude.{Bool, true, false, max, Option, Some, None, IfSome, ◌==◌, ◌||◌, if◌then◌else◌}
 use Rattle.std.proofs.lemmas.Bool.Decides.{nat_tests}
 use Rattle.hp_base.specs.Numbers.{put, put2, bit}
 use Rattle.hp_base.specs.Indices.{is_within, missing, add_range, touches, vacant}
@@ -18,6 +18,12 @@ use Rattle.hp_machine.specs.Views.{less, more, hand, change_in, opens}
 use Rattle.hp_machine.specs.declared.touch.Access.{Access}
 use Rattle.hp_machine.specs.declared.touch.Access.TheVariants.{Load, Store}
 use Rattle.hp_machine.specs.declared.truncate.TruncatePhase.TheVariants as truncate
+use Rattle.hp_machine.specs.declared.touch.TouchPhase.TheVariants as touch
+use Rattle.hp_machine.specs.declared.map.MapPhase.TheVariants as map
+use Rattle.hp_machine.specs.declared.alloc.AllocPhase.TheVariants as alloc
+use Rattle.hp_machine.specs.declared.punch.PunchPhase.TheVariants as punch
+use Rattle.hp_machine.specs.declared.unmap.UnmapPhase.TheVariants as unmap
+use Rattle.hp_machine.specs.declared.exit.ExitPhase.TheVariants as exit
 use Rattle.hp_machine.specs.declared.call.Call.{Call}
 use Rattle.hp_machine.specs.declared.call.Call.TheVariants as call
 use Rattle.hp_laws.specs.Sweep.{fills, ahead, passed, gone}
@@ -28,7 +34,8 @@ use Rattle.hp_laws.proofs.Invariant.{Reached, Inv, goes, vacant_of, sum_of, plac
 use Rattle.hp_laws.proofs.Holding.{some_same}
 
 -- the number of free frames, where one changes
-pub free_change : (f : ℕ → FrameState) (x n : ℕ) (v : FrameState) → x < n → free_frames (put f x v) n + bit (is_free (f x)) ≡ free_frames f n + bit (is_free v)
+pub free_change : (f : ℕ → FrameState) (x n : ℕ) (v : FrameState) → x < n
+    → free_frames (put f x v) n + bit (is_free (f x)) ≡ free_frames f n + bit (is_free v)
 unfolding free_frames
 free_change f x n v l =
     let a = count_below-change (λ j. is_free (f j)) (λ j. is_free (put f x v j)) x n l (λ j d. ap is_free (put_other f x v j d)) in
@@ -43,7 +50,8 @@ free_same f x n v e = count_below-ext (λ j. is_free (put f x v j)) (λ j. is_fr
 ])
 
 -- a page's word is read or written
-pub touches_word : (g : Geometry) (s : State) (access : Access) (x word : ℕ) → Inv g s → s.frame x ≡ state.Placed word → Inv g (record s { frame = frame_after access s.frame x })
+pub touches_word : (g : Geometry) (s : State) (access : Access) (x word : ℕ) → Inv g s → s.frame x ≡ state.Placed word
+    → Inv g (record s { pool = record s.pool { frame = frame_after access s.frame x } })
 touches_word g s Load x word h e = h
 touches_word g s (Store new) x word h e = record {
   geometry = h.geometry;
@@ -67,8 +75,9 @@ touches_word g s (Store new) x word h e = record {
 pub rebalances : (g : Geometry) (s : State) (t : ℕ) (b c : Option Call) (r : ℕ) → Inv g s → t < g.tasks + 1 → s.calls t ≡ b
     → sweeps c ≡ sweeps b → holds c ≡ holds b → hand c ≡ hand b → change_in c ≡ change_in b
     → (r + less c) + more b ≡ (s.resv + less b) + more c → r ≤ free_frames s.frame s.frames
-    → IfSome (fills c) (λ k. Reached s.size (λ u. ahead (s.calls u)) k.0 k.1) → Stands g s t c → Inv g (to (record s { resv = r }) t c)
-rebalances g s t b c r h l e same same_held same_hand same_change balance enough fill own = goes g s (record s { resv = r }) t b c h l e same same_held (record {
+    → IfSome (fills c) (λ k. Reached s.size (λ u. ahead (s.calls u)) k.0 k.1) → Stands g s t c
+    → Inv g (to (record s { pool = record s.pool { resv = r } }) t c)
+rebalances g s t b c r h l e same same_held same_hand same_change balance enough fill own = goes g s (record s { pool = record s.pool { resv = r } }) t b c h l e same same_held (record {
   geometry = h.geometry;
   entries = h.entries;
   ranges = h.ranges;
@@ -96,10 +105,11 @@ opens_some c f k e = ap (λ (o : Option ℕ). elim o [ None ↦ 0 | Some j ↦ b
 
 -- a change is opened
 pub opened : (g : Geometry) (s : State) (t : ℕ) (b c : Option Call) (f : ℕ) → Inv g s → t < g.tasks + 1 → s.calls t ≡ b
-    → sweeps c ≡ sweeps b → holds c ≡ holds b → hand c ≡ hand b → change_in b ≡ None → change_in c ≡ Some f → less c + more b ≡ less b + more c
+    → sweeps c ≡ sweeps b → holds c ≡ holds b → hand c ≡ hand b → change_in b ≡ None → change_in c ≡ Some f
+    → less c + more b ≡ less b + more c
     → IfSome (fills c) (λ k. Reached s.size (λ u. ahead (s.calls u)) k.0 k.1) → Stands g s t c
-    → Inv g (to (record s { pending = put s.pending f (s.pending f + 1); spare = put s.spare f (max (s.spare f) (s.pending f + 1)) }) t c)
-opened g s t b c f h l e same same_held same_hand none some balance fill own = goes g s (record s { pending = put s.pending f (s.pending f + 1); spare = put s.spare f (max (s.spare f) (s.pending f + 1)) }) t b c h l e same same_held (record {
+    → Inv g (to (record s { pool = record s.pool { pending = put s.pending f (s.pending f + 1); spare = put s.spare f (max (s.spare f) (s.pending f + 1)) } }) t c)
+opened g s t b c f h l e same same_held same_hand none some balance fill own = goes g s (record s { pool = record s.pool { pending = put s.pending f (s.pending f + 1); spare = put s.spare f (max (s.spare f) (s.pending f + 1)) } }) t b c h l e same same_held (record {
   geometry = h.geometry;
   entries = h.entries;
   ranges = h.ranges;
@@ -129,7 +139,8 @@ opened g s t b c f h l e same same_held same_hand none some balance fill own = g
     raised p f k m n x y = grind (arith, nat_tests, put_tells)
 
 -- a call with a change open is counted by its file's map
-pub has_pending : (g : Geometry) (s : State) (t : ℕ) (b : Option Call) (f : ℕ) → Inv g s → t < g.tasks + 1 → s.calls t ≡ b → change_in b ≡ Some f → 1 ≤ s.pending f
+pub has_pending : (g : Geometry) (s : State) (t : ℕ) (b : Option Call) (f : ℕ) → Inv g s → t < g.tasks + 1 → s.calls t ≡ b
+    → change_in b ≡ Some f → 1 ≤ s.pending f
 has_pending g s t b f h l e some =
     let x : opens f (s.calls t) ≤ sum_of g (opens f) s.calls = total_has (g.tasks + 1) t (λ u. opens f (s.calls u)) l in
     let y : opens f (s.calls t) ≡ bit (f == f) = ap (opens f) e ∙ opens_some b f f some in
@@ -145,9 +156,11 @@ lowered p f k m n l x y = grind (arith, nat_tests, put_tells)
 
 -- a change is taken back
 pub closed : (g : Geometry) (s : State) (t : ℕ) (b c : Option Call) (f : ℕ) → Inv g s → t < g.tasks + 1 → s.calls t ≡ b
-    → sweeps c ≡ sweeps b → holds c ≡ holds b → hand c ≡ hand b → change_in b ≡ Some f → change_in c ≡ None → less c + more b ≡ less b + more c
-    → IfSome (fills c) (λ k. Reached s.size (λ u. ahead (s.calls u)) k.0 k.1) → Stands g s t c → Inv g (to (record s { pending = put s.pending f (s.pending f - 1) }) t c)
-closed g s t b c f h l e same same_held same_hand some none balance fill own = goes g s (record s { pending = put s.pending f (s.pending f - 1) }) t b c h l e same same_held (record {
+    → sweeps c ≡ sweeps b → holds c ≡ holds b → hand c ≡ hand b → change_in b ≡ Some f → change_in c ≡ None
+    → less c + more b ≡ less b + more c
+    → IfSome (fills c) (λ k. Reached s.size (λ u. ahead (s.calls u)) k.0 k.1) → Stands g s t c
+    → Inv g (to (record s { pool = record s.pool { pending = put s.pending f (s.pending f - 1) } }) t c)
+closed g s t b c f h l e same same_held same_hand some none balance fill own = goes g s (record s { pool = record s.pool { pending = put s.pending f (s.pending f - 1) } }) t b c h l e same same_held (record {
   geometry = h.geometry;
   entries = h.entries;
   ranges = h.ranges;
@@ -177,16 +190,43 @@ grown_keeps r f from to k j a = elim (same_or_other k f) [
 ]
 
 -- an index that isn't in the range isn't added
-still_gone : (r : ℕ → ℕ → Bool) (f from to k j : ℕ) → (k ≡ f → is_within from to j ≡ true → ⊥) → r k j ≡ false → put r f (add_range (r f) from to) k j ≡ false
+still_gone : (r : ℕ → ℕ → Bool) (f from to k j : ℕ) → (k ≡ f → is_within from to j ≡ true → ⊥) → r k j ≡ false
+    → put r f (add_range (r f) from to) k j ≡ false
 still_gone r f from to k j h a = elim (same_or_other k f) [
   | inl d ↦ ap (λ (m : ℕ). put r f (add_range (r f) from to) m j) d ∙ (ap (λ (m : ℕ → Bool). m j) (put_same r f (add_range (r f) from to)) ∙ add_range_out (r f) from to j (ap (λ (m : ℕ). r m j) (sym d) ∙ a) (h d))
   | inr d ↦ ap (λ (m : ℕ → Bool). m j) (put_other r f (add_range (r f) from to) k d) ∙ a
 ]
 
+low_index : (from to j limit : ℕ) → to ≤ limit → is_within from to j ≡ true → j < limit
+low_index from to j limit l e = grind (arith, nat_tests)
+
+-- what is reserved stays within the limits, where a range within them is added
+grown_within : (r : ℕ → ℕ → Bool) (f from to k j files limit : ℕ) → f < files → to ≤ limit
+    → ((k j : ℕ) → r k j ≡ true → (k < files) × (j < limit))
+    → put r f (add_range (r f) from to) k j ≡ true → (k < files) × (j < limit)
+unfolding add_range
+grown_within r f from to k j files limit in_files in_limit h a = elim (same_or_other k f) [
+  | inl d ↦ elim (in_range (is_within from to j) (r f j) (ap (λ (m : ℕ → Bool). m j) (sym (ap (put r f (add_range (r f) from to)) d ∙ put_same r f (add_range (r f) from to))) ∙ a)) [
+    | inl e ↦ (subst (λ (m : ℕ). m < files) (sym d) in_files, low_index from to j limit in_limit e)
+    | inr e ↦ subst (λ (m : ℕ). (m < files) × (j < limit)) (sym d) (h f j e)
+  ]
+  | inr d ↦ h k j (ap (λ (m : ℕ → Bool). m j) (sym (put_other r f (add_range (r f) from to) k d)) ∙ a)
+]
+  where
+    in_range : (b c : Bool) → (b || c) ≡ true → (b ≡ true) ⊎ (c ≡ true)
+    in_range true c e = inl refl
+    in_range false c e = inr e
+
 -- what is gone was passed
 pub gone_passed : (c : Option Call) (k j : ℕ) → gone c k j ≡ true → passed c k j ≡ true
 gone_passed (Some (call.Truncate (truncate.Settle p))) k j e = e
 gone_passed (Some (call.Truncate (truncate.Leave p))) k j e = e
+gone_passed (Some (call.Touch (touch.Look _))) k j e = let d : false ≡ true = e in absurd (cc)
+gone_passed (Some (call.Map (map.Start _))) k j e = let d : false ≡ true = e in absurd (cc)
+gone_passed (Some (call.Alloc (alloc.Start _))) k j e = let d : false ≡ true = e in absurd (cc)
+gone_passed (Some (call.Punch (punch.Start _))) k j e = let d : false ≡ true = e in absurd (cc)
+gone_passed (Some (call.Unmap (unmap.Start _))) k j e = let d : false ≡ true = e in absurd (cc)
+gone_passed (Some (call.Exit exit.Start)) k j e = let d : false ≡ true = e in absurd (cc)
 gone_passed c k j e = let d : false ≡ true = e in absurd (cc)
 
 unless : (b d : Bool) → (b ≡ true → d ≡ true) → d ≡ false → b ≡ false
@@ -207,17 +247,21 @@ grown_vacant g s f from to h l low =
 -- the state after a commit
 abbrev pub committing : State → (file : ℕ) → Change → State
 committing s f change = record s {
-  pending = put s.pending f (s.pending f - 1);
-  spare = put s.spare f (if touches (s.reserved f) change.from change.to then s.spare f else s.spare f - 1);
-  reserved = put s.reserved f (add_range (s.reserved f) change.from change.to);
+  pool = record s.pool {
+    pending = put s.pending f (s.pending f - 1);
+    spare = put s.spare f (if touches (s.reserved f) change.from change.to then s.spare f else s.spare f - 1);
+    reserved = put s.reserved f (add_range (s.reserved f) change.from change.to);
+  };
 }
 
 -- a change is committed
-pub commits : (g : Geometry) (s : State) (t : ℕ) (b c : Option Call) (f : ℕ) (change : Change) → Inv g s → t < g.tasks + 1 → s.calls t ≡ b → f < g.files → change.to ≤ g.limit
+pub commits : (g : Geometry) (s : State) (t : ℕ) (b c : Option Call) (f : ℕ) (change : Change) → Inv g s → t < g.tasks + 1
+    → s.calls t ≡ b → f < g.files → change.to ≤ g.limit
     → sweeps c ≡ sweeps b → holds c ≡ holds b → hand c ≡ hand b → change_in b ≡ Some f → change_in c ≡ None
     → ((u j : ℕ) → passed (s.calls u) f j ≡ true → is_within change.from change.to j ≡ true → ⊥)
     → less c + more b ≡ less b + missing (s.reserved f) change.from change.to + more c
-    → IfSome (fills c) (λ k. Reached s.size (λ u. ahead (s.calls u)) k.0 k.1) → Stands g (committing s f change) t c → Inv g (to (committing s f change) t c)
+    → IfSome (fills c) (λ k. Reached s.size (λ u. ahead (s.calls u)) k.0 k.1) → Stands g (committing s f change) t c
+    → Inv g (to (committing s f change) t c)
 commits g s t b c f change h l e in_files low same same_held same_hand some none nobody balance fill own = goes g s (committing s f change) t b c h l e same same_held (record {
   geometry = h.geometry;
   entries = h.entries;
@@ -230,7 +274,7 @@ commits g s t b c f change h l e in_files low same same_held same_hand some none
   enough = h.enough;
   count = (let v : vacant_of g (committing s f change).reserved s.pages ≡ vacant_of g s.reserved s.pages + missing (s.reserved f) change.from change.to = grown_vacant g s f change.from change.to h in_files low in omega arith);
   place = place_same g s t b c h e same_hand;
-  inside = record { low = h.inside.low; bare = λ k i a. h.inside.bare k i (unless (s.reserved k i) _ (grown_keeps s.reserved f change.from change.to k i) a) };
+  inside = record { within = λ k i a. grown_within s.reserved f change.from change.to k i (g.files) (g.limit) in_files low h.inside.within a; bare = λ k i a. h.inside.bare k i (unless (s.reserved k i) _ (grown_keeps s.reserved f change.from change.to k i) a) };
   sweep = record { below = h.sweep.below; past = h.sweep.past; gone = λ u k j a. still_gone s.reserved f change.from change.to k j (λ d z. nobody u j (ap (λ (m : ℕ). passed (s.calls u) m j) (sym d) ∙ gone_passed (s.calls u) k j a) z) (h.sweep.gone u k j a) };
   spares = λ k. spare_after s.pending s.spare f k _ (has_pending g s t b f h l e some) (few (touches (s.reserved f) change.from change.to) (s.spare f)) (h.spares k);
   others = λ u d. stands_after g s (committing s f change) u (s.calls u) (record { slot = λ k a. a; page = λ k j a. refl; mark = λ k j a w. grown_keeps s.reserved f change.from change.to k j; entries = λ k j a w v x p q. (x, p, q); lock = λ k a. (a, refl, λ j. grown_keeps s.reserved f change.from change.to k j); areas = refl; prepared = refl; table = λ v x p. (x, p) }) (h.stands u);
@@ -249,11 +293,13 @@ commits g s t b c f change h l e in_files low same same_held same_hand some none
     ]
 
 -- a free frame goes into the call's hand
-pub takes : (g : Geometry) (s : State) (t : ℕ) (b c : Option Call) (x r : ℕ) → Inv g s → t < g.tasks + 1 → s.calls t ≡ b → s.frame x ≡ state.Free
+pub takes : (g : Geometry) (s : State) (t : ℕ) (b c : Option Call) (x r : ℕ) → Inv g s → t < g.tasks + 1 → s.calls t ≡ b
+    → s.frame x ≡ state.Free
     → sweeps c ≡ sweeps b → holds c ≡ holds b → hand b ≡ None → hand c ≡ Some x → change_in c ≡ change_in b
     → (r + less c) + more b ≡ (s.resv + less b) + more c → r + 1 ≤ free_frames s.frame s.frames
-    → IfSome (fills c) (λ k. Reached s.size (λ u. ahead (s.calls u)) k.0 k.1) → Stands g s t c → Inv g (to (record s { frame = put s.frame x state.Hand; resv = r }) t c)
-takes g s t b c x r h l e free same same_held none some same_change balance enough fill own = goes g s (record s { frame = put s.frame x state.Hand; resv = r }) t b c h l e same same_held (record {
+    → IfSome (fills c) (λ k. Reached s.size (λ u. ahead (s.calls u)) k.0 k.1) → Stands g s t c
+    → Inv g (to (record s { pool = record s.pool { frame = put s.frame x state.Hand; resv = r } }) t c)
+takes g s t b c x r h l e free same same_held none some same_change balance enough fill own = goes g s (record s { pool = record s.pool { frame = put s.frame x state.Hand; resv = r } }) t b c h l e same same_held (record {
   geometry = h.geometry;
   entries = h.entries;
   ranges = h.ranges;
@@ -277,8 +323,9 @@ takes g s t b c x r h l e free same same_held none some same_change balance enou
 pub gives : (g : Geometry) (s : State) (t : ℕ) (b c : Option Call) (x r : ℕ) → Inv g s → t < g.tasks + 1 → s.calls t ≡ b
     → sweeps c ≡ sweeps b → holds c ≡ holds b → hand b ≡ Some x → hand c ≡ None → change_in c ≡ change_in b
     → (r + less c) + more b ≡ (s.resv + less b) + more c → r ≤ s.resv + 1
-    → IfSome (fills c) (λ k. Reached s.size (λ u. ahead (s.calls u)) k.0 k.1) → Stands g s t c → Inv g (to (record s { frame = put s.frame x state.Free; resv = r }) t c)
-gives g s t b c x r h l e same same_held some none same_change balance enough fill own = goes g s (record s { frame = put s.frame x state.Free; resv = r }) t b c h l e same same_held (record {
+    → IfSome (fills c) (λ k. Reached s.size (λ u. ahead (s.calls u)) k.0 k.1) → Stands g s t c
+    → Inv g (to (record s { pool = record s.pool { frame = put s.frame x state.Free; resv = r } }) t c)
+gives g s t b c x r h l e same same_held some none same_change balance enough fill own = goes g s (record s { pool = record s.pool { frame = put s.frame x state.Free; resv = r } }) t b c h l e same same_held (record {
   geometry = h.geometry;
   entries = h.entries;
   ranges = h.ranges;
@@ -302,13 +349,15 @@ gives g s t b c x r h l e same same_held some none same_change balance enough fi
 })
 
 -- the frame in the call's hand becomes the page
-pub places : (g : Geometry) (s : State) (t : ℕ) (b c : Option Call) (f i x : ℕ) → Inv g s → t < g.tasks + 1 → s.calls t ≡ b → f < g.files → i < g.limit
+pub places : (g : Geometry) (s : State) (t : ℕ) (b c : Option Call) (f i x : ℕ) → Inv g s → t < g.tasks + 1 → s.calls t ≡ b
+    → f < g.files → i < g.limit
     → sweeps c ≡ sweeps b → holds c ≡ holds b → hand b ≡ Some x → hand c ≡ None → change_in c ≡ change_in b
     → less b + more c ≡ less c + more b + 1
     → s.reserved f i ≡ true → s.pages f i ≡ None → HasSlot g s t f i
     → ((u : ℕ) → passed (s.calls u) f i ≡ true → ⊥)
     → IfSome (fills c) (λ k. Reached s.size (λ u. ahead (s.calls u)) k.0 k.1)
-    → Stands g (record s { pages = put2 s.pages f i (Some x); frame = put s.frame x (state.Placed 0) }) t c → Inv g (to (record s { pages = put2 s.pages f i (Some x); frame = put s.frame x (state.Placed 0) }) t c)
+    → Stands g (record s { pool = record s.pool { pages = put2 s.pages f i (Some x); frame = put s.frame x (state.Placed 0) } }) t c
+    → Inv g (to (record s { pool = record s.pool { pages = put2 s.pages f i (Some x); frame = put s.frame x (state.Placed 0) } }) t c)
 places g s t b c f i x h l e in_files in_limit same same_held some none same_change balance marked bare held nobody fill own = goes g s n t b c h l e same same_held (record {
   geometry = h.geometry;
   ranges = h.ranges;
@@ -324,7 +373,7 @@ places g s t b c f i x h l e in_files in_limit same same_held some none same_cha
   entries = record { owners = h.entries.owners; agree = λ w v y a. let o = h.entries.agree w v y a in (o.0, o.1, still o.0.0 o.0.1 y o.2) };
   inside = record {
     bare = λ k j a. bare_still k j a (h.inside.bare k j a);
-    low = λ k j y a. elim (put2_tells s.pages f i (Some x) k j) [ inl q ↦ (let d : j ≡ i = q.1 in omega arith) | inr q ↦ h.inside.low k j y (sym q.1 ∙ a) ];
+    within = h.inside.within;
   };
   sweep = record { below = h.sweep.below; gone = h.sweep.gone; past = λ u k j a. let o = h.sweep.past u k j a in (free_still u k j a o.0, o.1) };
   changes = same_opens s.pending b c same_change;
@@ -333,7 +382,7 @@ places g s t b c f i x h l e in_files in_limit same same_held some none same_cha
 })
   where
     n : State
-    n = record s { pages = put2 s.pages f i (Some x); frame = put s.frame x (state.Placed 0) }
+    n = record s { pool = record s.pool { pages = put2 s.pages f i (Some x); frame = put s.frame x (state.Placed 0) } }
 
     still : (k j y : ℕ) → s.pages k j ≡ Some y → put2 s.pages f i (Some x) k j ≡ Some y
     still k j y a = grind (arith, put2_tells)

@@ -1,5 +1,5 @@
 -- What a load tells, over a history.
-use Rattle.std.proofs.Common.{◌≡◌, ℕ, refl, ap, sym, ◌∙◌, subst, inl, inr, append_assoc, append-nil}
+use Rattle.std.proofs.Common.{◌≡◌, ℕ, ◌+◌, refl, ap, sym, ◌∙◌, subst, arith, inl, inr, append_assoc, append-nil}
 use Rattle.std.specs.Prelude.{Bool, nat_le, Option, Some, None, List, [], ◌∷◌, ◌++◌}
 use Rattle.hp_base.specs.Mappings.{find}
 use Rattle.hp_base.specs.declared.answer.Answer.{Answer}
@@ -21,7 +21,9 @@ use Rattle.hp_machine.specs.declared.outcome.Outcome.{Outcome}
 use Rattle.hp_machine.specs.declared.outcome.Outcome.TheVariants as outcome
 use Rattle.hp_machine.specs.declared.call.Call.{Call}
 use Rattle.hp_machine.specs.declared.call.Call.TheVariants as call
-use Rattle.hp_laws.specs.Words.{Moment, History, LastWord, Read, in_order}
+use Rattle.hp_laws.specs.Bounds.{is_begun, calls_begun}
+use Rattle.hp_laws.specs.Histories.{Moment, History, in_order}
+use Rattle.hp_laws.specs.Words.{LastWord, Read}
 use Rattle.hp_laws.proofs.Invariant.{Inv}
 use Rattle.hp_laws.proofs.Shared.{by_test, by_option}
 use Rattle.hp_laws.proofs.Runs.{Always, row_keeps, opens_well}
@@ -36,7 +38,8 @@ IsLast f i ms w = LastWord f i ms w × ((v : ℕ) → LastWord f i ms v → v �
 abbrev pub Holds : List Moment → State → Type 0
 Holds ms s = (f i x w : ℕ) → s.pages f i ≡ Some x → s.frame x ≡ state.Placed w → IsLast f i ms w
 
-holds_after : (s : State) (event : Event) (o : Outcome) (n : State) (ms : List Moment) → Tells s event o n → Holds ms s → Holds (moment s event o n ∷ ms) n
+holds_after : (s : State) (event : Event) (o : Outcome) (n : State) (ms : List Moment) → Tells s event o n → Holds ms s
+    → Holds (moment s event o n ∷ ms) n
 holds_after s event o n ms tells holds f i x w a b = elim (tells f i x w a b) [
   | inl k ↦ (inl k.0, λ v l. elim l [ inl z ↦ k.1 v z | inr z ↦ absurd (z.0 w k.0) ])
   | inr k ↦ (let o = holds f i x w k.1 k.2 in (inr (k.0, o.0), λ v l. elim l [ inl z ↦ absurd (k.0 v z) | inr z ↦ o.1 v z.1 ]))
@@ -58,7 +61,8 @@ Reads s f i w = (x : ℕ) × (s.pages f i ≡ Some x) × (s.frame x ≡ state.Pl
 ended_word : {a w : ℕ} → outcome.Ended (answer.Word a) ≡ outcome.Ended (answer.Word w) → a ≡ w
 ended_word e = cc
 
-look_reads : (s : State) (t : ℕ) (killed grant : Bool) (p : Look) (o : Outcome) (pool : Pool) (next : Option Call) (f i w : ℕ) → Inv s.geometry s → CallRow (pool_of s) t killed grant (call.Touch (touch.Look p)) o pool next
+look_reads : (s : State) (t : ℕ) (killed grant : Bool) (p : Look) (o : Outcome) (pool : Pool) (next : Option Call) (f i w : ℕ)
+    → Inv s.geometry s → CallRow (pool_of s) t killed grant (call.Touch (touch.Look p)) o pool next
     → p.access ≡ Load → find (s.areas t) p.vpn ≡ Some (f, i) → o ≡ outcome.Ended (answer.Word w) → Reads s f i w
 unfolding CallRow
 look_reads s t killed grant p o pool next f i w h (turn, row, tells, leaves) loads there ends =
@@ -83,8 +87,10 @@ same_leave z = cc
 same_word : {a b : ℕ} → answer.Word a ≡ answer.Word b → a ≡ b
 same_word z = cc
 
-found_reads : (s : State) (t : ℕ) (killed grant : Bool) (p : Found) (o : Outcome) (pool : Pool) (next : Option Call) (w : ℕ) → CallRow (pool_of s) t killed grant (call.Touch (touch.Found p)) o pool next
-    → p.touch.access ≡ Load → next ≡ Some (call.Touch (touch.Leave (record { touch = p.touch; answer = answer.Word w }))) → Reads s p.touch.file p.touch.index w
+found_reads : (s : State) (t : ℕ) (killed grant : Bool) (p : Found) (o : Outcome) (pool : Pool) (next : Option Call) (w : ℕ)
+    → CallRow (pool_of s) t killed grant (call.Touch (touch.Found p)) o pool next
+    → p.touch.access ≡ Load → next ≡ Some (call.Touch (touch.Leave (record { touch = p.touch; answer = answer.Word w })))
+    → Reads s p.touch.file p.touch.index w
 unfolding CallRow
 found_reads s t killed grant p o pool next w (turn, row, tells, leaves) loads is =
     by_test (nat_le (s.size p.touch.file) p.touch.index) row
@@ -106,18 +112,45 @@ read_page m f i w h row read = elim read [
 ]
 
 -- a load tells the last word of its page, and no other is the last one
-pub last_words : (g : Geometry) (frames : ℕ) (past : List Moment) (m : Moment) (f i w : ℕ) → History g frames (m ∷ past) m.after → Read f i m w → LastWord f i past w × ((v : ℕ) → LastWord f i past v → v ≡ w)
+pub last_words : (g : Geometry) (frames : ℕ) (past : List Moment) (m : Moment) (f i w : ℕ) → History g frames (m ∷ past) m.after
+    → Read f i m w → LastWord f i past w × ((v : ℕ) → LastWord f i past v → v ≡ w)
 last_words g frames past m f i w h read =
     let k = history_holds g frames past m.before h.2 in
     let x = read_page m f i w k.0 h.1 read in
     k.1 f i x.0 w x.1 x.2
 
 -- a history goes on with a run
-goes_on : (g : Geometry) (frames : ℕ) (ms : List Moment) (s : State) (es : List (Event × Outcome)) (n : State) → History g frames ms s → Run s es n → (ns : List Moment) × History g frames ns n × (in_order ns ≡ in_order ms ++ es)
+goes_on : (g : Geometry) (frames : ℕ) (ms : List Moment) (s : State) (es : List (Event × Outcome)) (n : State)
+    → History g frames ms s → Run s es n → (ns : List Moment) × History g frames ns n × (in_order ns ≡ in_order ms ++ es)
 goes_on g frames ms s [] n h r = (ms, subst (History g frames ms) (sym r) h, sym (append-nil (in_order ms)))
 goes_on g frames ms s (e ∷ es) n h r =
     let k = goes_on g frames (moment s e.0 e.1 r.0 ∷ ms) r.0 es n (refl, r.1, h) r.2 in
     (k.0, k.1, k.2 ∙ append_assoc (in_order ms) (e ∷ []) es)
 
-pub run_history : (g : Geometry) (frames : ℕ) (es : List (Event × Outcome)) (s : State) → Run (opening g frames) es s → (ms : List Moment) × History g frames ms s × (in_order ms ≡ es)
+pub run_history : (g : Geometry) (frames : ℕ) (es : List (Event × Outcome)) (s : State) → Run (opening g frames) es s
+    → (ms : List Moment) × History g frames ms s × (in_order ms ≡ es)
 run_history g frames es s r = goes_on g frames [] (opening g frames) es s refl r
+
+-- what holds in every reached state holds after a history
+pub history_well : (g : Geometry) (frames : ℕ) (ms : List Moment) (s : State) → History g frames ms s → Always s
+history_well g frames ms s h = (history_holds g frames ms s h).0
+
+-- the calls that begin in a list with one more event at its end
+pub begun_more : (t : ℕ) (es : List (Event × Outcome)) (e : Event) (o : Outcome)
+    → calls_begun t (es ++ ((e, o) ∷ [])) ≡ calls_begun t es + is_begun t e o
+begun_more t [] e o = omega arith
+begun_more t (x ∷ es) e o = let k = begun_more t es e o in omega arith
+
+-- a run with one more event at its end
+run_more : (s : State) (es : List (Event × Outcome)) (mid : State) (e : Event) (o : Outcome) (n : State) → Run s es mid → Row mid e o n
+    → Run s (es ++ ((e, o) ∷ [])) n
+run_more s [] mid e o n r row = (n, subst (λ (m : State). Row m e o n) r row, refl)
+run_more s (x ∷ es) mid e o n r row = (r.0, r.1, run_more r.0 es mid e o n r.2 row)
+
+-- the later moments of a history are a run from where the earlier ones end
+pub later_run : (g : Geometry) (frames : ℕ) (later past : List Moment) (s : State) → History g frames (later ++ past) s
+    → (mid : State) × History g frames past mid × Run mid (in_order later) s
+later_run g frames [] past s h = (s, h, refl)
+later_run g frames (m ∷ later) past s h =
+    let k = later_run g frames later past m.before h.2 in
+    (k.0, k.1, run_more k.0 (in_order later) m.before m.event m.outcome s k.2 (subst (Row m.before m.event m.outcome) h.0 h.1))

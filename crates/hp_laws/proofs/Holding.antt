@@ -18,7 +18,8 @@ some_same e = cc
 holds_other : {A : Type 0} (held : ℕ → Option A) (t u : ℕ) (k : A) → held t ≡ None → held u ≡ Some k → u ≢ t
 holds_other {A} held t u k none some = λ d. (let x : ◌≡◌ {A = Option A} None (Some k) = sym none ∙ (ap held (sym d) ∙ some) in absurd (cc))
 
-slot_taken_holders : (g : Geometry) (slots locks : ℕ → Option ℕ) (held : ℕ → Option (ℕ × ℕ)) (locked : ℕ → Option ℕ) (t f i : ℕ) → Holders g slots locks held locked → held t ≡ None
+slot_taken_holders : (g : Geometry) (slots locks : ℕ → Option ℕ) (held : ℕ → Option (ℕ × ℕ)) (locked : ℕ → Option ℕ) (t f i : ℕ)
+    → Holders g slots locks held locked → held t ≡ None
     → Holders g (put slots (slot_of g f i) (Some t)) locks (put held t (Some (f, i))) locked
 slot_taken_holders g slots locks held locked t f i h none = record {
   slot = λ k u e. elim (put_tells slots (slot_of g f i) (Some t) k) [
@@ -28,7 +29,8 @@ slot_taken_holders g slots locks held locked t f i h none = record {
   lock = h.lock;
 }
 
-slot_left_holders : (g : Geometry) (slots locks : ℕ → Option ℕ) (held : ℕ → Option (ℕ × ℕ)) (locked : ℕ → Option ℕ) (t f i : ℕ) → Holders g slots locks held locked → held t ≡ Some (f, i)
+slot_left_holders : (g : Geometry) (slots locks : ℕ → Option ℕ) (held : ℕ → Option (ℕ × ℕ)) (locked : ℕ → Option ℕ) (t f i : ℕ)
+    → Holders g slots locks held locked → held t ≡ Some (f, i)
     → Holders g (put slots (slot_of g f i) None) locks (put held t None) locked
 slot_left_holders g slots locks held locked t f i h some = record {
   slot = λ k u e. elim (put_tells slots (slot_of g f i) None k) [
@@ -38,7 +40,8 @@ slot_left_holders g slots locks held locked t f i h some = record {
   lock = h.lock;
 }
 
-lock_taken_holders : (g : Geometry) (slots locks : ℕ → Option ℕ) (held : ℕ → Option (ℕ × ℕ)) (locked : ℕ → Option ℕ) (t f : ℕ) → Holders g slots locks held locked → locked t ≡ None
+lock_taken_holders : (g : Geometry) (slots locks : ℕ → Option ℕ) (held : ℕ → Option (ℕ × ℕ)) (locked : ℕ → Option ℕ) (t f : ℕ)
+    → Holders g slots locks held locked → locked t ≡ None
     → Holders g slots (put locks f (Some t)) held (put locked t (Some f))
 lock_taken_holders g slots locks held locked t f h none = record {
   slot = h.slot;
@@ -48,7 +51,8 @@ lock_taken_holders g slots locks held locked t f h none = record {
   ];
 }
 
-lock_left_holders : (g : Geometry) (slots locks : ℕ → Option ℕ) (held : ℕ → Option (ℕ × ℕ)) (locked : ℕ → Option ℕ) (t f : ℕ) → Holders g slots locks held locked → locked t ≡ Some f
+lock_left_holders : (g : Geometry) (slots locks : ℕ → Option ℕ) (held : ℕ → Option (ℕ × ℕ)) (locked : ℕ → Option ℕ) (t f : ℕ)
+    → Holders g slots locks held locked → locked t ≡ Some f
     → Holders g slots (put locks f None) held (put locked t None)
 lock_left_holders g slots locks held locked t f h some = record {
   slot = h.slot;
@@ -66,7 +70,8 @@ shown c = (less c, more c, hand c, change_in c, sweeps c)
 pub takes_slot : (g : Geometry) (s : State) (t : ℕ) (b c : Option Call) (f i : ℕ) → Inv g s → t < g.tasks + 1 → s.calls t ≡ b
     → s.slots (slot_of g f i) ≡ None → shown c ≡ shown b → locked_file c ≡ locked_file b → slot_held b ≡ None → slot_held c ≡ Some (f, i)
     → IfSome (fills c) (λ k. Reached s.size (λ u. ahead (s.calls u)) k.0 k.1)
-    → Stands g (record s { slots = put s.slots (slot_of g f i) (Some t) }) t c → Inv g (to (record s { slots = put s.slots (slot_of g f i) (Some t) }) t c)
+    → Stands g (record s { pool = record s.pool { slots = put s.slots (slot_of g f i) (Some t) } }) t c
+    → Inv g (to (record s { pool = record s.pool { slots = put s.slots (slot_of g f i) (Some t) } }) t c)
 takes_slot g s t b c f i h l e free same same_lock none some fill own = goes_as g s n t b c h l e (ap (λ p. p.4) same) (record {
   geometry = h.geometry;
   count = (let x : less c ≡ less b = ap (λ p. p.0) same in let y : more c ≡ more b = ap (λ p. p.1) same in omega arith);
@@ -90,22 +95,24 @@ takes_slot g s t b c f i h l e free same same_lock none some fill own = goes_as 
 })
   where
     n : State
-    n = record s { slots = put s.slots (slot_of g f i) (Some t) }
+    n = record s { pool = record s.pool { slots = put s.slots (slot_of g f i) (Some t) } }
 
     still : (u k : ℕ) → s.slots k ≡ Some u → put s.slots (slot_of g f i) (Some t) k ≡ Some u
     still u k a = grind (arith, put_tells)
 
-pub left_holders : (g : Geometry) (s : State) (t : ℕ) (b c : Option Call) (f i : ℕ) → Inv g s → s.calls t ≡ b → locked_file c ≡ locked_file b → slot_held b ≡ Some (f, i) → slot_held c ≡ None
+pub left_holders : (g : Geometry) (s : State) (t : ℕ) (b c : Option Call) (f i : ℕ) → Inv g s → s.calls t ≡ b
+    → locked_file c ≡ locked_file b → slot_held b ≡ Some (f, i) → slot_held c ≡ None
     → Holders g (put s.slots (slot_of g f i) None) s.locks (put (λ (u : ℕ). slot_held (s.calls u)) t (slot_held c)) (put (λ (u : ℕ). locked_file (s.calls u)) t (locked_file c))
 left_holders g s t b c f i h e same_lock some none = subst (λ (o : Option (ℕ × ℕ)). Holders g (put s.slots (slot_of g f i) None) s.locks (put (λ (u : ℕ). slot_held (s.calls u)) t o) (put (λ (u : ℕ). locked_file (s.calls u)) t (locked_file c))) (sym none)
     (subst (λ (a : ℕ → Option ℕ). Holders g (put s.slots (slot_of g f i) None) s.locks (put (λ (u : ℕ). slot_held (s.calls u)) t None) a) (sym (put_known (λ (u : ℕ). locked_file (s.calls u)) t (locked_file c) (ap locked_file e ∙ sym same_lock)))
     (slot_left_holders g s.slots s.locks (λ u. slot_held (s.calls u)) (λ u. locked_file (s.calls u)) t f i h.holders (ap slot_held e ∙ some)))
 
-pub left_stands : (g : Geometry) (s : State) (t f i : ℕ) → Inv g s → HasSlot g s t f i → (u : ℕ) → u ≢ t → Stands g (record s { slots = put s.slots (slot_of g f i) None }) u (s.calls u)
+pub left_stands : (g : Geometry) (s : State) (t f i : ℕ) → Inv g s → HasSlot g s t f i → (u : ℕ) → u ≢ t
+    → Stands g (record s { pool = record s.pool { slots = put s.slots (slot_of g f i) None } }) u (s.calls u)
 left_stands g s t f i h held u d = stands_after g s n u (s.calls u) (record { slot = still; page = λ k j a. refl; mark = λ k j a w r. r; entries = λ k j a w v x p q. (x, p, q); lock = λ k a. (a, refl, λ j r. r); areas = refl; prepared = refl; table = λ v x p. (x, p) }) (h.stands u)
   where
     n : State
-    n = record s { slots = put s.slots (slot_of g f i) None }
+    n = record s { pool = record s.pool { slots = put s.slots (slot_of g f i) None } }
 
     still : (k : ℕ) → s.slots k ≡ Some u → put s.slots (slot_of g f i) None k ≡ Some u
     still k a = elim (put_tells s.slots (slot_of g f i) None k) [
@@ -117,7 +124,8 @@ left_stands g s t f i h held u d = stands_after g s n u (s.calls u) (record { sl
 pub leaves_slot : (g : Geometry) (s : State) (t : ℕ) (b c : Option Call) (f i : ℕ) → Inv g s → t < g.tasks + 1 → s.calls t ≡ b
     → shown c ≡ shown b → locked_file c ≡ locked_file b → slot_held b ≡ Some (f, i) → slot_held c ≡ None → HasSlot g s t f i
     → IfSome (fills c) (λ k. Reached s.size (λ u. ahead (s.calls u)) k.0 k.1)
-    → Stands g (record s { slots = put s.slots (slot_of g f i) None }) t c → Inv g (to (record s { slots = put s.slots (slot_of g f i) None }) t c)
+    → Stands g (record s { pool = record s.pool { slots = put s.slots (slot_of g f i) None } }) t c
+    → Inv g (to (record s { pool = record s.pool { slots = put s.slots (slot_of g f i) None } }) t c)
 leaves_slot g s t b c f i h l e same same_lock some none held fill own = goes_as g s n t b c h l e (ap (λ p. p.4) same) (record {
   geometry = h.geometry;
   count = (let x : less c ≡ less b = ap (λ p. p.0) same in let y : more c ≡ more b = ap (λ p. p.1) same in omega arith);
@@ -139,12 +147,13 @@ leaves_slot g s t b c f i h l e same same_lock some none held fill own = goes_as
 })
   where
     n : State
-    n = record s { slots = put s.slots (slot_of g f i) None }
+    n = record s { pool = record s.pool { slots = put s.slots (slot_of g f i) None } }
 
 -- a file lock that is free is taken
 pub takes_lock : (g : Geometry) (s : State) (t : ℕ) (b c : Option Call) (f : ℕ) → Inv g s → t < g.tasks + 1 → s.calls t ≡ b
     → s.locks f ≡ None → shown c ≡ shown b → slot_held c ≡ slot_held b → locked_file b ≡ None → locked_file c ≡ Some f → fills c ≡ None
-    → Stands g (record s { locks = put s.locks f (Some t) }) t c → Inv g (to (record s { locks = put s.locks f (Some t) }) t c)
+    → Stands g (record s { pool = record s.pool { locks = put s.locks f (Some t) } }) t c
+    → Inv g (to (record s { pool = record s.pool { locks = put s.locks f (Some t) } }) t c)
 takes_lock g s t b c f h l e free same same_slot none some fill own = goes_as g s n t b c h l e (ap (λ p. p.4) same) (record {
   geometry = h.geometry;
   count = (let x : less c ≡ less b = ap (λ p. p.0) same in let y : more c ≡ more b = ap (λ p. p.1) same in omega arith);
@@ -168,15 +177,16 @@ takes_lock g s t b c f h l e free same same_slot none some fill own = goes_as g 
 })
   where
     n : State
-    n = record s { locks = put s.locks f (Some t) }
+    n = record s { pool = record s.pool { locks = put s.locks f (Some t) } }
 
     still : (u k : ℕ) → s.locks k ≡ Some u → put s.locks f (Some t) k ≡ Some u
     still u k a = grind (arith, put_tells)
 
 -- a call ends, and leaves its file lock; it has passed every index that it was to pass
 pub leaves_lock : (g : Geometry) (s : State) (t : ℕ) (b : Option Call) (f : ℕ) → Inv g s → t < g.tasks + 1 → s.calls t ≡ b
-    → less b ≡ 0 → more b ≡ 0 → hand b ≡ None → change_in b ≡ None → slot_held b ≡ None → locked_file b ≡ Some f → HasLock s t f → ((k j : ℕ) → ahead b k j ≡ false)
-    → Inv g (to (record s { locks = put s.locks f None }) t None)
+    → less b ≡ 0 → more b ≡ 0 → hand b ≡ None → change_in b ≡ None → slot_held b ≡ None → locked_file b ≡ Some f → HasLock s t f
+    → ((k j : ℕ) → ahead b k j ≡ false)
+    → Inv g (to (record s { pool = record s.pool { locks = put s.locks f None } }) t None)
 leaves_lock g s t b f h l e no_less no_more no_hand no_change no_slot some held none_ahead = goes_on g s n t b None h l e (record {
   geometry = h.geometry;
   count = omega arith;
@@ -209,7 +219,7 @@ leaves_lock g s t b f h l e no_less no_more no_hand no_change no_slot some held 
 })
   where
     n : State
-    n = record s { locks = put s.locks f None }
+    n = record s { pool = record s.pool { locks = put s.locks f None } }
 
     still : (u : ℕ) → u ≢ t → (k : ℕ) → s.locks k ≡ Some u → put s.locks f None k ≡ Some u
     still u d k a = elim (put_tells s.locks f None k) [
@@ -217,12 +227,14 @@ leaves_lock g s t b f h l e no_less no_more no_hand no_change no_slot some held 
       | inr q ↦ q.1 ∙ a
     ]
 
-    covered : (k j : ℕ) → Reached s.size (λ u. ahead (s.calls u)) k j → Reached s.size (put (λ (u : ℕ). ahead (s.calls u)) t (ahead None)) k j
+    covered : (k j : ℕ) → Reached s.size (λ u. ahead (s.calls u)) k j
+        → Reached s.size (put (λ (u : ℕ). ahead (s.calls u)) t (ahead None)) k j
     covered k j r = elim r [
       | inl a ↦ inl a
       | inr a ↦ inr (a.0, ap (λ (m : ℕ → ℕ → Bool). m k j) (put_other (λ (u : ℕ). ahead (s.calls u)) t (ahead None) a.0 (λ d. (let z : false ≡ true = sym (none_ahead k j) ∙ (ap (λ (c : Option Call). ahead c k j) (sym (ap s.calls d ∙ e)) ∙ a.1) in absurd (cc)))) ∙ a.1)
     ]
 
-    if_reached : (o : Option (ℕ × ℕ)) → IfSome o (λ k. Reached s.size (λ u. ahead (s.calls u)) k.0 k.1) → IfSome o (λ k. Reached s.size (put (λ (u : ℕ). ahead (s.calls u)) t (ahead None)) k.0 k.1)
+    if_reached : (o : Option (ℕ × ℕ)) → IfSome o (λ k. Reached s.size (λ u. ahead (s.calls u)) k.0 k.1)
+        → IfSome o (λ k. Reached s.size (put (λ (u : ℕ). ahead (s.calls u)) t (ahead None)) k.0 k.1)
     if_reached None r = tt
     if_reached (Some k) r = covered k.0 k.1 r

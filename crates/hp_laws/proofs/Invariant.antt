@@ -32,10 +32,19 @@ abbrev pub AllWithin : Geometry → List Mapping → Type 0
 AllWithin g [] = Unit {0}
 AllWithin g (a ∷ areas) = (a.file < g.files) × (a.from + a.len ≤ g.limit) × AllWithin g areas
 
--- pages lie below the limit, at reserved indices
-pub record Inside (limit : ℕ) (reserved : ℕ → ℕ → Bool) (pages : ℕ → ℕ → Option ℕ) : Type 0 where
+-- pages lie at reserved indices, and these below the limit of a file that is there
+pub record Inside (g : Geometry) (reserved : ℕ → ℕ → Bool) (pages : ℕ → ℕ → Option ℕ) : Type 0 where
   pub bare : (f i : ℕ) → reserved f i ≡ false → pages f i ≡ None
-  pub low : (f i x : ℕ) → pages f i ≡ Some x → i < limit
+  pub within : (f i : ℕ) → reserved f i ≡ true → (f < g.files) × (i < g.limit)
+
+-- so do pages
+pub page_within : {g : Geometry} {reserved : ℕ → ℕ → Bool} {pages : ℕ → ℕ → Option ℕ} (f i x : ℕ) → Inside g reserved pages
+    → pages f i ≡ Some x → (f < g.files) × (i < g.limit)
+page_within {g} {reserved} {pages} f i x h e = by_mark (reserved f i) refl
+  where
+    by_mark : (b : Bool) → reserved f i ≡ b → (f < g.files) × (i < g.limit)
+    by_mark true d = h.within f i d
+    by_mark false d = (let z : ◌≡◌ {A = Option ℕ} None (Some x) = sym (h.bare f i d) ∙ e in absurd (cc))
 
 -- below the size, or a truncation has yet to pass it
 abbrev pub Reached : (ℕ → ℕ) → (ℕ → ℕ → ℕ → Bool) → (file index : ℕ) → Type 0
@@ -61,7 +70,7 @@ pub record Inv (g : Geometry) (s : State) : Type 0 where
   pub entries : Entries g.tasks s.areas s.table s.pages
   pub ranges : (t : ℕ) → AllWithin g (s.areas t)
   pub spread : (t : ℕ) → IsSpread g.space 0 (s.areas t)
-  pub inside : Inside g.limit s.reserved s.pages
+  pub inside : Inside g s.reserved s.pages
   pub sweep : Swept s.size s.reserved s.pages s.areas s.table (λ u. ahead (s.calls u)) (λ u. passed (s.calls u)) (λ u. gone (s.calls u))
   pub reach : (w : ℕ) → IfSome (fills (s.calls w)) (λ k. Reached s.size (λ u. ahead (s.calls u)) k.0 k.1)
   pub sizes : (f : ℕ) → s.size f ≤ g.limit
@@ -71,21 +80,24 @@ pub record Inv (g : Geometry) (s : State) : Type 0 where
   pub stands : (u : ℕ) → Stands g s u (s.calls u)
 
 -- a property of every call, after one call goes on
-pub each_call : (P : ℕ → Option Call → Type 0) (calls : ℕ → Option Call) (t : ℕ) (c : Option Call) → ((u : ℕ) → u ≢ t → P u (calls u)) → P t c → (u : ℕ) → P u (put calls t c u)
+pub each_call : (P : ℕ → Option Call → Type 0) (calls : ℕ → Option Call) (t : ℕ) (c : Option Call)
+    → ((u : ℕ) → u ≢ t → P u (calls u)) → P t c → (u : ℕ) → P u (put calls t c u)
 each_call P calls t c others own u = elim (same_or_other u t) [
   | inl e ↦ subst (λ (w : ℕ). P w (put calls t c w)) (sym e) (subst (P t) (sym (put_same calls t c)) own)
   | inr h ↦ subst (P u) (sym (put_other calls t c u h)) (others u h)
 ]
 
 -- what is seen of the calls, after one goes on
-pub view_put : {A : Type 0} (v : Option Call → A) (calls : ℕ → Option Call) (t : ℕ) (c : Option Call) → ◌≡◌ {A = ℕ → A} (λ (u : ℕ). v (put calls t c u)) (put (λ (u : ℕ). v (calls u)) t (v c))
+pub view_put : {A : Type 0} (v : Option Call → A) (calls : ℕ → Option Call) (t : ℕ) (c : Option Call)
+    → ◌≡◌ {A = ℕ → A} (λ (u : ℕ). v (put calls t c u)) (put (λ (u : ℕ). v (calls u)) t (v c))
 view_put {A} v calls t c = fun_ext (λ u. elim (same_or_other u t) [
   | inl e ↦ subst (λ (w : ℕ). v (put calls t c w) ≡ put (λ (u : ℕ). v (calls u)) t (v c) w) (sym e) (ap v (put_same calls t c) ∙ sym (put_same (λ (u : ℕ). v (calls u)) t (v c)))
   | inr h ↦ ap v (put_other calls t c u h) ∙ sym (put_other (λ (u : ℕ). v (calls u)) t (v c) u h)
 ])
 
 -- a sum over the calls, after one goes on
-pub sum_after : (v : Option Call → ℕ) (n : ℕ) (calls : ℕ → Option Call) (t : ℕ) (b c : Option Call) → t < n → calls t ≡ b → total n (λ u. v (put calls t c u)) + v b ≡ total n (λ u. v (calls u)) + v c
+pub sum_after : (v : Option Call → ℕ) (n : ℕ) (calls : ℕ → Option Call) (t : ℕ) (b c : Option Call) → t < n → calls t ≡ b
+    → total n (λ u. v (put calls t c u)) + v b ≡ total n (λ u. v (calls u)) + v c
 sum_after v n calls t b c l e =
     let a : total n (λ u. v (put calls t c u)) + v (calls t) ≡ total n (λ u. v (calls u)) + v (put calls t c t) = total_change n t (λ u. v (calls u)) (λ u. v (put calls t c u)) l (λ j h. ap v (put_other calls t c j h)) in
     let x : v (calls t) ≡ v b = ap v e in
@@ -126,7 +138,7 @@ pub record GoesOn (g : Geometry) (s n : State) (t : ℕ) (b c : Option Call) (ah
   pub entries : Entries g.tasks n.areas n.table n.pages
   pub ranges : (u : ℕ) → AllWithin g (n.areas u)
   pub spread : (u : ℕ) → IsSpread g.space 0 (n.areas u)
-  pub inside : Inside g.limit n.reserved n.pages
+  pub inside : Inside g n.reserved n.pages
   pub sweep : Swept n.size n.reserved n.pages n.areas n.table aheads passes gones
   pub reach : (w : ℕ) → IfSome (fills (s.calls w)) (λ k. Reached n.size aheads k.0 k.1)
   pub fill : IfSome (fills c) (λ k. Reached n.size aheads k.0 k.1)
@@ -168,7 +180,8 @@ goes_on g s n t b c h l e p =
       stands = each_call (Stands g (record n { calls = put s.calls t c })) s.calls t c (λ u d. recall g n (put s.calls t c) u (s.calls u) (p.others u d)) (recall g n (put s.calls t c) t c p.own);
     }
   where
-    recall : (g : Geometry) (n : State) (calls : ℕ → Option Call) (u : ℕ) (c : Option Call) → Stands g n u c → Stands g (record n { calls = calls }) u c
+    recall : (g : Geometry) (n : State) (calls : ℕ → Option Call) (u : ℕ) (c : Option Call) → Stands g n u c
+        → Stands g (record n { calls = calls }) u c
     recall g n calls u c h = record { slot = h.slot; lock = h.lock; facts = h.facts }
 
 -- how the call stands to the indices of its file
@@ -180,7 +193,8 @@ abbrev pub holds : Option Call → Option (ℕ × ℕ) × Option ℕ
 holds c = (slot_held c, locked_file c)
 
 -- all that others see of a call
-abbrev pub seen : Option Call → ℕ × ℕ × Option ℕ × Option ℕ × ((ℕ → ℕ → Bool) × (ℕ → ℕ → Bool) × (ℕ → ℕ → Bool)) × (Option (ℕ × ℕ) × Option ℕ)
+abbrev pub seen : Option Call
+    → ℕ × ℕ × Option ℕ × Option ℕ × ((ℕ → ℕ → Bool) × (ℕ → ℕ → Bool) × (ℕ → ℕ → Bool)) × (Option (ℕ × ℕ) × Option ℕ)
 seen c = (less c, more c, hand c, change_in c, sweeps c, holds c)
 
 -- the same where the call stands to truncations as it did
@@ -188,7 +202,8 @@ abbrev pub GoesAs : Geometry → State → State → ℕ → Option Call → Opt
 GoesAs g s n t b c held locked = GoesOn g s n t b c (λ u. ahead (s.calls u)) (λ u. passed (s.calls u)) (λ u. gone (s.calls u)) held locked
 
 pub goes_as : (g : Geometry) (s n : State) (t : ℕ) (b c : Option Call) → Inv g s → t < g.tasks + 1 → s.calls t ≡ b → sweeps c ≡ sweeps b
-    → GoesAs g s n t b c (put (λ (u : ℕ). slot_held (s.calls u)) t (slot_held c)) (put (λ (u : ℕ). locked_file (s.calls u)) t (locked_file c)) → Inv g (record n { calls = put s.calls t c })
+    → GoesAs g s n t b c (put (λ (u : ℕ). slot_held (s.calls u)) t (slot_held c)) (put (λ (u : ℕ). locked_file (s.calls u)) t (locked_file c))
+    → Inv g (record n { calls = put s.calls t c })
 goes_as g s n t b c h l e same p =
     let held = put (λ (u : ℕ). slot_held (s.calls u)) t (slot_held c) in
     let locked = put (λ (u : ℕ). locked_file (s.calls u)) t (locked_file c) in
@@ -201,14 +216,16 @@ goes_as g s n t b c h l e same p =
 abbrev pub Goes : Geometry → State → State → ℕ → Option Call → Option Call → Type 0
 Goes g s n t b c = GoesAs g s n t b c (λ u. slot_held (s.calls u)) (λ u. locked_file (s.calls u))
 
-pub goes : (g : Geometry) (s n : State) (t : ℕ) (b c : Option Call) → Inv g s → t < g.tasks + 1 → s.calls t ≡ b → sweeps c ≡ sweeps b → holds c ≡ holds b → Goes g s n t b c → Inv g (record n { calls = put s.calls t c })
+pub goes : (g : Geometry) (s n : State) (t : ℕ) (b c : Option Call) → Inv g s → t < g.tasks + 1 → s.calls t ≡ b
+    → sweeps c ≡ sweeps b → holds c ≡ holds b → Goes g s n t b c → Inv g (record n { calls = put s.calls t c })
 goes g s n t b c h l e same same_held p =
     goes_as g s n t b c h l e same
     (subst (λ (a : ℕ → Option (ℕ × ℕ)). GoesAs g s n t b c a (put (λ (u : ℕ). locked_file (s.calls u)) t (locked_file c))) (sym (put_known (λ (u : ℕ). slot_held (s.calls u)) t (slot_held c) (ap slot_held e ∙ sym (ap (λ p. p.0) same_held))))
     (subst (λ (a : ℕ → Option ℕ). GoesAs g s n t b c (λ u. slot_held (s.calls u)) a) (sym (put_known (λ (u : ℕ). locked_file (s.calls u)) t (locked_file c) (ap locked_file e ∙ sym (ap (λ p. p.1) same_held)))) p))
 
 -- the frames are where they were
-pub place_same : (g : Geometry) (s : State) (t : ℕ) (b c : Option Call) → Inv g s → s.calls t ≡ b → hand c ≡ hand b → Placing s.frames s.frame (put (λ (u : ℕ). hand (s.calls u)) t (hand c)) s.pages
+pub place_same : (g : Geometry) (s : State) (t : ℕ) (b c : Option Call) → Inv g s → s.calls t ≡ b → hand c ≡ hand b
+    → Placing s.frames s.frame (put (λ (u : ℕ). hand (s.calls u)) t (hand c)) s.pages
 place_same g s t b c h e d = subst (λ (hs : ℕ → Option ℕ). Placing s.frames s.frame hs s.pages) (sym (put_known (λ (u : ℕ). hand (s.calls u)) t (hand c) (ap hand e ∙ sym d))) h.place
 
 -- the changes open are the same

@@ -28,7 +28,8 @@ use Rattle.hp_machine.specs.declared.call.Call.{Call}
 use Rattle.hp_machine.specs.declared.call.Call.TheVariants as call
 use Rattle.hp_machine.specs.declared.call.Turn.{Turn}
 use Rattle.hp_machine.specs.declared.call.Turn.TheVariants.{Moved, Ended}
-use Rattle.hp_laws.specs.Words.{Moment, Wrote, Sets}
+use Rattle.hp_laws.specs.Histories.{Moment}
+use Rattle.hp_laws.specs.Words.{Wrote, Sets}
 use Rattle.hp_laws.proofs.Invariant.{Inv}
 use Rattle.hp_laws.proofs.Moves.{other_page}
 use Rattle.hp_laws.proofs.Shared.{by_test, by_option}
@@ -52,11 +53,13 @@ Silent s event o n = (f i v : ℕ) → Wrote f i (moment s event o n) v → ⊥
 none_some : {A P : Type 0} {x : A} (o : Option A) → o ≡ None → o ≡ Some x → P
 none_some {A} {x = x} o e d = (let z : ◌≡◌ {A = Option A} None (Some x) = sym e ∙ d in absurd (cc))
 
-not_set : (s : State) (event : Event) (o : Outcome) (n : State) (f i x : ℕ) → Silent s event o n → s.pages f i ≡ Some x → (v : ℕ) → Sets f i (moment s event o n) v → ⊥
+not_set : (s : State) (event : Event) (o : Outcome) (n : State) (f i x : ℕ) → Silent s event o n → s.pages f i ≡ Some x → (v : ℕ)
+    → Sets f i (moment s event o n) v → ⊥
 not_set s event o n f i x quiet page v sets = elim sets [ inl w ↦ quiet f i v w | inr p ↦ none_some (s.pages f i) p.0.0 page ]
 
 -- pages only go, or one comes
-shrinks_tell : (s : State) (event : Event) (o : Outcome) (n : State) (new : Pool) → n.pages ≡ new.pages → n.frame ≡ new.frame → Silent s event o n → Shrinks s new → Tells s event o n
+shrinks_tell : (s : State) (event : Event) (o : Outcome) (n : State) (new : Pool) → n.pages ≡ new.pages → n.frame ≡ new.frame
+    → Silent s event o n → Shrinks s new → Tells s event o n
 shrinks_tell s event o n new pages frame quiet h f i x w a b =
     let k = h f i x w (sym (ap (λ (m : ℕ → ℕ → Option ℕ). m f i) pages) ∙ a) (sym (ap (λ (m : ℕ → FrameState). m x) frame) ∙ b) in
     inr (not_set s event o n f i x quiet k.0, k.0, k.1)
@@ -67,7 +70,8 @@ same_word e = cc
 same_frame : {a b : ℕ} → Some a ≡ Some b → a ≡ b
 same_frame e = cc
 
-places_tell : (s : State) (event : Event) (o : Outcome) (n : State) (new : Pool) → Inv s.geometry s → n.pages ≡ new.pages → n.frame ≡ new.frame → Silent s event o n → PlacesOne s new → Tells s event o n
+places_tell : (s : State) (event : Event) (o : Outcome) (n : State) (new : Pool) → Inv s.geometry s → n.pages ≡ new.pages
+    → n.frame ≡ new.frame → Silent s event o n → PlacesOne s new → Tells s event o n
 places_tell s event o n new h pages frame quiet (f, i, x, new_pages, new_frame, bare, held) k j y w a b =
     let page : put2 s.pages f i (Some x) k j ≡ Some y = sym (ap (λ (m : ℕ → ℕ → Option ℕ). m k j) (pages ∙ new_pages)) ∙ a in
     let word : put s.frame x (state.Placed 0) y ≡ state.Placed w = sym (ap (λ (m : ℕ → FrameState). m y) (frame ∙ new_frame)) ∙ b in
@@ -82,8 +86,10 @@ places_tell s event o n new h pages frame quiet (f, i, x, new_pages, new_frame, 
     ]
 
 -- a store writes the page at an index
-stores_tell : (s : State) (event : Event) (o : Outcome) (n : State) (f i x old word : ℕ) → Inv s.geometry s → s.pages f i ≡ Some x → s.frame x ≡ state.Placed old → n.pages ≡ s.pages → n.frame ≡ put s.frame x (state.Placed word)
-    → Wrote f i (moment s event o n) word → ((k j v : ℕ) → Wrote k j (moment s event o n) v → (k ≡ f) × (j ≡ i) × (v ≡ word)) → Tells s event o n
+stores_tell : (s : State) (event : Event) (o : Outcome) (n : State) (f i x old word : ℕ) → Inv s.geometry s → s.pages f i ≡ Some x
+    → s.frame x ≡ state.Placed old → n.pages ≡ s.pages → n.frame ≡ put s.frame x (state.Placed word)
+    → Wrote f i (moment s event o n) word → ((k j v : ℕ) → Wrote k j (moment s event o n) v → (k ≡ f) × (j ≡ i) × (v ≡ word))
+    → Tells s event o n
 stores_tell s event o n f i x old word h page was pages frame wrote only k j y w a b =
     let there : s.pages k j ≡ Some y = sym (ap (λ (m : ℕ → ℕ → Option ℕ). m k j) pages) ∙ a in
     let new : put s.frame x (state.Placed word) y ≡ state.Placed w = sym (ap (λ (m : ℕ → FrameState). m y) frame) ∙ b in
@@ -111,15 +117,18 @@ some_call : {a b : Call} → Some a ≡ Some b → a ≡ b
 some_call e = cc
 
 -- which call a store is written by
-stored_by : (s : State) (t : ℕ) (grant : Bool) (c : Call) (o : Outcome) (n : State) → s.calls t ≡ Some c → (P : Type 0) → (f i v : ℕ) → Wrote f i (moment s (Step t grant) o n) v
+stored_by : (s : State) (t : ℕ) (grant : Bool) (c : Call) (o : Outcome) (n : State) → s.calls t ≡ Some c → (P : Type 0)
+    → (f i v : ℕ) → Wrote f i (moment s (Step t grant) o n) v
     → ((p : Look) → c ≡ call.Touch (touch.Look p) → p.access ≡ Store v → find (s.areas t) p.vpn ≡ Some (f, i) → o ≡ outcome.Ended answer.Done → P)
-    → ((p : Found) → c ≡ call.Touch (touch.Found p) → p.touch.access ≡ Store v → p.touch.file ≡ f → p.touch.index ≡ i → n.calls t ≡ Some (call.Touch (touch.Leave (record { touch = p.touch; answer = answer.Done }))) → P) → P
+    → ((p : Found) → c ≡ call.Touch (touch.Found p) → p.touch.access ≡ Store v → p.touch.file ≡ f → p.touch.index ≡ i → n.calls t ≡ Some (call.Touch (touch.Leave (record { touch = p.touch; answer = answer.Done }))) → P)
+    → P
 stored_by s t grant c o n e P f i v wrote look found = elim wrote [
   | inl w ↦ (let d : w.0 ≡ t = same_task w.3 in look w.2 (some_call (sym e ∙ (ap s.calls (sym d) ∙ w.4))) w.5 (ap (λ (m : ℕ). find (s.areas m) w.2.vpn) (sym d) ∙ w.6) w.7)
   | inr w ↦ (let d : w.0 ≡ t = same_task w.3 in found w.2 (some_call (sym e ∙ (ap s.calls (sym d) ∙ w.4))) w.5 w.6 w.7 (ap n.calls (sym d) ∙ w.8))
 ]
 
-quiet_call : (s : State) (t : ℕ) (grant : Bool) (c : Call) (o : Outcome) (n : State) → s.calls t ≡ Some c → reads c ≡ false → Silent s (Step t grant) o n
+quiet_call : (s : State) (t : ℕ) (grant : Bool) (c : Call) (o : Outcome) (n : State) → s.calls t ≡ Some c → reads c ≡ false
+    → Silent s (Step t grant) o n
 quiet_call s t grant c o n e quiet f i v wrote = stored_by s t grant c o n e ⊥ f i v wrote
     (λ p d a b k. (let z : true ≡ false = sym (ap reads d) ∙ quiet in cc))
     (λ p d a b k l. (let z : true ≡ false = sym (ap reads d) ∙ quiet in cc))
@@ -131,11 +140,14 @@ quiet_refused s event why o n e d f i v wrote = elim wrote [
   | inr w ↦ (let z : call.Touch (touch.Found w.2) ≡ call.Touch (touch.Leave (record { touch = w.2.touch; answer = answer.Done })) = some_call (sym w.4 ∙ (ap (λ (m : State). m.calls w.0) (sym d) ∙ w.8)) in cc)
 ]
 
-self_tells : (s : State) (event : Event) (o : Outcome) (n : State) → n.pages ≡ s.pages → n.frame ≡ s.frame → Silent s event o n → Tells s event o n
+self_tells : (s : State) (event : Event) (o : Outcome) (n : State) → n.pages ≡ s.pages → n.frame ≡ s.frame → Silent s event o n
+    → Tells s event o n
 self_tells s event o n pages frame quiet = shrinks_tell s event o n (pool_of s) pages frame quiet (λ f i x w a b. (a, b))
 
 -- a touch that looks
-look_tells : (s : State) (t : ℕ) (killed grant : Bool) (p : Look) (turn : Turn TouchPhase) (pool : Pool) (o : Outcome) (n : State) → Inv s.geometry s → s.calls t ≡ Some (call.Touch (touch.Look p)) → TouchLookRow (pool_of s) t p turn pool → o ≡ told call.Touch turn
+look_tells : (s : State) (t : ℕ) (killed grant : Bool) (p : Look) (turn : Turn TouchPhase) (pool : Pool) (o : Outcome) (n : State)
+    → Inv s.geometry s → s.calls t ≡ Some (call.Touch (touch.Look p)) → TouchLookRow (pool_of s) t p turn pool
+    → o ≡ told call.Touch turn
     → n.pages ≡ pool.pages → n.frame ≡ pool.frame → Tells s (Step t grant) o n
 look_tells s t killed grant p turn pool o n h e row tells pages frame =
     by_option (find (s.areas t) p.vpn) row
@@ -156,8 +168,10 @@ look_tells s t killed grant p turn pool o n h e row tells pages frame =
     silent : (o ≡ outcome.Ended answer.Done → ⊥) → Silent s (Step t grant) o n
     silent other f i v wrote = stored_by s t grant (call.Touch (touch.Look p)) o n e ⊥ f i v wrote (λ q d a b k. other k) (λ q d a b k l. not_found q d)
 
-    reading : (x : ℕ) → s.table t p.vpn ≡ Some x → (place : ℕ × ℕ) → find (s.areas t) p.vpn ≡ Some place → (word : ℕ) → s.frame x ≡ state.Placed word
-        → (turn ≡ Ended (answer_of p.access word)) × (pool ≡ record (pool_of s) { frame = frame_after p.access s.frame x }) → (a : Access) → p.access ≡ a → Tells s (Step t grant) o n
+    reading : (x : ℕ) → s.table t p.vpn ≡ Some x → (place : ℕ × ℕ) → find (s.areas t) p.vpn ≡ Some place → (word : ℕ)
+        → s.frame x ≡ state.Placed word
+        → (turn ≡ Ended (answer_of p.access word)) × (pool ≡ record (pool_of s) { frame = frame_after p.access s.frame x })
+        → (a : Access) → p.access ≡ a → Tells s (Step t grant) o n
     reading x entry place there word placed r Load is =
         self_tells s (Step t grant) o n (pages ∙ ap (λ (m : Pool). m.pages) r.1) (frame ∙ (ap (λ (m : Pool). m.frame) r.1 ∙ ap (λ (a : Access). frame_after a s.frame x) is))
         (silent (λ d. (let z : outcome.Ended (answer.Word word) ≡ outcome.Ended answer.Done = sym (tells ∙ (ap (told call.Touch) r.0 ∙ ap (λ (a : Access). outcome.Ended (answer_of a word)) is)) ∙ d in cc)))
@@ -178,7 +192,8 @@ look_tells s t killed grant p turn pool o n h e row tells pages frame =
         same_store z = cc
 
 -- a touch that found its page
-found_tells : (s : State) (t : ℕ) (grant : Bool) (p : Found) (turn : Turn TouchPhase) (pool : Pool) (o : Outcome) (n : State) → Inv s.geometry s → s.calls t ≡ Some (call.Touch (touch.Found p)) → TouchFoundRow (pool_of s) t grant p turn pool
+found_tells : (s : State) (t : ℕ) (grant : Bool) (p : Found) (turn : Turn TouchPhase) (pool : Pool) (o : Outcome) (n : State)
+    → Inv s.geometry s → s.calls t ≡ Some (call.Touch (touch.Found p)) → TouchFoundRow (pool_of s) t grant p turn pool
     → n.calls t ≡ left call.Touch turn → n.pages ≡ pool.pages → n.frame ≡ pool.frame → Tells s (Step t grant) o n
 found_tells s t grant p turn pool o n h e row next pages frame =
     by_test (nat_le (s.size p.touch.file) p.touch.index) row
@@ -196,10 +211,12 @@ found_tells s t grant p turn pool o n h e row next pages frame =
     same_leave : {a b : Leave} → Some (call.Touch (touch.Leave a)) ≡ Some (call.Touch (touch.Leave b)) → a ≡ b
     same_leave z = cc
 
-    silent : (a : Answer) → n.calls t ≡ Some (call.Touch (touch.Leave (record { touch = p.touch; answer = a }))) → (a ≡ answer.Done → ⊥) → Silent s (Step t grant) o n
+    silent : (a : Answer) → n.calls t ≡ Some (call.Touch (touch.Leave (record { touch = p.touch; answer = a })))
+        → (a ≡ answer.Done → ⊥) → Silent s (Step t grant) o n
     silent a now other f i v wrote = stored_by s t grant (call.Touch (touch.Found p)) o n e ⊥ f i v wrote (λ q d b c k. not_look q d) (λ q d b c k l. other (ap (λ (m : Leave). m.answer) (same_leave (sym now ∙ l))))
 
-    plain : (a : Answer) → (turn ≡ Moved (touch.Leave (record { touch = p.touch; answer = a }))) × (pool ≡ pool_of s) → (a ≡ answer.Done → ⊥) → Tells s (Step t grant) o n
+    plain : (a : Answer) → (turn ≡ Moved (touch.Leave (record { touch = p.touch; answer = a }))) × (pool ≡ pool_of s)
+        → (a ≡ answer.Done → ⊥) → Tells s (Step t grant) o n
     plain a r other = self_tells s (Step t grant) o n (pages ∙ ap (λ (m : Pool). m.pages) r.1) (frame ∙ ap (λ (m : Pool). m.frame) r.1) (silent a (next ∙ ap (left call.Touch) r.0) other)
 
     reading : (x word : ℕ) → s.pages p.touch.file p.touch.index ≡ Some x → s.frame x ≡ state.Placed word
@@ -218,13 +235,17 @@ found_tells s t grant p turn pool o n h e row next pages frame =
         same_store : {a b : ℕ} → Store a ≡ Store b → a ≡ b
         same_store z = cc
 
-by_pages : (s : State) (t : ℕ) (killed grant : Bool) (c : Call) (o : Outcome) (pool : Pool) (next : Option Call) (n : State) → reads c ≡ false → Inv s.geometry s → s.calls t ≡ Some c → CallRow (pool_of s) t killed grant c o pool next → n.pages ≡ pool.pages → n.frame ≡ pool.frame → Tells s (Step t grant) o n
+by_pages : (s : State) (t : ℕ) (killed grant : Bool) (c : Call) (o : Outcome) (pool : Pool) (next : Option Call) (n : State)
+    → reads c ≡ false → Inv s.geometry s → s.calls t ≡ Some c → CallRow (pool_of s) t killed grant c o pool next
+    → n.pages ≡ pool.pages → n.frame ≡ pool.frame → Tells s (Step t grant) o n
 by_pages s t killed grant c o pool next n quiet h e row pages frame = elim (call_pages s t killed grant c o pool next quiet h e row) [
   | inl k ↦ shrinks_tell s (Step t grant) o n pool pages frame (quiet_call s t grant c o n e quiet) k
   | inr k ↦ places_tell s (Step t grant) o n pool h pages frame (quiet_call s t grant c o n e quiet) k
 ]
 
-step_tells : (s : State) (t : ℕ) (killed grant : Bool) (c : Call) (o : Outcome) (pool : Pool) (next : Option Call) (n : State) → Inv s.geometry s → s.calls t ≡ Some c → CallRow (pool_of s) t killed grant c o pool next → n.calls t ≡ next → n.pages ≡ pool.pages → n.frame ≡ pool.frame → Tells s (Step t grant) o n
+step_tells : (s : State) (t : ℕ) (killed grant : Bool) (c : Call) (o : Outcome) (pool : Pool) (next : Option Call) (n : State)
+    → Inv s.geometry s → s.calls t ≡ Some c → CallRow (pool_of s) t killed grant c o pool next → n.calls t ≡ next
+    → n.pages ≡ pool.pages → n.frame ≡ pool.frame → Tells s (Step t grant) o n
 unfolding CallRow
 step_tells s t killed grant (call.Touch (touch.Look p)) o pool next n h e (turn, row, tells, leaves) calls pages frame = look_tells s t killed grant p turn pool o n h e row tells pages frame
 step_tells s t killed grant (call.Touch (touch.Found p)) o pool next n h e (turn, row, tells, leaves) calls pages frame = found_tells s t grant p turn pool o n h e row (calls ∙ leaves) pages frame

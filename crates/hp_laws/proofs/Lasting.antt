@@ -58,7 +58,8 @@ none_missing m e d = absurd (never m e d)
     never : (m : ℕ) → m ≡ 0 → (m == 0) ≡ false → ⊥
     never m e d = grind (arith, nat_tests)
 
-past_turn : (s : State) (t : ℕ) (killed grant : Bool) (i : ℕ) (phase : AllocPhase) (turn : Turn AllocPhase) (new : Pool) → Past i phase → AllocRow (pool_of s) t killed grant phase turn new → TurnWell AllocPhase (Past i) Any turn
+past_turn : (s : State) (t : ℕ) (killed grant : Bool) (i : ℕ) (phase : AllocPhase) (turn : Turn AllocPhase) (new : Pool)
+    → Past i phase → AllocRow (pool_of s) t killed grant phase turn new → TurnWell AllocPhase (Past i) Any turn
 past_turn s t killed grant i (alloc.Start p) turn new h row = absurd h
 past_turn s t killed grant i (alloc.Head p) turn new h row = by_test killed row (λ _ r. at_leaf (Past i) Any _ turn r.0 tt) (λ _ r. at_leaf (Past i) Any _ turn r.0 h)
 past_turn s t killed grant i (alloc.Want p) turn new h row = by_test killed row
@@ -102,7 +103,8 @@ next_past i (Moved p) h = h
 next_past i (Blocked p u) h = h
 next_past i (Ended a) h = tt
 
-past_call : (s : State) (t : ℕ) (killed grant : Bool) (i : ℕ) (c : Call) (o : Outcome) (pool : Pool) (next : Option Call) → CallPast i (Some c) → CallRow (pool_of s) t killed grant c o pool next → CallPast i next
+past_call : (s : State) (t : ℕ) (killed grant : Bool) (i : ℕ) (c : Call) (o : Outcome) (pool : Pool) (next : Option Call)
+    → CallPast i (Some c) → CallRow (pool_of s) t killed grant c o pool next → CallPast i next
 unfolding CallRow
 past_call s t killed grant i (call.Alloc p) o pool next w (turn, row, tells, leaves) = subst (CallPast i) (sym leaves) (next_past i turn (past_turn s t killed grant i p turn pool w row))
 past_call s t killed grant i (call.Touch p) o pool next w row = absurd w
@@ -112,19 +114,22 @@ past_call s t killed grant i (call.Truncate p) o pool next w row = absurd w
 past_call s t killed grant i (call.Unmap p) o pool next w row = absurd w
 past_call s t killed grant i (call.Exit p) o pool next w row = absurd w
 
-past_row : (s : State) (t i : ℕ) (event : Event) (o : Outcome) (n : State) → Always s → is_begun t event o ≡ 0 → CallPast i (s.calls t) → Row s event o n → CallPast i (n.calls t)
+past_row : (s : State) (t i : ℕ) (event : Event) (o : Outcome) (n : State) → Always s → is_begun t event o ≡ 0
+    → CallPast i (s.calls t) → Row s event o n → CallPast i (n.calls t)
 past_row s t i event o n h quiet w row = own_or_same s t event o n (CallPast i (n.calls t)) h quiet row
     (λ calls areas lives no_end. subst (CallPast i) (sym calls) w)
     (λ grant c pool next is e r d. subst (λ (m : State). CallPast i (m.calls t)) (sym d) (subst (CallPast i) (sym (put_same s.calls t next))
     (past_call s t (is_killed (s.life t)) grant i c o pool next (subst (CallPast i) e w) r)))
 
-past_run : (t i : ℕ) (s : State) (es : List (Event × Outcome)) (n : State) → Run s es n → Always s → calls_begun t es ≡ 0 → CallPast i (s.calls t) → CallPast i (n.calls t)
+past_run : (t i : ℕ) (s : State) (es : List (Event × Outcome)) (n : State) → Run s es n → Always s → calls_begun t es ≡ 0
+    → CallPast i (s.calls t) → CallPast i (n.calls t)
 past_run t i s [] n r h quiet w = subst (λ (m : State). CallPast i (m.calls t)) (sym r) w
 past_run t i s (e ∷ es) n r h quiet w = past_run t i r.0 es n r.2 (row_keeps s e.0 e.1 r.0 h r.1) (omega arith) (past_row s t i e.0 e.1 r.0 h (omega arith) w r.1)
 
 -- an allocation whose change found nothing missing at an index doesn't leave that index for want of a frame
 pub alloc_never_lacks : (s : State) (t : ℕ) (p : Changed) (rest : List (Event × Outcome)) (n : State) (q : Unslot)
-    → IsReached s → s.calls t ≡ Some (call.Alloc (alloc.Changed p)) → p.pending.missing ≡ 0 → Run s rest n → calls_begun t rest ≡ 0 → n.calls t ≡ Some (call.Alloc (alloc.Unslot q)) → q.index ≡ p.index → q.answer ≢ Some answer.NoFrame
+    → IsReached s → s.calls t ≡ Some (call.Alloc (alloc.Changed p)) → p.pending.missing ≡ 0 → Run s rest n
+    → calls_begun t rest ≡ 0 → n.calls t ≡ Some (call.Alloc (alloc.Unslot q)) → q.index ≡ p.index → q.answer ≢ Some answer.NoFrame
 alloc_never_lacks s t p rest n q reached e none run quiet there same =
     let start : CallPast p.index (s.calls t) = subst (CallPast p.index) (sym e) (omega arith, λ z. none) in
     let w : CallPast p.index (Some (call.Alloc (alloc.Unslot q))) = subst (CallPast p.index) there (past_run t p.index s rest n run (always s reached) quiet start) in

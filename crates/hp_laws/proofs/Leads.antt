@@ -53,25 +53,30 @@ goes phase after = (Moved phase, after, (refl, refl))
 ends : {P : Type 0} (a : Answer) (after : Pool) → (turn : Turn P) × (new : Pool) × Ends a after turn new
 ends a after = (Ended a, after, (refl, refl))
 
-test : {P : Type 0} {A B : Turn P → Pool → Type 0} (b : Bool) → (b ≡ true → Leads A) → (b ≡ false → Leads B) → Leads (λ turn new. MatchBool b (A turn new) (B turn new))
+test : {P : Type 0} {A B : Turn P → Pool → Type 0} (b : Bool) → (b ≡ true → Leads A) → (b ≡ false → Leads B)
+    → Leads (λ turn new. MatchBool b (A turn new) (B turn new))
 test true a b = a refl
 test false a b = b refl
 
-option : {P X : Type 0} {A : Turn P → Pool → Type 0} {B : X → Turn P → Pool → Type 0} (o : Option X) → (o ≡ None → Leads A) → ((x : X) → o ≡ Some x → Leads (B x)) → Leads (λ turn new. MatchOption o (A turn new) (λ x. B x turn new))
+option : {P X : Type 0} {A : Turn P → Pool → Type 0} {B : X → Turn P → Pool → Type 0} (o : Option X) → (o ≡ None → Leads A)
+    → ((x : X) → o ≡ Some x → Leads (B x)) → Leads (λ turn new. MatchOption o (A turn new) (λ x. B x turn new))
 option None a b = a refl
 option (Some x) a b = b x refl
 
-witness : {P X : Type 0} {Q : X → Type 0} {A : X → Turn P → Pool → Type 0} (x : X) → Q x → Leads (A x) → Leads (λ turn new. (y : X) × Q y × A y turn new)
+witness : {P X : Type 0} {Q : X → Type 0} {A : X → Turn P → Pool → Type 0} (x : X) → Q x → Leads (A x)
+    → Leads (λ turn new. (y : X) × Q y × A y turn new)
 witness x q (turn, new, row) = (turn, new, (x, q, row))
 
-start : {P : Type 0} (s : Pool) (t : ℕ) (killed : Bool) (f : ℕ) (bad : Bool) (at_kill : Answer) (here next : P) → Leads (StartRow s t killed f bad at_kill here next)
+start : {P : Type 0} (s : Pool) (t : ℕ) (killed : Bool) (f : ℕ) (bad : Bool) (at_kill : Answer) (here next : P)
+    → Leads (StartRow s t killed f bad at_kill here next)
 start s t killed f bad at_kill here next =
     test (nat_le s.geometry.files f) (λ _. ends _ s) (λ _. test bad (λ _. ends _ s) (λ _. test killed (λ _. ends at_kill s) (λ _. option (s.locks f) (λ _. goes next _) (λ u _. (Blocked here u, s, (refl, refl))))))
 
 want : {P : Type 0} (s : Pool) (t f i : ℕ) (here next : P) → Leads (WantSlotRow s t f i here next)
 want s t f i here next = option (s.slots (slot_of s.geometry f i)) (λ _. goes next _) (λ u _. (Blocked here u, s, (refl, refl)))
 
-change : {P : Type 0} (s : Pool) (grant : Bool) (f from to : ℕ) (denied : P) (changed : Change → P) → Leads (ChangeRow s grant f from to denied changed)
+change : {P : Type 0} (s : Pool) (grant : Bool) (f from to : ℕ) (denied : P) (changed : Change → P)
+    → Leads (ChangeRow s grant f from to denied changed)
 change s grant f from to denied changed = test ((s.spare f == s.pending f) && not grant) (λ _. goes denied s) (λ _. goes _ _)
 
 commit : {P : Type 0} (s : Pool) (f : ℕ) (c : Change) (settle next : P) → Leads (CommitRow s f c settle next)
@@ -90,7 +95,8 @@ some_free frame frames l = let o = some_member frames (λ x. is_free (frame x)) 
 is_nil : (m : ℕ) → (m == 0) ≡ true → m ≡ 0
 is_nil m e = grind (arith, nat_tests)
 
-take : {P : Type 0} (s : State) (m : ℕ) (no_frame : P) (taken : ℕ → P) → s.resv ≤ free_frames s.frame s.frames → (m ≡ 0 → 1 ≤ s.resv) → Leads (TakeRow (pool_of s) m no_frame taken)
+take : {P : Type 0} (s : State) (m : ℕ) (no_frame : P) (taken : ℕ → P) → s.resv ≤ free_frames s.frame s.frames
+    → (m ≡ 0 → 1 ≤ s.resv) → Leads (TakeRow (pool_of s) m no_frame taken)
 take s m no_frame taken covered reserved =
     test (m == 0)
     (λ none. let low = reserved (is_nil m none) in let x = some_free s.frame s.frames (omega arith) in (Moved (taken x.0), _, (x.0, x.1, low, (refl, refl))))
@@ -114,11 +120,13 @@ some_end s f reached =
     beyond i None l e = refl
     beyond i (Some x) l e = (let z = page_inside s f i x reached e in absurd (omega arith))
 
-    clear : (top : ℕ) → ((i : ℕ) → top ≤ i → i < s.geometry.limit → s.pages f i ≡ None) → (i : ℕ) (b : Bool) → nat_lt i s.geometry.limit ≡ b → top ≤ i → s.pages f i ≡ None
+    clear : (top : ℕ) → ((i : ℕ) → top ≤ i → i < s.geometry.limit → s.pages f i ≡ None) → (i : ℕ) (b : Bool)
+        → nat_lt i s.geometry.limit ≡ b → top ≤ i → s.pages f i ≡ None
     clear top p i true d l = p i l (grind (arith, nat_tests))
     clear top p i false d l = beyond i (s.pages f i) (grind (arith, nat_tests)) refl
 
-touch_leads : (s : State) (t : ℕ) (killed grant : Bool) (phase : TouchPhase) → IsReached s → TouchStands s t phase → Leads (TouchRow (pool_of s) t killed grant phase)
+touch_leads : (s : State) (t : ℕ) (killed grant : Bool) (phase : TouchPhase) → IsReached s → TouchStands s t phase
+    → Leads (TouchRow (pool_of s) t killed grant phase)
 touch_leads s t killed grant (touch.Look p) reached y = option (find (s.areas t) p.vpn) (λ _. ends _ (pool_of s)) (λ place _. option (s.table t p.vpn) (λ _. goes _ (pool_of s)) (λ x entry. let o = entry_placed s t p.vpn x reached entry in (Ended _, _, (o.0, o.1, (refl, refl)))))
 touch_leads s t killed grant (touch.Want p) reached y = test killed (λ _. ends _ (pool_of s)) (λ _. want (pool_of s) t p.touch.file p.touch.index _ _)
 touch_leads s t killed grant (touch.Locked p) reached y = test (nat_le (s.size p.touch.file) p.touch.index) (λ _. goes _ (pool_of s)) (λ _. test (is_some (s.pages p.touch.file p.touch.index)) (λ _. goes _ (pool_of s)) (λ _. goes _ (pool_of s)))
@@ -132,7 +140,8 @@ touch_leads s t killed grant (touch.Restore p) reached y = goes _ _
 touch_leads s t killed grant (touch.Found p) reached y = test (nat_le (s.size p.touch.file) p.touch.index) (λ _. goes _ (pool_of s)) (λ _. test grant (λ _. let o = y.page in (Moved _, _, (o.0, o.1, o.2, o.3, (refl, refl)))) (λ _. goes _ (pool_of s)))
 touch_leads s t killed grant (touch.Leave p) reached y = ends _ _
 
-map_leads : (s : State) (t : ℕ) (killed grant : Bool) (phase : MapPhase) → IsReached s → MapStands s t phase → Leads (MapRow (pool_of s) t killed grant phase)
+map_leads : (s : State) (t : ℕ) (killed grant : Bool) (phase : MapPhase) → IsReached s → MapStands s t phase
+    → Leads (MapRow (pool_of s) t killed grant phase)
 map_leads s t killed grant (map.Start p) reached y = start (pool_of s) t killed p.map.file _ _ _ _
 map_leads s t killed grant (map.Room p) reached y =
     let o = some_room s.geometry.space (s.areas t) p.map.len in
@@ -145,7 +154,8 @@ map_leads s t killed grant (map.Settle p) reached y = (Moved _, _, (y.enough, (r
 map_leads s t killed grant (map.Enter p) reached y = goes _ _
 map_leads s t killed grant (map.Leave p) reached y = ends _ _
 
-alloc_leads : (s : State) (t : ℕ) (killed grant : Bool) (phase : AllocPhase) → IsReached s → AllocStands s t phase → Leads (AllocRow (pool_of s) t killed grant phase)
+alloc_leads : (s : State) (t : ℕ) (killed grant : Bool) (phase : AllocPhase) → IsReached s → AllocStands s t phase
+    → Leads (AllocRow (pool_of s) t killed grant phase)
 alloc_leads s t killed grant (alloc.Start p) reached y = start (pool_of s) t killed p.allocation.file _ _ _ _
 alloc_leads s t killed grant (alloc.Head p) reached y = test killed (λ _. goes _ (pool_of s)) (λ _. goes _ (pool_of s))
 alloc_leads s t killed grant (alloc.Want p) reached y = test killed (λ _. goes _ (pool_of s)) (λ _. want (pool_of s) t p.allocation.file p.index _ _)
@@ -161,7 +171,8 @@ alloc_leads s t killed grant (alloc.Unslot p) reached y = option p.answer (λ _.
 alloc_leads s t killed grant (alloc.Extend p) reached y = goes _ _
 alloc_leads s t killed grant (alloc.Leave p) reached y = ends _ _
 
-punch_leads : (s : State) (t : ℕ) (killed grant : Bool) (phase : PunchPhase) → IsReached s → PunchStands s t phase → Leads (PunchRow (pool_of s) t killed grant phase)
+punch_leads : (s : State) (t : ℕ) (killed grant : Bool) (phase : PunchPhase) → IsReached s → PunchStands s t phase
+    → Leads (PunchRow (pool_of s) t killed grant phase)
 punch_leads s t killed grant (punch.Start p) reached y = start (pool_of s) t killed p.hole.file _ _ _ _
 punch_leads s t killed grant (punch.Want p) reached y = want (pool_of s) t p.hole.file p.index _ _
 punch_leads s t killed grant (punch.Locked p) reached y = test (is_some (s.pages p.hole.file p.index)) (λ _. goes _ (pool_of s)) (λ _. goes _ (pool_of s))
@@ -172,7 +183,8 @@ punch_leads s t killed grant (punch.Free p) reached y = goes _ _
 punch_leads s t killed grant (punch.Unslot p) reached y = test (nat_lt (p.index + 1) (p.hole.from + p.hole.len)) (λ _. goes _ _) (λ _. goes _ _)
 punch_leads s t killed grant (punch.Leave p) reached y = ends _ _
 
-truncate_leads : (s : State) (t : ℕ) (killed grant : Bool) (phase : TruncatePhase) → IsReached s → TruncateStands s t phase → Leads (TruncateRow (pool_of s) t killed grant phase)
+truncate_leads : (s : State) (t : ℕ) (killed grant : Bool) (phase : TruncatePhase) → IsReached s → TruncateStands s t phase
+    → Leads (TruncateRow (pool_of s) t killed grant phase)
 truncate_leads s t killed grant (truncate.Start p) reached y = start (pool_of s) t killed p.truncation.file _ _ _ _
 truncate_leads s t killed grant (truncate.Size p) reached y =
     let o = some_end s p.truncation.file reached in
@@ -198,21 +210,39 @@ exit_leads s t killed grant (exit.Clear p) = goes _ _
 exit_leads s t killed grant (exit.Drop p) = option (first_base (without (s.areas t) p.base)) (λ _. goes _ _) (λ base _. goes _ _)
 exit_leads s t killed grant exit.Leave = ends _ (pool_of s)
 
-call_leads : (s : State) (t : ℕ) (killed grant : Bool) (c : Call) → IsReached s → s.calls t ≡ Some c → (o : Outcome) × (new : Pool) × (next : Option Call) × CallRow (pool_of s) t killed grant c o new next
+call_leads : (s : State) (t : ℕ) (killed grant : Bool) (c : Call) → IsReached s → s.calls t ≡ Some c
+    → (o : Outcome) × (new : Pool) × (next : Option Call) × CallRow (pool_of s) t killed grant c o new next
 unfolding CallRow
-call_leads s t killed grant (call.Touch p) reached e = let r = touch_leads s t killed grant p reached (touch_stands s t p reached e) in (told call.Touch r.0, r.1, left call.Touch r.0, (r.0, r.2, refl, refl))
-call_leads s t killed grant (call.Map p) reached e = let r = map_leads s t killed grant p reached (map_stands s t p reached e) in (told call.Map r.0, r.1, left call.Map r.0, (r.0, r.2, refl, refl))
-call_leads s t killed grant (call.Alloc p) reached e = let r = alloc_leads s t killed grant p reached (alloc_stands s t p reached e) in (told call.Alloc r.0, r.1, left call.Alloc r.0, (r.0, r.2, refl, refl))
-call_leads s t killed grant (call.Punch p) reached e = let r = punch_leads s t killed grant p reached (punch_stands s t p reached e) in (told call.Punch r.0, r.1, left call.Punch r.0, (r.0, r.2, refl, refl))
-call_leads s t killed grant (call.Truncate p) reached e = let r = truncate_leads s t killed grant p reached (truncate_stands s t p reached e) in (told call.Truncate r.0, r.1, left call.Truncate r.0, (r.0, r.2, refl, refl))
-call_leads s t killed grant (call.Unmap p) reached e = let r = unmap_leads s t killed grant p in (told call.Unmap r.0, r.1, left call.Unmap r.0, (r.0, r.2, refl, refl))
-call_leads s t killed grant (call.Exit p) reached e = let r = exit_leads s t killed grant p in (told call.Exit r.0, r.1, left call.Exit r.0, (r.0, r.2, refl, refl))
+call_leads s t killed grant (call.Touch p) reached e =
+    let r = touch_leads s t killed grant p reached (touch_stands s t p reached e) in
+    (told call.Touch r.0, r.1, left call.Touch r.0, (r.0, r.2, refl, refl))
+call_leads s t killed grant (call.Map p) reached e =
+    let r = map_leads s t killed grant p reached (map_stands s t p reached e) in
+    (told call.Map r.0, r.1, left call.Map r.0, (r.0, r.2, refl, refl))
+call_leads s t killed grant (call.Alloc p) reached e =
+    let r = alloc_leads s t killed grant p reached (alloc_stands s t p reached e) in
+    (told call.Alloc r.0, r.1, left call.Alloc r.0, (r.0, r.2, refl, refl))
+call_leads s t killed grant (call.Punch p) reached e =
+    let r = punch_leads s t killed grant p reached (punch_stands s t p reached e) in
+    (told call.Punch r.0, r.1, left call.Punch r.0, (r.0, r.2, refl, refl))
+call_leads s t killed grant (call.Truncate p) reached e =
+    let r = truncate_leads s t killed grant p reached (truncate_stands s t p reached e) in
+    (told call.Truncate r.0, r.1, left call.Truncate r.0, (r.0, r.2, refl, refl))
+call_leads s t killed grant (call.Unmap p) reached e =
+    let r = unmap_leads s t killed grant p in
+    (told call.Unmap r.0, r.1, left call.Unmap r.0, (r.0, r.2, refl, refl))
+call_leads s t killed grant (call.Exit p) reached e =
+    let r = exit_leads s t killed grant p in
+    (told call.Exit r.0, r.1, left call.Exit r.0, (r.0, r.2, refl, refl))
 
-by_bool : {A B : Outcome → State → Type 0} (b : Bool) → (b ≡ true → (o : Outcome) × (n : State) × A o n) → (b ≡ false → (o : Outcome) × (n : State) × B o n) → (o : Outcome) × (n : State) × MatchBool b (A o n) (B o n)
+by_bool : {A B : Outcome → State → Type 0} (b : Bool) → (b ≡ true → (o : Outcome) × (n : State) × A o n)
+    → (b ≡ false → (o : Outcome) × (n : State) × B o n) → (o : Outcome) × (n : State) × MatchBool b (A o n) (B o n)
 by_bool true a b = a refl
 by_bool false a b = b refl
 
-by_call : {A : Outcome → State → Type 0} {B : Call → Outcome → State → Type 0} (c : Option Call) → (c ≡ None → (o : Outcome) × (n : State) × A o n) → ((x : Call) → c ≡ Some x → (o : Outcome) × (n : State) × B x o n) → (o : Outcome) × (n : State) × MatchOption c (A o n) (λ x. B x o n)
+by_call : {A : Outcome → State → Type 0} {B : Call → Outcome → State → Type 0} (c : Option Call)
+    → (c ≡ None → (o : Outcome) × (n : State) × A o n) → ((x : Call) → c ≡ Some x → (o : Outcome) × (n : State) × B x o n)
+    → (o : Outcome) × (n : State) × MatchOption c (A o n) (λ x. B x o n)
 by_call None a b = a refl
 by_call (Some x) a b = b x refl
 

@@ -1,10 +1,12 @@
 pub mod AllocKeeps
+pub mod Answering
 pub mod Apart
 pub mod Claims
 pub mod Cover
 pub mod Cuts
 pub mod Denials
 pub mod Effects
+pub mod Evicted
 pub mod Histories
 pub mod Holding
 pub mod Invariant

@@ -1,12 +1,15 @@
 -- A reserved index goes only under the file lock, and a truncation that is over leaves nothing.
-use Rattle.std.proofs.Common.{◌≡◌, ℕ, ◌≤◌, refl, ap, sym, ◌∙◌, subst, arith, inl, inr, ◌⊎◌}
-use Rattle.std.specs.Prelude.{Bool, true, false, ◌&&◌, ◌==◌, nat_le, nat_lt, max, is_some, Option, Some, None}
+use Rattle.std.proofs.Common.{◌≡◌, ℕ, ◌+◌, ◌≤◌, refl, ap, sym, ◌∙◌, subst, arith, inl, inr, ◌⊎◌}
+use Rattle.std.specs.Prelude.{Bool, true, false, ◌&&◌, ◌||◌, ◌==◌, nat_le, nat_lt, max, is_some, Option, Some}
 use Rattle.std.proofs.lemmas.Bool.Decides.{nat_tests}
+use Rattle.hp_base.specs.Indices.{is_within}
+use Rattle.hp_region.specs.Change.{Change}
+use Rattle.hp_machine.specs.Standings.{Counts}
 use Rattle.hp_base.specs.declared.answer.Answer.{Answer}
 use Rattle.hp_base.specs.declared.answer.Answer.TheVariants as answer
 use Rattle.hp_base.specs.declared.event.Event.{Event}
 use Rattle.hp_base.specs.declared.event.Event.TheVariants.{Begin, Step, Kill}
-use Rattle.hp_machine.specs.State.{Pool, State, pool_of, with_pool, slot_of, is_killed}
+use Rattle.hp_machine.specs.State.{Geometry, Pool, State, pool_of, with_pool, slot_of, is_killed}
 use Rattle.hp_machine.specs.Parts.{unlocked}
 use Rattle.hp_machine.specs.TruncateRows.{TruncateRow}
 use Rattle.hp_machine.specs.Events.{Row, CallRow, IsReached, word_of, told}
@@ -19,37 +22,94 @@ use Rattle.hp_machine.specs.declared.punch.PunchPhase.TheVariants as punch
 use Rattle.hp_machine.specs.declared.truncate.TruncatePhase.{TruncatePhase}
 use Rattle.hp_machine.specs.declared.truncate.TruncatePhase.TheVariants as truncate
 use Rattle.hp_machine.specs.declared.truncate.Leave.{Leave}
+use Rattle.hp_machine.specs.declared.map.MapPhase.TheVariants as map
+use Rattle.hp_machine.specs.declared.unmap.UnmapPhase.TheVariants as unmap
+use Rattle.hp_machine.specs.declared.exit.ExitPhase.TheVariants as exit
 use Rattle.hp_machine.specs.declared.call.Call.{Call}
 use Rattle.hp_machine.specs.declared.call.Call.TheVariants as call
 use Rattle.hp_machine.specs.declared.call.Turn.{Turn}
 use Rattle.hp_machine.specs.declared.call.Turn.TheVariants.{Moved, Blocked, Ended}
+use Rattle.hp_machine.specs.Views.{locked_file}
 use Rattle.hp_laws.specs.Sweep.{ahead, passed, gone}
-use Rattle.hp_laws.specs.Protocol.{counts_on, works_at, GoesUnderLock, truncation_of, IsCut}
-use Rattle.hp_laws.proofs.Standing.{HasSlot, HasLock, Stands}
+use Rattle.hp_laws.specs.Protocol.{is_covered, counts_on, works_at, GoesUnderLock, truncation_of, IsCut}
+use Rattle.hp_laws.proofs.Standing.{HasSlot, HasLock, Stands, IsOne}
 use Rattle.hp_laws.proofs.Invariant.{Inv}
 use Rattle.hp_laws.proofs.Passing.{ahead_locked, locks_file, holds_slot, same_holder}
 use Rattle.hp_laws.proofs.Shared.{by_test, by_option, stands_at}
 use Rattle.hp_laws.proofs.StepsLeft.{deletes}
-use Rattle.hp_laws.proofs.Runs.{always}
-use Rattle.hp_laws.proofs.Apart.{works, passed_is_bare}
+use Rattle.hp_laws.proofs.Runs.{Always, always}
+use Rattle.hp_laws.proofs.Apart.{works, passed_bare}
 use Rattle.hp_laws.proofs.Reading.{begin_cases, step_cases, kill_cases, call_steps}
-
--- a call that counts on an index works there
-counts_works : (c : Option Call) (k : ℕ × ℕ) → counts_on c ≡ Some k → works_at c ≡ Some k
-counts_works (Some (call.Touch (touch.Changed p))) k e = e
-counts_works (Some (call.Touch (touch.Taken p))) k e = e
-counts_works (Some (call.Touch (touch.Settle p))) k e = e
-counts_works (Some (call.Touch (touch.Committed p))) k e = e
-counts_works (Some (call.Touch (touch.Restore p))) k e = e
-counts_works (Some (call.Alloc (alloc.Changed p))) k e = e
-counts_works (Some (call.Alloc (alloc.Taken p))) k e = e
-counts_works (Some (call.Alloc (alloc.Settle p))) k e = e
-counts_works (Some (call.Alloc (alloc.Committed p))) k e = e
-counts_works (Some (call.Alloc (alloc.Restore p))) k e = e
-counts_works c k e = (let d : ◌≡◌ {A = Option (ℕ × ℕ)} None (Some k) = e in absurd (cc))
 
 same_pair : (a b f i : ℕ) → ((a == f) && (b == i)) ≡ true → (a ≡ f) × (b ≡ i)
 same_pair a b f i e = (grind (arith, nat_tests), grind (arith, nat_tests))
+
+never : {k f m i : ℕ} → false ≡ true → (k ≡ f) × (m ≡ i)
+never e = absurd (cc)
+
+of_pair : {k m f i : ℕ} → (k ≡ f) × (m ≡ i) → ◌≡◌ {A = Option (ℕ × ℕ)} (Some (k, m)) (Some (f, i))
+of_pair {k} {m} {f} {i} d =
+    let a : ◌≡◌ {A = Option (ℕ × ℕ)} (Some (k, m)) (Some (f, m)) = ap (λ (z : ℕ). Some (z, m)) d.0 in
+    let b : ◌≡◌ {A = Option (ℕ × ℕ)} (Some (f, m)) (Some (f, i)) = ap (λ (z : ℕ). Some (f, z)) d.1 in
+    a ∙ b
+
+pair_of : (k m f i : ℕ) → ((k == f) && (m == i)) ≡ true → ◌≡◌ {A = Option (ℕ × ℕ)} (Some (k, m)) (Some (f, i))
+pair_of k m f i e = of_pair (same_pair k m f i e)
+
+within_one : (from to k m f i : ℕ) → from ≡ m → to ≡ m + 1 → ((k == f) && is_within from to i) ≡ true → (k ≡ f) × (m ≡ i)
+within_one from to k m f i a b e = (grind (arith, nat_tests), grind (arith, nat_tests))
+
+either : (a b : Bool) → (a || b) ≡ true → (a ≡ true) ⊎ (b ≡ true)
+either true b e = inl refl
+either false b e = inr e
+
+file_of : (k f : ℕ) (b c : Bool) → (((k == f) && b) || ((k == f) && c)) ≡ true → Some k ≡ Some f
+file_of k f b c e = ap (λ (m : ℕ). Some m) (of (either ((k == f) && b) ((k == f) && c) e))
+  where
+    of : (((k == f) && b) ≡ true) ⊎ (((k == f) && c) ≡ true) → k ≡ f
+    of (inl a) = grind (arith, nat_tests)
+    of (inr a) = grind (arith, nat_tests)
+
+file_left : (k f : ℕ) (b : Bool) → (((k == f) && b) || false) ≡ true → Some k ≡ Some f
+file_left k f b e = ap (λ (m : ℕ). Some m) (of (either ((k == f) && b) false e))
+  where
+    of : (((k == f) && b) ≡ true) ⊎ (false ≡ true) → k ≡ f
+    of (inl a) = grind (arith, nat_tests)
+    of (inr a) = absurd (cc)
+
+file_right : (k f : ℕ) (b : Bool) → ((k == f) && b) ≡ true → Some k ≡ Some f
+file_right k f b e = let d : k ≡ f = grind (arith, nat_tests) in ap (λ (m : ℕ). Some m) d
+
+-- a change of one index covers no other
+one_covers : (change : Change) (k m f i : ℕ) (b : Bool) → IsOne change m → (b ≡ true → (k ≡ f) × (m ≡ i))
+    → (((k == f) && is_within change.from change.to i) || b) ≡ true → ◌≡◌ {A = Option (ℕ × ℕ)} (Some (k, m)) (Some (f, i))
+one_covers change k m f i b one other e = elim (either (is_covered (Counts k change) f i) b e) [
+  | inl a ↦ of_pair (within_one change.from change.to k m f i one.0 one.1 a)
+  | inr a ↦ of_pair (other a)
+]
+
+-- a call that counts on an index works there, or holds the file's lock
+abbrev CountsOn : Option Call → (file index : ℕ) → Type 0
+CountsOn c f i = (works_at c ≡ Some (f, i)) ⊎ (locked_file c ≡ Some f)
+
+counts_works : (g : Geometry) (s : State) (u : ℕ) (c : Option Call) (f i : ℕ) → Stands g s u c → counts_on c f i ≡ true → CountsOn c f i
+counts_works g s u (Some (call.Touch (touch.Changed p))) f i h e = inl (one_covers p.pending p.touch.file p.touch.index f i false h.facts.one never e)
+counts_works g s u (Some (call.Touch (touch.Taken p))) f i h e = inl (one_covers p.pending p.touch.file p.touch.index f i _ h.facts.one (same_pair p.touch.file p.touch.index f i) e)
+counts_works g s u (Some (call.Touch (touch.Settle p))) f i h e = inl (pair_of p.touch.file p.touch.index f i e)
+counts_works g s u (Some (call.Touch (touch.Committed p))) f i h e = inl (pair_of p.touch.file p.touch.index f i e)
+counts_works g s u (Some (call.Touch (touch.Restore p))) f i h e = inl (pair_of p.touch.file p.touch.index f i e)
+counts_works g s u (Some (call.Map (map.Changed p))) f i h e = inr (file_left p.map.file f _ e)
+counts_works g s u (Some (call.Map (map.Accounted p))) f i h e = inr (file_left p.map.file f _ e)
+counts_works g s u (Some (call.Alloc (alloc.Changed p))) f i h e = inr (file_left p.allocation.file f _ e)
+counts_works g s u (Some (call.Alloc (alloc.Taken p))) f i h e = inr (file_of p.allocation.file f _ (p.index == i) e)
+counts_works g s u (Some (call.Alloc (alloc.Settle p))) f i h e = inr (file_right p.allocation.file f (p.index == i) e)
+counts_works g s u (Some (call.Alloc (alloc.Committed p))) f i h e = inr (file_right p.allocation.file f (p.index == i) e)
+counts_works g s u (Some (call.Alloc (alloc.Restore p))) f i h e = inr (file_right p.allocation.file f (p.index == i) e)
+counts_works g s u (Some (call.Punch (punch.Start _))) f i h e = let d : false ≡ true = e in absurd (cc)
+counts_works g s u (Some (call.Truncate (truncate.Start _))) f i h e = let d : false ≡ true = e in absurd (cc)
+counts_works g s u (Some (call.Unmap (unmap.Start _))) f i h e = let d : false ≡ true = e in absurd (cc)
+counts_works g s u (Some (call.Exit exit.Start)) f i h e = let d : false ≡ true = e in absurd (cc)
+counts_works g s u c f i h e = let d : false ≡ true = e in absurd (cc)
 
 same_from : (a b f i : ℕ) → ((a == f) && nat_le b i) ≡ true → a ≡ f
 same_from a b f i e = grind (arith, nat_tests)
@@ -65,20 +125,24 @@ deleter s t (call.Punch (punch.Delete p)) f i y e =
 deleter s t (call.Truncate (truncate.Tail p)) f i y e = (ap s.locks (sym (same_from p.truncation.file p.truncation.new f i e)) ∙ y.lock, inr refl, inl e)
 deleter s t c f i y e = (let d : false ≡ true = e in absurd (cc))
 
+unless_counted : (b : Bool) → (b ≡ true → ⊥) → b ≡ false
+unless_counted true h = absurd (h refl)
+unless_counted false h = refl
+
 clash : {P : Type 0} (b : Bool) → b ≡ true → b ≡ false → P
 clash b e d = (let z : true ≡ false = sym e ∙ d in absurd (cc))
 
-pub goes_under_lock : (s : State) (event : Event) (o : Outcome) (n : State) (f i : ℕ) → IsReached s → Row s event o n → s.reserved f i ≡ true → n.reserved f i ≡ false → GoesUnderLock s event f i
-goes_under_lock s (Begin u p) o n f i reached row a b = begin_cases s u p o n (GoesUnderLock s (Begin u p) f i) row
+pub goes_under : (s : State) (event : Event) (o : Outcome) (n : State) (f i : ℕ) → Always s → Row s event o n
+    → s.reserved f i ≡ true → n.reserved f i ≡ false → GoesUnderLock s event f i
+goes_under s (Begin u p) o n f i h row a b = begin_cases s u p o n (GoesUnderLock s (Begin u p) f i) row
     (λ why e d. clash (s.reserved f i) a (ap (λ (m : State). m.reserved f i) (sym d) ∙ b))
     (λ lives none may e d. clash (s.reserved f i) a (ap (λ (m : State). m.reserved f i) (sym d) ∙ b))
-goes_under_lock s (Kill u) o n f i reached row a b = kill_cases s u o n (GoesUnderLock s (Kill u) f i) row
+goes_under s (Kill u) o n f i h row a b = kill_cases s u o n (GoesUnderLock s (Kill u) f i) row
     (λ why e d. clash (s.reserved f i) a (ap (λ (m : State). m.reserved f i) (sym d) ∙ b))
     (λ alive e d. clash (s.reserved f i) a (ap (λ (m : State). m.reserved f i) (sym d) ∙ b))
-goes_under_lock s (Step t grant) o n f i reached row a b = step_cases s t grant o n (GoesUnderLock s (Step t grant) f i) row
+goes_under s (Step t grant) o n f i h row a b = step_cases s t grant o n (GoesUnderLock s (Step t grant) f i) row
     (λ why e d. clash (s.reserved f i) a (ap (λ (m : State). m.reserved f i) (sym d) ∙ b))
     (λ c lives e pool next r d.
-    let h = always s reached in
     let is = h.lives.there t lives in
     let none : pool.reserved f i ≡ false = ap (λ (m : State). m.reserved f i) (sym d) ∙ b in
     elim (call_steps s t 0 (is_killed (s.life t)) grant c o pool next h.inv is.0 (let z = is.1 in omega arith) e r) [
@@ -93,13 +157,23 @@ goes_under_lock s (Step t grant) o n f i reached row a b = step_cases s t grant 
           e,
           y.0,
           y.1,
-          λ u apart counts. elim y.2 [
-            | inl p ↦ (passed_is_bare s reached t f i (inl (ap (λ (m : Option Call). passed m f i) e ∙ p))).1 u apart (counts_works (s.calls u) (f, i) counts)
-            | inr p ↦ apart (same_holder u t (s.slots (slot_of s.geometry f i)) (holds_slot s.geometry s u (f, i) h.inv (works s.geometry s u (s.calls u) (f, i) (h.inv.stands u) (counts_works (s.calls u) (f, i) counts)).0) p)
+          λ u apart. elim y.2 [
+            | inl p ↦ unless_counted (counts_on (s.calls u) f i) (λ counts. elim (counts_works s.geometry s u (s.calls u) f i (h.inv.stands u) counts) [
+              | inl at ↦ (passed_bare s h t f i (inl (ap (λ (m : Option Call). passed m f i) e ∙ p))).1 u apart at
+              | inr lock ↦ apart (same_holder u t (s.locks f) (locks_file s.geometry s u f h.inv lock) y.0)
+            ])
+            | inr p ↦ unless_counted (counts_on (s.calls u) f i) (λ counts. elim (counts_works s.geometry s u (s.calls u) f i (h.inv.stands u) counts) [
+              | inl at ↦ apart (same_holder u t (s.slots (slot_of s.geometry f i)) (holds_slot s.geometry s u (f, i) h.inv (works s.geometry s u (s.calls u) (f, i) (h.inv.stands u) at).0) p)
+              | inr lock ↦ apart (same_holder u t (s.locks f) (locks_file s.geometry s u f h.inv lock) y.0)
+            ])
           ],
         ))
       ]
     ])
+
+pub goes_under_lock : (s : State) (event : Event) (o : Outcome) (n : State) (f i : ℕ) → IsReached s → Row s event o n
+    → s.reserved f i ≡ true → n.reserved f i ≡ false → GoesUnderLock s event f i
+goes_under_lock s event o n f i reached row a b = goes_under s event o n f i (always s reached) row a b
 
 not_done : {P Q : Type 0} (turn : Turn P) (a : Answer) → (turn ≡ Ended a) → (a ≡ answer.Done → ⊥) → turn ≡ Ended answer.Done → Q
 not_done {P} turn a e other d = absurd (other (same (sym e ∙ d)))
@@ -114,7 +188,8 @@ not_blocked : {P Q : Type 0} (turn : Turn P) (p : P) (u : ℕ) (a : Answer) → 
 not_blocked {P} turn p u a e d = (let z : ◌≡◌ {A = Turn P} (Blocked p u) (Ended a) = sym e ∙ d in absurd (cc))
 
 -- a truncation is done where it leaves its lock, and there alone
-done_row : (s : State) (t : ℕ) (killed grant : Bool) (phase : TruncatePhase) (turn : Turn TruncatePhase) (new : Pool) (P : Type 0) → TruncateRow (pool_of s) t killed grant phase turn new → turn ≡ Ended answer.Done
+done_row : (s : State) (t : ℕ) (killed grant : Bool) (phase : TruncatePhase) (turn : Turn TruncatePhase) (new : Pool) (P : Type 0)
+    → TruncateRow (pool_of s) t killed grant phase turn new → turn ≡ Ended answer.Done
     → ((p : Leave) → phase ≡ truncate.Leave p → new ≡ unlocked (pool_of s) p.truncation.file → P) → P
 done_row s t killed grant (truncate.Start p) turn new P row d f =
     by_test (nat_le s.geometry.files p.truncation.file) row
@@ -139,7 +214,8 @@ from_on : (f new j : ℕ) → new ≤ j → ((f == f) && nat_le new j) ≡ true
 from_on f new j l = grind (arith, nat_tests)
 
 -- nothing is left where a truncation leaves
-cut_at : (s : State) (t : ℕ) (p : Leave) → Inv s.geometry s → s.calls t ≡ Some (call.Truncate (truncate.Leave p)) → IsCut s p.truncation.file p.truncation.new
+cut_at : (s : State) (t : ℕ) (p : Leave) → Inv s.geometry s → s.calls t ≡ Some (call.Truncate (truncate.Leave p))
+    → IsCut s p.truncation.file p.truncation.new
 cut_at s t p h e =
     let y = stands_at s t (Some (call.Truncate (truncate.Leave p))) h e in
     let f = p.truncation.file in
@@ -163,7 +239,9 @@ told_done (Ended a) e = ap (λ (b : Answer). Ended b) (same (sym e))
     same : {a b : Answer} → outcome.Ended a ≡ outcome.Ended b → a ≡ b
     same z = cc
 
-done_call : (s : State) (t : ℕ) (killed grant : Bool) (phase : TruncatePhase) (o : Outcome) (pool : Pool) (next : Option Call) → Inv s.geometry s → s.calls t ≡ Some (call.Truncate phase) → CallRow (pool_of s) t killed grant (call.Truncate phase) o pool next → o ≡ outcome.Ended answer.Done
+done_call : (s : State) (t : ℕ) (killed grant : Bool) (phase : TruncatePhase) (o : Outcome) (pool : Pool) (next : Option Call)
+    → Inv s.geometry s → s.calls t ≡ Some (call.Truncate phase)
+    → CallRow (pool_of s) t killed grant (call.Truncate phase) o pool next → o ≡ outcome.Ended answer.Done
     → IsCut (with_pool s pool) (truncation_of phase).file (truncation_of phase).new
 unfolding CallRow
 done_call s t killed grant phase o pool next h e (turn, row, tells, leaves) is =
@@ -174,7 +252,9 @@ done_call s t killed grant phase o pool next h e (turn, row, tells, leaves) is =
 same_call : {a b : Call} → Some a ≡ Some b → a ≡ b
 same_call e = cc
 
-pub truncation_leaves_nothing : (s : State) (t : ℕ) (grant : Bool) (phase : TruncatePhase) (n : State) → IsReached s → s.calls t ≡ Some (call.Truncate phase) → Row s (Step t grant) (outcome.Ended answer.Done) n → IsCut n (truncation_of phase).file (truncation_of phase).new
+pub truncation_leaves_nothing : (s : State) (t : ℕ) (grant : Bool) (phase : TruncatePhase) (n : State) → IsReached s
+    → s.calls t ≡ Some (call.Truncate phase) → Row s (Step t grant) (outcome.Ended answer.Done) n
+    → IsCut n (truncation_of phase).file (truncation_of phase).new
 truncation_leaves_nothing s t grant phase n reached e row = step_cases s t grant (outcome.Ended answer.Done) n (IsCut n (truncation_of phase).file (truncation_of phase).new) row
     (λ why z d. (let y : outcome.Ended answer.Done ≡ outcome.Refused why = z in absurd (cc)))
     (λ c lives some pool next r d.

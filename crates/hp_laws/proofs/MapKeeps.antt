@@ -46,7 +46,8 @@ now_filled s f from len change whole j w =
     ap (λ (m : ℕ → Bool). m j) (put_same s.reserved f (add_range (s.reserved f) change.from change.to))
     ∙ add_range_has (s.reserved f) change.from change.to j (ap (λ (m : ℕ). is_within m change.to j) whole.0 ∙ (ap (λ (m : ℕ). is_within from m j) whole.1 ∙ w))
 
-own_missing : (r : ℕ → Bool) (from len : ℕ) (change : Change) → IsWhole change from len → missing r change.from change.to ≡ missing r from (from + len)
+own_missing : (r : ℕ → Bool) (from len : ℕ) (change : Change) → IsWhole change from len
+    → missing r change.from change.to ≡ missing r from (from + len)
 own_missing r from len change whole = ap (λ (k : ℕ). missing r k change.to) whole.0 ∙ ap (missing r from) whole.1
 
 lt : (a b : ℕ) → nat_lt a b ≡ true → a < b
@@ -56,10 +57,14 @@ le : (a b : ℕ) → nat_lt a b ≡ false → b ≤ a
 le a b e = grind (arith, nat_tests)
 
 -- what the map stands on when it leaves with an answer that tells no mapping
-left_stands : (s : State) (t : ℕ) (map : MapRequest) (b : Answer) → HasLock s t map.file → IsRange s.geometry map.file map.from map.len → is_mapped b ≡ false → Stands s.geometry s t (Some (call.Map (at.Leave (record { map = map; answer = b }))))
+left_stands : (s : State) (t : ℕ) (map : MapRequest) (b : Answer) → HasLock s t map.file
+    → IsRange s.geometry map.file map.from map.len → is_mapped b ≡ false
+    → Stands s.geometry s t (Some (call.Map (at.Leave (record { map = map; answer = b }))))
 left_stands s t map b held range e = record { slot = tt; lock = held; facts = record { range = range; mapped = λ d. nothing (is_mapped b) e d } }
 
-map_room : (s : State) (t : ℕ) (grant : Bool) (p : Room) (turn : Turn MapPhase) (new : Pool) → Inv s.geometry s → t < s.geometry.tasks + 1 → s.calls t ≡ Some (call.Map (at.Room p)) → MapRoomRow (pool_of s) t grant p turn new → Inv s.geometry (after call.Map s t turn new)
+map_room : (s : State) (t : ℕ) (grant : Bool) (p : Room) (turn : Turn MapPhase) (new : Pool) → Inv s.geometry s
+    → t < s.geometry.tasks + 1 → s.calls t ≡ Some (call.Map (at.Room p)) → MapRoomRow (pool_of s) t grant p turn new
+    → Inv s.geometry (after call.Map s t turn new)
 map_room s t grant p turn new h l e (found, room, row) =
     let y = stands_at s t _ h e in
     let leave : Answer → MapPhase = λ b. at.Leave (record { map = p.map; answer = b }) in
@@ -75,7 +80,9 @@ map_room s t grant p turn new h l e (found, room, row) =
     (record { slot = tt; lock = y.lock; facts = record { range = y.facts.range; based = (put_same s.prepared t true, fit); filled = λ d. nothing p.map.reserve not d } }))))
     (λ denied r. so call.Map s t _ turn _ new r (stays s.geometry s t _ (Some (call.Map (leave answer.NoMemory))) h l e refl tt (left_stands s t p.map answer.NoMemory y.lock y.facts.range refl))))
 
-map_missing : (s : State) (t : ℕ) (grant : Bool) (p : Missing) (turn : Turn MapPhase) (new : Pool) → Inv s.geometry s → t < s.geometry.tasks + 1 → s.calls t ≡ Some (call.Map (at.Missing p)) → MapMissingRow (pool_of s) grant p turn new → Inv s.geometry (after call.Map s t turn new)
+map_missing : (s : State) (t : ℕ) (grant : Bool) (p : Missing) (turn : Turn MapPhase) (new : Pool) → Inv s.geometry s
+    → t < s.geometry.tasks + 1 → s.calls t ≡ Some (call.Map (at.Missing p)) → MapMissingRow (pool_of s) grant p turn new
+    → Inv s.geometry (after call.Map s t turn new)
 map_missing s t grant p turn new h l e row =
     let y = stands_at s t _ h e in
     let r = s.reserved p.map.file in
@@ -90,7 +97,9 @@ map_missing s t grant p turn new h l e row =
       own = record { slot = tt; lock = y.lock; facts = record { range = y.facts.range; based = y.facts.based; whole = (refl, refl, few); count = omega arith } };
     })
 
-map_changed : (s : State) (t : ℕ) (killed : Bool) (p : Changed) (turn : Turn MapPhase) (new : Pool) → Inv s.geometry s → t < s.geometry.tasks + 1 → s.calls t ≡ Some (call.Map (at.Changed p)) → MapChangedRow (pool_of s) killed p turn new → Inv s.geometry (after call.Map s t turn new)
+map_changed : (s : State) (t : ℕ) (killed : Bool) (p : Changed) (turn : Turn MapPhase) (new : Pool) → Inv s.geometry s
+    → t < s.geometry.tasks + 1 → s.calls t ≡ Some (call.Map (at.Changed p)) → MapChangedRow (pool_of s) killed p turn new
+    → Inv s.geometry (after call.Map s t turn new)
 map_changed s t killed p turn new h l e row =
     let y = stands_at s t _ h e in
     let abort : Answer → MapPhase = λ b. at.Abort (record { map = p.map; pending = p.pending; answer = b }) in
@@ -102,7 +111,9 @@ map_changed s t killed p turn new h l e row =
     so call.Map s t _ turn _ new r (rebalances s.geometry s t _ (Some (call.Map (at.Accounted (record { map = p.map; base = p.base; pending = p.pending })))) (s.resv + p.pending.missing) h l e refl refl refl refl (omega arith) (let z = h.enough in omega arith) tt
     (record { slot = tt; lock = y.lock; facts = y.facts }))))
 
-map_accounted : (s : State) (t : ℕ) (p : Accounted) (turn : Turn MapPhase) (new : Pool) → Inv s.geometry s → t < s.geometry.tasks + 1 → s.calls t ≡ Some (call.Map (at.Accounted p)) → MapAccountedRow (pool_of s) p turn new → Inv s.geometry (after call.Map s t turn new)
+map_accounted : (s : State) (t : ℕ) (p : Accounted) (turn : Turn MapPhase) (new : Pool) → Inv s.geometry s
+    → t < s.geometry.tasks + 1 → s.calls t ≡ Some (call.Map (at.Accounted p)) → MapAccountedRow (pool_of s) p turn new
+    → Inv s.geometry (after call.Map s t turn new)
 map_accounted s t p turn new h l e row =
     let y = stands_at s t _ h e in
     let f = p.map.file in
@@ -118,13 +129,17 @@ map_accounted s t p turn new h l e row =
     so call.Map s t _ turn _ new r (commits s.geometry s t _ (Some (call.Map (at.Enter (record { map = p.map; base = p.base })))) f p.pending h l e y.facts.range.0 low refl refl refl refl refl nobody (omega arith) tt
     (record { slot = tt; lock = y.lock; facts = record { range = y.facts.range; based = y.facts.based; filled = λ d. filled } })))
 
-map_settle : (s : State) (t : ℕ) (p : Settle) (turn : Turn MapPhase) (new : Pool) → Inv s.geometry s → t < s.geometry.tasks + 1 → s.calls t ≡ Some (call.Map (at.Settle p)) → MapSettleRow (pool_of s) p turn new → Inv s.geometry (after call.Map s t turn new)
+map_settle : (s : State) (t : ℕ) (p : Settle) (turn : Turn MapPhase) (new : Pool) → Inv s.geometry s → t < s.geometry.tasks + 1
+    → s.calls t ≡ Some (call.Map (at.Settle p)) → MapSettleRow (pool_of s) p turn new
+    → Inv s.geometry (after call.Map s t turn new)
 map_settle s t p turn new h l e (low, row) =
     let y = stands_at s t _ h e in
     so call.Map s t _ turn _ new row (rebalances s.geometry s t _ (Some (call.Map (at.Enter (record { map = p.map; base = p.base })))) (s.resv - p.surplus) h l e refl refl refl refl (omega arith) (let z = h.enough in omega arith) tt
     (record { slot = tt; lock = y.lock; facts = record { range = y.facts.range; based = y.facts.based; filled = λ d. y.facts.filled } }))
 
-map_enter : (s : State) (t : ℕ) (p : Enter) (turn : Turn MapPhase) (new : Pool) → Inv s.geometry s → t < s.geometry.tasks + 1 → s.calls t ≡ Some (call.Map (at.Enter p)) → MapEnterRow (pool_of s) t p turn new → Inv s.geometry (after call.Map s t turn new)
+map_enter : (s : State) (t : ℕ) (p : Enter) (turn : Turn MapPhase) (new : Pool) → Inv s.geometry s → t < s.geometry.tasks + 1
+    → s.calls t ≡ Some (call.Map (at.Enter p)) → MapEnterRow (pool_of s) t p turn new
+    → Inv s.geometry (after call.Map s t turn new)
 map_enter s t p turn new h l e row =
     let y = stands_at s t _ h e in
     let f = p.map.file in
@@ -135,7 +150,9 @@ map_enter s t p turn new h l e row =
     grown : (size : ℕ → ℕ) (f m : ℕ) → m ≤ put size f (max (size f) m) f
     grown size f m = let a : put size f (max (size f) m) f ≡ max (size f) m = put_same size f (max (size f) m) in omega arith
 
-pub map_row : (s : State) (t : ℕ) (killed grant : Bool) (phase : MapPhase) (turn : Turn MapPhase) (new : Pool) → Inv s.geometry s → t < s.geometry.tasks + 1 → s.calls t ≡ Some (call.Map phase) → MapRow (pool_of s) t killed grant phase turn new → Inv s.geometry (after call.Map s t turn new)
+pub map_row : (s : State) (t : ℕ) (killed grant : Bool) (phase : MapPhase) (turn : Turn MapPhase) (new : Pool) → Inv s.geometry s
+    → t < s.geometry.tasks + 1 → s.calls t ≡ Some (call.Map phase) → MapRow (pool_of s) t killed grant phase turn new
+    → Inv s.geometry (after call.Map s t turn new)
 map_row s t killed grant (at.Start p) turn new h l e row =
     start_row call.Map s t killed p.map.file _ answer.Killed (at.Start p) (at.Room (record { map = p.map })) turn new h l e row refl refl refl refl refl refl
     (λ in_files good. let o = good_range s p.map.from p.map.len good in record { slot = tt; lock = put_same s.locks p.map.file (Some t); facts = record { range = (in_files, o.0, o.1) } })

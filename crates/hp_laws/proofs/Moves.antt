@@ -26,93 +26,119 @@ frame_moves n states states' hands hands' pages pages' x p q h a b only back on 
 }
 
 -- two places of a frame are one
-pub same_place : (n : ℕ) (states : ℕ → FrameState) (hands : ℕ → Option ℕ) (pages : ℕ → ℕ → Option ℕ) → OnePlace n states hands pages → (x : ℕ) (p q : Place) → IsAt states hands pages x p → IsAt states hands pages x q → p ≡ q
+pub same_place : (n : ℕ) (states : ℕ → FrameState) (hands : ℕ → Option ℕ) (pages : ℕ → ℕ → Option ℕ)
+    → OnePlace n states hands pages → (x : ℕ) (p q : Place) → IsAt states hands pages x p → IsAt states hands pages x q → p ≡ q
 same_place n states hands pages h x p q a b =
     let o = h.one x (h.real x p a) in
     o.2 p a ∙ sym (o.2 q b)
 
-take_only : (states : ℕ → FrameState) (hands : ℕ → Option ℕ) (pages : ℕ → ℕ → Option ℕ) (t x : ℕ) → ((q : Place) → IsAt states hands pages x q → q ≡ Free) → (r : Place) → IsAt (put states x state.Hand) (put hands t (Some x)) pages x r → r ≡ Hand t
+take_only : (states : ℕ → FrameState) (hands : ℕ → Option ℕ) (pages : ℕ → ℕ → Option ℕ) (t x : ℕ)
+    → ((q : Place) → IsAt states hands pages x q → q ≡ Free) → (r : Place)
+    → IsAt (put states x state.Hand) (put hands t (Some x)) pages x r → r ≡ Hand t
 take_only states hands pages t x h Free a = grind (arith, put_tells)
 take_only states hands pages t x h (Hand u) a = let b = h (Hand u) in grind (arith, put_tells)
 take_only states hands pages t x h (Page f i) a = let b : Page f i ≡ Free = h (Page f i) a in cc
 
-take_back : (states : ℕ → FrameState) (hands : ℕ → Option ℕ) (pages : ℕ → ℕ → Option ℕ) (t x y : ℕ) (r : Place) → y ≢ x → IsAt (put states x state.Hand) (put hands t (Some x)) pages y r → IsAt states hands pages y r
+take_back : (states : ℕ → FrameState) (hands : ℕ → Option ℕ) (pages : ℕ → ℕ → Option ℕ) (t x y : ℕ) (r : Place) → y ≢ x
+    → IsAt (put states x state.Hand) (put hands t (Some x)) pages y r → IsAt states hands pages y r
 take_back states hands pages t x y Free h a = grind (arith, put_tells)
 take_back states hands pages t x y (Hand u) h a = grind (arith, put_tells)
 take_back states hands pages t x y (Page f i) h a = a
 
-take_on : (states : ℕ → FrameState) (hands : ℕ → Option ℕ) (pages : ℕ → ℕ → Option ℕ) (t x y : ℕ) (r : Place) → hands t ≡ None → y ≢ x → IsAt states hands pages y r → IsAt (put states x state.Hand) (put hands t (Some x)) pages y r
+take_on : (states : ℕ → FrameState) (hands : ℕ → Option ℕ) (pages : ℕ → ℕ → Option ℕ) (t x y : ℕ) (r : Place) → hands t ≡ None
+    → y ≢ x → IsAt states hands pages y r → IsAt (put states x state.Hand) (put hands t (Some x)) pages y r
 take_on states hands pages t x y Free e h a = grind (arith, put_tells)
 take_on states hands pages t x y (Hand u) e h a = grind (arith, put_tells)
 take_on states hands pages t x y (Page f i) e h a = a
 
-pub taken : (n : ℕ) (states : ℕ → FrameState) (hands : ℕ → Option ℕ) (pages : ℕ → ℕ → Option ℕ) (t x : ℕ) → OnePlace n states hands pages → hands t ≡ None → states x ≡ state.Free → OnePlace n (put states x state.Hand) (put hands t (Some x)) pages
+pub taken : (n : ℕ) (states : ℕ → FrameState) (hands : ℕ → Option ℕ) (pages : ℕ → ℕ → Option ℕ) (t x : ℕ)
+    → OnePlace n states hands pages → hands t ≡ None → states x ≡ state.Free
+    → OnePlace n (put states x state.Hand) (put hands t (Some x)) pages
 taken n states hands pages t x h e a =
     frame_moves n states (put states x state.Hand) hands (put hands t (Some x)) pages pages x Free (Hand t) h a (put_same hands t (Some x))
     (take_only states hands pages t x (λ q i. same_place n states hands pages h x q Free i a))
     (λ y r d i. take_back states hands pages t x y r d i)
     (λ y r d i. take_on states hands pages t x y r e d i)
 
-place_only : (states : ℕ → FrameState) (hands : ℕ → Option ℕ) (pages : ℕ → ℕ → Option ℕ) (t f i x : ℕ) → ((q : Place) → IsAt states hands pages x q → q ≡ Hand t) → (r : Place) → IsAt (put states x (state.Placed 0)) (put hands t None) (put2 pages f i (Some x)) x r → r ≡ Page f i
+place_only : (states : ℕ → FrameState) (hands : ℕ → Option ℕ) (pages : ℕ → ℕ → Option ℕ) (t f i x : ℕ)
+    → ((q : Place) → IsAt states hands pages x q → q ≡ Hand t) → (r : Place)
+    → IsAt (put states x (state.Placed 0)) (put hands t None) (put2 pages f i (Some x)) x r → r ≡ Page f i
 place_only states hands pages t f i x h Free a = grind (arith, put_tells)
 place_only states hands pages t f i x h (Hand u) a = let b = h (Hand u) in grind (arith, put_tells)
 place_only states hands pages t f i x h (Page k j) a = let b = h (Page k j) in grind (arith, put2_tells)
 
-place_back : (states : ℕ → FrameState) (hands : ℕ → Option ℕ) (pages : ℕ → ℕ → Option ℕ) (t f i x y : ℕ) (r : Place) → y ≢ x → IsAt (put states x (state.Placed 0)) (put hands t None) (put2 pages f i (Some x)) y r → IsAt states hands pages y r
+place_back : (states : ℕ → FrameState) (hands : ℕ → Option ℕ) (pages : ℕ → ℕ → Option ℕ) (t f i x y : ℕ) (r : Place) → y ≢ x
+    → IsAt (put states x (state.Placed 0)) (put hands t None) (put2 pages f i (Some x)) y r → IsAt states hands pages y r
 place_back states hands pages t f i x y Free h a = grind (arith, put_tells)
 place_back states hands pages t f i x y (Hand u) h a = grind (arith, put_tells)
 place_back states hands pages t f i x y (Page k j) h a = grind (arith, put2_tells)
 
-place_on : (states : ℕ → FrameState) (hands : ℕ → Option ℕ) (pages : ℕ → ℕ → Option ℕ) (t f i x y : ℕ) (r : Place) → hands t ≡ Some x → pages f i ≡ None → y ≢ x → IsAt states hands pages y r → IsAt (put states x (state.Placed 0)) (put hands t None) (put2 pages f i (Some x)) y r
+place_on : (states : ℕ → FrameState) (hands : ℕ → Option ℕ) (pages : ℕ → ℕ → Option ℕ) (t f i x y : ℕ) (r : Place)
+    → hands t ≡ Some x → pages f i ≡ None → y ≢ x → IsAt states hands pages y r
+    → IsAt (put states x (state.Placed 0)) (put hands t None) (put2 pages f i (Some x)) y r
 place_on states hands pages t f i x y Free e d h a = grind (arith, put_tells)
 place_on states hands pages t f i x y (Hand u) e d h a = grind (arith, put_tells)
 place_on states hands pages t f i x y (Page k j) e d h a = grind (arith, put2_tells)
 
-pub placed : (n : ℕ) (states : ℕ → FrameState) (hands : ℕ → Option ℕ) (pages : ℕ → ℕ → Option ℕ) (t f i x : ℕ) → OnePlace n states hands pages → hands t ≡ Some x → pages f i ≡ None → OnePlace n (put states x (state.Placed 0)) (put hands t None) (put2 pages f i (Some x))
+pub placed : (n : ℕ) (states : ℕ → FrameState) (hands : ℕ → Option ℕ) (pages : ℕ → ℕ → Option ℕ) (t f i x : ℕ)
+    → OnePlace n states hands pages → hands t ≡ Some x → pages f i ≡ None
+    → OnePlace n (put states x (state.Placed 0)) (put hands t None) (put2 pages f i (Some x))
 placed n states hands pages t f i x h e d =
     frame_moves n states (put states x (state.Placed 0)) hands (put hands t None) pages (put2 pages f i (Some x)) x (Hand t) (Page f i) h e (put2_same pages f i (Some x))
     (place_only states hands pages t f i x (λ q a. same_place n states hands pages h x q (Hand t) a e))
     (λ y r b a. place_back states hands pages t f i x y r b a)
     (λ y r b a. place_on states hands pages t f i x y r e d b a)
 
-give_only : (states : ℕ → FrameState) (hands : ℕ → Option ℕ) (pages : ℕ → ℕ → Option ℕ) (t x : ℕ) → ((q : Place) → IsAt states hands pages x q → q ≡ Hand t) → (r : Place) → IsAt (put states x state.Free) (put hands t None) pages x r → r ≡ Free
+give_only : (states : ℕ → FrameState) (hands : ℕ → Option ℕ) (pages : ℕ → ℕ → Option ℕ) (t x : ℕ)
+    → ((q : Place) → IsAt states hands pages x q → q ≡ Hand t) → (r : Place)
+    → IsAt (put states x state.Free) (put hands t None) pages x r → r ≡ Free
 give_only states hands pages t x h Free a = refl
 give_only states hands pages t x h (Hand u) a = let b = h (Hand u) in grind (arith, put_tells)
 give_only states hands pages t x h (Page k j) a = let b : Page k j ≡ Hand t = h (Page k j) a in cc
 
-give_back : (states : ℕ → FrameState) (hands : ℕ → Option ℕ) (pages : ℕ → ℕ → Option ℕ) (t x y : ℕ) (r : Place) → y ≢ x → IsAt (put states x state.Free) (put hands t None) pages y r → IsAt states hands pages y r
+give_back : (states : ℕ → FrameState) (hands : ℕ → Option ℕ) (pages : ℕ → ℕ → Option ℕ) (t x y : ℕ) (r : Place) → y ≢ x
+    → IsAt (put states x state.Free) (put hands t None) pages y r → IsAt states hands pages y r
 give_back states hands pages t x y Free h a = grind (arith, put_tells)
 give_back states hands pages t x y (Hand u) h a = grind (arith, put_tells)
 give_back states hands pages t x y (Page k j) h a = a
 
-give_on : (states : ℕ → FrameState) (hands : ℕ → Option ℕ) (pages : ℕ → ℕ → Option ℕ) (t x y : ℕ) (r : Place) → hands t ≡ Some x → y ≢ x → IsAt states hands pages y r → IsAt (put states x state.Free) (put hands t None) pages y r
+give_on : (states : ℕ → FrameState) (hands : ℕ → Option ℕ) (pages : ℕ → ℕ → Option ℕ) (t x y : ℕ) (r : Place) → hands t ≡ Some x
+    → y ≢ x → IsAt states hands pages y r → IsAt (put states x state.Free) (put hands t None) pages y r
 give_on states hands pages t x y Free e h a = grind (arith, put_tells)
 give_on states hands pages t x y (Hand u) e h a = grind (arith, put_tells)
 give_on states hands pages t x y (Page k j) e h a = a
 
-pub given : (n : ℕ) (states : ℕ → FrameState) (hands : ℕ → Option ℕ) (pages : ℕ → ℕ → Option ℕ) (t x : ℕ) → OnePlace n states hands pages → hands t ≡ Some x → OnePlace n (put states x state.Free) (put hands t None) pages
+pub given : (n : ℕ) (states : ℕ → FrameState) (hands : ℕ → Option ℕ) (pages : ℕ → ℕ → Option ℕ) (t x : ℕ)
+    → OnePlace n states hands pages → hands t ≡ Some x → OnePlace n (put states x state.Free) (put hands t None) pages
 given n states hands pages t x h e =
     frame_moves n states (put states x state.Free) hands (put hands t None) pages pages x (Hand t) Free h e (put_same states x state.Free)
     (give_only states hands pages t x (λ q a. same_place n states hands pages h x q (Hand t) a e))
     (λ y r b a. give_back states hands pages t x y r b a)
     (λ y r b a. give_on states hands pages t x y r e b a)
 
-evict_only : (states : ℕ → FrameState) (hands : ℕ → Option ℕ) (pages : ℕ → ℕ → Option ℕ) (t f i x : ℕ) → ((q : Place) → IsAt states hands pages x q → q ≡ Page f i) → (r : Place) → IsAt (put states x state.Hand) (put hands t (Some x)) (put2 pages f i None) x r → r ≡ Hand t
+evict_only : (states : ℕ → FrameState) (hands : ℕ → Option ℕ) (pages : ℕ → ℕ → Option ℕ) (t f i x : ℕ)
+    → ((q : Place) → IsAt states hands pages x q → q ≡ Page f i) → (r : Place)
+    → IsAt (put states x state.Hand) (put hands t (Some x)) (put2 pages f i None) x r → r ≡ Hand t
 evict_only states hands pages t f i x h Free a = grind (arith, put_tells)
 evict_only states hands pages t f i x h (Hand u) a = let b = h (Hand u) in grind (arith, put_tells)
 evict_only states hands pages t f i x h (Page k j) a = let b = h (Page k j) in grind (arith, put2_tells)
 
-evict_back : (states : ℕ → FrameState) (hands : ℕ → Option ℕ) (pages : ℕ → ℕ → Option ℕ) (t f i x y : ℕ) (r : Place) → y ≢ x → IsAt (put states x state.Hand) (put hands t (Some x)) (put2 pages f i None) y r → IsAt states hands pages y r
+evict_back : (states : ℕ → FrameState) (hands : ℕ → Option ℕ) (pages : ℕ → ℕ → Option ℕ) (t f i x y : ℕ) (r : Place) → y ≢ x
+    → IsAt (put states x state.Hand) (put hands t (Some x)) (put2 pages f i None) y r → IsAt states hands pages y r
 evict_back states hands pages t f i x y Free h a = grind (arith, put_tells)
 evict_back states hands pages t f i x y (Hand u) h a = grind (arith, put_tells)
 evict_back states hands pages t f i x y (Page k j) h a = grind (arith, put2_tells)
 
-evict_on : (states : ℕ → FrameState) (hands : ℕ → Option ℕ) (pages : ℕ → ℕ → Option ℕ) (t f i x y : ℕ) (r : Place) → hands t ≡ None → pages f i ≡ Some x → y ≢ x → IsAt states hands pages y r → IsAt (put states x state.Hand) (put hands t (Some x)) (put2 pages f i None) y r
+evict_on : (states : ℕ → FrameState) (hands : ℕ → Option ℕ) (pages : ℕ → ℕ → Option ℕ) (t f i x y : ℕ) (r : Place)
+    → hands t ≡ None → pages f i ≡ Some x → y ≢ x → IsAt states hands pages y r
+    → IsAt (put states x state.Hand) (put hands t (Some x)) (put2 pages f i None) y r
 evict_on states hands pages t f i x y Free e d h a = grind (arith, put_tells)
 evict_on states hands pages t f i x y (Hand u) e d h a = grind (arith, put_tells)
 evict_on states hands pages t f i x y (Page k j) e d h a = grind (arith, put2_tells)
 
-pub evicted : (n : ℕ) (states : ℕ → FrameState) (hands : ℕ → Option ℕ) (pages : ℕ → ℕ → Option ℕ) (t f i x : ℕ) → OnePlace n states hands pages → hands t ≡ None → pages f i ≡ Some x → OnePlace n (put states x state.Hand) (put hands t (Some x)) (put2 pages f i None)
+pub evicted : (n : ℕ) (states : ℕ → FrameState) (hands : ℕ → Option ℕ) (pages : ℕ → ℕ → Option ℕ) (t f i x : ℕ)
+    → OnePlace n states hands pages → hands t ≡ None → pages f i ≡ Some x
+    → OnePlace n (put states x state.Hand) (put hands t (Some x)) (put2 pages f i None)
 evicted n states hands pages t f i x h e d =
     frame_moves n states (put states x state.Hand) hands (put hands t (Some x)) pages (put2 pages f i None) x (Page f i) (Hand t) h d (put_same hands t (Some x))
     (evict_only states hands pages t f i x (λ q a. same_place n states hands pages h x q (Page f i) a d))
@@ -125,7 +151,9 @@ pub record Placing (frames : ℕ) (states : ℕ → FrameState) (held : ℕ → 
   pub hands : (t x : ℕ) → held t ≡ Some x → states x ≡ state.Hand
   pub pages : (f i x : ℕ) → paged f i ≡ Some x → (word : ℕ) × (states x ≡ state.Placed word)
 
-pub takes_frame : (n : ℕ) (states : ℕ → FrameState) (hands : ℕ → Option ℕ) (pages : ℕ → ℕ → Option ℕ) (t x : ℕ) → Placing n states hands pages → hands t ≡ None → states x ≡ state.Free → Placing n (put states x state.Hand) (put hands t (Some x)) pages
+pub takes_frame : (n : ℕ) (states : ℕ → FrameState) (hands : ℕ → Option ℕ) (pages : ℕ → ℕ → Option ℕ) (t x : ℕ)
+    → Placing n states hands pages → hands t ≡ None → states x ≡ state.Free
+    → Placing n (put states x state.Hand) (put hands t (Some x)) pages
 takes_frame n states hands pages t x h e a = record {
   one = taken n states hands pages t x h.one e a;
   hands = λ u y d. in_hand u y d;
@@ -142,14 +170,18 @@ takes_frame n states hands pages t x h e a = record {
     isnt_free y w d = λ q. (let z : states x ≡ state.Placed w = ap states (sym q) ∙ d in absurd (cc))
 
 -- a frame in a hand isn't where another is
-pub other_hand : (n : ℕ) (states : ℕ → FrameState) (hands : ℕ → Option ℕ) (pages : ℕ → ℕ → Option ℕ) (t u x : ℕ) → Placing n states hands pages → hands t ≡ Some x → hands u ≡ Some x → u ≡ t
+pub other_hand : (n : ℕ) (states : ℕ → FrameState) (hands : ℕ → Option ℕ) (pages : ℕ → ℕ → Option ℕ) (t u x : ℕ)
+    → Placing n states hands pages → hands t ≡ Some x → hands u ≡ Some x → u ≡ t
 other_hand n states hands pages t u x h e d = same_task (same_place n states hands pages h.one x (Hand u) (Hand t) d e)
   where
     same_task : {a b : ℕ} → Hand a ≡ Hand b → a ≡ b
     same_task p = cc
 
-pub other_page : (n : ℕ) (states : ℕ → FrameState) (hands : ℕ → Option ℕ) (pages : ℕ → ℕ → Option ℕ) (f i k j x : ℕ) → Placing n states hands pages → pages f i ≡ Some x → pages k j ≡ Some x → (k ≡ f) × (j ≡ i)
-other_page n states hands pages f i k j x h e d = let p = same_place n states hands pages h.one x (Page k j) (Page f i) d e in (file p, index p)
+pub other_page : (n : ℕ) (states : ℕ → FrameState) (hands : ℕ → Option ℕ) (pages : ℕ → ℕ → Option ℕ) (f i k j x : ℕ)
+    → Placing n states hands pages → pages f i ≡ Some x → pages k j ≡ Some x → (k ≡ f) × (j ≡ i)
+other_page n states hands pages f i k j x h e d =
+    let p = same_place n states hands pages h.one x (Page k j) (Page f i) d e in
+    (file p, index p)
   where
     file : {a b c d : ℕ} → Page a b ≡ Page c d → a ≡ c
     file p = cc
@@ -157,7 +189,9 @@ other_page n states hands pages f i k j x h e d = let p = same_place n states ha
     index : {a b c d : ℕ} → Page a b ≡ Page c d → b ≡ d
     index p = cc
 
-pub places_frame : (n : ℕ) (states : ℕ → FrameState) (hands : ℕ → Option ℕ) (pages : ℕ → ℕ → Option ℕ) (t f i x : ℕ) → Placing n states hands pages → hands t ≡ Some x → pages f i ≡ None → Placing n (put states x (state.Placed 0)) (put hands t None) (put2 pages f i (Some x))
+pub places_frame : (n : ℕ) (states : ℕ → FrameState) (hands : ℕ → Option ℕ) (pages : ℕ → ℕ → Option ℕ) (t f i x : ℕ)
+    → Placing n states hands pages → hands t ≡ Some x → pages f i ≡ None
+    → Placing n (put states x (state.Placed 0)) (put hands t None) (put2 pages f i (Some x))
 places_frame n states hands pages t f i x h e d = record {
   one = placed n states hands pages t f i x h.one e d;
   hands = λ u y q. in_hand u y q;
@@ -183,7 +217,8 @@ places_frame n states hands pages t f i x h e d = record {
         same : (a b : ℕ) → Some a ≡ Some b → b ≡ a
         same a b p = cc
 
-pub gives_frame : (n : ℕ) (states : ℕ → FrameState) (hands : ℕ → Option ℕ) (pages : ℕ → ℕ → Option ℕ) (t x : ℕ) → Placing n states hands pages → hands t ≡ Some x → Placing n (put states x state.Free) (put hands t None) pages
+pub gives_frame : (n : ℕ) (states : ℕ → FrameState) (hands : ℕ → Option ℕ) (pages : ℕ → ℕ → Option ℕ) (t x : ℕ)
+    → Placing n states hands pages → hands t ≡ Some x → Placing n (put states x state.Free) (put hands t None) pages
 gives_frame n states hands pages t x h e = record {
   one = given n states hands pages t x h.one e;
   hands = λ u y q. in_hand u y q;
@@ -197,7 +232,9 @@ gives_frame n states hands pages t x h e = record {
           put_other states x state.Free y (λ o. z.0 (other_hand n states hands pages t u x h e (a ∙ ap (λ (m : ℕ). Some m) o))) ∙ h.hands u y a)
     ]
 
-pub evicts_frame : (n : ℕ) (states : ℕ → FrameState) (hands : ℕ → Option ℕ) (pages : ℕ → ℕ → Option ℕ) (t f i x : ℕ) → Placing n states hands pages → hands t ≡ None → pages f i ≡ Some x → Placing n (put states x state.Hand) (put hands t (Some x)) (put2 pages f i None)
+pub evicts_frame : (n : ℕ) (states : ℕ → FrameState) (hands : ℕ → Option ℕ) (pages : ℕ → ℕ → Option ℕ) (t f i x : ℕ)
+    → Placing n states hands pages → hands t ≡ None → pages f i ≡ Some x
+    → Placing n (put states x state.Hand) (put hands t (Some x)) (put2 pages f i None)
 evicts_frame n states hands pages t f i x h e d = record {
   one = evicted n states hands pages t f i x h.one e d;
   hands = λ u y q. in_hand u y q;
@@ -218,7 +255,8 @@ evicts_frame n states hands pages t f i x h e d = record {
     ]
 
 -- a page's word is written
-pub writes_frame : (n : ℕ) (states : ℕ → FrameState) (hands : ℕ → Option ℕ) (pages : ℕ → ℕ → Option ℕ) (x old new : ℕ) → Placing n states hands pages → states x ≡ state.Placed old → Placing n (put states x (state.Placed new)) hands pages
+pub writes_frame : (n : ℕ) (states : ℕ → FrameState) (hands : ℕ → Option ℕ) (pages : ℕ → ℕ → Option ℕ) (x old new : ℕ)
+    → Placing n states hands pages → states x ≡ state.Placed old → Placing n (put states x (state.Placed new)) hands pages
 writes_frame n states hands pages x old new h e = record {
   one = record {
     one = λ y l. let o = h.one.one y l in (o.0, on y o.0 o.1, λ q a. o.2 q (back y q a));

@@ -6,6 +6,11 @@ use Rattle.hp_machine.specs.State.{Geometry, State}
 use Rattle.hp_machine.specs.Views.{locked_file, slot_held}
 use Rattle.hp_machine.specs.declared.touch.TouchPhase.TheVariants as touch
 use Rattle.hp_machine.specs.declared.truncate.TruncatePhase.TheVariants as truncate
+use Rattle.hp_machine.specs.declared.map.MapPhase.TheVariants as map
+use Rattle.hp_machine.specs.declared.alloc.AllocPhase.TheVariants as alloc
+use Rattle.hp_machine.specs.declared.punch.PunchPhase.TheVariants as punch
+use Rattle.hp_machine.specs.declared.unmap.UnmapPhase.TheVariants as unmap
+use Rattle.hp_machine.specs.declared.exit.ExitPhase.TheVariants as exit
 use Rattle.hp_machine.specs.declared.call.Call.{Call}
 use Rattle.hp_machine.specs.declared.call.Call.TheVariants as call
 use Rattle.hp_laws.specs.Sweep.{fills, ahead, passed}
@@ -28,6 +33,12 @@ passed_locked (Some (call.Truncate (truncate.Unslot p))) k j e = same_file p.tru
 passed_locked (Some (call.Truncate (truncate.Tail p))) k j e = same_file p.truncation.file k _ e
 passed_locked (Some (call.Truncate (truncate.Settle p))) k j e = same_file p.truncation.file k _ e
 passed_locked (Some (call.Truncate (truncate.Leave p))) k j e = same_file p.truncation.file k _ e
+passed_locked (Some (call.Touch (touch.Look _))) k j e = let d : false ≡ true = e in cc
+passed_locked (Some (call.Map (map.Start _))) k j e = let d : false ≡ true = e in cc
+passed_locked (Some (call.Alloc (alloc.Start _))) k j e = let d : false ≡ true = e in cc
+passed_locked (Some (call.Punch (punch.Start _))) k j e = let d : false ≡ true = e in cc
+passed_locked (Some (call.Unmap (unmap.Start _))) k j e = let d : false ≡ true = e in cc
+passed_locked (Some (call.Exit exit.Start)) k j e = let d : false ≡ true = e in cc
 passed_locked c k j e = let d : false ≡ true = e in cc
 
 pub ahead_locked : (c : Option Call) (k j : ℕ) → ahead c k j ≡ true → locked_file c ≡ Some k
@@ -37,6 +48,12 @@ ahead_locked (Some (call.Truncate (truncate.Unmap p))) k j e = same_file p.trunc
 ahead_locked (Some (call.Truncate (truncate.Evict p))) k j e = same_file p.truncation.file k _ e
 ahead_locked (Some (call.Truncate (truncate.Free p))) k j e = same_file p.truncation.file k _ e
 ahead_locked (Some (call.Truncate (truncate.Unslot p))) k j e = same_file p.truncation.file k _ e
+ahead_locked (Some (call.Touch (touch.Look _))) k j e = let d : false ≡ true = e in cc
+ahead_locked (Some (call.Map (map.Start _))) k j e = let d : false ≡ true = e in cc
+ahead_locked (Some (call.Alloc (alloc.Start _))) k j e = let d : false ≡ true = e in cc
+ahead_locked (Some (call.Punch (punch.Start _))) k j e = let d : false ≡ true = e in cc
+ahead_locked (Some (call.Unmap (unmap.Start _))) k j e = let d : false ≡ true = e in cc
+ahead_locked (Some (call.Exit exit.Start)) k j e = let d : false ≡ true = e in cc
 ahead_locked c k j e = let d : false ≡ true = e in cc
 
 pub ahead_or_passed : (c : Option Call) (k j : ℕ) → ahead c k j ≡ true → passed c k j ≡ true → ⊥
@@ -46,6 +63,12 @@ ahead_or_passed (Some (call.Truncate (truncate.Unmap p))) k j a b = not_both p.t
 ahead_or_passed (Some (call.Truncate (truncate.Evict p))) k j a b = not_both p.truncation.file k p.index j a b
 ahead_or_passed (Some (call.Truncate (truncate.Free p))) k j a b = not_both p.truncation.file k p.index j a b
 ahead_or_passed (Some (call.Truncate (truncate.Unslot p))) k j a b = not_both p.truncation.file k p.index j a b
+ahead_or_passed (Some (call.Touch (touch.Look _))) k j a b = let d : false ≡ true = a in cc
+ahead_or_passed (Some (call.Map (map.Start _))) k j a b = let d : false ≡ true = a in cc
+ahead_or_passed (Some (call.Alloc (alloc.Start _))) k j a b = let d : false ≡ true = a in cc
+ahead_or_passed (Some (call.Punch (punch.Start _))) k j a b = let d : false ≡ true = a in cc
+ahead_or_passed (Some (call.Unmap (unmap.Start _))) k j a b = let d : false ≡ true = a in cc
+ahead_or_passed (Some (call.Exit exit.Start)) k j a b = let d : false ≡ true = a in cc
 ahead_or_passed c k j a b = let d : false ≡ true = a in cc
 
 pub fills_slot : (c : Option Call) (k : ℕ × ℕ) → fills c ≡ Some k → slot_held c ≡ Some k
@@ -56,6 +79,12 @@ fills_slot (Some (call.Touch (touch.Taken p))) k e = e
 fills_slot (Some (call.Touch (touch.Settle p))) k e = e
 fills_slot (Some (call.Touch (touch.Committed p))) k e = e
 fills_slot (Some (call.Touch (touch.Restore p))) k e = e
+fills_slot (Some (call.Map (map.Start _))) k e = let d : ◌≡◌ {A = Option (ℕ × ℕ)} None (Some k) = e in cc
+fills_slot (Some (call.Alloc (alloc.Start _))) k e = let d : ◌≡◌ {A = Option (ℕ × ℕ)} None (Some k) = e in cc
+fills_slot (Some (call.Punch (punch.Start _))) k e = let d : ◌≡◌ {A = Option (ℕ × ℕ)} None (Some k) = e in cc
+fills_slot (Some (call.Truncate (truncate.Start _))) k e = let d : ◌≡◌ {A = Option (ℕ × ℕ)} None (Some k) = e in cc
+fills_slot (Some (call.Unmap (unmap.Start _))) k e = let d : ◌≡◌ {A = Option (ℕ × ℕ)} None (Some k) = e in cc
+fills_slot (Some (call.Exit exit.Start)) k e = let d : ◌≡◌ {A = Option (ℕ × ℕ)} None (Some k) = e in cc
 fills_slot c k e = let d : ◌≡◌ {A = Option (ℕ × ℕ)} None (Some k) = e in cc
 
 -- the call that stands under a lock, or at a slot, holds it
@@ -69,7 +98,8 @@ pub same_holder : (a b : ℕ) (o : Option ℕ) → o ≡ Some a → o ≡ Some b
 same_holder a b o d e = cc
 
 -- no one passes indices of a file whose lock another call holds
-pub no_passer : (g : Geometry) (s : State) (t f : ℕ) → Inv g s → HasLock s t f → ((j : ℕ) → passed (s.calls t) f j ≡ false) → (u j : ℕ) → passed (s.calls u) f j ≡ true → ⊥
+pub no_passer : (g : Geometry) (s : State) (t f : ℕ) → Inv g s → HasLock s t f → ((j : ℕ) → passed (s.calls t) f j ≡ false)
+    → (u j : ℕ) → passed (s.calls u) f j ≡ true → ⊥
 no_passer g s t f h held none u j e =
     let d : u ≡ t = same_holder u t (s.locks f) (locks_file g s u f h (passed_locked (s.calls u) f j e)) held in
     let x : passed (s.calls t) f j ≡ true = ap (λ (w : ℕ). passed (s.calls w) f j) (sym d) ∙ e in
@@ -77,7 +107,8 @@ no_passer g s t f h held none u j e =
     cc
 
 -- an index that is reached isn't passed
-pub reached_not_passed : (g : Geometry) (s : State) (f i : ℕ) → Inv g s → Reached s.size (λ u. ahead (s.calls u)) f i → (u : ℕ) → passed (s.calls u) f i ≡ true → ⊥
+pub reached_not_passed : (g : Geometry) (s : State) (f i : ℕ) → Inv g s → Reached s.size (λ u. ahead (s.calls u)) f i → (u : ℕ)
+    → passed (s.calls u) f i ≡ true → ⊥
 reached_not_passed g s f i h r u e = elim r [
   | inl l ↦ (let p = h.sweep.past u f i e in let q : s.size f ≤ i = p.1 in absurd (omega arith))
   | inr a ↦ (let d : a.0 ≡ u = same_holder a.0 u (s.locks f) (locks_file g s a.0 f h (ahead_locked (s.calls a.0) f i a.1)) (locks_file g s u f h (passed_locked (s.calls u) f i e)) in

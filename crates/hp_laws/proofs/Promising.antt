@@ -1,27 +1,23 @@
 -- What is promised is reserved and below the size, and nobody removes it.
-use Rattle.std.proofs.Common.{◌≡◌, ℕ, ◌+◌, ◌-◌, ◌<◌, ◌≤◌, refl, ap, sym, ◌∙◌, subst, arith, inl, inr, ◌⊎◌}
-use Rattle.std.specs.Prelude.{Bool, true, false, not, ◌==◌, ◌&&◌, ◌||◌, nat_lt, nat_le, max, is_some, Option, Some, None}
+use Rattle.std.proofs.Common.{◌≡◌, ℕ, ◌+◌, ◌<◌, ◌≤◌, refl, ap, sym, ◌∙◌, subst, arith, inl, inr, ◌⊎◌}
+use Rattle.std.specs.Prelude.{Bool, true, false, not, ◌==◌, ◌&&◌, ◌||◌, nat_lt, nat_le, max, is_some, Option, Some, None, List}
 use Rattle.std.proofs.lemmas.Bool.Decides.{nat_tests}
 use Rattle.hp_base.specs.Numbers.{put}
-use Rattle.hp_base.specs.Indices.{is_within, missing, splits}
+use Rattle.hp_base.specs.Indices.{is_within, splits}
 use Rattle.hp_base.specs.declared.answer.Answer.{Answer}
-use Rattle.hp_base.specs.declared.answer.Answer.TheVariants as answer
 use Rattle.hp_base.proofs.Puts.{put_same}
-use Rattle.hp_machine.specs.State.{Pool, State, pool_of, slot_of, frees}
-use Rattle.hp_machine.specs.MapRows.{MapRow}
+use Rattle.hp_machine.specs.State.{Pool, State, pool_of, slot_of}
 use Rattle.hp_machine.specs.PunchRows.{PunchRow}
 use Rattle.hp_machine.specs.TruncateRows.{TruncateRow}
 use Rattle.hp_machine.specs.Events.{CallRow, told, left, word_of}
 use Rattle.hp_machine.specs.Views.{locked_file}
-use Rattle.hp_machine.specs.declared.map.Leave.{Leave}
-use Rattle.hp_machine.specs.declared.map.MapPhase.{MapPhase}
-use Rattle.hp_machine.specs.declared.map.MapPhase.TheVariants as map
 use Rattle.hp_machine.specs.declared.punch.Hole.{Hole}
 use Rattle.hp_machine.specs.declared.punch.PunchPhase.{PunchPhase}
 use Rattle.hp_machine.specs.declared.punch.PunchPhase.TheVariants as punch
 use Rattle.hp_machine.specs.declared.truncate.Truncation.{Truncation}
 use Rattle.hp_machine.specs.declared.truncate.TruncatePhase.{TruncatePhase}
 use Rattle.hp_machine.specs.declared.truncate.TruncatePhase.TheVariants as truncate
+use Rattle.hp_machine.specs.declared.phase.Phase.{Phase}
 use Rattle.hp_machine.specs.declared.outcome.Outcome.{Outcome}
 use Rattle.hp_machine.specs.declared.outcome.Outcome.TheVariants as outcome
 use Rattle.hp_machine.specs.declared.call.Call.{Call}
@@ -30,15 +26,16 @@ use Rattle.hp_machine.specs.declared.call.Turn.{Turn}
 use Rattle.hp_machine.specs.declared.call.Turn.TheVariants.{Moved, Blocked, Ended}
 use Rattle.hp_laws.specs.Bounds.{sizes}
 use Rattle.hp_laws.specs.Protocol.{truncation_of}
-use Rattle.hp_laws.specs.Promises.{map_of, in_hole, is_cut, promise, take_back, promised_by}
+use Rattle.hp_laws.specs.Histories.{Moment}
+use Rattle.hp_laws.specs.Promises.{in_hole, is_cut, can_take_back, IsPromised}
 use Rattle.hp_laws.proofs.Invariant.{Inv}
 use Rattle.hp_laws.proofs.Shared.{by_test, by_option, stands_at}
 use Rattle.hp_laws.proofs.StepsLeft.{deletes}
 
-never : {P : Type 0} → false ≡ true → P
+pub never : {P : Type 0} → false ≡ true → P
 never e = absurd (cc)
 
-clash : {P : Type 0} (b : Bool) → b ≡ true → b ≡ false → P
+pub clash : {P : Type 0} (b : Bool) → b ≡ true → b ≡ false → P
 clash b e d = (let z : true ≡ false = sym e ∙ d in absurd (cc))
 
 abbrev pub hole_of : PunchPhase → Hole
@@ -66,15 +63,19 @@ removes (Some (call.Punch phase)) f i = past_punch phase && in_hole (hole_of pha
 removes (Some (call.Truncate phase)) f i = past_truncate phase && is_cut (truncation_of phase) f i
 removes other f i = false
 
--- what is promised is reserved, below the size, and nobody removes it
-abbrev pub Kept : State → (ℕ → ℕ → Bool) → Type 0
-Kept s p = (k j : ℕ) → p k j ≡ true → (s.reserved k j ≡ true) × (j < s.size k) × ((u : ℕ) → removes (s.calls u) k j ≡ false)
+-- what holds of a promised index: it is reserved, below the size, and nobody removes it
+abbrev pub KeptAt : State → ℕ → ℕ → Type 0
+KeptAt s k j = (s.reserved k j ≡ true) × (j < s.size k) × ((u : ℕ) → removes (s.calls u) k j ≡ false)
 
-and_both : (a b : Bool) → (a && b) ≡ true → (a ≡ true) × (b ≡ true)
+-- it holds of what these moments promised
+abbrev pub Kept : State → List Moment → Type 0
+Kept s ms = (k j : ℕ) → IsPromised k j ms → KeptAt s k j
+
+pub and_both : (a b : Bool) → (a && b) ≡ true → (a ≡ true) × (b ≡ true)
 and_both true b e = (refl, e)
 and_both false b e = never e
 
-same_of : (a b : ℕ) → (a == b) ≡ true → a ≡ b
+pub same_of : (a b : ℕ) → (a == b) ≡ true → a ≡ b
 same_of a b e = grind (arith, nat_tests)
 
 file_of : (f k : ℕ) (b : Bool) → ((f == k) && b) ≡ true → Some f ≡ Some k
@@ -91,7 +92,8 @@ hole_locked (punch.Free p) e = refl
 hole_locked (punch.Unslot p) e = refl
 hole_locked (punch.Leave p) e = refl
 
-cut_locked : (phase : TruncatePhase) → past_truncate phase ≡ true → locked_file (Some (call.Truncate phase)) ≡ Some (truncation_of phase).file
+cut_locked : (phase : TruncatePhase) → past_truncate phase ≡ true
+    → locked_file (Some (call.Truncate phase)) ≡ Some (truncation_of phase).file
 cut_locked (truncate.Start p) e = never e
 cut_locked (truncate.Size p) e = refl
 cut_locked (truncate.Want p) e = refl
@@ -106,12 +108,17 @@ cut_locked (truncate.Leave p) e = refl
 
 -- who removes an index holds the file's lock
 pub removes_locked : (c : Option Call) (k j : ℕ) → removes c k j ≡ true → locked_file c ≡ Some k
-removes_locked (Some (call.Punch phase)) k j e = let o = and_both (past_punch phase) _ e in hole_locked phase o.0 ∙ file_of (hole_of phase).file k _ o.1
-removes_locked (Some (call.Truncate phase)) k j e = let o = and_both (past_truncate phase) _ e in cut_locked phase o.0 ∙ file_of (truncation_of phase).file k _ o.1
+removes_locked (Some (call.Punch phase)) k j e =
+    let o = and_both (past_punch phase) _ e in
+    hole_locked phase o.0 ∙ file_of (hole_of phase).file k _ o.1
+removes_locked (Some (call.Truncate phase)) k j e =
+    let o = and_both (past_truncate phase) _ e in
+    cut_locked phase o.0 ∙ file_of (truncation_of phase).file k _ o.1
 removes_locked c k j e = never e
 
 -- what the next step takes out is removed
-pub removes_deleted : (c : Call) (k j : ℕ) → deletes (Some c) k j ≡ true → (s : State) (t : ℕ) → Inv s.geometry s → s.calls t ≡ Some c → removes (Some c) k j ≡ true
+pub removes_deleted : (c : Call) (k j : ℕ) → deletes (Some c) k j ≡ true → (s : State) (t : ℕ) → Inv s.geometry s
+    → s.calls t ≡ Some c → removes (Some c) k j ≡ true
 removes_deleted (call.Punch (punch.Delete p)) k j e s t h d =
     let y = stands_at s t _ h d in
     let o = and_both (p.hole.file == k) _ e in
@@ -133,7 +140,8 @@ not_blocked : {P Q : Type 0} {p q : P} {u : ℕ} {turn : Turn P} → turn ≡ Bl
 not_blocked {P} {p = p} {q = q} {u = u} e d = (let z : ◌≡◌ {A = Turn P} (Moved q) (Blocked p u) = sym d ∙ e in absurd (cc))
 
 -- a punch that moves works at the same hole
-punch_hole : (s : State) (t : ℕ) (killed grant : Bool) (phase q : PunchPhase) (turn : Turn PunchPhase) (new : Pool) → PunchRow (pool_of s) t killed grant phase turn new → turn ≡ Moved q → hole_of q ≡ hole_of phase
+punch_hole : (s : State) (t : ℕ) (killed grant : Bool) (phase q : PunchPhase) (turn : Turn PunchPhase) (new : Pool)
+    → PunchRow (pool_of s) t killed grant phase turn new → turn ≡ Moved q → hole_of q ≡ hole_of phase
 punch_hole s t killed grant (punch.Start p) q turn new row d = by_test (nat_le s.geometry.files p.hole.file) row (λ _ r. not_ended r.0 d) (λ _ r. by_test ((p.hole.len == 0) || nat_lt s.geometry.limit (p.hole.from + p.hole.len)) r (λ _ r. not_ended r.0 d) (λ _ r. by_test killed r (λ _ r. not_ended r.0 d) (λ _ r. by_option (s.locks p.hole.file) r (λ _ r. ap hole_of (moved_is r.0 d)) (λ u _ r. not_blocked r.0 d))))
 punch_hole s t killed grant (punch.Want p) q turn new row d = by_option (s.slots (slot_of s.geometry p.hole.file p.index)) row (λ _ r. ap hole_of (moved_is r.0 d)) (λ u _ r. not_blocked r.0 d)
 punch_hole s t killed grant (punch.Locked p) q turn new row d = by_test (is_some (s.pages p.hole.file p.index)) row (λ _ r. ap hole_of (moved_is r.0 d)) (λ _ r. ap hole_of (moved_is r.0 d))
@@ -145,7 +153,8 @@ punch_hole s t killed grant (punch.Unslot p) q turn new row d = by_test (nat_lt 
 punch_hole s t killed grant (punch.Leave p) q turn new row d = not_ended row.0 d
 
 -- a truncation that moves cuts at the same size
-truncate_cut : (s : State) (t : ℕ) (killed grant : Bool) (phase q : TruncatePhase) (turn : Turn TruncatePhase) (new : Pool) → TruncateRow (pool_of s) t killed grant phase turn new → turn ≡ Moved q → truncation_of q ≡ truncation_of phase
+truncate_cut : (s : State) (t : ℕ) (killed grant : Bool) (phase q : TruncatePhase) (turn : Turn TruncatePhase) (new : Pool)
+    → TruncateRow (pool_of s) t killed grant phase turn new → turn ≡ Moved q → truncation_of q ≡ truncation_of phase
 truncate_cut s t killed grant (truncate.Start p) q turn new row d = by_test (nat_le s.geometry.files p.truncation.file) row (λ _ r. not_ended r.0 d) (λ _ r. by_test (nat_lt s.geometry.limit p.truncation.new) r (λ _ r. not_ended r.0 d) (λ _ r. by_test killed r (λ _ r. not_ended r.0 d) (λ _ r. by_option (s.locks p.truncation.file) r (λ _ r. ap truncation_of (moved_is r.0 d)) (λ u _ r. not_blocked r.0 d))))
 truncate_cut s t killed grant (truncate.Size p) q turn new (end, is_end, row) d = by_test (nat_lt p.truncation.new (max (s.size p.truncation.file) end)) row (λ _ r. ap truncation_of (moved_is r.0 d)) (λ _ r. ap truncation_of (moved_is r.0 d))
 truncate_cut s t killed grant (truncate.Want p) q turn new row d = by_option (s.slots (slot_of s.geometry p.truncation.file p.index)) row (λ _ r. ap truncation_of (moved_is r.0 d)) (λ u _ r. not_blocked r.0 d)
@@ -158,19 +167,14 @@ truncate_cut s t killed grant (truncate.Tail p) q turn new row d = ap truncation
 truncate_cut s t killed grant (truncate.Settle p) q turn new (low, row) d = ap truncation_of (moved_is row.0 d)
 truncate_cut s t killed grant (truncate.Leave p) q turn new row d = not_ended row.0 d
 
-and_not : (a b : Bool) → b ≡ true → (a && not b) ≡ false
-and_not true b e = ap not e
-and_not false b e = refl
-
-and_of : (a b : Bool) → a ≡ true → b ≡ true → (a && b) ≡ true
-and_of a b e d = ap (λ (m : Bool). m && b) e ∙ d
-
 -- a call removes an index after a step only where it did before, or took the promise back just then
 abbrev pub Removes : Call → Outcome → ℕ → ℕ → Type 0
-Removes c o k j = (removes (Some c) k j ≡ true) ⊎ ((old : ℕ → ℕ → Bool) → promised_by (Some c) o old k j ≡ false)
+Removes c o k j = (removes (Some c) k j ≡ true) ⊎ ((phase : Phase) × (o ≡ outcome.Moved phase) × (can_take_back (Some c) k j ≡ true))
 
-punch_removes : (phase q : PunchPhase) (k j : ℕ) → hole_of q ≡ hole_of phase → removes (Some (call.Punch q)) k j ≡ true → Removes (call.Punch phase) (outcome.Moved (word_of (call.Punch q))) k j
-punch_removes (punch.Start p) q k j same e = inr (λ old. and_not (old k j) (in_hole p.hole k j) (ap (λ (m : Hole). in_hole m k j) (sym same) ∙ (and_both (past_punch q) _ e).1))
+punch_removes : (phase q : PunchPhase) (k j : ℕ) → hole_of q ≡ hole_of phase → removes (Some (call.Punch q)) k j ≡ true
+    → Removes (call.Punch phase) (outcome.Moved (word_of (call.Punch q))) k j
+punch_removes (punch.Start p) q k j same e =
+    inr (word_of (call.Punch q), refl, ap (λ (m : Hole). in_hole m k j) (sym same) ∙ (and_both (past_punch q) _ e).1)
 punch_removes (punch.Want p) q k j same e = inl (ap (λ (m : Hole). in_hole m k j) (sym same) ∙ (and_both (past_punch q) _ e).1)
 punch_removes (punch.Locked p) q k j same e = inl (ap (λ (m : Hole). in_hole m k j) (sym same) ∙ (and_both (past_punch q) _ e).1)
 punch_removes (punch.Unmap p) q k j same e = inl (ap (λ (m : Hole). in_hole m k j) (sym same) ∙ (and_both (past_punch q) _ e).1)
@@ -180,8 +184,10 @@ punch_removes (punch.Free p) q k j same e = inl (ap (λ (m : Hole). in_hole m k 
 punch_removes (punch.Unslot p) q k j same e = inl (ap (λ (m : Hole). in_hole m k j) (sym same) ∙ (and_both (past_punch q) _ e).1)
 punch_removes (punch.Leave p) q k j same e = inl (ap (λ (m : Hole). in_hole m k j) (sym same) ∙ (and_both (past_punch q) _ e).1)
 
-truncate_removes : (phase q : TruncatePhase) (k j : ℕ) → truncation_of q ≡ truncation_of phase → removes (Some (call.Truncate q)) k j ≡ true → Removes (call.Truncate phase) (outcome.Moved (word_of (call.Truncate q))) k j
-truncate_removes (truncate.Start p) q k j same e = inr (λ old. and_not (old k j) (is_cut p.truncation k j) (ap (λ (m : Truncation). is_cut m k j) (sym same) ∙ (and_both (past_truncate q) _ e).1))
+truncate_removes : (phase q : TruncatePhase) (k j : ℕ) → truncation_of q ≡ truncation_of phase
+    → removes (Some (call.Truncate q)) k j ≡ true → Removes (call.Truncate phase) (outcome.Moved (word_of (call.Truncate q))) k j
+truncate_removes (truncate.Start p) q k j same e =
+    inr (word_of (call.Truncate q), refl, ap (λ (m : Truncation). is_cut m k j) (sym same) ∙ (and_both (past_truncate q) _ e).1)
 truncate_removes (truncate.Size p) q k j same e = inl (ap (λ (m : Truncation). is_cut m k j) (sym same) ∙ (and_both (past_truncate q) _ e).1)
 truncate_removes (truncate.Want p) q k j same e = inl (ap (λ (m : Truncation). is_cut m k j) (sym same) ∙ (and_both (past_truncate q) _ e).1)
 truncate_removes (truncate.Locked p) q k j same e = inl (ap (λ (m : Truncation). is_cut m k j) (sym same) ∙ (and_both (past_truncate q) _ e).1)
@@ -193,23 +199,30 @@ truncate_removes (truncate.Tail p) q k j same e = inl (ap (λ (m : Truncation). 
 truncate_removes (truncate.Settle p) q k j same e = inl (ap (λ (m : Truncation). is_cut m k j) (sym same) ∙ (and_both (past_truncate q) _ e).1)
 truncate_removes (truncate.Leave p) q k j same e = inl (ap (λ (m : Truncation). is_cut m k j) (sym same) ∙ (and_both (past_truncate q) _ e).1)
 
-punch_next : (s : State) (t : ℕ) (killed grant : Bool) (phase : PunchPhase) (turn : Turn PunchPhase) (new : Pool) (k j : ℕ) → PunchRow (pool_of s) t killed grant phase turn new → ((u : ℕ) → told call.Punch turn ≡ outcome.Blocked u → ⊥) → removes (left call.Punch turn) k j ≡ true → Removes (call.Punch phase) (told call.Punch turn) k j
+punch_next : (s : State) (t : ℕ) (killed grant : Bool) (phase : PunchPhase) (turn : Turn PunchPhase) (new : Pool) (k j : ℕ)
+    → PunchRow (pool_of s) t killed grant phase turn new → ((u : ℕ) → told call.Punch turn ≡ outcome.Blocked u → ⊥)
+    → removes (left call.Punch turn) k j ≡ true → Removes (call.Punch phase) (told call.Punch turn) k j
 punch_next s t killed grant phase (Moved q) new k j row free e = punch_removes phase q k j (punch_hole s t killed grant phase q (Moved q) new row refl) e
 punch_next s t killed grant phase (Blocked q u) new k j row free e = absurd (free u refl)
 punch_next s t killed grant phase (Ended a) new k j row free e = never e
 
-truncate_next : (s : State) (t : ℕ) (killed grant : Bool) (phase : TruncatePhase) (turn : Turn TruncatePhase) (new : Pool) (k j : ℕ) → TruncateRow (pool_of s) t killed grant phase turn new → ((u : ℕ) → told call.Truncate turn ≡ outcome.Blocked u → ⊥) → removes (left call.Truncate turn) k j ≡ true → Removes (call.Truncate phase) (told call.Truncate turn) k j
+truncate_next : (s : State) (t : ℕ) (killed grant : Bool) (phase : TruncatePhase) (turn : Turn TruncatePhase) (new : Pool) (k j : ℕ)
+    → TruncateRow (pool_of s) t killed grant phase turn new → ((u : ℕ) → told call.Truncate turn ≡ outcome.Blocked u → ⊥)
+    → removes (left call.Truncate turn) k j ≡ true → Removes (call.Truncate phase) (told call.Truncate turn) k j
 truncate_next s t killed grant phase (Moved q) new k j row free e = truncate_removes phase q k j (truncate_cut s t killed grant phase q (Moved q) new row refl) e
 truncate_next s t killed grant phase (Blocked q u) new k j row free e = absurd (free u refl)
 truncate_next s t killed grant phase (Ended a) new k j row free e = never e
 
-quiet_next : {P : Type 0} (call : P → Call) (turn : Turn P) (k j : ℕ) → ((p : P) → removes (Some (call p)) k j ≡ false) → removes (left call turn) k j ≡ false
+quiet_next : {P : Type 0} (call : P → Call) (turn : Turn P) (k j : ℕ) → ((p : P) → removes (Some (call p)) k j ≡ false)
+    → removes (left call turn) k j ≡ false
 quiet_next call (Moved p) k j h = h p
 quiet_next call (Blocked p u) k j h = h p
 quiet_next call (Ended a) k j h = refl
 
 -- of the call that a step leaves
-pub next_removes : (s : State) (t : ℕ) (killed grant : Bool) (c : Call) (o : Outcome) (new : Pool) (next : Option Call) (k j : ℕ) → CallRow (pool_of s) t killed grant c o new next → ((u : ℕ) → o ≡ outcome.Blocked u → ⊥) → removes next k j ≡ true → Removes c o k j
+pub next_removes : (s : State) (t : ℕ) (killed grant : Bool) (c : Call) (o : Outcome) (new : Pool) (next : Option Call) (k j : ℕ)
+    → CallRow (pool_of s) t killed grant c o new next → ((u : ℕ) → o ≡ outcome.Blocked u → ⊥) → removes next k j ≡ true
+    → Removes c o k j
 unfolding CallRow
 next_removes s t killed grant (call.Punch p) o new next k j (turn, row, tells, leaves) free e =
     subst (λ (m : Outcome). Removes (call.Punch p) m k j) (sym tells) (punch_next s t killed grant p turn new k j row (λ u d. free u (tells ∙ d)) (ap (λ (m : Option Call). removes m k j) (sym leaves) ∙ e))
@@ -222,7 +235,8 @@ next_removes s t killed grant (call.Unmap p) o new next k j (turn, row, tells, l
 next_removes s t killed grant (call.Exit p) o new next k j (turn, row, tells, leaves) free e = clash (removes next k j) e (ap (λ (m : Option Call). removes m k j) leaves ∙ quiet_next call.Exit turn k j (λ q. refl))
 
 -- where a call sets a size, what it doesn't remove stays below it
-pub size_set : (s : State) (t : ℕ) (killed grant : Bool) (c : Call) (o : Outcome) (new : Pool) (next : Option Call) (k j : ℕ) → CallRow (pool_of s) t killed grant c o new next → sizes (Some c) ≡ Some k → removes (Some c) k j ≡ false → j < new.size k
+pub size_set : (s : State) (t : ℕ) (killed grant : Bool) (c : Call) (o : Outcome) (new : Pool) (next : Option Call) (k j : ℕ)
+    → CallRow (pool_of s) t killed grant c o new next → sizes (Some c) ≡ Some k → removes (Some c) k j ≡ false → j < new.size k
 unfolding CallRow
 size_set s t killed grant (call.Truncate (truncate.Size p)) o new next k j (turn, (end, is_end, row), tells, leaves) e quiet =
     by_test (nat_lt p.truncation.new (max (s.size p.truncation.file) end)) row (λ _ r. low r.1) (λ _ r. low r.1)
@@ -237,53 +251,3 @@ size_set s t killed grant (call.Truncate (truncate.Size p)) o new next k j (turn
     low d = let z : new.size k ≡ p.truncation.new = ap (λ (m : Pool). m.size k) d ∙ (ap (put s.size p.truncation.file p.truncation.new) (sym (same e)) ∙ put_same s.size p.truncation.file p.truncation.new) in
         let y = below p.truncation.file k p.truncation.new j (same e) quiet in omega arith
 size_set s t killed grant c o new next k j row e quiet = (let d : ◌≡◌ {A = Option ℕ} None (Some k) = e in absurd (cc))
-
--- the call is a map that reserved and ended, and its range has the index
-abbrev pub Makes : Call → Outcome → ℕ → ℕ → Type 0
-Makes c o k j = (base : ℕ) × (phase : MapPhase) × (c ≡ call.Map phase) × (o ≡ outcome.Ended (answer.Mapped base)) × ((map_of phase).reserve ≡ true) × ((map_of phase).file ≡ k) × (is_within (map_of phase).from ((map_of phase).from + (map_of phase).len) j ≡ true)
-
-or_cases : (a b : Bool) → (a || b) ≡ true → (a ≡ true) ⊎ (b ≡ true)
-or_cases true b e = inl refl
-or_cases false b e = inr e
-
-taken_less : (c : Call) (old : ℕ → ℕ → Bool) (k j : ℕ) → take_back (Some c) old k j ≡ true → old k j ≡ true
-taken_less (call.Punch (punch.Start p)) old k j e = (and_both (old k j) _ e).0
-taken_less (call.Truncate (truncate.Start p)) old k j e = (and_both (old k j) _ e).0
-taken_less c old k j e = e
-
-made_more : (c : Call) (base : ℕ) (old : ℕ → ℕ → Bool) (k j : ℕ) → promise (Some c) old k j ≡ true → (old k j ≡ true) ⊎ Makes c (outcome.Ended (answer.Mapped base)) k j
-made_more (call.Map phase) base old k j e = elim (or_cases (old k j) _ e) [
-  | inl d ↦ inl d
-  | inr d ↦ (let o = and_both (map_of phase).reserve _ d in let r = and_both ((map_of phase).file == k) _ o.1 in inr (base, phase, refl, refl, o.0, same_of (map_of phase).file k r.0, r.1))
-]
-made_more c base old k j e = inl e
-
-pub made : (c : Call) (o : Outcome) (old : ℕ → ℕ → Bool) (k j : ℕ) → promised_by (Some c) o old k j ≡ true → (old k j ≡ true) ⊎ Makes c o k j
-made c (outcome.Ended (answer.Mapped base)) old k j e = made_more c base old k j e
-made c (outcome.Moved p) old k j e = inl (taken_less c old k j e)
-made c o old k j e = inl e
-
-ends_with : {P Q : Type 0} {turn : Turn P} (a b : Answer) → turn ≡ Ended a → turn ≡ Ended b → (a ≡ b → Q) → Q
-ends_with {P} a b e d f = f (same (sym e ∙ d))
-  where
-    same : ◌≡◌ {A = Turn P} (Ended a) (Ended b) → a ≡ b
-    same z = cc
-
-not_moved : {P Q : Type 0} {q : P} {a : Answer} {turn : Turn P} → turn ≡ Moved q → turn ≡ Ended a → Q
-not_moved {P} {q = q} {a = a} e d = (let z : ◌≡◌ {A = Turn P} (Moved q) (Ended a) = sym e ∙ d in absurd (cc))
-
-waits_not : {P Q : Type 0} {q : P} {a : Answer} {u : ℕ} {turn : Turn P} → turn ≡ Blocked q u → turn ≡ Ended a → Q
-waits_not {P} {q = q} {a = a} {u = u} e d = (let z : ◌≡◌ {A = Turn P} (Blocked q u) (Ended a) = sym e ∙ d in absurd (cc))
-
--- a map tells its mapping where it leaves its lock, and there alone
-pub mapped_row : (s : State) (t : ℕ) (killed grant : Bool) (phase : MapPhase) (turn : Turn MapPhase) (new : Pool) (base : ℕ) (Q : Type 0) → MapRow (pool_of s) t killed grant phase turn new → turn ≡ Ended (answer.Mapped base)
-    → ((p : Leave) → phase ≡ map.Leave p → p.answer ≡ answer.Mapped base → new ≡ record (pool_of s) { locks = put s.locks p.map.file None } → Q) → Q
-mapped_row s t killed grant (map.Start p) turn new base Q row d f = by_test (nat_le s.geometry.files p.map.file) row (λ _ r. ends_with _ _ r.0 d (λ z. absurd (cc))) (λ _ r. by_test ((p.map.len == 0) || nat_lt s.geometry.limit (p.map.from + p.map.len)) r (λ _ r. ends_with _ _ r.0 d (λ z. absurd (cc))) (λ _ r. by_test killed r (λ _ r. ends_with _ _ r.0 d (λ z. absurd (cc))) (λ _ r. by_option (s.locks p.map.file) r (λ _ r. not_moved r.0 d) (λ u _ r. waits_not r.0 d))))
-mapped_row s t killed grant (map.Room p) turn new base Q (found, room, row) d f = by_option found row (λ _ r. not_moved r.0 d) (λ b _ r. by_test grant r (λ _ r. by_test p.map.reserve r (λ _ r. not_moved r.0 d) (λ _ r. not_moved r.0 d)) (λ _ r. not_moved r.0 d))
-mapped_row s t killed grant (map.Missing p) turn new base Q row d f = by_test ((s.spare p.map.file == s.pending p.map.file) && not grant) row (λ _ r. not_moved r.0 d) (λ _ r. not_moved r.0 d)
-mapped_row s t killed grant (map.Changed p) turn new base Q row d f = by_test killed row (λ _ r. not_moved r.0 d) (λ _ r. by_test (nat_lt (frees (pool_of s) - s.resv) p.pending.missing) r (λ _ r. not_moved r.0 d) (λ _ r. not_moved r.0 d))
-mapped_row s t killed grant (map.Abort p) turn new base Q row d f = not_moved row.0 d
-mapped_row s t killed grant (map.Accounted p) turn new base Q row d f = by_test (nat_lt (missing (s.reserved p.map.file) p.pending.from p.pending.to) p.pending.missing) row (λ _ r. not_moved r.0 d) (λ _ r. not_moved r.0 d)
-mapped_row s t killed grant (map.Settle p) turn new base Q (low, row) d f = not_moved row.0 d
-mapped_row s t killed grant (map.Enter p) turn new base Q row d f = not_moved row.0 d
-mapped_row s t killed grant (map.Leave p) turn new base Q row d f = ends_with _ _ row.0 d (λ z. f p refl z row.1)

@@ -24,7 +24,8 @@ use Rattle.hp_laws.proofs.Turns.{is_blocked, Turned, touch_turn, map_turn, alloc
 -- a Begin is refused and changes nothing, or its call is in flight
 pub begin_cases : (s : State) (t : ℕ) (p : Op) (o : Outcome) (n : State) (P : Type 0) → BeginRow s t p o n
     → ((why : Refusal) → o ≡ outcome.Refused why → n ≡ s → P)
-    → (is_dead (s.life t) ≡ false → s.calls t ≡ None → (is_killed (s.life t) && not (is_exit p)) ≡ false → o ≡ outcome.Begun → n ≡ record s { calls = put s.calls t (Some (first p)) } → P) → P
+    → (is_dead (s.life t) ≡ false → s.calls t ≡ None → (is_killed (s.life t) && not (is_exit p)) ≡ false → o ≡ outcome.Begun → n ≡ record s { calls = put s.calls t (Some (first p)) } → P)
+    → P
 unfolding BeginRow
 begin_cases s t p o n P row refused begun =
     by_test (is_dead (s.life t)) row
@@ -49,7 +50,8 @@ step_cases s t grant o n P row refused steps =
     (λ c some r. steps c lives some r.0 r.1 r.2 r.3))
 
 -- a Step of a living task's call is one of it
-pub step_of : (s : State) (t : ℕ) (grant : Bool) (c : Call) (o : Outcome) (n : State) → StepRow s t grant o n → is_dead (s.life t) ≡ false → s.calls t ≡ Some c
+pub step_of : (s : State) (t : ℕ) (grant : Bool) (c : Call) (o : Outcome) (n : State) → StepRow s t grant o n
+    → is_dead (s.life t) ≡ false → s.calls t ≡ Some c
     → (pool : Pool) × (next : Option Call) × CallRow (pool_of s) t (is_killed (s.life t)) grant c o pool next × (n ≡ record (with_pool s pool) { life = lives_after s.life t c next; calls = put s.calls t next })
 unfolding StepRow
 step_of s t grant c o n row lives some =
@@ -79,18 +81,21 @@ pub record Gone (s : State) (t top : ℕ) (c : Call) (o : Outcome) (new : Pool) 
   pub areas : (u : ℕ) → u ≢ t → new.areas u ≡ s.areas u
   pub keeps : (f i : ℕ) → s.reserved f i ≡ true → (new.reserved f i ≡ true) ⊎ (deletes (Some c) f i ≡ true)
   pub grows : (f : ℕ) → (s.size f ≤ new.size f) ⊎ (sizes (Some c) ≡ Some f)
-  pub nearer : IfSome (sizes (Some c)) (λ f. IsTop s f top) → steps_left s.geometry (length (new.areas t)) top next + 1 ≤ steps_left s.geometry (length (s.areas t)) top (Some c)
+  pub nearer : IfSome (sizes (Some c)) (λ f. IsTop s f top)
+      → steps_left s.geometry (length (new.areas t)) top next + 1 ≤ steps_left s.geometry (length (s.areas t)) top (Some c)
 
 -- or it waits
 abbrev pub Steps : State → (t top : ℕ) → Call → Outcome → Pool → Option Call → Type 0
 Steps s t top c o new next = ((u : ℕ) × (o ≡ outcome.Blocked u) × (new ≡ pool_of s) × (next ≡ Some c) × WaitsFor s (Some c) u) ⊎ Gone s t top c o new next
 
-unblocked : {P : Type 0} (call : P → Call) (turn : Turn P) (o : Outcome) → o ≡ told call turn → is_blocked turn ≡ false → (u : ℕ) → o ≡ outcome.Blocked u → ⊥
+unblocked : {P : Type 0} (call : P → Call) (turn : Turn P) (o : Outcome) → o ≡ told call turn → is_blocked turn ≡ false → (u : ℕ)
+    → o ≡ outcome.Blocked u → ⊥
 unblocked call (Moved p) o e free u d = (let z : outcome.Moved (word_of (call p)) ≡ outcome.Blocked u = sym e ∙ d in absurd (cc))
 unblocked call (Blocked p holder) o e free u d = (let z : true ≡ false = free in absurd (cc))
 unblocked call (Ended a) o e free u d = (let z : outcome.Ended a ≡ outcome.Blocked u = sym e ∙ d in absurd (cc))
 
-word_there : {P : Type 0} (call : P → Call) (turn : Turn P) (o : Outcome) (next : Option Call) → o ≡ told call turn → next ≡ left call turn → (p : Phase) → o ≡ outcome.Moved p → (d : Call) × (next ≡ Some d) × (word_of d ≡ p)
+word_there : {P : Type 0} (call : P → Call) (turn : Turn P) (o : Outcome) (next : Option Call) → o ≡ told call turn
+    → next ≡ left call turn → (p : Phase) → o ≡ outcome.Moved p → (d : Call) × (next ≡ Some d) × (word_of d ≡ p)
 word_there call (Moved q) o next e l p d = (call q, l, same (sym e ∙ d))
   where
     same : {a b : Phase} → outcome.Moved a ≡ outcome.Moved b → a ≡ b
@@ -98,7 +103,8 @@ word_there call (Moved q) o next e l p d = (call q, l, same (sym e ∙ d))
 word_there call (Blocked q holder) o next e l p d = (let z : outcome.Blocked holder ≡ outcome.Moved p = sym e ∙ d in absurd (cc))
 word_there call (Ended a) o next e l p d = (let z : outcome.Ended a ≡ outcome.Moved p = sym e ∙ d in absurd (cc))
 
-of_turn : {P : Type 0} (call : P → Call) (s : State) (t top : ℕ) (here : P) (turn : Turn P) (o : Outcome) (new : Pool) (next : Option Call) → Turned call s t top here turn new → o ≡ told call turn → next ≡ left call turn → Steps s t top (call here) o new next
+of_turn : {P : Type 0} (call : P → Call) (s : State) (t top : ℕ) (here : P) (turn : Turn P) (o : Outcome) (new : Pool) (next : Option Call)
+    → Turned call s t top here turn new → o ≡ told call turn → next ≡ left call turn → Steps s t top (call here) o new next
 of_turn call s t top here turn o new next h e l = elim h [
   | inl w ↦ inl (w.0, e ∙ ap (told call) w.1, w.2, l ∙ ap (left call) w.1, w.3)
   | inr w ↦ inr (record {
@@ -111,7 +117,9 @@ of_turn call s t top here turn o new next h e l = elim h [
   })
 ]
 
-pub call_steps : (s : State) (t top : ℕ) (killed grant : Bool) (c : Call) (o : Outcome) (new : Pool) (next : Option Call) → Inv s.geometry s → 1 ≤ t → t < s.geometry.tasks + 1 → s.calls t ≡ Some c → CallRow (pool_of s) t killed grant c o new next → Steps s t top c o new next
+pub call_steps : (s : State) (t top : ℕ) (killed grant : Bool) (c : Call) (o : Outcome) (new : Pool) (next : Option Call)
+    → Inv s.geometry s → 1 ≤ t → t < s.geometry.tasks + 1 → s.calls t ≡ Some c → CallRow (pool_of s) t killed grant c o new next
+    → Steps s t top c o new next
 unfolding CallRow
 call_steps s t top killed grant (call.Touch p) o new next h one l e (turn, row, tells, leaves) = of_turn call.Touch s t top p turn o new next (touch_turn s t top killed grant p turn new h e row) tells leaves
 call_steps s t top killed grant (call.Map p) o new next h one l e (turn, row, tells, leaves) = of_turn call.Map s t top p turn o new next (map_turn s t top killed grant p turn new h e row) tells leaves
@@ -131,7 +139,8 @@ lives_some lives t (call.Unmap p) d = refl
 lives_some lives t (call.Exit p) d = refl
 
 -- nothing changes where the call stays and the pool does
-pub same_state : (s : State) (t : ℕ) (c : Call) (pool : Pool) (next : Option Call) → s.calls t ≡ Some c → pool ≡ pool_of s → next ≡ Some c → record (with_pool s pool) { life = lives_after s.life t c next; calls = put s.calls t next } ≡ s
+pub same_state : (s : State) (t : ℕ) (c : Call) (pool : Pool) (next : Option Call) → s.calls t ≡ Some c → pool ≡ pool_of s
+    → next ≡ Some c → record (with_pool s pool) { life = lives_after s.life t c next; calls = put s.calls t next } ≡ s
 same_state s t c pool next e same_pool same_next =
     let a : put s.calls t next ≡ s.calls = ap (put s.calls t) same_next ∙ put_known s.calls t (Some c) e in
     let b : lives_after s.life t c next ≡ s.life = ap (lives_after s.life t c) same_next ∙ lives_some s.life t c c in

@@ -15,7 +15,7 @@ use Rattle.hp_laws.specs.Sweep.{fills, ahead}
 use Rattle.hp_laws.proofs.Moves.{Placing, evicts_frame}
 use Rattle.hp_laws.proofs.Standing.{HasSlot, HasLock, Stands}
 use Rattle.hp_laws.proofs.Staying.{stands_after}
-use Rattle.hp_laws.proofs.Invariant.{Reached, Inv, goes, vacant_of, place_same, same_opens, sweeps, holds, to}
+use Rattle.hp_laws.proofs.Invariant.{Reached, Inv, page_within, goes, vacant_of, place_same, same_opens, sweeps, holds, to}
 use Rattle.hp_laws.proofs.Holding.{some_same}
 use Rattle.hp_laws.proofs.Effects.{free_same}
 
@@ -34,7 +34,8 @@ pub evicts : (g : Geometry) (s : State) (t : ℕ) (b c : Option Call) (f i x : �
     → s.pages f i ≡ Some x → HasSlot g s t f i
     → ((w v y : ℕ) → s.table w v ≡ Some y → find (s.areas w) v ≡ Some (f, i) → ⊥)
     → IfSome (fills c) (λ k. Reached s.size (λ u. ahead (s.calls u)) k.0 k.1)
-    → Stands g (record s { pages = put2 s.pages f i None; frame = put s.frame x state.Hand }) t c → Inv g (to (record s { pages = put2 s.pages f i None; frame = put s.frame x state.Hand }) t c)
+    → Stands g (record s { pool = record s.pool { pages = put2 s.pages f i None; frame = put s.frame x state.Hand } }) t c
+    → Inv g (to (record s { pool = record s.pool { pages = put2 s.pages f i None; frame = put s.frame x state.Hand } }) t c)
 evicts g s t b c f i x h l e in_files same same_held none some same_change balance page held cleared fill own = goes g s n t b c h l e same same_held (record {
   geometry = h.geometry;
   ranges = h.ranges;
@@ -50,7 +51,7 @@ evicts g s t b c f i x h l e in_files same same_held none some same_change balan
   entries = record { owners = h.entries.owners; agree = λ w v y a. let o = h.entries.agree w v y a in (o.0, o.1, still w v y o.0 a o.1 o.2) };
   inside = record {
     bare = λ k j a. bare_still k j (h.inside.bare k j a);
-    low = λ k j y a. elim (put2_tells s.pages f i None k j) [ inl q ↦ (let d : ◌≡◌ {A = Option ℕ} None (Some y) = sym q.2 ∙ a in absurd (cc)) | inr q ↦ h.inside.low k j y (sym q.1 ∙ a) ];
+    within = h.inside.within;
   };
   sweep = record { below = h.sweep.below; gone = h.sweep.gone; past = λ u k j a. let o = h.sweep.past u k j a in (bare_still k j o.0, o.1) };
   changes = same_opens s.pending b c same_change;
@@ -59,12 +60,13 @@ evicts g s t b c f i x h l e in_files same same_held none some same_change balan
 })
   where
     n : State
-    n = record s { pages = put2 s.pages f i None; frame = put s.frame x state.Hand }
+    n = record s { pool = record s.pool { pages = put2 s.pages f i None; frame = put s.frame x state.Hand } }
 
     pair : (k : ℕ × ℕ) (o : Option (ℕ × ℕ)) → o ≡ Some k → k.0 ≡ f → k.1 ≡ i → o ≡ Some (f, i)
     pair k o d p q = d ∙ ap (λ (m : ℕ). Some (m, k.1)) p ∙ ap (λ (m : ℕ). Some (f, m)) q
 
-    still : (w v y : ℕ) (k : ℕ × ℕ) → s.table w v ≡ Some y → find (s.areas w) v ≡ Some k → s.pages k.0 k.1 ≡ Some y → put2 s.pages f i None k.0 k.1 ≡ Some y
+    still : (w v y : ℕ) (k : ℕ × ℕ) → s.table w v ≡ Some y → find (s.areas w) v ≡ Some k → s.pages k.0 k.1 ≡ Some y
+        → put2 s.pages f i None k.0 k.1 ≡ Some y
     still w v y k a d p = elim (put2_tells s.pages f i None k.0 k.1) [
       | inl q ↦ absurd (cleared w v y a (pair k (find (s.areas w) v) d q.0 q.1))
       | inr q ↦ q.1 ∙ p
@@ -84,17 +86,18 @@ evicts g s t b c f i x h l e in_files same same_held none some same_change balan
         let a : vacant_of g s.reserved n.pages + vacant g.limit (s.reserved f) (s.pages f) ≡ vacant_of g s.reserved s.pages + vacant g.limit (s.reserved f) (put2 s.pages f i None f)
         = total_change g.files f (λ k. vacant g.limit (s.reserved k) (s.pages k)) (λ k. vacant g.limit (s.reserved k) (put2 s.pages f i None k)) in_files (λ k d. ap (vacant g.limit (s.reserved k)) (put_other s.pages f (put (s.pages f) i None) k d)) in
         let z : vacant g.limit (s.reserved f) (put2 s.pages f i None f) ≡ vacant g.limit (s.reserved f) (s.pages f) + 1
-        = ap (λ (m : ℕ → Option ℕ). vacant g.limit (s.reserved f) m) (put_same s.pages f (put (s.pages f) i None)) ∙ vacant_evict g.limit (s.reserved f) (s.pages f) i x (h.inside.low f i x page) (page_marked g s f i x h page) page in
+        = ap (λ (m : ℕ → Option ℕ). vacant g.limit (s.reserved f) m) (put_same s.pages f (put (s.pages f) i None)) ∙ vacant_evict g.limit (s.reserved f) (s.pages f) i x (page_within f i x h.inside page).1 (page_marked g s f i x h page) page in
         omega arith
 
 -- an index with no page is no longer reserved
-pub deletes : (g : Geometry) (s : State) (t : ℕ) (b c : Option Call) (f i spare : ℕ) → Inv g s → t < g.tasks + 1 → s.calls t ≡ b → f < g.files → i < g.limit
+pub deletes : (g : Geometry) (s : State) (t : ℕ) (b c : Option Call) (f i spare : ℕ) → Inv g s → t < g.tasks + 1 → s.calls t ≡ b
+    → f < g.files → i < g.limit
     → sweeps c ≡ sweeps b → holds c ≡ holds b → hand c ≡ hand b → change_in c ≡ change_in b
     → less b + more c ≡ less c + more b + 1 → s.pending f ≤ spare
     → s.reserved f i ≡ true → s.pages f i ≡ None → HasSlot g s t f i → HasLock s t f
     → IfSome (fills c) (λ k. Reached s.size (λ u. ahead (s.calls u)) k.0 k.1)
-    → Stands g (record s { reserved = put2 s.reserved f i false; spare = put s.spare f spare }) t c
-    → Inv g (to (record s { reserved = put2 s.reserved f i false; spare = put s.spare f spare }) t c)
+    → Stands g (record s { pool = record s.pool { reserved = put2 s.reserved f i false; spare = put s.spare f spare } }) t c
+    → Inv g (to (record s { pool = record s.pool { reserved = put2 s.reserved f i false; spare = put s.spare f spare } }) t c)
 deletes g s t b c f i spare h l e in_files in_limit same same_held same_hand same_change balance spares marked bare held locked fill own = goes g s n t b c h l e same same_held (record {
   geometry = h.geometry;
   entries = h.entries;
@@ -108,7 +111,10 @@ deletes g s t b c f i spare h l e in_files in_limit same same_held same_hand sam
   count = (let v : vacant_of g n.reserved s.pages + 1 ≡ vacant_of g s.reserved s.pages = fewer in omega arith);
   place = place_same g s t b c h e same_hand;
   inside = record {
-    low = h.inside.low;
+    within = λ k j a. elim (put2_tells s.reserved f i false k j) [
+      | inl q ↦ (let d : false ≡ true = sym q.2 ∙ a in absurd (cc))
+      | inr q ↦ h.inside.within k j (sym q.1 ∙ a)
+    ];
     bare = λ k j a. elim (put2_tells s.reserved f i false k j) [
       | inl q ↦ ap (λ (m : ℕ). s.pages m j) q.0 ∙ (ap (s.pages f) q.1 ∙ bare)
       | inr q ↦ h.inside.bare k j (sym q.1 ∙ a)
@@ -122,7 +128,7 @@ deletes g s t b c f i spare h l e in_files in_limit same same_held same_hand sam
 })
   where
     n : State
-    n = record s { reserved = put2 s.reserved f i false; spare = put s.spare f spare }
+    n = record s { pool = record s.pool { reserved = put2 s.reserved f i false; spare = put s.spare f spare } }
 
     spare_after : (k : ℕ) → s.pending k ≤ put s.spare f spare k
     spare_after k = elim (same_or_other k f) [

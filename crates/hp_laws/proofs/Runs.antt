@@ -48,7 +48,8 @@ pub record Always (s : State) : Type 0 where
 life_set : (g : Geometry) (s : State) (lives : ℕ → Life) → Inv g s → Inv g (record s { life = lives })
 life_set g s lives h = record { geometry = h.geometry; count = h.count; enough = h.enough; place = h.place; entries = h.entries; ranges = h.ranges; spread = h.spread; inside = h.inside; sweep = h.sweep; reach = h.reach; sizes = h.sizes; changes = h.changes; spares = h.spares; holders = h.holders; stands = h.stands }
 
-first_keeps : (s : State) (t : ℕ) (o : Op) → Inv s.geometry s → t < s.geometry.tasks + 1 → s.calls t ≡ None → Inv s.geometry (Invariant.to s t (Some (first o)))
+first_keeps : (s : State) (t : ℕ) (o : Op) → Inv s.geometry s → t < s.geometry.tasks + 1 → s.calls t ≡ None
+    → Inv s.geometry (Invariant.to s t (Some (first o)))
 first_keeps s t (op.Map f from len) h l e = stays s.geometry s t None _ h l e refl tt (record { slot = tt; lock = tt; facts = tt })
 first_keeps s t (op.MapNoReserve f from len) h l e = stays s.geometry s t None _ h l e refl tt (record { slot = tt; lock = tt; facts = tt })
 first_keeps s t (op.Unmap base) h l e = stays s.geometry s t None _ h l e refl tt (record { slot = tt; lock = tt; facts = tt })
@@ -60,11 +61,14 @@ first_keeps s t (op.Truncate f new) h l e = stays s.geometry s t None _ h l e re
 first_keeps s t op.Exit h l e = stays s.geometry s t None _ h l e refl tt (record { slot = tt; lock = tt; facts = tt })
 
 -- the state after a turn that is told, with the call that it leaves
-told_state : {P : Type 0} (call : P → Call) (s : State) (t : ℕ) (turn : Turn P) (new : Pool) (next : Option Call) → next ≡ left call turn → Inv s.geometry (after call s t turn new) → Inv s.geometry (record (with_pool s new) { calls = put s.calls t next })
+told_state : {P : Type 0} (call : P → Call) (s : State) (t : ℕ) (turn : Turn P) (new : Pool) (next : Option Call)
+    → next ≡ left call turn → Inv s.geometry (after call s t turn new)
+    → Inv s.geometry (record (with_pool s new) { calls = put s.calls t next })
 told_state call s t turn new next e h = subst (λ (n : Option Call). Inv s.geometry (record (with_pool s new) { calls = put s.calls t n })) (sym e) h
 
 -- one step of a call keeps the invariant
-pub call_keeps : (s : State) (t : ℕ) (killed grant : Bool) (c : Call) (o : Outcome) (new : Pool) (next : Option Call) → Inv s.geometry s → 1 ≤ t → t < s.geometry.tasks + 1 → s.calls t ≡ Some c → CallRow (pool_of s) t killed grant c o new next
+pub call_keeps : (s : State) (t : ℕ) (killed grant : Bool) (c : Call) (o : Outcome) (new : Pool) (next : Option Call)
+    → Inv s.geometry s → 1 ≤ t → t < s.geometry.tasks + 1 → s.calls t ≡ Some c → CallRow (pool_of s) t killed grant c o new next
     → Inv s.geometry (record (with_pool s new) { calls = put s.calls t next })
 unfolding CallRow
 call_keeps s t killed grant (call.Touch p) o new next h one l e (turn, row, tells, leaves) = told_state call.Touch s t turn new next leaves (touch_row s t killed grant p turn new h one l e row)
@@ -76,7 +80,8 @@ call_keeps s t killed grant (call.Unmap p) o new next h one l e (turn, row, tell
 call_keeps s t killed grant (call.Exit p) o new next h one l e (turn, row, tells, leaves) = told_state call.Exit s t turn new next leaves (exit_row s t killed grant p turn new h l e row)
 
 -- a task dies only where no call is left
-lives_on : (tasks : ℕ) (lives : ℕ → Life) (calls : ℕ → Option Call) (t : ℕ) (c : Call) (next : Option Call) → Lives tasks lives calls → calls t ≡ Some c → Lives tasks (lives_after lives t c next) (put calls t next)
+lives_on : (tasks : ℕ) (lives : ℕ → Life) (calls : ℕ → Option Call) (t : ℕ) (c : Call) (next : Option Call)
+    → Lives tasks lives calls → calls t ≡ Some c → Lives tasks (lives_after lives t c next) (put calls t next)
 lives_on tasks lives calls t c next h e = here c next refl
   where
     same : Lives tasks lives (put calls t next)
@@ -143,7 +148,9 @@ row_keeps s (Step t grant) o n h row =
     in_state (record (with_pool s r.0) { life = lives_after s.life t c r.1; calls = put s.calls t r.1 }) n r.3
     (record { inv = moved s t r.0 r.1 (lives_after s.life t c r.1) k; lives = subst (λ (g : Geometry). Lives g.tasks (lives_after s.life t c r.1) (put s.calls t r.1)) (sym k.geometry) (lives_on s.geometry.tasks s.life s.calls t c r.1 h.lives some) })))
   where
-    moved : (s : State) (t : ℕ) (pool : Pool) (next : Option Call) (lives : ℕ → Life) → Inv s.geometry (record (with_pool s pool) { calls = put s.calls t next }) → Inv pool.geometry (record (with_pool s pool) { life = lives; calls = put s.calls t next })
+    moved : (s : State) (t : ℕ) (pool : Pool) (next : Option Call) (lives : ℕ → Life)
+        → Inv s.geometry (record (with_pool s pool) { calls = put s.calls t next })
+        → Inv pool.geometry (record (with_pool s pool) { life = lives; calls = put s.calls t next })
     moved s t pool next lives k = subst (λ (g : Geometry). Inv g (record (with_pool s pool) { life = lives; calls = put s.calls t next })) (sym k.geometry) (life_set s.geometry (record (with_pool s pool) { calls = put s.calls t next }) lives k)
 row_keeps s (Kill t) o n h row =
     by_test (is_alive (s.life t)) row
@@ -224,7 +231,7 @@ opens_well g frames = record {
     entries = record { agree = λ t v x d. no_value d; owners = λ t v x d. no_value d };
     ranges = λ t. tt;
     spread = λ t. omega arith;
-    inside = record { bare = λ f i d. refl; low = λ f i x d. no_value d };
+    inside = record { bare = λ f i d. refl; within = λ f i d. never d };
     sweep = record { below = λ t v x f i d e. no_value d; past = λ u f j d. never d; gone = λ u f j d. never d };
     reach = λ w. tt;
     sizes = λ f. omega arith;
@@ -236,7 +243,8 @@ opens_well g frames = record {
   lives = record { there = λ t e. here t (nat_le 1 t && nat_le t g.tasks) refl e; busy = λ t c d. no_value d };
 }
   where
-    here : (t : ℕ) (b : Bool) → (nat_le 1 t && nat_le t g.tasks) ≡ b → is_dead (if b then life.Alive else life.Dead) ≡ false → (1 ≤ t) × (t ≤ g.tasks)
+    here : (t : ℕ) (b : Bool) → (nat_le 1 t && nat_le t g.tasks) ≡ b → is_dead (if b then life.Alive else life.Dead) ≡ false
+        → (1 ≤ t) × (t ≤ g.tasks)
     here t true e d = (grind (arith, nat_tests), grind (arith, nat_tests))
     here t false e d = (let z : true ≡ false = d in absurd (cc))
 

@@ -44,11 +44,14 @@ TurnWell P on ends (Moved p) = on p
 TurnWell P on ends (Blocked p u) = on p
 TurnWell P on ends (Ended a) = ends a
 
-pub at_leaf : {P : Type 0} (on : P → Type 0) (ends : Answer → Type 0) (wanted turn : Turn P) → turn ≡ wanted → TurnWell P on ends wanted → TurnWell P on ends turn
+pub at_leaf : {P : Type 0} (on : P → Type 0) (ends : Answer → Type 0) (wanted turn : Turn P) → turn ≡ wanted
+    → TurnWell P on ends wanted → TurnWell P on ends turn
 at_leaf {P} on ends wanted turn e h = subst (TurnWell P on ends) (sym e) h
 
 -- where nothing was missing a frame is taken
-pub takes : {P : Type 0} (on : P → Type 0) (ends : Answer → Type 0) (s : State) (m : ℕ) (no_frame : P) (taken : ℕ → P) (turn : Turn P) (new : Pool) → m ≡ 0 → TakeRow (pool_of s) m no_frame taken turn new → ((x : ℕ) → s.frame x ≡ state.Free → on (taken x)) → TurnWell P on ends turn
+pub takes : {P : Type 0} (on : P → Type 0) (ends : Answer → Type 0) (s : State) (m : ℕ) (no_frame : P) (taken : ℕ → P) (turn : Turn P) (new : Pool)
+    → m ≡ 0 → TakeRow (pool_of s) m no_frame taken turn new → ((x : ℕ) → s.frame x ≡ state.Free → on (taken x))
+    → TurnWell P on ends turn
 takes on ends s m no_frame taken turn new none row h =
     by_test (m == 0) row
     (λ _ r. at_leaf on ends (Moved (taken r.0)) turn r.3.0 (h r.0 r.1))
@@ -79,10 +82,13 @@ pub answers : (a : Access) (w : ℕ) → answer_of a w ≢ answer.NoFrame
 answers Load w = λ e. cc
 answers (Store n) w = λ e. cc
 
-pub sure_commit : {P : Type 0} (on : P → Type 0) (ends : Answer → Type 0) (s : State) (f from to m : ℕ) (settle next : P) (turn : Turn P) (new : Pool) → CommitRow (pool_of s) f (record { from = from; to = to; missing = m }) settle next turn new → on settle → on next → TurnWell P on ends turn
+pub sure_commit : {P : Type 0} (on : P → Type 0) (ends : Answer → Type 0) (s : State) (f from to m : ℕ) (settle next : P) (turn : Turn P) (new : Pool)
+    → CommitRow (pool_of s) f (record { from = from; to = to; missing = m }) settle next turn new → on settle → on next
+    → TurnWell P on ends turn
 sure_commit on ends s f from to m settle next turn new row a b = by_test (nat_lt (missing (s.reserved f) from to) m) row (λ _ r. at_leaf on ends _ turn r.0 a) (λ _ r. at_leaf on ends _ turn r.0 b)
 
-pub sure_turn : (s : State) (t : ℕ) (killed grant : Bool) (phase : TouchPhase) (turn : Turn TouchPhase) (new : Pool) → Sure phase → TouchRow (pool_of s) t killed grant phase turn new → TurnWell TouchPhase Sure Isnt turn
+pub sure_turn : (s : State) (t : ℕ) (killed grant : Bool) (phase : TouchPhase) (turn : Turn TouchPhase) (new : Pool) → Sure phase
+    → TouchRow (pool_of s) t killed grant phase turn new → TurnWell TouchPhase Sure Isnt turn
 sure_turn s t killed grant (touch.Look p) turn new h row = absurd h
 sure_turn s t killed grant (touch.Want p) turn new h row = absurd h
 sure_turn s t killed grant (touch.Locked p) turn new h row = absurd h
@@ -100,7 +106,9 @@ sure_turn s t killed grant (touch.Leave p) turn new h row = at_leaf Sure Isnt _ 
 pub missing_none : (r : ℕ → Bool) (i : ℕ) → r i ≡ true → missing r i (i + 1) ≡ 0
 missing_none r i e = missing_one r i ∙ ap (λ (b : Bool). bit (not b)) e
 
-pub sure_missing : (s : State) (t : ℕ) (killed grant : Bool) (p : Missing) (turn : Turn TouchPhase) (new : Pool) → s.reserved p.touch.file p.touch.index ≡ true → TouchRow (pool_of s) t killed grant (touch.Missing p) turn new → TurnWell TouchPhase Sure Isnt turn
+pub sure_missing : (s : State) (t : ℕ) (killed grant : Bool) (p : Missing) (turn : Turn TouchPhase) (new : Pool)
+    → s.reserved p.touch.file p.touch.index ≡ true → TouchRow (pool_of s) t killed grant (touch.Missing p) turn new
+    → TurnWell TouchPhase Sure Isnt turn
 sure_missing s t killed grant p turn new e row = by_test ((s.spare p.touch.file == s.pending p.touch.file) && not grant) row
     (λ _ r. at_leaf Sure Isnt _ turn r.0 (λ e. cc))
     (λ _ r. at_leaf Sure Isnt _ turn r.0 (missing_none (s.reserved p.touch.file) p.touch.index e))
@@ -111,12 +119,14 @@ CallWell on None = Unit {0}
 CallWell on (Some (call.Touch phase)) = on phase
 CallWell on (Some other) = ⊥
 
-next_well : (on : TouchPhase → Type 0) (ends : Answer → Type 0) (turn : Turn TouchPhase) → TurnWell TouchPhase on ends turn → CallWell on (left call.Touch turn)
+next_well : (on : TouchPhase → Type 0) (ends : Answer → Type 0) (turn : Turn TouchPhase) → TurnWell TouchPhase on ends turn
+    → CallWell on (left call.Touch turn)
 next_well on ends (Moved p) h = h
 next_well on ends (Blocked p u) h = h
 next_well on ends (Ended a) h = tt
 
-end_well : (on : TouchPhase → Type 0) (ends : Answer → Type 0) (turn : Turn TouchPhase) (b : Answer) → TurnWell TouchPhase on ends turn → outcome.Ended b ≡ told call.Touch turn → ends b
+end_well : (on : TouchPhase → Type 0) (ends : Answer → Type 0) (turn : Turn TouchPhase) (b : Answer)
+    → TurnWell TouchPhase on ends turn → outcome.Ended b ≡ told call.Touch turn → ends b
 end_well on ends (Moved p) b h e = (let z : outcome.Ended b ≡ outcome.Moved (word_of (call.Touch p)) = e in absurd (cc))
 end_well on ends (Blocked p u) b h e = (let z : outcome.Ended b ≡ outcome.Blocked u = e in absurd (cc))
 end_well on ends (Ended a) b h e = subst ends (same (sym e)) h
@@ -127,9 +137,12 @@ end_well on ends (Ended a) b h e = subst ends (same (sym e)) h
 -- a step of a touch, by its rows
 pub touch_call : (s : State) (t : ℕ) (killed grant : Bool) (on from : TouchPhase → Type 0) (ends : Answer → Type 0) (c : Call) (o : Outcome) (pool : Pool) (next : Option Call)
     → ((phase : TouchPhase) (turn : Turn TouchPhase) → c ≡ call.Touch phase → from phase → TouchRow (pool_of s) t killed grant phase turn pool → TurnWell TouchPhase on ends turn)
-    → CallWell from (Some c) → CallRow (pool_of s) t killed grant c o pool next → CallWell on next × ((b : Answer) → o ≡ outcome.Ended b → ends b)
+    → CallWell from (Some c) → CallRow (pool_of s) t killed grant c o pool next
+    → CallWell on next × ((b : Answer) → o ≡ outcome.Ended b → ends b)
 unfolding CallRow
-touch_call s t killed grant on from ends (call.Touch p) o pool next h w (turn, row, tells, leaves) = let y = h p turn refl w row in (subst (CallWell on) (sym leaves) (next_well on ends turn y), λ b e. end_well on ends turn b y (sym e ∙ tells))
+touch_call s t killed grant on from ends (call.Touch p) o pool next h w (turn, row, tells, leaves) =
+    let y = h p turn refl w row in
+    (subst (CallWell on) (sym leaves) (next_well on ends turn y), λ b e. end_well on ends turn b y (sym e ∙ tells))
 touch_call s t killed grant on from ends (call.Map p) o pool next h w row = absurd w
 touch_call s t killed grant on from ends (call.Alloc p) o pool next h w row = absurd w
 touch_call s t killed grant on from ends (call.Punch p) o pool next h w row = absurd w
@@ -147,7 +160,8 @@ not_begun t u p o quiet e d = (let a : is_begun t (Begin u p) o ≡ 1 = ap (is_b
         same k = grind (arith, nat_tests)
 
 -- what task t's call is seen as, after an event that isn't a begin of it: it is as it was, or made a step
-pub own_or_same : (s : State) (t : ℕ) (event : Event) (o : Outcome) (n : State) (P : Type 0) → Always s → is_begun t event o ≡ 0 → Row s event o n
+pub own_or_same : (s : State) (t : ℕ) (event : Event) (o : Outcome) (n : State) (P : Type 0) → Always s → is_begun t event o ≡ 0
+    → Row s event o n
     → (n.calls t ≡ s.calls t → n.areas t ≡ s.areas t → ((n.life t ≡ s.life t) ⊎ (event ≡ Kill t)) → ((grant : Bool) (a : Answer) → event ≡ Step t grant → o ≡ outcome.Ended a → ⊥) → P)
     → ((grant : Bool) (c : Call) (pool : Pool) (next : Option Call) → event ≡ Step t grant → s.calls t ≡ Some c → CallRow (pool_of s) t (is_killed (s.life t)) grant c o pool next
     → n ≡ record (with_pool s pool) { life = lives_after s.life t c next; calls = put s.calls t next } → P) → P
@@ -186,7 +200,9 @@ own_or_same s t (Step u grant) o n P h quiet row same own = step_cases s u grant
     same_task : {g : Bool} → Step u grant ≡ Step t g → u ≡ t
     same_task z = cc
 
-    at_own : (c : Call) (pool : Pool) (next : Option Call) → u ≡ t → s.calls u ≡ Some c → CallRow (pool_of s) u (is_killed (s.life u)) grant c o pool next → n ≡ record (with_pool s pool) { life = lives_after s.life u c next; calls = put s.calls u next } → P
+    at_own : (c : Call) (pool : Pool) (next : Option Call) → u ≡ t → s.calls u ≡ Some c
+        → CallRow (pool_of s) u (is_killed (s.life u)) grant c o pool next
+        → n ≡ record (with_pool s pool) { life = lives_after s.life u c next; calls = put s.calls u next } → P
     at_own c pool next q e r d = own grant c pool next (ap (λ (m : ℕ). Step m grant) q) (ap s.calls (sym q) ∙ e) (subst (λ (m : ℕ). CallRow (pool_of s) m (is_killed (s.life m)) grant c o pool next) q r) (d ∙ ap (λ (m : ℕ). record (with_pool s pool) { life = lives_after s.life m c next; calls = put s.calls m next }) q)
 
     other_life : (lives : ℕ → Life) (u : ℕ) (c : Call) (next : Option Call) (t : ℕ) → t ≢ u → lives_after lives u c next t ≡ lives t

@@ -26,7 +26,8 @@ abbrev pub after : {P : Type 0} → (P → Call) → State → (task : ℕ) → 
 after call s t turn new = record (with_pool s new) { calls = put s.calls t (left call turn) }
 
 -- a leaf's equations put into the state after it
-pub so : {P : Type 0} (call : P → Call) (s : State) (t : ℕ) (wanted turn : Turn P) (there new : Pool) → (turn ≡ wanted) × (new ≡ there) → Inv s.geometry (after call s t wanted there) → Inv s.geometry (after call s t turn new)
+pub so : {P : Type 0} (call : P → Call) (s : State) (t : ℕ) (wanted turn : Turn P) (there new : Pool)
+    → (turn ≡ wanted) × (new ≡ there) → Inv s.geometry (after call s t wanted there) → Inv s.geometry (after call s t turn new)
 so {P} call s t wanted turn there new e h = subst (λ (p : Turn P × Pool). Inv s.geometry (after call s t p.0 p.1)) (sym (pair e.0 e.1)) h
   where
     pair : turn ≡ wanted → new ≡ there → ◌≡◌ {A = Turn P × Pool} (turn, new) (wanted, there)
@@ -36,7 +37,8 @@ pub by_test : {A B C : Type 0} (b : Bool) → MatchBool b A B → (b ≡ true �
 by_test true m on off = on refl m
 by_test false m on off = off refl m
 
-pub by_option : {A : Type 0} {P : Type 0} {Q : A → Type 0} {C : Type 0} (o : Option A) → MatchOption o P Q → (o ≡ None → P → C) → ((a : A) → o ≡ Some a → Q a → C) → C
+pub by_option : {A : Type 0} {P : Type 0} {Q : A → Type 0} {C : Type 0} (o : Option A) → MatchOption o P Q → (o ≡ None → P → C)
+    → ((a : A) → o ≡ Some a → Q a → C) → C
 by_option None m off on = off refl m
 by_option (Some a) m off on = on a refl m
 
@@ -48,7 +50,8 @@ idle g s t = record { slot = tt; lock = tt; facts = tt }
 pub stands_at : (s : State) (t : ℕ) (c : Option Call) → Inv s.geometry s → s.calls t ≡ c → Stands s.geometry s t c
 stands_at s t c h e = subst (Stands s.geometry s t) e (h.stands t)
 
-pub reach_at : (s : State) (t : ℕ) (c : Option Call) → Inv s.geometry s → s.calls t ≡ c → IfSome (fills c) (λ k. Reached s.size (λ u. ahead (s.calls u)) k.0 k.1)
+pub reach_at : (s : State) (t : ℕ) (c : Option Call) → Inv s.geometry s → s.calls t ≡ c
+    → IfSome (fills c) (λ k. Reached s.size (λ u. ahead (s.calls u)) k.0 k.1)
 reach_at s t c h e = subst (λ d. IfSome (fills d) (λ k. Reached s.size (λ u. ahead (s.calls u)) k.0 k.1)) e (h.reach t)
 
 -- a call waits where it stands
@@ -59,10 +62,12 @@ no_fill : (s : State) (c : Option Call) → fills c ≡ None → IfSome (fills c
 no_fill s c e = subst (λ (o : Option (ℕ × ℕ)). IfSome o (λ k. Reached s.size (λ u. ahead (s.calls u)) k.0 k.1)) (sym e) tt
 
 pub start_row : {P : Type 0} (call : P → Call) (s : State) (t : ℕ) (killed : Bool) (f : ℕ) (bad : Bool) (at_kill : Answer) (here next : P) (turn : Turn P) (new : Pool)
-    → Inv s.geometry s → t < s.geometry.tasks + 1 → s.calls t ≡ Some (call here) → StartRow (pool_of s) t killed f bad at_kill here next turn new
-    → seen None ≡ seen (Some (call here)) → shown (Some (call next)) ≡ shown (Some (call here)) → slot_held (Some (call next)) ≡ slot_held (Some (call here))
+    → Inv s.geometry s → t < s.geometry.tasks + 1 → s.calls t ≡ Some (call here)
+    → StartRow (pool_of s) t killed f bad at_kill here next turn new
+    → seen None ≡ seen (Some (call here)) → shown (Some (call next)) ≡ shown (Some (call here))
+    → slot_held (Some (call next)) ≡ slot_held (Some (call here))
     → locked_file (Some (call here)) ≡ None → locked_file (Some (call next)) ≡ Some f → fills (Some (call next)) ≡ None
-    → (f < s.geometry.files → bad ≡ false → Stands s.geometry (record s { locks = put s.locks f (Some t) }) t (Some (call next)))
+    → (f < s.geometry.files → bad ≡ false → Stands s.geometry (record s { pool = record s.pool { locks = put s.locks f (Some t) } }) t (Some (call next)))
     → Inv s.geometry (after call s t turn new)
 start_row call s t killed f bad at_kill here next turn new h l e row none same same_slot no_lock lock no_filling own =
     let ends = stays s.geometry s t (Some (call here)) None h l e none tt (idle s.geometry s t) in
@@ -86,7 +91,7 @@ pub want_row : {P : Type 0} (call : P → Call) (s : State) (t f i : ℕ) (here 
     → Inv s.geometry s → t < s.geometry.tasks + 1 → s.calls t ≡ Some (call here) → WantSlotRow (pool_of s) t f i here next turn new
     → shown (Some (call next)) ≡ shown (Some (call here)) → locked_file (Some (call next)) ≡ locked_file (Some (call here))
     → slot_held (Some (call here)) ≡ None → slot_held (Some (call next)) ≡ Some (f, i) → fills (Some (call next)) ≡ None
-    → Stands s.geometry (record s { slots = put s.slots (slot_of s.geometry f i) (Some t) }) t (Some (call next))
+    → Stands s.geometry (record s { pool = record s.pool { slots = put s.slots (slot_of s.geometry f i) (Some t) } }) t (Some (call next))
     → Inv s.geometry (after call s t turn new)
 want_row call s t f i here next turn new h l e row same same_lock no_slot slot no_filling own =
     by_option (s.slots (slot_of s.geometry f i)) row
@@ -103,7 +108,8 @@ unhanded c = (sweeps c, holds c, change_in c, more c)
 
 -- a change is begun, or denied
 pub change_row : {P : Type 0} (call : P → Call) (s : State) (t : ℕ) (grant : Bool) (f from to : ℕ) (here denied : P) (changed : Change → P) (turn : Turn P) (new : Pool)
-    → Inv s.geometry s → t < s.geometry.tasks + 1 → s.calls t ≡ Some (call here) → ChangeRow (pool_of s) grant f from to denied changed turn new
+    → Inv s.geometry s → t < s.geometry.tasks + 1 → s.calls t ≡ Some (call here)
+    → ChangeRow (pool_of s) grant f from to denied changed turn new
     → (let change : Change = record { from = from; to = to; missing = missing (s.reserved f) from to } in record {
       denied : Inv s.geometry (Invariant.to s t (Some (call denied)));
       same : steady (Some (call (changed change))) ≡ steady (Some (call here));
@@ -168,7 +174,8 @@ pub own_missing : (r : ℕ → Bool) (change : Change) (i : ℕ) → IsOne chang
 own_missing r change i one = ap (λ (k : ℕ). missing r k change.to) one.0 ∙ (ap (missing r i) one.1 ∙ missing_one r i)
 
 -- what a change of one index tells
-pub one_change : (r : ℕ → Bool) (i : ℕ) → IsOne (record { from = i; to = i + 1; missing = missing r i (i + 1) }) i × ((missing r i (i + 1) == 0) ≡ true → r i ≡ true)
+pub one_change : (r : ℕ → Bool) (i : ℕ)
+    → IsOne (record { from = i; to = i + 1; missing = missing r i (i + 1) }) i × ((missing r i (i + 1) == 0) ≡ true → r i ≡ true)
 one_change r i = let lacks = missing_one r i in ((refl, refl, few (r i) _ lacks), λ e. has (r i) _ lacks (is_nil _ e))
   where
     few : (b : Bool) (m : ℕ) → m ≡ bit (not b) → m ≤ 1

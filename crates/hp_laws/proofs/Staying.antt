@@ -23,8 +23,10 @@ use Rattle.hp_laws.proofs.Standing.{HasSlot, HasLock, Aimed, IsBased, ClearedBel
 pub record Keeps (g : Geometry) (s n : State) (u : ℕ) (c : Option Call) : Type 0 where
   pub slot : (k : ℕ) → s.slots k ≡ Some u → n.slots k ≡ Some u
   pub page : (f i : ℕ) → HasSlot g s u f i → n.pages f i ≡ s.pages f i
-  pub mark : (f i : ℕ) → HasSlot g s u f i → (fills c ≡ Some (f, i)) ⊎ (locked_file c ≡ Some f) → s.reserved f i ≡ true → n.reserved f i ≡ true
-  pub entries : (f i : ℕ) → HasSlot g s u f i → (t v x : ℕ) → n.table t v ≡ Some x → find (n.areas t) v ≡ Some (f, i) → (y : ℕ) × (s.table t v ≡ Some y) × (find (s.areas t) v ≡ Some (f, i))
+  pub mark : (f i : ℕ) → HasSlot g s u f i → (fills c ≡ Some (f, i)) ⊎ (locked_file c ≡ Some f) → s.reserved f i ≡ true
+      → n.reserved f i ≡ true
+  pub entries : (f i : ℕ) → HasSlot g s u f i → (t v x : ℕ) → n.table t v ≡ Some x → find (n.areas t) v ≡ Some (f, i)
+      → (y : ℕ) × (s.table t v ≡ Some y) × (find (s.areas t) v ≡ Some (f, i))
   pub lock : (f : ℕ) → HasLock s u f → HasLock n u f × (n.size f ≡ s.size f) × ((j : ℕ) → s.reserved f j ≡ true → n.reserved f j ≡ true)
   pub areas : n.areas u ≡ s.areas u
   pub prepared : n.prepared u ≡ s.prepared u
@@ -34,13 +36,16 @@ none_still : (a b : Option ℕ) → ((x : ℕ) → b ≡ Some x → (y : ℕ) ×
 none_still a None f e = refl
 none_still a (Some x) f e = let o = f x refl in let d : ◌≡◌ {A = Option ℕ} None (Some o.0) = sym e ∙ o.1 in absurd (cc)
 
-aimed_after : (g : Geometry) (s n : State) (u : ℕ) (touch : Touch) {c : Option Call} → Keeps g s n u c → Aimed g s u touch → Aimed g n u touch
+aimed_after : (g : Geometry) (s n : State) (u : ℕ) (touch : Touch) {c : Option Call} → Keeps g s n u c → Aimed g s u touch
+    → Aimed g n u touch
 aimed_after g s n u touch k h = (ap (λ (m : List Mapping). find m touch.vpn) k.areas ∙ h.0, h.1, h.2, none_still (s.table u touch.vpn) (n.table u touch.vpn) (λ x d. k.table touch.vpn x d) h.3)
 
-based_after : (g : Geometry) (s n : State) (u base len : ℕ) {c : Option Call} → Keeps g s n u c → IsBased g s u base len → IsBased g n u base len
+based_after : (g : Geometry) (s n : State) (u base len : ℕ) {c : Option Call} → Keeps g s n u c → IsBased g s u base len
+    → IsBased g n u base len
 based_after g s n u base len k h = (k.prepared ∙ h.0, ap (λ (m : List Mapping). fits g.space m base len) k.areas ∙ h.1)
 
-cleared_after : (g : Geometry) (s n : State) (u m f i : ℕ) {c : Option Call} → Keeps g s n u c → HasSlot g s u f i → ClearedBelow s m f i → ClearedBelow n m f i
+cleared_after : (g : Geometry) (s n : State) (u m f i : ℕ) {c : Option Call} → Keeps g s n u c → HasSlot g s u f i
+    → ClearedBelow s m f i → ClearedBelow n m f i
 cleared_after g s n u m f i k held h t v x a b d e = let o = k.entries f i held t v x d e in h t v o.0 a b o.1 o.2
 
 pub stands_after : (g : Geometry) (s n : State) (u : ℕ) (c : Option Call) → Keeps g s n u c → Stands g s u c → Stands g n u c

@@ -17,7 +17,8 @@ use Rattle.hp_laws.proofs.Invariant.{AllWithin, Reached, Inv, goes, place_same, 
 use Rattle.hp_laws.proofs.Holding.{some_same}
 use Rattle.hp_laws.proofs.Passing.{same_holder}
 
-within_entered : (g : Geometry) (ms : List Mapping) (a : Mapping) → a.file < g.files → a.from + a.len ≤ g.limit → AllWithin g ms → AllWithin g (entered ms a)
+within_entered : (g : Geometry) (ms : List Mapping) (a : Mapping) → a.file < g.files → a.from + a.len ≤ g.limit → AllWithin g ms
+    → AllWithin g (entered ms a)
 within_entered g [] a l m h = (l, m, tt)
 within_entered g (b ∷ ms) a l m h = here (nat_lt a.base b.base) (within_entered g ms a l m h.2)
   where
@@ -34,14 +35,20 @@ within_without g (a ∷ ms) base h = here (within_without g ms base h.2) (a.base
     here rest false = (h.0, h.1, rest)
 
 -- what a mapping stands for lies within its file
-pub find_within : (g : Geometry) (ms : List Mapping) (v : ℕ) (k : ℕ × ℕ) → AllWithin g ms → find ms v ≡ Some k → (k.0 < g.files) × (k.1 < g.limit)
+pub find_within : (g : Geometry) (ms : List Mapping) (v : ℕ) (k : ℕ × ℕ) → AllWithin g ms → find ms v ≡ Some k
+    → (k.0 < g.files) × (k.1 < g.limit)
 find_within g [] v k h e = (let d : ◌≡◌ {A = Option (ℕ × ℕ)} None (Some k) = e in absurd (cc))
 find_within g (a ∷ ms) v k h e = here (covers a v) refl (find_within g ms v k h.2) e
   where
     low : covers a v ≡ true → a.from + (v - a.base) < g.limit
-    low d = let x : v < a.base + a.len = grind (arith, nat_tests) in let y : a.base ≤ v = grind (arith, nat_tests) in let z = h.1 in omega arith
+    low d =
+        let x : v < a.base + a.len = grind (arith, nat_tests) in
+        let y : a.base ≤ v = grind (arith, nat_tests) in
+        let z = h.1 in
+        omega arith
 
-    here : (b : Bool) → covers a v ≡ b → (find ms v ≡ Some k → (k.0 < g.files) × (k.1 < g.limit)) → (if b then Some (a.file, a.from + (v - a.base)) else find ms v) ≡ Some k → (k.0 < g.files) × (k.1 < g.limit)
+    here : (b : Bool) → covers a v ≡ b → (find ms v ≡ Some k → (k.0 < g.files) × (k.1 < g.limit))
+        → (if b then Some (a.file, a.from + (v - a.base)) else find ms v) ≡ Some k → (k.0 < g.files) × (k.1 < g.limit)
     here true d rest p = subst (λ (m : ℕ × ℕ). (m.0 < g.files) × (m.1 < g.limit)) (some_same p) (h.0, low d)
     here false d rest p = rest p
 
@@ -49,10 +56,12 @@ reached_more : (size more : ℕ → ℕ) (a : ℕ → ℕ → ℕ → Bool) (f i
 reached_more size more a f i l r = elim r [ inl d ↦ inl (omega arith) | inr d ↦ inr d ]
 
 -- a table entry is written
-pub enters_table : (g : Geometry) (s : State) (t : ℕ) (b c : Option Call) (v f i x : ℕ) → Inv g s → 1 ≤ t → t < g.tasks + 1 → s.calls t ≡ b → seen c ≡ seen b
+pub enters_table : (g : Geometry) (s : State) (t : ℕ) (b c : Option Call) (v f i x : ℕ) → Inv g s → 1 ≤ t → t < g.tasks + 1
+    → s.calls t ≡ b → seen c ≡ seen b
     → find (s.areas t) v ≡ Some (f, i) → s.pages f i ≡ Some x → i < s.size f → HasSlot g s t f i
     → IfSome (fills c) (λ k. Reached s.size (λ u. ahead (s.calls u)) k.0 k.1)
-    → Stands g (record s { table = put2 s.table t v (Some x) }) t c → Inv g (to (record s { table = put2 s.table t v (Some x) }) t c)
+    → Stands g (record s { pool = record s.pool { table = put2 s.table t v (Some x) } }) t c
+    → Inv g (to (record s { pool = record s.pool { table = put2 s.table t v (Some x) } }) t c)
 enters_table g s t b c v f i x h one l e same there page low held fill own = goes g s n t b c h l e (ap (λ p. p.4) same) (ap (λ p. p.5) same) (record {
   geometry = h.geometry;
   ranges = h.ranges;
@@ -102,7 +111,7 @@ enters_table g s t b c v f i x h one l e same there page low held fill own = goe
 })
   where
     n : State
-    n = record s { table = put2 s.table t v (Some x) }
+    n = record s { pool = record s.pool { table = put2 s.table t v (Some x) } }
 
     low_there : (k j : ℕ) → ◌≡◌ {A = Option (ℕ × ℕ)} (Some (k, j)) (Some (f, i)) → j < s.size k
     low_there k j d = subst (λ (m : ℕ × ℕ). m.1 < s.size m.0) (sym (some_same d)) low
@@ -113,8 +122,9 @@ enters_table g s t b c v f i x h one l e same there page low held fill own = goe
 -- room is prepared for a mapping
 pub prepares : (g : Geometry) (s : State) (t : ℕ) (b c : Option Call) → Inv g s → t < g.tasks + 1 → s.calls t ≡ b → seen c ≡ seen b
     → IfSome (fills c) (λ k. Reached s.size (λ u. ahead (s.calls u)) k.0 k.1)
-    → Stands g (record s { prepared = put s.prepared t true }) t c → Inv g (to (record s { prepared = put s.prepared t true }) t c)
-prepares g s t b c h l e same fill own = goes g s (record s { prepared = put s.prepared t true }) t b c h l e (ap (λ p. p.4) same) (ap (λ p. p.5) same) (record {
+    → Stands g (record s { pool = record s.pool { prepared = put s.prepared t true } }) t c
+    → Inv g (to (record s { pool = record s.pool { prepared = put s.prepared t true } }) t c)
+prepares g s t b c h l e same fill own = goes g s (record s { pool = record s.pool { prepared = put s.prepared t true } }) t b c h l e (ap (λ p. p.4) same) (ap (λ p. p.5) same) (record {
   geometry = h.geometry;
   entries = h.entries;
   ranges = h.ranges;
@@ -130,7 +140,7 @@ prepares g s t b c h l e same fill own = goes g s (record s { prepared = put s.p
   count = (let y : less c ≡ less b = ap (λ p. p.0) same in let z : more c ≡ more b = ap (λ p. p.1) same in omega arith);
   place = place_same g s t b c h e (ap (λ p. p.2) same);
   changes = same_opens s.pending b c (ap (λ p. p.3) same);
-  others = λ u d. stands_after g s (record s { prepared = put s.prepared t true }) u (s.calls u) (record { slot = λ k a. a; page = λ k j a. refl; mark = λ k j a w r. r; entries = λ k j a w v y p q. (y, p, q); lock = λ k a. (a, refl, λ j r. r); areas = refl; prepared = put_other s.prepared t true u d; table = λ v y p. (y, p) }) (h.stands u);
+  others = λ u d. stands_after g s (record s { pool = record s.pool { prepared = put s.prepared t true } }) u (s.calls u) (record { slot = λ k a. a; page = λ k j a. refl; mark = λ k j a w r. r; entries = λ k j a w v y p q. (y, p, q); lock = λ k a. (a, refl, λ j r. r); areas = refl; prepared = put_other s.prepared t true u d; table = λ v y p. (y, p) }) (h.stands u);
   own = own;
 })
 
@@ -151,10 +161,12 @@ low_size : (size : ℕ → ℕ) (f new limit k : ℕ) → new ≤ limit → size
 low_size size f new limit k a b = grind (arith, put_tells)
 
 -- a file grows
-pub extends : (g : Geometry) (s : State) (t : ℕ) (b c : Option Call) (f new : ℕ) → Inv g s → t < g.tasks + 1 → s.calls t ≡ b → seen c ≡ seen b
+pub extends : (g : Geometry) (s : State) (t : ℕ) (b c : Option Call) (f new : ℕ) → Inv g s → t < g.tasks + 1 → s.calls t ≡ b
+    → seen c ≡ seen b
     → HasLock s t f → s.size f ≤ new → new ≤ g.limit → ((u j : ℕ) → passed (s.calls u) f j ≡ true → ⊥)
     → IfSome (fills c) (λ k. Reached s.size (λ u. ahead (s.calls u)) k.0 k.1)
-    → Stands g (record s { size = put s.size f new }) t c → Inv g (to (record s { size = put s.size f new }) t c)
+    → Stands g (record s { pool = record s.pool { size = put s.size f new } }) t c
+    → Inv g (to (record s { pool = record s.pool { size = put s.size f new } }) t c)
 extends g s t b c f new h l e same held grows low nobody fill own = goes g s n t b c h l e (ap (λ p. p.4) same) (ap (λ p. p.5) same) (record {
   geometry = h.geometry;
   entries = h.entries;
@@ -186,18 +198,21 @@ extends g s t b c f new h l e same held grows low nobody fill own = goes g s n t
 })
   where
     n : State
-    n = record s { size = put s.size f new }
+    n = record s { pool = record s.pool { size = put s.size f new } }
 
 -- the state where a mapping is entered and its file has grown
 abbrev pub entering : State → (task : ℕ) → Mapping → State
 entering s t a = record s {
-  areas = put s.areas t (entered (s.areas t) a);
-  prepared = put s.prepared t false;
-  size = put s.size a.file (max (s.size a.file) (a.from + a.len));
+  pool = record s.pool {
+    areas = put s.areas t (entered (s.areas t) a);
+    prepared = put s.prepared t false;
+    size = put s.size a.file (max (s.size a.file) (a.from + a.len));
+  };
 }
 
 -- a mapping is entered, and its file grows
-pub enters_area : (g : Geometry) (s : State) (t : ℕ) (b c : Option Call) (a : Mapping) → Inv g s → t < g.tasks + 1 → s.calls t ≡ b → seen c ≡ seen b
+pub enters_area : (g : Geometry) (s : State) (t : ℕ) (b c : Option Call) (a : Mapping) → Inv g s → t < g.tasks + 1 → s.calls t ≡ b
+    → seen c ≡ seen b
     → a.file < g.files → 1 ≤ a.len → a.from + a.len ≤ g.limit → fits g.space (s.areas t) a.base a.len ≡ true → HasLock s t a.file
     → ((u j : ℕ) → passed (s.calls u) a.file j ≡ true → ⊥)
     → IfSome (fills c) (λ k. Reached s.size (λ u. ahead (s.calls u)) k.0 k.1)
@@ -264,7 +279,8 @@ enters_area g s t b c a h l e same in_files some in_limit clear held nobody fill
     larger f = grown_size s.size a.file (max (s.size a.file) (a.from + a.len)) f (omega arith)
 
 -- some entries go
-pub entries_go : (g : Geometry) (s : State) (table : ℕ → ℕ → Option ℕ) → Inv g s → ((w v x : ℕ) → table w v ≡ Some x → s.table w v ≡ Some x) → Inv g (record s { table = table })
+pub entries_go : (g : Geometry) (s : State) (table : ℕ → ℕ → Option ℕ) → Inv g s
+    → ((w v x : ℕ) → table w v ≡ Some x → s.table w v ≡ Some x) → Inv g (record s { pool = record s.pool { table = table } })
 entries_go g s table h kept = record {
   geometry = h.geometry;
   count = h.count;
@@ -280,7 +296,7 @@ entries_go g s table h kept = record {
   holders = h.holders;
   entries = record { agree = λ w v x e. h.entries.agree w v x (kept w v x e); owners = λ w v x e. h.entries.owners w v x (kept w v x e) };
   sweep = record { below = λ w v x j m e. h.sweep.below w v x j m (kept w v x e); past = h.sweep.past; gone = h.sweep.gone };
-  stands = λ u. stands_after g s (record s { table = table }) u (s.calls u) (record { slot = λ k a. a; page = λ k j a. refl; mark = λ k j a w r. r; entries = λ k j a w v x p q. (x, kept w v x p, q); lock = λ k a. (a, refl, λ j r. r); areas = refl; prepared = refl; table = λ v x p. (x, kept u v x p) }) (h.stands u);
+  stands = λ u. stands_after g s (record s { pool = record s.pool { table = table } }) u (s.calls u) (record { slot = λ k a. a; page = λ k j a. refl; mark = λ k j a w r. r; entries = λ k j a w v x p q. (x, kept w v x p, q); lock = λ k a. (a, refl, λ j r. r); areas = refl; prepared = refl; table = λ v x p. (x, kept u v x p) }) (h.stands u);
 }
 
 cond_kept : (b : Bool) (o : Option ℕ) (x : ℕ) → (if b then None else o) ≡ Some x → (b ≡ false) × (o ≡ Some x)
@@ -288,22 +304,26 @@ cond_kept true o x e = (let d : ◌≡◌ {A = Option ℕ} None (Some x) = e in 
 cond_kept false o x e = (refl, e)
 
 -- an entry that stands after one task's entries were filtered stood before
-filtered : (table : ℕ → ℕ → Option ℕ) (k : ℕ) (out : ℕ → Bool) (row : ℕ → Option ℕ) (w v x : ℕ) → ((z : ℕ) → row z ≡ (if out z then None else table k z)) → put table k row w v ≡ Some x
+filtered : (table : ℕ → ℕ → Option ℕ) (k : ℕ) (out : ℕ → Bool) (row : ℕ → Option ℕ) (w v x : ℕ)
+    → ((z : ℕ) → row z ≡ (if out z then None else table k z)) → put table k row w v ≡ Some x
     → (table w v ≡ Some x) × (w ≡ k → out v ≡ false)
 filtered table k out row w v x each e = elim (same_or_other w k) [
   | inl d ↦ (let o = cond_kept (out v) (table k v) x (sym (each v) ∙ (sym (ap (λ (m : ℕ → Option ℕ). m v) (ap (put table k row) d ∙ put_same table k row)) ∙ e)) in (ap (λ (m : ℕ). table m v) d ∙ o.1, λ _. o.0))
   | inr d ↦ (sym (ap (λ (m : ℕ → Option ℕ). m v) (put_other table k row w d)) ∙ e, λ q. absurd (d q))
 ]
 
-index_each : (ms : List Mapping) (row : ℕ → Option ℕ) (f i z : ℕ) → without_index ms row f i z ≡ (if is_there (find ms z) f i then None else row z)
+index_each : (ms : List Mapping) (row : ℕ → Option ℕ) (f i z : ℕ)
+    → without_index ms row f i z ≡ (if is_there (find ms z) f i then None else row z)
 unfolding without_index
 index_each ms row f i z = refl
 
-mapping_each : (ms : List Mapping) (row : ℕ → Option ℕ) (base z : ℕ) → without_mapping ms row base z ≡ (if in_mapping ms base z then None else row z)
+mapping_each : (ms : List Mapping) (row : ℕ → Option ℕ) (base z : ℕ)
+    → without_mapping ms row base z ≡ (if in_mapping ms base z then None else row z)
 unfolding without_mapping
 mapping_each ms row base z = refl
 
-pub clear_kept : (s : State) (k f i w v x : ℕ) → put s.table k (without_index (s.areas k) (s.table k) f i) w v ≡ Some x → (s.table w v ≡ Some x) × (w ≡ k → is_there (find (s.areas k) v) f i ≡ false)
+pub clear_kept : (s : State) (k f i w v x : ℕ) → put s.table k (without_index (s.areas k) (s.table k) f i) w v ≡ Some x
+    → (s.table w v ≡ Some x) × (w ≡ k → is_there (find (s.areas k) v) f i ≡ false)
 clear_kept s k f i w v x e = filtered s.table k (λ z. is_there (find (s.areas k) z) f i) (without_index (s.areas k) (s.table k) f i) w v x (index_each (s.areas k) (s.table k) f i) e
 
 there_same : (f i : ℕ) (o : Option (ℕ × ℕ)) → o ≡ Some (f, i) → is_there o f i ≡ true
@@ -313,28 +333,33 @@ there_same f i o e = ap (λ (q : Option (ℕ × ℕ)). is_there q f i) e ∙ bot
     both f i = grind (arith, nat_tests)
 
 -- one task's entries of an index are cleared
-pub clears : (g : Geometry) (s : State) (k f i : ℕ) → Inv g s → Inv g (record s { table = put s.table k (without_index (s.areas k) (s.table k) f i) })
+pub clears : (g : Geometry) (s : State) (k f i : ℕ) → Inv g s
+    → Inv g (record s { pool = record s.pool { table = put s.table k (without_index (s.areas k) (s.table k) f i) } })
 clears g s k f i h = entries_go g s (put s.table k (without_index (s.areas k) (s.table k) f i)) h (λ w v x e. (clear_kept s k f i w v x e).0)
 
 -- after task k's entries are cleared, those of all tasks up to k are
-pub cleared_next : (s : State) (k f i : ℕ) → ClearedBelow s k f i → ClearedBelow (record s { table = put s.table k (without_index (s.areas k) (s.table k) f i) }) (k + 1) f i
+pub cleared_next : (s : State) (k f i : ℕ) → ClearedBelow s k f i
+    → ClearedBelow (record s { pool = record s.pool { table = put s.table k (without_index (s.areas k) (s.table k) f i) } }) (k + 1) f i
 cleared_next s k f i h w v x z l p q = elim (same_or_other w k) [
   | inl d ↦ (let a : is_there (find (s.areas k) v) f i ≡ false = (clear_kept s k f i w v x p).1 d in let b : is_there (find (s.areas k) v) f i ≡ true = there_same f i _ (ap (λ (m : ℕ). find (s.areas m) v) (sym d) ∙ q) in absurd (cc))
   | inr d ↦ h w v x z (omega arith) (clear_kept s k f i w v x p).0 q
 ]
 
 -- a mapping's entries are cleared
-pub emptied : (s : State) (t base w v x : ℕ) → put s.table t (without_mapping (s.areas t) (s.table t) base) w v ≡ Some x → (s.table w v ≡ Some x) × (w ≡ t → in_mapping (s.areas t) base v ≡ false)
+pub emptied : (s : State) (t base w v x : ℕ) → put s.table t (without_mapping (s.areas t) (s.table t) base) w v ≡ Some x
+    → (s.table w v ≡ Some x) × (w ≡ t → in_mapping (s.areas t) base v ≡ false)
 emptied s t base w v x e = filtered s.table t (λ z. in_mapping (s.areas t) base z) (without_mapping (s.areas t) (s.table t) base) w v x (mapping_each (s.areas t) (s.table t) base) e
 
-pub empties : (g : Geometry) (s : State) (t base : ℕ) → Inv g s → Inv g (record s { table = put s.table t (without_mapping (s.areas t) (s.table t) base) })
+pub empties : (g : Geometry) (s : State) (t base : ℕ) → Inv g s
+    → Inv g (record s { pool = record s.pool { table = put s.table t (without_mapping (s.areas t) (s.table t) base) } })
 empties g s t base h = entries_go g s (put s.table t (without_mapping (s.areas t) (s.table t) base)) h (λ w v x e. (emptied s t base w v x e).0)
 
 -- a mapping without entries goes
 pub drops : (g : Geometry) (s : State) (t : ℕ) (b c : Option Call) (base : ℕ) → Inv g s → t < g.tasks + 1 → s.calls t ≡ b → seen c ≡ seen b
     → ((v x : ℕ) → s.table t v ≡ Some x → in_mapping (s.areas t) base v ≡ false)
     → IfSome (fills c) (λ k. Reached s.size (λ u. ahead (s.calls u)) k.0 k.1)
-    → Stands g (record s { areas = put s.areas t (without (s.areas t) base) }) t c → Inv g (to (record s { areas = put s.areas t (without (s.areas t) base) }) t c)
+    → Stands g (record s { pool = record s.pool { areas = put s.areas t (without (s.areas t) base) } }) t c
+    → Inv g (to (record s { pool = record s.pool { areas = put s.areas t (without (s.areas t) base) } }) t c)
 drops g s t b c base h l e same clear fill own = goes g s n t b c h l e (ap (λ p. p.4) same) (ap (λ p. p.5) same) (record {
   geometry = h.geometry;
   inside = h.inside;
@@ -371,7 +396,7 @@ drops g s t b c base h l e same clear fill own = goes g s n t b c h l e (ap (λ 
 })
   where
     n : State
-    n = record s { areas = put s.areas t (without (s.areas t) base) }
+    n = record s { pool = record s.pool { areas = put s.areas t (without (s.areas t) base) } }
 
     same_find : (w v x : ℕ) → s.table w v ≡ Some x → find (put s.areas t (without (s.areas t) base) w) v ≡ find (s.areas w) v
     same_find w v x a = elim (same_or_other w t) [

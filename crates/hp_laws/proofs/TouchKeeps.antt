@@ -42,7 +42,9 @@ no_page (Some x) e = (let q : true ≡ false = e in cc)
 below_size : (i size : ℕ) → nat_le size i ≡ false → i < size
 below_size i size e = grind (arith, nat_tests)
 
-touch_look : (s : State) (t : ℕ) (p : Look) (turn : Turn TouchPhase) (new : Pool) → Inv s.geometry s → t < s.geometry.tasks + 1 → s.calls t ≡ Some (call.Touch (at.Look p)) → TouchLookRow (pool_of s) t p turn new → Inv s.geometry (after call.Touch s t turn new)
+touch_look : (s : State) (t : ℕ) (p : Look) (turn : Turn TouchPhase) (new : Pool) → Inv s.geometry s → t < s.geometry.tasks + 1
+    → s.calls t ≡ Some (call.Touch (at.Look p)) → TouchLookRow (pool_of s) t p turn new
+    → Inv s.geometry (after call.Touch s t turn new)
 touch_look s t p turn new h l e row =
     by_option (find (s.areas t) p.vpn) row
     (λ none r. so call.Touch s t _ turn _ new r (stays s.geometry s t _ None h l e refl tt (idle s.geometry s t)))
@@ -50,16 +52,20 @@ touch_look s t p turn new h l e row =
     (λ none r. let k = find_within s.geometry (s.areas t) p.vpn place (h.ranges t) there in
     so call.Touch s t _ turn _ new r (stays s.geometry s t _ (Some (call.Touch (at.Want (record { touch = record { vpn = p.vpn; access = p.access; file = place.0; index = place.1 } })))) h l e refl tt
     (record { slot = tt; lock = tt; facts = record { aim = (there, k.0, k.1, none) } })))
-    (λ x entry r. so call.Touch s t _ turn _ new r.2 (stays s.geometry (record s { frame = frame_after p.access s.frame x }) t _ None (touches_word s.geometry s p.access x r.0 h r.1) l e refl tt (idle s.geometry (record s { frame = frame_after p.access s.frame x }) t))))
+    (λ x entry r. so call.Touch s t _ turn _ new r.2 (stays s.geometry (record s { pool = record s.pool { frame = frame_after p.access s.frame x } }) t _ None (touches_word s.geometry s p.access x r.0 h r.1) l e refl tt (idle s.geometry (record s { pool = record s.pool { frame = frame_after p.access s.frame x } }) t))))
 
-touch_want : (s : State) (t : ℕ) (killed : Bool) (p : Want) (turn : Turn TouchPhase) (new : Pool) → Inv s.geometry s → t < s.geometry.tasks + 1 → s.calls t ≡ Some (call.Touch (at.Want p)) → TouchWantRow (pool_of s) t killed p turn new → Inv s.geometry (after call.Touch s t turn new)
+touch_want : (s : State) (t : ℕ) (killed : Bool) (p : Want) (turn : Turn TouchPhase) (new : Pool) → Inv s.geometry s
+    → t < s.geometry.tasks + 1 → s.calls t ≡ Some (call.Touch (at.Want p)) → TouchWantRow (pool_of s) t killed p turn new
+    → Inv s.geometry (after call.Touch s t turn new)
 touch_want s t killed p turn new h l e row =
     by_test killed row
     (λ is r. so call.Touch s t _ turn _ new r (stays s.geometry s t _ None h l e refl tt (idle s.geometry s t)))
     (λ alive r. want_row call.Touch s t p.touch.file p.touch.index (at.Want p) (at.Locked (record { touch = p.touch })) turn new h l e r refl refl refl refl refl
     (record { slot = put_same s.slots (slot_of s.geometry p.touch.file p.touch.index) (Some t); lock = tt; facts = (stands_at s t _ h e).facts }))
 
-touch_locked : (s : State) (t : ℕ) (p : Locked) (turn : Turn TouchPhase) (new : Pool) → Inv s.geometry s → t < s.geometry.tasks + 1 → s.calls t ≡ Some (call.Touch (at.Locked p)) → TouchLockedRow (pool_of s) p turn new → Inv s.geometry (after call.Touch s t turn new)
+touch_locked : (s : State) (t : ℕ) (p : Locked) (turn : Turn TouchPhase) (new : Pool) → Inv s.geometry s
+    → t < s.geometry.tasks + 1 → s.calls t ≡ Some (call.Touch (at.Locked p)) → TouchLockedRow (pool_of s) p turn new
+    → Inv s.geometry (after call.Touch s t turn new)
 touch_locked s t p turn new h l e row =
     let y = stands_at s t _ h e in
     let f = p.touch.file in
@@ -70,7 +76,9 @@ touch_locked s t p turn new h l e row =
     (λ page r. so call.Touch s t _ turn _ new r (stays s.geometry s t _ (Some (call.Touch (at.Found (record { touch = p.touch })))) h l e refl tt (record { slot = y.slot; lock = tt; facts = record { aim = y.facts.aim; cached = some_page (s.pages f i) page } })))
     (λ none r. so call.Touch s t _ turn _ new r (stays s.geometry s t _ (Some (call.Touch (at.Missing (record { touch = p.touch })))) h l e refl (inl (below_size i (s.size f) below)) (record { slot = y.slot; lock = tt; facts = record { aim = y.facts.aim; bare = no_page (s.pages f i) none } }))))
 
-touch_missing : (s : State) (t : ℕ) (grant : Bool) (p : Missing) (turn : Turn TouchPhase) (new : Pool) → Inv s.geometry s → t < s.geometry.tasks + 1 → s.calls t ≡ Some (call.Touch (at.Missing p)) → TouchMissingRow (pool_of s) grant p turn new → Inv s.geometry (after call.Touch s t turn new)
+touch_missing : (s : State) (t : ℕ) (grant : Bool) (p : Missing) (turn : Turn TouchPhase) (new : Pool) → Inv s.geometry s
+    → t < s.geometry.tasks + 1 → s.calls t ≡ Some (call.Touch (at.Missing p)) → TouchMissingRow (pool_of s) grant p turn new
+    → Inv s.geometry (after call.Touch s t turn new)
 touch_missing s t grant p turn new h l e row =
     let y = stands_at s t _ h e in
     let o = one_change (s.reserved p.touch.file) p.touch.index in
@@ -84,7 +92,9 @@ touch_missing s t grant p turn new h l e row =
       own = record { slot = y.slot; lock = tt; facts = record { aim = y.facts.aim; bare = y.facts.bare; one = o.0; marked = o.1 } };
     })
 
-touch_changed : (s : State) (t : ℕ) (killed : Bool) (p : Changed) (turn : Turn TouchPhase) (new : Pool) → Inv s.geometry s → t < s.geometry.tasks + 1 → s.calls t ≡ Some (call.Touch (at.Changed p)) → TouchChangedRow (pool_of s) killed p turn new → Inv s.geometry (after call.Touch s t turn new)
+touch_changed : (s : State) (t : ℕ) (killed : Bool) (p : Changed) (turn : Turn TouchPhase) (new : Pool) → Inv s.geometry s
+    → t < s.geometry.tasks + 1 → s.calls t ≡ Some (call.Touch (at.Changed p)) → TouchChangedRow (pool_of s) killed p turn new
+    → Inv s.geometry (after call.Touch s t turn new)
 touch_changed s t killed p turn new h l e row =
     let y = stands_at s t _ h e in
     let aborts : (b : Answer) → Inv s.geometry (Invariant.to s t (Some (call.Touch (at.Abort (record { touch = p.touch; pending = p.pending; answer = b })))))
@@ -102,7 +112,9 @@ touch_changed s t killed p turn new h l e row =
       own = λ x. record { slot = y.slot; lock = tt; facts = y.facts };
     }))
 
-touch_taken : (s : State) (t : ℕ) (p : Taken) (turn : Turn TouchPhase) (new : Pool) → Inv s.geometry s → t < s.geometry.tasks + 1 → s.calls t ≡ Some (call.Touch (at.Taken p)) → TouchTakenRow (pool_of s) p turn new → Inv s.geometry (after call.Touch s t turn new)
+touch_taken : (s : State) (t : ℕ) (p : Taken) (turn : Turn TouchPhase) (new : Pool) → Inv s.geometry s → t < s.geometry.tasks + 1
+    → s.calls t ≡ Some (call.Touch (at.Taken p)) → TouchTakenRow (pool_of s) p turn new
+    → Inv s.geometry (after call.Touch s t turn new)
 touch_taken s t p turn new h l e row =
     let y = stands_at s t _ h e in
     let marked = own_reserved s p.touch.file p.touch.index p.pending y.facts.one in
@@ -129,7 +141,9 @@ touch_taken s t p turn new h l e row =
       own_next = record { slot = y.slot; lock = tt; facts = record { aim = y.facts.aim; bare = y.facts.bare; marked = marked } };
     })
 
-touch_committed : (s : State) (t : ℕ) (grant : Bool) (p : Committed) (turn : Turn TouchPhase) (new : Pool) → Inv s.geometry s → t < s.geometry.tasks + 1 → s.calls t ≡ Some (call.Touch (at.Committed p)) → TouchCommittedRow (pool_of s) grant p turn new → Inv s.geometry (after call.Touch s t turn new)
+touch_committed : (s : State) (t : ℕ) (grant : Bool) (p : Committed) (turn : Turn TouchPhase) (new : Pool) → Inv s.geometry s
+    → t < s.geometry.tasks + 1 → s.calls t ≡ Some (call.Touch (at.Committed p)) → TouchCommittedRow (pool_of s) grant p turn new
+    → Inv s.geometry (after call.Touch s t turn new)
 touch_committed s t grant p turn new h l e row =
     let y = stands_at s t _ h e in
     let f = p.touch.file in
@@ -143,7 +157,9 @@ touch_committed s t grant p turn new h l e row =
     (record { slot = y.slot; lock = tt; facts = record { aim = y.facts.aim; cached = not_none _ p.held (put2_same s.pages f i (Some p.held)) } })))
     (λ denied r. so call.Touch s t _ turn _ new r (restores answer.NoMemory)))
 
-touch_found : (s : State) (t : ℕ) (grant : Bool) (p : Found) (turn : Turn TouchPhase) (new : Pool) → Inv s.geometry s → 1 ≤ t → t < s.geometry.tasks + 1 → s.calls t ≡ Some (call.Touch (at.Found p)) → TouchFoundRow (pool_of s) t grant p turn new → Inv s.geometry (after call.Touch s t turn new)
+touch_found : (s : State) (t : ℕ) (grant : Bool) (p : Found) (turn : Turn TouchPhase) (new : Pool) → Inv s.geometry s → 1 ≤ t
+    → t < s.geometry.tasks + 1 → s.calls t ≡ Some (call.Touch (at.Found p)) → TouchFoundRow (pool_of s) t grant p turn new
+    → Inv s.geometry (after call.Touch s t turn new)
 touch_found s t grant p turn new h one l e row =
     let y = stands_at s t _ h e in
     let leaves : (b : Answer) → Inv s.geometry (Invariant.to s t (Some (call.Touch (at.Leave (record { touch = p.touch; answer = b })))))
@@ -151,11 +167,13 @@ touch_found s t grant p turn new h one l e row =
     by_test (nat_le (s.size p.touch.file) p.touch.index) row
     (λ beyond r. so call.Touch s t _ turn _ new r (leaves answer.Beyond))
     (λ below r. by_test grant r
-    (λ granted r. so call.Touch s t _ turn _ new r.4 (enters_table s.geometry (record s { frame = frame_after p.touch.access s.frame r.0 }) t _ (Some (call.Touch (at.Leave (record { touch = p.touch; answer = answer_of p.touch.access r.1 })))) p.touch.vpn p.touch.file p.touch.index r.0 (touches_word s.geometry s p.touch.access r.0 r.1 h r.3) one l e refl
+    (λ granted r. so call.Touch s t _ turn _ new r.4 (enters_table s.geometry (record s { pool = record s.pool { frame = frame_after p.touch.access s.frame r.0 } }) t _ (Some (call.Touch (at.Leave (record { touch = p.touch; answer = answer_of p.touch.access r.1 })))) p.touch.vpn p.touch.file p.touch.index r.0 (touches_word s.geometry s p.touch.access r.0 r.1 h r.3) one l e refl
     y.facts.aim.0 r.2 (below_size p.touch.index (s.size p.touch.file) below) y.slot tt (record { slot = y.slot; lock = tt; facts = tt })))
     (λ denied r. so call.Touch s t _ turn _ new r (leaves answer.NoMemory)))
 
-pub touch_row : (s : State) (t : ℕ) (killed grant : Bool) (phase : TouchPhase) (turn : Turn TouchPhase) (new : Pool) → Inv s.geometry s → 1 ≤ t → t < s.geometry.tasks + 1 → s.calls t ≡ Some (call.Touch phase) → TouchRow (pool_of s) t killed grant phase turn new → Inv s.geometry (after call.Touch s t turn new)
+pub touch_row : (s : State) (t : ℕ) (killed grant : Bool) (phase : TouchPhase) (turn : Turn TouchPhase) (new : Pool)
+    → Inv s.geometry s → 1 ≤ t → t < s.geometry.tasks + 1 → s.calls t ≡ Some (call.Touch phase)
+    → TouchRow (pool_of s) t killed grant phase turn new → Inv s.geometry (after call.Touch s t turn new)
 touch_row s t killed grant (at.Look p) turn new h one l e row = touch_look s t p turn new h l e row
 touch_row s t killed grant (at.Want p) turn new h one l e row = touch_want s t killed p turn new h l e row
 touch_row s t killed grant (at.Locked p) turn new h one l e row = touch_locked s t p turn new h l e row

@@ -21,7 +21,7 @@ use Rattle.hp_machine.specs.declared.truncate.TruncatePhase.TheVariants as at
 use Rattle.hp_machine.specs.declared.call.Call.TheVariants as call
 use Rattle.hp_machine.specs.declared.call.Turn.{Turn}
 use Rattle.hp_laws.specs.Sweep.{passed}
-use Rattle.hp_laws.proofs.Invariant.{Inv, stays}
+use Rattle.hp_laws.proofs.Invariant.{Inv, page_within, stays}
 use Rattle.hp_laws.proofs.Holding.{leaves_lock}
 use Rattle.hp_laws.proofs.Effects.{rebalances, gives}
 use Rattle.hp_laws.proofs.Tables.{clears, cleared_next}
@@ -55,7 +55,8 @@ is_up_to : (f k i j : ℕ) → ((f == k) && nat_le j i) ≡ true → (k ≡ f) �
 is_up_to f k i j e = (grind (arith, nat_tests), grind (arith, nat_tests))
 
 -- what lies ahead of an index and isn't it
-ahead_next : (f k i j new next : ℕ) → i ≡ next + 1 → ((f == k) && nat_le j i) ≡ true → (k ≡ f) × ((j ≡ i) ⊎ ((j < new) ⊎ (((f == f) && nat_le j next) ≡ true)))
+ahead_next : (f k i j new next : ℕ) → i ≡ next + 1 → ((f == k) && nat_le j i) ≡ true
+    → (k ≡ f) × ((j ≡ i) ⊎ ((j < new) ⊎ (((f == f) && nat_le j next) ≡ true)))
 ahead_next f k i j new next d e =
     let o = is_up_to f k i j e in
     let z : j ≤ i = o.1 in
@@ -67,13 +68,15 @@ ahead_tail f k i j new d e =
     let z : j ≤ i = o.1 in
     (o.0, elim (eqb_tells j i) [ inl q ↦ inl q.1 | inr q ↦ (let y : j ≢ i = q.1 in inr (inl (omega arith))) ])
 
-passed_next : (f k i j new next : ℕ) → i ≡ next + 1 → new ≤ next → ((f == k) && nat_lt next j) ≡ true → (((f == k) && nat_lt i j) ≡ true) ⊎ ((k ≡ f) × (j ≡ i) × (new ≤ j))
+passed_next : (f k i j new next : ℕ) → i ≡ next + 1 → new ≤ next → ((f == k) && nat_lt next j) ≡ true
+    → (((f == k) && nat_lt i j) ≡ true) ⊎ ((k ≡ f) × (j ≡ i) × (new ≤ j))
 passed_next f k i j new next d l e =
     let o = is_above f k next j e in
     let z : next + 1 ≤ j = o.1 in
     elim (eqb_tells j i) [ inl q ↦ (let y : j ≡ i = q.1 in inr (o.0, y, omega arith)) | inr q ↦ (let y : j ≢ i = q.1 in inl (above f k i j o.0 (omega arith))) ]
 
-passed_tail : (f k i j new : ℕ) → i ≤ new → ((f == k) && nat_le new j) ≡ true → (((f == k) && nat_lt i j) ≡ true) ⊎ ((k ≡ f) × (j ≡ i) × (new ≤ j))
+passed_tail : (f k i j new : ℕ) → i ≤ new → ((f == k) && nat_le new j) ≡ true
+    → (((f == k) && nat_lt i j) ≡ true) ⊎ ((k ≡ f) × (j ≡ i) × (new ≤ j))
 passed_tail f k i j new l e =
     let o = is_up_to f k j new e in
     let z : new ≤ j = o.1 in
@@ -85,9 +88,11 @@ end_low s f end h is_end = is_end.1 s.geometry.limit (λ i l. none i l (s.pages 
   where
     none : (i : ℕ) → s.geometry.limit ≤ i → (o : Option ℕ) → s.pages f i ≡ o → s.pages f i ≡ None
     none i l None e = e
-    none i l (Some x) e = (let z = h.inside.low f i x e in absurd (omega arith))
+    none i l (Some x) e = (let z = (page_within f i x h.inside e).1 in absurd (omega arith))
 
-truncate_size : (s : State) (t : ℕ) (p : Size) (turn : Turn TruncatePhase) (new : Pool) → Inv s.geometry s → t < s.geometry.tasks + 1 → s.calls t ≡ Some (call.Truncate (at.Size p)) → TruncateSizeRow (pool_of s) p turn new → Inv s.geometry (after call.Truncate s t turn new)
+truncate_size : (s : State) (t : ℕ) (p : Size) (turn : Turn TruncatePhase) (new : Pool) → Inv s.geometry s
+    → t < s.geometry.tasks + 1 → s.calls t ≡ Some (call.Truncate (at.Size p)) → TruncateSizeRow (pool_of s) p turn new
+    → Inv s.geometry (after call.Truncate s t turn new)
 truncate_size s t p turn new h l e (end, is_end, row) =
     let y = stands_at s t _ h e in
     let f = p.truncation.file in
@@ -105,7 +110,9 @@ truncate_size s t p turn new h l e (end, is_end, row) =
     (λ k j d. never d) (λ j d. inl (omega arith)) (λ k j d. let o = is_up_to f k j to d in let z : to ≤ j = o.1 in (o.0, omega arith, z)) refl (λ k j d. never d)
     (record { slot = tt; lock = y.lock; facts = record { file = y.facts.file; new = y.facts.new; sized = put_same s.size f to; lost = omega arith } })))
 
-truncate_locked : (s : State) (t : ℕ) (p : Locked) (turn : Turn TruncatePhase) (new : Pool) → Inv s.geometry s → 1 ≤ t → t < s.geometry.tasks + 1 → s.calls t ≡ Some (call.Truncate (at.Locked p)) → TruncateLockedRow (pool_of s) p turn new → Inv s.geometry (after call.Truncate s t turn new)
+truncate_locked : (s : State) (t : ℕ) (p : Locked) (turn : Turn TruncatePhase) (new : Pool) → Inv s.geometry s → 1 ≤ t
+    → t < s.geometry.tasks + 1 → s.calls t ≡ Some (call.Truncate (at.Locked p)) → TruncateLockedRow (pool_of s) p turn new
+    → Inv s.geometry (after call.Truncate s t turn new)
 truncate_locked s t p turn new h one l e row =
     let y = stands_at s t _ h e in
     let f = p.truncation.file in
@@ -119,29 +126,35 @@ truncate_locked s t p turn new h one l e row =
     so call.Truncate s t _ turn _ new r (stays s.geometry s t _ (Some (call.Truncate (at.Unslot (record { truncation = p.truncation; index = i; evicted = p.evicted })))) h l e refl tt
     (record { slot = y.slot; lock = y.lock; facts = record { file = y.facts.file; new = y.facts.new; index = y.facts.index; sized = y.facts.sized; lost = omega arith; bare = no_page _ none } })))
 
-truncate_unmap : (s : State) (t : ℕ) (p : Unmap) (turn : Turn TruncatePhase) (new : Pool) → Inv s.geometry s → t < s.geometry.tasks + 1 → s.calls t ≡ Some (call.Truncate (at.Unmap p)) → TruncateUnmapRow (pool_of s) p turn new → Inv s.geometry (after call.Truncate s t turn new)
+truncate_unmap : (s : State) (t : ℕ) (p : Unmap) (turn : Turn TruncatePhase) (new : Pool) → Inv s.geometry s
+    → t < s.geometry.tasks + 1 → s.calls t ≡ Some (call.Truncate (at.Unmap p)) → TruncateUnmapRow (pool_of s) p turn new
+    → Inv s.geometry (after call.Truncate s t turn new)
 truncate_unmap s t p turn new h l e row =
     let y = stands_at s t _ h e in
     let f = p.truncation.file in
-    let n : State = record s { table = put s.table p.task (without_index (s.areas p.task) (s.table p.task) f p.index) } in
+    let n : State = record s { pool = record s.pool { table = put s.table p.task (without_index (s.areas p.task) (s.table p.task) f p.index) } } in
     by_test (nat_lt p.task s.geometry.tasks) row
     (λ more r. so call.Truncate s t _ turn _ new r (stays s.geometry n t _ (Some (call.Truncate (at.Unmap (record { truncation = p.truncation; index = p.index; evicted = p.evicted; task = p.task + 1 })))) (clears s.geometry s p.task f p.index h) l e refl tt
     (record { slot = y.slot; lock = y.lock; facts = record { file = y.facts.file; new = y.facts.new; index = y.facts.index; sized = y.facts.sized; lost = y.facts.lost; cached = y.facts.cached; task = (omega arith, (let a = lt _ _ more in omega arith)); cleared = cleared_next s p.task f p.index y.facts.cleared } })))
     (λ last r. so call.Truncate s t _ turn _ new r (stays s.geometry n t _ (Some (call.Truncate (at.Evict (record { truncation = p.truncation; index = p.index; evicted = p.evicted })))) (clears s.geometry s p.task f p.index h) l e refl tt
     (record { slot = y.slot; lock = y.lock; facts = record { file = y.facts.file; new = y.facts.new; index = y.facts.index; sized = y.facts.sized; lost = y.facts.lost; cached = y.facts.cached; cleared = λ w v x a b. cleared_next s p.task f p.index y.facts.cleared w v x a (let c = le _ _ last in omega arith) } })))
 
-truncate_evict : (s : State) (t : ℕ) (p : Evict) (turn : Turn TruncatePhase) (new : Pool) → Inv s.geometry s → t < s.geometry.tasks + 1 → s.calls t ≡ Some (call.Truncate (at.Evict p)) → TruncateEvictRow (pool_of s) p turn new → Inv s.geometry (after call.Truncate s t turn new)
+truncate_evict : (s : State) (t : ℕ) (p : Evict) (turn : Turn TruncatePhase) (new : Pool) → Inv s.geometry s
+    → t < s.geometry.tasks + 1 → s.calls t ≡ Some (call.Truncate (at.Evict p)) → TruncateEvictRow (pool_of s) p turn new
+    → Inv s.geometry (after call.Truncate s t turn new)
 truncate_evict s t p turn new h l e (x, page, row) =
     let y = stands_at s t _ h e in
     let c = y.facts.cleared in
     let f = p.truncation.file in
-    let w = tail_next s.geometry.limit p.index (s.reserved f) (h.inside.low f p.index x page) (page_marked s.geometry s f p.index x h page) in
+    let w = tail_next s.geometry.limit p.index (s.reserved f) (page_within f p.index x h.inside page).1 (page_marked s.geometry s f p.index x h page) in
     let z = y.facts.lost in
     so call.Truncate s t _ turn _ new row (evicts s.geometry s t _ (Some (call.Truncate (at.Free (record { truncation = p.truncation; index = p.index; evicted = p.evicted + 1; held = x })))) f p.index x h l e y.facts.file refl refl refl refl refl (omega arith) page y.slot
     (λ w v z a d. let o = h.entries.owners w v z a in c w v z o.0 (let b = o.1 in omega arith) a d) tt
     (record { slot = y.slot; lock = y.lock; facts = record { file = y.facts.file; new = y.facts.new; index = y.facts.index; sized = y.facts.sized; lost = omega arith; bare = put2_same s.pages f p.index None } }))
 
-truncate_unslot : (s : State) (t : ℕ) (p : Unslot) (turn : Turn TruncatePhase) (new : Pool) → Inv s.geometry s → t < s.geometry.tasks + 1 → s.calls t ≡ Some (call.Truncate (at.Unslot p)) → TruncateUnslotRow (pool_of s) p turn new → Inv s.geometry (after call.Truncate s t turn new)
+truncate_unslot : (s : State) (t : ℕ) (p : Unslot) (turn : Turn TruncatePhase) (new : Pool) → Inv s.geometry s
+    → t < s.geometry.tasks + 1 → s.calls t ≡ Some (call.Truncate (at.Unslot p)) → TruncateUnslotRow (pool_of s) p turn new
+    → Inv s.geometry (after call.Truncate s t turn new)
 truncate_unslot s t p turn new h l e row =
     let y = stands_at s t _ h e in
     let f = p.truncation.file in
@@ -162,7 +175,9 @@ truncate_unslot s t p turn new h l e row =
     (λ k j d. ahead_tail f k i j to all d) (λ k j d. passed_tail f k i j to all d) (λ k j d. never d)
     (record { slot = tt; lock = y.lock; facts = record { file = y.facts.file; new = y.facts.new; sized = y.facts.sized; lost = subst (λ (w : ℕ). p.evicted ≤ count_within (s.reserved f) w s.geometry.limit) here y.facts.lost } })))
 
-pub truncate_row : (s : State) (t : ℕ) (killed grant : Bool) (phase : TruncatePhase) (turn : Turn TruncatePhase) (new : Pool) → Inv s.geometry s → 1 ≤ t → t < s.geometry.tasks + 1 → s.calls t ≡ Some (call.Truncate phase) → TruncateRow (pool_of s) t killed grant phase turn new → Inv s.geometry (after call.Truncate s t turn new)
+pub truncate_row : (s : State) (t : ℕ) (killed grant : Bool) (phase : TruncatePhase) (turn : Turn TruncatePhase) (new : Pool)
+    → Inv s.geometry s → 1 ≤ t → t < s.geometry.tasks + 1 → s.calls t ≡ Some (call.Truncate phase)
+    → TruncateRow (pool_of s) t killed grant phase turn new → Inv s.geometry (after call.Truncate s t turn new)
 truncate_row s t killed grant (at.Start p) turn new h one l e row =
     start_row call.Truncate s t killed p.truncation.file _ answer.Killed (at.Start p) (at.Size (record { truncation = p.truncation })) turn new h l e row refl refl refl refl refl refl
     (λ in_files good. record { slot = tt; lock = put_same s.locks p.truncation.file (Some t); facts = record { file = in_files; new = le _ _ good } })

@@ -68,16 +68,19 @@ abbrev pub Turned : {P : Type 0} → (P → Call) → State → ℕ → ℕ → 
 Turned call s t top here turn new = ((u : ℕ) × (turn ≡ Blocked here u) × (new ≡ pool_of s) × WaitsFor s (Some (call here)) u) ⊎ Went call s t top here turn new
 
 -- a leaf's equations put in
-turned : {P : Type 0} (call : P → Call) (s : State) (t top : ℕ) (here : P) (wanted turn : Turn P) (there new : Pool) → (turn ≡ wanted) × (new ≡ there) → Went call s t top here wanted there → Turned call s t top here turn new
+turned : {P : Type 0} (call : P → Call) (s : State) (t top : ℕ) (here : P) (wanted turn : Turn P) (there new : Pool)
+    → (turn ≡ wanted) × (new ≡ there) → Went call s t top here wanted there → Turned call s t top here turn new
 turned {P} call s t top here wanted turn there new e h = inr (subst (λ (p : Turn P × Pool). Went call s t top here p.0 p.1) (sym (pair e.0 e.1)) h)
   where
     pair : turn ≡ wanted → new ≡ there → ◌≡◌ {A = Turn P × Pool} (turn, new) (wanted, there)
     pair a b = cc
 
 -- a leaf that leaves mappings, reserved indices and sizes alone
-plain : {P : Type 0} (call : P → Call) (s : State) (t top : ℕ) (here : P) (wanted turn : Turn P) (there new : Pool) → (turn ≡ wanted) × (new ≡ there)
+plain : {P : Type 0} (call : P → Call) (s : State) (t top : ℕ) (here : P) (wanted turn : Turn P) (there new : Pool)
+    → (turn ≡ wanted) × (new ≡ there)
     → is_blocked wanted ≡ false → there.areas ≡ s.areas → there.reserved ≡ s.reserved → there.size ≡ s.size
-    → ((m : ℕ) → steps_left s.geometry m top (left call wanted) + 1 ≤ steps_left s.geometry m top (Some (call here))) → Turned call s t top here turn new
+    → ((m : ℕ) → steps_left s.geometry m top (left call wanted) + 1 ≤ steps_left s.geometry m top (Some (call here)))
+    → Turned call s t top here turn new
 plain call s t top here wanted turn there new e goes areas reserved size nearer = turned call s t top here wanted turn there new e (record {
   goes = goes;
   areas = λ u d. ap (λ (m : ℕ → List Mapping). m u) areas;
@@ -89,11 +92,14 @@ plain call s t top here wanted turn there new e goes areas reserved size nearer 
 abbrev Nearer : {P : Type 0} → (P → Call) → State → ℕ → P → Turn P → Type 0
 Nearer call s top here turn = (m : ℕ) → steps_left s.geometry m top (left call turn) + 1 ≤ steps_left s.geometry m top (Some (call here))
 
-waiting : {P : Type 0} (call : P → Call) (s : State) (t top : ℕ) (here : P) (turn : Turn P) (new : Pool) (u : ℕ) → (turn ≡ Blocked here u) × (new ≡ pool_of s) → WaitsFor s (Some (call here)) u → Turned call s t top here turn new
+waiting : {P : Type 0} (call : P → Call) (s : State) (t top : ℕ) (here : P) (turn : Turn P) (new : Pool) (u : ℕ)
+    → (turn ≡ Blocked here u) × (new ≡ pool_of s) → WaitsFor s (Some (call here)) u → Turned call s t top here turn new
 waiting call s t top here turn new u e w = inl (u, e.0, e.1, w)
 
-start_turn : {P : Type 0} (call : P → Call) (s : State) (t top : ℕ) (killed : Bool) (f : ℕ) (bad : Bool) (at_kill : Answer) (here next : P) (turn : Turn P) (new : Pool) → StartRow (pool_of s) t killed f bad at_kill here next turn new
-    → wants_lock (Some (call here)) ≡ Some f → (bad ≡ false → Nearer call s top here (Moved next)) → ((m : ℕ) → 1 ≤ steps_left s.geometry m top (Some (call here))) → Turned call s t top here turn new
+start_turn : {P : Type 0} (call : P → Call) (s : State) (t top : ℕ) (killed : Bool) (f : ℕ) (bad : Bool) (at_kill : Answer) (here next : P) (turn : Turn P) (new : Pool)
+    → StartRow (pool_of s) t killed f bad at_kill here next turn new
+    → wants_lock (Some (call here)) ≡ Some f → (bad ≡ false → Nearer call s top here (Moved next))
+    → ((m : ℕ) → 1 ≤ steps_left s.geometry m top (Some (call here))) → Turned call s t top here turn new
 start_turn {P} call s t top killed f bad at_kill here next turn new row wants nearer some =
     let ends : (a : Answer) → (turn ≡ Ended a) × (new ≡ pool_of s) → Turned call s t top here turn new = λ a r. plain call s t top here (Ended a) turn _ new r refl refl refl refl (λ m. some m) in
     by_test (nat_le s.geometry.files f) row
@@ -106,21 +112,25 @@ start_turn {P} call s t top killed f bad at_kill here next turn new row wants ne
     (λ _ r. plain call s t top here _ turn _ new r refl refl refl refl (nearer good))
     (λ u held r. waiting call s t top here turn new u r (inr (f, wants, held))))))
 
-want_turn : {P : Type 0} (call : P → Call) (s : State) (t top f i : ℕ) (here next : P) (turn : Turn P) (new : Pool) → WantSlotRow (pool_of s) t f i here next turn new
+want_turn : {P : Type 0} (call : P → Call) (s : State) (t top f i : ℕ) (here next : P) (turn : Turn P) (new : Pool)
+    → WantSlotRow (pool_of s) t f i here next turn new
     → wants_slot (Some (call here)) ≡ Some (f, i) → Nearer call s top here (Moved next) → Turned call s t top here turn new
 want_turn call s t top f i here next turn new row wants nearer =
     by_option (s.slots (slot_of s.geometry f i)) row
     (λ _ r. plain call s t top here _ turn _ new r refl refl refl refl nearer)
     (λ u held r. waiting call s t top here turn new u r (inl ((f, i), wants, held)))
 
-change_turn : {P : Type 0} (call : P → Call) (s : State) (t top : ℕ) (grant : Bool) (f from to : ℕ) (here denied : P) (changed : Change → P) (turn : Turn P) (new : Pool) → ChangeRow (pool_of s) grant f from to denied changed turn new
-    → Nearer call s top here (Moved denied) → ((k : Change) → Nearer call s top here (Moved (changed k))) → Turned call s t top here turn new
+change_turn : {P : Type 0} (call : P → Call) (s : State) (t top : ℕ) (grant : Bool) (f from to : ℕ) (here denied : P) (changed : Change → P) (turn : Turn P) (new : Pool)
+    → ChangeRow (pool_of s) grant f from to denied changed turn new
+    → Nearer call s top here (Moved denied) → ((k : Change) → Nearer call s top here (Moved (changed k)))
+    → Turned call s t top here turn new
 change_turn call s t top grant f from to here denied changed turn new row nearer nearer_changed =
     by_test ((s.spare f == s.pending f) && not grant) row
     (λ _ r. plain call s t top here _ turn _ new r refl refl refl refl nearer)
     (λ _ r. plain call s t top here _ turn _ new r refl refl refl refl (nearer_changed _))
 
-take_turn : {P : Type 0} (call : P → Call) (s : State) (t top m : ℕ) (here no_frame : P) (taken : ℕ → P) (turn : Turn P) (new : Pool) → TakeRow (pool_of s) m no_frame taken turn new
+take_turn : {P : Type 0} (call : P → Call) (s : State) (t top m : ℕ) (here no_frame : P) (taken : ℕ → P) (turn : Turn P) (new : Pool)
+    → TakeRow (pool_of s) m no_frame taken turn new
     → Nearer call s top here (Moved no_frame) → ((x : ℕ) → Nearer call s top here (Moved (taken x))) → Turned call s t top here turn new
 take_turn call s t top m here no_frame taken turn new row nearer nearer_taken =
     by_test (m == 0) row
@@ -130,8 +140,10 @@ take_turn call s t top m here no_frame taken turn new row nearer nearer_taken =
     (λ _ r. plain call s t top here (Moved (taken r.0)) turn _ new r.2 refl refl refl refl (nearer_taken r.0)))
 
 -- a leaf that adds to the reserved indices
-adds : {P : Type 0} (call : P → Call) (s : State) (t top f : ℕ) (c : Change) (here : P) (wanted turn : Turn P) (there new : Pool) → (turn ≡ wanted) × (new ≡ there)
-    → is_blocked wanted ≡ false → there.areas ≡ s.areas → there.reserved ≡ put s.reserved f (add_range (s.reserved f) c.from c.to) → there.size ≡ s.size
+adds : {P : Type 0} (call : P → Call) (s : State) (t top f : ℕ) (c : Change) (here : P) (wanted turn : Turn P) (there new : Pool)
+    → (turn ≡ wanted) × (new ≡ there)
+    → is_blocked wanted ≡ false → there.areas ≡ s.areas → there.reserved ≡ put s.reserved f (add_range (s.reserved f) c.from c.to)
+    → there.size ≡ s.size
     → Nearer call s top here wanted → Turned call s t top here turn new
 adds call s t top f c here wanted turn there new e goes areas reserved size nearer = turned call s t top here wanted turn there new e (record {
   goes = goes;
@@ -141,7 +153,8 @@ adds call s t top f c here wanted turn there new e goes areas reserved size near
   nearer = λ _. subst (λ (m : ℕ). steps_left s.geometry m top (left call wanted) + 1 ≤ steps_left s.geometry (length (s.areas t)) top (Some (call here))) (ap (λ (m : ℕ → List Mapping). length (m t)) (sym areas)) (nearer (length (s.areas t)));
 })
 
-commit_turn : {P : Type 0} (call : P → Call) (s : State) (t top f : ℕ) (c : Change) (here settle next : P) (turn : Turn P) (new : Pool) → CommitRow (pool_of s) f c settle next turn new
+commit_turn : {P : Type 0} (call : P → Call) (s : State) (t top f : ℕ) (c : Change) (here settle next : P) (turn : Turn P) (new : Pool)
+    → CommitRow (pool_of s) f c settle next turn new
     → Nearer call s top here (Moved settle) → Nearer call s top here (Moved next) → Turned call s t top here turn new
 commit_turn call s t top f c here settle next turn new row nearer nearer_next =
     by_test (nat_lt (missing (s.reserved f) c.from c.to) c.missing) row
@@ -149,9 +162,12 @@ commit_turn call s t top f c here settle next turn new row nearer nearer_next =
     (λ _ r. adds call s t top f c here _ turn _ new r refl refl refl refl nearer_next)
 
 -- a leaf that changes sizes alone, or mappings of the task and sizes
-sized : {P : Type 0} (call : P → Call) (s : State) (t top f new_size : ℕ) (here : P) (wanted turn : Turn P) (there new : Pool) → (turn ≡ wanted) × (new ≡ there)
-    → is_blocked wanted ≡ false → ((u : ℕ) → u ≢ t → there.areas u ≡ s.areas u) → there.reserved ≡ s.reserved → there.size ≡ put s.size f new_size → (s.size f ≤ new_size) ⊎ (sizes (Some (call here)) ≡ Some f)
-    → (IfSome (sizes (Some (call here))) (λ f. IsTop s f top) → steps_left s.geometry (length (there.areas t)) top (left call wanted) + 1 ≤ steps_left s.geometry (length (s.areas t)) top (Some (call here))) → Turned call s t top here turn new
+sized : {P : Type 0} (call : P → Call) (s : State) (t top f new_size : ℕ) (here : P) (wanted turn : Turn P) (there new : Pool)
+    → (turn ≡ wanted) × (new ≡ there)
+    → is_blocked wanted ≡ false → ((u : ℕ) → u ≢ t → there.areas u ≡ s.areas u) → there.reserved ≡ s.reserved
+    → there.size ≡ put s.size f new_size → (s.size f ≤ new_size) ⊎ (sizes (Some (call here)) ≡ Some f)
+    → (IfSome (sizes (Some (call here))) (λ f. IsTop s f top) → steps_left s.geometry (length (there.areas t)) top (left call wanted) + 1 ≤ steps_left s.geometry (length (s.areas t)) top (Some (call here)))
+    → Turned call s t top here turn new
 sized call s t top f new_size here wanted turn there new e goes areas reserved size low nearer = turned call s t top here wanted turn there new e (record {
   goes = goes;
   areas = areas;
@@ -189,7 +205,9 @@ both a b c d e f = grind (arith, nat_tests)
 here_on : (a b c d : ℕ) → a ≡ c → b ≤ d → ((a == c) && nat_le b d) ≡ true
 here_on a b c d e f = grind (arith, nat_tests)
 
-pub touch_turn : (s : State) (t top : ℕ) (killed grant : Bool) (phase : TouchPhase) (turn : Turn TouchPhase) (new : Pool) → Inv s.geometry s → s.calls t ≡ Some (call.Touch phase) → TouchRow (pool_of s) t killed grant phase turn new → Turned call.Touch s t top phase turn new
+pub touch_turn : (s : State) (t top : ℕ) (killed grant : Bool) (phase : TouchPhase) (turn : Turn TouchPhase) (new : Pool)
+    → Inv s.geometry s → s.calls t ≡ Some (call.Touch phase) → TouchRow (pool_of s) t killed grant phase turn new
+    → Turned call.Touch s t top phase turn new
 touch_turn s t top killed grant (touch.Look p) turn new h e row = by_option (find (s.areas t) p.vpn) row (λ _ r. plain call.Touch s t top (touch.Look p) _ turn _ new r refl refl refl refl (λ m. omega arith)) (λ place _ r. by_option (s.table t p.vpn) r (λ _ r. plain call.Touch s t top (touch.Look p) _ turn _ new r refl refl refl refl (λ m. omega arith)) (λ x _ r. plain call.Touch s t top (touch.Look p) _ turn _ new r.2 refl refl refl refl (λ m. omega arith)))
 touch_turn s t top killed grant (touch.Want p) turn new h e row = by_test killed row (λ _ r. plain call.Touch s t top (touch.Want p) _ turn _ new r refl refl refl refl (λ m. omega arith)) (λ _ r. want_turn call.Touch s t top p.touch.file p.touch.index (touch.Want p) _ turn new r refl (λ m. omega arith))
 touch_turn s t top killed grant (touch.Locked p) turn new h e row = by_test (nat_le (s.size p.touch.file) p.touch.index) row (λ _ r. plain call.Touch s t top (touch.Locked p) _ turn _ new r refl refl refl refl (λ m. omega arith)) (λ _ r. by_test (is_some (s.pages p.touch.file p.touch.index)) r (λ _ r. plain call.Touch s t top (touch.Locked p) _ turn _ new r refl refl refl refl (λ m. omega arith)) (λ _ r. plain call.Touch s t top (touch.Locked p) _ turn _ new r refl refl refl refl (λ m. omega arith)))
@@ -203,7 +221,9 @@ touch_turn s t top killed grant (touch.Restore p) turn new h e row = plain call.
 touch_turn s t top killed grant (touch.Found p) turn new h e row = by_test (nat_le (s.size p.touch.file) p.touch.index) row (λ _ r. plain call.Touch s t top (touch.Found p) _ turn _ new r refl refl refl refl (λ m. omega arith)) (λ _ r. by_test grant r (λ _ r. plain call.Touch s t top (touch.Found p) _ turn _ new r.4 refl refl refl refl (λ m. omega arith)) (λ _ r. plain call.Touch s t top (touch.Found p) _ turn _ new r refl refl refl refl (λ m. omega arith)))
 touch_turn s t top killed grant (touch.Leave p) turn new h e row = plain call.Touch s t top (touch.Leave p) _ turn _ new row refl refl refl refl (λ m. omega arith)
 
-pub map_turn : (s : State) (t top : ℕ) (killed grant : Bool) (phase : MapPhase) (turn : Turn MapPhase) (new : Pool) → Inv s.geometry s → s.calls t ≡ Some (call.Map phase) → MapRow (pool_of s) t killed grant phase turn new → Turned call.Map s t top phase turn new
+pub map_turn : (s : State) (t top : ℕ) (killed grant : Bool) (phase : MapPhase) (turn : Turn MapPhase) (new : Pool)
+    → Inv s.geometry s → s.calls t ≡ Some (call.Map phase) → MapRow (pool_of s) t killed grant phase turn new
+    → Turned call.Map s t top phase turn new
 map_turn s t top killed grant (map.Start p) turn new h e row = start_turn call.Map s t top killed p.map.file _ _ (map.Start p) _ turn new row refl (λ _ m. omega arith) (λ m. omega arith)
 map_turn s t top killed grant (map.Room p) turn new h e (found, room, row) = by_option found row (λ _ r. plain call.Map s t top (map.Room p) _ turn _ new r refl refl refl refl (λ m. omega arith)) (λ base _ r. by_test grant r (λ _ r. by_test p.map.reserve r (λ _ r. plain call.Map s t top (map.Room p) _ turn _ new r refl refl refl refl (λ m. omega arith)) (λ _ r. plain call.Map s t top (map.Room p) _ turn _ new r refl refl refl refl (λ m. omega arith))) (λ _ r. plain call.Map s t top (map.Room p) _ turn _ new r refl refl refl refl (λ m. omega arith)))
 map_turn s t top killed grant (map.Missing p) turn new h e row = change_turn call.Map s t top grant p.map.file p.map.from (p.map.from + p.map.len) (map.Missing p) _ (λ k. map.Changed (record { map = p.map; base = p.base; pending = k })) turn new row (λ m. omega arith) (λ k m. omega arith)
@@ -220,7 +240,9 @@ left_none o n k e l = subst (λ (m : Option _). k ≤ unslot_left m n) (sym e) l
 left_some : {A : Type 0} (o : Option A) (a : A) (n : ℕ) → o ≡ Some a → 2 ≤ unslot_left o n
 left_some o a n e = subst (λ (m : Option _). 2 ≤ unslot_left m n) (sym e) (omega arith)
 
-alloc_unslot : (s : State) (t top : ℕ) (p : Unslot) (turn : Turn AllocPhase) (new : Pool) → Inv s.geometry s → s.calls t ≡ Some (call.Alloc (alloc.Unslot p)) → AllocUnslotRow (pool_of s) p turn new → Turned call.Alloc s t top (alloc.Unslot p) turn new
+alloc_unslot : (s : State) (t top : ℕ) (p : Unslot) (turn : Turn AllocPhase) (new : Pool) → Inv s.geometry s
+    → s.calls t ≡ Some (call.Alloc (alloc.Unslot p)) → AllocUnslotRow (pool_of s) p turn new
+    → Turned call.Alloc s t top (alloc.Unslot p) turn new
 alloc_unslot s t top p turn new h e row =
     let y = stands_at s t _ h e in
     let left : ℕ = times (p.allocation.from + p.allocation.len - (p.index + 1)) 9 in
@@ -233,7 +255,9 @@ alloc_unslot s t top p turn new h e row =
     (λ _ r. plain call.Alloc s t top (alloc.Unslot p) _ turn _ new r refl refl refl refl (λ m. left_none p.answer (left + 3) _ none (omega arith)))))
     (λ a some r. plain call.Alloc s t top (alloc.Unslot p) _ turn _ new r refl refl refl refl (λ m. left_some p.answer a (left + 3) some))
 
-pub alloc_turn : (s : State) (t top : ℕ) (killed grant : Bool) (phase : AllocPhase) (turn : Turn AllocPhase) (new : Pool) → Inv s.geometry s → s.calls t ≡ Some (call.Alloc phase) → AllocRow (pool_of s) t killed grant phase turn new → Turned call.Alloc s t top phase turn new
+pub alloc_turn : (s : State) (t top : ℕ) (killed grant : Bool) (phase : AllocPhase) (turn : Turn AllocPhase) (new : Pool)
+    → Inv s.geometry s → s.calls t ≡ Some (call.Alloc phase) → AllocRow (pool_of s) t killed grant phase turn new
+    → Turned call.Alloc s t top phase turn new
 alloc_turn s t top killed grant (alloc.Start p) turn new h e row = start_turn call.Alloc s t top killed p.allocation.file _ _ (alloc.Start p) _ turn new row refl (λ good m. let z = first_left p.allocation.from p.allocation.len 9 (good_range s p.allocation.from p.allocation.len good).0 in omega arith) (λ m. omega arith)
 alloc_turn s t top killed grant (alloc.Head p) turn new h e row = by_test killed row (λ _ r. plain call.Alloc s t top (alloc.Head p) _ turn _ new r refl refl refl refl (λ m. omega arith)) (λ _ r. plain call.Alloc s t top (alloc.Head p) _ turn _ new r refl refl refl refl (λ m. omega arith))
 alloc_turn s t top killed grant (alloc.Want p) turn new h e row = by_test killed row (λ _ r. plain call.Alloc s t top (alloc.Want p) _ turn _ new r refl refl refl refl (λ m. omega arith)) (λ _ r. want_turn call.Alloc s t top p.allocation.file p.index (alloc.Want p) _ turn new r refl (λ m. omega arith))
@@ -249,7 +273,9 @@ alloc_turn s t top killed grant (alloc.Unslot p) turn new h e row = alloc_unslot
 alloc_turn s t top killed grant (alloc.Extend p) turn new h e row = sized call.Alloc s t top p.allocation.file (max (s.size p.allocation.file) (p.allocation.from + p.allocation.len)) (alloc.Extend p) _ turn _ new row refl (λ u d. refl) refl refl (inl (omega arith)) (λ _. omega arith)
 alloc_turn s t top killed grant (alloc.Leave p) turn new h e row = plain call.Alloc s t top (alloc.Leave p) _ turn _ new row refl refl refl refl (λ m. omega arith)
 
-pub punch_turn : (s : State) (t top : ℕ) (killed grant : Bool) (phase : PunchPhase) (turn : Turn PunchPhase) (new : Pool) → Inv s.geometry s → 1 ≤ t → t < s.geometry.tasks + 1 → s.calls t ≡ Some (call.Punch phase) → PunchRow (pool_of s) t killed grant phase turn new → Turned call.Punch s t top phase turn new
+pub punch_turn : (s : State) (t top : ℕ) (killed grant : Bool) (phase : PunchPhase) (turn : Turn PunchPhase) (new : Pool)
+    → Inv s.geometry s → 1 ≤ t → t < s.geometry.tasks + 1 → s.calls t ≡ Some (call.Punch phase)
+    → PunchRow (pool_of s) t killed grant phase turn new → Turned call.Punch s t top phase turn new
 punch_turn s t top killed grant (punch.Start p) turn new h one l e row = start_turn call.Punch s t top killed p.hole.file _ _ (punch.Start p) _ turn new row refl (λ good m. let z = first_left p.hole.from p.hole.len (6 + s.geometry.tasks) (good_range s p.hole.from p.hole.len good).0 in omega arith) (λ m. omega arith)
 punch_turn s t top killed grant (punch.Want p) turn new h one l e row = want_turn call.Punch s t top p.hole.file p.index (punch.Want p) _ turn new row refl (λ m. omega arith)
 punch_turn s t top killed grant (punch.Locked p) turn new h one l e row = by_test (is_some (s.pages p.hole.file p.index)) row (λ _ r. plain call.Punch s t top (punch.Locked p) _ turn _ new r refl refl refl refl (λ m. omega arith)) (λ _ r. plain call.Punch s t top (punch.Locked p) _ turn _ new r refl refl refl refl (λ m. omega arith))
@@ -268,7 +294,9 @@ punch_turn s t top killed grant (punch.Leave p) turn new h one l e row = plain c
 same_end : (pages : ℕ → Option ℕ) (a b : ℕ) → IsPagesEnd pages a → IsPagesEnd pages b → a ≡ b
 same_end pages a b p q = let x : a ≤ b = p.1 b q.0 in let y : b ≤ a = q.1 a p.0 in omega arith
 
-pub truncate_turn : (s : State) (t top : ℕ) (killed grant : Bool) (phase : TruncatePhase) (turn : Turn TruncatePhase) (new : Pool) → Inv s.geometry s → 1 ≤ t → t < s.geometry.tasks + 1 → s.calls t ≡ Some (call.Truncate phase) → TruncateRow (pool_of s) t killed grant phase turn new → Turned call.Truncate s t top phase turn new
+pub truncate_turn : (s : State) (t top : ℕ) (killed grant : Bool) (phase : TruncatePhase) (turn : Turn TruncatePhase) (new : Pool)
+    → Inv s.geometry s → 1 ≤ t → t < s.geometry.tasks + 1 → s.calls t ≡ Some (call.Truncate phase)
+    → TruncateRow (pool_of s) t killed grant phase turn new → Turned call.Truncate s t top phase turn new
 truncate_turn s t top killed grant (truncate.Start p) turn new h one l e row = start_turn call.Truncate s t top killed p.truncation.file _ _ (truncate.Start p) _ turn new row refl (λ _ m. omega arith) (λ m. omega arith)
 truncate_turn s t top killed grant (truncate.Size p) turn new h one l e (end, is_end, row) =
     let f = p.truncation.file in
@@ -298,13 +326,15 @@ truncate_turn s t top killed grant (truncate.Tail p) turn new h one l e row =
       ];
     })
   where
-    by_side : (k i : ℕ) → k ≡ p.truncation.file → s.reserved k i ≡ true → (b : Bool) → nat_lt i p.truncation.new ≡ b → (put s.reserved p.truncation.file (cut_tail (s.reserved p.truncation.file) p.truncation.new) k i ≡ true) ⊎ (((p.truncation.file == k) && nat_le p.truncation.new i) ≡ true)
+    by_side : (k i : ℕ) → k ≡ p.truncation.file → s.reserved k i ≡ true → (b : Bool) → nat_lt i p.truncation.new ≡ b
+        → (put s.reserved p.truncation.file (cut_tail (s.reserved p.truncation.file) p.truncation.new) k i ≡ true) ⊎ (((p.truncation.file == k) && nat_le p.truncation.new i) ≡ true)
     by_side k i d a true z = inl (ap (λ (m : ℕ → Bool). m i) (ap (put s.reserved p.truncation.file (cut_tail (s.reserved p.truncation.file) p.truncation.new)) d ∙ put_same s.reserved p.truncation.file (cut_tail (s.reserved p.truncation.file) p.truncation.new)) ∙ cut_below (s.reserved p.truncation.file) p.truncation.new i (lt i p.truncation.new z) (ap (λ (m : ℕ). s.reserved m i) (sym d) ∙ a))
     by_side k i d a false z = inr (here_on p.truncation.file p.truncation.new k i (sym d) (le i p.truncation.new z))
 truncate_turn s t top killed grant (truncate.Settle p) turn new h one l e (low, row) = plain call.Truncate s t top (truncate.Settle p) _ turn _ new row refl refl refl refl (λ m. omega arith)
 truncate_turn s t top killed grant (truncate.Leave p) turn new h one l e row = plain call.Truncate s t top (truncate.Leave p) _ turn _ new row refl refl refl refl (λ m. omega arith)
 
-pub unmap_turn : (s : State) (t top : ℕ) (killed grant : Bool) (phase : UnmapPhase) (turn : Turn UnmapPhase) (new : Pool) → UnmapRow (pool_of s) t killed grant phase turn new → Turned call.Unmap s t top phase turn new
+pub unmap_turn : (s : State) (t top : ℕ) (killed grant : Bool) (phase : UnmapPhase) (turn : Turn UnmapPhase) (new : Pool)
+    → UnmapRow (pool_of s) t killed grant phase turn new → Turned call.Unmap s t top phase turn new
 unmap_turn s t top killed grant (unmap.Start p) turn new row = by_test (is_base (s.areas t) p.base) row (λ _ r. plain call.Unmap s t top (unmap.Start p) _ turn _ new r refl refl refl refl (λ m. omega arith)) (λ _ r. plain call.Unmap s t top (unmap.Start p) _ turn _ new r refl refl refl refl (λ m. omega arith))
 unmap_turn s t top killed grant (unmap.Clear p) turn new row = plain call.Unmap s t top (unmap.Clear p) _ turn _ new row refl refl refl refl (λ m. omega arith)
 unmap_turn s t top killed grant (unmap.Drop p) turn new row = turned call.Unmap s t top (unmap.Drop p) _ turn _ new row (record { goes = refl; areas = λ u d. put_other s.areas t _ u d; keeps = λ f i a. inl a; grows = λ f. inl (omega arith); nearer = λ _. omega arith })
@@ -314,14 +344,18 @@ fewer : (ms : List Mapping) (base : ℕ) → is_base ms base ≡ true → length
 fewer [] base e = (let d : false ≡ true = e in absurd (cc))
 fewer (m ∷ ms) base e = here (m.base == base) (λ d. fewer ms base d) e
   where
-    here : (b : Bool) → (is_base ms base ≡ true → length (without ms base) + 1 ≡ length ms) → (b || is_base ms base) ≡ true → length (if b then ms else m ∷ without ms base) + 1 ≡ length (m ∷ ms)
+    here : (b : Bool) → (is_base ms base ≡ true → length (without ms base) + 1 ≡ length ms) → (b || is_base ms base) ≡ true
+        → length (if b then ms else m ∷ without ms base) + 1 ≡ length (m ∷ ms)
     here true rest d = omega arith
     here false rest d = let z = rest d in omega arith
 
-fewer_at : (s : State) (t base : ℕ) → is_base (s.areas t) base ≡ true → length (put s.areas t (without (s.areas t) base) t) + 1 ≡ length (s.areas t)
+fewer_at : (s : State) (t base : ℕ) → is_base (s.areas t) base ≡ true
+    → length (put s.areas t (without (s.areas t) base) t) + 1 ≡ length (s.areas t)
 fewer_at s t base e = ap (λ (m : List Mapping). length m + 1) (put_same s.areas t (without (s.areas t) base)) ∙ fewer (s.areas t) base e
 
-pub exit_turn : (s : State) (t top : ℕ) (killed grant : Bool) (phase : ExitPhase) (turn : Turn ExitPhase) (new : Pool) → Inv s.geometry s → s.calls t ≡ Some (call.Exit phase) → ExitRow (pool_of s) t killed grant phase turn new → Turned call.Exit s t top phase turn new
+pub exit_turn : (s : State) (t top : ℕ) (killed grant : Bool) (phase : ExitPhase) (turn : Turn ExitPhase) (new : Pool)
+    → Inv s.geometry s → s.calls t ≡ Some (call.Exit phase) → ExitRow (pool_of s) t killed grant phase turn new
+    → Turned call.Exit s t top phase turn new
 exit_turn s t top killed grant exit.Start turn new h e row = by_option (first_base (s.areas t)) row (λ _ r. plain call.Exit s t top exit.Start _ turn _ new r refl refl refl refl (λ m. omega arith)) (λ base _ r. plain call.Exit s t top exit.Start _ turn _ new r refl refl refl refl (λ m. omega arith))
 exit_turn s t top killed grant (exit.Clear p) turn new h e row = plain call.Exit s t top (exit.Clear p) _ turn _ new row refl refl refl refl (λ m. omega arith)
 exit_turn s t top killed grant (exit.Drop p) turn new h e row =

@@ -1,6 +1,6 @@
 -- Who is blocked, by whom, and how few steps a call makes.
 use Rattle.std.proofs.Common.{◌≡◌, ◌≢◌, ℕ, ◌+◌, ◌≤◌, refl, ap, sym, ◌∙◌, subst, arith, inl, inr, ◌⊎◌, length}
-use Rattle.std.specs.Prelude.{Bool, true, false, Option, Some, None, IfSome, List, [], ◌∷◌, ◌==◌}
+use Rattle.std.specs.Prelude.{Bool, true, false, Option, Some, None, IfSome, List, [], ◌∷◌, ◌++◌, ◌==◌}
 use Rattle.std.proofs.lemmas.Bool.Decides.{nat_tests}
 use Rattle.hp_base.specs.Numbers.{put, bit}
 use Rattle.hp_base.specs.declared.event.Op.{Op}
@@ -10,7 +10,7 @@ use Rattle.hp_base.specs.declared.event.Event.TheVariants.{Begin, Step, Kill}
 use Rattle.hp_base.specs.declared.mapping.Mapping.{Mapping}
 use Rattle.hp_base.proofs.Puts.{put_same, put_other, same_or_other}
 use Rattle.hp_machine.specs.State.{Geometry, Pool, State, pool_of, with_pool, slot_of, is_dead, is_killed}
-use Rattle.hp_machine.specs.Events.{Row, CallRow, Run, IsReached, first, word_of, lives_after}
+use Rattle.hp_machine.specs.Events.{Row, CallRow, IsReached, first, word_of, lives_after}
 use Rattle.hp_machine.specs.Views.{slot_held, locked_file, wants_slot, wants_lock}
 use Rattle.hp_machine.specs.declared.outcome.Outcome.{Outcome}
 use Rattle.hp_machine.specs.declared.outcome.Outcome.TheVariants as outcome
@@ -21,13 +21,17 @@ use Rattle.hp_machine.specs.declared.map.MapPhase.TheVariants as map
 use Rattle.hp_machine.specs.declared.alloc.AllocPhase.TheVariants as alloc
 use Rattle.hp_machine.specs.declared.punch.PunchPhase.TheVariants as punch
 use Rattle.hp_machine.specs.declared.truncate.TruncatePhase.TheVariants as truncate
+use Rattle.hp_machine.specs.declared.unmap.UnmapPhase.TheVariants as unmap
+use Rattle.hp_machine.specs.declared.exit.ExitPhase.TheVariants as exit
 use Rattle.hp_machine.specs.declared.call.Call.{Call}
 use Rattle.hp_machine.specs.declared.call.Call.TheVariants as call
-use Rattle.hp_laws.specs.Bounds.{most_steps, is_own, own_steps, is_begun, calls_begun, sizes, IsTop, TopIs, WaitsFor, HoldsUp, IsUnblocked}
+use Rattle.hp_laws.specs.Bounds.{most_steps, is_own, own_steps, is_begun, calls_begun, sizes, IsTop, SetsSize, SweepsFrom, WaitsFor, HoldsUp, IsUnblocked}
+use Rattle.hp_laws.specs.Histories.{Moment, History, in_order}
 use Rattle.hp_laws.proofs.StepsLeft.{steps_left}
 use Rattle.hp_laws.proofs.Holding.{some_same}
-use Rattle.hp_laws.proofs.Runs.{Always, always, call_keeps, row_keeps}
+use Rattle.hp_laws.proofs.Runs.{Always, always, call_keeps}
 use Rattle.hp_laws.proofs.Reading.{begin_cases, step_cases, kill_cases, Gone, Steps, call_steps, same_state}
+use Rattle.hp_laws.proofs.Histories.{begun_more, history_well}
 
 none_some : {A P : Type 0} (o : Option A) (a : A) → o ≡ None → o ≡ Some a → P
 none_some {A} o a d e = (let c : ◌≡◌ {A = Option A} None (Some a) = sym d ∙ e in absurd (cc))
@@ -37,6 +41,9 @@ wants_no_slot (Some (call.Touch (touch.Want p))) k e = (refl, refl)
 wants_no_slot (Some (call.Alloc (alloc.Want p))) k e = (refl, refl)
 wants_no_slot (Some (call.Punch (punch.Want p))) k e = (refl, refl)
 wants_no_slot (Some (call.Truncate (truncate.Want p))) k e = (refl, refl)
+wants_no_slot (Some (call.Map (map.Start _))) k e = none_some None k refl e
+wants_no_slot (Some (call.Unmap (unmap.Start _))) k e = none_some None k refl e
+wants_no_slot (Some (call.Exit exit.Start)) k e = none_some None k refl e
 wants_no_slot c k e = none_some None k refl e
 
 wants_nothing : (c : Option Call) (f : ℕ) → wants_lock c ≡ Some f → (slot_held c ≡ None) × (locked_file c ≡ None)
@@ -44,11 +51,18 @@ wants_nothing (Some (call.Map (map.Start p))) k e = (refl, refl)
 wants_nothing (Some (call.Alloc (alloc.Start p))) k e = (refl, refl)
 wants_nothing (Some (call.Punch (punch.Start p))) k e = (refl, refl)
 wants_nothing (Some (call.Truncate (truncate.Start p))) k e = (refl, refl)
+wants_nothing (Some (call.Touch (touch.Look _))) f e = none_some None f refl e
+wants_nothing (Some (call.Unmap (unmap.Start _))) f e = none_some None f refl e
+wants_nothing (Some (call.Exit exit.Start)) f e = none_some None f refl e
 wants_nothing c f e = none_some None f refl e
 
 -- a step of a call in flight, by what it does
-stepped : (s : State) (t top : ℕ) (grant : Bool) (c : Call) (o : Outcome) (pool : Pool) (next : Option Call) → Always s → is_dead (s.life t) ≡ false → s.calls t ≡ Some c → CallRow (pool_of s) t (is_killed (s.life t)) grant c o pool next → Steps s t top c o pool next
-stepped s t top grant c o pool next h lives e row = let is = h.lives.there t lives in call_steps s t top (is_killed (s.life t)) grant c o pool next h.inv is.0 (let a = is.1 in omega arith) e row
+stepped : (s : State) (t top : ℕ) (grant : Bool) (c : Call) (o : Outcome) (pool : Pool) (next : Option Call) → Always s
+    → is_dead (s.life t) ≡ false → s.calls t ≡ Some c → CallRow (pool_of s) t (is_killed (s.life t)) grant c o pool next
+    → Steps s t top c o pool next
+stepped s t top grant c o pool next h lives e row =
+    let is = h.lives.there t lives in
+    call_steps s t top (is_killed (s.life t)) grant c o pool next h.inv is.0 (let a = is.1 in omega arith) e row
 
 refused_moves : {P : Type 0} (o : Outcome) (why : Refusal) (p : Phase) → o ≡ outcome.Refused why → o ≡ outcome.Moved p → P
 refused_moves o why p e d = (let z : outcome.Refused why ≡ outcome.Moved p = sym e ∙ d in absurd (cc))
@@ -60,7 +74,8 @@ same_holder : {a b : ℕ} → outcome.Blocked a ≡ outcome.Blocked b → a ≡ 
 same_holder e = cc
 
 -- a blocked step waits for a holder, and changes nothing
-waits : (s : State) (t : ℕ) (grant : Bool) (u : ℕ) (n : State) → IsReached s → Row s (Step t grant) (outcome.Blocked u) n → (n ≡ s) × WaitsFor s (s.calls t) u
+waits : (s : State) (t : ℕ) (grant : Bool) (u : ℕ) (n : State) → IsReached s → Row s (Step t grant) (outcome.Blocked u) n
+    → (n ≡ s) × WaitsFor s (s.calls t) u
 waits s t grant u n reached row = step_cases s t grant (outcome.Blocked u) n ((n ≡ s) × WaitsFor s (s.calls t) u) row
     (λ why e d. refused_blocks (outcome.Blocked u) why u e refl)
     (λ c lives e pool next r d. elim (stepped s t 0 grant c (outcome.Blocked u) pool next (always s reached) lives e r) [
@@ -80,7 +95,8 @@ other_holder s t u w d = elim w [
   | inr f ↦ none_some (locked_file (s.calls t)) f.0 (wants_nothing (s.calls t) f.0 f.1).1 (ap (λ (m : ℕ). locked_file (s.calls m)) (sym d) ∙ f.2)
 ]
 
-pub blocked_by_holder : (s : State) (t : ℕ) (grant : Bool) (u : ℕ) (n : State) → IsReached s → Row s (Step t grant) (outcome.Blocked u) n → (n ≡ s) × (u ≢ t) × HoldsUp s u t
+pub blocked_by_holder : (s : State) (t : ℕ) (grant : Bool) (u : ℕ) (n : State) → IsReached s
+    → Row s (Step t grant) (outcome.Blocked u) n → (n ≡ s) × (u ≢ t) × HoldsUp s u t
 blocked_by_holder s t grant u n reached row =
     let a = waits s t grant u n reached row in
     let b = holds_up s t u reached a.1 in
@@ -92,7 +108,8 @@ slot_holder_free s t k reached e grant u n row = elim (waits s t grant u n reach
   | inr o ↦ none_some (slot_held (s.calls t)) k (wants_nothing (s.calls t) o.0 o.1).0 e
 ]
 
-pub lock_holder_waits : (s : State) (t f : ℕ) (grant : Bool) (u : ℕ) (n : State) → IsReached s → locked_file (s.calls t) ≡ Some f → Row s (Step t grant) (outcome.Blocked u) n → (k : ℕ × ℕ) × (slot_held (s.calls u) ≡ Some k)
+pub lock_holder_waits : (s : State) (t f : ℕ) (grant : Bool) (u : ℕ) (n : State) → IsReached s → locked_file (s.calls t) ≡ Some f
+    → Row s (Step t grant) (outcome.Blocked u) n → (k : ℕ × ℕ) × (slot_held (s.calls u) ≡ Some k)
 lock_holder_waits s t f grant u n reached e row = elim (blocked_by_holder s t grant u n reached row).2 [
   | inl o ↦ (o.1, o.3)
   | inr o ↦ none_some (locked_file (s.calls t)) f (wants_nothing (s.calls t) o.0 o.1).1 e
@@ -157,10 +174,13 @@ some_call_goes_on s t c reached e = elim (free_or_behind s t reached) [
 ]
   where
     at_slot : (u : ℕ) (k : ℕ × ℕ) → slot_held (s.calls u) ≡ Some k → Goes s
-    at_slot u k e = let b = busy_slot (s.calls u) k e in (u, b.0, b.1, (always s reached).lives.busy u b.0 b.1, slot_holder_free s u k reached e)
+    at_slot u k e =
+        let b = busy_slot (s.calls u) k e in
+        (u, b.0, b.1, (always s reached).lives.busy u b.0 b.1, slot_holder_free s u k reached e)
 
 -- an outcome that moved tells the phase where the call stands then
-pub moved_tells : (s : State) (t : ℕ) (grant : Bool) (p : Phase) (n : State) → IsReached s → Row s (Step t grant) (outcome.Moved p) n → (c : Call) × (n.calls t ≡ Some c) × (word_of c ≡ p)
+pub moved_tells : (s : State) (t : ℕ) (grant : Bool) (p : Phase) (n : State) → IsReached s
+    → Row s (Step t grant) (outcome.Moved p) n → (c : Call) × (n.calls t ≡ Some c) × (word_of c ≡ p)
 moved_tells s t grant p n reached row = step_cases s t grant (outcome.Moved p) n ((c : Call) × (n.calls t ≡ Some c) × (word_of c ≡ p)) row
     (λ why e d. refused_moves (outcome.Moved p) why p e refl)
     (λ c lives e pool next r d. elim (stepped s t 0 grant c (outcome.Moved p) pool next (always s reached) lives e r) [
@@ -212,14 +232,19 @@ same_counts : (t top : ℕ) (s n : State) (event : Event) (o : Outcome) → is_o
 same_counts t top s n event o a d = let b : left t top n ≡ left t top s = ap (left t top) d in omega arith
 
 -- the steps that are left to a task after a step of task u's call
-left_after : (s : State) (t u top : ℕ) (grant : Bool) (c : Call) (o : Outcome) (pool : Pool) (next : Option Call) (n : State) → Always s → is_dead (s.life u) ≡ false → s.calls u ≡ Some c → CallRow (pool_of s) u (is_killed (s.life u)) grant c o pool next
-    → n ≡ record (with_pool s pool) { life = lives_after s.life u c next; calls = put s.calls u next } → left t top n ≡ steps_left s.geometry (length (pool.areas t)) top (put s.calls u next t)
+left_after : (s : State) (t u top : ℕ) (grant : Bool) (c : Call) (o : Outcome) (pool : Pool) (next : Option Call) (n : State)
+    → Always s → is_dead (s.life u) ≡ false → s.calls u ≡ Some c
+    → CallRow (pool_of s) u (is_killed (s.life u)) grant c o pool next
+    → n ≡ record (with_pool s pool) { life = lives_after s.life u c next; calls = put s.calls u next }
+    → left t top n ≡ steps_left s.geometry (length (pool.areas t)) top (put s.calls u next t)
 left_after s t u top grant c o pool next n h lives e row d =
     let is = h.lives.there u lives in
     let k = call_keeps s u (is_killed (s.life u)) grant c o pool next h.inv is.0 (let a = is.1 in omega arith) e row in
     ap (left t top) d ∙ ap (λ (m : Geometry). steps_left m (length (pool.areas t)) top (put s.calls u next t)) k.geometry
 
-row_counts : (s : State) (t top : ℕ) (event : Event) (o : Outcome) (n : State) → Always s → is_begun t event o ≡ 0 → ((grant : Bool) → event ≡ Step t grant → IfSome (sizes (s.calls t)) (λ f. IsTop s f top)) → Row s event o n → Counts t top s event o n
+row_counts : (s : State) (t top : ℕ) (event : Event) (o : Outcome) (n : State) → Always s → is_begun t event o ≡ 0
+    → ((grant : Bool) → event ≡ Step t grant → IfSome (sizes (s.calls t)) (λ f. IsTop s f top)) → Row s event o n
+    → Counts t top s event o n
 row_counts s t top (Begin u p) o n h quiet is_top row = begin_cases s u p o n (Counts t top s (Begin u p) o n) row
     (λ why e d. same_counts t top s n (Begin u p) o refl d)
     (λ lives none may e d. elim (same_or_other u t) [
@@ -246,7 +271,9 @@ row_counts s t top (Step u grant) o n h quiet is_top row = step_cases s u grant 
       ]
     ])
   where
-    mine : (c : Call) (pool : Pool) (next : Option Call) → s.calls u ≡ Some c → Gone s u top c o pool next → left u top n ≡ steps_left s.geometry (length (pool.areas u)) top (put s.calls u next u) → (u ≡ t → IfSome (sizes (s.calls t)) (λ f. IsTop s f top)) → u ≡ t → left u top n + 1 ≤ left u top s
+    mine : (c : Call) (pool : Pool) (next : Option Call) → s.calls u ≡ Some c → Gone s u top c o pool next
+        → left u top n ≡ steps_left s.geometry (length (pool.areas u)) top (put s.calls u next u)
+        → (u ≡ t → IfSome (sizes (s.calls t)) (λ f. IsTop s f top)) → u ≡ t → left u top n + 1 ≤ left u top s
     mine c pool next e w after tops q =
         let there : IfSome (sizes (Some c)) (λ f. IsTop s f top) = subst (λ (m : Option Call). IfSome (sizes m) (λ f. IsTop s f top)) (ap s.calls (sym q) ∙ e) (tops q) in
         let near = w.nearer there in
@@ -254,12 +281,36 @@ row_counts s t top (Step u grant) o n h quiet is_top row = step_cases s u grant 
         let b : left u top s ≡ steps_left s.geometry (length (s.areas u)) top (Some c) = ap (steps_left s.geometry (length (s.areas u)) top) e in
         omega arith
 
-run_counts : (t top : ℕ) (s : State) (es : List (Event × Outcome)) (n : State) (r : Run s es n) → Always s → calls_begun t es ≡ 0 → TopIs t top s es n r → own_steps t es + left t top n ≤ left t top s
-run_counts t top s [] n r h quiet tops = let a : left t top n ≡ left t top s = ap (left t top) r in omega arith
-run_counts t top s (e ∷ es) n r h quiet tops =
-    let a : is_own t e.0 e.1 + left t top r.0 ≤ left t top s = row_counts s t top e.0 e.1 r.0 h (omega arith) tops.0 r.1 in
-    let b : own_steps t es + left t top n ≤ left t top r.0 = run_counts t top r.0 es n r.2 (row_keeps s e.0 e.1 r.0 h r.1) (omega arith) tops.1 in
-    omega arith
+-- the top is that of the file whose size the call sets
+top_of : (t top : ℕ) (m : Moment) → ((f : ℕ) → SetsSize t f m → IsTop m.before f top) → (grant : Bool) → m.event ≡ Step t grant
+    → IfSome (sizes (m.before.calls t)) (λ f. IsTop m.before f top)
+top_of t top m h grant own = here (sizes (m.before.calls t)) refl
+  where
+    here : (o : Option ℕ) → sizes (m.before.calls t) ≡ o → IfSome o (λ f. IsTop m.before f top)
+    here None e = tt
+    here (Some f) e = h f (grant, own, e)
+
+-- the steps of its own in a list with one more event at its end
+own_more : (t : ℕ) (es : List (Event × Outcome)) (e : Event) (o : Outcome)
+    → own_steps t (es ++ ((e, o) ∷ [])) ≡ own_steps t es + is_own t e o
+own_more t [] e o = omega arith
+own_more t (x ∷ es) e o = let k = own_more t es e o in omega arith
+
+-- each of the later moments that moves or ends the task's call leaves it fewer steps
+later_counts : (g : Geometry) (frames : ℕ) (t top : ℕ) (past later : List Moment) (s : State) → History g frames (later ++ past) s
+    → calls_begun t (in_order later) ≡ 0 → SweepsFrom t top later
+    → (mid : State) × History g frames past mid × (own_steps t (in_order later) + left t top s ≤ left t top mid)
+later_counts g frames t top past [] s h quiet tops = (s, h, omega arith)
+later_counts g frames t top past (m ∷ later) s h quiet tops =
+    let more = begun_more t (in_order later) m.event m.outcome in
+    let own = own_more t (in_order later) m.event m.outcome in
+    let k = later_counts g frames t top past later m.before h.2 (omega arith) tops.1 in
+    let a : own_steps t (in_order later) + left t top m.before ≤ left t top k.0 = k.2 in
+    let b : is_own t m.event m.outcome + left t top m.after ≤ left t top m.before =
+    row_counts m.before t top m.event m.outcome m.after (history_well g frames (later ++ past) m.before h.2) (omega arith)
+    (top_of t top m tops.0) h.1 in
+    let c : left t top m.after ≡ left t top s = ap (left t top) h.0 in
+    (k.0, k.1, omega arith)
 
 left_first : (g : Geometry) (p : Op) (m top : ℕ) → steps_left g m top (Some (first p)) ≡ most_steps g p m top
 left_first g (op.Map f from len) m top = refl
@@ -272,12 +323,25 @@ left_first g (op.Punch f from len) m top = refl
 left_first g (op.Truncate f new) m top = refl
 left_first g op.Exit m top = refl
 
-pub own_steps_few : (s after n : State) (t top : ℕ) (p : Op) (es : List (Event × Outcome)) (r : Run after es n)
-    → IsReached s → Row s (Begin t p) outcome.Begun after → calls_begun t es ≡ 0 → TopIs t top after es n r → own_steps t es ≤ most_steps s.geometry p (length (s.areas t)) top
-own_steps_few s after n t top p es r reached begun quiet tops =
-    let h = always s reached in
-    let a : left t top after ≡ most_steps s.geometry p (length (s.areas t)) top = begin_cases s t p outcome.Begun after (left t top after ≡ most_steps s.geometry p (length (s.areas t)) top) begun
-    (λ why e d. (let z : outcome.Begun ≡ outcome.Refused why = e in absurd (cc)))
-    (λ lives none may e d. ap (left t top) d ∙ (ap (steps_left s.geometry (length (s.areas t)) top) (put_same s.calls t (Some (first p))) ∙ left_first s.geometry p (length (s.areas t)) top)) in
-    let b : own_steps t es + left t top n ≤ left t top after = run_counts t top after es n r (row_keeps s (Begin t p) outcome.Begun after h begun) quiet tops in
+-- a call that has begun has at most so many steps left
+begun_left : (s : State) (t top : ℕ) (p : Op) (o : Outcome) (n : State) → o ≡ outcome.Begun → Row s (Begin t p) o n
+    → left t top n ≡ most_steps s.geometry p (length (s.areas t)) top
+begun_left s t top p o n begun row = begin_cases s t p o n (left t top n ≡ most_steps s.geometry p (length (s.areas t)) top) row
+    (λ why e d. (let z : outcome.Begun ≡ outcome.Refused why = sym begun ∙ e in absurd (cc)))
+    (λ lives none may e d. let begins = ap (steps_left s.geometry (length (s.areas t)) top) (put_same s.calls t (Some (first p))) in
+    ap (left t top) d ∙ (begins ∙ left_first s.geometry p (length (s.areas t)) top))
+
+-- of a call from its begin on the steps that moved or ended it are few
+pub own_steps_few : (g : Geometry) (frames : ℕ) (later : List Moment) (begins : Moment) (past : List Moment) (s : State) (t top : ℕ)
+    (p : Op)
+    → History g frames (later ++ (begins ∷ past)) s → begins.event ≡ Begin t p → begins.outcome ≡ outcome.Begun
+    → calls_begun t (in_order later) ≡ 0 → SweepsFrom t top later
+    → own_steps t (in_order later) ≤ most_steps begins.before.geometry p (length (begins.before.areas t)) top
+own_steps_few g frames later begins past s t top p h is begun quiet tops =
+    let k = later_counts g frames t top (begins ∷ past) later s h quiet tops in
+    let a : own_steps t (in_order later) + left t top s ≤ left t top k.0 = k.2 in
+    let b : left t top begins.after ≡ left t top k.0 = ap (left t top) k.1.0 in
+    let row = subst (λ (m : Event). Row begins.before m begins.outcome begins.after) is k.1.1 in
+    let c : left t top begins.after ≡ most_steps begins.before.geometry p (length (begins.before.areas t)) top =
+    begun_left begins.before t top p begins.outcome begins.after begun row in
     omega arith

@@ -1,5 +1,5 @@
 -- How many steps a call makes, and who stands in its way.
-use Rattle.std.specs.Prelude.{Bool, ◌≡◌, ◌⊎◌, ℕ, ◌+◌, ◌*◌, ◌-◌, ◌==◌, Option, Some, None, IfSome, List, [], ◌∷◌, max}
+use Rattle.std.specs.Prelude.{Bool, ◌≡◌, ◌⊎◌, ℕ, ◌+◌, ◌*◌, ◌-◌, ◌==◌, Option, Some, None, List, [], ◌∷◌, max}
 use Rattle.hp_base.specs.Numbers.{bit}
 use Rattle.hp_base.specs.declared.event.Op.{Op}
 use Rattle.hp_base.specs.declared.event.Op.TheVariants as op
@@ -7,13 +7,14 @@ use Rattle.hp_base.specs.declared.event.Event.{Event}
 use Rattle.hp_base.specs.declared.event.Event.TheVariants.{Begin, Step}
 use Rattle.hp_machine.specs.State.{Geometry, State, slot_of}
 use Rattle.hp_base.specs.Pages.{IsPagesEnd}
-use Rattle.hp_machine.specs.Events.{Row, Run}
+use Rattle.hp_machine.specs.Events.{Row}
 use Rattle.hp_machine.specs.Views.{wants_slot, wants_lock, slot_held, locked_file}
 use Rattle.hp_machine.specs.declared.outcome.Outcome.{Outcome}
 use Rattle.hp_machine.specs.declared.outcome.Outcome.TheVariants as outcome
 use Rattle.hp_machine.specs.declared.truncate.TruncatePhase.TheVariants as truncate
 use Rattle.hp_machine.specs.declared.call.Call.{Call}
 use Rattle.hp_machine.specs.declared.call.Call.TheVariants as call
+use Rattle.hp_laws.specs.Histories.{Moment}
 
 -- n times p
 unfoldable pub times : ℕ → ℕ → ℕ
@@ -60,10 +61,14 @@ sizes other = None
 abbrev pub IsTop : State → (file top : ℕ) → Type 0
 IsTop s f top = (end : ℕ) × IsPagesEnd (s.pages f) end × (top ≡ max (s.size f) end)
 
--- where the task's call sets the size, that is the top
-abbrev pub TopIs : (task top : ℕ) → (s : State) → (events : List (Event × Outcome)) → (new : State) → Run s events new → Type 0
-TopIs t top s [] new r = Unit {0}
-TopIs t top s (e ∷ es) new r = ((grant : Bool) → e.0 ≡ Step t grant → IfSome (sizes (s.calls t)) (λ f. IsTop s f top)) × TopIs t top r.0 es new r.2
+-- the task's call sets that file's size
+abbrev pub SetsSize : (task file : ℕ) → Moment → Type 0
+SetsSize t f m = (grant : Bool) × (m.event ≡ Step t grant) × (sizes (m.before.calls t) ≡ Some f)
+
+-- at the one of these moments where the task's call sets the size, if it is among them, that was the top
+abbrev pub SweepsFrom : (task top : ℕ) → List Moment → Type 0
+SweepsFrom t top [] = Unit {0}
+SweepsFrom t top (m ∷ ms) = ((f : ℕ) → SetsSize t f m → IsTop m.before f top) × SweepsFrom t top ms
 
 -- the call's next step waits for the task that holds the slot or the lock which it takes next
 abbrev pub WaitsFor : State → Option Call → (holder : ℕ) → Type 0

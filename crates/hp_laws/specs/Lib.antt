@@ -1,5 +1,8 @@
 pub mod Bounds
 pub mod Enough
+pub mod Histories
+pub mod HistoryLaws
+pub mod Laws
 pub mod Promises
 pub mod Protocol
 pub mod Sweep

@@ -1,22 +1,20 @@
 -- Facts of the protocol on which the rest stands.
-use Rattle.std.specs.Prelude.{◌≡◌, ◌≢◌, ◌⊎◌, ℕ, ◌+◌, ◌≤◌, ◌<◌, Bool, true, false, Option, Some, None}
+use Rattle.std.specs.Prelude.{◌≡◌, ◌≢◌, ◌⊎◌, ℕ, ◌+◌, ◌≤◌, ◌<◌, ◌==◌, ◌&&◌, ◌||◌, Bool, true, false, Option, Some, None}
 use Rattle.hp_base.specs.Numbers.{total}
-use Rattle.hp_base.specs.Mappings.{find}
+use Rattle.hp_base.specs.Indices.{is_within}
+use Rattle.hp_base.specs.Mappings.{find, is_there}
 use Rattle.hp_base.specs.declared.event.Event.{Event}
 use Rattle.hp_base.specs.declared.event.Event.TheVariants.{Step}
 use Rattle.hp_machine.specs.State.{State}
 use Rattle.hp_machine.specs.Events.{word_of}
+use Rattle.hp_machine.specs.Standings.{Progress, NoChange, Counts, GivesUp, Work, NoWork, Makes, Uses, Removes, Removed, standing_of}
 use Rattle.hp_machine.specs.Views.{hand, opens, slot_held}
 use Rattle.hp_machine.specs.declared.phase.Phase.TheVariants as word
 use Rattle.hp_machine.specs.declared.truncate.Truncation.{Truncation}
 use Rattle.hp_machine.specs.declared.truncate.TruncatePhase.{TruncatePhase}
-use Rattle.hp_machine.specs.declared.touch.TouchPhase.TheVariants as touch
-use Rattle.hp_machine.specs.declared.alloc.AllocPhase.TheVariants as alloc
-use Rattle.hp_machine.specs.declared.punch.PunchPhase.TheVariants as punch
 use Rattle.hp_machine.specs.declared.truncate.TruncatePhase.TheVariants as truncate
 use Rattle.hp_machine.specs.declared.call.Call.{Call}
-use Rattle.hp_machine.specs.declared.call.Call.TheVariants as call
-use Rattle.hp_laws.specs.Sweep.{passed}
+use Rattle.hp_laws.specs.Sweep.{made_at, passed}
 
 -- the pending changes of a file's map are the calls that have one open: at changed, abort, taken or accounted
 abbrev pub ChangesAreCalls : State → Type 0
@@ -30,27 +28,23 @@ SparesSuffice s = (f : ℕ) → s.pending f ≤ s.spare f
 abbrev pub PagesAreReserved : State → Type 0
 PagesAreReserved s = (f i x : ℕ) → s.pages f i ≡ Some x → s.reserved f i ≡ true
 
+-- what is reserved or has a page lies below the limit of a file that is there
+abbrev pub LiesWithin : State → Type 0
+LiesWithin s = record {
+  reserved : (f i : ℕ) → s.reserved f i ≡ true → (f < s.geometry.files) × (i < s.geometry.limit);
+  cached : (f i x : ℕ) → s.pages f i ≡ Some x → (f < s.geometry.files) × (i < s.geometry.limit);
+}
+
+abbrev pub is_bare_at : Work → Bool
+is_bare_at NoWork = false
+is_bare_at Makes = true
+is_bare_at Uses = false
+is_bare_at Removes = false
+is_bare_at Removed = true
+
 -- the call makes a page at the index whose slot it holds, or took it away, or found none to take away
 abbrev pub is_bare : Option Call → Bool
-is_bare (Some (call.Touch (touch.Missing p))) = true
-is_bare (Some (call.Touch (touch.Changed p))) = true
-is_bare (Some (call.Touch (touch.Abort p))) = true
-is_bare (Some (call.Touch (touch.Taken p))) = true
-is_bare (Some (call.Touch (touch.Settle p))) = true
-is_bare (Some (call.Touch (touch.Committed p))) = true
-is_bare (Some (call.Touch (touch.Restore p))) = true
-is_bare (Some (call.Alloc (alloc.Missing p))) = true
-is_bare (Some (call.Alloc (alloc.Changed p))) = true
-is_bare (Some (call.Alloc (alloc.Abort p))) = true
-is_bare (Some (call.Alloc (alloc.Taken p))) = true
-is_bare (Some (call.Alloc (alloc.Settle p))) = true
-is_bare (Some (call.Alloc (alloc.Committed p))) = true
-is_bare (Some (call.Alloc (alloc.Restore p))) = true
-is_bare (Some (call.Punch (punch.Delete p))) = true
-is_bare (Some (call.Punch (punch.Free p))) = true
-is_bare (Some (call.Truncate (truncate.Free p))) = true
-is_bare (Some (call.Truncate (truncate.Unslot p))) = true
-is_bare other = false
+is_bare c = is_bare_at (standing_of c).work
 
 -- two calls that hold a frame stand at different indices
 abbrev pub HandsApart : State → Type 0
@@ -60,43 +54,36 @@ HandsApart s = (t u x y : ℕ) → t ≢ u → hand (s.calls t) ≡ Some x → h
 abbrev pub BareWhereMade : State → Type 0
 BareWhereMade s = (t : ℕ) (k : ℕ × ℕ) → is_bare (s.calls t) ≡ true → slot_held (s.calls t) ≡ Some k → s.pages k.0 k.1 ≡ None
 
--- the one index for which a touch or an allocation has a change open, or a frame in its hand
-abbrev pub counts_on : Option Call → Option (ℕ × ℕ)
-counts_on (Some (call.Touch (touch.Changed p))) = Some (p.touch.file, p.touch.index)
-counts_on (Some (call.Touch (touch.Taken p))) = Some (p.touch.file, p.touch.index)
-counts_on (Some (call.Touch (touch.Settle p))) = Some (p.touch.file, p.touch.index)
-counts_on (Some (call.Touch (touch.Committed p))) = Some (p.touch.file, p.touch.index)
-counts_on (Some (call.Touch (touch.Restore p))) = Some (p.touch.file, p.touch.index)
-counts_on (Some (call.Alloc (alloc.Changed p))) = Some (p.allocation.file, p.index)
-counts_on (Some (call.Alloc (alloc.Taken p))) = Some (p.allocation.file, p.index)
-counts_on (Some (call.Alloc (alloc.Settle p))) = Some (p.allocation.file, p.index)
-counts_on (Some (call.Alloc (alloc.Committed p))) = Some (p.allocation.file, p.index)
-counts_on (Some (call.Alloc (alloc.Restore p))) = Some (p.allocation.file, p.index)
-counts_on other = None
+-- a change in progress that isn't to be aborted covers that index
+abbrev pub is_covered : Progress → (file index : ℕ) → Bool
+is_covered NoChange f i = false
+is_covered (Counts file change) f i = (file == f) && is_within change.from change.to i
+is_covered (GivesUp file) f i = false
+
+-- a frame in a hand is to be the page of that index
+abbrev pub is_frame_for : (hand : Option ℕ) → (makes_page_at : Option (ℕ × ℕ)) → (file index : ℕ) → Bool
+is_frame_for None place f i = false
+is_frame_for (Some x) place f i = is_there place f i
+
+-- a call counts on an index where it has a change in progress that covers it, or a frame in its hand for its page
+abbrev pub counts_on : Option Call → (file index : ℕ) → Bool
+counts_on c f i = is_covered (standing_of c).change f i || is_frame_for (standing_of c).hand (made_at (standing_of c).work (standing_of c).slot) f i
 
 -- a reserved index goes only at a delete or a tail, under the file lock, and no other call counts on it
 abbrev pub GoesUnderLock : State → Event → (file index : ℕ) → Type 0
 GoesUnderLock s event f i = (t : ℕ) × (grant : Bool) × (c : Call) × (event ≡ Step t grant) × (s.calls t ≡ Some c) × (s.locks f ≡ Some t)
-    × ((word_of c ≡ word.Delete) ⊎ (word_of c ≡ word.Tail)) × ((u : ℕ) → u ≢ t → counts_on (s.calls u) ≡ Some (f, i) → ⊥)
+    × ((word_of c ≡ word.Delete) ⊎ (word_of c ≡ word.Tail)) × ((u : ℕ) → u ≢ t → counts_on (s.calls u) f i ≡ false)
+
+abbrev pub used_at : Work → Option (ℕ × ℕ) → Option (ℕ × ℕ)
+used_at NoWork place = None
+used_at Makes place = place
+used_at Uses place = place
+used_at Removes place = None
+used_at Removed place = None
 
 -- the one index for which a touch or an allocation makes a page, or found one
 abbrev pub works_at : Option Call → Option (ℕ × ℕ)
-works_at (Some (call.Touch (touch.Missing p))) = Some (p.touch.file, p.touch.index)
-works_at (Some (call.Touch (touch.Changed p))) = Some (p.touch.file, p.touch.index)
-works_at (Some (call.Touch (touch.Abort p))) = Some (p.touch.file, p.touch.index)
-works_at (Some (call.Touch (touch.Taken p))) = Some (p.touch.file, p.touch.index)
-works_at (Some (call.Touch (touch.Settle p))) = Some (p.touch.file, p.touch.index)
-works_at (Some (call.Touch (touch.Committed p))) = Some (p.touch.file, p.touch.index)
-works_at (Some (call.Touch (touch.Restore p))) = Some (p.touch.file, p.touch.index)
-works_at (Some (call.Touch (touch.Found p))) = Some (p.touch.file, p.touch.index)
-works_at (Some (call.Alloc (alloc.Missing p))) = Some (p.allocation.file, p.index)
-works_at (Some (call.Alloc (alloc.Changed p))) = Some (p.allocation.file, p.index)
-works_at (Some (call.Alloc (alloc.Abort p))) = Some (p.allocation.file, p.index)
-works_at (Some (call.Alloc (alloc.Taken p))) = Some (p.allocation.file, p.index)
-works_at (Some (call.Alloc (alloc.Settle p))) = Some (p.allocation.file, p.index)
-works_at (Some (call.Alloc (alloc.Committed p))) = Some (p.allocation.file, p.index)
-works_at (Some (call.Alloc (alloc.Restore p))) = Some (p.allocation.file, p.index)
-works_at other = None
+works_at c = used_at (standing_of c).work (standing_of c).slot
 
 -- an index that a truncation has passed, or at which it took the page away, has no page, and no other call
 -- works there

@@ -1,47 +1,52 @@
 -- How calls stand to the indices of their file: where one may still place a page, and which ones a
 -- truncation has yet to pass, has passed, or has taken out of the reserve map.
 use Rattle.std.specs.Prelude.{ℕ, ◌==◌, ◌&&◌, nat_le, nat_lt, Bool, false, Option, Some, None}
-use Rattle.hp_machine.specs.declared.touch.TouchPhase.TheVariants as touch
-use Rattle.hp_machine.specs.declared.truncate.TruncatePhase.TheVariants as truncate
+use Rattle.hp_machine.specs.Standings.{Work, NoWork, Makes, Uses, Removes, Removed, Sweep, NoSweep, At, Past, Gone, standing_of}
 use Rattle.hp_machine.specs.declared.call.Call.{Call}
-use Rattle.hp_machine.specs.declared.call.Call.TheVariants as call
+
+-- what a call that makes a page there says of the file and index whose slot it holds; others say nothing
+abbrev pub made_at : Work → Option (ℕ × ℕ) → Option (ℕ × ℕ)
+made_at NoWork place = None
+made_at Makes place = place
+made_at Uses place = None
+made_at Removes place = None
+made_at Removed place = None
+
+-- of those that hold no file lock, which touches are
+abbrev pub unlocked : Option ℕ → Option (ℕ × ℕ) → Option (ℕ × ℕ)
+unlocked None place = place
+unlocked (Some f) place = None
 
 -- the file and index at which a touch may place a page: it was below the size
 abbrev pub fills : Option Call → Option (ℕ × ℕ)
-fills (Some (call.Touch (touch.Missing p))) = Some (p.touch.file, p.touch.index)
-fills (Some (call.Touch (touch.Changed p))) = Some (p.touch.file, p.touch.index)
-fills (Some (call.Touch (touch.Abort p))) = Some (p.touch.file, p.touch.index)
-fills (Some (call.Touch (touch.Taken p))) = Some (p.touch.file, p.touch.index)
-fills (Some (call.Touch (touch.Settle p))) = Some (p.touch.file, p.touch.index)
-fills (Some (call.Touch (touch.Committed p))) = Some (p.touch.file, p.touch.index)
-fills (Some (call.Touch (touch.Restore p))) = Some (p.touch.file, p.touch.index)
-fills other = None
+fills c = unlocked (standing_of c).lock (made_at (standing_of c).work (standing_of c).slot)
+
+abbrev pub is_ahead : Sweep → (file index : ℕ) → Bool
+is_ahead NoSweep f i = false
+is_ahead (At file at) f i = (file == f) && nat_le i at
+is_ahead (Past file new) f i = false
+is_ahead (Gone file new) f i = false
+
+abbrev pub is_passed : Sweep → (file index : ℕ) → Bool
+is_passed NoSweep f i = false
+is_passed (At file at) f i = (file == f) && nat_lt at i
+is_passed (Past file new) f i = (file == f) && nat_le new i
+is_passed (Gone file new) f i = (file == f) && nat_le new i
+
+abbrev pub is_gone : Sweep → (file index : ℕ) → Bool
+is_gone NoSweep f i = false
+is_gone (At file at) f i = false
+is_gone (Past file new) f i = false
+is_gone (Gone file new) f i = (file == f) && nat_le new i
 
 -- a truncation that set the size has yet to pass that index
 abbrev pub ahead : Option Call → (file index : ℕ) → Bool
-ahead (Some (call.Truncate (truncate.Want p))) f i = (p.truncation.file == f) && nat_le i p.index
-ahead (Some (call.Truncate (truncate.Locked p))) f i = (p.truncation.file == f) && nat_le i p.index
-ahead (Some (call.Truncate (truncate.Unmap p))) f i = (p.truncation.file == f) && nat_le i p.index
-ahead (Some (call.Truncate (truncate.Evict p))) f i = (p.truncation.file == f) && nat_le i p.index
-ahead (Some (call.Truncate (truncate.Free p))) f i = (p.truncation.file == f) && nat_le i p.index
-ahead (Some (call.Truncate (truncate.Unslot p))) f i = (p.truncation.file == f) && nat_le i p.index
-ahead other f i = false
+ahead c f i = is_ahead (standing_of c).sweep f i
 
 -- or has passed it
 abbrev pub passed : Option Call → (file index : ℕ) → Bool
-passed (Some (call.Truncate (truncate.Want p))) f i = (p.truncation.file == f) && nat_lt p.index i
-passed (Some (call.Truncate (truncate.Locked p))) f i = (p.truncation.file == f) && nat_lt p.index i
-passed (Some (call.Truncate (truncate.Unmap p))) f i = (p.truncation.file == f) && nat_lt p.index i
-passed (Some (call.Truncate (truncate.Evict p))) f i = (p.truncation.file == f) && nat_lt p.index i
-passed (Some (call.Truncate (truncate.Free p))) f i = (p.truncation.file == f) && nat_lt p.index i
-passed (Some (call.Truncate (truncate.Unslot p))) f i = (p.truncation.file == f) && nat_lt p.index i
-passed (Some (call.Truncate (truncate.Tail p))) f i = (p.truncation.file == f) && nat_le p.truncation.new i
-passed (Some (call.Truncate (truncate.Settle p))) f i = (p.truncation.file == f) && nat_le p.truncation.new i
-passed (Some (call.Truncate (truncate.Leave p))) f i = (p.truncation.file == f) && nat_le p.truncation.new i
-passed other f i = false
+passed c f i = is_passed (standing_of c).sweep f i
 
 -- or has taken it out of the reserve map
 abbrev pub gone : Option Call → (file index : ℕ) → Bool
-gone (Some (call.Truncate (truncate.Settle p))) f i = (p.truncation.file == f) && nat_le p.truncation.new i
-gone (Some (call.Truncate (truncate.Leave p))) f i = (p.truncation.file == f) && nat_le p.truncation.new i
-gone other f i = false
+gone c f i = is_gone (standing_of c).sweep f i

@@ -2,29 +2,15 @@
 use Rattle.std.specs.Prelude.{◌≡◌, ◌≢◌, ◌⊎◌, ℕ, Bool, Some, None, List, [], ◌∷◌, ◌++◌}
 use Rattle.hp_base.specs.Mappings.{find}
 use Rattle.hp_base.specs.declared.answer.Answer.TheVariants as answer
-use Rattle.hp_base.specs.declared.event.Event.{Event}
 use Rattle.hp_base.specs.declared.event.Event.TheVariants.{Step}
-use Rattle.hp_machine.specs.State.{Geometry, State}
-use Rattle.hp_machine.specs.Events.{Row, opening}
 use Rattle.hp_machine.specs.declared.touch.Access.TheVariants.{Load, Store}
 use Rattle.hp_machine.specs.declared.touch.Look.{Look}
 use Rattle.hp_machine.specs.declared.touch.Found.{Found}
 use Rattle.hp_machine.specs.declared.touch.TouchPhase.TheVariants as touch
-use Rattle.hp_machine.specs.declared.outcome.Outcome.{Outcome}
 use Rattle.hp_machine.specs.declared.outcome.Outcome.TheVariants as outcome
 use Rattle.hp_machine.specs.declared.call.Call.TheVariants as call
-
--- one event of a run, with the states around it
-pub record Moment : Type 0 where
-  pub before : State
-  pub event : Event
-  pub outcome : Outcome
-  pub after : State
-
--- what happened from the opening state on, the latest first
-abbrev pub History : Geometry → (frames : ℕ) → List Moment → State → Type 0
-History g frames [] s = s ≡ opening g frames
-History g frames (m ∷ ms) s = (m.after ≡ s) × Row m.before m.event m.outcome m.after × History g frames ms m.before
+use Rattle.hp_laws.specs.Bounds.{calls_begun}
+use Rattle.hp_laws.specs.Histories.{Moment, in_order}
 
 -- a store found its page translated, and wrote that word at the file's index
 abbrev pub StoredAtLook : (file index : ℕ) → Moment → (word : ℕ) → Type 0
@@ -64,7 +50,17 @@ ReadAtFound f i m w = (t : ℕ) × (grant : Bool) × (p : Found) × (m.event ≡
 abbrev pub Read : (file index : ℕ) → Moment → (word : ℕ) → Type 0
 Read f i m w = ReadAtLook f i m w ⊎ ReadAtFound f i m w
 
--- the events with their outcomes, the earliest first
-abbrev pub in_order : List Moment → List (Event × Outcome)
-in_order [] = []
-in_order (m ∷ ms) = in_order ms ++ ((m.event, m.outcome) ∷ [])
+-- at one of these moments a step of the task read that word, and it was the last word of its page then; the task began no
+-- call after it, so the latest moment is of the same call
+pub record ReadTheLastWord (task word : ℕ) (moments : List Moment) : Type 0 where
+  pub later : List Moment
+  pub read : Moment
+  pub earlier : List Moment
+  pub parts : moments ≡ later ++ (read ∷ earlier)
+  pub grant : Bool
+  pub own_step : read.event ≡ Step task grant
+  pub same_call : calls_begun task (in_order later) ≡ 0
+  pub file : ℕ
+  pub index : ℕ
+  pub told : Read file index read word
+  pub last : LastWord file index earlier word

@@ -204,20 +204,22 @@ Run s (e ∷ es) new = (mid : State) × Row s e.0 e.1 mid × Run mid es new
 -- no free set, and tasks that aren't there are dead
 abbrev pub opening : Geometry → (frames : ℕ) → State
 opening g frames = record {
-  geometry = g;
-  frames = frames;
-  frame = λ x. if nat_lt x frames then Free else Hand;
-  resv = 0;
-  slots = λ _. None;
-  locks = λ _. None;
-  size = λ _. 0;
-  pending = λ _. 0;
-  spare = λ _. 0;
-  reserved = λ _ _. false;
-  pages = λ _ _. None;
-  prepared = λ _. false;
-  areas = λ _. [];
-  table = λ _ _. None;
+  pool = record {
+    geometry = g;
+    frames = frames;
+    frame = λ x. if nat_lt x frames then Free else Hand;
+    resv = 0;
+    slots = λ _. None;
+    locks = λ _. None;
+    size = λ _. 0;
+    pending = λ _. 0;
+    spare = λ _. 0;
+    reserved = λ _ _. false;
+    pages = λ _ _. None;
+    prepared = λ _. false;
+    areas = λ _. [];
+    table = λ _ _. None;
+  };
   life = λ t. if nat_le 1 t && nat_le t g.tasks then life.Alive else life.Dead;
   calls = λ _. None;
 }

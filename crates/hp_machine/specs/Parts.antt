@@ -90,7 +90,7 @@ CommitRow s f change settle next turn new =
     (Goes next (committed s f change) turn new)
 
 -- a frame for one page: a reserved one where nothing was missing, else one that isn't reserved
--- (Linux: `dequeue_hugetlb_folio`)
+-- (Linux: `dequeue_huge_page_vma`)
 abbrev pub TakeRow : {P : Type 0} → Pool → (missing : ℕ) → (no_frame : P) → (taken : ℕ → P) → Turn P → Pool → Type 0
 TakeRow s missing no_frame taken turn new =
     MatchBool (missing == 0)

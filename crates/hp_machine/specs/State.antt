@@ -36,30 +36,18 @@ pub record Pool : Type 0 where
   pub areas : ℕ → List Mapping
   pub table : ℕ → ℕ → Option ℕ
 
--- and with it how each task lives, and its call in flight
+-- and with it how each task lives, and its call in flight. What the pool has is read off a state too: `s.size`
 pub record State : Type 0 where
-  pub geometry : Geometry
-  pub frames : ℕ
-  pub frame : ℕ → FrameState
-  pub resv : ℕ
-  pub slots : ℕ → Option ℕ
-  pub locks : ℕ → Option ℕ
-  pub size : ℕ → ℕ
-  pub pending : ℕ → ℕ
-  pub spare : ℕ → ℕ
-  pub reserved : ℕ → ℕ → Bool
-  pub pages : ℕ → ℕ → Option ℕ
-  pub prepared : ℕ → Bool
-  pub areas : ℕ → List Mapping
-  pub table : ℕ → ℕ → Option ℕ
+  pub pool : Pool
+  pub open pool use *
   pub life : ℕ → Life
   pub calls : ℕ → Option Call
 
 abbrev pub pool_of : State → Pool
-pool_of s = record { geometry = s.geometry; frames = s.frames; frame = s.frame; resv = s.resv; slots = s.slots; locks = s.locks; size = s.size; pending = s.pending; spare = s.spare; reserved = s.reserved; pages = s.pages; prepared = s.prepared; areas = s.areas; table = s.table }
+pool_of s = s.pool
 
 abbrev pub with_pool : State → Pool → State
-with_pool s p = record { geometry = p.geometry; frames = p.frames; frame = p.frame; resv = p.resv; slots = p.slots; locks = p.locks; size = p.size; pending = p.pending; spare = p.spare; reserved = p.reserved; pages = p.pages; prepared = p.prepared; areas = p.areas; table = p.table; life = s.life; calls = s.calls }
+with_pool s p = record s { pool = p }
 
 abbrev pub is_free : FrameState → Bool
 is_free Free = true

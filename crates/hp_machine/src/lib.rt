@@ -3,9 +3,9 @@
 //! It stands on the vocabulary of hp_base and on the two tokens, a frame in a call's hand (hp_frames)
 //! and a change in progress (hp_region). The phases of each operation are Rust types that the steps
 //! of the calls move through; `specs/` has the state as functions of numbers, and one file of rows
-//! for each operation, where of the conditions of a row the first that holds decides. It promises
-//! nothing and proves nothing: the steps above it cite its rows, and hp_laws proves what every run of
-//! them keeps. It knows neither lists nor memory.
+//! for each operation, where of the conditions of a row the first that holds decides. Of its
+//! rows it promises nothing: the steps above it cite them, and hp_laws proves what every run of them
+//! keeps. What it promises is the text of outcomes. It knows no memory, and no list but a task's mappings.
 #![tactic(auto)]
 
 pub mod alloc;

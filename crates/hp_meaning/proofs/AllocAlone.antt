@@ -76,9 +76,11 @@ record Short (s : State) (t : ℕ) (a : Allocation) (i : ℕ) (pages : ℕ → O
   leads : Leads (AllocSteps t) b end (record (paged s t a.file a.from i pages frame resv spare) { slots = put s.slots (slot_of s.geometry a.file i) (Some t) }) (at.Unslot (record { allocation = a; index = i; answer = Some NoFrame }))
 
 -- an index with a page
-cached_index : (s : State) (t : ℕ) (a : Allocation) (i x : ℕ) (pages : ℕ → Option ℕ) (frame : ℕ → FrameState) (resv : ℕ) (spare : ℕ → ℕ) (b : Answer) (end : Pool) → Ready s a.file → a.from ≤ i → Upto s a.file a.from i pages frame resv
+cached_index : (s : State) (t : ℕ) (a : Allocation) (i x : ℕ) (pages : ℕ → Option ℕ) (frame : ℕ → FrameState) (resv : ℕ) (spare : ℕ → ℕ) (b : Answer) (end : Pool)
+    → Ready s a.file → a.from ≤ i → Upto s a.file a.from i pages frame resv
     → s.pages a.file i ≡ Some x
-    → Leads (AllocSteps t) b end (record (paged s t a.file a.from i pages frame resv spare) { slots = put s.slots (slot_of s.geometry a.file i) (Some t) }) (at.Locked (record { allocation = a; index = i })) → OneMore s t a i b end
+    → Leads (AllocSteps t) b end (record (paged s t a.file a.from i pages frame resv spare) { slots = put s.slots (slot_of s.geometry a.file i) (Some t) }) (at.Locked (record { allocation = a; index = i }))
+    → OneMore s t a i b end
 cached_index s t a i x pages frame resv spare b end h low u e k =
     let f = a.file in
     let here : put s.pages f pages f i ≡ Some x = ap (λ (row : ℕ → Option ℕ). row i) (put_same s.pages f pages) ∙ u.filled.kept i x e in
@@ -108,7 +110,8 @@ abbrev spared : State → (file : ℕ) → (ℕ → ℕ) → ℕ → ℕ
 spared s f spare = put spare f (max (spare f) (s.pending f + 1))
 
 -- the change of one index is begun
-abbrev changing : State → (task : ℕ) → Allocation → (i : ℕ) → (pages : ℕ → Option ℕ) → (frame : ℕ → FrameState) → (resv : ℕ) → (spare : ℕ → ℕ) → Pool
+abbrev changing : State → (task : ℕ) → Allocation → (i : ℕ) → (pages : ℕ → Option ℕ) → (frame : ℕ → FrameState) → (resv : ℕ)
+    → (spare : ℕ → ℕ) → Pool
 changing s t a i pages frame resv spare = record (paged s t a.file a.from i pages frame resv (spared s a.file spare)) {
   slots = put s.slots (slot_of s.geometry a.file i) (Some t);
   pending = put s.pending a.file (s.pending a.file + 1);
@@ -122,9 +125,12 @@ abbrev change_of : State → Allocation → (i : ℕ) → Change
 change_of s a i = record { from = i; to = i + 1; missing = missing (reserved_at s a.file a.from i) i (i + 1) }
 
 -- a frame is taken for an index without a page
-taken_index : (s : State) (t : ℕ) (a : Allocation) (i x : ℕ) (pages : ℕ → Option ℕ) (frame : ℕ → FrameState) (resv resv' : ℕ) (spare : ℕ → ℕ) (b : Answer) (end : Pool) → Ready s a.file → a.from ≤ i → Upto s a.file a.from i pages frame resv
-    → s.pages a.file i ≡ None → frame x ≡ Free → resv' + promised s a.file a.from (i + 1) ≡ s.resv → missing (s.reserved a.file) a.from (i + 1) ≤ available s
-    → Leads (AllocSteps t) b end (changing s t a i pages (put frame x Hand) resv' spare) (at.Taken (record { allocation = a; index = i; pending = change_of s a i; held = x })) → OneMore s t a i b end
+taken_index : (s : State) (t : ℕ) (a : Allocation) (i x : ℕ) (pages : ℕ → Option ℕ) (frame : ℕ → FrameState) (resv resv' : ℕ) (spare : ℕ → ℕ) (b : Answer) (end : Pool)
+    → Ready s a.file → a.from ≤ i → Upto s a.file a.from i pages frame resv
+    → s.pages a.file i ≡ None → frame x ≡ Free → resv' + promised s a.file a.from (i + 1) ≡ s.resv
+    → missing (s.reserved a.file) a.from (i + 1) ≤ available s
+    → Leads (AllocSteps t) b end (changing s t a i pages (put frame x Hand) resv' spare) (at.Taken (record { allocation = a; index = i; pending = change_of s a i; held = x }))
+    → OneMore s t a i b end
 taken_index s t a i x pages frame resv resv' spare b end h low u bare free count within k =
     let f = a.file in
     let k1 = goes_on k (λ turn m r. if_false _ _ (not_below_itself (missing (reserved_at s a.file a.from i) i (i + 1))) r) in
@@ -153,14 +159,17 @@ taken_index s t a i x pages frame resv resv' spare b end h low u bare free count
     }
 
 -- an index without a page
-bare_index : (s : State) (t : ℕ) (a : Allocation) (i : ℕ) (pages : ℕ → Option ℕ) (frame : ℕ → FrameState) (resv : ℕ) (spare : ℕ → ℕ) (b : Answer) (end : Pool) → Ready s a.file → a.from ≤ i → Upto s a.file a.from i pages frame resv
+bare_index : (s : State) (t : ℕ) (a : Allocation) (i : ℕ) (pages : ℕ → Option ℕ) (frame : ℕ → FrameState) (resv : ℕ) (spare : ℕ → ℕ) (b : Answer) (end : Pool)
+    → Ready s a.file → a.from ≤ i → Upto s a.file a.from i pages frame resv
     → s.pages a.file i ≡ None
     → Leads (AllocSteps t) b end (record (paged s t a.file a.from i pages frame resv spare) { slots = put s.slots (slot_of s.geometry a.file i) (Some t) }) (at.Locked (record { allocation = a; index = i }))
     → OneMore s t a i b end ⊎ Short s t a i pages frame resv b end
 bare_index s t a i pages frame resv spare b end h low u bare k = by_reserved (s.reserved a.file i) refl
   where
     here : put s.pages a.file pages a.file i ≡ None
-    here = let out : is_within a.from i i ≡ false = grind (arith, nat_tests) in ap (λ (row : ℕ → Option ℕ). row i) (put_same s.pages a.file pages) ∙ (u.filled.elsewhere i out ∙ bare)
+    here =
+        let out : is_within a.from i i ≡ false = grind (arith, nat_tests) in
+        ap (λ (row : ℕ → Option ℕ). row i) (put_same s.pages a.file pages) ∙ (u.filled.elsewhere i out ∙ bare)
 
     k2 : Leads (AllocSteps t) b end (changing s t a i pages frame resv spare) (at.Changed (record { allocation = a; index = i; pending = change_of s a i }))
     k2 = goes_on (goes_on k (λ turn m r. if_false _ _ (ap is_some here) r)) (λ turn m r. if_false _ _ (and_false (spare a.file == s.pending a.file)) r)
@@ -171,7 +180,8 @@ bare_index s t a i pages frame resv spare b end h low u bare k = by_reserved (s.
     is_zero : (m v : ℕ) → m ≡ v → (m == 0) ≡ (v == 0)
     is_zero m v e = ap (λ (k : ℕ). k == 0) e
 
-    missed : (c : Bool) → s.reserved a.file i ≡ c → missing (s.reserved a.file) a.from (i + 1) ≡ missing (s.reserved a.file) a.from i + cond (not c) 1 0
+    missed : (c : Bool) → s.reserved a.file i ≡ c
+        → missing (s.reserved a.file) a.from (i + 1) ≡ missing (s.reserved a.file) a.from i + cond (not c) 1 0
     missed c e = missing_next (s.reserved a.file) a.from i low ∙ ap (λ (d : Bool). missing (s.reserved a.file) a.from i + cond (not d) 1 0) e
 
     counted : (c : Bool) → s.reserved a.file i ≡ c → promised s a.file a.from (i + 1) ≡ promised s a.file a.from i + cond (c && true) 1 0
@@ -213,8 +223,10 @@ bare_index s t a i pages frame resv spare b end h low u bare k = by_reserved (s.
         inl (taken_index s t a i r.0 pages frame resv resv spare b end h low u bare r.1 (omega arith) (omega arith) (moves z.3 r.2)))
 
 -- one index from its head on
-one_index : (s : State) (t : ℕ) (a : Allocation) (i : ℕ) (pages : ℕ → Option ℕ) (frame : ℕ → FrameState) (resv : ℕ) (spare : ℕ → ℕ) (b : Answer) (end : Pool) → Ready s a.file → a.from ≤ i → Upto s a.file a.from i pages frame resv
-    → Leads (AllocSteps t) b end (paged s t a.file a.from i pages frame resv spare) (at.Head (record { allocation = a; index = i })) → OneMore s t a i b end ⊎ Short s t a i pages frame resv b end
+one_index : (s : State) (t : ℕ) (a : Allocation) (i : ℕ) (pages : ℕ → Option ℕ) (frame : ℕ → FrameState) (resv : ℕ) (spare : ℕ → ℕ) (b : Answer) (end : Pool)
+    → Ready s a.file → a.from ≤ i → Upto s a.file a.from i pages frame resv
+    → Leads (AllocSteps t) b end (paged s t a.file a.from i pages frame resv spare) (at.Head (record { allocation = a; index = i }))
+    → OneMore s t a i b end ⊎ Short s t a i pages frame resv b end
 one_index s t a i pages frame resv spare b end h low u k = by_page (s.pages a.file i) refl
   where
     k2 : Leads (AllocSteps t) b end (record (paged s t a.file a.from i pages frame resv spare) { slots = put s.slots (slot_of s.geometry a.file i) (Some t) }) (at.Locked (record { allocation = a; index = i }))
@@ -250,7 +262,8 @@ record Stopped (s : State) (t : ℕ) (a : Allocation) (b : Answer) (end : Pool) 
   none : b ≡ NoFrame
   to : PagedTo s t a.file a.from x s.size end
 
-stops_at : (s : State) (t : ℕ) (a : Allocation) (i : ℕ) (pages : ℕ → Option ℕ) (frame : ℕ → FrameState) (resv : ℕ) (b : Answer) (end : Pool) → Ready s a.file → a.from ≤ i → i < a.from + a.len → Upto s a.file a.from i pages frame resv
+stops_at : (s : State) (t : ℕ) (a : Allocation) (i : ℕ) (pages : ℕ → Option ℕ) (frame : ℕ → FrameState) (resv : ℕ) (b : Answer) (end : Pool)
+    → Ready s a.file → a.from ≤ i → i < a.from + a.len → Upto s a.file a.from i pages frame resv
     → Short s t a i pages frame resv b end → Stopped s t a b end
 stops_at s t a i pages frame resv b end h low high u o =
     let z = ends_so (goes_on o.leads (λ turn m r. r)) (λ turn m r. r) in
@@ -265,7 +278,8 @@ stops_at s t a i pages frame resv b end h low high u o =
       to = record { pages = pages; frame = frame; resv = resv; spare = o.spare; upto = u; ends = z.1 ∙ (λ j. record (paged s t a.file a.from i pages frame resv o.spare) { slots = slots j; locks = locks j }) };
     }
 
-ends_at : (s : State) (t : ℕ) (a : Allocation) (i : ℕ) (b : Answer) (end : Pool) → Ready s a.file → i + 1 ≡ a.from + a.len → OneMore s t a i b end → All s t a b end
+ends_at : (s : State) (t : ℕ) (a : Allocation) (i : ℕ) (b : Answer) (end : Pool) → Ready s a.file → i + 1 ≡ a.from + a.len
+    → OneMore s t a i b end → All s t a b end
 ends_at s t a i b end h e o =
     let z = next o.leads in
     let last : nat_lt (i + 1) (a.from + a.len) ≡ false = grind (arith, nat_tests) in
@@ -286,8 +300,10 @@ ends_at s t a i b end h e o =
     record { done = y.0; to = whole size sized (y.1 ∙ (λ j. record (paged s t a.file a.from (i + 1) o.pages o.frame o.resv o.spare) { slots = slots j; locks = locks j; size = size })) })
 
 -- the indices from i on
-indices : (s : State) (t : ℕ) (a : Allocation) (d i : ℕ) (pages : ℕ → Option ℕ) (frame : ℕ → FrameState) (resv : ℕ) (spare : ℕ → ℕ) (b : Answer) (end : Pool) → Ready s a.file → a.from ≤ i → i + d + 1 ≡ a.from + a.len → Upto s a.file a.from i pages frame resv
-    → Leads (AllocSteps t) b end (paged s t a.file a.from i pages frame resv spare) (at.Head (record { allocation = a; index = i })) → All s t a b end ⊎ Stopped s t a b end
+indices : (s : State) (t : ℕ) (a : Allocation) (d i : ℕ) (pages : ℕ → Option ℕ) (frame : ℕ → FrameState) (resv : ℕ) (spare : ℕ → ℕ) (b : Answer) (end : Pool)
+    → Ready s a.file → a.from ≤ i → i + d + 1 ≡ a.from + a.len → Upto s a.file a.from i pages frame resv
+    → Leads (AllocSteps t) b end (paged s t a.file a.from i pages frame resv spare) (at.Head (record { allocation = a; index = i }))
+    → All s t a b end ⊎ Stopped s t a b end
 indices s t a zero i pages frame resv spare b end h low e u k = elim (one_index s t a i pages frame resv spare b end h low u k) [
   | inl o ↦ inl (ends_at s t a i b end h (omega arith) o)
   | inr o ↦ inr (stops_at s t a i pages frame resv b end h low (omega arith) u o)
@@ -302,12 +318,14 @@ indices s t a (suc d) i pages frame resv spare b end h low e u k = elim (one_ind
 ]
 
 -- what the pool says of the table
-range_paged : (s : State) (t f from to : ℕ) (size : ℕ → ℕ) (end : Pool) → (z : PagedTo s t f from to size end) → (promised s f from to ≤ s.resv) × (z.resv ≡ s.resv - promised s f from to)
+range_paged : (s : State) (t f from to : ℕ) (size : ℕ → ℕ) (end : Pool) → (z : PagedTo s t f from to size end)
+    → (promised s f from to ≤ s.resv) × (z.resv ≡ s.resv - promised s f from to)
 range_paged s t f from to size end z = let c = z.upto.count in (omega arith, omega arith)
 
 -- an allocation from its first phase on
 pub alloc_means : (s : State) (t f from len : ℕ) (keep : Bool) (b : Answer) (n : State) → Inv s.geometry s → IsReady s t
-    → Comes call.Alloc (AllocSteps t) s t b n (pool_of s) (at.Start (record { allocation = record { file = f; from = from; len = len; keep = keep } })) → (m : State) × Checked s f (is_bad_range s from len) b m (AllocMeans s f from len keep b m) × Looks m n
+    → Comes call.Alloc (AllocSteps t) s t b n (pool_of s) (at.Start (record { allocation = record { file = f; from = from; len = len; keep = keep } }))
+    → (m : State) × Checked s f (is_bad_range s from len) b m (AllocMeans s f from len keep b m) × Looks m n
 alloc_means s t f from len keep b n h ready (end, last, k, is) =
     checked call.Alloc (AllocSteps t) s t f (is_bad_range s from len) b n end last _ (at.Head (record { allocation = a; index = from })) Interrupted (AllocMeans s f from len keep) (free_lock s h ready.0 f) (ready.0 t) refl (λ turn m r. r) k is
     (λ _ good k.
@@ -327,12 +345,14 @@ alloc_means s t f from len keep b n h ready (end, last, k, is) =
           let resv = r.1 in
           finish call.Alloc s t last (AllocMeans s f from len keep) _ (z.done, z.to.ends) is (so_true _ _ enough (refl, (z.to.pages, z.to.frame, z.to.upto.filled, r.0, refl)))
           (λ j. record s {
-            frame = z.to.frame;
-            pages = put s.pages f z.to.pages;
-            reserved = put s.reserved f (gains j);
-            resv = resv j;
-            size = size_after s a;
-            spare = z.to.spare;
+            pool = record s.pool {
+              frame = z.to.frame;
+              pages = put s.pages f z.to.pages;
+              reserved = put s.reserved f (gains j);
+              resv = resv j;
+              size = size_after s a;
+              spare = z.to.spare;
+            };
             calls = calls j;
           }))
       | inr z ↦ (
@@ -347,11 +367,13 @@ alloc_means s t f from len keep b n h ready (end, last, k, is) =
           let resv = r.1 in
           finish call.Alloc s t last (AllocMeans s f from len keep) _ (z.none, z.to.ends) is (so_false _ _ short (z.x, in_range, z.lacks, z.all, refl, (z.to.pages, z.to.frame, z.to.upto.filled, r.0, refl)))
           (λ j. record s {
-            frame = z.to.frame;
-            pages = put s.pages f z.to.pages;
-            reserved = put s.reserved f (gains j);
-            resv = resv j;
-            spare = z.to.spare;
+            pool = record s.pool {
+              frame = z.to.frame;
+              pages = put s.pages f z.to.pages;
+              reserved = put s.reserved f (gains j);
+              resv = resv j;
+              spare = z.to.spare;
+            };
             calls = calls j;
           }))
     ])

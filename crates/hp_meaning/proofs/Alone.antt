@@ -49,29 +49,35 @@ pub record Rest {P : Type 0} (R : Pool → P → Turn P → Pool → Type 0) (b 
   pub rest : Then R b n turn m
 
 -- the next step: its turn, its row, and what is left
-pub next : {P : Type 0} {R : Pool → P → Turn P → Pool → Type 0} {b : Answer} {n s : Pool} {p : P} → Leads R b n s p → (turn : Turn P) × (m : Pool) × R s p turn m × Rest R b n turn m
+pub next : {P : Type 0} {R : Pool → P → Turn P → Pool → Type 0} {b : Answer} {n s : Pool} {p : P} → Leads R b n s p
+    → (turn : Turn P) × (m : Pool) × R s p turn m × Rest R b n turn m
 next {b = b} {n = n} (Leads.ends r) = (Ended b, n, r, record { rest = (refl, refl) })
 next (Leads.goes {m = m} {q = q} r k) = (Moved q, m, r, record { rest = k })
 next (Leads.waits {m = m} {q = q} h r k) = (Blocked q h, m, r, record { rest = k })
 
 -- the turn moved
-pub moves : {P : Type 0} {R : Pool → P → Turn P → Pool → Type 0} {b : Answer} {n m after : Pool} {turn : Turn P} {q : P} → Rest R b n turn m → Goes q after turn m → Leads R b n after q
+pub moves : {P : Type 0} {R : Pool → P → Turn P → Pool → Type 0} {b : Answer} {n m after : Pool} {turn : Turn P} {q : P}
+    → Rest R b n turn m → Goes q after turn m → Leads R b n after q
 moves {P} {R} {b} {n} {m} {q = q} k e = subst (λ (x : Pool). Leads R b n x q) e.1 (subst (λ (u : Turn P). Then R b n u m) e.0 k.rest)
 
 -- or ended the call
-pub stops : {P : Type 0} {R : Pool → P → Turn P → Pool → Type 0} {b a : Answer} {n m after : Pool} {turn : Turn P} → Rest R b n turn m → Ends a after turn m → (b ≡ a) × (n ≡ after)
+pub stops : {P : Type 0} {R : Pool → P → Turn P → Pool → Type 0} {b a : Answer} {n m after : Pool} {turn : Turn P}
+    → Rest R b n turn m → Ends a after turn m → (b ≡ a) × (n ≡ after)
 stops {P} {R} {b} {n = n} {m = m} k e = (let z = subst (λ (u : Turn P). Then R b n u m) e.0 k.rest in (z.0, z.1 ∙ e.1))
 
 -- a step whose row can only move to one phase and pool
-pub goes_on : {P : Type 0} {R : Pool → P → Turn P → Pool → Type 0} {b : Answer} {n s after : Pool} {p q : P} → Leads R b n s p → ((turn : Turn P) (m : Pool) → R s p turn m → Goes q after turn m) → Leads R b n after q
+pub goes_on : {P : Type 0} {R : Pool → P → Turn P → Pool → Type 0} {b : Answer} {n s after : Pool} {p q : P} → Leads R b n s p
+    → ((turn : Turn P) (m : Pool) → R s p turn m → Goes q after turn m) → Leads R b n after q
 goes_on k only = let z = next k in moves z.3 (only z.0 z.1 z.2)
 
 -- or end the call
-pub ends_so : {P : Type 0} {R : Pool → P → Turn P → Pool → Type 0} {b a : Answer} {n s after : Pool} {p : P} → Leads R b n s p → ((turn : Turn P) (m : Pool) → R s p turn m → Ends a after turn m) → (b ≡ a) × (n ≡ after)
+pub ends_so : {P : Type 0} {R : Pool → P → Turn P → Pool → Type 0} {b a : Answer} {n s after : Pool} {p : P} → Leads R b n s p
+    → ((turn : Turn P) (m : Pool) → R s p turn m → Ends a after turn m) → (b ≡ a) × (n ≡ after)
 ends_so k only = let z = next k in stops z.3 (only z.0 z.1 z.2)
 
 -- the pool by another equation
-pub from_pool : {P : Type 0} {R : Pool → P → Turn P → Pool → Type 0} {b : Answer} {n s m : Pool} {p : P} → s ≡ m → Leads R b n s p → Leads R b n m p
+pub from_pool : {P : Type 0} {R : Pool → P → Turn P → Pool → Type 0} {b : Answer} {n s m : Pool} {p : P} → s ≡ m → Leads R b n s p
+    → Leads R b n m p
 from_pool {R = R} {b = b} {n = n} {p = p} e k = subst (λ (x : Pool). Leads R b n x p) e k
 
 pub put_put : {A : Type 0} (f : ℕ → A) (k : ℕ) (v w : A) → put (put f k v) k w ≡ put f k w
@@ -94,7 +100,8 @@ Comes {P} call R s t b n pool phase = (end : Pool) × (last : P) × Leads R b en
 
 -- the state after a step that goes on with the call
 goes_in_call : (s : State) (t : ℕ) (new : Pool) (c d : Call) (next_call : Option Call) (m : State) → next_call ≡ Some d
-    → m ≡ record (with_pool s new) { life = lives_after s.life t c next_call; calls = put (put s.calls t (Some c)) t next_call } → m ≡ in_call s t new d
+    → m ≡ record (with_pool s new) { life = lives_after s.life t c next_call; calls = put (put s.calls t (Some c)) t next_call }
+    → m ≡ in_call s t new d
 goes_in_call s t new c d next_call m leaves is =
     let lives = ap (lives_after s.life t c) leaves ∙ lives_some s.life t c d in
     let calls = put_put s.calls t (Some c) next_call ∙ ap (put s.calls t) leaves in
@@ -105,7 +112,8 @@ abbrev GoesOn : (t : ℕ) → Answer → Outcome → List (Event × Outcome) →
 GoesOn t b o es = ((o ≡ outcome.Ended b) × (es ≡ [])) ⊎ (((other : Answer) → o ≢ outcome.Ended other) × AreSteps t b es)
 
 -- a step that doesn't end the call
-not_over : (t : ℕ) (b : Answer) (o wanted : Outcome) (es : List (Event × Outcome)) → o ≡ wanted → ((a : Answer) → wanted ≢ outcome.Ended a) → GoesOn t b o es → AreSteps t b es
+not_over : (t : ℕ) (b : Answer) (o wanted : Outcome) (es : List (Event × Outcome)) → o ≡ wanted
+    → ((a : Answer) → wanted ≢ outcome.Ended a) → GoesOn t b o es → AreSteps t b es
 not_over t b o wanted es e moved (inl u) = absurd (moved b (sym e ∙ u.0))
 not_over t b o wanted es e moved (inr u) = u.1
 
@@ -136,7 +144,8 @@ lives_not_dead l e = (ap is_dead e, ap is_killed e)
 -- granted steps of an alive task alone are steps by its operation's rows
 pub comes : {P : Type 0} (call : P → Call) (R : Pool → P → Turn P → Pool → Type 0) (s : State) (t : ℕ) (b : Answer) (n : State)
     → ((pool new : Pool) (phase : P) (o : Outcome) (next_call : Option Call) → CallRow pool t false true (call phase) o new next_call → TurnRow call (R pool phase) o new next_call)
-    → s.life t ≡ Alive → (es : List (Event × Outcome)) (pool : Pool) (phase : P) → AreSteps t b es → Run (in_call s t pool (call phase)) es n → Comes call R s t b n pool phase
+    → s.life t ≡ Alive → (es : List (Event × Outcome)) (pool : Pool) (phase : P) → AreSteps t b es
+    → Run (in_call s t pool (call phase)) es n → Comes call R s t b n pool phase
 comes call R s t b n rows alive [] pool phase steps run = absurd steps
 comes call R s t b n rows alive (e ∷ es) pool phase steps run =
     let here = in_call s t pool (call phase) in

@@ -35,7 +35,8 @@ word_renamed to (call.Truncate p) = refl
 word_renamed to c = refl
 
 -- under names that call its frame alike a call is the same
-pub call_agrees : (p q : ℕ → ℕ) (c : Option Call) → ((x : ℕ) → hand c ≡ Some x → q x ≡ p x) → option_map (call_renamed q) c ≡ option_map (call_renamed p) c
+pub call_agrees : (p q : ℕ → ℕ) (c : Option Call) → ((x : ℕ) → hand c ≡ Some x → q x ≡ p x)
+    → option_map (call_renamed q) c ≡ option_map (call_renamed p) c
 call_agrees p q None h = refl
 call_agrees p q (Some (call.Touch (touch.Taken c))) h = ap (λ (x : ℕ). Some (call.Touch (touch.Taken (record c { held = x })))) (h c.held refl)
 call_agrees p q (Some (call.Touch (touch.Settle c))) h = ap (λ (x : ℕ). Some (call.Touch (touch.Settle (record c { held = x })))) (h c.held refl)
@@ -61,7 +62,8 @@ pub record CallFollows (frames : ℕ) (s : Pool) (r : Renaming frames) (o : Outc
 
 of_turns : {P : Type 0} {frames : ℕ} {s : Pool} {r : Renaming frames} {turn turn' : Turn P} {o o' : Outcome} {new new' : Pool} {next next' : Option Call} (call : P → Call) (rename : (ℕ → ℕ) → P → P)
     → ((to : ℕ → ℕ) (p : P) → call (rename to p) ≡ call_renamed to (call p)) → Follows P rename frames s r turn new turn' new'
-    → (o ≡ told call turn) × (next ≡ left call turn) → (o' ≡ told call turn') × (next' ≡ left call turn') → CallFollows frames s r o new next o' new' next'
+    → (o ≡ told call turn) × (next ≡ left call turn) → (o' ≡ told call turn') × (next' ≡ left call turn')
+    → CallFollows frames s r o new next o' new' next'
 of_turns {P} {turn = turn} call rename same h e d = record {
   names = h.names;
   keeps = h.keeps;
@@ -82,7 +84,9 @@ of_turns {P} {turn = turn} call rename same h e d = record {
     left_same (Ended a) = refl
 
 pub call_row : {frames : ℕ} {s : Pool} {r : Renaming frames} {o o' : Outcome} {new new' : Pool} {next next' : Option Call} (t : ℕ) (killed grant : Bool) (c : Call)
-    → Used frames s → CallRow s t killed grant c o new next → CallRow (pool_renamed r s) t killed grant (call_renamed r.to c) o' new' next' → CallFollows frames s r o new next o' new' next'
+    → Used frames s → CallRow s t killed grant c o new next
+    → CallRow (pool_renamed r s) t killed grant (call_renamed r.to c) o' new' next'
+    → CallFollows frames s r o new next o' new' next'
 unfolding CallRow
 call_row t killed grant (call.Touch p) h a b = of_turns call.Touch touch_renamed (λ to p. refl) (touch_row t killed grant p h a.1 b.1) (a.2, a.3) (b.2, b.3)
 call_row t killed grant (call.Map p) h a b = of_turns call.Map unnamed (λ to p. refl) (map_row t killed grant p h a.1 b.1) (a.2, a.3) (b.2, b.3)

@@ -29,28 +29,33 @@ abbrev pub unreserved : (ℕ → Bool) → (ℕ → Bool) → ℕ → Bool
 unreserved reserved gone = λ j. reserved j && not (gone j)
 
 -- a page that doesn't go
-pub page_kept : (pages : ℕ → ℕ → Option ℕ) (f i : ℕ) (gone : ℕ → Bool) → gone i ≡ false → put pages f (without_pages (pages f) gone) f i ≡ pages f i
+pub page_kept : (pages : ℕ → ℕ → Option ℕ) (f i : ℕ) (gone : ℕ → Bool) → gone i ≡ false
+    → put pages f (without_pages (pages f) gone) f i ≡ pages f i
 unfolding without_pages
 page_kept pages f i gone e = ap (λ (row : ℕ → Option ℕ). row i) (put_same pages f (without_pages (pages f) gone)) ∙ ap (λ (c : Bool). if c then None else pages f i) e
 
 -- where nothing goes nothing changes
-pub pages_none : (pages : ℕ → ℕ → Option ℕ) (f : ℕ) (gone : ℕ → Bool) → ((j : ℕ) → gone j ≡ false) → put pages f (without_pages (pages f) gone) ≡ pages
+pub pages_none : (pages : ℕ → ℕ → Option ℕ) (f : ℕ) (gone : ℕ → Bool) → ((j : ℕ) → gone j ≡ false)
+    → put pages f (without_pages (pages f) gone) ≡ pages
 unfolding without_pages
 pages_none pages f gone e = put_known pages f (without_pages (pages f) gone) (fun_ext (λ j. ap (λ (c : Bool). if c then None else pages f j) (sym (e j))))
 
-pub reserved_none : (reserved : ℕ → ℕ → Bool) (f : ℕ) (gone : ℕ → Bool) → ((j : ℕ) → gone j ≡ false) → put reserved f (unreserved (reserved f) gone) ≡ reserved
+pub reserved_none : (reserved : ℕ → ℕ → Bool) (f : ℕ) (gone : ℕ → Bool) → ((j : ℕ) → gone j ≡ false)
+    → put reserved f (unreserved (reserved f) gone) ≡ reserved
 reserved_none reserved f gone e = put_known reserved f (unreserved (reserved f) gone) (fun_ext (λ j. sym (ap (λ (c : Bool). reserved f j && not c) (e j) ∙ and_true (reserved f j))))
 
 gone_none : (f : ℕ) (gone : ℕ → Bool) → ((j : ℕ) → gone j ≡ false) → (found : Option (ℕ × ℕ)) → is_gone f gone found ≡ false
 gone_none f gone e None = refl
 gone_none f gone e (Some place) = ap (λ (c : Bool). (place.0 == f) && c) (e place.1) ∙ and_false (place.0 == f)
 
-pub entries_none : (areas : ℕ → List Mapping) (table : ℕ → ℕ → Option ℕ) (f : ℕ) (gone : ℕ → Bool) → ((j : ℕ) → gone j ≡ false) → without_entries areas table f gone ≡ table
+pub entries_none : (areas : ℕ → List Mapping) (table : ℕ → ℕ → Option ℕ) (f : ℕ) (gone : ℕ → Bool) → ((j : ℕ) → gone j ≡ false)
+    → without_entries areas table f gone ≡ table
 unfolding without_entries
 entries_none areas table f gone e = fun_ext (λ u. fun_ext (λ v. ap (λ (c : Bool). if c then None else table u v) (gone_none f gone e (find (areas u) v))))
 
 -- an entry that is left was there
-pub entry_kept : (areas : ℕ → List Mapping) (table : ℕ → ℕ → Option ℕ) (f : ℕ) (gone : ℕ → Bool) (u v x : ℕ) → without_entries areas table f gone u v ≡ Some x → table u v ≡ Some x
+pub entry_kept : (areas : ℕ → List Mapping) (table : ℕ → ℕ → Option ℕ) (f : ℕ) (gone : ℕ → Bool) (u v x : ℕ)
+    → without_entries areas table f gone u v ≡ Some x → table u v ≡ Some x
 unfolding without_entries
 entry_kept areas table f gone u v x e = here (is_gone f gone (find (areas u) v)) e
   where
@@ -58,11 +63,13 @@ entry_kept areas table f gone u v x e = here (is_gone f gone (find (areas u) v))
     here true e = absurd (cc)
     here false e = e
 
-pub freed_none : (pages : ℕ → Option ℕ) (frame : ℕ → FrameState) (gone : ℕ → Bool) → ((j : ℕ) → gone j ≡ false) → Freed pages frame gone frame
+pub freed_none : (pages : ℕ → Option ℕ) (frame : ℕ → FrameState) (gone : ℕ → Bool) → ((j : ℕ) → gone j ≡ false)
+    → Freed pages frame gone frame
 freed_none pages frame gone e = record { freed = λ j x is p. (let z : true ≡ false = sym is ∙ e j in absurd (cc)); others = λ x h. refl }
 
 -- one more goes
-pub pages_more : (pages : ℕ → ℕ → Option ℕ) (f i : ℕ) (gone more : ℕ → Bool) → Adds gone i more → put2 (put pages f (without_pages (pages f) gone)) f i None ≡ put pages f (without_pages (pages f) more)
+pub pages_more : (pages : ℕ → ℕ → Option ℕ) (f i : ℕ) (gone more : ℕ → Bool) → Adds gone i more
+    → put2 (put pages f (without_pages (pages f) gone)) f i None ≡ put pages f (without_pages (pages f) more)
 unfolding without_pages
 pages_more pages f i gone more h =
     put_put pages f (without_pages (pages f) gone) (put (put pages f (without_pages (pages f) gone) f) i None)
@@ -74,7 +81,8 @@ pages_more pages f i gone more h =
       | inr a ↦ a.1 ∙ ap (λ (c : Bool). if c then None else pages f j) (sym (h.others j a.0))
     ]
 
-pub reserved_more : (reserved : ℕ → ℕ → Bool) (f i : ℕ) (gone more : ℕ → Bool) → Adds gone i more → put2 (put reserved f (unreserved (reserved f) gone)) f i false ≡ put reserved f (unreserved (reserved f) more)
+pub reserved_more : (reserved : ℕ → ℕ → Bool) (f i : ℕ) (gone more : ℕ → Bool) → Adds gone i more
+    → put2 (put reserved f (unreserved (reserved f) gone)) f i false ≡ put reserved f (unreserved (reserved f) more)
 reserved_more reserved f i gone more h =
     put_put reserved f (unreserved (reserved f) gone) (put (put reserved f (unreserved (reserved f) gone) f) i false)
     ∙ ap (put reserved f) (ap (λ (row : ℕ → Bool). put row i false) (put_same reserved f (unreserved (reserved f) gone)) ∙ fun_ext each)
@@ -94,11 +102,13 @@ gone_more f i gone more h (Some place) entry = elim (same_or_other place.1 i) [
   | inr e ↦ (let a : (place.1 == i) ≡ false = grind (arith, nat_tests) in there (place.0 == f) (place.1 == i) (gone place.1) (more place.1) a (h.others place.1 e))
 ]
   where
-    here : (a b c d : Bool) → b ≡ true → d ≡ true → ◌≡◌ {A = Option ℕ} (if a && b then None else (if a && c then None else entry)) (if a && d then None else entry)
+    here : (a b c d : Bool) → b ≡ true → d ≡ true
+        → ◌≡◌ {A = Option ℕ} (if a && b then None else (if a && c then None else entry)) (if a && d then None else entry)
     here true b c d e k = ap (λ (m : Bool). if m then None else (if c then None else entry)) e ∙ ap (λ (m : Bool). if m then None else entry) (sym k)
     here false b c d e k = refl
 
-    there : (a b c d : Bool) → b ≡ false → d ≡ c → ◌≡◌ {A = Option ℕ} (if a && b then None else (if a && c then None else entry)) (if a && d then None else entry)
+    there : (a b c d : Bool) → b ≡ false → d ≡ c
+        → ◌≡◌ {A = Option ℕ} (if a && b then None else (if a && c then None else entry)) (if a && d then None else entry)
     there true b c d e k = ap (λ (m : Bool). if m then None else (if c then None else entry)) e ∙ ap (λ (m : Bool). if m then None else entry) (sym k)
     there false b c d e k = refl
 
@@ -107,7 +117,8 @@ pub entries_more : (areas : ℕ → List Mapping) (table : ℕ → ℕ → Optio
 unfolding without_entries without_index
 entries_more areas table f i gone more h = fun_ext (λ u. fun_ext (λ v. gone_more f i gone more h (find (areas u) v) (table u v)))
 
-pub freed_more : (pages : ℕ → Option ℕ) (before frame : ℕ → FrameState) (i x : ℕ) (gone more : ℕ → Bool) → Adds gone i more → pages i ≡ Some x → Freed pages before gone frame → Freed pages before more (put frame x Free)
+pub freed_more : (pages : ℕ → Option ℕ) (before frame : ℕ → FrameState) (i x : ℕ) (gone more : ℕ → Bool) → Adds gone i more
+    → pages i ≡ Some x → Freed pages before gone frame → Freed pages before more (put frame x Free)
 freed_more pages before frame i x gone more h page k = record {
   freed = λ j y is p. elim (put_tells frame x Free y) [
     | inl a ↦ a.1
@@ -130,7 +141,8 @@ cleared_below : (ℕ → List Mapping) → (ℕ → ℕ → Option ℕ) → (f i
 cleared_below areas table f i k u = if nat_lt u k then without_index (areas u) (table u) f i else table u
 
 -- a task without entries
-no_entries : (areas : List Mapping) (entries : ℕ → Option ℕ) (f i : ℕ) → ((v x : ℕ) → entries v ≡ Some x → ⊥) → without_index areas entries f i ≡ entries
+no_entries : (areas : List Mapping) (entries : ℕ → Option ℕ) (f i : ℕ) → ((v x : ℕ) → entries v ≡ Some x → ⊥)
+    → without_index areas entries f i ≡ entries
 unfolding without_index
 no_entries areas entries f i none = fun_ext (λ v. here v (is_there (find areas v) f i) (entries v) refl)
   where
@@ -139,11 +151,13 @@ no_entries areas entries f i none = fun_ext (λ v. here v (is_there (find areas 
     here v true (Some x) e = absurd (none v x e)
     here v false o e = refl
 
-clears_one : (areas : ℕ → List Mapping) (table : ℕ → ℕ → Option ℕ) (f i k : ℕ) → put (cleared_below areas table f i k) k (without_index (areas k) (cleared_below areas table f i k k) f i) ≡ cleared_below areas table f i (k + 1)
+clears_one : (areas : ℕ → List Mapping) (table : ℕ → ℕ → Option ℕ) (f i k : ℕ)
+    → put (cleared_below areas table f i k) k (without_index (areas k) (cleared_below areas table f i k k) f i) ≡ cleared_below areas table f i (k + 1)
 unfolding cleared_below
 clears_one areas table f i k = fun_ext each
   where
-    each : (u : ℕ) → put (cleared_below areas table f i k) k (without_index (areas k) (cleared_below areas table f i k k) f i) u ≡ cleared_below areas table f i (k + 1) u
+    each : (u : ℕ)
+        → put (cleared_below areas table f i k) k (without_index (areas k) (cleared_below areas table f i k k) f i) u ≡ cleared_below areas table f i (k + 1) u
     each u = elim (put_tells (cleared_below areas table f i k) k (without_index (areas k) (cleared_below areas table f i k k) f i) u) [
       | inl a ↦ (
           let b : nat_lt k k ≡ false = grind (arith, nat_tests) in
@@ -160,7 +174,8 @@ clears_one areas table f i k = fun_ext each
 abbrev pub Owned : (tasks : ℕ) → (ℕ → ℕ → Option ℕ) → Type 0
 Owned tasks table = (u v x : ℕ) → table u v ≡ Some x → (1 ≤ u) × (u ≤ tasks)
 
-clears_none : (tasks : ℕ) (areas : ℕ → List Mapping) (table : ℕ → ℕ → Option ℕ) (f i : ℕ) → Owned tasks table → table ≡ cleared_below areas table f i 1
+clears_none : (tasks : ℕ) (areas : ℕ → List Mapping) (table : ℕ → ℕ → Option ℕ) (f i : ℕ) → Owned tasks table
+    → table ≡ cleared_below areas table f i 1
 unfolding cleared_below
 clears_none tasks areas table f i owned = fun_ext (λ u. each u (nat_lt u 1) refl)
   where
@@ -168,18 +183,22 @@ clears_none tasks areas table f i owned = fun_ext (λ u. each u (nat_lt u 1) ref
     each u true e = sym (ap (λ (m : Bool). if m then without_index (areas u) (table u) f i else table u) e ∙ no_entries (areas u) (table u) f i (λ v x p. (let z = (owned u v x p).0 in let l : u < 1 = grind (arith, nat_tests) in omega arith)))
     each u false e = sym (ap (λ (m : Bool). if m then without_index (areas u) (table u) f i else table u) e)
 
-clears_all : (tasks : ℕ) (areas : ℕ → List Mapping) (table : ℕ → ℕ → Option ℕ) (f i : ℕ) → Owned tasks table → ◌≡◌ {A = ℕ → ℕ → Option ℕ} (cleared_below areas table f i (tasks + 1)) (λ u. without_index (areas u) (table u) f i)
+clears_all : (tasks : ℕ) (areas : ℕ → List Mapping) (table : ℕ → ℕ → Option ℕ) (f i : ℕ) → Owned tasks table
+    → ◌≡◌ {A = ℕ → ℕ → Option ℕ} (cleared_below areas table f i (tasks + 1)) (λ u. without_index (areas u) (table u) f i)
 unfolding cleared_below
 clears_all tasks areas table f i owned = fun_ext (λ u. each u (nat_lt u (tasks + 1)) refl)
   where
-    each : (u : ℕ) (c : Bool) → nat_lt u (tasks + 1) ≡ c → cleared_below areas table f i (tasks + 1) u ≡ without_index (areas u) (table u) f i
+    each : (u : ℕ) (c : Bool) → nat_lt u (tasks + 1) ≡ c
+        → cleared_below areas table f i (tasks + 1) u ≡ without_index (areas u) (table u) f i
     each u true e = ap (λ (m : Bool). if m then without_index (areas u) (table u) f i else table u) e
     each u false e = ap (λ (m : Bool). if m then without_index (areas u) (table u) f i else table u) e ∙ sym (no_entries (areas u) (table u) f i (λ v x p. (let z = (owned u v x p).1 in let l : tasks + 1 ≤ u = grind (arith, nat_tests) in omega arith)))
 
 -- the entries of one task after the other are cleared
 unmaps_from : {P : Type 0} (R : Pool → P → Turn P → Pool → Type 0) (b : Answer) (n s : Pool) (f i : ℕ) (more : ℕ → P) (last : P)
-    → ((p : Pool) (k : ℕ) (turn : Turn P) (m : Pool) → R p (more k) turn m → UnmapIndexRow p k f i (more (k + 1)) last turn m) → (d k : ℕ) → k + d ≡ s.geometry.tasks
-    → Leads R b n (record s { table = cleared_below s.areas s.table f i k }) (more k) → Leads R b n (record s { table = cleared_below s.areas s.table f i (s.geometry.tasks + 1) }) last
+    → ((p : Pool) (k : ℕ) (turn : Turn P) (m : Pool) → R p (more k) turn m → UnmapIndexRow p k f i (more (k + 1)) last turn m)
+    → (d k : ℕ) → k + d ≡ s.geometry.tasks
+    → Leads R b n (record s { table = cleared_below s.areas s.table f i k }) (more k)
+    → Leads R b n (record s { table = cleared_below s.areas s.table f i (s.geometry.tasks + 1) }) last
 unmaps_from R b n s f i more last rows zero k e go =
     let end : nat_lt k s.geometry.tasks ≡ false = grind (arith, nat_tests) in
     let k1 = goes_on go (λ turn m r. if_false _ _ end (rows _ k turn m r)) in
@@ -194,7 +213,8 @@ unmaps_from R b n s f i more last rows (suc d) k e go =
     unmaps_from R b n s f i more last rows d (k + 1) (omega arith) (from_pool (λ j. record s { table = one j }) k1)
 
 pub unmaps : {P : Type 0} (R : Pool → P → Turn P → Pool → Type 0) (b : Answer) (n s : Pool) (f i : ℕ) (more : ℕ → P) (last : P)
-    → ((p : Pool) (k : ℕ) (turn : Turn P) (m : Pool) → R p (more k) turn m → UnmapIndexRow p k f i (more (k + 1)) last turn m) → 1 ≤ s.geometry.tasks → Owned s.geometry.tasks s.table
+    → ((p : Pool) (k : ℕ) (turn : Turn P) (m : Pool) → R p (more k) turn m → UnmapIndexRow p k f i (more (k + 1)) last turn m)
+    → 1 ≤ s.geometry.tasks → Owned s.geometry.tasks s.table
     → Leads R b n s (more 1) → Leads R b n (record s { table = λ u. without_index (s.areas u) (s.table u) f i }) last
 unmaps R b n s f i more last rows some owned go =
     let none = clears_none s.geometry.tasks s.areas s.table f i owned in

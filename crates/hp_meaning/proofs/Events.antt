@@ -27,7 +27,8 @@ first_renamed to (op.Map file from len) = refl
 first_renamed to o = refl
 
 -- a task is dead once its exit is over, under any names
-lives_renamed : (p q : ℕ → ℕ) (lives : ℕ → Life) (t : ℕ) (c : Call) (next : Option Call) → lives_after lives t (call_renamed p c) (option_map (call_renamed q) next) ≡ lives_after lives t c next
+lives_renamed : (p q : ℕ → ℕ) (lives : ℕ → Life) (t : ℕ) (c : Call) (next : Option Call)
+    → lives_after lives t (call_renamed p c) (option_map (call_renamed q) next) ≡ lives_after lives t c next
 lives_renamed p q lives t (call.Exit c) None = refl
 lives_renamed p q lives t (call.Exit c) (Some next) = refl
 lives_renamed p q lives t c next = refl
@@ -45,7 +46,9 @@ pub record EventFollows (frames : ℕ) (s : State) (o : Outcome) (after : State)
   pub count : after.frames ≡ s.frames
 
 -- under the names as they are
-under : {frames : ℕ} {s : State} (r : Renaming frames) {wanted o o' : Outcome} {there after after' : State} → Tells wanted there o after → Tells wanted (renamed r there) o' after' → there.frames ≡ s.frames → EventFollows frames s o after o' after'
+under : {frames : ℕ} {s : State} (r : Renaming frames) {wanted o o' : Outcome} {there after after' : State}
+    → Tells wanted there o after → Tells wanted (renamed r there) o' after' → there.frames ≡ s.frames
+    → EventFollows frames s o after o' after'
 under r a b e = record {
   names = r;
   tells = b.0 ∙ sym a.0;
@@ -54,7 +57,8 @@ under r a b e = record {
 }
 
 -- after a step of a call
-after_call : {frames : ℕ} (s : State) (r : Renaming frames) (t : ℕ) (c : Call) (o o' : Outcome) (pool pool' : Pool) (next next' : Option Call) (after after' : State) → InUse frames s → CallFollows frames (pool_of s) r o pool next o' pool' next'
+after_call : {frames : ℕ} (s : State) (r : Renaming frames) (t : ℕ) (c : Call) (o o' : Outcome) (pool pool' : Pool) (next next' : Option Call) (after after' : State)
+    → InUse frames s → CallFollows frames (pool_of s) r o pool next o' pool' next'
     → after ≡ record (with_pool s pool) { life = lives_after s.life t c next; calls = put s.calls t next }
     → after' ≡ record (with_pool (renamed r s) pool') { life = lives_after s.life t (call_renamed r.to c) next'; calls = put (λ u. option_map (call_renamed r.to) (s.calls u)) t next' }
     → EventFollows frames s o after o' after'

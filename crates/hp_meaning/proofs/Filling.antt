@@ -56,7 +56,8 @@ unfolding count_within missing
 bare_parts reserved pages from to bare =
     count_below-sum (λ k. nat_le from k && (reserved k && is_none (pages k))) (λ k. nat_le from k && not (reserved k)) (λ k. nat_le from k && is_none (pages k)) to (λ k l. parts (nat_le from k) (reserved k) (pages k) (bare k))
   where
-    parts : (a r : Bool) (o : Option ℕ) → (r ≡ false → o ≡ None) → cond (a && is_none o) 1 0 ≡ cond (a && (r && is_none o)) 1 0 + cond (a && not r) 1 0
+    parts : (a r : Bool) (o : Option ℕ) → (r ≡ false → o ≡ None)
+        → cond (a && is_none o) 1 0 ≡ cond (a && (r && is_none o)) 1 0 + cond (a && not r) 1 0
     parts true true None h = refl
     parts true true (Some x) h = refl
     parts true false None h = refl
@@ -64,7 +65,8 @@ bare_parts reserved pages from to bare =
     parts false r o h = refl
 
 -- a range with one more index
-pub range_more : (reserved : ℕ → Bool) (from i : ℕ) → from ≤ i → add_range (add_range reserved from i) i (i + 1) ≡ add_range reserved from (i + 1)
+pub range_more : (reserved : ℕ → Bool) (from i : ℕ) → from ≤ i
+    → add_range (add_range reserved from i) i (i + 1) ≡ add_range reserved from (i + 1)
 unfolding add_range
 range_more reserved from i l = fun_ext (λ j. each j (is_within i (i + 1) j) (is_within from i j) (is_within from (i + 1) j) (reserved j) (grind (arith, nat_tests)))
   where
@@ -72,7 +74,8 @@ range_more reserved from i l = fun_ext (λ j. each j (is_within i (i + 1) j) (is
     each j true b c r e = ap (λ (m : Bool). m || r) e
     each j false b c r e = ap (λ (m : Bool). m || r) e
 
-pub range_same : (reserved : ℕ → Bool) (from i : ℕ) → from ≤ i → reserved i ≡ true → add_range reserved from i ≡ add_range reserved from (i + 1)
+pub range_same : (reserved : ℕ → Bool) (from i : ℕ) → from ≤ i → reserved i ≡ true
+    → add_range reserved from i ≡ add_range reserved from (i + 1)
 unfolding add_range
 range_same reserved from i l e = fun_ext (λ j. elim (same_or_other j i) [
   | inl d ↦ (let a : reserved j ≡ true = ap reserved d ∙ e in each (is_within from i j) (is_within from (i + 1) j) (reserved j) a)
@@ -94,7 +97,8 @@ unfolding add_range
 range_past reserved from i = let a : is_within from i i ≡ false = grind (arith, nat_tests) in ap (λ (c : Bool). c || reserved i) a
 
 -- where pages are reserved, a range adds its indices that have no page
-pub range_gains : (reserved : ℕ → Bool) (pages : ℕ → Option ℕ) (from to : ℕ) → ((i : ℕ) → reserved i ≡ false → pages i ≡ None) → add_range reserved from to ≡ (λ j. reserved j || (is_within from to j && is_none (pages j)))
+pub range_gains : (reserved : ℕ → Bool) (pages : ℕ → Option ℕ) (from to : ℕ) → ((i : ℕ) → reserved i ≡ false → pages i ≡ None)
+    → add_range reserved from to ≡ (λ j. reserved j || (is_within from to j && is_none (pages j)))
 unfolding add_range
 range_gains reserved pages from to bare = fun_ext (λ j. each (is_within from to j) (reserved j) (pages j) (bare j))
   where
@@ -122,7 +126,8 @@ wider from i j e l = (
 )
 
 -- an index that has a page is passed
-pub fills_same : (frames : ℕ) (pages : ℕ → Option ℕ) (before : ℕ → FrameState) (from i x : ℕ) (after : ℕ → Option ℕ) (frame : ℕ → FrameState) → from ≤ i → pages i ≡ Some x
+pub fills_same : (frames : ℕ) (pages : ℕ → Option ℕ) (before : ℕ → FrameState) (from i x : ℕ) (after : ℕ → Option ℕ) (frame : ℕ → FrameState)
+    → from ≤ i → pages i ≡ Some x
     → Filled frames pages before from i after frame → Filled frames pages before from (i + 1) after frame
 fills_same frames pages before from i x after frame l e h = record {
   fresh = λ j m o none. elim (same_or_other j i) [
@@ -136,7 +141,8 @@ fills_same frames pages before from i x after frame l e h = record {
 }
 
 -- a free frame is no new page's, and was free before
-free_before : (frames : ℕ) (pages : ℕ → Option ℕ) (before : ℕ → FrameState) (from i x : ℕ) (after : ℕ → Option ℕ) (frame : ℕ → FrameState) → Filled frames pages before from i after frame → frame x ≡ Free → before x ≡ Free
+free_before : (frames : ℕ) (pages : ℕ → Option ℕ) (before : ℕ → FrameState) (from i x : ℕ) (after : ℕ → Option ℕ) (frame : ℕ → FrameState)
+    → Filled frames pages before from i after frame → frame x ≡ Free → before x ≡ Free
 free_before frames pages before from i x after frame h free = sym (h.others x not_new) ∙ free
   where
     not_new : (j : ℕ) → pages j ≡ None → after j ≢ Some x
@@ -153,8 +159,10 @@ free_before frames pages before from i x after frame h free = sym (h.others x no
             absurd (cc)
 
 -- an index gets a page
-pub fills_more : (frames : ℕ) (pages : ℕ → Option ℕ) (before : ℕ → FrameState) (from i x : ℕ) (after : ℕ → Option ℕ) (frame : ℕ → FrameState) → from ≤ i → pages i ≡ None → frame x ≡ Free → ((y : ℕ) → before y ≡ Free → y < frames)
-    → Filled frames pages before from i after frame → Filled frames pages before from (i + 1) (put after i (Some x)) (put (put frame x Hand) x (Placed 0))
+pub fills_more : (frames : ℕ) (pages : ℕ → Option ℕ) (before : ℕ → FrameState) (from i x : ℕ) (after : ℕ → Option ℕ) (frame : ℕ → FrameState)
+    → from ≤ i → pages i ≡ None → frame x ≡ Free → ((y : ℕ) → before y ≡ Free → y < frames)
+    → Filled frames pages before from i after frame
+    → Filled frames pages before from (i + 1) (put after i (Some x)) (put (put frame x Hand) x (Placed 0))
 fills_more frames pages before from i x after frame l bare free real h = record {
   fresh = λ j m o none. elim (same_or_other j i) [
     | inl d ↦ (x, ap (put after i (Some x)) d ∙ put_same after i (Some x), was, put_same (put frame x Hand) x (Placed 0))

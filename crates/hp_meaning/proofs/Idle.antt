@@ -57,7 +57,8 @@ free_lock s h idle f = here (s.locks f) refl
     here (Some u) e = (let z : None ≡ Some _ = sym (ap locked_file (idle u)) ∙ h.holders.lock f u e in absurd (cc))
 
 -- what is translated lies below the size
-pub translated_low : (s : State) (t v x f i : ℕ) → Inv s.geometry s → ((u : ℕ) → s.calls u ≡ None) → s.table t v ≡ Some x → find (s.areas t) v ≡ Some (f, i) → i < s.size f
+pub translated_low : (s : State) (t v x f i : ℕ) → Inv s.geometry s → ((u : ℕ) → s.calls u ≡ None) → s.table t v ≡ Some x
+    → find (s.areas t) v ≡ Some (f, i) → i < s.size f
 translated_low s t v x f i h idle e d = elim (h.sweep.below t v x f i e d) [
   | inl l ↦ l
   | inr a ↦ (let z : false ≡ true = sym (ap (λ (c : Option Call). ahead c f i) (idle a.0)) ∙ a.1 in absurd (cc))
@@ -92,7 +93,8 @@ and_false false = refl
 -- a call that begins with the range check: an answer of the check, or what comes once the file's lock is taken
 pub checked : {P : Type 0} (call : P → Call) (R : Pool → P → Turn P → Pool → Type 0) (s : State) (t f : ℕ) (bad : Bool) (b : Answer) (n : State) (end : Pool) (last here next : P) (at_kill : Answer) (Meant : Answer → State → Type 0)
     → s.locks f ≡ None → s.calls t ≡ None → lives_after s.life t (call last) None ≡ s.life
-    → ((turn : Turn P) (m : Pool) → R (pool_of s) here turn m → StartRow (pool_of s) t false f bad at_kill here next turn m) → Leads R b end (pool_of s) here → n ≡ over call s t end last
+    → ((turn : Turn P) (m : Pool) → R (pool_of s) here turn m → StartRow (pool_of s) t false f bad at_kill here next turn m)
+    → Leads R b end (pool_of s) here → n ≡ over call s t end last
     → (nat_le s.geometry.files f ≡ false → bad ≡ false → Leads R b end (record (pool_of s) { locks = put s.locks f (Some t) }) next → (m : State) × Meant b m × Looks m n)
     → (m : State) × Checked s f bad b m (Meant b m) × Looks m n
 checked call R s t f bad b n end last here next at_kill Meant unlocked idle living rows k is rest = by_file (nat_le s.geometry.files f) refl

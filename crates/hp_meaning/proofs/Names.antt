@@ -47,11 +47,13 @@ put_map h f k v = fun_ext (λ j. elim (same_or_other j k) [
   | inr e ↦ put_other (λ j. h (f j)) k (h v) j e ∙ sym (ap h (put_other f k v j e))
 ])
 
-pub put2_map : {A B : Type 0} (h : A → B) (p : ℕ → ℕ → A) (f i : ℕ) (v : A) → ◌≡◌ {A = ℕ → ℕ → B} (put2 (λ k j. h (p k j)) f i (h v)) (λ k j. h (put2 p f i v k j))
+pub put2_map : {A B : Type 0} (h : A → B) (p : ℕ → ℕ → A) (f i : ℕ) (v : A)
+    → ◌≡◌ {A = ℕ → ℕ → B} (put2 (λ k j. h (p k j)) f i (h v)) (λ k j. h (put2 p f i v k j))
 put2_map {A} {B} h p f i v = ap (put (λ k j. h (p k j)) f) (put_map h (p f) i v) ∙ put_map {A = ℕ → A} {B = ℕ → B} (λ row j. h (row j)) p f (put (p f) i v)
 
 -- a change at one frame, under its other name
-pub put_renamed : {A : Type 0} {frames : ℕ} (r : Renaming frames) (f : ℕ → A) (x : ℕ) (v : A) → ◌≡◌ {A = ℕ → A} (put (λ y. f (r.back y)) (r.to x) v) (λ y. put f x v (r.back y))
+pub put_renamed : {A : Type 0} {frames : ℕ} (r : Renaming frames) (f : ℕ → A) (x : ℕ) (v : A)
+    → ◌≡◌ {A = ℕ → A} (put (λ y. f (r.back y)) (r.to x) v) (λ y. put f x v (r.back y))
 put_renamed r f x v = fun_ext (λ y. elim (same_or_other (r.back y) x) [
   | inl e ↦ (let d : y ≡ r.to x = sym (r.here y) ∙ ap r.to e in
       ap (put (λ y. f (r.back y)) (r.to x) v) d ∙ (put_same (λ y. f (r.back y)) (r.to x) v ∙ sym (ap (put f x v) e ∙ put_same f x v)))
@@ -111,12 +113,14 @@ pub turned_first : {frames : ℕ} (r : Renaming frames) (x y : ℕ) (l : x < fra
 unfolding turned
 turned_first r x y l m = ap r.to (swap_first x y)
 
-pub turned_other : {frames : ℕ} (r : Renaming frames) (x y : ℕ) (l : x < frames) (m : y < frames) (z : ℕ) → z ≢ x → z ≢ y → (turned r x y l m).to z ≡ r.to z
+pub turned_other : {frames : ℕ} (r : Renaming frames) (x y : ℕ) (l : x < frames) (m : y < frames) (z : ℕ) → z ≢ x → z ≢ y
+    → (turned r x y l m).to z ≡ r.to z
 unfolding turned
 turned_other r x y l m z h k = ap r.to (swap_other x y z h k)
 
 -- what is the same at x and y is the same under their changed names
-pub turned_back : {A : Type 0} {frames : ℕ} (r : Renaming frames) (x y : ℕ) (l : x < frames) (m : y < frames) (f : ℕ → A) → f x ≡ f y → (z : ℕ) → f ((turned r x y l m).back z) ≡ f (r.back z)
+pub turned_back : {A : Type 0} {frames : ℕ} (r : Renaming frames) (x y : ℕ) (l : x < frames) (m : y < frames) (f : ℕ → A)
+    → f x ≡ f y → (z : ℕ) → f ((turned r x y l m).back z) ≡ f (r.back z)
 unfolding turned
 turned_back r x y l m f e z = here (r.back z)
   where

@@ -52,24 +52,29 @@ by_tests true m n on off = on refl m n
 by_tests false m n on off = off refl m n
 
 -- or by a test that tells the same
-pub by_like_tests : {A B C D E : Type 0} (b c : Bool) → c ≡ b → MatchBool b A B → MatchBool c C D → (b ≡ true → A → C → E) → (b ≡ false → B → D → E) → E
+pub by_like_tests : {A B C D E : Type 0} (b c : Bool) → c ≡ b → MatchBool b A B → MatchBool c C D → (b ≡ true → A → C → E)
+    → (b ≡ false → B → D → E) → E
 by_like_tests {A} {B} {C} {D} b c e m n on off = by_tests b m (subst (λ (d : Bool). MatchBool d C D) e n) on off
 
-pub by_options : {T A C E : Type 0} {B D : T → Type 0} (o : Option T) → MatchOption o A B → MatchOption o C D → (o ≡ None → A → C → E) → ((x : T) → o ≡ Some x → B x → D x → E) → E
+pub by_options : {T A C E : Type 0} {B D : T → Type 0} (o : Option T) → MatchOption o A B → MatchOption o C D
+    → (o ≡ None → A → C → E) → ((x : T) → o ≡ Some x → B x → D x → E) → E
 by_options None m n off on = off refl m n
 by_options (Some x) m n off on = on x refl m n
 
-pub by_like_options : {T A C E : Type 0} {B D : T → Type 0} (o o' : Option T) → o' ≡ o → MatchOption o A B → MatchOption o' C D → (o ≡ None → A → C → E) → ((x : T) → o ≡ Some x → B x → D x → E) → E
+pub by_like_options : {T A C E : Type 0} {B D : T → Type 0} (o o' : Option T) → o' ≡ o → MatchOption o A B → MatchOption o' C D
+    → (o ≡ None → A → C → E) → ((x : T) → o ≡ Some x → B x → D x → E) → E
 by_like_options {T} {A} {C} {E} {B} {D} o o' e m n off on = by_options o m (subst (λ (q : Option T). MatchOption q C D) e n) off on
 
 -- or by a frame and its other name
-pub by_names : {T A C E : Type 0} {B : T → Type 0} (D : T → Type 0) (to : T → T) (o : Option T) → MatchOption o A B → MatchOption (option_map to o) C D → (o ≡ None → A → C → E) → ((x : T) → o ≡ Some x → B x → D (to x) → E) → E
+pub by_names : {T A C E : Type 0} {B : T → Type 0} (D : T → Type 0) (to : T → T) (o : Option T) → MatchOption o A B
+    → MatchOption (option_map to o) C D → (o ≡ None → A → C → E) → ((x : T) → o ≡ Some x → B x → D (to x) → E) → E
 by_names D to None m n off on = off refl m n
 by_names D to (Some x) m n off on = on x refl m n
 
 -- both rows at one leaf, under the names as they are
 pub leaf : {P : Type 0} {rename : (ℕ → ℕ) → P → P} {frames : ℕ} {s : Pool} {r : Renaming frames} {turn other wanted wanted' : Turn P} {new there after after' : Pool}
-    → Gives wanted after turn new → Gives wanted' after' other there → wanted' ≡ turn_renamed (rename r.to) wanted → after' ≡ pool_renamed r after → after.frames ≡ s.frames → Follows P rename frames s r turn new other there
+    → Gives wanted after turn new → Gives wanted' after' other there → wanted' ≡ turn_renamed (rename r.to) wanted
+    → after' ≡ pool_renamed r after → after.frames ≡ s.frames → Follows P rename frames s r turn new other there
 leaf {rename = rename} {r = r} a b e d k = record {
   names = r;
   keeps = λ x h. refl;
@@ -80,11 +85,14 @@ leaf {rename = rename} {r = r} a b e d k = record {
 
 -- and where the change names no frame
 pub plain : {P : Type 0} {rename : (ℕ → ℕ) → P → P} {frames : ℕ} {s : Pool} {r : Renaming frames} {turn other wanted : Turn P} {new there after : Pool}
-    → Gives wanted after turn new → Gives (turn_renamed (rename r.to) wanted) (pool_renamed r after) other there → after.frames ≡ s.frames → Follows P rename frames s r turn new other there
+    → Gives wanted after turn new → Gives (turn_renamed (rename r.to) wanted) (pool_renamed r after) other there
+    → after.frames ≡ s.frames → Follows P rename frames s r turn new other there
 plain a b k = leaf a b refl refl k
 
 pub start_row : {P : Type 0} {rename : (ℕ → ℕ) → P → P} {frames : ℕ} {s : Pool} {r : Renaming frames} {turn other : Turn P} {new there : Pool} (t : ℕ) (killed : Bool) (f : ℕ) (bad : Bool) (at_kill : Answer) (here next : P)
-    → StartRow s t killed f bad at_kill here next turn new → StartRow (pool_renamed r s) t killed f bad at_kill (rename r.to here) (rename r.to next) other there → Follows P rename frames s r turn new other there
+    → StartRow s t killed f bad at_kill here next turn new
+    → StartRow (pool_renamed r s) t killed f bad at_kill (rename r.to here) (rename r.to next) other there
+    → Follows P rename frames s r turn new other there
 start_row {s = s} t killed f bad at_kill here next a b =
     by_tests (nat_le s.geometry.files f) a b
     (λ _ a b. plain a b refl)
@@ -95,19 +103,26 @@ start_row {s = s} t killed f bad at_kill here next a b =
     (λ _ a b. by_options (s.locks f) a b (λ _ a b. plain a b refl) (λ holder _ a b. plain a b refl))))
 
 pub want_row : {P : Type 0} {rename : (ℕ → ℕ) → P → P} {frames : ℕ} {s : Pool} {r : Renaming frames} {turn other : Turn P} {new there : Pool} (t f i : ℕ) (here next : P)
-    → WantSlotRow s t f i here next turn new → WantSlotRow (pool_renamed r s) t f i (rename r.to here) (rename r.to next) other there → Follows P rename frames s r turn new other there
+    → WantSlotRow s t f i here next turn new
+    → WantSlotRow (pool_renamed r s) t f i (rename r.to here) (rename r.to next) other there
+    → Follows P rename frames s r turn new other there
 want_row {s = s} t f i here next a b = by_options (s.slots (slot_of s.geometry f i)) a b (λ _ a b. plain a b refl) (λ holder _ a b. plain a b refl)
 
 pub change_row : {P : Type 0} {rename : (ℕ → ℕ) → P → P} {frames : ℕ} {s : Pool} {r : Renaming frames} {turn other : Turn P} {new there : Pool} (grant : Bool) (f from to : ℕ) (denied : P) (changed : Change → P)
-    → ChangeRow s grant f from to denied changed turn new → ChangeRow (pool_renamed r s) grant f from to (rename r.to denied) (λ change. rename r.to (changed change)) other there → Follows P rename frames s r turn new other there
+    → ChangeRow s grant f from to denied changed turn new
+    → ChangeRow (pool_renamed r s) grant f from to (rename r.to denied) (λ change. rename r.to (changed change)) other there
+    → Follows P rename frames s r turn new other there
 change_row {s = s} grant f from to denied changed a b = by_tests ((s.spare f == s.pending f) && not grant) a b (λ _ a b. plain a b refl) (λ _ a b. plain a b refl)
 
 pub commit_row : {P : Type 0} {rename : (ℕ → ℕ) → P → P} {frames : ℕ} {s : Pool} {r : Renaming frames} {turn other : Turn P} {new there : Pool} (f : ℕ) (change : Change) (settle next : P)
-    → CommitRow s f change settle next turn new → CommitRow (pool_renamed r s) f change (rename r.to settle) (rename r.to next) other there → Follows P rename frames s r turn new other there
+    → CommitRow s f change settle next turn new
+    → CommitRow (pool_renamed r s) f change (rename r.to settle) (rename r.to next) other there
+    → Follows P rename frames s r turn new other there
 commit_row {s = s} f change settle next a b = by_tests (nat_lt (missing (s.reserved f) change.from change.to) change.missing) a b (λ _ a b. plain a b refl) (λ _ a b. plain a b refl)
 
 pub settle_row : {P : Type 0} {rename : (ℕ → ℕ) → P → P} {frames : ℕ} {s : Pool} {r : Renaming frames} {turn other : Turn P} {new there : Pool} (next : P)
-    → SettleOneRow s next turn new → SettleOneRow (pool_renamed r s) (rename r.to next) other there → Follows P rename frames s r turn new other there
+    → SettleOneRow s next turn new → SettleOneRow (pool_renamed r s) (rename r.to next) other there
+    → Follows P rename frames s r turn new other there
 settle_row next a b = plain a.1 b.1 refl
 
 -- as many frames are free
@@ -142,7 +157,8 @@ takes {rename = rename} {frames = frames} {s = s} {r = r} resv x y taken h e d a
     }
 
 pub take_row : {P : Type 0} {rename : (ℕ → ℕ) → P → P} {frames : ℕ} {s : Pool} {r : Renaming frames} {turn other : Turn P} {new there : Pool} (missing : ℕ) (no_frame : P) (taken : ℕ → P)
-    → Used frames s → TakeRow s missing no_frame taken turn new → TakeRow (pool_renamed r s) missing (rename r.to no_frame) taken other there
+    → Used frames s → TakeRow s missing no_frame taken turn new
+    → TakeRow (pool_renamed r s) missing (rename r.to no_frame) taken other there
     → ((to : ℕ → ℕ) (z : ℕ) → taken (to z) ≡ rename to (taken z)) → Follows P rename frames s r turn new other there
 take_row {s = s} {r = r} m no_frame taken h a b same =
     by_tests (m == 0) a b
@@ -152,18 +168,21 @@ take_row {s = s} {r = r} m no_frame taken h a b same =
     (λ _ a b. takes s.resv a.0 b.0 taken h a.1 b.1 a.2 b.2 same))
 
 -- a frame in hand is placed or freed
-pub placed_renamed : {frames : ℕ} (s : Pool) (r : Renaming frames) (f i x : ℕ) → placed (pool_renamed r s) f i (r.to x) ≡ pool_renamed r (placed s f i x)
+pub placed_renamed : {frames : ℕ} (s : Pool) (r : Renaming frames) (f i x : ℕ)
+    → placed (pool_renamed r s) f i (r.to x) ≡ pool_renamed r (placed s f i x)
 placed_renamed s r f i x =
     let frame = put_renamed r s.frame x (Placed 0) in
     let pages = put2_map (option_map r.to) s.pages f i (Some x) in
     λ k. record (pool_renamed r s) { frame = frame k; pages = pages k }
 
-pub freed_renamed : {frames : ℕ} (s : Pool) (r : Renaming frames) (x resv : ℕ) → ◌≡◌ {A = Pool} (record (pool_renamed r s) { frame = put (λ y. s.frame (r.back y)) (r.to x) Free; resv = resv }) (pool_renamed r (record s { frame = put s.frame x Free; resv = resv }))
+pub freed_renamed : {frames : ℕ} (s : Pool) (r : Renaming frames) (x resv : ℕ)
+    → ◌≡◌ {A = Pool} (record (pool_renamed r s) { frame = put (λ y. s.frame (r.back y)) (r.to x) Free; resv = resv }) (pool_renamed r (record s { frame = put s.frame x Free; resv = resv }))
 freed_renamed s r x resv = let frame = put_renamed r s.frame x Free in λ k. record (pool_renamed r s) { frame = frame k; resv = resv }
 
 -- a page goes into a hand
 pub evict_row : {P : Type 0} {rename : (ℕ → ℕ) → P → P} {frames : ℕ} {s : Pool} {r : Renaming frames} {turn other : Turn P} {new there : Pool} (f i : ℕ) (next : ℕ → P)
-    → EvictRow s f i next turn new → EvictRow (pool_renamed r s) f i next other there → ((z : ℕ) → next (r.to z) ≡ rename r.to (next z)) → Follows P rename frames s r turn new other there
+    → EvictRow s f i next turn new → EvictRow (pool_renamed r s) f i next other there
+    → ((z : ℕ) → next (r.to z) ≡ rename r.to (next z)) → Follows P rename frames s r turn new other there
 evict_row {P} {s = s} {r = r} {other = other} {there = there} f i next a b same =
     let is : b.0 ≡ r.to a.0 = some_same (sym b.1 ∙ ap (option_map r.to) a.1) in
     let named = subst (λ (y : ℕ). Goes (next y) (record (pool_renamed r s) { pages = put2 (λ k j. option_map r.to (s.pages k j)) f i None; frame = put (λ z. s.frame (r.back z)) y Hand }) other there) is b.2 in
@@ -172,30 +191,37 @@ evict_row {P} {s = s} {r = r} {other = other} {there = there} f i next a b same 
     leaf a.2 named (ap (λ p. Moved p) (same a.0)) (λ k. record (pool_renamed r s) { frame = frame k; pages = pages k }) refl
 
 -- an entry that goes goes under any names
-gone_renamed : (to : ℕ → ℕ) (gone : Bool) (o : Option ℕ) → ◌≡◌ {A = Option ℕ} (if gone then None else option_map to o) (option_map to (if gone then None else o))
+gone_renamed : (to : ℕ → ℕ) (gone : Bool) (o : Option ℕ)
+    → ◌≡◌ {A = Option ℕ} (if gone then None else option_map to o) (option_map to (if gone then None else o))
 gone_renamed to true o = refl
 gone_renamed to false o = refl
 
-index_renamed : (to : ℕ → ℕ) (areas : List Mapping) (entries : ℕ → Option ℕ) (f i : ℕ) → ◌≡◌ {A = ℕ → Option ℕ} (without_index areas (λ v. option_map to (entries v)) f i) (λ v. option_map to (without_index areas entries f i v))
+index_renamed : (to : ℕ → ℕ) (areas : List Mapping) (entries : ℕ → Option ℕ) (f i : ℕ)
+    → ◌≡◌ {A = ℕ → Option ℕ} (without_index areas (λ v. option_map to (entries v)) f i) (λ v. option_map to (without_index areas entries f i v))
 unfolding without_index
 index_renamed to areas entries f i = fun_ext (λ v. gone_renamed to (is_there (find areas v) f i) (entries v))
 
-mapping_renamed : (to : ℕ → ℕ) (areas : List Mapping) (entries : ℕ → Option ℕ) (base : ℕ) → ◌≡◌ {A = ℕ → Option ℕ} (without_mapping areas (λ v. option_map to (entries v)) base) (λ v. option_map to (without_mapping areas entries base v))
+mapping_renamed : (to : ℕ → ℕ) (areas : List Mapping) (entries : ℕ → Option ℕ) (base : ℕ)
+    → ◌≡◌ {A = ℕ → Option ℕ} (without_mapping areas (λ v. option_map to (entries v)) base) (λ v. option_map to (without_mapping areas entries base v))
 unfolding without_mapping
 mapping_renamed to areas entries base = fun_ext (λ v. gone_renamed to (in_mapping areas base v) (entries v))
 
 -- one task's entries, under other names
-entries_renamed : (to : ℕ → ℕ) (table : ℕ → ℕ → Option ℕ) (t : ℕ) (entries entries' : ℕ → Option ℕ) → entries' ≡ (λ v. option_map to (entries v))
+entries_renamed : (to : ℕ → ℕ) (table : ℕ → ℕ → Option ℕ) (t : ℕ) (entries entries' : ℕ → Option ℕ)
+    → entries' ≡ (λ v. option_map to (entries v))
     → ◌≡◌ {A = ℕ → ℕ → Option ℕ} (put (λ u v. option_map to (table u v)) t entries') (λ u v. option_map to (put table t entries u v))
 entries_renamed to table t entries entries' e = ap (put (λ u v. option_map to (table u v)) t) e ∙ put_map {A = ℕ → Option ℕ} {B = ℕ → Option ℕ} (λ row v. option_map to (row v)) table t entries
 
-pub cleared_renamed : {frames : ℕ} (s : Pool) (r : Renaming frames) (t base : ℕ) → cleared (pool_renamed r s) t base ≡ pool_renamed r (cleared s t base)
+pub cleared_renamed : {frames : ℕ} (s : Pool) (r : Renaming frames) (t base : ℕ)
+    → cleared (pool_renamed r s) t base ≡ pool_renamed r (cleared s t base)
 cleared_renamed s r t base =
     let table = entries_renamed r.to s.table t _ _ (mapping_renamed r.to (s.areas t) (s.table t) base) in
     λ k. record (pool_renamed r s) { table = table k }
 
 pub unmap_row : {P : Type 0} {rename : (ℕ → ℕ) → P → P} {frames : ℕ} {s : Pool} {r : Renaming frames} {turn other : Turn P} {new there : Pool} (k f i : ℕ) (more last : P)
-    → UnmapIndexRow s k f i more last turn new → UnmapIndexRow (pool_renamed r s) k f i (rename r.to more) (rename r.to last) other there → Follows P rename frames s r turn new other there
+    → UnmapIndexRow s k f i more last turn new
+    → UnmapIndexRow (pool_renamed r s) k f i (rename r.to more) (rename r.to last) other there
+    → Follows P rename frames s r turn new other there
 unmap_row {s = s} {r = r} k f i more last a b =
     let table = entries_renamed r.to s.table k _ _ (index_renamed r.to (s.areas k) (s.table k) f i) in
     by_tests (nat_lt k s.geometry.tasks) a b

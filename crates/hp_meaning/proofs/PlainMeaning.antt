@@ -24,7 +24,8 @@ use Rattle.hp_meaning.proofs.UnmapAlone.{UnmapSteps, ExitSteps, unmap_means, exi
 some_task : (s : State) (t : ℕ) → IsReached s → IsReady s t → 1 ≤ s.geometry.tasks
 some_task s t reached ready = let z = (always s reached).lives.there t (ap is_dead ready.1) in omega arith
 
-pub plain : (p : Op) (s : State) (t : ℕ) (b : Answer) (events : List (Event × Outcome)) (n : State) → IsReached s → IsReady s t → IsCall t p b events → Run s events n → (m : State) × Means s t p b m × Looks m n
+pub plain : (p : Op) (s : State) (t : ℕ) (b : Answer) (events : List (Event × Outcome)) (n : State) → IsReached s → IsReady s t
+    → IsCall t p b events → Run s events n → (m : State) × Means s t p b m × Looks m n
 unfolding CallRow
 plain (op.Map f from len) s t b events n reached ready steps run =
     map_means s t f from len b n (always s reached).inv ready (call_comes call.Map (MapSteps t) s t (op.Map f from len) b n events _ (λ pool new phase o next r. r) refl ready steps run)

@@ -58,8 +58,11 @@ record OneDone (s : State) (t : ℕ) (hole : Hole) (i : ℕ) (more : ℕ → Boo
   leads : Leads (PunchSteps t) b end (record (punched s t hole.file more frame spare) { slots = put s.slots (slot_of s.geometry hole.file i) (Some t) }) (at.Unslot (record { hole = hole; index = i }))
 
 -- an index without a page
-bare_index : (s : State) (t : ℕ) (hole : Hole) (i : ℕ) (gone : ℕ → Bool) (frame : ℕ → FrameState) (spare : ℕ → ℕ) (b : Answer) (end : Pool) → Ready s t hole.file → gone i ≡ false → s.pages hole.file i ≡ None
-    → Freed (s.pages hole.file) s.frame gone frame → Leads (PunchSteps t) b end (punched s t hole.file gone frame spare) (at.Want (record { hole = hole; index = i })) → OneDone s t hole i gone b end
+bare_index : (s : State) (t : ℕ) (hole : Hole) (i : ℕ) (gone : ℕ → Bool) (frame : ℕ → FrameState) (spare : ℕ → ℕ) (b : Answer) (end : Pool)
+    → Ready s t hole.file → gone i ≡ false → s.pages hole.file i ≡ None
+    → Freed (s.pages hole.file) s.frame gone frame
+    → Leads (PunchSteps t) b end (punched s t hole.file gone frame spare) (at.Want (record { hole = hole; index = i }))
+    → OneDone s t hole i gone b end
 bare_index s t hole i gone frame spare b end h here bare freed k =
     let k1 = goes_on k (λ turn m r. if_none _ _ (h.slots (slot_of s.geometry hole.file i)) r) in
     let k2 = goes_on k1 (λ turn m r. if_false _ _ (ap is_some (page_kept s.pages hole.file i gone here ∙ bare)) r) in
@@ -75,8 +78,11 @@ evicted s t hole i x gone frame spare = record (punched s t hole.file gone frame
 }
 
 -- from there on
-evicted_index : (s : State) (t : ℕ) (hole : Hole) (i x : ℕ) (gone more : ℕ → Bool) (frame : ℕ → FrameState) (spare : ℕ → ℕ) (b : Answer) (end : Pool) → s.pages hole.file i ≡ Some x → Adds gone i more
-    → Freed (s.pages hole.file) s.frame gone frame → Leads (PunchSteps t) b end (evicted s t hole i x gone frame spare) (at.Delete (record { hole = hole; index = i; held = x })) → OneDone s t hole i more b end
+evicted_index : (s : State) (t : ℕ) (hole : Hole) (i x : ℕ) (gone more : ℕ → Bool) (frame : ℕ → FrameState) (spare : ℕ → ℕ) (b : Answer) (end : Pool)
+    → s.pages hole.file i ≡ Some x → Adds gone i more
+    → Freed (s.pages hole.file) s.frame gone frame
+    → Leads (PunchSteps t) b end (evicted s t hole i x gone frame spare) (at.Delete (record { hole = hole; index = i; held = x }))
+    → OneDone s t hole i more b end
 evicted_index s t hole i x gone more frame spare b end page adds freed k =
     let f = hole.file in
     let k1 = goes_on k (λ turn m r. if_false _ _ (and_false (splits (unreserved_at s f gone) i && nat_le (spare f) (s.pending f))) r) in
@@ -102,8 +108,11 @@ evicted_index s t hole i x gone more frame spare b end page adds freed k =
     }
 
 -- an index with a page
-paged_index : (s : State) (t : ℕ) (hole : Hole) (i y : ℕ) (gone more : ℕ → Bool) (frame : ℕ → FrameState) (spare : ℕ → ℕ) (b : Answer) (end : Pool) → Ready s t hole.file → gone i ≡ false → s.pages hole.file i ≡ Some y → Adds gone i more
-    → Freed (s.pages hole.file) s.frame gone frame → Leads (PunchSteps t) b end (punched s t hole.file gone frame spare) (at.Want (record { hole = hole; index = i })) → OneDone s t hole i more b end
+paged_index : (s : State) (t : ℕ) (hole : Hole) (i y : ℕ) (gone more : ℕ → Bool) (frame : ℕ → FrameState) (spare : ℕ → ℕ) (b : Answer) (end : Pool)
+    → Ready s t hole.file → gone i ≡ false → s.pages hole.file i ≡ Some y → Adds gone i more
+    → Freed (s.pages hole.file) s.frame gone frame
+    → Leads (PunchSteps t) b end (punched s t hole.file gone frame spare) (at.Want (record { hole = hole; index = i }))
+    → OneDone s t hole i more b end
 paged_index s t hole i y gone more frame spare b end h here paged adds freed k =
     let f = hole.file in
     let k1 = goes_on k (λ turn m r. if_none _ _ (h.slots (slot_of s.geometry f i)) r) in
@@ -120,7 +129,8 @@ within_below s f from i j e =
     let a : is_within from (i + 1) j ≡ is_within from i j = grind (arith, nat_tests) in
     ap (λ (c : Bool). c && is_some (s.pages f j)) a
 
-more_paged : (s : State) (f from i x : ℕ) → from ≤ i → s.pages f i ≡ Some x → Adds (paged_within s f from i) i (paged_within s f from (i + 1))
+more_paged : (s : State) (f from i x : ℕ) → from ≤ i → s.pages f i ≡ Some x
+    → Adds (paged_within s f from i) i (paged_within s f from (i + 1))
 more_paged s f from i x low e = record {
   this = (let a : is_within from (i + 1) i ≡ true = grind (arith, nat_tests) in ap (λ (c : Bool). c && is_some (s.pages f i)) a ∙ ap is_some e);
   others = λ j d. within_below s f from i j d;
@@ -140,8 +150,10 @@ none_yet : (s : State) (f from j : ℕ) → paged_within s f from from j ≡ fal
 none_yet s f from j = let a : is_within from from j ≡ false = grind (arith, nat_tests) in ap (λ (c : Bool). c && is_some (s.pages f j)) a
 
 -- one index, with or without a page
-one_index : (s : State) (t : ℕ) (hole : Hole) (i : ℕ) (frame : ℕ → FrameState) (spare : ℕ → ℕ) (b : Answer) (end : Pool) → Ready s t hole.file → hole.from ≤ i
-    → Freed (s.pages hole.file) s.frame (paged_within s hole.file hole.from i) frame → Leads (PunchSteps t) b end (punched s t hole.file (paged_within s hole.file hole.from i) frame spare) (at.Want (record { hole = hole; index = i }))
+one_index : (s : State) (t : ℕ) (hole : Hole) (i : ℕ) (frame : ℕ → FrameState) (spare : ℕ → ℕ) (b : Answer) (end : Pool)
+    → Ready s t hole.file → hole.from ≤ i
+    → Freed (s.pages hole.file) s.frame (paged_within s hole.file hole.from i) frame
+    → Leads (PunchSteps t) b end (punched s t hole.file (paged_within s hole.file hole.from i) frame spare) (at.Want (record { hole = hole; index = i }))
     → OneDone s t hole i (paged_within s hole.file hole.from (i + 1)) b end
 one_index s t hole i frame spare b end h low freed k = by_page (s.pages hole.file i) refl
   where
@@ -158,8 +170,10 @@ record Holed (s : State) (t f : ℕ) (gone : ℕ → Bool) (b : Answer) (end : P
   ends : end ≡ record (punched s t f gone frame spare) { locks = s.locks }
 
 -- the indices from i on
-indices : (s : State) (t : ℕ) (hole : Hole) (d i : ℕ) (frame : ℕ → FrameState) (spare : ℕ → ℕ) (b : Answer) (end : Pool) → Ready s t hole.file → hole.from ≤ i → i + d + 1 ≡ hole.from + hole.len
-    → Freed (s.pages hole.file) s.frame (paged_within s hole.file hole.from i) frame → Leads (PunchSteps t) b end (punched s t hole.file (paged_within s hole.file hole.from i) frame spare) (at.Want (record { hole = hole; index = i }))
+indices : (s : State) (t : ℕ) (hole : Hole) (d i : ℕ) (frame : ℕ → FrameState) (spare : ℕ → ℕ) (b : Answer) (end : Pool)
+    → Ready s t hole.file → hole.from ≤ i → i + d + 1 ≡ hole.from + hole.len
+    → Freed (s.pages hole.file) s.frame (paged_within s hole.file hole.from i) frame
+    → Leads (PunchSteps t) b end (punched s t hole.file (paged_within s hole.file hole.from i) frame spare) (at.Want (record { hole = hole; index = i }))
     → Holed s t hole.file (paged_within s hole.file hole.from (hole.from + hole.len)) b end
 indices s t hole zero i frame spare b end h low e freed k =
     let o = one_index s t hole i frame spare b end h low freed k in
@@ -186,23 +200,27 @@ indices s t hole (suc d) i frame spare b end h low e freed k =
     indices s t hole d (i + 1) o.frame o.spare b end h (omega arith) (omega arith) o.freed k2
 
 -- what the pool says of the table
-holed_means : (s : State) (t f from len : ℕ) (b : Answer) (n : State) (end : Pool) (last : PunchPhase) → s.calls t ≡ None → n ≡ over call.Punch s t end last → Holed s t f (paged_within s f from (from + len)) b end
+holed_means : (s : State) (t f from len : ℕ) (b : Answer) (n : State) (end : Pool) (last : PunchPhase) → s.calls t ≡ None
+    → n ≡ over call.Punch s t end last → Holed s t f (paged_within s f from (from + len)) b end
     → (m : State) × PunchMeans s f from len b m × Looks m n
 holed_means s t f from len b n end last idle is z =
     let calls = idle_again s t idle in
     finish call.Punch s t last (PunchMeans s f from len) _ (z.done, z.ends) is (z.frame, z.freed, (refl, refl))
     (λ j. record s {
-      frame = z.frame;
-      spare = z.spare;
-      pages = put s.pages f (without_pages (s.pages f) (paged_within s f from (from + len)));
-      reserved = put s.reserved f (unreserved (s.reserved f) (paged_within s f from (from + len)));
-      table = without_entries s.areas s.table f (paged_within s f from (from + len));
+      pool = record s.pool {
+        frame = z.frame;
+        spare = z.spare;
+        pages = put s.pages f (without_pages (s.pages f) (paged_within s f from (from + len)));
+        reserved = put s.reserved f (unreserved (s.reserved f) (paged_within s f from (from + len)));
+        table = without_entries s.areas s.table f (paged_within s f from (from + len));
+      };
       calls = calls j;
     })
 
 -- a punch from its first phase on
 pub punch_means : (s : State) (t f from len : ℕ) (b : Answer) (n : State) → Inv s.geometry s → 1 ≤ s.geometry.tasks → IsReady s t
-    → Comes call.Punch (PunchSteps t) s t b n (pool_of s) (at.Start (record { hole = record { file = f; from = from; len = len } })) → (m : State) × Checked s f (is_bad_range s from len) b m (PunchMeans s f from len b m) × Looks m n
+    → Comes call.Punch (PunchSteps t) s t b n (pool_of s) (at.Start (record { hole = record { file = f; from = from; len = len } }))
+    → (m : State) × Checked s f (is_bad_range s from len) b m (PunchMeans s f from len b m) × Looks m n
 punch_means s t f from len b n h tasks ready (end, last, k, is) =
     checked call.Punch (PunchSteps t) s t f (is_bad_range s from len) b n end last _ (at.Want (record { hole = hole; index = from })) Killed (PunchMeans s f from len) (free_lock s h ready.0 f) (ready.0 t) refl (λ turn m r. r) k is
     (λ _ good k.

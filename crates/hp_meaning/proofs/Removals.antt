@@ -20,7 +20,8 @@ use Rattle.hp_meaning.proofs.Names.{some_renamed}
 use Rattle.hp_meaning.proofs.Parts.{pool_renamed, Follows, leaf, plain, by_tests, by_like_tests, start_row, want_row, unmap_row, evict_row, freed_renamed}
 
 pub punch_row : {frames : ℕ} {s : Pool} {r : Renaming frames} {turn other : Turn PunchPhase} {new there : Pool} (t : ℕ) (killed grant : Bool) (p : PunchPhase)
-    → PunchRow s t killed grant p turn new → PunchRow (pool_renamed r s) t killed grant (punch_renamed r.to p) other there → Follows PunchPhase punch_renamed frames s r turn new other there
+    → PunchRow s t killed grant p turn new → PunchRow (pool_renamed r s) t killed grant (punch_renamed r.to p) other there
+    → Follows PunchPhase punch_renamed frames s r turn new other there
 punch_row {s = s} t killed grant (punch.Start p) a b = start_row t killed p.hole.file (is_bad_range s p.hole.from p.hole.len) _ _ _ a b
 punch_row t killed grant (punch.Want p) a b = want_row t p.hole.file p.index _ _ a b
 punch_row {s = s} {r = r} t killed grant (punch.Locked p) a b = by_like_tests (is_some (s.pages p.hole.file p.index)) _ (some_renamed r.to (s.pages p.hole.file p.index)) a b (λ _ a b. plain a b refl) (λ _ a b. plain a b refl)
@@ -43,7 +44,8 @@ end_one to pages a b h k =
     bare (Some x) e = (let z : Some (to x) ≡ None = e in absurd (cc))
 
 size_row : {frames : ℕ} {s : Pool} {r : Renaming frames} {turn other : Turn TruncatePhase} {new there : Pool} (p : Size)
-    → TruncateSizeRow s p turn new → TruncateSizeRow (pool_renamed r s) p other there → Follows TruncatePhase truncate_renamed frames s r turn new other there
+    → TruncateSizeRow s p turn new → TruncateSizeRow (pool_renamed r s) p other there
+    → Follows TruncatePhase truncate_renamed frames s r turn new other there
 size_row {s = s} {r = r} p a b =
     let f = p.truncation.file in
     let same = end_one r.to (s.pages f) a.0 b.0 a.1 b.1 in
@@ -52,7 +54,9 @@ size_row {s = s} {r = r} p a b =
     (λ _ c d. plain c d refl)
 
 pub truncate_row : {frames : ℕ} {s : Pool} {r : Renaming frames} {turn other : Turn TruncatePhase} {new there : Pool} (t : ℕ) (killed grant : Bool) (p : TruncatePhase)
-    → TruncateRow s t killed grant p turn new → TruncateRow (pool_renamed r s) t killed grant (truncate_renamed r.to p) other there → Follows TruncatePhase truncate_renamed frames s r turn new other there
+    → TruncateRow s t killed grant p turn new
+    → TruncateRow (pool_renamed r s) t killed grant (truncate_renamed r.to p) other there
+    → Follows TruncatePhase truncate_renamed frames s r turn new other there
 truncate_row {s = s} t killed grant (truncate.Start p) a b = start_row t killed p.truncation.file (nat_lt s.geometry.limit p.truncation.new) _ _ _ a b
 truncate_row t killed grant (truncate.Size p) a b = size_row p a b
 truncate_row t killed grant (truncate.Want p) a b = want_row t p.truncation.file p.index _ _ a b

@@ -27,10 +27,12 @@ in_use frames s e h = record {
     page : (f i x : ℕ) → s.pages f i ≡ Some x → s.frame x ≢ state.Free
     page f i x q d = (let k = h.place.pages f i x q in let z : state.Placed k.0 ≡ state.Free = sym k.1 ∙ d in cc)
 
-same_lists : {e f : Event × Outcome} {es fs : List (Event × Outcome)} → f.0 ≡ e.0 → f.1 ≡ e.1 → fs ≡ es → ◌≡◌ {A = List (Event × Outcome)} (f ∷ fs) (e ∷ es)
+same_lists : {e f : Event × Outcome} {es fs : List (Event × Outcome)} → f.0 ≡ e.0 → f.1 ≡ e.1 → fs ≡ es
+    → ◌≡◌ {A = List (Event × Outcome)} (f ∷ fs) (e ∷ es)
 same_lists a b c = λ i. (a i, b i) ∷ c i
 
-run_alike : (frames : ℕ) (r : Renaming frames) (s : State) (es fs : List (Event × Outcome)) (after after' : State) → s.frames ≡ frames → Always s
+run_alike : (frames : ℕ) (r : Renaming frames) (s : State) (es fs : List (Event × Outcome)) (after after' : State)
+    → s.frames ≡ frames → Always s
     → Run s es after → Run (renamed r s) fs after' → events_of fs ≡ events_of es → (fs ≡ es) × Alike frames after after'
 run_alike frames r s [] [] after after' k h a b e = (refl, (r, b ∙ sym (ap (renamed r) a)))
 run_alike frames r s [] (f ∷ fs) after after' k h a b e = absurd (cc)
@@ -47,6 +49,7 @@ run_alike frames r s (v ∷ es) (f ∷ fs) after after' k h a b e =
 own_names : (frames : ℕ) → Renaming frames
 own_names frames = record { to = λ x. x; back = λ x. x; there = λ x. refl; here = λ x. refl; inside = λ x. (λ l. l, λ l. l) }
 
-pub frames_hidden : (g : Geometry) (frames : ℕ) (es fs : List (Event × Outcome)) (s n : State) → Run (opening g frames) es s → Run (opening g frames) fs n → events_of fs ≡ events_of es → (fs ≡ es) × Alike frames s n
+pub frames_hidden : (g : Geometry) (frames : ℕ) (es fs : List (Event × Outcome)) (s n : State) → Run (opening g frames) es s
+    → Run (opening g frames) fs n → events_of fs ≡ events_of es → (fs ≡ es) × Alike frames s n
 unfolding own_names
 frames_hidden g frames es fs s n a b e = run_alike frames (own_names frames) (opening g frames) es fs s n refl (opens_well g frames) a b e

@@ -40,7 +40,8 @@ record Read (t : ℕ) (touch : Touch) (b : Answer) (s end : Pool) : Type 0 where
   ends : (b ≡ answer_of touch.access word) × (end ≡ record s { table = put2 s.table t touch.vpn (Some x); frame = frame_after touch.access s.frame x; slots = put s.slots (slot_of s.geometry touch.file touch.index) None })
 
 -- from the page on
-found_reads : {t : ℕ} {b : Answer} {s end : Pool} (touch : Touch) → nat_le (s.size touch.file) touch.index ≡ false → Leads (TouchSteps t) b end s (at.Found (record { touch = touch })) → Read t touch b s end
+found_reads : {t : ℕ} {b : Answer} {s end : Pool} (touch : Touch) → nat_le (s.size touch.file) touch.index ≡ false
+    → Leads (TouchSteps t) b end s (at.Found (record { touch = touch })) → Read t touch b s end
 found_reads touch low k =
     let z = next k in
     let r = if_false _ _ low z.2 in
@@ -75,7 +76,8 @@ placed_same : {x y : ℕ} → Placed x ≡ Placed y → x ≡ y
 placed_same e = cc
 
 -- from the frame on
-taken_pages : (s : State) (t : ℕ) (touch : Touch) (b : Answer) (x resv : ℕ) (end : Pool) → s.slots (slot_of s.geometry touch.file touch.index) ≡ None → nat_le (s.size touch.file) touch.index ≡ false
+taken_pages : (s : State) (t : ℕ) (touch : Touch) (b : Answer) (x resv : ℕ) (end : Pool)
+    → s.slots (slot_of s.geometry touch.file touch.index) ≡ None → nat_le (s.size touch.file) touch.index ≡ false
     → Leads (TouchSteps t) b end (record (changing s t touch.file touch.index) { frame = put s.frame x Hand; resv = resv }) (at.Taken (record { touch = touch; pending = change_of s touch.file touch.index; held = x }))
     → Paged s t touch b x resv end
 taken_pages s t touch b x resv end unheld low k =
@@ -108,40 +110,51 @@ taken_pages s t touch b x resv end unheld low k =
     }
 
 -- the index was reserved
-reserved_page : (s : State) (t : ℕ) (touch : Touch) (b : Answer) (n : State) (x : ℕ) (end : Pool) (last : TouchPhase) → s.calls t ≡ None → s.reserved touch.file touch.index ≡ true → s.frame x ≡ Free → 1 ≤ s.resv
-    → Paged s t touch b x (s.resv - 1) end → n ≡ over call.Touch s t end last → (m : State) × PageMade s t touch.vpn touch.access touch.file touch.index b m × Looks m n
+reserved_page : (s : State) (t : ℕ) (touch : Touch) (b : Answer) (n : State) (x : ℕ) (end : Pool) (last : TouchPhase)
+    → s.calls t ≡ None → s.reserved touch.file touch.index ≡ true → s.frame x ≡ Free → 1 ≤ s.resv
+    → Paged s t touch b x (s.resv - 1) end → n ≡ over call.Touch s t end last
+    → (m : State) × PageMade s t touch.vpn touch.access touch.file touch.index b m × Looks m n
 reserved_page s t touch b n x end last idle e free some y is =
     let reserved = put2_self s.reserved touch.file touch.index true e in
     let calls = idle_again s t idle in
     finish call.Touch s t last (PageMade s t touch.vpn touch.access touch.file touch.index) _ (y.answers, y.ends) is (so_true _ _ e (x, free, some, (refl, refl)))
     (λ j. record s {
-      frame = frame_after touch.access (put s.frame x (Placed 0)) x;
-      resv = s.resv - 1;
-      spare = y.spare;
-      reserved = reserved j;
-      pages = put2 s.pages touch.file touch.index (Some x);
-      table = put2 s.table t touch.vpn (Some x);
+      pool = record s.pool {
+        frame = frame_after touch.access (put s.frame x (Placed 0)) x;
+        resv = s.resv - 1;
+        spare = y.spare;
+        reserved = reserved j;
+        pages = put2 s.pages touch.file touch.index (Some x);
+        table = put2 s.table t touch.vpn (Some x);
+      };
       calls = calls j;
     })
 
 -- a frame was available
-available_page : (s : State) (t : ℕ) (touch : Touch) (b : Answer) (n : State) (x : ℕ) (end : Pool) (last : TouchPhase) → s.calls t ≡ None → s.reserved touch.file touch.index ≡ false → nat_lt 0 (available s) ≡ true → s.frame x ≡ Free
-    → Paged s t touch b x s.resv end → n ≡ over call.Touch s t end last → (m : State) × PageMade s t touch.vpn touch.access touch.file touch.index b m × Looks m n
+available_page : (s : State) (t : ℕ) (touch : Touch) (b : Answer) (n : State) (x : ℕ) (end : Pool) (last : TouchPhase)
+    → s.calls t ≡ None → s.reserved touch.file touch.index ≡ false → nat_lt 0 (available s) ≡ true → s.frame x ≡ Free
+    → Paged s t touch b x s.resv end → n ≡ over call.Touch s t end last
+    → (m : State) × PageMade s t touch.vpn touch.access touch.file touch.index b m × Looks m n
 available_page s t touch b n x end last idle e some free y is =
     let calls = idle_again s t idle in
     finish call.Touch s t last (PageMade s t touch.vpn touch.access touch.file touch.index) _ (y.answers, y.ends) is (so_false _ _ e (so_true _ _ some (x, free, (refl, refl))))
     (λ j. record s {
-      frame = frame_after touch.access (put s.frame x (Placed 0)) x;
-      spare = y.spare;
-      reserved = put2 s.reserved touch.file touch.index true;
-      pages = put2 s.pages touch.file touch.index (Some x);
-      table = put2 s.table t touch.vpn (Some x);
+      pool = record s.pool {
+        frame = frame_after touch.access (put s.frame x (Placed 0)) x;
+        spare = y.spare;
+        reserved = put2 s.reserved touch.file touch.index true;
+        pages = put2 s.pages touch.file touch.index (Some x);
+        table = put2 s.table t touch.vpn (Some x);
+      };
       calls = calls j;
     })
 
 -- the index is below the size and has no page
-makes_page : (s : State) (t : ℕ) (touch : Touch) (b : Answer) (n : State) (end : Pool) (last : TouchPhase) → s.resv ≤ free_frames s.frame s.frames → s.slots (slot_of s.geometry touch.file touch.index) ≡ None → s.calls t ≡ None
-    → nat_le (s.size touch.file) touch.index ≡ false → Leads (TouchSteps t) b end (slotted s t touch.file touch.index) (at.Missing (record { touch = touch })) → n ≡ over call.Touch s t end last
+makes_page : (s : State) (t : ℕ) (touch : Touch) (b : Answer) (n : State) (end : Pool) (last : TouchPhase)
+    → s.resv ≤ free_frames s.frame s.frames → s.slots (slot_of s.geometry touch.file touch.index) ≡ None → s.calls t ≡ None
+    → nat_le (s.size touch.file) touch.index ≡ false
+    → Leads (TouchSteps t) b end (slotted s t touch.file touch.index) (at.Missing (record { touch = touch }))
+    → n ≡ over call.Touch s t end last
     → (m : State) × PageMade s t touch.vpn touch.access touch.file touch.index b m × Looks m n
 makes_page s t touch b n end last enough unheld idle low k is = by_reserved (s.reserved touch.file touch.index) refl
   where
@@ -149,10 +162,12 @@ makes_page s t touch b n end last enough unheld idle low k is = by_reserved (s.r
     k1 = goes_on k (λ turn m r. if_false _ _ (and_false (s.spare touch.file == s.pending touch.file)) r)
 
     -- nothing is missing where the index is reserved
-    is_zero : (r : Bool) → s.reserved touch.file touch.index ≡ r → (missing (s.reserved touch.file) touch.index (touch.index + 1) == 0) ≡ (bit (not r) == 0)
+    is_zero : (r : Bool) → s.reserved touch.file touch.index ≡ r
+        → (missing (s.reserved touch.file) touch.index (touch.index + 1) == 0) ≡ (bit (not r) == 0)
     is_zero r e = ap (λ (m : ℕ). m == 0) (missing_one (s.reserved touch.file) touch.index ∙ ap (λ (c : Bool). bit (not c)) e)
 
-    by_reserved : (r : Bool) → s.reserved touch.file touch.index ≡ r → (m : State) × PageMade s t touch.vpn touch.access touch.file touch.index b m × Looks m n
+    by_reserved : (r : Bool) → s.reserved touch.file touch.index ≡ r
+        → (m : State) × PageMade s t touch.vpn touch.access touch.file touch.index b m × Looks m n
     by_reserved true e =
         let z = next k1 in
         let r = if_true _ _ (is_zero true e) z.2 in
@@ -168,14 +183,15 @@ makes_page s t touch b n end last enough unheld idle low k is = by_reserved (s.r
         let pending = pending_back s.pending touch.file in
         let calls = idle_again s t idle in
         finish call.Touch s t last (PageMade s t touch.vpn touch.access touch.file touch.index) s y is (so_false _ _ e (so_false _ _ none_available (refl, refl)))
-        (λ j. record s { slots = slots j; pending = pending j; spare = put s.spare touch.file (max (s.spare touch.file) (s.pending touch.file + 1)); calls = calls j }))
+        (λ j. record s { pool = record s.pool { slots = slots j; pending = pending j; spare = put s.spare touch.file (max (s.spare touch.file) (s.pending touch.file + 1)) }; calls = calls j }))
         (λ some r.
         let some_available : nat_lt 0 (available s) ≡ true = grind (arith, nat_tests) in
         available_page s t touch b n r.0 end last idle e some_available r.1 (taken_pages s t touch b r.0 s.resv end unheld low (moves z.3 r.2)) is)
 
 -- a touch from its first phase on
 pub touch_means : (s : State) (t v : ℕ) (access : Access) (b : Answer) (n : State) → Inv s.geometry s → IsReady s t
-    → Comes call.Touch (TouchSteps t) s t b n (pool_of s) (at.Look (record { vpn = v; access = access })) → (m : State) × TouchMeans s t v access b m × Looks m n
+    → Comes call.Touch (TouchSteps t) s t b n (pool_of s) (at.Look (record { vpn = v; access = access }))
+    → (m : State) × TouchMeans s t v access b m × Looks m n
 touch_means s t v access b n h ready (end, last, k, is) = by_find (find (s.areas t) v) refl
   where
     calls : put s.calls t None ≡ s.calls
@@ -191,7 +207,8 @@ touch_means s t v access b n h ready (end, last, k, is) = by_find (find (s.areas
     below a b l = grind (arith, nat_tests)
 
     by_page : (f i : ℕ) (o : Option ℕ) → s.pages f i ≡ o → find (s.areas t) v ≡ Some (f, i) → nat_le (s.size f) i ≡ false
-        → Leads (TouchSteps t) b end (slotted s t f i) (at.Locked (record { touch = record { vpn = v; access = access; file = f; index = i } })) → (m : State) × TouchMeans s t v access b m × Looks m n
+        → Leads (TouchSteps t) b end (slotted s t f i) (at.Locked (record { touch = record { vpn = v; access = access; file = f; index = i } }))
+        → (m : State) × TouchMeans s t v access b m × Looks m n
     by_page f i None e q low k =
         let k1 = goes_on k (λ turn m r. if_false _ _ (ap is_some e) (if_false _ _ low r)) in
         let z = makes_page s t (record { vpn = v; access = access; file = f; index = i }) b n end last h.enough (free_slot s h ready.0 (slot_of s.geometry f i)) (ready.0 t) low k1 is in
@@ -202,18 +219,20 @@ touch_means s t v access b n h ready (end, last, k, is) = by_find (find (s.areas
         let slots = slots_back f i in
         finish call.Touch s t last (TouchMeans s t v access) _ z.ends is
         (so_some _ _ (f, i) q (so_false _ _ low (so_some _ _ z.x z.page (z.word, z.placed, (refl, refl)))))
-        (λ j. record s { frame = frame_after access s.frame z.x; slots = slots j; table = put2 s.table t v (Some z.x); calls = calls j })
+        (λ j. record s { pool = record s.pool { frame = frame_after access s.frame z.x; slots = slots j; table = put2 s.table t v (Some z.x) }; calls = calls j })
 
     by_size : (f i : ℕ) (high : Bool) → nat_le (s.size f) i ≡ high → find (s.areas t) v ≡ Some (f, i)
-        → Leads (TouchSteps t) b end (slotted s t f i) (at.Locked (record { touch = record { vpn = v; access = access; file = f; index = i } })) → (m : State) × TouchMeans s t v access b m × Looks m n
+        → Leads (TouchSteps t) b end (slotted s t f i) (at.Locked (record { touch = record { vpn = v; access = access; file = f; index = i } }))
+        → (m : State) × TouchMeans s t v access b m × Looks m n
     by_size f i true e q k =
         let k1 = goes_on k (λ turn m r. if_true _ _ e r) in
         let z = ends_so k1 (λ turn m r. r) in
         let slots = slots_back f i in
-        finish call.Touch s t last (TouchMeans s t v access) s z is (so_some _ _ (f, i) q (so_true _ _ e (refl, refl))) (λ j. record s { slots = slots j; calls = calls j })
+        finish call.Touch s t last (TouchMeans s t v access) s z is (so_some _ _ (f, i) q (so_true _ _ e (refl, refl))) (λ j. record s { pool = record s.pool { slots = slots j }; calls = calls j })
     by_size f i false e q k = by_page f i (s.pages f i) refl q e k
 
-    by_entry : (f i : ℕ) (o : Option ℕ) → s.table t v ≡ o → find (s.areas t) v ≡ Some (f, i) → (m : State) × TouchMeans s t v access b m × Looks m n
+    by_entry : (f i : ℕ) (o : Option ℕ) → s.table t v ≡ o → find (s.areas t) v ≡ Some (f, i)
+        → (m : State) × TouchMeans s t v access b m × Looks m n
     by_entry f i (Some x) e q =
         let z = next k in
         let r = if_some _ _ e (if_some _ _ q z.2) in
@@ -224,7 +243,7 @@ touch_means s t v access b n h ready (end, last, k, is) = by_find (find (s.areas
         let table = put2_self s.table t v (Some x) e in
         finish call.Touch s t last (TouchMeans s t v access) _ (stops z.3 r.2) is
         (so_some _ _ (f, i) q (so_false _ _ low (so_some _ _ x page (r.0, r.1, (refl, refl)))))
-        (λ j. record s { frame = frame_after access s.frame x; table = sym table j; calls = calls j })
+        (λ j. record s { pool = record s.pool { frame = frame_after access s.frame x; table = sym table j }; calls = calls j })
     by_entry f i None e q =
         let k1 = goes_on k (λ turn m r. if_none _ _ e (if_some _ _ q r)) in
         let k2 = goes_on k1 (λ turn m r. if_none _ _ (free_slot s h ready.0 (slot_of s.geometry f i)) r) in

@@ -27,16 +27,19 @@ same_word : {a b : ℕ} → Placed a ≡ Placed b → a ≡ b
 same_word e = cc
 
 -- the word of a page is the same under its other name, and a store writes it there
-word_renamed : {frames : ℕ} (r : Renaming frames) (frame : ℕ → FrameState) (x word word' : ℕ) → frame x ≡ Placed word → frame (r.back (r.to x)) ≡ Placed word' → word' ≡ word
+word_renamed : {frames : ℕ} (r : Renaming frames) (frame : ℕ → FrameState) (x word word' : ℕ) → frame x ≡ Placed word
+    → frame (r.back (r.to x)) ≡ Placed word' → word' ≡ word
 word_renamed r frame x word word' a b = same_word (sym b ∙ (ap frame (r.there x) ∙ a))
 
-after_renamed : {frames : ℕ} (r : Renaming frames) (access : Access) (frame : ℕ → FrameState) (x : ℕ) → ◌≡◌ {A = ℕ → FrameState} (frame_after access (λ y. frame (r.back y)) (r.to x)) (λ y. frame_after access frame x (r.back y))
+after_renamed : {frames : ℕ} (r : Renaming frames) (access : Access) (frame : ℕ → FrameState) (x : ℕ)
+    → ◌≡◌ {A = ℕ → FrameState} (frame_after access (λ y. frame (r.back y)) (r.to x)) (λ y. frame_after access frame x (r.back y))
 after_renamed r Load frame x = refl
 after_renamed r (Store new) frame x = put_renamed r frame x (Placed new)
 
 -- a page is read or written
 reads : {frames : ℕ} {s : Pool} {r : Renaming frames} {turn other : Turn TouchPhase} {new there : Pool} (t : ℕ) (p : Found) (x y word word' : ℕ)
-    → s.pages p.touch.file p.touch.index ≡ Some x → option_map r.to (s.pages p.touch.file p.touch.index) ≡ Some y → s.frame x ≡ Placed word → s.frame (r.back y) ≡ Placed word'
+    → s.pages p.touch.file p.touch.index ≡ Some x → option_map r.to (s.pages p.touch.file p.touch.index) ≡ Some y
+    → s.frame x ≡ Placed word → s.frame (r.back y) ≡ Placed word'
     → Goes (touch.Leave (record { touch = p.touch; answer = answer_of p.touch.access word })) (record s { table = put2 s.table t p.touch.vpn (Some x); frame = frame_after p.touch.access s.frame x }) turn new
     → Goes (touch.Leave (record { touch = p.touch; answer = answer_of p.touch.access word' })) (record (pool_renamed r s) { table = put2 (λ u v. option_map r.to (s.table u v)) t p.touch.vpn (Some y); frame = frame_after p.touch.access (λ z. s.frame (r.back z)) y }) other there
     → Follows TouchPhase touch_renamed frames s r turn new other there
@@ -48,7 +51,8 @@ reads {s = s} {r = r} t p x y word word' page page' placed placed' a b =
     leaf a b (ap (λ (w : ℕ). Moved (touch.Leave (record { touch = p.touch; answer = answer_of p.touch.access w }))) same) (λ k. record (pool_renamed r s) { table = table k; frame = frame k }) refl
 
 found_row : {frames : ℕ} {s : Pool} {r : Renaming frames} {turn other : Turn TouchPhase} {new there : Pool} (t : ℕ) (grant : Bool) (p : Found)
-    → TouchFoundRow s t grant p turn new → TouchFoundRow (pool_renamed r s) t grant p other there → Follows TouchPhase touch_renamed frames s r turn new other there
+    → TouchFoundRow s t grant p turn new → TouchFoundRow (pool_renamed r s) t grant p other there
+    → Follows TouchPhase touch_renamed frames s r turn new other there
 found_row {s = s} t grant p a b =
     by_tests (nat_le (s.size p.touch.file) p.touch.index) a b
     (λ _ a b. plain a b refl)
@@ -57,7 +61,9 @@ found_row {s = s} t grant p a b =
     (λ _ a b. plain a b refl))
 
 pub touch_row : {frames : ℕ} {s : Pool} {r : Renaming frames} {turn other : Turn TouchPhase} {new there : Pool} (t : ℕ) (killed grant : Bool) (p : TouchPhase)
-    → Used frames s → TouchRow s t killed grant p turn new → TouchRow (pool_renamed r s) t killed grant (touch_renamed r.to p) other there → Follows TouchPhase touch_renamed frames s r turn new other there
+    → Used frames s → TouchRow s t killed grant p turn new
+    → TouchRow (pool_renamed r s) t killed grant (touch_renamed r.to p) other there
+    → Follows TouchPhase touch_renamed frames s r turn new other there
 touch_row {s = s} {r = r} t killed grant (touch.Look p) h a b =
     by_options (find (s.areas t) p.vpn) a b
     (λ _ a b. plain a b refl)
@@ -94,7 +100,9 @@ touch_row t killed grant (touch.Found p) h a b = found_row t grant p a b
 touch_row t killed grant (touch.Leave p) h a b = plain a b refl
 
 pub alloc_row : {frames : ℕ} {s : Pool} {r : Renaming frames} {turn other : Turn AllocPhase} {new there : Pool} (t : ℕ) (killed grant : Bool) (p : AllocPhase)
-    → Used frames s → AllocRow s t killed grant p turn new → AllocRow (pool_renamed r s) t killed grant (alloc_renamed r.to p) other there → Follows AllocPhase alloc_renamed frames s r turn new other there
+    → Used frames s → AllocRow s t killed grant p turn new
+    → AllocRow (pool_renamed r s) t killed grant (alloc_renamed r.to p) other there
+    → Follows AllocPhase alloc_renamed frames s r turn new other there
 alloc_row {s = s} t killed grant (alloc.Start p) h a b = start_row t killed p.allocation.file (is_bad_range s p.allocation.from p.allocation.len) _ _ _ a b
 alloc_row t killed grant (alloc.Head p) h a b = by_tests killed a b (λ _ a b. plain a b refl) (λ _ a b. plain a b refl)
 alloc_row t killed grant (alloc.Want p) h a b =

@@ -20,7 +20,7 @@ use Rattle.hp_machine.specs.declared.truncate.TruncatePhase.{TruncatePhase}
 use Rattle.hp_machine.specs.declared.truncate.TruncatePhase.TheVariants as at
 use Rattle.hp_machine.specs.declared.call.Call.TheVariants as call
 use Rattle.hp_machine.specs.declared.call.Turn.{Turn}
-use Rattle.hp_laws.proofs.Invariant.{Inv}
+use Rattle.hp_laws.proofs.Invariant.{Inv, page_within}
 use Rattle.hp_laws.proofs.Shared.{by_test}
 use Rattle.hp_meaning.specs.Meaning.{IsReady, Looks, Checked, without_pages, is_gone, without_entries, Freed, TruncateMeans}
 use Rattle.hp_meaning.proofs.Names.{some_same}
@@ -103,8 +103,10 @@ evicted s t cut i x frame = record (emptied s t cut.file cut.new (paged_from s c
 }
 
 -- from there on
-evicted_index : (s : State) (t : ℕ) (cut : Truncation) (i x : ℕ) (frame : ℕ → FrameState) (b : Answer) (end : Pool) → Ready s t cut.file → s.pages cut.file i ≡ Some x → Freed (s.pages cut.file) s.frame (paged_from s cut.file (i + 1)) frame
-    → Leads (TruncateSteps t) b end (evicted s t cut i x frame) (at.Free (record { truncation = cut; index = i; evicted = pages_from s cut.file (i + 1) + 1; held = x })) → OneDone s t cut i b end
+evicted_index : (s : State) (t : ℕ) (cut : Truncation) (i x : ℕ) (frame : ℕ → FrameState) (b : Answer) (end : Pool)
+    → Ready s t cut.file → s.pages cut.file i ≡ Some x → Freed (s.pages cut.file) s.frame (paged_from s cut.file (i + 1)) frame
+    → Leads (TruncateSteps t) b end (evicted s t cut i x frame) (at.Free (record { truncation = cut; index = i; evicted = pages_from s cut.file (i + 1) + 1; held = x }))
+    → OneDone s t cut i b end
 evicted_index s t cut i x frame b end h page freed k =
     let f = cut.file in
     let gone = paged_from s f (i + 1) in
@@ -122,8 +124,10 @@ evicted_index s t cut i x frame b end h page freed k =
     }
 
 -- one index, with or without a page
-one_index : (s : State) (t : ℕ) (cut : Truncation) (i : ℕ) (frame : ℕ → FrameState) (b : Answer) (end : Pool) → Ready s t cut.file → Freed (s.pages cut.file) s.frame (paged_from s cut.file (i + 1)) frame
-    → Leads (TruncateSteps t) b end (emptied s t cut.file cut.new (paged_from s cut.file (i + 1)) frame) (at.Want (record { truncation = cut; index = i; evicted = pages_from s cut.file (i + 1) })) → OneDone s t cut i b end
+one_index : (s : State) (t : ℕ) (cut : Truncation) (i : ℕ) (frame : ℕ → FrameState) (b : Answer) (end : Pool) → Ready s t cut.file
+    → Freed (s.pages cut.file) s.frame (paged_from s cut.file (i + 1)) frame
+    → Leads (TruncateSteps t) b end (emptied s t cut.file cut.new (paged_from s cut.file (i + 1)) frame) (at.Want (record { truncation = cut; index = i; evicted = pages_from s cut.file (i + 1) }))
+    → OneDone s t cut i b end
 one_index s t cut i frame b end h freed k = by_page (s.pages cut.file i) refl
   where
     k1 : Leads (TruncateSteps t) b end (record (emptied s t cut.file cut.new (paged_from s cut.file (i + 1)) frame) { slots = put s.slots (slot_of s.geometry cut.file i) (Some t) }) (at.Locked (record { truncation = cut; index = i; evicted = pages_from s cut.file (i + 1) }))
@@ -158,13 +162,15 @@ abbrev waiting : State → (file from : ℕ) → ℕ
 waiting s f from = count_within (λ j. s.reserved f j && is_none (s.pages f j)) from s.geometry.limit
 
 -- reserved indices wait for a page or have one
-reserved_parts : (s : State) (f from : ℕ) → ((i : ℕ) → s.reserved f i ≡ false → s.pages f i ≡ None) → count_within (s.reserved f) from s.geometry.limit ≡ waiting s f from + pages_from s f from
+reserved_parts : (s : State) (f from : ℕ) → ((i : ℕ) → s.reserved f i ≡ false → s.pages f i ≡ None)
+    → count_within (s.reserved f) from s.geometry.limit ≡ waiting s f from + pages_from s f from
 unfolding count_within
 reserved_parts s f from bare =
     count_below-sum (λ k. nat_le from k && (s.reserved f k && is_none (s.pages f k))) (λ k. nat_le from k && is_some (s.pages f k)) (λ k. nat_le from k && s.reserved f k) s.geometry.limit
     (λ k l. parts (nat_le from k) (s.reserved f k) (s.pages f k) (bare k))
   where
-    parts : (a r : Bool) (o : Option ℕ) → (r ≡ false → o ≡ None) → cond (a && r) 1 0 ≡ cond (a && (r && is_none o)) 1 0 + cond (a && is_some o) 1 0
+    parts : (a r : Bool) (o : Option ℕ) → (r ≡ false → o ≡ None)
+        → cond (a && r) 1 0 ≡ cond (a && (r && is_none o)) 1 0 + cond (a && is_some o) 1 0
     parts true true None h = refl
     parts true true (Some x) h = refl
     parts true false None h = refl
@@ -180,9 +186,11 @@ record Cut (s : State) (t : ℕ) (cut : Truncation) (b : Answer) (end : Pool) : 
   ends : end ≡ record (emptied s t cut.file cut.new (paged_from s cut.file cut.new) frame) { locks = s.locks; reserved = put s.reserved cut.file (cut_tail (s.reserved cut.file) cut.new); resv = s.resv - waiting s cut.file cut.new }
 
 -- the reserved indices go
-tail_ends : (s : State) (t : ℕ) (cut : Truncation) (frame : ℕ → FrameState) (b : Answer) (end : Pool) → s.locks cut.file ≡ None → ((i : ℕ) → s.reserved cut.file i ≡ false → s.pages cut.file i ≡ None)
+tail_ends : (s : State) (t : ℕ) (cut : Truncation) (frame : ℕ → FrameState) (b : Answer) (end : Pool) → s.locks cut.file ≡ None
+    → ((i : ℕ) → s.reserved cut.file i ≡ false → s.pages cut.file i ≡ None)
     → Freed (s.pages cut.file) s.frame (paged_from s cut.file cut.new) frame
-    → Leads (TruncateSteps t) b end (emptied s t cut.file cut.new (paged_from s cut.file cut.new) frame) (at.Tail (record { truncation = cut; evicted = pages_from s cut.file cut.new })) → Cut s t cut b end
+    → Leads (TruncateSteps t) b end (emptied s t cut.file cut.new (paged_from s cut.file cut.new) frame) (at.Tail (record { truncation = cut; evicted = pages_from s cut.file cut.new }))
+    → Cut s t cut b end
 tail_ends s t cut frame b end unlocked bare freed k =
     let k1 = goes_on k (λ turn m r. r) in
     let z = next k1 in
@@ -200,9 +208,11 @@ tail_ends s t cut frame b end unlocked bare freed k =
     }
 
 -- the indices from i down
-indices : (s : State) (t : ℕ) (cut : Truncation) (d i : ℕ) (frame : ℕ → FrameState) (b : Answer) (end : Pool) → Ready s t cut.file → ((i : ℕ) → s.reserved cut.file i ≡ false → s.pages cut.file i ≡ None) → i ≡ cut.new + d
+indices : (s : State) (t : ℕ) (cut : Truncation) (d i : ℕ) (frame : ℕ → FrameState) (b : Answer) (end : Pool) → Ready s t cut.file
+    → ((i : ℕ) → s.reserved cut.file i ≡ false → s.pages cut.file i ≡ None) → i ≡ cut.new + d
     → Freed (s.pages cut.file) s.frame (paged_from s cut.file (i + 1)) frame
-    → Leads (TruncateSteps t) b end (emptied s t cut.file cut.new (paged_from s cut.file (i + 1)) frame) (at.Want (record { truncation = cut; index = i; evicted = pages_from s cut.file (i + 1) })) → Cut s t cut b end
+    → Leads (TruncateSteps t) b end (emptied s t cut.file cut.new (paged_from s cut.file (i + 1)) frame) (at.Want (record { truncation = cut; index = i; evicted = pages_from s cut.file (i + 1) }))
+    → Cut s t cut b end
 indices s t cut zero i frame b end h bare e freed k =
     let o = one_index s t cut i frame b end h freed k in
     let last : nat_lt cut.new i ≡ false = grind (arith, nat_tests) in
@@ -225,7 +235,9 @@ none_above : (s : State) (f from : ℕ) → ((j : ℕ) → from ≤ j → s.page
 none_above s f from bare j = here (nat_le from j) refl
   where
     here : (c : Bool) → nat_le from j ≡ c → (nat_le from j && is_some (s.pages f j)) ≡ false
-    here true e = let l : from ≤ j = grind (arith, nat_tests) in ap (λ (o : Option ℕ). nat_le from j && is_some o) (bare j l) ∙ and_false (nat_le from j)
+    here true e =
+        let l : from ≤ j = grind (arith, nat_tests) in
+        ap (λ (o : Option ℕ). nat_le from j && is_some o) (bare j l) ∙ and_false (nat_le from j)
     here false e = ap (λ (c : Bool). c && is_some (s.pages f j)) e
 
 no_pages_above : (s : State) (f from : ℕ) → ((j : ℕ) → from ≤ j → s.pages f j ≡ None) → pages_from s f from ≡ 0
@@ -233,8 +245,10 @@ unfolding count_within
 no_pages_above s f from bare = count_below_none (λ k. nat_le from k && is_some (s.pages f k)) s.geometry.limit (λ k l. none_above s f from bare k)
 
 -- under the lock
-size_cuts : (s : State) (t : ℕ) (cut : Truncation) (b : Answer) (end : Pool) → Ready s t cut.file → ((i : ℕ) → s.reserved cut.file i ≡ false → s.pages cut.file i ≡ None)
-    → Leads (TruncateSteps t) b end (record (pool_of s) { locks = put s.locks cut.file (Some t) }) (at.Size (record { truncation = cut })) → Cut s t cut b end
+size_cuts : (s : State) (t : ℕ) (cut : Truncation) (b : Answer) (end : Pool) → Ready s t cut.file
+    → ((i : ℕ) → s.reserved cut.file i ≡ false → s.pages cut.file i ≡ None)
+    → Leads (TruncateSteps t) b end (record (pool_of s) { locks = put s.locks cut.file (Some t) }) (at.Size (record { truncation = cut }))
+    → Cut s t cut b end
 size_cuts s t cut b end h bare k =
     let z = next k in
     let r = z.2 in
@@ -253,7 +267,8 @@ size_cuts s t cut b end h bare k =
     (subst (λ (c : ℕ). Leads (TruncateSteps t) b end (emptied s t cut.file cut.new (paged_from s cut.file cut.new) s.frame) (at.Tail (record { truncation = cut; evicted = c }))) (sym (no_pages_above s cut.file cut.new none))
     (starts cut.new none (at.Tail (record { truncation = cut; evicted = 0 })) (moves z.3 r2))))
   where
-    starts : (from : ℕ) → ((j : ℕ) → from ≤ j → s.pages cut.file j ≡ None) → (phase : TruncatePhase) → Leads (TruncateSteps t) b end (record (pool_of s) { locks = put s.locks cut.file (Some t); size = put s.size cut.file cut.new }) phase
+    starts : (from : ℕ) → ((j : ℕ) → from ≤ j → s.pages cut.file j ≡ None) → (phase : TruncatePhase)
+        → Leads (TruncateSteps t) b end (record (pool_of s) { locks = put s.locks cut.file (Some t); size = put s.size cut.file cut.new }) phase
         → Leads (TruncateSteps t) b end (emptied s t cut.file cut.new (paged_from s cut.file from) s.frame) phase
     starts from none phase k =
         let pages = pages_none s.pages cut.file (paged_from s cut.file from) (none_above s cut.file from none) in
@@ -270,7 +285,8 @@ all_pages s f new = fun_ext (λ j. here (nat_le new j) (s.pages f j))
     here true (Some x) = refl
     here false o = refl
 
-all_freed : (s : State) (f new : ℕ) (frame : ℕ → FrameState) → Freed (s.pages f) s.frame (paged_from s f new) frame → Freed (s.pages f) s.frame (nat_le new) frame
+all_freed : (s : State) (f new : ℕ) (frame : ℕ → FrameState) → Freed (s.pages f) s.frame (paged_from s f new) frame
+    → Freed (s.pages f) s.frame (nat_le new) frame
 all_freed s f new frame h = record {
   freed = λ j x is p. h.freed j x (ap (λ (c : Bool). c && is_some (s.pages f j)) is ∙ ap is_some p) p;
   others = λ x none. h.others x (λ j is p. none j (left (nat_le new j) (is_some (s.pages f j)) is) p);
@@ -280,21 +296,25 @@ all_freed s f new frame h = record {
     left true c e = refl
     left false c e = (let z : false ≡ true = e in absurd (cc))
 
-all_entries : (s : State) (f new : ℕ) → Inv s.geometry s → without_entries s.areas s.table f (paged_from s f new) ≡ without_entries s.areas s.table f (nat_le new)
+all_entries : (s : State) (f new : ℕ) → Inv s.geometry s
+    → without_entries s.areas s.table f (paged_from s f new) ≡ without_entries s.areas s.table f (nat_le new)
 unfolding without_entries
 all_entries s f new h = fun_ext (λ u. fun_ext (λ v. here u v (find (s.areas u) v) (s.table u v) refl refl))
   where
-    bare : (o : Option ℕ) (c : Bool) (entry : Option ℕ) → (o ≡ None → entry ≡ None) → ◌≡◌ {A = Option ℕ} (if c && is_some o then None else entry) (if c then None else entry)
+    bare : (o : Option ℕ) (c : Bool) (entry : Option ℕ) → (o ≡ None → entry ≡ None)
+        → ◌≡◌ {A = Option ℕ} (if c && is_some o then None else entry) (if c then None else entry)
     bare None true entry e = e refl
     bare None false entry e = refl
     bare (Some x) true entry e = refl
     bare (Some x) false entry e = refl
 
-    ours : (a c : Bool) (o : Option ℕ) (entry : Option ℕ) → (a ≡ true → o ≡ None → entry ≡ None) → ◌≡◌ {A = Option ℕ} (if a && (c && is_some o) then None else entry) (if a && c then None else entry)
+    ours : (a c : Bool) (o : Option ℕ) (entry : Option ℕ) → (a ≡ true → o ≡ None → entry ≡ None)
+        → ◌≡◌ {A = Option ℕ} (if a && (c && is_some o) then None else entry) (if a && c then None else entry)
     ours true c o entry e = bare o c entry (e refl)
     ours false c o entry e = refl
 
-    none_there : (u v : ℕ) (place : ℕ × ℕ) (entry : Option ℕ) → find (s.areas u) v ≡ Some place → s.table u v ≡ entry → (place.0 == f) ≡ true → s.pages f place.1 ≡ None → entry ≡ None
+    none_there : (u v : ℕ) (place : ℕ × ℕ) (entry : Option ℕ) → find (s.areas u) v ≡ Some place → s.table u v ≡ entry
+        → (place.0 == f) ≡ true → s.pages f place.1 ≡ None → entry ≡ None
     none_there u v place None q e is none = refl
     none_there u v place (Some x) q e is none =
         let y = h.entries.agree u v x e in
@@ -311,7 +331,8 @@ all_entries s f new h = fun_ext (λ u. fun_ext (λ v. here u v (find (s.areas u)
 
 -- a truncation from its first phase on
 pub truncate_means : (s : State) (t f new : ℕ) (b : Answer) (n : State) → Inv s.geometry s → 1 ≤ s.geometry.tasks → IsReady s t
-    → Comes call.Truncate (TruncateSteps t) s t b n (pool_of s) (at.Start (record { truncation = record { file = f; new = new } })) → (m : State) × Checked s f (nat_lt s.geometry.limit new) b m (TruncateMeans s f new b m) × Looks m n
+    → Comes call.Truncate (TruncateSteps t) s t b n (pool_of s) (at.Start (record { truncation = record { file = f; new = new } }))
+    → (m : State) × Checked s f (nat_lt s.geometry.limit new) b m (TruncateMeans s f new b m) × Looks m n
 truncate_means s t f new b n h tasks ready (end, last, k, is) =
     checked call.Truncate (TruncateSteps t) s t f (nat_lt s.geometry.limit new) b n end last _ (at.Size (record { truncation = cut })) Killed (TruncateMeans s f new) (free_lock s h ready.0 f) (ready.0 t) refl (λ turn m r. r) k is
     (λ _ _ k.
@@ -321,12 +342,14 @@ truncate_means s t f new b n h tasks ready (end, last, k, is) =
     let calls = idle_again s t (ready.0 t) in
     finish call.Truncate s t last (TruncateMeans s f new) _ (z.done, z.ends) is (z.frame, all_freed s f new z.frame z.freed, z.enough, (refl, refl))
     (λ j. record s {
-      size = put s.size f new;
-      frame = z.frame;
-      pages = put s.pages f (pages j);
-      reserved = put s.reserved f (cut_tail (s.reserved f) new);
-      resv = s.resv - waiting s f new;
-      table = table j;
+      pool = record s.pool {
+        size = put s.size f new;
+        frame = z.frame;
+        pages = put s.pages f (pages j);
+        reserved = put s.reserved f (cut_tail (s.reserved f) new);
+        resv = s.resv - waiting s f new;
+        table = table j;
+      };
       calls = calls j;
     }))
   where
@@ -334,4 +357,4 @@ truncate_means s t f new b n h tasks ready (end, last, k, is) =
     cut = record { file = f; new = new }
 
     there : Ready s t f
-    there = record { slots = free_slot s h ready.0; unlocked = free_lock s h ready.0 f; tasks = tasks; owned = h.entries.owners; low = h.inside.low f }
+    there = record { slots = free_slot s h ready.0; unlocked = free_lock s h ready.0 f; tasks = tasks; owned = h.entries.owners; low = λ i x e. (page_within f i x h.inside e).1 }

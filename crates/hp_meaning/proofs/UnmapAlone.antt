@@ -33,7 +33,9 @@ abbrev pub ExitSteps : (task : ℕ) → Pool → ExitPhase → Turn ExitPhase �
 ExitSteps t s p turn new = ExitRow s t false true p turn new
 
 -- an unmap from its first phase on
-pub unmap_means : (s : State) (t base : ℕ) (b : Answer) (n : State) → IsReady s t → Comes call.Unmap (UnmapSteps t) s t b n (pool_of s) (unmap.Start (record { base = base })) → (m : State) × UnmapMeans s t base b m × Looks m n
+pub unmap_means : (s : State) (t base : ℕ) (b : Answer) (n : State) → IsReady s t
+    → Comes call.Unmap (UnmapSteps t) s t b n (pool_of s) (unmap.Start (record { base = base }))
+    → (m : State) × UnmapMeans s t base b m × Looks m n
 unmap_means s t base b n ready (end, last, k, is) = by_base (is_base (s.areas t) base) refl
   where
     calls : put s.calls t None ≡ s.calls
@@ -45,7 +47,7 @@ unmap_means s t base b n ready (end, last, k, is) = by_base (is_base (s.areas t)
         let k2 = goes_on k1 (λ turn m r. r) in
         let z = ends_so k2 (λ turn m r. r) in
         finish call.Unmap s t last (UnmapMeans s t base) _ z is (so_true _ _ e (refl, refl))
-        (λ j. record s { areas = put s.areas t (without (s.areas t) base); table = put s.table t (without_mapping (s.areas t) (s.table t) base); calls = calls j })
+        (λ j. record s { pool = record s.pool { areas = put s.areas t (without (s.areas t) base); table = put s.table t (without_mapping (s.areas t) (s.table t) base) }; calls = calls j })
     by_base false e = finish call.Unmap s t last (UnmapMeans s t base) s (ends_so k (λ turn m r. if_false _ _ e r)) is (so_false _ _ e (refl, refl)) (λ j. record s { calls = calls j })
 
 -- the task has these mappings and entries
@@ -64,18 +66,23 @@ none_left entries h = fun_ext (λ v. here v (entries v) refl)
     here v (Some x) e = absurd (h v x e refl)
 
 same_base : (m : Mapping) (ms : List Mapping) → without (m ∷ ms) m.base ≡ ms
-same_base m ms = let e : (m.base == m.base) ≡ true = grind (arith, nat_tests) in ap (λ (c : Bool). if c then ms else m ∷ without ms m.base) e
+same_base m ms =
+    let e : (m.base == m.base) ≡ true = grind (arith, nat_tests) in
+    ap (λ (c : Bool). if c then ms else m ∷ without ms m.base) e
 
-kept_entry : (areas : List Mapping) (entries : ℕ → Option ℕ) (base v x : ℕ) → without_mapping areas entries base v ≡ Some x → (in_mapping areas base v ≡ false) × (entries v ≡ Some x)
+kept_entry : (areas : List Mapping) (entries : ℕ → Option ℕ) (base v x : ℕ) → without_mapping areas entries base v ≡ Some x
+    → (in_mapping areas base v ≡ false) × (entries v ≡ Some x)
 unfolding without_mapping
 kept_entry areas entries base v x e = by_test (in_mapping areas base v) refl e
   where
-    by_test : (c : Bool) → in_mapping areas base v ≡ c → ◌≡◌ {A = Option ℕ} (if c then None else entries v) (Some x) → (in_mapping areas base v ≡ false) × (entries v ≡ Some x)
+    by_test : (c : Bool) → in_mapping areas base v ≡ c → ◌≡◌ {A = Option ℕ} (if c then None else entries v) (Some x)
+        → (in_mapping areas base v ≡ false) × (entries v ≡ Some x)
     by_test true d e = absurd (cc)
     by_test false d e = (d, e)
 
 -- the first mapping and its entries go
-covers_rest : (m : Mapping) (ms : List Mapping) (entries : ℕ → Option ℕ) → Covered (m ∷ ms) entries → Covered ms (without_mapping (m ∷ ms) entries m.base)
+covers_rest : (m : Mapping) (ms : List Mapping) (entries : ℕ → Option ℕ) → Covered (m ∷ ms) entries
+    → Covered ms (without_mapping (m ∷ ms) entries m.base)
 covers_rest m ms entries h v x e none =
     let z = kept_entry (m ∷ ms) entries m.base v x e in
     h v x z.1 (sym (without_find (m ∷ ms) m.base v z.0) ∙ (ap (λ (list : List Mapping). find list v) (same_base m ms) ∙ none))
@@ -86,7 +93,8 @@ set_again f t v g = put_put f t v (g (put f t v t)) ∙ ap (λ w. put f t (g w))
 
 -- the first mapping's entries are cleared
 clears_first : (s : State) (t : ℕ) (b : Answer) (end : Pool) (m : Mapping) (ms : List Mapping) (entries : ℕ → Option ℕ)
-    → Leads (ExitSteps t) b end (mapped s t (m ∷ ms) entries) (exit.Clear (record { base = m.base })) → Leads (ExitSteps t) b end (mapped s t (m ∷ ms) (without_mapping (m ∷ ms) entries m.base)) (exit.Drop (record { base = m.base }))
+    → Leads (ExitSteps t) b end (mapped s t (m ∷ ms) entries) (exit.Clear (record { base = m.base }))
+    → Leads (ExitSteps t) b end (mapped s t (m ∷ ms) (without_mapping (m ∷ ms) entries m.base)) (exit.Drop (record { base = m.base }))
 clears_first s t b end m ms entries k =
     let table = ap (λ (list : List Mapping). put (put s.table t entries) t (without_mapping list (put s.table t entries t) m.base)) (put_same s.areas t (m ∷ ms)) ∙ set_again s.table t entries (λ e. without_mapping (m ∷ ms) e m.base) in
     from_pool (λ i. record (pool_of s) { areas = put s.areas t (m ∷ ms); table = table i }) (goes_on k (λ turn m r. r))
@@ -95,12 +103,14 @@ clears_first s t b end m ms entries k =
 first_left : (s : State) (t : ℕ) (m : Mapping) (ms : List Mapping) → first_base (without (put s.areas t (m ∷ ms) t) m.base) ≡ first_base ms
 first_left s t m ms = ap (λ (list : List Mapping). first_base (without list m.base)) (put_same s.areas t (m ∷ ms)) ∙ ap first_base (same_base m ms)
 
-areas_left : (s : State) (t : ℕ) (m : Mapping) (ms : List Mapping) → put (put s.areas t (m ∷ ms)) t (without (put s.areas t (m ∷ ms) t) m.base) ≡ put s.areas t ms
+areas_left : (s : State) (t : ℕ) (m : Mapping) (ms : List Mapping)
+    → put (put s.areas t (m ∷ ms)) t (without (put s.areas t (m ∷ ms) t) m.base) ≡ put s.areas t ms
 areas_left s t m ms = set_again s.areas t (m ∷ ms) (λ list. without list m.base) ∙ ap (put s.areas t) (same_base m ms)
 
 -- one mapping after the other goes
 exits : (s : State) (t : ℕ) (b : Answer) (end : Pool) (m : Mapping) (ms : List Mapping) (entries : ℕ → Option ℕ) → Covered (m ∷ ms) entries
-    → Leads (ExitSteps t) b end (mapped s t (m ∷ ms) entries) (exit.Clear (record { base = m.base })) → (b ≡ Done) × (end ≡ mapped s t [] (λ _. None))
+    → Leads (ExitSteps t) b end (mapped s t (m ∷ ms) entries) (exit.Clear (record { base = m.base }))
+    → (b ≡ Done) × (end ≡ mapped s t [] (λ _. None))
 exits s t b end m [] entries h k =
     let k1 = goes_on (clears_first s t b end m [] entries k) (λ turn new r. if_none _ _ (first_left s t m []) r) in
     let z = ends_so k1 (λ turn m r. r) in
@@ -114,11 +124,12 @@ exits s t b end m (m' ∷ ms) entries h k =
     (from_pool (λ i. record (pool_of s) { areas = areas i; table = put s.table t (without_mapping (m ∷ m' ∷ ms) entries m.base) }) k1)
 
 -- an exit from its first phase on
-pub exit_means : (s : State) (t : ℕ) (b : Answer) (n : State) → Inv s.geometry s → IsReady s t → Comes call.Exit (ExitSteps t) s t b n (pool_of s) exit.Start → (m : State) × ExitMeans s t b m × Looks m n
+pub exit_means : (s : State) (t : ℕ) (b : Answer) (n : State) → Inv s.geometry s → IsReady s t
+    → Comes call.Exit (ExitSteps t) s t b n (pool_of s) exit.Start → (m : State) × ExitMeans s t b m × Looks m n
 exit_means s t b n h ready (end, last, k, is) =
     let calls = idle_again s t (ready.0 t) in
     finish call.Exit s t last (ExitMeans s t) _ (by_areas (s.areas t) refl) is (refl, refl)
-    (λ j. record s { areas = put s.areas t []; table = put s.table t (λ _. None); life = put s.life t Dead; calls = calls j })
+    (λ j. record s { pool = record s.pool { areas = put s.areas t []; table = put s.table t (λ _. None) }; life = put s.life t Dead; calls = calls j })
   where
     covered : Covered (s.areas t) (s.table t)
     covered v x e none = (let y = h.entries.agree t v x e in let z : None ≡ Some y.0 = sym none ∙ y.1 in absurd (cc))

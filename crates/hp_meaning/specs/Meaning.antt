@@ -14,6 +14,7 @@ use Rattle.hp_base.specs.declared.event.Event.TheVariants.{Begin, Step}
 use Rattle.hp_frames.specs.declared.frame.FrameState.{FrameState}
 use Rattle.hp_frames.specs.declared.frame.FrameState.TheVariants.{Free, Placed}
 use Rattle.hp_machine.specs.State.{State, free_frames}
+use Rattle.hp_machine.specs.Events.{Run}
 use Rattle.hp_machine.specs.Parts.{answer_of, frame_after}
 use Rattle.hp_machine.specs.declared.outcome.Life.TheVariants.{Alive, Dead}
 use Rattle.hp_machine.specs.declared.outcome.Outcome.{Outcome}
@@ -37,7 +38,7 @@ IsCall t op answer (e ∷ es) = (e.0 ≡ Begin t op) × AreSteps t answer es
 
 -- n is m; nothing is said of spare descriptors, nor of room made for a mapping
 abbrev pub Looks : State → State → Type 0
-Looks m n = n ≡ record m { spare = n.spare; prepared = n.prepared }
+Looks m n = n ≡ record m { pool = record m.pool { spare = n.spare; prepared = n.prepared } }
 
 -- this answer, and this state
 abbrev pub Gives : Answer → State → Answer → State → Type 0
@@ -72,10 +73,12 @@ MapMeans s t f from len answer m =
     (Gives NoFrame s answer m)
     (Gives (Mapped base)
     (record s {
-      areas = put s.areas t (entered (s.areas t) (record { base = base; file = f; from = from; len = len }));
-      reserved = put s.reserved f (add_range (s.reserved f) from (from + len));
-      resv = s.resv + missing (s.reserved f) from (from + len);
-      size = put s.size f (max (s.size f) (from + len));
+      pool = record s.pool {
+        areas = put s.areas t (entered (s.areas t) (record { base = base; file = f; from = from; len = len }));
+        reserved = put s.reserved f (add_range (s.reserved f) from (from + len));
+        resv = s.resv + missing (s.reserved f) from (from + len);
+        size = put s.size f (max (s.size f) (from + len));
+      };
     }) answer m))
 
 -- MapNoReserve (Linux: `hugetlbfs_file_mmap` with `MAP_NORESERVE`). No base: NoAddress. Else the mapping is
@@ -87,8 +90,10 @@ MapNoReserveMeans s t f from len answer m =
     (Gives NoAddress s answer m)
     (λ base. Gives (Mapped base)
     (record s {
-      areas = put s.areas t (entered (s.areas t) (record { base = base; file = f; from = from; len = len }));
-      size = put s.size f (max (s.size f) (from + len));
+      pool = record s.pool {
+        areas = put s.areas t (entered (s.areas t) (record { base = base; file = f; from = from; len = len }));
+        size = put s.size f (max (s.size f) (from + len));
+      };
     }) answer m)
 
 -- a touched index that has no page (Linux: `hugetlb_no_page`). Reserved: a free frame becomes its page, with
@@ -99,11 +104,11 @@ PageMade s t vpn access f i answer m =
     MatchBool (s.reserved f i)
     ((x : ℕ) × (s.frame x ≡ Free) × (1 ≤ s.resv)
     × Gives (answer_of access 0)
-    (record s { frame = frame_after access (put s.frame x (Placed 0)) x; resv = s.resv - 1; pages = put2 s.pages f i (Some x); table = put2 s.table t vpn (Some x) }) answer m)
+    (record s { pool = record s.pool { frame = frame_after access (put s.frame x (Placed 0)) x; resv = s.resv - 1; pages = put2 s.pages f i (Some x); table = put2 s.table t vpn (Some x) } }) answer m)
     (MatchBool (nat_lt 0 (available s))
     ((x : ℕ) × (s.frame x ≡ Free)
     × Gives (answer_of access 0)
-    (record s { frame = frame_after access (put s.frame x (Placed 0)) x; reserved = put2 s.reserved f i true; pages = put2 s.pages f i (Some x); table = put2 s.table t vpn (Some x) }) answer m)
+    (record s { pool = record s.pool { frame = frame_after access (put s.frame x (Placed 0)) x; reserved = put2 s.reserved f i true; pages = put2 s.pages f i (Some x); table = put2 s.table t vpn (Some x) } }) answer m)
     (Gives NoFrame s answer m))
 
 -- Load and Store (Linux: `hugetlb_fault`). In no mapping: Segv. Index at or above the size: Beyond. The index
@@ -117,18 +122,18 @@ TouchMeans s t vpn access answer m =
     (MatchOption (s.pages place.0 place.1)
     (PageMade s t vpn access place.0 place.1 answer m)
     (λ x. (word : ℕ) × (s.frame x ≡ Placed word)
-    × Gives (answer_of access word) (record s { frame = frame_after access s.frame x; table = put2 s.table t vpn (Some x) }) answer m)))
+    × Gives (answer_of access word) (record s { pool = record s.pool { frame = frame_after access s.frame x; table = put2 s.table t vpn (Some x) } }) answer m)))
 
 -- Unmap (Linux: `unmap_region`). No mapping with that base: NotMapped. Else it and its entries go: Done
 abbrev pub UnmapMeans : State → (task base : ℕ) → Answer → State → Type 0
 UnmapMeans s t base answer m =
     MatchBool (is_base (s.areas t) base)
-    (Gives Done (record s { areas = put s.areas t (without (s.areas t) base); table = put s.table t (without_mapping (s.areas t) (s.table t) base) }) answer m)
+    (Gives Done (record s { pool = record s.pool { areas = put s.areas t (without (s.areas t) base); table = put s.table t (without_mapping (s.areas t) (s.table t) base) } }) answer m)
     (Gives NotMapped s answer m)
 
 -- Exit (Linux: `exit_mmap`). All mappings and entries of the task go, and it is dead: Done
 abbrev pub ExitMeans : State → (task : ℕ) → Answer → State → Type 0
-ExitMeans s t answer m = Gives Done (record s { areas = put s.areas t []; table = put s.table t (λ _. None); life = put s.life t Dead }) answer m
+ExitMeans s t answer m = Gives Done (record s { pool = record s.pool { areas = put s.areas t []; table = put s.table t (λ _. None) }; life = put s.life t Dead }) answer m
 
 -- the pages of a file without those at the indices that go
 unfoldable pub without_pages : (ℕ → Option ℕ) → (gone : ℕ → Bool) → ℕ → Option ℕ
@@ -160,10 +165,12 @@ PunchMeans s f from len answer m =
     (frame : ℕ → FrameState) × Freed (s.pages f) s.frame gone frame
     × Gives Done
     (record s {
-      frame = frame;
-      pages = put s.pages f (without_pages (s.pages f) gone);
-      reserved = put s.reserved f (λ j. s.reserved f j && not (gone j));
-      table = without_entries s.areas s.table f gone;
+      pool = record s.pool {
+        frame = frame;
+        pages = put s.pages f (without_pages (s.pages f) gone);
+        reserved = put s.reserved f (λ j. s.reserved f j && not (gone j));
+        table = without_entries s.areas s.table f gone;
+      };
     }) answer m
 
 -- Truncate (Linux: `hugetlb_vmtruncate`). Size is the new one; all indices from there on lose their page and are
@@ -176,12 +183,14 @@ TruncateMeans s f new answer m =
     (frame : ℕ → FrameState) × Freed (s.pages f) s.frame gone frame × (waiting ≤ s.resv)
     × Gives Done
     (record s {
-      size = put s.size f new;
-      frame = frame;
-      pages = put s.pages f (without_pages (s.pages f) gone);
-      reserved = put s.reserved f (cut_tail (s.reserved f) new);
-      resv = s.resv - waiting;
-      table = without_entries s.areas s.table f gone;
+      pool = record s.pool {
+        size = put s.size f new;
+        frame = frame;
+        pages = put s.pages f (without_pages (s.pages f) gone);
+        reserved = put s.reserved f (cut_tail (s.reserved f) new);
+        resv = s.resv - waiting;
+        table = without_entries s.areas s.table f gone;
+      };
     }) answer m
 
 -- Each index of [from, to) has a page: the one it had, else a free frame with word 0. Pages elsewhere and frames that
@@ -200,7 +209,7 @@ RangePaged s f from to size m =
     let gains = λ (j : ℕ). is_within from to j && is_none (s.pages f j) in
     let promised = count_within (λ j. s.reserved f j && is_none (s.pages f j)) from to in
     (pages : ℕ → Option ℕ) × (frame : ℕ → FrameState) × Filled s.frames (s.pages f) s.frame from to pages frame × (promised ≤ s.resv)
-    × (m ≡ record s { frame = frame; pages = put s.pages f pages; reserved = put s.reserved f (λ j. s.reserved f j || gains j); resv = s.resv - promised; size = size })
+    × (m ≡ record s { pool = record s.pool { frame = frame; pages = put s.pages f pages; reserved = put s.reserved f (λ j. s.reserved f j || gains j); resv = s.resv - promised; size = size } })
 
 -- Alloc (Linux: `hugetlbfs_fallocate`). No more of the range is missing from the reserved indices than frames are
 -- available: the range is paged, and size grows to its end unless it is to be kept: Done. Else the range is
@@ -223,3 +232,8 @@ Means s t (op.Alloc f from len keep) answer m = Checked s f (is_bad_range s from
 Means s t (op.Punch f from len) answer m = Checked s f (is_bad_range s from len) answer m (PunchMeans s f from len answer m)
 Means s t (op.Truncate f new) answer m = Checked s f (nat_lt s.geometry.limit new) answer m (TruncateMeans s f new answer m)
 Means s t op.Exit answer m = ExitMeans s t answer m
+
+-- a call of a task that runs alone from here, by granted steps to its end, has the answer and leads to the state that the table tells
+abbrev pub CallsAloneMean : State → Type 0
+CallsAloneMean s = (t : ℕ) (op : Op) (answer : Answer) (events : List (Event × Outcome)) (n : State)
+    → IsReady s t → IsCall t op answer events → Run s events n → (m : State) × Means s t op answer m × Looks m n

@@ -59,9 +59,11 @@ call_renamed to other = other
 -- `to x` is now; pages, translations and calls name it so. All else is the same.
 abbrev pub renamed : {frames : ℕ} → Renaming frames → State → State
 renamed r s = record s {
-  frame = λ y. s.frame (r.back y);
-  pages = λ file index. option_map r.to (s.pages file index);
-  table = λ task vpn. option_map r.to (s.table task vpn);
+  pool = record s.pool {
+    frame = λ y. s.frame (r.back y);
+    pages = λ file index. option_map r.to (s.pages file index);
+    table = λ task vpn. option_map r.to (s.table task vpn);
+  };
   calls = λ task. option_map (call_renamed r.to) (s.calls task);
 }
 

@@ -10,13 +10,11 @@
 #![tactic(auto)]
 
 ghost use Rattle.std.specs.Prelude.{◌≡◌, ℕ, List};
-ghost use Rattle.hp_base.specs.declared.answer.Answer.{Answer};
 ghost use Rattle.hp_base.specs.declared.event.Event.{Event};
-ghost use Rattle.hp_base.specs.declared.event.Op.{Op};
 ghost use Rattle.hp_machine.specs.State.{Geometry, State};
 ghost use Rattle.hp_machine.specs.Events.{IsReached, Run, opening};
 ghost use Rattle.hp_machine.specs.declared.outcome.Outcome.{Outcome};
-ghost use Rattle.hp_meaning.specs.Meaning.{IsReady, IsCall, Looks, Means};
+ghost use Rattle.hp_meaning.specs.Meaning.{CallsAloneMean};
 ghost use Rattle.hp_meaning.specs.Renaming.{Alike, events_of};
 
 /// Frames don't show: two runs of one pool with the same events have the same outcomes, and their
@@ -31,7 +29,5 @@ pub fn frames_do_not_show()
 /// answer and leads to the state that the table tells of its operation. Nothing is said of spare
 /// descriptors, nor of room made for a mapping.
 pub fn a_call_alone_has_its_plain_meaning()
-    ensures { (s : State) (t : ℕ) (op : Op) (answer : Answer) (events : List (Event × Outcome)) (n : State)
-        → IsReached s → IsReady s t → IsCall t op answer events → Run s events n
-        → (m : State) × Means s t op answer m × Looks m n }
+    ensures { (s : State) → IsReached s → CallsAloneMean s }
 {}

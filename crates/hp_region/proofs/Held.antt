@@ -23,7 +23,8 @@ overlap_of-count from to r =
     ∙ count_below-is_within (max r.from from) r.to to
 
 -- the walk counts the members
-pub held_within-count : (low : ℕ) (rs : List Region) (from to : ℕ) → IsApartFrom low rs → held_within rs from to ≡ count_within (is_member rs) from to
+pub held_within-count : (low : ℕ) (rs : List Region) (from to : ℕ) → IsApartFrom low rs
+    → held_within rs from to ≡ count_within (is_member rs) from to
 unfolding count_within
 held_within-count low [] from to apart = sym (count_below_none (λ k. nat_le from k && false) to (λ k below. grind (arith, nat_tests)))
 held_within-count low (r ∷ rs) from to apart =

@@ -27,7 +27,8 @@ falls_apart-splits low (r ∷ rs) i apart =
     grind (arith, nat_tests, rest, none, before, here, after)
 
 -- a region meets a range exactly where it has an index of the range or beside it
-meets-held : (low : ℕ) (rs : List Region) (from to : ℕ) → IsApartFrom low rs → from < to → meets rs from to ≡ nat_lt 0 (held_within rs (from - 1) (to + 1))
+meets-held : (low : ℕ) (rs : List Region) (from to : ℕ) → IsApartFrom low rs → from < to
+    → meets rs from to ≡ nat_lt 0 (held_within rs (from - 1) (to + 1))
 meets-held low [] from to apart order = grind (arith, nat_tests)
 meets-held low (r ∷ rs) from to apart order =
     let rest = meets-held (r.to + 1) rs from to apart.3 order in
@@ -58,7 +59,8 @@ region_count-length low (r ∷ rs) apart =
 pub regions_are : (rs : List Region) → IsApartFrom 0 rs → length rs ≡ region_count LIMIT (is_member rs)
 regions_are rs apart = sym (region_count-length 0 rs apart)
 
-pub with_range-add_range : (rs : List Region) (from to : ℕ) → IsApartFrom 0 rs → from < to → is_member (with_range rs from to) ≡ add_range (is_member rs) from to
+pub with_range-add_range : (rs : List Region) (from to : ℕ) → IsApartFrom 0 rs → from < to
+    → is_member (with_range rs from to) ≡ add_range (is_member rs) from to
 unfolding add_range
 with_range-add_range rs from to apart order = fun_ext (λ k. is_member-with_range 0 rs from to k apart order)
 
@@ -89,15 +91,18 @@ member_below_limit low (r ∷ rs) i apart there =
     within_below from to i e = grind (arith, nat_tests)
 
 -- what the lists that a walk makes are, as sets
-pub with_range_is : (rs new : List Region) (from to : ℕ) → IsApartFrom 0 rs → from < to → to ≤ LIMIT → new ≡ with_range rs from to → (IsApartFrom 0 new) × (is_member new ≡ add_range (is_member rs) from to)
+pub with_range_is : (rs new : List Region) (from to : ℕ) → IsApartFrom 0 rs → from < to → to ≤ LIMIT → new ≡ with_range rs from to
+    → (IsApartFrom 0 new) × (is_member new ≡ add_range (is_member rs) from to)
 with_range_is rs new from to apart order limit is =
     (let P : List Region → Type 0 = IsApartFrom 0 in subst P (sym is) (IsApartFrom-with_range 0 rs from to apart (omega arith) order limit), ap is_member is ∙ with_range-add_range rs from to apart order)
 
-pub without_is : (rs new : List Region) (i : ℕ) → IsApartFrom 0 rs → new ≡ without rs i → (IsApartFrom 0 new) × (is_member new ≡ put (is_member rs) i false)
+pub without_is : (rs new : List Region) (i : ℕ) → IsApartFrom 0 rs → new ≡ without rs i
+    → (IsApartFrom 0 new) × (is_member new ≡ put (is_member rs) i false)
 without_is rs new i apart is =
     (let P : List Region → Type 0 = IsApartFrom 0 in subst P (sym is) (IsApartFrom-without 0 rs i apart), ap is_member is ∙ without-put rs i apart)
 
-pub below_is : (rs new : List Region) (i : ℕ) → IsApartFrom 0 rs → new ≡ below rs i → (IsApartFrom 0 new) × (is_member new ≡ cut_tail (is_member rs) i)
+pub below_is : (rs new : List Region) (i : ℕ) → IsApartFrom 0 rs → new ≡ below rs i
+    → (IsApartFrom 0 new) × (is_member new ≡ cut_tail (is_member rs) i)
 below_is rs new i apart is =
     (let P : List Region → Type 0 = IsApartFrom 0 in subst P (sym is) (IsApartFrom-below 0 rs i apart), ap is_member is ∙ below-cut_tail rs i apart)
 
@@ -111,7 +116,8 @@ pub record HoldsThere (rs : List Region) (at i : ℕ) (r : Region) : Type 0 wher
   pub ends : i < r.to
   pub split : splits (is_member rs) i ≡ (nat_lt r.from i && nat_lt (i + 1) r.to)
 
-pub holds_there : (rs : List Region) (at i : ℕ) (r : Region) → IsApartFrom 0 rs → at < length rs → r ≡ get_or rs at r → is_within (get_or rs at r).from (get_or rs at r).to i ≡ true → HoldsThere rs at i r
+pub holds_there : (rs : List Region) (at i : ℕ) (r : Region) → IsApartFrom 0 rs → at < length rs → r ≡ get_or rs at r
+    → is_within (get_or rs at r).from (get_or rs at r).to i ≡ true → HoldsThere rs at i r
 holds_there rs at i r apart within read holds =
     let sought = held_place 0 rs at i r apart within holds in
     let there = inside (get_or rs at r).from (get_or rs at r).to i holds in

@@ -24,7 +24,8 @@ ended_by_none low (r ∷ rs) i apart above =
     grind (arith, nat_tests, rest, apart.0, apart.1)
 
 -- i is a member exactly where the region at that place begins at or below it
-pub is_member-sought : (low : ℕ) (rs : List Region) (i : ℕ) (d : Region) → IsApartFrom low rs → is_member rs i ≡ (nat_lt (ended_by rs i) (length rs) && nat_le (get_or rs (ended_by rs i) d).from i)
+pub is_member-sought : (low : ℕ) (rs : List Region) (i : ℕ) (d : Region) → IsApartFrom low rs
+    → is_member rs i ≡ (nat_lt (ended_by rs i) (length rs) && nat_le (get_or rs (ended_by rs i) d).from i)
 is_member-sought low [] i d apart = refl
 is_member-sought low (r ∷ rs) i d apart =
     let rest = is_member-sought (r.to + 1) rs i d apart.3 in
@@ -51,7 +52,8 @@ is_member-around r i k above inside =
     parts ∙ rw (first, second) (grind (arith, nat_tests))
 
 -- without i, and nothing else
-pub is_member-without : (low : ℕ) (rs : List Region) (i k : ℕ) → IsApartFrom low rs → is_member (without rs i) k ≡ (not (nat_eq k i) && is_member rs k)
+pub is_member-without : (low : ℕ) (rs : List Region) (i k : ℕ) → IsApartFrom low rs
+    → is_member (without rs i) k ≡ (not (nat_eq k i) && is_member rs k)
 is_member-without low [] i k apart = grind (arith, nat_tests)
 is_member-without low (r ∷ rs) i k apart =
     let rest = is_member-without (r.to + 1) rs i k apart.3 in
@@ -65,7 +67,8 @@ is_member-without low (r ∷ rs) i k apart =
     let left = is_member-around r i k (ltb-false _ _ f) (leb-false _ _ e) in
     parts ∙ rw left (grind (arith, nat_tests, out))))
 
-pub is_member-below : (low : ℕ) (rs : List Region) (i k : ℕ) → IsApartFrom low rs → is_member (below rs i) k ≡ (nat_lt k i && is_member rs k)
+pub is_member-below : (low : ℕ) (rs : List Region) (i k : ℕ) → IsApartFrom low rs
+    → is_member (below rs i) k ≡ (nat_lt k i && is_member rs k)
 is_member-below low [] i k apart = grind (arith, nat_tests)
 is_member-below low (r ∷ rs) i k apart =
     let rest = is_member-below (r.to + 1) rs i k apart.3 in
@@ -113,7 +116,8 @@ splits_none low (r ∷ rs) i apart above =
     grind (arith, nat_tests, rest, apart.0, apart.1)
 
 -- only the region at that place can be split
-pub falls_apart-sought : (low : ℕ) (rs : List Region) (i : ℕ) (d : Region) → IsApartFrom low rs → falls_apart rs i ≡ (nat_lt (ended_by rs i) (length rs) && (nat_lt (get_or rs (ended_by rs i) d).from i && nat_lt (i + 1) (get_or rs (ended_by rs i) d).to))
+pub falls_apart-sought : (low : ℕ) (rs : List Region) (i : ℕ) (d : Region) → IsApartFrom low rs
+    → falls_apart rs i ≡ (nat_lt (ended_by rs i) (length rs) && (nat_lt (get_or rs (ended_by rs i) d).from i && nat_lt (i + 1) (get_or rs (ended_by rs i) d).to))
 falls_apart-sought low [] i d apart = refl
 falls_apart-sought low (r ∷ rs) i d apart =
     let rest = falls_apart-sought (r.to + 1) rs i d apart.3 in
@@ -126,7 +130,8 @@ falls_apart-sought low (r ∷ rs) i d apart =
     rw none (grind (arith, nat_tests, out)))
 
 -- the region at that place ends above i
-pub sought_above : (low : ℕ) (rs : List Region) (i : ℕ) (d : Region) → IsApartFrom low rs → ended_by rs i < length rs → i < (get_or rs (ended_by rs i) d).to
+pub sought_above : (low : ℕ) (rs : List Region) (i : ℕ) (d : Region) → IsApartFrom low rs → ended_by rs i < length rs
+    → i < (get_or rs (ended_by rs i) d).to
 sought_above low [] i d apart = λ within. absurd (omega arith)
 sought_above low (r ∷ rs) i d apart =
     let rest = sought_above (r.to + 1) rs i d apart.3 in
@@ -149,7 +154,8 @@ from_above low (r ∷ rs) zero d apart within = apart.0
 from_above low (r ∷ rs) (suc k) d apart within = omega (arith, from_above (r.to + 1) rs k d apart.3 (omega arith), apart.0, apart.1)
 
 -- a region that ends by i stands before that place, and one that does not stands at or past it
-pub ended_before : (low : ℕ) (rs : List Region) (i k : ℕ) (d : Region) → IsApartFrom low rs → k < length rs → (get_or rs k d).to ≤ i → k < ended_by rs i
+pub ended_before : (low : ℕ) (rs : List Region) (i k : ℕ) (d : Region) → IsApartFrom low rs → k < length rs
+    → (get_or rs k d).to ≤ i → k < ended_by rs i
 ended_before low [] i k d apart = λ within ends. absurd (omega arith)
 ended_before low (r ∷ rs) i zero d apart = λ within ends. rw (le-leb r.to i ends) (omega arith)
 ended_before low (r ∷ rs) i (suc k) d apart = λ within ends.
@@ -157,7 +163,8 @@ ended_before low (r ∷ rs) i (suc k) d apart = λ within ends.
     let over = starts_above (r.to + 1) rs k d apart.3 (omega arith) in
     rw (le-leb r.to i (omega (arith, over))) (omega (arith, rest))
 
-pub ended_past : (low : ℕ) (rs : List Region) (i k : ℕ) (d : Region) → IsApartFrom low rs → k < length rs → i < (get_or rs k d).to → ended_by rs i ≤ k
+pub ended_past : (low : ℕ) (rs : List Region) (i k : ℕ) (d : Region) → IsApartFrom low rs → k < length rs → i < (get_or rs k d).to
+    → ended_by rs i ≤ k
 ended_past low [] i k d apart = λ within over. absurd (omega arith)
 ended_past low (r ∷ rs) i zero d apart = λ within over. rw (lt-leb r.to i over, ended_by_none (r.to + 1) rs i apart.3 (omega arith)) (omega arith)
 ended_past low (r ∷ rs) i (suc k) d apart = λ within over.
@@ -180,7 +187,8 @@ zero_lt : (n : ℕ) → nat_lt 0 (suc n) ≡ true
 zero_lt n = grind (arith, nat_tests)
 
 -- the cut, by the place
-pub below-sought : (low : ℕ) (rs : List Region) (i : ℕ) (d : Region) → IsApartFrom low rs → below rs i ≡ take (ended_by rs i) rs ++ cond (nat_lt (ended_by rs i) (length rs) && nat_lt (get_or rs (ended_by rs i) d).from i) (record { from = (get_or rs (ended_by rs i) d).from; to = i } ∷ []) []
+pub below-sought : (low : ℕ) (rs : List Region) (i : ℕ) (d : Region) → IsApartFrom low rs
+    → below rs i ≡ take (ended_by rs i) rs ++ cond (nat_lt (ended_by rs i) (length rs) && nat_lt (get_or rs (ended_by rs i) d).from i) (record { from = (get_or rs (ended_by rs i) d).from; to = i } ∷ []) []
 below-sought low [] i d apart = refl
 below-sought low (r ∷ rs) i d apart =
     let rest = below-sought (r.to + 1) rs i d apart.3 in
@@ -190,7 +198,9 @@ below-sought low (r ∷ rs) i d apart =
     ] refl
 
 -- the regions without i, by the place
-pub without-sought : (low : ℕ) (rs : List Region) (i : ℕ) (d : Region) → IsApartFrom low rs → ended_by rs i < length rs → (get_or rs (ended_by rs i) d).from ≤ i → without rs i ≡ take (ended_by rs i) rs ++ (around (get_or rs (ended_by rs i) d) i ++ drop (suc (ended_by rs i)) rs)
+pub without-sought : (low : ℕ) (rs : List Region) (i : ℕ) (d : Region) → IsApartFrom low rs → ended_by rs i < length rs
+    → (get_or rs (ended_by rs i) d).from ≤ i
+    → without rs i ≡ take (ended_by rs i) rs ++ (around (get_or rs (ended_by rs i) d) i ++ drop (suc (ended_by rs i)) rs)
 without-sought low [] i d apart = λ within above. absurd (omega arith)
 without-sought low (r ∷ rs) i d apart =
     let rest = without-sought (r.to + 1) rs i d apart.3 in
@@ -204,7 +214,8 @@ set-split [] i y within = absurd (omega arith)
 set-split (x ∷ xs) zero y within = refl
 set-split (x ∷ xs) (suc i) y within = ap (λ zs. x ∷ zs) (set-split xs i y (omega arith))
 
-insert-set : {X : Type 0} (xs : List X) (i : ℕ) (y z : X) → i < length xs → insert (set xs i y) (suc i) z ≡ take i xs ++ (y ∷ z ∷ drop (suc i) xs)
+insert-set : {X : Type 0} (xs : List X) (i : ℕ) (y z : X) → i < length xs
+    → insert (set xs i y) (suc i) z ≡ take i xs ++ (y ∷ z ∷ drop (suc i) xs)
 insert-set [] i y z within = absurd (omega arith)
 insert-set (x ∷ xs) zero y z within = refl
 insert-set (x ∷ xs) (suc i) y z within = ap (λ zs. x ∷ zs) (insert-set xs i y z (omega arith))
@@ -233,7 +244,8 @@ module _ (rs : List Region) (at i : ℕ) (r : Region) (apart : IsApartFrom 0 rs)
   pub lowered_is : nat_lt r.from i ≡ true → nat_lt (i + 1) r.to ≡ false → set rs at (record { from = r.from; to = i }) ≡ without rs i
   lowered_is first second = set-split rs at (record { from = r.from; to = i }) within ∙ sym (without_at ∙ rw (first, second) refl)
 
-  pub split_is : nat_lt r.from i ≡ true → nat_lt (i + 1) r.to ≡ true → insert (set rs at (record { from = r.from; to = i })) (at + 1) (record { from = i + 1; to = r.to }) ≡ without rs i
+  pub split_is : nat_lt r.from i ≡ true → nat_lt (i + 1) r.to ≡ true
+      → insert (set rs at (record { from = r.from; to = i })) (at + 1) (record { from = i + 1; to = r.to }) ≡ without rs i
   split_is first second = rw add-one (insert-set rs at (record { from = r.from; to = i }) (record { from = i + 1; to = r.to }) within ∙ sym (without_at ∙ rw (first, second) refl))
 
   pub falls_apart_is : falls_apart rs i ≡ (nat_lt r.from i && nat_lt (i + 1) r.to)
@@ -248,13 +260,15 @@ limit_at low (r ∷ rs) zero d apart within = apart.2
 limit_at low (r ∷ rs) (suc k) d apart within = limit_at (r.to + 1) rs k d apart.3 (omega arith)
 
 -- the cut at that place, where the region there begins below i, and where none does
-pub cut_through : (rs : List Region) (at i : ℕ) (r : Region) → IsApartFrom 0 rs → at ≡ ended_by rs i → at < length rs → r ≡ get_or rs at r → r.from < i → take (at + 1) (set rs at (record { from = r.from; to = i })) ≡ below rs i
+pub cut_through : (rs : List Region) (at i : ℕ) (r : Region) → IsApartFrom 0 rs → at ≡ ended_by rs i → at < length rs
+    → r ≡ get_or rs at r → r.from < i → take (at + 1) (set rs at (record { from = r.from; to = i })) ≡ below rs i
 cut_through rs at i r apart sought within read under =
     let same : get_or rs (ended_by rs i) r ≡ r = rw (← sought) (sym read) in
     take_more_set rs at (record { from = r.from; to = i }) within
     ∙ sym (below-sought 0 rs i r apart ∙ rw (same, ← sought, lt-ltb at (length rs) within, lt-ltb r.from i under) refl)
 
-pub cut_beside : (rs : List Region) (at i : ℕ) (d : Region) → IsApartFrom 0 rs → at ≡ ended_by rs i → (at < length rs → i ≤ (get_or rs at d).from) → take at rs ≡ below rs i
+pub cut_beside : (rs : List Region) (at i : ℕ) (d : Region) → IsApartFrom 0 rs → at ≡ ended_by rs i
+    → (at < length rs → i ≤ (get_or rs at d).from) → take at rs ≡ below rs i
 cut_beside rs at i d apart sought over =
     let none : (nat_lt at (length rs) && nat_lt (get_or rs at d).from i) ≡ false = grind (arith, nat_tests, over) in
     sym (below-sought 0 rs i d apart ∙ rw (← sought, none) (append-nil (take at rs)))
@@ -270,7 +284,8 @@ halved n m (suc k) some below half =
     (omega arith, rw one (omega arith))
 
 -- the regions with a range, by the place of the first that it meets
-pub with_range-sought : (low : ℕ) (rs : List Region) (from to : ℕ) → IsApartFrom low rs → with_range rs from to ≡ take (ended_by rs (from - 1)) rs ++ absorb (drop (ended_by rs (from - 1)) rs) from to
+pub with_range-sought : (low : ℕ) (rs : List Region) (from to : ℕ) → IsApartFrom low rs
+    → with_range rs from to ≡ take (ended_by rs (from - 1)) rs ++ absorb (drop (ended_by rs (from - 1)) rs) from to
 with_range-sought low [] from to apart = refl
 with_range-sought low (r ∷ rs) from to apart =
     let rest = with_range-sought (r.to + 1) rs from to apart.3 in
@@ -283,7 +298,8 @@ with_range-sought low (r ∷ rs) from to apart =
     ] refl
 
 -- nothing before that place meets the range
-pub meets-sought : (low : ℕ) (rs : List Region) (from to : ℕ) → IsApartFrom low rs → meets rs from to ≡ meets (drop (ended_by rs (from - 1)) rs) from to
+pub meets-sought : (low : ℕ) (rs : List Region) (from to : ℕ) → IsApartFrom low rs
+    → meets rs from to ≡ meets (drop (ended_by rs (from - 1)) rs) from to
 meets-sought low [] from to apart = refl
 meets-sought low (r ∷ rs) from to apart =
     let rest = meets-sought (r.to + 1) rs from to apart.3 in
@@ -296,7 +312,8 @@ meets-sought low (r ∷ rs) from to apart =
     ] refl
 
 -- nothing before that place lies in the range
-pub held_within-sought : (low : ℕ) (rs : List Region) (from to : ℕ) → IsApartFrom low rs → held_within (drop (ended_by rs from) rs) from to ≡ held_within rs from to
+pub held_within-sought : (low : ℕ) (rs : List Region) (from to : ℕ) → IsApartFrom low rs
+    → held_within (drop (ended_by rs from) rs) from to ≡ held_within rs from to
 held_within-sought low [] from to apart = refl
 held_within-sought low (r ∷ rs) from to apart =
     let rest = held_within-sought (r.to + 1) rs from to apart.3 in
@@ -312,7 +329,8 @@ held_within_none low (r ∷ rs) from to apart past =
     omega (arith, rest, apart.0)
 
 -- where the region at a place begins past the range, none from there on has an index of it
-pub held_within_past : (low : ℕ) (rs : List Region) (at from to : ℕ) (d : Region) → IsApartFrom low rs → (at < length rs → to ≤ (get_or rs at d).from) → held_within (drop at rs) from to ≡ 0
+pub held_within_past : (low : ℕ) (rs : List Region) (at from to : ℕ) (d : Region) → IsApartFrom low rs
+    → (at < length rs → to ≤ (get_or rs at d).from) → held_within (drop at rs) from to ≡ 0
 held_within_past low [] zero from to d apart past = refl
 held_within_past low [] (suc at) from to d apart past = refl
 held_within_past low (r ∷ rs) zero from to d apart past =
@@ -322,7 +340,8 @@ held_within_past low (r ∷ rs) zero from to d apart past =
 held_within_past low (r ∷ rs) (suc at) from to d apart past = held_within_past (r.to + 1) rs at from to d apart.3 (λ within. past (omega arith))
 
 -- a region that holds i stands at that place
-pub held_place : (low : ℕ) (rs : List Region) (k i : ℕ) (d : Region) → IsApartFrom low rs → k < length rs → is_within (get_or rs k d).from (get_or rs k d).to i ≡ true → k ≡ ended_by rs i
+pub held_place : (low : ℕ) (rs : List Region) (k i : ℕ) (d : Region) → IsApartFrom low rs → k < length rs
+    → is_within (get_or rs k d).from (get_or rs k d).to i ≡ true → k ≡ ended_by rs i
 held_place low [] k i d apart within holds = absurd (omega arith)
 held_place low (r ∷ rs) zero i d apart within holds =
     let under : i < r.to = grind (arith, nat_tests) in

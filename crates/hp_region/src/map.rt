@@ -92,7 +92,7 @@ impl RegionMap {
     pub fn seek(&self, index: Index) -> (usize, u32)
         ensures ended { result.0 ≡ count_by (λ r. nat_le r.to index) self.now.regions }
 
-        // No more are looked at than their number has binary digits.
+        // The number of looks that is told: at most the binary digits of the number of regions.
         ensures looked { (digits : ℕ) → length self.now.regions < 2 ^ digits → result.1 ≤ digits }
     {
         walk::seek(&self.regions, index)
@@ -137,6 +137,3 @@ impl RegionMap {
             .map(|region| (region.from, region.to))
     }
 }
-
-#[cfg(test)]
-mod tests;

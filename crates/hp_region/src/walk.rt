@@ -16,7 +16,7 @@ pub fn seek(regions: &[Region], index: Index) -> (usize, u32)
     ensures in_range { result.0 ≤ length regions.now }
     ensures above { (d : Region) → result.0 < length regions.now → index < (slice_index_or regions.now result.0 d).to }
 
-    // It looks at no more regions than their number has binary digits.
+    // The number of looks that is told: at most the binary digits of the number of regions.
     ensures looked { (digits : ℕ) → length regions.now < 2 ^ digits → result.1 ≤ digits }
 {
     let mut low = 0;

@@ -14,7 +14,8 @@ table_read xs n t d low high e is =
     rw q (is ∙ (get_or_default xs (n - 1) d no_table (omega (arith, low, high, e)) ∙ ap (λ (k : ℕ). get_or xs (k - 1) no_table) e))
 
 pub still_cleared : (xs : List Table) (n t base : ℕ) (d : Table) → 1 ≤ t → t ≤ length xs → n ≡ t → d ≡ get_or xs (n - 1) d
-    → ((v : ℕ) → in_mapping (areas_of xs t) base v ≡ true → entries_of xs t v ≡ None) → (v : ℕ) → IsTrue (in_mapping d.mappings base v) → get d.entries v ≡ None
+    → ((v : ℕ) → in_mapping (areas_of xs t) base v ≡ true → entries_of xs t v ≡ None) → (v : ℕ)
+    → IsTrue (in_mapping d.mappings base v) → get d.entries v ≡ None
 unfolding areas_of entries_of
 still_cleared xs n t base d low high e is bare v within =
     subst (λ (y : Table). in_mapping y.mappings base v ≡ true → get y.entries v ≡ None) (sym (table_read xs n t d low high e is)) (bare v) within

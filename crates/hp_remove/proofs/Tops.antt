@@ -7,7 +7,8 @@ use Rattle.hp_base.specs.Pages.{IsPagesEnd}
 use Rattle.hp_fault.specs.declared.parts.FileState.{FileState}
 use Rattle.hp_fault.specs.View.{no_file, sizes_of, pages_of}
 
-pub top_is : (xs : List FileState) (n f : ℕ) (d : FileState) (end top : ℕ) → f < length xs → n ≡ f → d ≡ get_or xs n d → IsPagesEnd (get d.cache) end → top ≡ max d.size end
+pub top_is : (xs : List FileState) (n f : ℕ) (d : FileState) (end top : ℕ) → f < length xs → n ≡ f → d ≡ get_or xs n d
+    → IsPagesEnd (get d.cache) end → top ≡ max d.size end
     → (x : ℕ) × IsPagesEnd (pages_of xs f) x × (top ≡ max (sizes_of xs f) x)
 unfolding sizes_of pages_of
 top_is xs n f d end top low e is ends larger =

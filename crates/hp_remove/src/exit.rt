@@ -9,7 +9,7 @@ use crate::pages::{clear_mapping, drop_mapping};
 use hp_base::{Answer, Task};
 use hp_fault::Parts;
 use hp_machine::Turn;
-use hp_machine::exit::{Clear, Drop, ExitPhase};
+pub use hp_machine::exit::{Clear, Drop, ExitPhase};
 
 /// One step of an exit. It wants no memory, and no kill is noticed in it: `killed` and `grant` are taken as every
 /// step takes them, and change nothing.
@@ -33,7 +33,7 @@ pub fn step_exit(
     }
 }
 
-#[tactic(auto, using(std::proofs::lemmas::Grind::common_steps, hp_fault::proofs::Laws::look_laws))]
+#[tactic(auto, using(hp_fault::proofs::Laws::look_laws))]
 fn from_start(parts: &mut Parts, task: Task) -> Turn<ExitPhase>
     requires { IsTaskOf (view parts.old) task }
     ensures row { ExitStartRow (view parts.old) task result (view parts.new) }
@@ -55,7 +55,7 @@ fn from_clear(parts: &mut Parts, task: Task, phase: Clear) -> Turn<ExitPhase>
     Turn::Moved(ExitPhase::Drop(Drop { base }))
 }
 
-#[tactic(auto, using(std::proofs::lemmas::Grind::common_steps, hp_fault::proofs::Laws::look_laws, hp_base::proofs::Puts::put_same))]
+#[tactic(auto, using(hp_fault::proofs::Laws::look_laws, hp_base::proofs::Puts::put_same))]
 fn from_drop(parts: &mut Parts, task: Task, phase: Drop) -> Turn<ExitPhase>
     requires task { IsTaskOf (view parts.old) task }
     requires bare { IsCleared (view parts.old) task phase.base }

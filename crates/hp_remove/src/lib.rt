@@ -4,6 +4,8 @@
 //! function takes a phase, and what it answers and makes of the parts is the row of that phase. It has no
 //! rule of its own. It knows neither who calls nor whether a call is in flight. Of its steps only the one that
 //! takes a punched index out of the reserve map may want memory.
+//!
+//! Phases are hp_machine's; each module here passes on those that its step takes.
 #![tactic(auto)]
 
 pub mod exit;

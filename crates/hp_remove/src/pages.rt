@@ -14,7 +14,7 @@ use hp_fault::Parts;
 use hp_frames::Held;
 
 /// Clears the task's entries of an index, in each of its mappings (Linux: `hugetlb_vmdelete_list`).
-#[tactic(auto, using(std::proofs::lemmas::Grind::common_steps, hp_fault::proofs::Laws::clear_laws))]
+#[tactic(auto, using(hp_fault::proofs::Laws::clear_laws))]
 pub fn clear_index(parts: &mut Parts, task: Task, file: File, index: Index)
     requires { IsTaskOf (view parts.old) task }
     ensures after { view parts.new ≡ record (view parts.old) {
@@ -26,7 +26,7 @@ pub fn clear_index(parts: &mut Parts, task: Task, file: File, index: Index)
 }
 
 /// The page goes from the cache into the call's hand (Linux: `hugetlb_delete_from_page_cache`).
-#[tactic(auto, using(std::proofs::lemmas::Grind::common_steps, hp_fault::proofs::Laws::evict_laws))]
+#[tactic(auto, using(hp_fault::proofs::Laws::evict_laws))]
 pub fn evict_page(parts: &mut Parts, file: File, index: Index) -> Held
     requires file { IsFileOf (view parts.old) file }
     requires page { HasPage (view parts.old) file index }
@@ -42,7 +42,7 @@ pub fn evict_page(parts: &mut Parts, file: File, index: Index) -> Held
 }
 
 /// Clears the task's entries of a mapping (Linux: `unmap_vmas`).
-#[tactic(auto, using(std::proofs::lemmas::Grind::common_steps, hp_fault::proofs::Laws::clear_laws))]
+#[tactic(auto, using(hp_fault::proofs::Laws::clear_laws))]
 pub fn clear_mapping(parts: &mut Parts, task: Task, base: Vpn)
     requires { IsTaskOf (view parts.old) task }
     ensures after { view parts.new ≡ cleared (view parts.old) task base }
@@ -52,7 +52,7 @@ pub fn clear_mapping(parts: &mut Parts, task: Task, base: Vpn)
 }
 
 /// The mapping goes, once no page of it is translated (Linux: `remove_vma`).
-#[tactic(auto, using(std::proofs::lemmas::Grind::common_steps, hp_fault::proofs::Laws::drop_laws))]
+#[tactic(auto, using(hp_fault::proofs::Laws::drop_laws))]
 pub fn drop_mapping(parts: &mut Parts, task: Task, base: Vpn)
     requires task { IsTaskOf (view parts.old) task }
     requires bare { IsCleared (view parts.old) task base }

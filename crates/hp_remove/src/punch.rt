@@ -3,6 +3,9 @@ ghost use Rattle.std.specs.Prelude.{◌≡◌, ◌≤◌, ◌<◌, ◌+◌, ◌^
 ghost use Rattle.hp_machine.specs.State.{slot_of};
 ghost use Rattle.hp_machine.specs.PunchRows.{PunchRow, PunchStartRow, PunchWantRow, PunchLockedRow, PunchUnmapRow, PunchEvictRow, PunchDeleteRow, PunchFreeRow, PunchUnslotRow, PunchLeaveRow};
 ghost use Rattle.hp_machine.specs.Wants.{punch_wants};
+ghost use Rattle.hp_machine.specs.Standings.{standing};
+ghost use Rattle.hp_machine.specs.declared.call.Call.TheVariants as call;
+ghost use Rattle.hp_fault.specs.Turns.{IfBlocked, IfWanting};
 ghost use Rattle.hp_fault.specs.View.{view};
 ghost use Rattle.hp_fault.specs.State.{state_of, IsSized, SizesStay};
 ghost use Rattle.hp_fault.specs.Fits.{IsTaskOf, IsFileOf, IsHeld, HasPage};
@@ -13,7 +16,7 @@ use hp_base::{Answer, Index, LIMIT, Task};
 use hp_fault::Parts;
 use hp_fault::shared::{carry, is_bad_range, leave_lock, leave_slot, start, want_slot};
 use hp_frames::Held;
-use hp_machine::punch::{
+pub use hp_machine::punch::{
     Delete, Evict, Free, Hole, Leave, Locked, PunchPhase, Start, Unmap, Unslot, Want,
 };
 use hp_machine::{Stopped, Turn};
@@ -32,6 +35,8 @@ pub fn step_punch(
     requires fits { PunchFits (view parts.old) task phase }
     ensures row { IfOk result (λ turn. PunchRow (view parts.old) task killed grant phase turn (view parts.new)) }
     ensures sizes { SizesStay (state_of parts.old) (state_of parts.new) }
+    ensures blocked { IfOk result (λ turn. IfWanting (standing (call.Punch phase)).wants
+        (IfBlocked turn (λ again. (again ≡ phase) × (state_of parts.new ≡ state_of parts.old)))) }
     ensures phase { IfErr result (λ stopped. stopped.phase ≡ phase) }
     ensures err { OnErr result (state_of parts.new ≡ state_of parts.old) }
     ensures growth { OnErr result (grant ≡ true) }
@@ -52,11 +57,12 @@ pub fn step_punch(
     }
 }
 
-#[tactic(auto, using(std::proofs::lemmas::Grind::common_steps, hp_fault::proofs::Carrying::carry_start))]
+#[tactic(auto, using(hp_fault::proofs::Carrying::carry_start, hp_fault::proofs::Carrying::carry_blocked))]
 fn from_start(parts: &mut Parts, task: Task, killed: bool, phase: Start) -> Turn<PunchPhase>
     requires { IsSized (state_of parts.old) }
     ensures row { PunchStartRow (view parts.old) task killed phase result (view parts.new) }
     ensures sizes { SizesStay (state_of parts.old) (state_of parts.new) }
+    ensures same { IfBlocked result (λ again. (again ≡ PunchPhase.Start phase) × (state_of parts.new ≡ state_of parts.old)) }
 {
     let hole = phase.hole;
     let index = hole.from;
@@ -66,10 +72,11 @@ fn from_start(parts: &mut Parts, task: Task, killed: bool, phase: Start) -> Turn
     carry(turn, PunchPhase::Start(phase), next)
 }
 
-#[tactic(auto, using(std::proofs::lemmas::Grind::common_steps, hp_fault::proofs::Carrying::carry_want))]
+#[tactic(auto, using(hp_fault::proofs::Carrying::carry_want, hp_fault::proofs::Carrying::carry_blocked))]
 fn from_want(parts: &mut Parts, task: Task, phase: Want) -> Turn<PunchPhase>
     ensures row { PunchWantRow (view parts.old) task phase result (view parts.new) }
     ensures sizes { SizesStay (state_of parts.old) (state_of parts.new) }
+    ensures same { IfBlocked result (λ again. (again ≡ PunchPhase.Want phase) × (state_of parts.new ≡ state_of parts.old)) }
 {
     let (hole, index) = (phase.hole, phase.index);
     let turn = want_slot(parts, task, hole.file, index);
@@ -77,7 +84,7 @@ fn from_want(parts: &mut Parts, task: Task, phase: Want) -> Turn<PunchPhase>
     carry(turn, PunchPhase::Want(phase), next)
 }
 
-#[tactic(auto, using(std::proofs::lemmas::Grind::common_steps, hp_fault::proofs::Laws::page_laws))]
+#[tactic(auto, using(hp_fault::proofs::Laws::page_laws))]
 fn from_locked(parts: &mut Parts, phase: Locked) -> Turn<PunchPhase>
     requires { IsFileOf (view parts.old) phase.hole.file }
     ensures row { PunchLockedRow (view parts.old) phase result (view parts.new) }
@@ -121,7 +128,7 @@ fn from_evict(parts: &mut Parts, phase: Evict) -> Turn<PunchPhase>
     Turn::Moved(PunchPhase::Delete(Delete { hole, index, held }))
 }
 
-#[tactic(auto, using(std::proofs::lemmas::Grind::common_steps, hp_fault::proofs::Laws::delete_laws))]
+#[tactic(auto, using(hp_fault::proofs::Laws::delete_laws))]
 fn from_delete(parts: &mut Parts, grant: bool, phase: Delete) -> Result<Turn<PunchPhase>, Delete>
     requires file { IsFileOf (view parts.old) phase.hole.file }
     requires spared { (view parts.old).pending phase.hole.file ≤ (view parts.old).spare phase.hole.file }
@@ -141,7 +148,7 @@ fn from_delete(parts: &mut Parts, grant: bool, phase: Delete) -> Result<Turn<Pun
     }
 }
 
-#[tactic(auto, using(std::proofs::lemmas::Grind::common_steps, hp_fault::proofs::Laws::frame_laws))]
+#[tactic(auto, using(hp_fault::proofs::Laws::frame_laws))]
 fn from_free(parts: &mut Parts, phase: Free) -> Turn<PunchPhase>
     requires { IsHeld (view parts.old) phase.held }
     ensures row { PunchFreeRow (view parts.old) phase result (view parts.new) }

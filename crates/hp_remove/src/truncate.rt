@@ -5,6 +5,9 @@ ghost use Rattle.hp_base.specs.Numbers.{put};
 ghost use Rattle.hp_base.specs.Pages.{IsPagesEnd};
 ghost use Rattle.hp_machine.specs.State.{slot_of};
 ghost use Rattle.hp_machine.specs.TruncateRows.{TruncateRow, TruncateStartRow, TruncateSizeRow, TruncateWantRow, TruncateLockedRow, TruncateUnmapRow, TruncateEvictRow, TruncateFreeRow, TruncateUnslotRow, TruncateTailRow, TruncateSettleRow, TruncateLeaveRow};
+ghost use Rattle.hp_machine.specs.Standings.{standing};
+ghost use Rattle.hp_machine.specs.declared.call.Call.TheVariants as call;
+ghost use Rattle.hp_fault.specs.Turns.{IfBlocked, IfWanting};
 ghost use Rattle.hp_fault.specs.View.{view};
 ghost use Rattle.hp_fault.specs.State.{state_of, IsSized, SizesStay};
 ghost use Rattle.hp_fault.specs.Fits.{IsTaskOf, IsFileOf, IsHeld, HasPage};
@@ -15,7 +18,7 @@ use hp_base::{Answer, File, Index, LIMIT, Task};
 use hp_fault::Parts;
 use hp_fault::shared::{carry, leave_lock, leave_slot, start, want_slot};
 use hp_machine::Turn;
-use hp_machine::truncate::{
+pub use hp_machine::truncate::{
     Evict, Free, Leave, Locked, Settle, Size, Start, Tail, TruncatePhase, Unmap, Unslot, Want,
 };
 
@@ -32,6 +35,8 @@ pub fn step_truncate(
     requires fits { TruncateFits (view parts.old) task phase }
     ensures row { TruncateRow (view parts.old) task killed grant phase result (view parts.new) }
     ensures sizes { SizesStay (state_of parts.old) (state_of parts.new) }
+    ensures blocked { IfWanting (standing (call.Truncate phase)).wants
+        (IfBlocked result (λ again. (again ≡ phase) × (state_of parts.new ≡ state_of parts.old))) }
 {
     let _ = grant;
     match phase {
@@ -49,11 +54,12 @@ pub fn step_truncate(
     }
 }
 
-#[tactic(auto, using(std::proofs::lemmas::Grind::common_steps, hp_fault::proofs::Carrying::carry_start))]
+#[tactic(auto, using(hp_fault::proofs::Carrying::carry_start, hp_fault::proofs::Carrying::carry_blocked))]
 fn from_start(parts: &mut Parts, task: Task, killed: bool, phase: Start) -> Turn<TruncatePhase>
     requires { IsSized (state_of parts.old) }
     ensures row { TruncateStartRow (view parts.old) task killed phase result (view parts.new) }
     ensures sizes { SizesStay (state_of parts.old) (state_of parts.new) }
+    ensures same { IfBlocked result (λ again. (again ≡ TruncatePhase.Start phase) × (state_of parts.new ≡ state_of parts.old)) }
 {
     let truncation = phase.truncation;
     let is_bad = truncation.new > LIMIT;
@@ -62,7 +68,7 @@ fn from_start(parts: &mut Parts, task: Task, killed: bool, phase: Start) -> Turn
     carry(turn, TruncatePhase::Start(phase), next)
 }
 
-#[tactic(auto, using(std::proofs::lemmas::Grind::common_steps, crate::proofs::Leading::size_row))]
+#[tactic(auto, using(crate::proofs::Leading::size_row))]
 fn from_size(parts: &mut Parts, phase: Size) -> Turn<TruncatePhase>
     requires { IsFileOf (view parts.old) phase.truncation.file }
     ensures row { TruncateSizeRow (view parts.old) phase result (view parts.new) }
@@ -86,7 +92,7 @@ fn from_size(parts: &mut Parts, phase: Size) -> Turn<TruncatePhase>
 
 // Sets the file's size, and tells where the sweep begins: the larger of the old size and the end of the
 // pages.
-#[tactic(auto, using(std::proofs::lemmas::Grind::common_steps, hp_fault::proofs::Laws::size_laws, hp_fault::proofs::Laws::pages_are))]
+#[tactic(auto, using(hp_fault::proofs::Laws::size_laws, hp_fault::proofs::Laws::pages_are))]
 fn set_size(parts: &mut Parts, file: File, new: u32) -> u32
     requires { IsFileOf (view parts.old) file }
     ensures top { (end : ℕ) × IsPagesEnd ((view parts.old).pages file) end × (result ≡ max ((view parts.old).size file) end) }
@@ -99,10 +105,11 @@ fn set_size(parts: &mut Parts, file: File, new: u32) -> u32
     top
 }
 
-#[tactic(auto, using(std::proofs::lemmas::Grind::common_steps, hp_fault::proofs::Carrying::carry_want))]
+#[tactic(auto, using(hp_fault::proofs::Carrying::carry_want, hp_fault::proofs::Carrying::carry_blocked))]
 fn from_want(parts: &mut Parts, task: Task, phase: Want) -> Turn<TruncatePhase>
     ensures row { TruncateWantRow (view parts.old) task phase result (view parts.new) }
     ensures sizes { SizesStay (state_of parts.old) (state_of parts.new) }
+    ensures same { IfBlocked result (λ again. (again ≡ TruncatePhase.Want phase) × (state_of parts.new ≡ state_of parts.old)) }
 {
     let (truncation, index, evicted) = (phase.truncation, phase.index, phase.evicted);
     let turn = want_slot(parts, task, truncation.file, index);
@@ -114,7 +121,7 @@ fn from_want(parts: &mut Parts, task: Task, phase: Want) -> Turn<TruncatePhase>
     carry(turn, TruncatePhase::Want(phase), next)
 }
 
-#[tactic(auto, using(std::proofs::lemmas::Grind::common_steps, hp_fault::proofs::Laws::page_laws))]
+#[tactic(auto, using(hp_fault::proofs::Laws::page_laws))]
 fn from_locked(parts: &mut Parts, phase: Locked) -> Turn<TruncatePhase>
     requires { IsFileOf (view parts.old) phase.truncation.file }
     ensures row { TruncateLockedRow (view parts.old) phase result (view parts.new) }
@@ -193,7 +200,7 @@ fn from_evict(parts: &mut Parts, phase: Evict) -> Turn<TruncatePhase>
     }))
 }
 
-#[tactic(auto, using(std::proofs::lemmas::Grind::common_steps, hp_fault::proofs::Laws::frame_laws))]
+#[tactic(auto, using(hp_fault::proofs::Laws::frame_laws))]
 fn from_free(parts: &mut Parts, phase: Free) -> Turn<TruncatePhase>
     requires { IsHeld (view parts.old) phase.held }
     ensures row { TruncateFreeRow (view parts.old) phase result (view parts.new) }
@@ -238,7 +245,7 @@ fn from_unslot(parts: &mut Parts, task: Task, phase: Unslot) -> Turn<TruncatePha
     }
 }
 
-#[tactic(auto, using(std::proofs::lemmas::Grind::common_steps, hp_fault::proofs::Laws::tail_laws))]
+#[tactic(auto, using(hp_fault::proofs::Laws::tail_laws))]
 fn from_tail(parts: &mut Parts, phase: Tail) -> Turn<TruncatePhase>
     requires file { IsFileOf (view parts.old) phase.truncation.file }
     requires evicted { phase.evicted ≤ count_within ((view parts.old).reserved phase.truncation.file) phase.truncation.new LIMIT }
@@ -258,7 +265,6 @@ fn from_tail(parts: &mut Parts, phase: Tail) -> Turn<TruncatePhase>
     }))
 }
 
-#[tactic(auto, using(std::proofs::lemmas::Grind::common_steps))]
 fn from_settle(parts: &mut Parts, phase: Settle) -> Turn<TruncatePhase>
     requires { phase.surplus ≤ (view parts.old).resv }
     ensures row { TruncateSettleRow (view parts.old) phase result (view parts.new) }

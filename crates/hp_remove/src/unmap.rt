@@ -9,7 +9,7 @@ use crate::pages::{clear_mapping, drop_mapping};
 use hp_base::{Answer, Task};
 use hp_fault::Parts;
 use hp_machine::Turn;
-use hp_machine::unmap::{Clear, Drop, Start, UnmapPhase};
+pub use hp_machine::unmap::{Clear, Drop, Start, UnmapPhase};
 
 /// One step of an unmap. It wants no memory, and no kill is noticed in it: `killed` and `grant` are taken as every
 /// step takes them, and change nothing.
@@ -32,7 +32,7 @@ pub fn step_unmap(
     }
 }
 
-#[tactic(auto, using(std::proofs::lemmas::Grind::common_steps, hp_fault::proofs::Laws::look_laws))]
+#[tactic(auto, using(hp_fault::proofs::Laws::look_laws))]
 fn from_start(parts: &mut Parts, task: Task, phase: Start) -> Turn<UnmapPhase>
     requires { IsTaskOf (view parts.old) task }
     ensures row { UnmapStartRow (view parts.old) task phase result (view parts.new) }

@@ -3,7 +3,7 @@
 //! It stands on hp_core and hp_base. A trace is read by one engine, the feed, which takes bytes cut
 //! anywhere and needs no memory; reading a trace and replaying one are loops over it. It promises
 //! that what is read is what the bytes spell, that the first bad line is named, and that a replay
-//! writes the outcomes of a run of that trace and nothing else. It knows of the core only its rows
+//! writes the outcomes of a run of that trace and then its state. It knows of the core only its rows
 //! and its readers, and no files or streams: it works over any reader and writer.
 #![tactic(auto)]
 
@@ -14,8 +14,6 @@ mod pieces;
 mod reading;
 mod replaying;
 mod state;
-#[cfg(test)]
-mod tests;
 mod trace;
 mod writing;
 

@@ -96,25 +96,3 @@ impl SlotTable {
         }
     }
 }
-
-#[cfg(test)]
-mod tests {
-    use super::*;
-    use std::test::Fail;
-
-    #[test]
-    fn slots_and_holders(rt: HostRuntime) -> Result<(), Fail> {
-        let mut table = SlotTable::new(rt.alloc(), 4)?;
-        assert_eq!(rt; table.slot_of(File::new(1), Index::new(0)), 3);
-        assert_eq!(rt; table.slot_of(File::new(0), Index::new(5)), 1);
-        assert_eq!(rt; table.slot_of(File::new(2), Index::new(3)), 1);
-        let (one, two) = (Task::new(1), Task::new(2));
-        assert_eq!(rt; table.try_take(1, one), Ok(()));
-        assert_eq!(rt; table.try_take(1, two), Err(Fault::Busy(one)));
-        assert_eq!(rt; table.holder(1), Some(one));
-        assert_eq!(rt; table.holder(4), None);
-        let text = format!(in rt.alloc(); "{}", Fault::Busy(one))?;
-        assert_eq!(rt; text.as_str(), "task 1 holds the place");
-        Ok(())
-    }
-}

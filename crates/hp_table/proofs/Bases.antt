@@ -34,7 +34,8 @@ none_below space low (m ∷ ms) v spread under =
     rw (differs_above m.base v (omega (arith, spread.0))) (omega arith)
 
 -- where none begins at or below a page, none begins at it
-pub no_place : (space low : ℕ) (ms : List Mapping) (v : ℕ) → IsSpread space low ms → prefix_len (begins v) ms ≡ 0 → position_or_len (begins_at v) ms ≡ length ms
+pub no_place : (space low : ℕ) (ms : List Mapping) (v : ℕ) → IsSpread space low ms → prefix_len (begins v) ms ≡ 0
+    → position_or_len (begins_at v) ms ≡ length ms
 no_place space low [] v spread = λ none. refl
 no_place space low (m ∷ ms) v spread =
     elim (nat_le m.base v) as (λ b. nat_le m.base v ≡ b → cond b (1 + prefix_len (begins v) ms) 0 ≡ 0 → position_or_len (begins_at v) (m ∷ ms) ≡ suc (length ms)) [
@@ -46,13 +47,15 @@ no_place space low (m ∷ ms) v spread =
     ] refl
 
 -- the last that begins at or below a page begins at it, or none does
-pub last_place : (space low : ℕ) (ms : List Mapping) (v k : ℕ) (d : Mapping) → IsSpread space low ms → prefix_len (begins v) ms ≡ suc k → position_or_len (begins_at v) ms ≡ cond ((get_or ms k d).base == v) k (length ms)
+pub last_place : (space low : ℕ) (ms : List Mapping) (v k : ℕ) (d : Mapping) → IsSpread space low ms
+    → prefix_len (begins v) ms ≡ suc k → position_or_len (begins_at v) ms ≡ cond ((get_or ms k d).base == v) k (length ms)
 last_place space low [] v k d spread begun = absurd (omega arith)
 last_place space low (m ∷ ms) v zero d spread begun =
     let none : prefix_len (begins v) ms ≡ 0 = grind (arith, nat_tests, begun) in
     at_first (m.base == v) (no_place space (m.base + m.len) ms v spread.2 none)
   where
-    at_first : (b : Bool) → position_or_len (begins_at v) ms ≡ length ms → cond (not b) (1 + position_or_len (begins_at v) ms) 0 ≡ cond b 0 (suc (length ms))
+    at_first : (b : Bool) → position_or_len (begins_at v) ms ≡ length ms
+        → cond (not b) (1 + position_or_len (begins_at v) ms) 0 ≡ cond b 0 (suc (length ms))
     at_first true rest = refl
     at_first false rest = omega arith
 last_place space low (m ∷ ms) v (suc j) d spread begun =
@@ -60,7 +63,8 @@ last_place space low (m ∷ ms) v (suc j) d spread begun =
     let past = past_first space m ms v j spread.2 rest in
     rw (differs m.base v (omega (arith, past, spread.1))) (later ((get_or ms j d).base == v) (last_place space (m.base + m.len) ms v j d spread.2 rest))
   where
-    later : (b : Bool) → position_or_len (begins_at v) ms ≡ cond b j (length ms) → 1 + position_or_len (begins_at v) ms ≡ cond b (suc j) (suc (length ms))
+    later : (b : Bool) → position_or_len (begins_at v) ms ≡ cond b j (length ms)
+        → 1 + position_or_len (begins_at v) ms ≡ cond b (suc j) (suc (length ms))
     later true same = omega arith
     later false same = omega arith
 
@@ -71,7 +75,8 @@ position_none p xs none = rw none (rw (le-ltb (length xs) (length xs) (omega ari
 position_some : {A : Type 0} (p : A → Bool) (xs : List A) (k : ℕ) → k < length xs → position_or_len p xs ≡ k → position p xs ≡ Some k
 position_some p xs k within there = rw there (rw (lt-ltb k (length xs) within) refl)
 
-pub position_there : {A : Type 0} (p : A → Bool) (xs : List A) (k : ℕ) (b : Bool) → k < length xs → position_or_len p xs ≡ cond b k (length xs) → position p xs ≡ cond b (Some k) None
+pub position_there : {A : Type 0} (p : A → Bool) (xs : List A) (k : ℕ) (b : Bool) → k < length xs
+    → position_or_len p xs ≡ cond b k (length xs) → position p xs ≡ cond b (Some k) None
 position_there p xs k true within there = position_some p xs k within there
 position_there p xs k false within none = position_none p xs none
 
@@ -96,24 +101,30 @@ place_absent p xs =
     ] refl
 
 -- the mapping at that place is the one that begins there
-base_at : (ms : List Mapping) (base k : ℕ) (d : Mapping) → position_or_len (begins_at base) ms ≡ k → k < length ms → (get_or ms k d).base ≡ base
+base_at : (ms : List Mapping) (base k : ℕ) (d : Mapping) → position_or_len (begins_at base) ms ≡ k → k < length ms
+    → (get_or ms k d).base ≡ base
 base_at [] base k d place within = absurd (omega arith)
 base_at (m ∷ ms) base k d place within = here (λ j place within. base_at ms base j d place within) (m.base == base) refl k place within
   where
     same : (m.base == base) ≡ true → m.base ≡ base
     same e = grind (arith, nat_tests)
 
-    here : ((j : ℕ) → position_or_len (begins_at base) ms ≡ j → j < length ms → (get_or ms j d).base ≡ base) → (b : Bool) → (m.base == base) ≡ b → (k : ℕ) → cond (not b) (1 + position_or_len (begins_at base) ms) 0 ≡ k → k < length (m ∷ ms) → (get_or (m ∷ ms) k d).base ≡ base
+    here : ((j : ℕ) → position_or_len (begins_at base) ms ≡ j → j < length ms → (get_or ms j d).base ≡ base) → (b : Bool)
+        → (m.base == base) ≡ b → (k : ℕ) → cond (not b) (1 + position_or_len (begins_at base) ms) 0 ≡ k → k < length (m ∷ ms)
+        → (get_or (m ∷ ms) k d).base ≡ base
     here rest true e zero place within = same e
     here rest true e (suc k) place within = absurd (omega arith)
     here rest false e zero place within = absurd (omega arith)
     here rest false e (suc k) place within = rest k (omega arith) (omega arith)
 
-in_mapping-at : (ms : List Mapping) (base k : ℕ) (d : Mapping) (v : ℕ) → position_or_len (begins_at base) ms ≡ k → k < length ms → in_mapping ms base v ≡ covers (get_or ms k d) v
+in_mapping-at : (ms : List Mapping) (base k : ℕ) (d : Mapping) (v : ℕ) → position_or_len (begins_at base) ms ≡ k → k < length ms
+    → in_mapping ms base v ≡ covers (get_or ms k d) v
 in_mapping-at [] base k d v place within = absurd (omega arith)
 in_mapping-at (m ∷ ms) base k d v place within = here (λ j place within. in_mapping-at ms base j d v place within) (m.base == base) k place within
   where
-    here : ((j : ℕ) → position_or_len (begins_at base) ms ≡ j → j < length ms → in_mapping ms base v ≡ covers (get_or ms j d) v) → (b : Bool) → (k : ℕ) → cond (not b) (1 + position_or_len (begins_at base) ms) 0 ≡ k → k < length (m ∷ ms) → (if b then covers m v else in_mapping ms base v) ≡ covers (get_or (m ∷ ms) k d) v
+    here : ((j : ℕ) → position_or_len (begins_at base) ms ≡ j → j < length ms → in_mapping ms base v ≡ covers (get_or ms j d) v)
+        → (b : Bool) → (k : ℕ) → cond (not b) (1 + position_or_len (begins_at base) ms) 0 ≡ k → k < length (m ∷ ms)
+        → (if b then covers m v else in_mapping ms base v) ≡ covers (get_or (m ∷ ms) k d) v
     here rest true zero place within = refl
     here rest true (suc k) place within = absurd (omega arith)
     here rest false zero place within = absurd (omega arith)
@@ -123,7 +134,9 @@ in_mapping-none : (ms : List Mapping) (base v : ℕ) → position_or_len (begins
 in_mapping-none [] base v none = refl
 in_mapping-none (m ∷ ms) base v none = here (λ none. in_mapping-none ms base v none) (m.base == base) none
   where
-    here : (position_or_len (begins_at base) ms ≡ length ms → in_mapping ms base v ≡ false) → (b : Bool) → cond (not b) (1 + position_or_len (begins_at base) ms) 0 ≡ suc (length ms) → (if b then covers m v else in_mapping ms base v) ≡ false
+    here : (position_or_len (begins_at base) ms ≡ length ms → in_mapping ms base v ≡ false) → (b : Bool)
+        → cond (not b) (1 + position_or_len (begins_at base) ms) 0 ≡ suc (length ms)
+        → (if b then covers m v else in_mapping ms base v) ≡ false
     here rest true none = absurd (omega arith)
     here rest false none = rest (omega arith)
 
@@ -131,7 +144,9 @@ without-at : (ms : List Mapping) (base k : ℕ) → position_or_len (begins_at b
 without-at [] base k place within = absurd (omega arith)
 without-at (m ∷ ms) base k place within = here (λ j place within. without-at ms base j place within) (m.base == base) k place within
   where
-    here : ((j : ℕ) → position_or_len (begins_at base) ms ≡ j → j < length ms → without ms base ≡ remove ms j) → (b : Bool) → (k : ℕ) → cond (not b) (1 + position_or_len (begins_at base) ms) 0 ≡ k → k < length (m ∷ ms) → (if b then ms else m ∷ without ms base) ≡ remove (m ∷ ms) k
+    here : ((j : ℕ) → position_or_len (begins_at base) ms ≡ j → j < length ms → without ms base ≡ remove ms j) → (b : Bool)
+        → (k : ℕ) → cond (not b) (1 + position_or_len (begins_at base) ms) 0 ≡ k → k < length (m ∷ ms)
+        → (if b then ms else m ∷ without ms base) ≡ remove (m ∷ ms) k
     here rest true zero place within = refl
     here rest true (suc k) place within = absurd (omega arith)
     here rest false zero place within = absurd (omega arith)
@@ -141,12 +156,15 @@ without-none : (ms : List Mapping) (base : ℕ) → position_or_len (begins_at b
 without-none [] base none = refl
 without-none (m ∷ ms) base none = here (λ none. without-none ms base none) (m.base == base) none
   where
-    here : (position_or_len (begins_at base) ms ≡ length ms → without ms base ≡ ms) → (b : Bool) → cond (not b) (1 + position_or_len (begins_at base) ms) 0 ≡ suc (length ms) → (if b then ms else m ∷ without ms base) ≡ m ∷ ms
+    here : (position_or_len (begins_at base) ms ≡ length ms → without ms base ≡ ms) → (b : Bool)
+        → cond (not b) (1 + position_or_len (begins_at base) ms) 0 ≡ suc (length ms)
+        → (if b then ms else m ∷ without ms base) ≡ m ∷ ms
     here rest true none = absurd (omega arith)
     here rest false none = ap (λ xs. m ∷ xs) (rest (omega arith))
 
 -- the entries of that mapping are those of its pages
-pub get-within : (ms : List Mapping) (base k : ℕ) (m : Mapping) (es : List (ℕ × ℕ)) → Some k ≡ position (begins_at base) ms → m ≡ get_or ms k m → IsTrue (is_sorted nat_cmp es)
+pub get-within : (ms : List Mapping) (base k : ℕ) (m : Mapping) (es : List (ℕ × ℕ)) → Some k ≡ position (begins_at base) ms
+    → m ≡ get_or ms k m → IsTrue (is_sorted nat_cmp es)
     → map.get (from_sorted {R = nat_cmp} (filter (λ e. not (is_within base (base + m.len) e.0)) es)) ≡ without_mapping ms (map.get (from_sorted {R = nat_cmp} es)) base
 unfolding without_mapping
 get-within ms base k m es found is sorted =
@@ -154,7 +172,8 @@ get-within ms base k m es found is sorted =
     let same = λ (v : ℕ). ap (λ (b : ℕ). is_within b (b + m.len) v) (sym (ap (λ (x : Mapping). x.base) is ∙ base_at ms base k m place.0 place.1)) ∙ (ap (λ (x : Mapping). covers x v) is ∙ sym (in_mapping-at ms base k m v place.0 place.1)) in
     fun_ext (λ v. get-cleared (is_within base (base + m.len)) es v sorted ∙ ap (λ (b : Bool). if b then None else map.get (from_sorted {R = nat_cmp} es) v) (same v))
 
-pub without_mapping-none : (ms : List Mapping) (base : ℕ) (f : ℕ → Option ℕ) → None ≡ position (begins_at base) ms → f ≡ without_mapping ms f base
+pub without_mapping-none : (ms : List Mapping) (base : ℕ) (f : ℕ → Option ℕ) → None ≡ position (begins_at base) ms
+    → f ≡ without_mapping ms f base
 unfolding without_mapping
 without_mapping-none ms base f absent = fun_ext (λ v. ap (λ (b : Bool). if b then None else f v) (sym (in_mapping-none ms base v (place_absent (begins_at base) ms absent))))
 
@@ -166,7 +185,8 @@ without_found ms base k found =
 pub without_absent : (ms : List Mapping) (base : ℕ) → None ≡ position (begins_at base) ms → without ms base ≡ ms
 without_absent ms base absent = without-none ms base (place_absent (begins_at base) ms absent)
 
-pub ends_in_space_at : (space : ℕ) (ms : List Mapping) (base k : ℕ) (m : Mapping) → IsSpread space 0 ms → Some k ≡ position (begins_at base) ms → m ≡ get_or ms k m → base + m.len ≤ space
+pub ends_in_space_at : (space : ℕ) (ms : List Mapping) (base k : ℕ) (m : Mapping) → IsSpread space 0 ms
+    → Some k ≡ position (begins_at base) ms → m ≡ get_or ms k m → base + m.len ≤ space
 ends_in_space_at space ms base k m spread found is =
     let place = place_found (begins_at base) ms k found in
     let ends = rw (← is) at (ends_in_space space 0 ms k m spread place.1) in
@@ -174,6 +194,7 @@ ends_in_space_at space ms base k m spread found is =
     omega arith
 
 -- a mapping whose entries were cleared has none
-pub without_mapping-bare : (ms : List Mapping) (f : ℕ → Option ℕ) (base v : ℕ) → IsTrue (in_mapping ms base v) → without_mapping ms f base v ≡ None
+pub without_mapping-bare : (ms : List Mapping) (f : ℕ → Option ℕ) (base v : ℕ) → IsTrue (in_mapping ms base v)
+    → without_mapping ms f base v ≡ None
 unfolding without_mapping
 without_mapping-bare ms f base v lies = ap (λ (b : Bool). if b then None else f v) lies

@@ -37,7 +37,8 @@ filter-filter : {A : Type 0} (p q : A → Bool) (xs : List A) → filter (λ x. 
 filter-filter p q [] = refl
 filter-filter p q (x ∷ xs) = here (p x) (q x) refl (filter-filter p q xs)
   where
-    here : (a b : Bool) → q x ≡ b → filter (λ x. p x && q x) xs ≡ filter q (filter p xs) → cond (a && b) (x ∷ filter (λ x. p x && q x) xs) (filter (λ x. p x && q x) xs) ≡ filter q (cond a (x ∷ filter p xs) (filter p xs))
+    here : (a b : Bool) → q x ≡ b → filter (λ x. p x && q x) xs ≡ filter q (filter p xs)
+        → cond (a && b) (x ∷ filter (λ x. p x && q x) xs) (filter (λ x. p x && q x) xs) ≡ filter q (cond a (x ∷ filter p xs) (filter p xs))
     here true true e rest = rw e (ap (λ ys. x ∷ ys) rest)
     here true false e rest = rw e rest
     here false b e rest = rest
@@ -47,13 +48,16 @@ neither true b = refl
 neither false b = refl
 
 -- where the first mapping has the index, its page stands for it too
-at_page : (m : Mapping) (file index v : ℕ) → has_index m file index ≡ true → covers m v ≡ true → is_there (Some (m.file, m.from + (v - m.base))) file index ≡ (is_within (m.base + (index - m.from)) (m.base + (index - m.from) + 1) v || false)
+at_page : (m : Mapping) (file index v : ℕ) → has_index m file index ≡ true → covers m v ≡ true
+    → is_there (Some (m.file, m.from + (v - m.base))) file index ≡ (is_within (m.base + (index - m.from)) (m.base + (index - m.from) + 1) v || false)
 at_page m file index v has here = grind (arith, nat_tests)
 
-off_page : (m : Mapping) (file index v : ℕ) → has_index m file index ≡ true → covers m v ≡ false → is_within (m.base + (index - m.from)) (m.base + (index - m.from) + 1) v ≡ false
+off_page : (m : Mapping) (file index v : ℕ) → has_index m file index ≡ true → covers m v ≡ false
+    → is_within (m.base + (index - m.from)) (m.base + (index - m.from) + 1) v ≡ false
 off_page m file index v has off = grind (arith, nat_tests)
 
-no_index : (m : Mapping) (file index v : ℕ) → has_index m file index ≡ false → covers m v ≡ true → is_there (Some (m.file, m.from + (v - m.base))) file index ≡ false
+no_index : (m : Mapping) (file index v : ℕ) → has_index m file index ≡ false → covers m v ≡ true
+    → is_there (Some (m.file, m.from + (v - m.base))) file index ≡ false
 no_index m file index v lacks here = grind (arith, nat_tests)
 
 one_more : (m : Mapping) (ms : List Mapping) (file index v : ℕ) → has_index m file index ≡ true → (v < m.base + m.len → find ms v ≡ None)
@@ -64,7 +68,8 @@ one_more m ms file index v has below =
       | false ↦ λ e. rw (off_page m file index v has e) refl
     ] refl
 
-no_more : (m : Mapping) (ms : List Mapping) (file index v : ℕ) → has_index m file index ≡ false → (v < m.base + m.len → find ms v ≡ None) → is_there (find (m ∷ ms) v) file index ≡ is_there (find ms v) file index
+no_more : (m : Mapping) (ms : List Mapping) (file index v : ℕ) → has_index m file index ≡ false
+    → (v < m.base + m.len → find ms v ≡ None) → is_there (find (m ∷ ms) v) file index ≡ is_there (find ms v) file index
 no_more m ms file index v lacks below =
     elim (covers m v) as (λ b. covers m v ≡ b → is_there (if b then Some (m.file, m.from + (v - m.base)) else find ms v) file index ≡ is_there (find ms v) file index) [
       | true ↦ λ e. rw (below (within m v e).1) (no_index m file index v lacks e)
@@ -72,7 +77,8 @@ no_more m ms file index v lacks below =
     ] refl
 
 -- the first mapping's page goes, where it has one, and then those of the later
-pub others_some : (space low : ℕ) (m : Mapping) (ms : List Mapping) (file index page : ℕ) (es : List (ℕ × ℕ)) → IsSpread space low (m ∷ ms) → Some page ≡ index_page m file index
+pub others_some : (space low : ℕ) (m : Mapping) (ms : List Mapping) (file index page : ℕ) (es : List (ℕ × ℕ))
+    → IsSpread space low (m ∷ ms) → Some page ≡ index_page m file index
     → others (m ∷ ms) file index es ≡ others ms file index (filter (λ e. not (is_within page (page + 1) e.0)) es)
 others_some space low m ms file index page es spread =
     elim (has_index m file index) as (λ b. has_index m file index ≡ b → Some page ≡ (if b then Some (m.base + (index - m.from)) else None) → others (m ∷ ms) file index es ≡ others ms file index (filter (λ e. not (is_within page (page + 1) e.0)) es)) [
@@ -82,7 +88,8 @@ others_some space low m ms file index page es spread =
       | false ↦ λ lacks is. let d : ◌≡◌ {A = Option ℕ} (Some page) None = is in absurd (cc)
     ] refl
 
-pub others_none : (space low : ℕ) (m : Mapping) (ms : List Mapping) (file index : ℕ) (es : List (ℕ × ℕ)) → IsSpread space low (m ∷ ms) → None ≡ index_page m file index → others (m ∷ ms) file index es ≡ others ms file index es
+pub others_none : (space low : ℕ) (m : Mapping) (ms : List Mapping) (file index : ℕ) (es : List (ℕ × ℕ))
+    → IsSpread space low (m ∷ ms) → None ≡ index_page m file index → others (m ∷ ms) file index es ≡ others ms file index es
 others_none space low m ms file index es spread =
     elim (has_index m file index) as (λ b. has_index m file index ≡ b → None ≡ (if b then Some (m.base + (index - m.from)) else None) → others (m ∷ ms) file index es ≡ others ms file index es) [
       | true ↦ λ has is. let d : ◌≡◌ {A = Option ℕ} None (Some (m.base + (index - m.from))) = is in absurd (cc)
@@ -101,6 +108,7 @@ index_page_within m file index page =
       | false ↦ λ lacks is. let d : ◌≡◌ {A = Option ℕ} (Some page) None = is in absurd (cc)
     ] refl
 
-pub get-others : (ms : List Mapping) (file index : ℕ) (es : List (ℕ × ℕ)) → IsTrue (is_sorted nat_cmp es) → map.get (from_sorted {R = nat_cmp} (others ms file index es)) ≡ without_index ms (map.get (from_sorted {R = nat_cmp} es)) file index
+pub get-others : (ms : List Mapping) (file index : ℕ) (es : List (ℕ × ℕ)) → IsTrue (is_sorted nat_cmp es)
+    → map.get (from_sorted {R = nat_cmp} (others ms file index es)) ≡ without_index ms (map.get (from_sorted {R = nat_cmp} es)) file index
 unfolding without_index
 get-others ms file index es sorted = fun_ext (λ v. get-cleared (λ v. is_there (find ms v) file index) es v sorted)

@@ -1,4 +1,5 @@
 pub mod Bases
+pub mod Counts
 pub mod IndexPages
 pub mod Mapped
 pub mod PageTable

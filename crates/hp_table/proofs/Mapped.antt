@@ -1,19 +1,22 @@
 -- Pages that lie in a mapping, after one is entered or goes.
-use Rattle.std.proofs.Common.{◌≡◌, ℕ, zero, suc, ◌+◌, ◌<◌, ◌≤◌, Bool, true, false, List, [], ◌∷◌, Option, Some, None, length, get_or, refl, ap, ◌∙◌, arith}
+use Rattle.std.proofs.Common.{◌≡◌, ℕ, zero, suc, ◌+◌, ◌-◌, ◌<◌, ◌≤◌, Bool, true, false, List, [], ◌∷◌, Option, Some, None, length, get_or, refl, ap, ◌∙◌, arith}
 use Rattle.std.specs.Prelude.{All, IsTrue, IsSome, is_some, ◌==◌, if◌then◌else◌}
+use Rattle.std.proofs.lemmas.Bool.Decides.{nat_tests}
 use Rattle.hp_base.proofs.Spaces.{fits_clear, entered_find, without_find}
 use Rattle.hp_base.specs.declared.mapping.Mapping.{Mapping}
-use Rattle.hp_base.specs.Mappings.{find, fits, entered, in_mapping, without, IsSpread}
+use Rattle.hp_base.specs.Mappings.{covers, find, fits, entered, in_mapping, without, IsSpread}
 use Rattle.hp_table.proofs.Room.{spread_within}
 
-pub found_stays : (ms : List Mapping) (new : Mapping) (space v : ℕ) → fits space ms new.base new.len ≡ true → IsSome (find ms v) → IsSome (find (entered ms new) v)
+pub found_stays : (ms : List Mapping) (new : Mapping) (space v : ℕ) → fits space ms new.base new.len ≡ true → IsSome (find ms v)
+    → IsSome (find (entered ms new) v)
 found_stays ms new space v room = here (find ms v) refl
   where
     here : (o : Option (ℕ × ℕ)) → find ms v ≡ o → IsSome o → IsSome (find (entered ms new) v)
     here None e some = let d : false ≡ true = some in absurd (cc)
     here (Some k) e some = ap (λ (o : Option (ℕ × ℕ)). is_some o) (entered_find ms new v k (fits_clear space new.base new.len ms room).1 e)
 
-pub found_without : (ms : List Mapping) (base v : ℕ) → (IsTrue (in_mapping ms base v) → ⊥) → IsSome (find ms v) → IsSome (find (without ms base) v)
+pub found_without : (ms : List Mapping) (base v : ℕ) → (IsTrue (in_mapping ms base v) → ⊥) → IsSome (find ms v)
+    → IsSome (find (without ms base) v)
 found_without ms base v apart some = here (in_mapping ms base v) refl
   where
     here : (b : Bool) → in_mapping ms base v ≡ b → IsSome (find (without ms base) v)
@@ -33,7 +36,8 @@ All-without P (m ∷ ms) base all = here (m.base == base) (All-without P ms base
     here false rest = All-cons P m (without ms base) (all 0 m (omega arith)) rest
 
 -- each mapping ends within the space
-pub ends_in_space : (space low : ℕ) (ms : List Mapping) (k : ℕ) (d : Mapping) → IsSpread space low ms → k < length ms → (get_or ms k d).base + (get_or ms k d).len ≤ space
+pub ends_in_space : (space low : ℕ) (ms : List Mapping) (k : ℕ) (d : Mapping) → IsSpread space low ms → k < length ms
+    → (get_or ms k d).base + (get_or ms k d).len ≤ space
 ends_in_space space low [] k d spread within = absurd (omega arith)
 ends_in_space space low (m ∷ ms) zero d spread within = spread_within space (m.base + m.len) ms spread.2
 ends_in_space space low (m ∷ ms) (suc k) d spread within = ends_in_space space (m.base + m.len) ms k d spread.2 (omega arith)
@@ -42,3 +46,17 @@ ends_in_space space low (m ∷ ms) (suc k) d spread within = ends_in_space space
 pub spread_later : (space low : ℕ) (m : Mapping) (ms : List Mapping) → IsSpread space low (m ∷ ms) → IsSpread space 0 ms
 spread_later space low m [] spread = omega arith
 spread_later space low m (n ∷ ms) spread = (omega arith, spread.2.1, spread.2.2)
+
+-- a page that lies in a mapping lies in the space
+pub found_in_space : (space low : ℕ) (ms : List Mapping) (v : ℕ) (place : ℕ × ℕ) → IsSpread space low ms → find ms v ≡ Some place
+    → v < space
+found_in_space space low [] v place spread found = (let d : ◌≡◌ {A = Option (ℕ × ℕ)} None (Some place) = found in absurd (cc))
+found_in_space space low (m ∷ ms) v place spread found = here (λ e. found_in_space space (m.base + m.len) ms v place spread.2 e) (covers m v) refl found
+  where
+    inside : covers m v ≡ true → v < m.base + m.len
+    inside is = grind (arith, nat_tests, is)
+
+    here : (find ms v ≡ Some place → v < space) → (b : Bool) → covers m v ≡ b
+        → (if b then Some (m.file, m.from + (v - m.base)) else find ms v) ≡ Some place → v < space
+    here later true is e = omega (arith, inside is, spread_within space (m.base + m.len) ms spread.2)
+    here later false is e = later e

@@ -28,11 +28,13 @@ clear_below space low (m ∷ ms) base len spread under =
     rw (le-leb (base + len) m.base (omega (arith, spread.0)), rest) (grind (arith, nat_tests))
 
 -- a gap of the others, where it lies above the first
-past_first : (space : ℕ) (m : Mapping) (ms : List Mapping) (len base : ℕ) → m.base + m.len ≤ base → fits space (m ∷ ms) base len ≡ fits space ms base len
+past_first : (space : ℕ) (m : Mapping) (ms : List Mapping) (len base : ℕ) → m.base + m.len ≤ base
+    → fits space (m ∷ ms) base len ≡ fits space ms base len
 past_first space m ms len base above = grind (arith, nat_tests)
 
 -- what begins before the first ends, and ends after it begins, doesn't fit
-on_first : (space : ℕ) (m : Mapping) (ms : List Mapping) (len base : ℕ) → base < m.base + m.len → m.base < base + len → fits space (m ∷ ms) base len ≡ false
+on_first : (space : ℕ) (m : Mapping) (ms : List Mapping) (len base : ℕ) → base < m.base + m.len → m.base < base + len
+    → fits space (m ∷ ms) base len ≡ false
 on_first space m ms len base before after = grind (arith, nat_tests)
 
 either : (low middle base : ℕ) (A : Type 0) → low ≤ base → (base < middle → A) → (middle ≤ base → A) → A
@@ -40,7 +42,8 @@ either low middle base A above first later =
     elim (nat_le middle base) as (λ b. nat_le middle base ≡ b → A) [ true ↦ λ e. later (leb-true middle base e) | false ↦ λ e. first (leb-false middle base e) ] refl
 
 -- a gap after the first mapping, where none is before it
-later_gap : (space low : ℕ) (m : Mapping) (ms : List Mapping) (len : ℕ) (o : Option ℕ) → low ≤ m.base → m.base < low + len → IsRoomFrom space (m.base + m.len) ms len o → IsRoomFrom space low (m ∷ ms) len o
+later_gap : (space low : ℕ) (m : Mapping) (ms : List Mapping) (len : ℕ) (o : Option ℕ) → low ≤ m.base → m.base < low + len
+    → IsRoomFrom space (m.base + m.len) ms len o → IsRoomFrom space low (m ∷ ms) len o
 later_gap space low m ms len None below short room = λ base above.
     either low (m.base + m.len) base (fits space (m ∷ ms) base len ≡ false) above (λ before. on_first space m ms len base before (omega arith)) (λ past. past_first space m ms len base past ∙ room base past)
 later_gap space low m ms len (Some found) below short room = (
@@ -74,18 +77,21 @@ room_at_all space ms len None room = λ base. room base (omega arith)
 room_at_all space ms len (Some base) room = (room.1, λ other under. room.2 other (omega arith) under)
 
 -- the first gap is the least base that fits
-pub gap-IsRoom : (space : ℕ) (ms : List Mapping) (len : ℕ) (o : Option ℕ) → IsSpread space 0 ms → o ≡ gap space 0 ms len → IsRoom space ms len o
+pub gap-IsRoom : (space : ℕ) (ms : List Mapping) (len : ℕ) (o : Option ℕ) → IsSpread space 0 ms → o ≡ gap space 0 ms len
+    → IsRoom space ms len o
 gap-IsRoom space ms len o spread same =
     let P : Option ℕ → Type 0 = IsRoom space ms len in
     subst P (sym same) (room_at_all space ms len (gap space 0 ms len) (gap_is space 0 ms len spread))
 
 -- the first gap stands before a mapping, or is that after it, or after them all
-pub gap_here : (space low : ℕ) (ms : List Mapping) (m : Mapping) (rest : List Mapping) (len : ℕ) → ms ≡ m ∷ rest → IsSpread space low ms → len ≤ m.base - low → gap space low ms len ≡ Some low
+pub gap_here : (space low : ℕ) (ms : List Mapping) (m : Mapping) (rest : List Mapping) (len : ℕ) → ms ≡ m ∷ rest
+    → IsSpread space low ms → len ≤ m.base - low → gap space low ms len ≡ Some low
 gap_here space low ms m rest len split spread short =
     let opened : IsSpread space low (m ∷ rest) = let P : List Mapping → Type 0 = IsSpread space low in subst P split spread in
     rw split (rw (le-leb (low + len) m.base (omega (arith, opened.0))) refl)
 
-pub ends_within : (space low : ℕ) (ms : List Mapping) (m : Mapping) (rest : List Mapping) → ms ≡ m ∷ rest → IsSpread space low ms → m.base + m.len ≤ space
+pub ends_within : (space low : ℕ) (ms : List Mapping) (m : Mapping) (rest : List Mapping) → ms ≡ m ∷ rest → IsSpread space low ms
+    → m.base + m.len ≤ space
 ends_within space low ms m rest split spread =
     let opened : IsSpread space low (m ∷ rest) = let P : List Mapping → Type 0 = IsSpread space low in subst P split spread in
     spread_within space (m.base + m.len) rest opened.2
@@ -93,5 +99,6 @@ ends_within space low ms m rest split spread =
 fits_end : (space low len : ℕ) → low ≤ space → nat_le (low + len) space ≡ nat_le len (space - low)
 fits_end space low len within = grind (arith, nat_tests)
 
-pub gap_end : (space low : ℕ) (ms : List Mapping) (len : ℕ) → ms ≡ [] → IsSpread space low ms → gap space low ms len ≡ cond (nat_le len (space - low)) (Some low) None
+pub gap_end : (space low : ℕ) (ms : List Mapping) (len : ℕ) → ms ≡ [] → IsSpread space low ms
+    → gap space low ms len ≡ cond (nat_le len (space - low)) (Some low) None
 gap_end space low ms len none spread = rw none (rw (fits_end space low len (spread_within space low ms spread)) refl)

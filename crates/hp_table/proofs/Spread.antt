@@ -41,7 +41,8 @@ base_above space low [] k d spread within = absurd (omega arith)
 base_above space low (m ∷ ms) zero d spread within = spread.0
 base_above space low (m ∷ ms) (suc k) d spread within = omega (arith, spread.0, base_above space (m.base + m.len) ms k d spread.2 (omega arith))
 
-rises : (space low : ℕ) (m : Mapping) (ms : List Mapping) → IsSpread space low (m ∷ ms) → IsNonDecreasingBy (λ m. m.base) ms → (i j : ℕ) (d : Mapping) → i ≤ j → j < length (m ∷ ms) → (get_or (m ∷ ms) i d).base ≤ (get_or (m ∷ ms) j d).base
+rises : (space low : ℕ) (m : Mapping) (ms : List Mapping) → IsSpread space low (m ∷ ms) → IsNonDecreasingBy (λ m. m.base) ms
+    → (i j : ℕ) (d : Mapping) → i ≤ j → j < length (m ∷ ms) → (get_or (m ∷ ms) i d).base ≤ (get_or (m ∷ ms) j d).base
 rises space low m ms spread rest zero zero d le within = omega arith
 rises space low m ms spread rest zero (suc j) d le within = omega (arith, base_above space (m.base + m.len) ms j d spread.2 (omega arith))
 rises space low m ms spread rest (suc i) zero d le within = absurd (omega arith)
@@ -52,7 +53,8 @@ bases_rise space low [] spread = λ i j d le within. absurd (omega arith)
 bases_rise space low (m ∷ ms) spread = rises space low m ms spread (bases_rise space (m.base + m.len) ms spread.2)
 
 -- where none begins at or below a page, none has it
-pub holder_absent : (space low : ℕ) (ms : List Mapping) (v : ℕ) → IsSpread space low ms → prefix_len (begins v) ms ≡ 0 → list.find (λ m. covers m v) ms ≡ None
+pub holder_absent : (space low : ℕ) (ms : List Mapping) (v : ℕ) → IsSpread space low ms → prefix_len (begins v) ms ≡ 0
+    → list.find (λ m. covers m v) ms ≡ None
 holder_absent space low [] v spread = λ none. refl
 holder_absent space low (m ∷ ms) v spread =
     elim (nat_le m.base v) as (λ b. nat_le m.base v ≡ b → cond b (1 + prefix_len (begins v) ms) 0 ≡ 0 → list.find (λ m. covers m v) (m ∷ ms) ≡ None) [
@@ -63,7 +65,8 @@ holder_absent space low (m ∷ ms) v spread =
 covered_not : (m : Mapping) (v : ℕ) → m.base + m.len ≤ v → covers m v ≡ false
 covered_not m v past = grind (arith, nat_tests)
 
-pub past_first : (space : ℕ) (m : Mapping) (ms : List Mapping) (v j : ℕ) → IsSpread space (m.base + m.len) ms → prefix_len (begins v) ms ≡ suc j → m.base + m.len ≤ v
+pub past_first : (space : ℕ) (m : Mapping) (ms : List Mapping) (v j : ℕ) → IsSpread space (m.base + m.len) ms
+    → prefix_len (begins v) ms ≡ suc j → m.base + m.len ≤ v
 past_first space m ms v j spread begun =
     elim (nat_le (m.base + m.len) v) as (λ b. nat_le (m.base + m.len) v ≡ b → m.base + m.len ≤ v) [
       | true ↦ λ e. leb-true (m.base + m.len) v e
@@ -71,7 +74,9 @@ past_first space m ms v j spread begun =
     ] refl
 
 -- the last that begins at or below a page has it, or none does
-pub holder_last : (space low : ℕ) (ms : List Mapping) (v k : ℕ) (d : Mapping) → IsSpread space low ms → prefix_len (begins v) ms ≡ suc k → list.find (λ m. covers m v) ms ≡ cond (covers (get_or ms k d) v) (Some (get_or ms k d)) None
+pub holder_last : (space low : ℕ) (ms : List Mapping) (v k : ℕ) (d : Mapping) → IsSpread space low ms
+    → prefix_len (begins v) ms ≡ suc k
+    → list.find (λ m. covers m v) ms ≡ cond (covers (get_or ms k d) v) (Some (get_or ms k d)) None
 holder_last space low [] v k d spread begun = absurd (omega arith)
 holder_last space low (m ∷ ms) v zero d spread begun =
     let rest : prefix_len (begins v) ms ≡ 0 = grind (arith, nat_tests, begun) in
@@ -81,7 +86,8 @@ holder_last space low (m ∷ ms) v (suc j) d spread begun =
     rw (covered_not m v (past_first space m ms v j spread.2 rest)) (holder_last space (m.base + m.len) ms v j d spread.2 rest)
 
 -- what the mapping that has a page tells of it
-pub find-holder : (ms : List Mapping) (v : ℕ) → find ms v ≡ option_map (λ m. (m.file, m.from + (v - m.base))) (list.find (λ m. covers m v) ms)
+pub find-holder : (ms : List Mapping) (v : ℕ)
+    → find ms v ≡ option_map (λ m. (m.file, m.from + (v - m.base))) (list.find (λ m. covers m v) ms)
 find-holder [] v = refl
 find-holder (m ∷ ms) v =
     elim (covers m v) as (λ b. (if b then Some (m.file, m.from + (v - m.base)) else find ms v) ≡ option_map (λ m. (m.file, m.from + (v - m.base))) (cond b (Some m) (list.find (λ m. covers m v) ms))) [ true ↦ refl | false ↦ find-holder ms v ]
@@ -92,7 +98,8 @@ base_of-holder (m ∷ ms) v =
     elim (covers m v) as (λ b. (if b then Some m.base else base_of ms v) ≡ option_map (λ m. m.base) (cond b (Some m) (list.find (λ m. covers m v) ms))) [ true ↦ refl | false ↦ base_of-holder ms v ]
 
 -- what holds of each holds of the one that has the page
-pub holder_is : (P : Mapping → Type 0) (ms : List Mapping) (v : ℕ) (m : Mapping) → All P ms → list.find (λ m. covers m v) ms ≡ Some m → (covers m v ≡ true) × P m
+pub holder_is : (P : Mapping → Type 0) (ms : List Mapping) (v : ℕ) (m : Mapping) → All P ms
+    → list.find (λ m. covers m v) ms ≡ Some m → (covers m v ≡ true) × P m
 holder_is P [] v m all = λ found. let z : None ≡ Some m = found in cc
 holder_is P (x ∷ ms) v m all =
     elim (covers x v) as (λ b. covers x v ≡ b → cond b (Some x) (list.find (λ m. covers m v) ms) ≡ Some m → (covers m v ≡ true) × P m) [
@@ -153,17 +160,21 @@ All-entered P (m ∷ ms) new all one =
 fits_within : (space : ℕ) (new : Mapping) → fits space [] new.base new.len ≡ true → new.base + new.len ≤ space
 fits_within space new room = grind (arith, nat_tests)
 
-fits_before : (space : ℕ) (m : Mapping) (ms : List Mapping) (new : Mapping) → fits space (m ∷ ms) new.base new.len ≡ true → new.base < m.base → 1 ≤ m.len → new.base + new.len ≤ m.base
+fits_before : (space : ℕ) (m : Mapping) (ms : List Mapping) (new : Mapping) → fits space (m ∷ ms) new.base new.len ≡ true
+    → new.base < m.base → 1 ≤ m.len → new.base + new.len ≤ m.base
 fits_before space m ms new room before some = grind (arith, nat_tests)
 
-fits_past : (space : ℕ) (m : Mapping) (ms : List Mapping) (new : Mapping) → fits space (m ∷ ms) new.base new.len ≡ true → m.base ≤ new.base → 1 ≤ new.len → m.base + m.len ≤ new.base
+fits_past : (space : ℕ) (m : Mapping) (ms : List Mapping) (new : Mapping) → fits space (m ∷ ms) new.base new.len ≡ true
+    → m.base ≤ new.base → 1 ≤ new.len → m.base + m.len ≤ new.base
 fits_past space m ms new room past some = grind (arith, nat_tests)
 
-fits_rest : (space : ℕ) (m : Mapping) (ms : List Mapping) (new : Mapping) → fits space (m ∷ ms) new.base new.len ≡ true → fits space ms new.base new.len ≡ true
+fits_rest : (space : ℕ) (m : Mapping) (ms : List Mapping) (new : Mapping) → fits space (m ∷ ms) new.base new.len ≡ true
+    → fits space ms new.base new.len ≡ true
 fits_rest space m ms new room = grind (arith, nat_tests)
 
 -- a mapping that fits shares no page with the others
-pub IsSpread-entered : (space low : ℕ) (ms : List Mapping) (new : Mapping) → IsSpread space low ms → low ≤ new.base → 1 ≤ new.len → fits space ms new.base new.len ≡ true → IsSpread space low (entered ms new)
+pub IsSpread-entered : (space low : ℕ) (ms : List Mapping) (new : Mapping) → IsSpread space low ms → low ≤ new.base → 1 ≤ new.len
+    → fits space ms new.base new.len ≡ true → IsSpread space low (entered ms new)
 IsSpread-entered space low [] new spread above some room = (above, some, fits_within space new room)
 IsSpread-entered space low (m ∷ ms) new spread above some room =
     elim (nat_lt new.base m.base) as (λ b. nat_lt new.base m.base ≡ b → IsSpread space low (if b then new ∷ m ∷ ms else m ∷ entered ms new)) [
@@ -171,14 +182,17 @@ IsSpread-entered space low (m ∷ ms) new spread above some room =
       | false ↦ λ e. (spread.0, spread.1, IsSpread-entered space (m.base + m.len) ms new spread.2 (fits_past space m ms new room (ltb-false new.base m.base e) some) some (fits_rest space m ms new room))
     ] refl
 
-pub base_of_is : (ms : List Mapping) (v : ℕ) (o : Option Mapping) → o ≡ list.find (λ m. covers m v) ms → base_of ms v ≡ option_map (λ m. m.base) o
+pub base_of_is : (ms : List Mapping) (v : ℕ) (o : Option Mapping) → o ≡ list.find (λ m. covers m v) ms
+    → base_of ms v ≡ option_map (λ m. m.base) o
 base_of_is ms v o same = base_of-holder ms v ∙ ap (option_map (λ (m : Mapping). m.base)) (sym same)
 
-pub find_is : (ms : List Mapping) (v : ℕ) (o : Option Mapping) → o ≡ list.find (λ m. covers m v) ms → find ms v ≡ option_map (λ m. (m.file, m.from + (v - m.base))) o
+pub find_is : (ms : List Mapping) (v : ℕ) (o : Option Mapping) → o ≡ list.find (λ m. covers m v) ms
+    → find ms v ≡ option_map (λ m. (m.file, m.from + (v - m.base))) o
 find_is ms v o same = find-holder ms v ∙ ap (option_map (λ (m : Mapping). (m.file, m.from + (v - m.base)))) (sym same)
 
 -- a mapping that is put at its place
-pub insert_is : (ms seen : List Mapping) (new : Mapping) (at : ℕ) → at ≡ prefix_len (begins new.base) seen → seen ≡ ms → insert ms at new ≡ entered ms new
+pub insert_is : (ms seen : List Mapping) (new : Mapping) (at : ℕ) → at ≡ prefix_len (begins new.base) seen → seen ≡ ms
+    → insert ms at new ≡ entered ms new
 insert_is ms seen new at place same =
     let here : at ≡ prefix_len (begins new.base) ms = place ∙ ap (prefix_len (begins new.base)) same in
     ap (λ (i : ℕ). insert ms i new) here ∙ sym (entered-insert ms new)

@@ -126,7 +126,7 @@ impl Space {
         Some(holder.base)
     }
 
-    /// The frame that a virtual page is translated to, found by binary search (Linux: `hugetlb_walk`).
+    /// The frame that a virtual page is translated to, found by binary search (Linux: `huge_pte_offset`).
     pub fn translate(&self, vpn: Vpn) -> Option<Frame>
         ensures { result ≡ map.get self.now.entries vpn }
     {
@@ -216,6 +216,3 @@ impl Space {
         self.entries.len()
     }
 }
-
-#[cfg(test)]
-mod tests;

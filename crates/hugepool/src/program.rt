@@ -1,5 +1,7 @@
 //! What the program does, over any words and streams.
-ghost use Rattle.std.specs.Prelude.{◌≡◌};
+ghost use Rattle.std.specs.Prelude.{◌≡◌, ◌≢◌, OnOk};
+ghost use Rattle.clap.specs.Values.{kind_of};
+ghost use Rattle.hugepool.specs.Reading.{ReadsSomeTrace};
 ghost use Rattle.hugepool.specs.Status.{status_of};
 
 use crate::command::{Request, read_words};
@@ -59,22 +61,39 @@ fn run<S: AsStr>(
     match read_words(alloc, words) {
         Ok(Request::Replay) => Ok(run_replay(alloc, reader, out)?),
         Err(error) => match error.kind() {
-            ErrorKind::DisplayHelp | ErrorKind::DisplayVersion => {
-                write!(out, "{error}").map_err(|_| Stop::Replay(ReplayFault::Write))
-            }
-            ErrorKind::OutOfMemory => Err(Stop::Replay(ReplayFault::Memory)),
-            _ => Err(Stop::Usage(error)),
+            ErrorKind::DisplayHelp | ErrorKind::DisplayVersion => Ok(write_help(&error, out)?),
+            _ => Err(no_request(error)),
         },
     }
 }
 
+// Words that clap refused, or that it had no memory to read.
+fn no_request(error: clap::Error) -> Stop
+    ensures memory { kind_of error ≡ ErrorKind.OutOfMemory → result ≡ Stop.Replay ReplayFault.Memory }
+    ensures usage { kind_of error ≢ ErrorKind.OutOfMemory → result ≡ Stop.Usage error }
+{
+    match error.kind() {
+        ErrorKind::OutOfMemory => Stop::Replay(ReplayFault::Memory),
+        _ => Stop::Usage(error),
+    }
+}
+
+// Help comes from clap as an error, but is what was asked for.
+fn write_help(help: &clap::Error, out: &mut impl Write) -> Result<(), ReplayFault> {
+    write!(out, "{help}").map_err(|_| ReplayFault::Write)?;
+    out.flush().map_err(|_| ReplayFault::Write)
+}
+
 // Output is buffered. What was right before a fault is written still, and a flush that fails is a
 // failed write.
-fn run_replay(
+#[tactic(auto, using(crate::proofs::TraceReads::reads_some_trace))]
+fn run_replay<R: Read, W: Write>(
     alloc: Global,
-    reader: &mut impl Read,
-    out: &mut impl Write,
-) -> Result<(), ReplayFault> {
+    reader: &mut R,
+    out: &mut W,
+) -> Result<(), ReplayFault>
+    ensures read { OnOk result (ReadsSomeTrace (R.remaining reader.old) (R.remaining reader.new)) }
+{
     let Ok(mut buffered) = BufWriter::new(alloc, out) else {
         return Err(ReplayFault::Memory);
     };

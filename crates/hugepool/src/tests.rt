@@ -1,9 +1,8 @@
-mod rows;
-
+//! The words, the statuses and the fault lines of the program, over fake streams.
 use crate::program::program;
 use std::alloc::Global;
 use std::io;
-use std::io::Write;
+use std::io::{ErrorKind, Read, Write};
 
 /// The status, the output and the fault lines.
 fn told<R>(rt: &R, alloc: Global, words: &[&str], input: &str) -> (u8, Vec<u8>, Vec<u8>) {
@@ -22,7 +21,7 @@ fn faults_and_statuses(rt: HostRuntime) {
     assert!(rt; out.is_empty());
     assert_eq!(rt;
         faults.as_slice(),
-        b"hugepool: line 1 is not a pool header\n".as_slice()
+        b"hugepool: line 1 is not a pool header, `pool FRAMES FILES SLOTS TASKS` with 1..=4096 frames, 1..=16 files, 1..=64 slots and 1..=64 tasks\n".as_slice()
     );
     let (status, out, faults) = told(
         &rt,
@@ -38,94 +37,307 @@ fn faults_and_statuses(rt: HostRuntime) {
     );
 }
 
+/// What clap tells below the usage of each help.
+const TRACES: &str = "
+Options:
+  -h, --help  Print help
+
+A trace is lines of text. The first is the pool:
+  pool FRAMES FILES SLOTS TASKS  1..=4096 frames, 1..=16 files, 1..=64 slots, 1..=64 tasks
+Each other line is an event, of at most a million:
+  begin TASK CALL                a task, counted from 1, begins a call
+  step TASK                      its call makes one step
+  deny TASK                      the same, but what the step wants of memory is refused
+  kill TASK                      the task is killed
+The calls, of files counted from 0, whose pages are 0 to 4095:
+  map FILE FROM LEN, mapn FILE FROM LEN, unmap BASE, load PAGE, store PAGE WORD, exit,
+  alloc FILE FROM LEN, allock FILE FROM LEN, punch FILE FROM LEN, trunc FILE SIZE
+Some traces, each beside what it writes, stand in examples/:
+  hugepool replay < examples/map-four-of-four.trace
+";
+
+const HELP: &str = "A pool of huge pages: Linux's hugetlbfs reservations, step by step
+
+Usage: hugepool <COMMAND>
+
+Commands:
+  replay  Reads a trace from standard input, runs it, and writes a line for each outcome and then the state
+  help    Print this message or the help of the given subcommand(s)
+";
+
+const REPLAY_HELP: &str =
+    "Reads a trace from standard input, runs it, and writes a line for each outcome and then the state
+
+Usage: hugepool replay < FILE
+";
+
+/// Whether a text is these two, one after the other.
+fn is_both(text: &[u8], front: &str, back: &str) -> bool {
+    text.strip_prefix(front.as_bytes()) == Some(back.as_bytes())
+}
+
 #[test]
-fn help_and_wrong_words(rt: HostRuntime) {
-    let (status, out, faults) = told(&rt, rt.alloc(), ["hugepool", "--help"].as_slice(), "");
-    assert_eq!(rt; status, 0);
-    assert!(rt; faults.is_empty() && !out.is_empty());
-    let (status, out, faults) = told(&rt, rt.alloc(), ["hugepool"].as_slice(), "");
-    assert_eq!(rt; status, 2);
-    assert!(rt; out.is_empty() && !faults.is_empty());
-    let (status, out, faults) = told(&rt, rt.alloc(), ["hugepool", "play"].as_slice(), "");
-    assert_eq!(rt; status, 2);
-    assert!(rt; out.is_empty() && !faults.is_empty());
+fn help_is_told(rt: HostRuntime) {
+    for word in ["--help", "-h", "help"] {
+        let (status, out, faults) = told(&rt, rt.alloc(), &["hugepool", word], "");
+        assert_eq!(rt; status, 0);
+        assert!(rt; faults.is_empty());
+        assert!(rt; is_both(out.as_slice(), HELP, TRACES));
+    }
 }
 
-/// The output of a replay that goes well.
-fn replayed<R>(rt: &R, alloc: Global, input: &str) -> (u8, Vec<u8>) {
-    let (status, out, _) = told(rt, alloc, ["hugepool", "replay"].as_slice(), input);
-    (status, out)
+#[test]
+fn help_of_replay_is_told(rt: HostRuntime) {
+    for words in [
+        ["hugepool", "replay", "--help"],
+        ["hugepool", "help", "replay"],
+    ] {
+        let (status, out, faults) = told(&rt, rt.alloc(), &words, "");
+        assert_eq!(rt; status, 0);
+        assert!(rt; faults.is_empty());
+        assert!(rt; is_both(out.as_slice(), REPLAY_HELP, TRACES));
+    }
 }
 
+/// The status and the fault lines of words that ask for nothing; nothing is written then.
+fn refused<R>(rt: &R, alloc: Global, words: &[&str]) -> Option<(u8, Vec<u8>)> {
+    let (status, out, faults) = told(rt, alloc, words, "pool 1 1 1 1\n");
+    out.is_empty().then_some((status, faults))
+}
+
+#[test]
+fn no_word(rt: HostRuntime) {
+    let text = "error: 'hugepool' requires a subcommand but one was not provided
+  [subcommands: replay, help]
+
+Usage: hugepool <COMMAND>
+
+For more information, try '--help'.
+";
+    let (status, faults) = refused(&rt, rt.alloc(), &["hugepool"]).unwrap_or((
+        0,
+        Vec::new(rt.alloc()),
+    ));
+    assert_eq!(rt; status, 2);
+    assert_eq!(rt; faults.as_slice(), text.as_bytes());
+}
+
+#[test]
+fn an_unknown_word(rt: HostRuntime) {
+    let text = "error: unrecognized subcommand 'x'
+
+Usage: hugepool <COMMAND>
+
+For more information, try '--help'.
+";
+    let (status, faults) = refused(&rt, rt.alloc(), &["hugepool", "x"]).unwrap_or((
+        0,
+        Vec::new(rt.alloc()),
+    ));
+    assert_eq!(rt; status, 2);
+    assert_eq!(rt; faults.as_slice(), text.as_bytes());
+}
+
+#[test]
+fn a_word_that_is_nearly_right(rt: HostRuntime) {
+    let text = "error: unrecognized subcommand 'play'
+
+  tip: a similar subcommand exists: 'replay'
+
+Usage: hugepool <COMMAND>
+
+For more information, try '--help'.
+";
+    let (status, faults) = refused(&rt, rt.alloc(), &["hugepool", "play"]).unwrap_or((
+        0,
+        Vec::new(rt.alloc()),
+    ));
+    assert_eq!(rt; status, 2);
+    assert_eq!(rt; faults.as_slice(), text.as_bytes());
+}
+
+/// A file that is named, where it has to be the standard input: the usage tells so.
+#[test]
+fn a_further_word(rt: HostRuntime) {
+    let text = "error: unexpected argument 'FILE' found
+
+Usage: hugepool replay < FILE
+
+For more information, try '--help'.
+";
+    let words = ["hugepool", "replay", "FILE"];
+    let (status, faults) = refused(&rt, rt.alloc(), &words).unwrap_or((0, Vec::new(rt.alloc())));
+    assert_eq!(rt; status, 2);
+    assert_eq!(rt; faults.as_slice(), text.as_bytes());
+}
+
+/// A call that ends without a frame is an outcome as any other: the program did what was asked.
 #[test]
 fn map_five_of_four(rt: HostRuntime) {
-    let (status, out) = replayed(
+    let (status, out, faults) = told(
         &rt,
         rt.alloc(),
+        ["hugepool", "replay"].as_slice(),
         "pool 4 1 4 1\nbegin 1 map 0 0 5\nstep 1\nstep 1\nstep 1\nstep 1\nstep 1\nstep 1\n",
     );
     assert_eq!(rt; status, 0);
-    assert_eq!(rt;
-        out.as_slice(),
-        b"begun\nmoved room\nmoved missing\nmoved changed\nmoved abort\nmoved leave\nended noframe\nfree 4 resv 0 calls 0\nfile 0 size 0 reserved 0 regions 0 pages 0 changes 0 spare 1\ntask 1 alive mappings 0 entries 0\n".as_slice()
-    );
+    assert!(rt; faults.is_empty());
+    let text =
+        b"begun\nmoved room\nmoved missing\nmoved changed\nmoved abort\nmoved leave\nended noframe\n\
+        free 4 resv 0 calls 0\nfile 0 size 0 reserved 0 regions 0 pages 0 changes 0 spare 1\n\
+        task 1 alive mappings 0 entries 0\n";
+    assert_eq!(rt; out.as_slice(), text.as_slice());
 }
 
-#[test]
-fn map_denied_its_change(rt: HostRuntime) {
-    let (status, out) = replayed(
-        &rt,
-        rt.alloc(),
-        "pool 4 1 4 1\nbegin 1 map 0 0 4\nstep 1\nstep 1\ndeny 1\nstep 1\n",
-    );
-    assert_eq!(rt; status, 0);
-    assert_eq!(rt;
-        out.as_slice(),
-        b"begun\nmoved room\nmoved missing\nmoved leave\nended nomemory\nfree 4 resv 0 calls 0\nfile 0 size 0 reserved 0 regions 0 pages 0 changes 0 spare 0\ntask 1 alive mappings 0 entries 0\n".as_slice()
-    );
-}
-
-/// Two maps of one file: the second finds the file's lock held, and then misses two of its three indices.
-#[test]
-fn two_maps_one_lock(rt: HostRuntime) {
-    let (status, out) = replayed(
-        &rt,
-        rt.alloc(),
-        "pool 4 1 4 2\nbegin 1 map 0 0 2\nstep 1\nstep 1\nbegin 2 map 0 1 3\nstep 2\nstep 1\nstep 1\nstep 1\nstep 1\nstep 1\nstep 2\nstep 2\nstep 2\nstep 2\nstep 2\nstep 2\nstep 2\n",
-    );
-    assert_eq!(rt; status, 0);
-    assert_eq!(rt;
-        out.as_slice(),
-        b"begun\nmoved room\nmoved missing\nbegun\nblocked 1\nmoved changed\nmoved accounted\nmoved enter\nmoved leave\nended mapped 0\nmoved room\nmoved missing\nmoved changed\nmoved accounted\nmoved enter\nmoved leave\nended mapped 0\nfree 4 resv 4 calls 0\nfile 0 size 4 reserved 4 regions 1 pages 0 changes 0 spare 1\ntask 1 alive mappings 1 entries 0\ntask 2 alive mappings 1 entries 0\n".as_slice()
-    );
-}
-
-/// A writer that takes no byte: the output is buffered, so the failure shows at the flush.
+/// An output with room for some bytes, whose flush may fail.
 #[derive(Drop)]
-struct Full;
+struct Output {
+    taken: Vec<u8>,
+    room: usize,
+    flushes: bool,
+}
 
-impl Write for Full {
-    fn write(&mut self, _buf: &[u8]) -> io::Result<usize> {
-        Ok(0)
+impl Write for Output {
+    fn write(&mut self, buf: &[u8]) -> io::Result<usize> {
+        match buf {
+            [first, ..] if self.room != 0 => {
+                self.taken.push(*first)?;
+                self.room -= 1;
+                Ok(1)
+            }
+            [] => Ok(0),
+            _ => Err(io::Error::from(ErrorKind::BrokenPipe)),
+        }
     }
 
     fn flush(&mut self) -> io::Result<()> {
-        Ok(())
+        if self.flushes {
+            Ok(())
+        } else {
+            Err(io::Error::from(ErrorKind::BrokenPipe))
+        }
+    }
+}
+
+/// The status, and the fault lines, where the output is such a one, and what that takes.
+fn told_to<R>(
+    rt: &R,
+    alloc: Global,
+    words: &[&str],
+    room: usize,
+    flushes: bool,
+) -> (u8, Vec<u8>, Vec<u8>) {
+    let mut out = Output {
+        taken: Vec::new(alloc),
+        room,
+        flushes,
+    };
+    let mut faults = Vec::new(alloc);
+    let mut bytes = b"pool 1 1 1 1\nstep 1\n".as_slice();
+    let status = program(rt, alloc, words, &mut bytes, &mut out, &mut faults);
+    (status, out.taken, faults)
+}
+
+const WRITING: &[u8] = b"hugepool: writing failed\n";
+
+#[test]
+fn a_failed_write_is_told(rt: HostRuntime) {
+    for room in [0, 5] {
+        let (status, out, faults) = told_to(&rt, rt.alloc(), &["hugepool", "replay"], room, true);
+        assert_eq!(rt; status, 1);
+        assert_eq!(rt; out.len(), room);
+        assert_eq!(rt; faults.as_slice(), WRITING);
     }
 }
 
 #[test]
 fn a_failed_flush_is_a_failed_write(rt: HostRuntime) {
-    let mut faults = Vec::new(rt.alloc());
-    let mut bytes = b"pool 1 1 1 1\n".as_slice();
+    let words = ["hugepool", "replay"];
+    let (status, out, faults) = told_to(&rt, rt.alloc(), &words, 1000, false);
+    assert_eq!(rt; status, 1);
+    assert!(rt; out.starts_with(b"refused idle\nfree 1 resv 0 calls 0\n"));
+    assert_eq!(rt; faults.as_slice(), WRITING);
+    let (status, _, faults) = told_to(&rt, rt.alloc(), &words, 1000, true);
+    assert_eq!(rt; status, 0);
+    assert!(rt; faults.is_empty());
+}
+
+#[test]
+fn help_that_is_not_written_is_told(rt: HostRuntime) {
+    for (room, flushes) in [(0, true), (5, true), (4096, false)] {
+        let (status, _, faults) = told_to(&rt, rt.alloc(), &["hugepool", "--help"], room, flushes);
+        assert_eq!(rt; status, 1);
+        assert_eq!(rt; faults.as_slice(), WRITING);
+    }
+}
+
+/// Gives its bytes, and then answers an error.
+#[derive(Drop)]
+struct Input<'a> {
+    bytes: &'a [u8],
+}
+
+impl Read for Input<'_> {
+    fn read(&mut self, buf: &mut [u8]) -> io::Result<usize> {
+        match self.bytes {
+            [first, rest @ ..] if !buf.is_empty() => {
+                buf[0] = *first;
+                self.bytes = rest;
+                Ok(1)
+            }
+            _ => Err(io::Error::from(ErrorKind::BrokenPipe)),
+        }
+    }
+}
+
+/// The status where the input fails behind these bytes, with what is written and the fault lines.
+fn told_of<R>(rt: &R, alloc: Global, bytes: &[u8]) -> (u8, Vec<u8>, Vec<u8>) {
+    let mut out = Vec::new(alloc);
+    let mut faults = Vec::new(alloc);
+    let words = ["hugepool", "replay"];
     let status = program(
-        &rt,
-        rt.alloc(),
-        ["hugepool", "replay"].as_slice(),
-        &mut bytes,
-        &mut Full,
+        rt,
+        alloc,
+        &words,
+        &mut Input { bytes },
+        &mut out,
         &mut faults,
     );
-    assert_eq!(rt; status, 1);
-    assert_eq!(rt; faults.as_slice(), b"hugepool: writing failed\n".as_slice());
+    (status, out, faults)
+}
+
+#[test]
+fn a_failed_read_is_told(rt: HostRuntime) {
+    for (bytes, told) in [
+        (b"".as_slice(), b"".as_slice()),
+        (b"pool 1 1 1 1\nst", b""),
+        (b"pool 1 1 1 1\nstep 1\n", b"refused idle\n"),
+    ] {
+        let (status, out, faults) = told_of(&rt, rt.alloc(), bytes);
+        assert_eq!(rt; status, 1);
+        assert_eq!(rt; out.as_slice(), told);
+        assert_eq!(rt; faults.as_slice(), b"hugepool: reading failed\n".as_slice());
+    }
+}
+
+/// The status doesn't hang on whether its fault line can be told.
+#[test]
+fn a_fault_that_is_not_told_is_one(rt: HostRuntime) {
+    for (words, wanted) in [(&["hugepool", "replay"][..], 1), (&["hugepool"], 2)] {
+        let mut faults = Output {
+            taken: Vec::new(rt.alloc()),
+            room: 0,
+            flushes: false,
+        };
+        let mut out = Vec::new(rt.alloc());
+        let status = program(
+            &rt,
+            rt.alloc(),
+            words,
+            &mut b"".as_slice(),
+            &mut out,
+            &mut faults,
+        );
+        assert_eq!(rt; status, wanted);
+    }
 }

@@ -1,4 +1,7 @@
+use Rattle.std.specs.Prelude.{Ok}
+use Rattle.hp_machine.specs.declared.call.Call.TheVariants as call
 use Rattle.hp_core.proofs.Rows.{touch_row, map_row, alloc_row, punch_row, truncate_row, unmap_row, exit_row}
+use Rattle.hp_core.proofs.Blocked.{finished_blocked}
 use Rattle.hp_core.proofs.seat.step_call.Goals as goal
 
 pub returns-in-Touch-clause-row : goal.returns-in-Touch-clause-row
@@ -21,3 +24,18 @@ returns-in-Unmap-clause-row c = rw c.in-Unmap.is (unmap_row _ _ _ _ _ _ _ _ c.fi
 
 pub returns-in-Exit-clause-row : goal.returns-in-Exit-clause-row
 returns-in-Exit-clause-row c = rw c.in-Exit.is (exit_row _ _ _ _ _ _ _ _ c.finish-in-Exit.ensures c.step_exit.ensures.row)
+
+pub returns-in-Touch-clause-blocked : goal.returns-in-Touch-clause-blocked
+returns-in-Touch-clause-blocked c = rw c.in-Touch.is (finished_blocked call.Touch _ _ _ _ _ c.finish.ensures c.step_touch.ensures.blocked)
+
+pub returns-in-Map-clause-blocked : goal.returns-in-Map-clause-blocked
+returns-in-Map-clause-blocked c = rw c.in-Map.is (finished_blocked call.Map _ _ _ _ _ c.finish-in-Map.ensures c.step_map.ensures.blocked)
+
+pub returns-in-Alloc-clause-blocked : goal.returns-in-Alloc-clause-blocked
+returns-in-Alloc-clause-blocked c = rw c.in-Alloc.is (finished_blocked call.Alloc _ _ _ _ _ c.finish-in-Alloc.ensures c.step_alloc.ensures.blocked)
+
+pub returns-in-Punch-clause-blocked : goal.returns-in-Punch-clause-blocked
+returns-in-Punch-clause-blocked c = rw c.in-Punch.is (finished_blocked call.Punch _ _ _ _ _ c.finish-in-Punch.ensures c.step_punch.ensures.blocked)
+
+pub returns-in-Truncate-clause-blocked : goal.returns-in-Truncate-clause-blocked
+returns-in-Truncate-clause-blocked c = rw c.in-Truncate.is (finished_blocked call.Truncate _ _ _ (Ok c.step_truncate.result) _ c.finish-in-Truncate.ensures c.step_truncate.ensures.blocked)

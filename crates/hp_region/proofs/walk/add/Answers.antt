@@ -32,7 +32,8 @@ loop-end-init c =
     }
 
 -- the walk stopped at a region past what was merged
-beyond : (c : goal.After-replace) → c.loop-end.end < length c.args.regions.now.items → c.loop-end.merged.to < (get_or c.args.regions.now.items c.loop-end.end c.loop-end.merged).from
+beyond : (c : goal.After-replace) → c.loop-end.end < length c.args.regions.now.items
+    → c.loop-end.merged.to < (get_or c.args.regions.now.items c.loop-end.end c.loop-end.merged).from
 beyond c within = elim c.loop-end-test.branch [
   | then-loop-end-test+else-le w ↦
       let read = ap (λ (r : Region). r.from) (w.index.ensures ∙ get_or_default c.args.regions.now.items c.loop-end.end w.index.result.now c.loop-end.merged within) in

@@ -30,12 +30,14 @@ split_first ms i m within is =
 opened : (ms rest : List Mapping) (m : Mapping) → ms ≡ m ∷ rest → IsSpread VPNS 0 ms → IsSpread VPNS 0 (m ∷ rest)
 opened ms rest m split spread = let P : List Mapping → Type 0 = IsSpread VPNS 0 in subst P split spread
 
-left_some : (ms rest : List Mapping) (m : Mapping) (file index page : ℕ) (es : List (ℕ × ℕ)) → ms ≡ m ∷ rest → IsSpread VPNS 0 ms → Some page ≡ index_page m file index
+left_some : (ms rest : List Mapping) (m : Mapping) (file index page : ℕ) (es : List (ℕ × ℕ)) → ms ≡ m ∷ rest → IsSpread VPNS 0 ms
+    → Some page ≡ index_page m file index
     → others ms file index es ≡ others rest file index (filter (λ e. not (is_within page (page + 1) e.0)) es)
 left_some ms rest m file index page es split spread is =
     ap (λ (xs : List Mapping). others xs file index es) split ∙ others_some VPNS 0 m rest file index page es (opened ms rest m split spread) is
 
-left_none : (ms rest : List Mapping) (m : Mapping) (file index : ℕ) (es : List (ℕ × ℕ)) → ms ≡ m ∷ rest → IsSpread VPNS 0 ms → None ≡ index_page m file index → others ms file index es ≡ others rest file index es
+left_none : (ms rest : List Mapping) (m : Mapping) (file index : ℕ) (es : List (ℕ × ℕ)) → ms ≡ m ∷ rest → IsSpread VPNS 0 ms
+    → None ≡ index_page m file index → others ms file index es ≡ others rest file index es
 left_none ms rest m file index es split spread is =
     ap (λ (xs : List Mapping). others xs file index es) split ∙ others_none VPNS 0 m rest file index es (opened ms rest m split spread) is
 

@@ -28,7 +28,8 @@ pub bounds-mappings-last : goal.bounds-mappings-last
 bounds-mappings-last c = within c
 
 -- the last one that begins at or below the page begins there
-begun_there : (ms : List Mapping) (v last begun : ℕ) (m : Mapping) → begun ≡ prefix_len (begins v) ms → last < begun → m ≡ get_or ms last m → m.base ≤ v
+begun_there : (ms : List Mapping) (v last begun : ℕ) (m : Mapping) → begun ≡ prefix_len (begins v) ms → last < begun
+    → m ≡ get_or ms last m → m.base ≤ v
 begun_there ms v last begun m counted before is =
     let passes = prefix_len_passes (begins v) ms last m (omega arith) in
     leb-true m.base v (rw is passes)

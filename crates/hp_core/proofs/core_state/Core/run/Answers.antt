@@ -1,13 +1,13 @@
-use Rattle.std.proofs.Common.{◌∙◌, [], arith, refl}
+use Rattle.std.proofs.Common.{◌∙◌, [], arith, refl, sym, inr}
 use Rattle.std.proofs.lemmas.Grind.{common_steps}
-use Rattle.hp_core.proofs.RunsOn.{ran_none, ran_next, ran_all, ran_stopped, told_long}
+use Rattle.hp_core.proofs.RunsOn.{ran_none, ran_next, ran_all, ran_empty, ran_stopped, told_long, wanted_at}
 use Rattle.hp_core.proofs.core_state.Core.run.Goals as goal
 
 pub loop-event-init : goal.loop-event-init
 loop-event-init c = record {
   ran = ran_none _ _ (c.reserve.ensures.items ∙ c.new-told.ensures.items);
   room = grind (arith, common_steps);
-  head = c.always.ensures;
+  head = c.always.ensures.headline;
 }
 
 pub loop-event-preserved : goal.loop-event-preserved
@@ -39,3 +39,12 @@ returns-in-Err-clause-within c =
 
 pub returns-then-is_err-clause-stopped : goal.returns-then-is_err-clause-stopped
 returns-then-is_err-clause-stopped c = ([], ran_none _ _ refl)
+
+pub returns-then-is_empty-clause-run : goal.returns-then-is_empty-clause-run
+returns-then-is_empty-clause-run c = ran_empty _ _ _ (sym c.is_empty.ensures ∙ c.if-is_empty.true) c.new-told.ensures.items
+
+pub returns-in-Err-clause-wanted : goal.returns-in-Err-clause-wanted
+returns-in-Err-clause-wanted c =
+    let within = c.loop-event-test.true in
+    let long = told_long _ _ _ _ _ (omega (arith, within)) c.loop-event.invariant.ran in
+    inr (wanted_at _ _ _ _ _ _ within c.event-item.is (omega (arith, c.len.ensures, long)) c.in-Err.ensures.err c.in-Err.ensures.growth)

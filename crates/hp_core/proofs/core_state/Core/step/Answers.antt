@@ -5,6 +5,7 @@ use Rattle.hp_core.specs.State.{CoreState}
 use Rattle.hp_core.specs.Readers.{config_of}
 use Rattle.hp_core.proofs.Headlines.{headline_of}
 use Rattle.hp_core.proofs.Meets.{fits_from_sound}
+use Rattle.hp_core.proofs.Blocked.{idle_result}
 use Rattle.hp_core.proofs.Steps.{sound_result, row_result}
 use Rattle.hp_core.proofs.core_state.Core.step.Goals as goal
 
@@ -29,3 +30,8 @@ returns-clause-headline c =
 pub returns-clause-config : goal.returns-clause-config
 unfolding config_of
 returns-clause-config c = ap (λ (z : CoreState). z.sizes) c.self.view_is
+
+pub returns-clause-idle : goal.returns-clause-idle
+returns-clause-idle c =
+    let s : CoreState = record { sizes = sizes c.self.inside.config; parts = state_of c.self.inside.parts; seats = c.self.inside.seats.items } in
+    rw (← c.self.view_is) (idle_result s c.args.event c.step_event.result _ _ c.self.invariant (fits_from_sound s c.args.event c.self.invariant) c.step_event.ensures.row c.step_event.ensures.blocked)

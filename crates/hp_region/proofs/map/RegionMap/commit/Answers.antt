@@ -9,7 +9,8 @@ use Rattle.hp_region.specs.Reserved.{Reserved}
 use Rattle.hp_region.proofs.map.RegionMap.commit.Goals as goal
 
 -- what was added, of the regions that the map holds
-added_is : (added from to : ℕ) (rs : List Region) (m : Reserved) → added ≡ missing (is_member m.regions) from to → rs ≡ m.regions → added ≡ missing (is_member rs) from to
+added_is : (added from to : ℕ) (rs : List Region) (m : Reserved) → added ≡ missing (is_member m.regions) from to → rs ≡ m.regions
+    → added ≡ missing (is_member rs) from to
 added_is added from to rs m counted same = counted ∙ ap (λ (xs : List Region). missing (is_member xs) from to) (sym same)
 
 pub overflow_add-self : goal.overflow_add-self

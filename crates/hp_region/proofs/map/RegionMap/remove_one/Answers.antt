@@ -22,7 +22,8 @@ returns-in_default-clause-members c =
     rw (← c.self.view_is, ← c.deref.ensures.value) (absent-put (is_member c.deref.result.now) c.args.index out)
 
 -- the index was there, so that there is one less
-one_less : (rs seen : List Region) (i count : ℕ) → IsApartFrom 0 rs → count ≡ count_below (is_member rs) LIMIT → seen ≡ rs → is_member seen i ≡ true → count ≡ count_below (put (is_member rs) i false) LIMIT + 1
+one_less : (rs seen : List Region) (i count : ℕ) → IsApartFrom 0 rs → count ≡ count_below (is_member rs) LIMIT → seen ≡ rs
+    → is_member seen i ≡ true → count ≡ count_below (put (is_member rs) i false) LIMIT + 1
 one_less rs seen i count apart counted same there =
     let here : is_member rs i ≡ true = ap (λ (xs : List Region). is_member xs i) (sym same) ∙ there in
     counted ∙ count_below-put_false (is_member rs) i LIMIT (member_below_limit 0 rs i apart here) here

@@ -7,7 +7,9 @@ use Rattle.hp_region.specs.Regions.{is_member}
 use Rattle.hp_region.proofs.map.RegionMap.remove_tail.Goals as goal
 
 -- what the tail holds, and what is below it
-split : (rs seen : List Region) (count removed from end : ℕ) → count ≡ count_below (is_member rs) LIMIT → removed ≡ count_within (is_member seen) from end → seen ≡ rs → end ≡ LIMIT → count_below (cut_tail (is_member rs) from) LIMIT + removed ≡ count
+split : (rs seen : List Region) (count removed from end : ℕ) → count ≡ count_below (is_member rs) LIMIT
+    → removed ≡ count_within (is_member seen) from end → seen ≡ rs → end ≡ LIMIT
+    → count_below (cut_tail (is_member rs) from) LIMIT + removed ≡ count
 split rs seen count removed from end counted held same limit =
     let here = held ∙ (ap (λ (xs : List Region). count_within (is_member xs) from end) same ∙ ap (count_within (is_member rs) from) limit) in
     omega (arith, here, counted, count_below-cut_tail (is_member rs) from LIMIT)

@@ -22,7 +22,8 @@ some_or_none : (o : Option ℕ) → IsSome o → o ≡ None → ⊥
 some_or_none o some none = true≢false (sym some ∙ ap (λ (o : Option ℕ). is_some o) none)
 
 -- a page with an entry lies in another mapping
-bare : (c : goal.After-remove) (v : ℕ) → IsSome (find nat_cmp v c.self.inside.entries.items) → IsTrue (in_mapping c.self.inside.mappings.items c.args.base v) → ⊥
+bare : (c : goal.After-remove) (v : ℕ) → IsSome (find nat_cmp v c.self.inside.entries.items)
+    → IsTrue (in_mapping c.self.inside.mappings.items c.args.base v) → ⊥
 bare c v some lies =
     let there = ap (λ (t : Table). in_mapping t.mappings c.args.base v) (sym c.self.view_is) ∙ lies in
     let none = sym (get_is c.self.inside.entries.items v c.self.invariant.in_order) ∙ (ap (λ (t : Table). map.get t.entries v) c.self.view_is ∙ c.requires.bare v there) in

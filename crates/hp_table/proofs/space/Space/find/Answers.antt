@@ -16,7 +16,8 @@ within : (m : Mapping) (v : ℕ) → covers m v ≡ true → (m.base ≤ v) × (
 within m v e = (grind (arith, nat_tests), grind (arith, nat_tests))
 
 -- the mapping that was found has the page, and ends within its file
-found : (ms seen : List Mapping) (v : ℕ) (m : Mapping) → seen ≡ ms → All (λ m. m.from + m.len ≤ LIMIT) ms → Some m ≡ list.find (λ m. covers m v) seen → (m.base ≤ v) × (m.from + (v - m.base) < LIMIT)
+found : (ms seen : List Mapping) (v : ℕ) (m : Mapping) → seen ≡ ms → All (λ m. m.from + m.len ≤ LIMIT) ms
+    → Some m ≡ list.find (λ m. covers m v) seen → (m.base ≤ v) × (m.from + (v - m.base) < LIMIT)
 found ms seen v m same ends is =
     let both = holder_is (λ m. m.from + m.len ≤ LIMIT) seen v m (rw same ends) (sym is) in
     let inside = within m v both.0 in

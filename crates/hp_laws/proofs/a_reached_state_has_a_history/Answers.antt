@@ -1,0 +1,5 @@
+use Rattle.hp_laws.proofs.Histories.{run_history}
+use Rattle.hp_laws.proofs.a_reached_state_has_a_history.Goals as goal
+
+pub returns : goal.returns
+returns c = λ s reached. let h = run_history s.geometry s.frames reached.0 s reached.1 in (h.0, h.1)

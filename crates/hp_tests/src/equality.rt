@@ -1,0 +1,112 @@
+//! That different values are unequal: an equality that always holds would empty each `assert_eq!`.
+use hp_base::{Answer, Task, Vpn};
+use hp_core::{Life, Outcome, Phase, Refusal, RunFault, Tally};
+use hp_replay::ReplayFault;
+
+// Whether each value is equal to itself alone.
+fn all_differ<T: PartialEq>(values: &[T]) -> bool {
+    for (i, one) in values.iter().enumerate() {
+        for (j, other) in values.iter().enumerate() {
+            if (*one == *other) != (i == j) {
+                return false;
+            }
+        }
+    }
+    true
+}
+
+#[test]
+fn phases_differ(rt: HostRuntime) {
+    let phases = [
+        Phase::Start,
+        Phase::Look,
+        Phase::Want,
+        Phase::Locked,
+        Phase::Missing,
+        Phase::Changed,
+        Phase::Abort,
+        Phase::Taken,
+        Phase::Settle,
+        Phase::Committed,
+        Phase::Restore,
+        Phase::Found,
+        Phase::Leave,
+        Phase::Room,
+        Phase::Accounted,
+        Phase::Enter,
+        Phase::Head,
+        Phase::Unslot,
+        Phase::Extend,
+        Phase::Unmap,
+        Phase::Evict,
+        Phase::Delete,
+        Phase::Free,
+        Phase::Size,
+        Phase::Tail,
+        Phase::Clear,
+        Phase::Drop,
+    ];
+    assert!(rt; all_differ(&phases));
+}
+
+#[test]
+fn outcomes_differ(rt: HostRuntime) {
+    let outcomes = [
+        Outcome::Begun,
+        Outcome::Moved(Phase::Start),
+        Outcome::Moved(Phase::Drop),
+        Outcome::Blocked(Task::new(1)),
+        Outcome::Blocked(Task::new(2)),
+        Outcome::Ended(Answer::Done),
+        Outcome::Ended(Answer::Mapped(Vpn::new(0))),
+        Outcome::Ended(Answer::Mapped(Vpn::new(1))),
+        Outcome::Ended(Answer::Word(0)),
+        Outcome::Marked,
+        Outcome::Refused(Refusal::NotAlive),
+        Outcome::Refused(Refusal::InCall),
+        Outcome::Refused(Refusal::Idle),
+    ];
+    assert!(rt; all_differ(&outcomes));
+}
+
+#[test]
+fn lives_and_refusals_differ(rt: HostRuntime) {
+    assert!(rt; all_differ(&[Life::Alive, Life::Killed, Life::Dead]));
+    assert!(rt; all_differ(&[Refusal::NotAlive, Refusal::InCall, Refusal::Idle]));
+}
+
+#[test]
+fn faults_differ(rt: HostRuntime) {
+    let faults = [
+        ReplayFault::BadHeader,
+        ReplayFault::BadLine(2),
+        ReplayFault::BadLine(3),
+        ReplayFault::Read,
+        ReplayFault::Write,
+        ReplayFault::Memory,
+    ];
+    assert!(rt; all_differ(&faults));
+    assert!(rt; all_differ(&[RunFault { done: 0 }, RunFault { done: 1 }]));
+}
+
+// A tally by its four numbers.
+fn tally([free, resv, reserved, pages]: [u32; 4]) -> Tally {
+    Tally {
+        free,
+        resv,
+        reserved,
+        pages,
+    }
+}
+
+#[test]
+fn tallies_differ(rt: HostRuntime) {
+    let numbers = [
+        [0, 0, 0, 0],
+        [1, 0, 0, 0],
+        [0, 1, 0, 0],
+        [0, 0, 1, 0],
+        [0, 0, 0, 1],
+    ];
+    assert!(rt; all_differ(&numbers.map(tally)));
+}

@@ -1,0 +1,119 @@
+//! The largest sizes: with ample memory none of them meets a want of it.
+use hp_core::Core;
+use hp_replay::{ReplayFault, read_trace, replay, write_trace};
+use std::alloc::{AllocError, Global};
+use std::test::Fail;
+
+/// What a replay of this text answers, and what it writes.
+fn replayed(alloc: Global, text: &str) -> (Result<(), ReplayFault>, Vec<u8>) {
+    let mut out = Vec::new(alloc);
+    let answer = replay(alloc, &mut text.as_bytes(), &mut out);
+    (answer, out)
+}
+
+#[test]
+fn the_largest_pool(rt: HostRuntime) {
+    let (answer, out) = replayed(rt.alloc(), "pool 4096 16 64 64\n");
+    assert_eq!(rt; answer, Ok(()));
+    assert!(rt; out.starts_with(b"free 4096 resv 0 calls 0\n"));
+    assert!(rt; out.ends_with(b"task 64 alive mappings 0 entries 0\n"));
+    assert_eq!(rt; out.iter().filter(|byte| **byte == 10).count(), 81);
+}
+
+/// Adds so many steps of the only task.
+fn add_steps(text: &mut String, times: u32) -> Result<(), AllocError> {
+    for _ in 0..times {
+        text.push_str("step 1\n")?;
+    }
+    Ok(())
+}
+
+/// A page at each index of a file, by one call.
+#[test]
+fn the_most_pages(rt: HostRuntime) -> Result<(), Fail> {
+    let mut text = String::new(rt.alloc());
+    text.push_str("pool 4096 1 1 1\nbegin 1 alloc 0 0 4096\n")?;
+    add_steps(&mut text, 50_000)?;
+    let (answer, out) = replayed(rt.alloc(), text.as_str());
+    assert_eq!(rt; answer, Ok(()));
+    let told = b"free 0 resv 0 calls 0\n\
+        file 0 size 4096 reserved 4096 regions 1 pages 4096 changes 0 spare 1\n\
+        task 1 alive mappings 0 entries 0\n";
+    assert!(rt; out.ends_with(told));
+    Ok(())
+}
+
+/// A page at every other index of a file, each by a call of its own.
+fn every_other_index(alloc: Global) -> Result<String, AllocError> {
+    let mut text = String::new(alloc);
+    text.push_str("pool 4096 1 1 1\n")?;
+    for half in 0..2048_u32 {
+        let line = format!(in alloc; "begin 1 alloc 0 {} 1\n", half.saturating_mul(2))?;
+        text.push_str(line.as_str())?;
+        add_steps(&mut text, 12)?;
+    }
+    Ok(text)
+}
+
+#[test]
+fn the_most_regions(rt: HostRuntime) -> Result<(), Fail> {
+    let text = every_other_index(rt.alloc())?;
+    let (answer, out) = replayed(rt.alloc(), text.as_str());
+    assert_eq!(rt; answer, Ok(()));
+    let told = b"free 2048 resv 0 calls 0\n\
+        file 0 size 4095 reserved 2048 regions 2048 pages 2048 changes 0 spare 0\n\
+        task 1 alive mappings 0 entries 0\n";
+    assert!(rt; out.ends_with(told));
+    Ok(())
+}
+
+/// A mapping and a word at each of 4096 pages of a task.
+fn mapped_one_by_one(alloc: Global) -> Result<String, AllocError> {
+    let mut text = String::new(alloc);
+    text.push_str("pool 4096 1 1 1\n")?;
+    for index in 0..4096_u32 {
+        let line = format!(in alloc; "begin 1 mapn 0 {index} 1\n")?;
+        text.push_str(line.as_str())?;
+        add_steps(&mut text, 4)?;
+        let line = format!(in alloc; "begin 1 store {index} 7\n")?;
+        text.push_str(line.as_str())?;
+        add_steps(&mut text, 12)?;
+    }
+    Ok(text)
+}
+
+#[test]
+fn many_mappings_and_translations(rt: HostRuntime) -> Result<(), Fail> {
+    let text = mapped_one_by_one(rt.alloc())?;
+    let (answer, out) = replayed(rt.alloc(), text.as_str());
+    assert_eq!(rt; answer, Ok(()));
+    let told = b"free 0 resv 0 calls 0\n\
+        file 0 size 4096 reserved 4096 regions 1 pages 4096 changes 0 spare 1\n\
+        task 1 alive mappings 4096 entries 4096\n";
+    assert!(rt; out.ends_with(told));
+    Ok(())
+}
+
+/// 26,624 events are read, and written again.
+#[test]
+fn a_long_trace(rt: HostRuntime) -> Result<(), Fail> {
+    let text = every_other_index(rt.alloc())?;
+    let trace = read_trace(rt.alloc(), &mut text.as_bytes())?;
+    assert_eq!(rt; trace.events.len(), 26_624);
+    let mut written = Vec::new(rt.alloc());
+    write_trace(rt.alloc(), &trace, &mut written)?;
+    assert_eq!(rt; written.as_slice(), text.as_bytes());
+    Ok(())
+}
+
+/// Those events in one run: each has its outcome.
+#[test]
+fn a_long_run(rt: HostRuntime) -> Result<(), Fail> {
+    let text = every_other_index(rt.alloc())?;
+    let trace = read_trace(rt.alloc(), &mut text.as_bytes())?;
+    let mut core = Core::new(rt.alloc(), trace.config)?;
+    let told = core.run(rt.alloc(), trace.events.as_slice())?;
+    assert_eq!(rt; told.len(), 26_624);
+    assert_eq!(rt; core.free(), 2048);
+    Ok(())
+}

@@ -1,0 +1,116 @@
+"""Proves, tests and compares: what a change has to pass.
+
+usage: ./check [STEP] [..]
+
+  ./check            all steps but quick: what has to pass before a change lands
+  ./check ci         every proof from nothing, the edits for the known wrong bodies, all tests and programs (rt ci)
+  ./check edits [CRATE ..] [--each]
+                     every must-fail edit, many at once; and with no crate named, edits of which each has to be told apart,
+                     and whether docs/INDEX.md is what the sources say
+  ./check examples   what the traces of examples/ print
+  ./check linux      what a Linux kernel answered (conformance/)
+  ./check quick      before a commit: proofs and tests of what changed since the last time, over kept work; that each edit applies
+
+The last line is 'N passed, M failed'.
+"""
+from __future__ import annotations
+
+import os
+import re
+import subprocess
+import sys
+import time
+from pathlib import Path
+
+import try_edits
+from scratch import TOP, crates_of
+
+GATE = Path(__file__).resolve().parent
+COUNTS = re.compile(r"^(?:[\w ]+: )?(\d+) passed, (\d+) failed$")
+
+
+class Step:
+    """Commands whose output goes on, and whose lines 'N passed, M failed' are added up."""
+
+    def __init__(self, name: str) -> None:
+        self.name, self.passed, self.failed, self.began = name, 0, 0, time.monotonic()
+
+    def run(self, words: list[str], folder: Path = TOP) -> bool:
+        """Runs a command, and returns whether it ended well. One that fails and counts nothing is one failure."""
+        counted = 0
+        with subprocess.Popen(words, cwd=folder, stdin=subprocess.DEVNULL, stdout=subprocess.PIPE, stderr=subprocess.STDOUT, text=True, errors="replace") as ran:
+            for line in ran.stdout:
+                print(line, end="", flush=True)
+                if made := COUNTS.match(line.rstrip("\n")):
+                    self.passed, self.failed, counted = self.passed + int(made[1]), self.failed + int(made[2]), counted + int(made[2])
+        if ran.returncode and not counted:
+            self.failed += 1
+        return ran.returncode == 0
+
+    def told(self) -> str:
+        return f"check: {self.name}: {self.passed} passed, {self.failed} failed, in {time.monotonic() - self.began:.0f} s"
+
+
+def python(script: str, *words: str) -> list[str]:
+    return [sys.executable, str(GATE / script), *words]
+
+
+def ci(step: Step, _: list[str]) -> None:
+    step.run(["rt", "ci"])
+
+
+def edits(step: Step, words: list[str]) -> None:
+    step.run(python("try_edits.py", *words))
+    if not [it for it in words if not it.startswith("-")]:
+        step.run(python("test_edits.py"))
+        step.run(python("index.py"))
+
+
+def examples(step: Step, _: list[str]) -> None:
+    step.run(python("examples.py"))
+
+
+def linux(step: Step, _: list[str]) -> None:
+    step.run([sys.executable, str(TOP / "conformance" / "compare.py")])
+
+
+def quick(step: Step, _: list[str]) -> None:
+    if not step.run(["rt", "all", "check", "--jobs", str(os.cpu_count() or 1)]):
+        return
+    step.passed += len(crates_of(TOP))
+    for name in crates_of(TOP):
+        folder = TOP / "crates" / name
+        if any("#[test]" in file.read_text(encoding="utf-8") for file in (folder / "src").rglob("*.rt")):
+            step.passed += step.run(["rt", "test"], folder)
+        for it in try_edits.read_all(folder)[1]:
+            print(f"  {name}/{it.name}: {it.why}")
+            step.failed += 1
+
+
+STEPS = {"ci": ci, "edits": edits, "examples": examples, "linux": linux, "quick": quick}
+WHOLE = ["ci", "edits", "examples", "linux"]
+
+
+def main(words: list[str]) -> int:
+    if words[:1] in (["-h"], ["--help"], ["help"]):
+        print(__doc__, end="")
+        return 0
+    if words and words[0] not in STEPS or words[1:] and words[0] != "edits":
+        print(__doc__.split("\n\n", 1)[1], end="", file=sys.stderr)
+        return 2
+    done = []
+    for name in words[:1] or WHOLE:
+        step = Step(name)
+        STEPS[name](step, words[1:])
+        done.append(step)
+        if name == "ci" and step.failed:
+            print("check: the other steps rest on what is proved, so they were left out")
+            break
+    print("\n".join(it.told() for it in done))
+    passed, failed = sum(it.passed for it in done), sum(it.failed for it in done)
+    print(f"{passed} passed, {failed} failed")
+    return 1 if failed else 0
+
+
+if __name__ == "__main__":
+    sys.exit(main(sys.argv[1:]))

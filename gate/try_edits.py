@@ -1,0 +1,297 @@
+#!/usr/bin/env python3
+"""Tries every must-fail edit: the prover has to refuse each for itself.
+
+usage: ./check edits [CRATE ..] [--each]
+
+The edits of a crate stand in its folders must-fail/ (those that the toolchain's gate tries too), edits/ and must-not-compile/
+(those that the compiler has to refuse, with the error that they name). Edits of different
+functions' bodies are applied together, and one check tells of each edited function whether it is still proved; so a crate needs a
+few checks where one by one it would need as many as it has edits. An edit counts as refused where the check refuses a
+function in which it changes something, for that function's own sake: a goal of its contract or of its code stays open.
+
+Reported as faults: an edit with which its function is still proved; one whose text isn't in the file exactly once, or that the
+prover can't read; one refused only because a function that it calls is; one refused only because a proof names what the edit took away.
+"""
+from __future__ import annotations
+
+import argparse
+import os
+import shutil
+import subprocess
+import sys
+import tempfile
+from collections import Counter
+from concurrent.futures import ThreadPoolExecutor, as_completed
+from dataclasses import dataclass
+from pathlib import Path
+from typing import Iterator
+
+import edit as edits
+from edit import BadEdit, Edit, Texts
+from scratch import TOP, Scratch, crates_of
+from source import Function
+from verdicts import Check, Verdict
+
+NOT_COMPILED = "must-not-compile"
+FOLDERS = ("must-fail", "edits", NOT_COMPILED)
+# edits in one scratch copy: a larger share would end long after the others
+MOST = 40
+
+
+@dataclass(frozen=True)
+class Candidate:
+    """An edit to be tried, the functions that it edits, and whether it can be tried beside others: it can where it changes bodies alone."""
+
+    edit: Edit
+    functions: frozenset[Function]
+    may_be_joined: bool
+
+
+@dataclass(frozen=True)
+class Result:
+    """What came of an edit: refused for itself, or a fault, and why."""
+
+    name: str
+    is_refused: bool
+    why: str
+
+
+def fault_of(verdict: Verdict) -> str:
+    return {
+        Verdict.PROVED: "NOT REFUSED: the function is still proved with this edit",
+        Verdict.BY_A_CALLEE: "NOT REFUSED FOR ITSELF: only a function that it calls is refused",
+        Verdict.BY_NAMES: "REFUSED BY A NAME ONLY: a proof names what the edit took away, which says nothing of the contract",
+        Verdict.UNTOLD: "NOT TOLD: the check doesn't say of the edited function whether it is proved",
+    }[verdict]
+
+
+def read_all(crate: Path) -> tuple[list[Candidate], list[Result]]:
+    """The crate's edits, and those that cannot be tried."""
+    found, bad, names = [], [], set()
+    for file in sorted(it for folder in FOLDERS for it in (crate / folder).glob("*") if it.suffix != ".md"):
+        try:
+            if file.suffix != ".edit":
+                raise BadEdit("its name ends neither in .edit nor, if it is only to be read, in .md")
+            read = edits.read(file)
+            Texts(crate).with_edit(read)
+            if file.stem in names:
+                raise BadEdit("an edit of the same name stands in another folder")
+            if bool(read.error) != (file.parent.name == NOT_COMPILED):
+                raise BadEdit(f"a line 'error: CODE' stands in the edits of {NOT_COMPILED}/, and only there")
+            names.add(file.stem)
+            reach = edits.reach_of(read, crate)
+            found.append(Candidate(read, reach.functions, reach.is_in_bodies))
+        except (BadEdit, UnicodeDecodeError) as error:
+            bad.append(Result(file.stem, False, f"BAD EDIT: {error}"))
+    return found, bad
+
+
+def verdict_on(candidate: Candidate, check: Check) -> Verdict:
+    """What a check says of an edit: the strongest word of the functions that it edits, or of the crate."""
+    if not candidate.functions:
+        return check.is_refused()
+    told = [it.verdict() for path, it in check.functions.items() if any(is_of(function, path) for function in candidate.functions)]
+    order = (Verdict.REFUSED, Verdict.BY_NAMES, Verdict.BY_A_CALLEE, Verdict.UNTOLD, Verdict.PROVED)
+    return next((it for it in order if it in told), Verdict.UNTOLD)
+
+
+def is_of(function: Function, path: str) -> bool:
+    """Whether a verdict's path is the function's, or a closure's in it: `a::fn::f::map` is one in `a::f`."""
+    above, is_closure, inside = path.rpartition("::fn::")
+    if not is_closure and path.startswith("fn::"):
+        above, is_closure, inside = "", True, path[len("fn::"):]
+    if not is_closure:
+        return function.is_called(path)
+    names = inside.split("::")
+    heads = ("::".join([*above.split("::"), *names[:n]] if above else names[:n]) for n in range(1, len(names) + 1))
+    return any(function.is_called(head) for head in heads)
+
+
+class Trial:
+    """The trial of one crate's edits, in its scratch copy."""
+
+    def __init__(self, crate: Path, scratch: Scratch) -> None:
+        self.crate, self.scratch, self.results = crate, scratch, []
+
+    def batch(self, left: list[Candidate]) -> tuple[list[Candidate], Texts]:
+        """As many edits as can be told apart in one check: of the bodies of different functions, and with texts that don't meet."""
+        if not left[0].may_be_joined:
+            return left[:1], Texts(self.crate).with_edit(left[0].edit)
+        texts, taken, edited = Texts(self.crate), [], set()
+        for it in left:
+            if edited & it.functions or not it.may_be_joined:
+                continue
+            try:
+                texts = texts.with_edit(it.edit)
+            except BadEdit:
+                continue
+            taken.append(it)
+            edited |= it.functions
+        return taken, texts
+
+    def run(self, candidates: list[Candidate]) -> None:
+        """Tries all, batch by batch. Those of which a batch tells nothing certain are tried again by themselves."""
+        left, alone = [it for it in candidates if not it.edit.error], []
+        while left:
+            taken, texts = self.batch(left)
+            again = self.judge(taken, self.scratch.check(texts))
+            is_stuck = len(again) == len(taken)
+            alone += [it for it in again if is_stuck or it.is_alone]
+            names = {it.candidate.edit.name for it in again if not (is_stuck or it.is_alone)}
+            left = [it for it in left if it not in taken or it.edit.name in names]
+        for it in alone:
+            self.alone(it.candidate)
+        for it in candidates:
+            if it.edit.error:
+                self.compile(it)
+
+    def compile(self, candidate: Candidate) -> None:
+        """Tries an edit that must not compile."""
+        edit = candidate.edit
+        check = self.scratch.check(Texts(self.crate).with_edit(edit), is_to_prove=False)
+        is_refused = not check.is_compiled and edit.error in check.codes()
+        why = "IT COMPILES" if check.is_compiled else f"NOT REFUSED BY error[{edit.error}]: {check.first_words()}"
+        self.results.append(Result(edit.name, is_refused, "refused by the compiler" if is_refused else why))
+
+    def judge(self, taken: list[Candidate], check: Check) -> list[Again]:
+        """Notes what a check decides of the edits in it, and gives back the others."""
+        if not check.is_judged:
+            return [Again(it, True) for it in taken]
+        again = []
+        for it in taken:
+            verdict = verdict_on(it, check)
+            if verdict is Verdict.REFUSED:
+                self.results.append(Result(it.edit.name, True, "refused"))
+            else:
+                again.append(Again(it, verdict is not Verdict.BY_A_CALLEE))
+        return again
+
+    def alone(self, candidate: Candidate) -> None:
+        check = self.scratch.check(Texts(self.crate).with_edit(candidate.edit))
+        if not check.is_judged:
+            why = f"BAD EDIT: the prover gives no verdict with it: {check.first_words()}"
+            return self.results.append(Result(candidate.edit.name, False, why))
+        verdict = verdict_on(candidate, check)
+        is_refused = verdict is Verdict.REFUSED
+        self.results.append(Result(candidate.edit.name, is_refused, "refused" if is_refused else fault_of(verdict)))
+
+
+@dataclass(frozen=True)
+class Again:
+    """An edit that is to be tried again: by itself, or in another batch (where one that it calls was edited beside it)."""
+
+    candidate: Candidate
+    is_alone: bool
+
+
+@dataclass(frozen=True)
+class Share:
+    """A part of a crate's edits, which one scratch copy tries."""
+
+    crate: str
+    candidates: tuple[Candidate, ...]
+
+
+@dataclass
+class Tried:
+    """What came of a share, and what it took."""
+
+    results: list[Result]
+    checks: int
+    seconds: float
+
+
+def shares_of(crate: str, candidates: list[Candidate]) -> list[Share]:
+    """The crate's edits in shares of at most `MOST` each, those of one function spread over them, since a check takes one of them only."""
+    candidates = sorted(candidates, key=lambda it: (sorted(map(str, it.functions)), it.edit.name))
+    number = -(-len(candidates) // MOST)
+    return [Share(crate, tuple(candidates[at::number])) for at in range(number)]
+
+
+def try_share(top: Path, share: Share, rooms: Path) -> Tried:
+    """Tries a share of a crate's edits."""
+    room = Path(tempfile.mkdtemp(prefix=f"{share.crate}-", dir=rooms))
+    scratch = Scratch(top, share.crate, room)
+    trial = Trial(top / "crates" / share.crate, scratch)
+    trial.run(list(share.candidates))
+    # refusals count only where the crate itself is proved over what the edits left behind
+    if not scratch.check(Texts(trial.crate)).is_proved:
+        trial.results.append(Result("(none)", False, "without any edit the crate isn't proved, so its refusals say nothing"))
+    shutil.rmtree(room)
+    return Tried(trial.results, scratch.checks, scratch.seconds)
+
+
+def try_crates(top: Path, names: list[str], lanes: int) -> Iterator[tuple[str, list[Result], str]]:
+    """Tries the crates' edits side by side, those with most first. Gives of each crate, as it ends, the results and a line on what they took."""
+    read = {name: read_all(top / "crates" / name) for name in names}
+    shares = [share for name, (candidates, _) in read.items() for share in shares_of(name, candidates)]
+    shares.sort(key=lambda it: -len(it.candidates))
+    left = Counter(it.crate for it in shares)
+    ended = {name: Tried(list(bad), 0, 0.0) for name, (_, bad) in read.items()}
+    with tempfile.TemporaryDirectory(prefix="edits-") as rooms, ThreadPoolExecutor(lanes) as pool:
+        trials = {pool.submit(try_share, top, it, Path(rooms)): it.crate for it in shares}
+        for trial in as_completed(trials):
+            name, tried = trials[trial], trial.result()
+            so_far = ended[name]
+            ended[name] = Tried(so_far.results + tried.results, so_far.checks + tried.checks, so_far.seconds + tried.seconds)
+            left[name] -= 1
+            if not left[name]:
+                yield name, ended[name].results, told_of(name, ended[name])
+    for name, it in ended.items():
+        if name not in left and it.results:
+            yield name, it.results, told_of(name, it)
+
+
+def told_of(name: str, tried: Tried) -> str:
+    refused = sum(it.is_refused for it in tried.results)
+    return f"{name}: {refused} of {len(tried.results)} edits refused, in {tried.checks} checks and {tried.seconds:.0f} s of processor time"
+
+
+def prepare(top: Path, names: list[str], is_whole: bool) -> bool:
+    """Has the crates, and those below them, built and proved, over what earlier checks kept."""
+    if is_whole:
+        commands = [(top, ["rt", "all", "check", "--jobs", str(os.cpu_count() or 1)])]
+    else:
+        commands = [(top / "crates" / it, ["rt", "check"]) for it in names]
+    for folder, words in commands:
+        ran = subprocess.run(words, cwd=folder, stdin=subprocess.DEVNULL, stdout=subprocess.PIPE, stderr=subprocess.STDOUT, errors="replace")
+        if ran.returncode:
+            print(ran.stdout, end="")
+            print("check: the crates aren't proved, so their edits weren't tried", file=sys.stderr)
+            return False
+    return True
+
+
+def try_all(top: Path, names: list[str], lanes: int, is_each_told: bool) -> tuple[int, int]:
+    """Tries and tells, and returns how many edits were refused and how many faults there are."""
+    refused = faults = 0
+    for name, results, told in try_crates(top, names, lanes):
+        print(told)
+        for it in sorted(results, key=lambda it: it.name):
+            if is_each_told or not it.is_refused:
+                print(f"  {name}/{it.name}: {it.why}")
+        sys.stdout.flush()
+        refused += sum(it.is_refused for it in results)
+        faults += sum(not it.is_refused for it in results)
+    return refused, faults
+
+
+def main() -> int:
+    words = argparse.ArgumentParser(prog="./check edits", description=__doc__.split("\n")[0])
+    words.add_argument("crates", nargs="*", metavar="CRATE", help="the crates whose edits are tried; none: all")
+    words.add_argument("--each", action="store_true", help="tell of each edit, not of the faults alone")
+    words.add_argument("--lanes", type=int, default=os.cpu_count() or 1, metavar="N", help="how many crates side by side")
+    given = words.parse_args()
+    known = crates_of(TOP)
+    unknown = [it for it in given.crates if it not in known]
+    if unknown:
+        words.error(f"crates.txt has no crate {unknown[0]}")
+    if not prepare(TOP, given.crates, is_whole=not given.crates):
+        return 1
+    refused, faults = try_all(TOP, given.crates or list(known), max(1, given.lanes), given.each)
+    print(f"edits: {refused} passed, {faults} failed")
+    return 1 if faults else 0
+
+
+if __name__ == "__main__":
+    sys.exit(main())
