@@ -70,7 +70,7 @@ one_of_counted : (p : Picture) (P : ℕ → Type 0) (x : ℕ) → (0 < times_in 
     → (0 < times_in p.hands.items x → P x) → (0 < sum_by (pages_of x) p.files.items → P x) → 0 < place_count p x → P x
 unfolding place_count
 one_of_counted p P x in_free in_hands in_pages some =
-  anywhere P x (times_in p.free.items x) (times_in p.hands.items x) (sum_by (pages_of x) p.files.items)
+    anywhere P x (times_in p.free.items x) (times_in p.hands.items x) (sum_by (pages_of x) p.files.items)
     in_free in_hands in_pages some
 
 -- no frame is at two places where none is of those that are anywhere

@@ -79,7 +79,7 @@ unfolding missing add_range
 count_below-add_range p c from to n within inside =
     let fresh : ℕ → Bool = λ k. is_within from to k && not (p k) in
     let parts = count_below-sum (λ k. p k && not (c k)) fresh (λ k. (is_within from to k || p k) && not (c k)) n
-      (λ k below. grind (arith, nat_tests, inside k)) in
+    (λ k below. grind (arith, nat_tests, inside k)) in
     let short = count_below_past fresh to n within (λ k past. grind (arith, nat_tests)) in
     let same = count_below-ext fresh (λ k. nat_le from k && not (p k)) to (λ k below. grind (arith, nat_tests)) in
     omega (arith, parts, short, same)

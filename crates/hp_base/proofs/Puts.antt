@@ -23,10 +23,17 @@ pub put2_tells : {A : Type 0} (p : ℕ → ℕ → A) (f i : ℕ) (v : A) (k j :
     → ((k ≡ f) × (j ≡ i) × (put2 p f i v k j ≡ v)) ⊎ (((k ≡ f) → (j ≡ i) → ⊥) × (put2 p f i v k j ≡ p k j))
 put2_tells p f i v k j = elim (same_or_other k f) [
   | inl e ↦ elim (same_or_other j i) [
-    | inl d ↦ inl (e, d, ap (λ (m : ℕ). put2 p f i v m j) e
-        ∙ (ap (λ (r : ℕ → _). r j) (put_same p f (put (p f) i v)) ∙ (ap (put (p f) i v) d ∙ put_same (p f) i v)))
-    | inr d ↦ inr (λ x y. d y, ap (λ (m : ℕ). put2 p f i v m j) e
-        ∙ (ap (λ (r : ℕ → _). r j) (put_same p f (put (p f) i v)) ∙ (put_other (p f) i v j d ∙ ap (λ (m : ℕ). p m j) (sym e))))
+    | inl d ↦ inl (
+      e,
+      d,
+      ap (λ (m : ℕ). put2 p f i v m j) e
+          ∙ (ap (λ (r : ℕ → _). r j) (put_same p f (put (p f) i v)) ∙ (ap (put (p f) i v) d ∙ put_same (p f) i v)),
+    )
+    | inr d ↦ inr (
+      λ x y. d y,
+      ap (λ (m : ℕ). put2 p f i v m j) e
+          ∙ (ap (λ (r : ℕ → _). r j) (put_same p f (put (p f) i v)) ∙ (put_other (p f) i v j d ∙ ap (λ (m : ℕ). p m j) (sym e))),
+    )
   ]
   | inr e ↦ inr (λ x y. e x, ap (λ (r : ℕ → _). r j) (put_other p f (put (p f) i v) k e))
 ]

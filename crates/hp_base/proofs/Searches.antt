@@ -57,13 +57,16 @@ last_used (suc n) c = here (last_used n c) (c n) refl
     here : ((top : ℕ) × (top ≤ n) × ((i : ℕ) → top ≤ i → i < n → c i ≡ None) × ((other : ℕ) → ((i : ℕ) → other ≤ i → i < n → c i ≡ None) → top ≤ other))
         → (o : Option ℕ) → c n ≡ o
         → (top : ℕ) × (top ≤ suc n) × ((i : ℕ) → top ≤ i → i < suc n → c i ≡ None)
-          × ((other : ℕ) → ((i : ℕ) → other ≤ i → i < suc n → c i ≡ None) → top ≤ other)
+        × ((other : ℕ) → ((i : ℕ) → other ≤ i → i < suc n → c i ≡ None) → top ≤ other)
     here rest (Some x) e = (suc n, omega arith, λ i a b. absurd (omega arith), λ other h. enough other (nat_le other n) refl h)
       where
         enough : (other : ℕ) (b : Bool) → nat_le other n ≡ b → ((i : ℕ) → other ≤ i → i < suc n → c i ≡ None) → suc n ≤ other
         enough other true d h = (let z : other ≤ n = grind (arith, nat_tests) in let y : ◌≡◌ {A = Option ℕ} None (Some x) =
-          sym (h n z (omega arith)) ∙ e in absurd (cc))
+            sym (h n z (omega arith)) ∙ e in absurd (cc))
         enough other false d h = grind (arith, nat_tests)
-    here o None e = (o.0, (let z = o.1 in omega arith),
+    here o None e = (
+      o.0,
+      (let z = o.1 in omega arith),
       λ i a b. elim (eqb_tells i n) [ inl d ↦ ap c d.1 ∙ e | inr d ↦ o.2 i a (let z = d.1 in omega arith) ],
-      λ other h. o.3 other (λ i a b. h i a (omega arith)))
+      λ other h. o.3 other (λ i a b. h i a (omega arith)),
+    )

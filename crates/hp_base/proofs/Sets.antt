@@ -5,8 +5,15 @@ use Rattle.std.proofs.lemmas.Bool.Decides.{nat_tests}
 use Rattle.hp_base.specs.Numbers.{put, bit, is_none}
 use Rattle.hp_base.specs.Indices.{is_within, count_below, count_within, missing, add_range, cut_tail, vacant}
 use Rattle.hp_base.proofs.Puts.{put_same, put_other}
-use Rattle.hp_base.proofs.Counting.{count_below-sum, count_below-ext, count_below_none, count_below_mono, count_below-is_within,
-  count_below-add_range, missing_anti}
+use Rattle.hp_base.proofs.Counting.{
+  count_below-sum,
+  count_below-ext,
+  count_below_none,
+  count_below_mono,
+  count_below-is_within,
+  count_below-add_range,
+  missing_anti,
+}
 use Rattle.hp_base.proofs.Totals.{count_below-change}
 
 not_not : (b : Bool) → not (not b) ≡ b
@@ -27,9 +34,9 @@ unfolding vacant
 vacant_add limit r c from to l inside =
     let a = count_below-add_range r (λ k. not (is_none (c k))) from to limit l (λ k e. paged (r k) (c k) (inside k) e) in
     let x = count_below-ext (λ k. add_range r from to k && not (not (is_none (c k)))) (λ k. add_range r from to k && is_none (c k))
-      limit (λ k below. and_more (add_range r from to k) _ _ (not_not (is_none (c k)))) in
+    limit (λ k below. and_more (add_range r from to k) _ _ (not_not (is_none (c k)))) in
     let y = count_below-ext (λ k. r k && not (not (is_none (c k)))) (λ k. r k && is_none (c k)) limit
-      (λ k below. and_more (r k) _ _ (not_not (is_none (c k)))) in
+    (λ k below. and_more (r k) _ _ (not_not (is_none (c k)))) in
     omega arith
 
 -- a page is placed at a vacant index
@@ -38,7 +45,7 @@ pub vacant_place : (limit : ℕ) (r : ℕ → Bool) (c : ℕ → Option ℕ) (k 
 unfolding vacant
 vacant_place limit r c k x l e n =
     let a = count_below-change (λ i. r i && is_none (c i)) (λ i. r i && is_none (put c k (Some x) i)) k limit l
-      (λ j h. ap (λ (o : Option ℕ). r j && is_none o) (put_other c k (Some x) j h)) in
+    (λ j h. ap (λ (o : Option ℕ). r j && is_none o) (put_other c k (Some x) j h)) in
     let b : bit (r k && is_none (c k)) ≡ 1 = rw (e, n) refl in
     let d : bit (r k && is_none (put c k (Some x) k)) ≡ 0 = rw (e, put_same) refl in
     omega arith
@@ -49,7 +56,7 @@ pub vacant_evict : (limit : ℕ) (r : ℕ → Bool) (c : ℕ → Option ℕ) (k 
 unfolding vacant
 vacant_evict limit r c k x l e n =
     let a = count_below-change (λ i. r i && is_none (c i)) (λ i. r i && is_none (put c k None i)) k limit l
-      (λ j h. ap (λ (o : Option ℕ). r j && is_none o) (put_other c k None j h)) in
+    (λ j h. ap (λ (o : Option ℕ). r j && is_none o) (put_other c k None j h)) in
     let b : bit (r k && is_none (c k)) ≡ 0 = rw (e, n) refl in
     let d : bit (r k && is_none (put c k None k)) ≡ 1 = rw (e, put_same) refl in
     omega arith
@@ -60,7 +67,7 @@ pub vacant_drop : (limit : ℕ) (r : ℕ → Bool) (c : ℕ → Option ℕ) (k :
 unfolding vacant
 vacant_drop limit r c k l e n =
     let a = count_below-change (λ i. r i && is_none (c i)) (λ i. put r k false i && is_none (c i)) k limit l
-      (λ j h. ap (λ (o : Bool). o && is_none (c j)) (put_other r k false j h)) in
+    (λ j h. ap (λ (o : Bool). o && is_none (c j)) (put_other r k false j h)) in
     let b : bit (r k && is_none (c k)) ≡ 1 = rw (e, n) refl in
     let d : bit (put r k false k && is_none (c k)) ≡ 0 = ap (λ (o : Bool). bit (o && is_none (c k))) (put_same r k false) in
     omega arith
@@ -80,8 +87,8 @@ pub vacant_cut : (limit : ℕ) (r : ℕ → Bool) (c : ℕ → Option ℕ) (from
     → vacant limit r c ≡ vacant limit (cut_tail r from) c + count_within r from limit
 unfolding vacant count_within cut_tail
 vacant_cut limit r c from h = count_below-sum (λ k. (nat_lt k from && r k) && is_none (c k)) (λ k. nat_le from k && r k)
-  (λ k. r k && is_none (c k)) limit
-  (λ k below. cut_at (nat_lt k from) (nat_le from k) (r k) (is_none (c k)) (sides k from) (λ e. ap is_none (h k (above k from e))))
+    (λ k. r k && is_none (c k)) limit
+    (λ k below. cut_at (nat_lt k from) (nat_le from k) (r k) (is_none (c k)) (sides k from) (λ e. ap is_none (h k (above k from e))))
   where
     sides : (k from : ℕ) → nat_le from k ≡ not (nat_lt k from)
     sides k from = grind (arith, nat_tests)
@@ -152,8 +159,8 @@ pub tail_more : (limit from : ℕ) (r s : ℕ → Bool) → ((j : ℕ) → r j �
     → count_within r from limit ≤ count_within s from limit
 unfolding count_within
 tail_more limit from r s h =
-  count_below_mono (λ k. nat_le from k && r k) (λ k. nat_le from k && s k) limit
-  (λ k below e. mask (nat_le from k) (r k) (s k) (h k) e)
+    count_below_mono (λ k. nat_le from k && r k) (λ k. nat_le from k && s k) limit
+    (λ k below e. mask (nat_le from k) (r k) (s k) (h k) e)
   where
     mask : (a b d : Bool) → (b ≡ true → d ≡ true) → (a && b) ≡ true → (a && d) ≡ true
     mask true b d h e = h e
@@ -180,8 +187,8 @@ tail_next limit i r l e =
 pub tail_wider : (limit from to : ℕ) (r : ℕ → Bool) → from ≤ to → count_within r to limit ≤ count_within r from limit
 unfolding count_within
 tail_wider limit from to r l =
-  count_below_mono (λ k. nat_le to k && r k) (λ k. nat_le from k && r k) limit
-  (λ k below e. wide (r k) (nat_le to k) (nat_le from k) (later k) e)
+    count_below_mono (λ k. nat_le to k && r k) (λ k. nat_le from k && r k) limit
+    (λ k below e. wide (r k) (nat_le to k) (nat_le from k) (later k) e)
   where
     wide : (a b d : Bool) → (b ≡ true → d ≡ true) → (b && a) ≡ true → (d && a) ≡ true
     wide a true d h e = ap (λ (m : Bool). m && a) (h refl) ∙ e

@@ -26,7 +26,7 @@ module _ {X : Type 0} (f : X → ℕ) where
       let all = sum_by-cons f x xs in
       let here = each 0 x (omega arith) in
       let rest = sum_at_most_one xs (All-tail (λ (x : X). f x ≤ 1) x xs each)
-        (λ i j d lt within. apart (suc i) (suc j) d (omega (arith, lt)) (omega (arith, within))) in
+      (λ i j d lt within. apart (suc i) (suc j) d (omega (arith, lt)) (omega (arith, within))) in
       elim (nat_lt 0 (f x)) as (λ b. nat_lt 0 (f x) ≡ b → sum_by f (x ∷ xs) ≤ 1) [
         | true ↦ λ e. omega (arith, all, here, none (ltb-true 0 (f x) e))
         | false ↦ λ e. omega (arith, all, rest, ltb-false 0 (f x) e)
