@@ -1,5 +1,6 @@
 -- What is right with a picture: one fact for each finding.
-use Rattle.std.specs.Prelude.{◌≡◌, ◌≢◌, ℕ, ◌+◌, ◌<◌, ◌≤◌, Bool, false, ◌==◌, ◌&&◌, not, pos, ◌+ℤ◌, List, length, All, AllPairs, Contains, count_by, sum_by, slice_get, IsSomeAnd, IfSome}
+use Rattle.std.specs.Prelude.{◌≡◌, ◌≢◌, ℕ, ◌+◌, ◌<◌, ◌≤◌, Bool, false, ◌==◌, ◌&&◌, not, pos, ◌+ℤ◌, List, length, All, AllPairs}
+use Rattle.std.specs.Prelude.{Contains, count_by, sum_by, slice_get, IsSomeAnd, IfSome}
 use Rattle.std.specs.List.{list_any}
 use Rattle.hp_base.specs.Indices.{is_within, count_below}
 use Rattle.hp_base.specs.declared.limits.TheConstants.{LIMIT}

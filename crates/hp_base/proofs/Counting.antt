@@ -49,7 +49,8 @@ count_below_le p (suc n) = let below = count_below_le p n in grind (arith, below
 pub count_within-missing : (p : ℕ → Bool) (from to : ℕ) → count_within p from to + missing p from to ≡ to - from
 unfolding count_within missing
 count_within-missing p from to =
-    let parts = count_below-sum (λ k. nat_le from k && p k) (λ k. nat_le from k && not (p k)) (is_within from to) to (λ k below. grind (arith, nat_tests)) in
+    let parts = count_below-sum (λ k. nat_le from k && p k) (λ k. nat_le from k && not (p k)) (is_within from to) to
+    (λ k below. grind (arith, nat_tests)) in
     let all = count_below-is_within from to to in
     omega (arith, parts, all)
 
@@ -58,7 +59,8 @@ pub missing_anti : (p q : ℕ → Bool) (from to : ℕ) → ((k : ℕ) → from 
     → missing q from to ≤ missing p from to
 unfolding missing
 missing_anti p q from to keeps =
-    count_below_mono (λ k. nat_le from k && not (q k)) (λ k. nat_le from k && not (p k)) to (λ k below out. grind (arith, nat_tests, keeps k))
+    count_below_mono (λ k. nat_le from k && not (q k)) (λ k. nat_le from k && not (p k)) to
+    (λ k below out. grind (arith, nat_tests, keeps k))
 
 -- past m there are none
 pub count_below_past : (p : ℕ → Bool) (m n : ℕ) → m ≤ n → ((k : ℕ) → m ≤ k → p k ≡ false) → count_below p n ≡ count_below p m

@@ -25,7 +25,8 @@ at_set {A} {B} v d xs i y l = fun_ext (λ j. elim (same_or_other j i) [
 pub at_same : {A B : Type 0} (v : A → B) (d : A) (xs : List A) (i : ℕ) (y : A) → i < length xs → v y ≡ v (get_or xs i d)
     → ◌≡◌ {A = ℕ → B} (λ j. v (get_or (set xs i y) j d)) (λ j. v (get_or xs j d))
 at_same {A} {B} v d xs i y l same = fun_ext (λ j. elim (same_or_other j i) [
-  | inl e ↦ ap (λ (m : ℕ). v (get_or (set xs i y) m d)) e ∙ (ap v (get_or-set_same xs i y d l) ∙ (same ∙ ap (λ (m : ℕ). v (get_or xs m d)) (sym e)))
+  | inl e ↦ ap (λ (m : ℕ). v (get_or (set xs i y) m d)) e
+      ∙ (ap v (get_or-set_same xs i y d l) ∙ (same ∙ ap (λ (m : ℕ). v (get_or xs m d)) (sym e)))
   | inr e ↦ ap v (other d xs i j y e)
 ])
 

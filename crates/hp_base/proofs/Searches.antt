@@ -50,11 +50,13 @@ some_room space ms len = elim (first_of_kind (space + 1) (λ base. fits space ms
 
 -- the end of what a finite list of places uses
 pub last_used : (n : ℕ) (c : ℕ → Option ℕ)
-    → (top : ℕ) × (top ≤ n) × ((i : ℕ) → top ≤ i → i < n → c i ≡ None) × ((other : ℕ) → ((i : ℕ) → other ≤ i → i < n → c i ≡ None) → top ≤ other)
+    → (top : ℕ) × (top ≤ n) × ((i : ℕ) → top ≤ i → i < n → c i ≡ None)
+    × ((other : ℕ) → ((i : ℕ) → other ≤ i → i < n → c i ≡ None) → top ≤ other)
 last_used zero c = (0, omega arith, λ i a b. absurd (omega arith), λ other h. omega arith)
 last_used (suc n) c = here (last_used n c) (c n) refl
   where
-    here : ((top : ℕ) × (top ≤ n) × ((i : ℕ) → top ≤ i → i < n → c i ≡ None) × ((other : ℕ) → ((i : ℕ) → other ≤ i → i < n → c i ≡ None) → top ≤ other))
+    here : ((top : ℕ) × (top ≤ n) × ((i : ℕ) → top ≤ i → i < n → c i ≡ None)
+        × ((other : ℕ) → ((i : ℕ) → other ≤ i → i < n → c i ≡ None) → top ≤ other))
         → (o : Option ℕ) → c n ≡ o
         → (top : ℕ) × (top ≤ suc n) × ((i : ℕ) → top ≤ i → i < suc n → c i ≡ None)
         × ((other : ℕ) → ((i : ℕ) → other ≤ i → i < suc n → c i ≡ None) → top ≤ other)

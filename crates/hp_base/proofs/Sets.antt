@@ -170,7 +170,8 @@ tail_more limit from r s h =
 pub tail_next : (limit i : ℕ) (r : ℕ → Bool) → i < limit → r i ≡ true → count_within r i limit ≡ count_within r (i + 1) limit + 1
 unfolding count_within
 tail_next limit i r l e =
-    let a = count_below-change (λ k. nat_le (i + 1) k && r k) (λ k. nat_le i k && r k) i limit l (λ j h. ap (λ (o : Bool). o && r j) (past j i h)) in
+    let a = count_below-change (λ k. nat_le (i + 1) k && r k) (λ k. nat_le i k && r k) i limit l
+    (λ j h. ap (λ (o : Bool). o && r j) (past j i h)) in
     let b : bit (nat_le (i + 1) i && r i) ≡ 0 = ap (λ (o : Bool). bit (o && r i)) (before i) in
     let d : bit (nat_le i i && r i) ≡ 1 = ap (λ (o : Bool). bit (o && r i)) (here i) ∙ ap bit e in
     omega arith

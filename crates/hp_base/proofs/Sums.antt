@@ -16,7 +16,8 @@ module _ {X : Type 0} (f : X → ℕ) where
       let all = sum_by-cons f x xs in
       elim (nat_lt 0 (f x)) as (λ b. nat_lt 0 (f x) ≡ b → (k : ℕ) × (k < length (x ∷ xs)) × HoldsAt (λ y. 0 < f y) (x ∷ xs) k) [
         | true ↦ λ here. (0, omega arith, λ d. ltb-true 0 (f x) here)
-        | false ↦ λ here. (let rest = sum_somewhere xs (omega (arith, all, some, ltb-false 0 (f x) here)) in (suc rest.0, omega (arith, rest.1), λ d. rest.2 d))
+        | false ↦ λ here. (let rest = sum_somewhere xs (omega (arith, all, some, ltb-false 0 (f x) here)) in
+            (suc rest.0, omega (arith, rest.1), λ d. rest.2 d))
       ] refl
 
   -- where each element counts once at most, and no two count, so does the list

@@ -21,7 +21,8 @@ unfolding total
 total_change zero k f g l h = absurd (omega arith)
 total_change (suc n) k f g l h = elim (same_or_other k n) [
   | inl e ↦ (let a : total n g ≡ total n f = total_same n f g (λ j l'. h j (omega arith)) in rw e (omega arith))
-  | inr e ↦ (let a : total n g + f k ≡ total n f + g k = total_change n k f g (omega arith) h in let b : g n ≡ f n = h n (omega arith) in omega arith)
+  | inr e ↦ (let a : total n g + f k ≡ total n f + g k = total_change n k f g (omega arith) h in
+      let b : g n ≡ f n = h n (omega arith) in omega arith)
 ]
 
 pub total_le : (n : ℕ) (f g : ℕ → ℕ) → ((j : ℕ) → g j ≤ f j) → total n g ≤ total n f
@@ -102,7 +103,8 @@ unfolding total
 exchange zero m h = sym (total_none m)
 exchange (suc n) m h =
     let a : total n (λ t. total m (λ f. h t f)) ≡ total m (λ f. total n (λ t. h t f)) = exchange n m h in
-    let b : total m (λ f. total n (λ t. h t f) + h n f) ≡ total m (λ f. total n (λ t. h t f)) + total m (λ f. h n f) = total_add m (λ f. total n (λ t. h t f)) (λ f. h n f) _ (λ f. refl) in
+    let b : total m (λ f. total n (λ t. h t f) + h n f) ≡ total m (λ f. total n (λ t. h t f)) + total m (λ f. h n f) =
+    total_add m (λ f. total n (λ t. h t f)) (λ f. h n f) _ (λ f. refl) in
     omega arith
 
 bit_at_most : (b : Bool) → bit b ≤ 1
@@ -120,7 +122,9 @@ few (suc n) p one = last (p n) (few n p one) refl
   where
     last : (w : Bool) → total n (λ t. bit (p t)) ≤ 1 → p n ≡ w → total n (λ t. bit (p t)) + bit (p n) ≤ 1
     last true h d =
-        let a : total n (λ t. bit (p t)) ≡ 0 = total_same n (λ _. 0) (λ t. bit (p t)) (λ j l. bit_zero (p j) (λ q. (let e : j ≡ n = one j n q d in absurd (omega arith)))) ∙ total_none n in
+        let a : total n (λ t. bit (p t)) ≡ 0 =
+        total_same n (λ _. 0) (λ t. bit (p t))
+        (λ j l. bit_zero (p j) (λ q. (let e : j ≡ n = one j n q d in absurd (omega arith)))) ∙ total_none n in
         let b = bit_at_most (p n) in
         omega arith
     last false h d = (let b : bit (p n) ≡ 0 = ap bit d in omega arith)
@@ -134,5 +138,7 @@ at_most_one n p v h one = found v refl
     none d t = bit_zero (p t) (λ q. (let e : v ≡ true = h t q in let x : false ≡ true = sym d ∙ e in absurd (cc)))
 
     found : (w : Bool) → v ≡ w → total n (λ t. bit (p t)) ≤ bit v
-    found false d = (let a : total n (λ t. bit (p t)) ≡ 0 = total_same n (λ _. 0) (λ t. bit (p t)) (λ j l. none d j) ∙ total_none n in omega arith)
+    found false d =
+        (let a : total n (λ t. bit (p t)) ≡ 0 = total_same n (λ _. 0) (λ t. bit (p t)) (λ j l. none d j)
+        ∙ total_none n in omega arith)
     found true d = (let a : total n (λ t. bit (p t)) ≤ 1 = few n p one in let b : bit v ≡ 1 = ap bit d in omega arith)

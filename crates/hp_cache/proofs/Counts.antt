@@ -21,5 +21,6 @@ module _ {X : Type 0} where
   length-count limit (e ∷ es) sorted under =
       let parts = sorted_first e es sorted in
       let rest = length-count limit es parts.1 (λ i d within. under (suc i) d (omega arith)) in
-      let one = count_below_one (λ k. is_some (find nat_cmp k (e ∷ es))) (λ k. is_some (find nat_cmp k es)) e.0 limit (under 0 e (omega arith)) (first_found e es) (ap is_some (find_below e.0 es parts.0)) (λ k other. other_key k e es other) in
+      let one = count_below_one (λ k. is_some (find nat_cmp k (e ∷ es))) (λ k. is_some (find nat_cmp k es)) e.0 limit
+      (under 0 e (omega arith)) (first_found e es) (ap is_some (find_below e.0 es parts.0)) (λ k other. other_key k e es other) in
       omega (arith, rest, one)

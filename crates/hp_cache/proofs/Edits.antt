@@ -10,7 +10,8 @@ module _ {A : Type 0} (P : A → Type 0) where
   All-cons x xs one all (suc k) d within = all k d (omega arith)
 
   pub All-insert : (xs : List A) (i : ℕ) (x : A) → All P xs → P x → All P (insert xs i x)
-  All-insert xs i x all one = All-append P (take i xs) (x ∷ drop i xs) (All-take P i xs all) (All-cons x (drop i xs) one (All-drop P i xs all))
+  All-insert xs i x all one =
+      All-append P (take i xs) (x ∷ drop i xs) (All-take P i xs all) (All-cons x (drop i xs) one (All-drop P i xs all))
 
   pub All-remove : (xs : List A) (i : ℕ) → All P xs → All P (remove xs i)
   All-remove xs i all = All-append P (take i xs) (drop (suc i) xs) (All-take P i xs all) (All-drop P (suc i) xs all)

@@ -1,5 +1,6 @@
 -- The end of pages that stand in order.
-use Rattle.std.proofs.Common.{◌≡◌, ℕ, ◌+◌, ◌-◌, ◌<◌, ◌≤◌, true, false, List, [], ◌∷◌, Option, Some, None, length, get_or, refl, sym, ap, ◌∙◌, arith}
+use Rattle.std.proofs.Common.{◌≡◌, ℕ, ◌+◌, ◌-◌, ◌<◌, ◌≤◌, true, false, List, [], ◌∷◌, Option, Some, None, length, get_or, refl}
+use Rattle.std.proofs.Common.{sym, ap, ◌∙◌, arith}
 use Rattle.std.specs.Prelude.{nat_le, slice_get}
 use Rattle.std.specs.Ordering.{nat_cmp}
 use Rattle.std.specs.FinMap.{find, is_sorted}
@@ -34,7 +35,9 @@ end_at_last es last sorted is = (λ i above. find_above i es (all_below i above)
         omega (arith, up, same)
 
     there : find nat_cmp last.0 es ≡ Some last.1
-    there = ap (λ (e : ℕ × ℕ). find nat_cmp e.0 es) (sym (get_or_from_slice_get es at last last is)) ∙ find_at es at last sorted within ∙ ap (λ (e : ℕ × ℕ). Some e.1) (get_or_from_slice_get es at last last is)
+    there =
+        ap (λ (e : ℕ × ℕ). find nat_cmp e.0 es) (sym (get_or_from_slice_get es at last last is))
+        ∙ find_at es at last sorted within ∙ ap (λ (e : ℕ × ℕ). Some e.1) (get_or_from_slice_get es at last last is)
 
     least : (other : ℕ) → ((i : ℕ) → other ≤ i → find nat_cmp i es ≡ None) → last.0 + 1 ≤ other
     least other past =

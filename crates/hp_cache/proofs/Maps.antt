@@ -1,5 +1,6 @@
 -- A finite map with numbers as keys, kept as a list in their order.
-use Rattle.std.proofs.Common.{◌≡◌, ℕ, ◌<◌, ◌≤◌, Bool, true, false, cond, List, [], Option, Some, None, length, refl, sym, ap, subst, ◌∙◌, arith}
+use Rattle.std.proofs.Common.{◌≡◌, ℕ, ◌<◌, ◌≤◌, Bool, true, false, cond, List, [], Option, Some, None, length, refl, sym, ap}
+use Rattle.std.proofs.Common.{subst, ◌∙◌, arith}
 use Rattle.std.specs.Prelude.{T, All, is_some}
 use Rattle.std.specs.List.{insert, remove}
 use Rattle.std.specs.Ordering.{nat_cmp, eq_by_cmp}
@@ -25,7 +26,9 @@ module _ {X : Type 0} where
   IsSeenAs es m = (map.is_sorted nat_cmp es ≡ true) × (map.from_sorted es ≡ m)
 
   pub from_sorted-empty : map.from_sorted {X = X} {R = nat_cmp} [] ≡ map.empty
-  from_sorted-empty = map.empty_of_len (map.from_sorted []) (map.len-entries (map.from_sorted []) ∙ ap length (map.entries-from_sorted nat_cmp [] tt))
+  from_sorted-empty =
+      map.empty_of_len (map.from_sorted [])
+      (map.len-entries (map.from_sorted []) ∙ ap length (map.entries-from_sorted nat_cmp [] tt))
 
   pub get-find : (es : List (ℕ × X)) (m : map.FinMap nat_cmp X) (q : ℕ) → IsSeenAs es m → map.get m q ≡ map.find nat_cmp q es
   get-find es m q seen = ap (λ (m : map.FinMap nat_cmp X). map.get m q) (sym seen.1) ∙ map.get-from_sorted nat_cmp es q (from_test _ seen.0)
@@ -34,7 +37,9 @@ module _ {X : Type 0} where
   pub length-keys : (limit : ℕ) (es : List (ℕ × X)) (m : map.FinMap nat_cmp X) → IsSeenAs es m → All (λ e. e.0 < limit) es
       → length es ≡ count_below (map.contains_key m) limit
   length-keys limit es m seen under =
-      length-count limit es seen.0 under ∙ count_below-ext (λ k. is_some (map.find nat_cmp k es)) (map.contains_key m) limit (λ k below. ap is_some (sym (get-find es m k seen)))
+      length-count limit es seen.0 under
+      ∙ count_below-ext (λ k. is_some (map.find nat_cmp k es)) (map.contains_key m) limit
+      (λ k below. ap is_some (sym (get-find es m k seen)))
 
   pub length_le_limit : (limit : ℕ) (es : List (ℕ × X)) (m : map.FinMap nat_cmp X) → IsSeenAs es m → All (λ e. e.0 < limit) es
       → length es ≤ limit
@@ -49,7 +54,8 @@ module _ {X : Type 0} where
   put_is : (es : List (ℕ × X)) (m : map.FinMap nat_cmp X) (k : ℕ) (v : X) → IsSeenAs es m
       → IsSeenAs (map.put nat_cmp k v es) (map.insert m k v)
   put_is es m k v seen =
-      seen_by_get (map.put nat_cmp k v es) (map.insert m k v) (to_test _ (is_sorted-put nat_cmp nat_cmp_total k v es (from_test _ seen.0))) (λ q.
+      seen_by_get (map.put nat_cmp k v es) (map.insert m k v)
+      (to_test _ (is_sorted-put nat_cmp nat_cmp_total k v es (from_test _ seen.0))) (λ q.
       find-put nat_cmp nat_cmp_total q k v es
       ∙ (ap (cond (eq_by_cmp nat_cmp q k) (Some v)) (sym (get-find es m q seen)) ∙ sym (map.get-insert nat_cmp_total m k v q)))
 
@@ -59,9 +65,11 @@ module _ {X : Type 0} where
   where_key_is : (es : List (ℕ × X)) (m : map.FinMap nat_cmp X) (k : ℕ) → IsSeenAs es m
       → IsSeenAs (where_key nat_cmp (is_other k) es) (map.remove m k)
   where_key_is es m k seen =
-      seen_by_get (where_key nat_cmp (is_other k) es) (map.remove m k) (to_test _ (is_sorted-where_key nat_cmp (is_other k) es (from_test _ seen.0))) (λ q.
+      seen_by_get (where_key nat_cmp (is_other k) es) (map.remove m k)
+      (to_test _ (is_sorted-where_key nat_cmp (is_other k) es (from_test _ seen.0))) (λ q.
       find-where_key nat_cmp (is_other k) q (λ x tied. ap (is_other k) (sym (map.nat_cmp-IsAntisymmetric q x tied))) es
-      ∙ (turned k q (map.find nat_cmp q es) ∙ (ap (cond (eq_by_cmp nat_cmp q k) None) (sym (get-find es m q seen)) ∙ sym (map.get-remove nat_cmp_total m k q))))
+      ∙ (turned k q (map.find nat_cmp q es)
+      ∙ (ap (cond (eq_by_cmp nat_cmp q k) None) (sym (get-find es m q seen)) ∙ sym (map.get-remove nat_cmp_total m k q))))
 
   -- with a new key at its place
   pub IsSeenAs-insert : (es edited : List (ℕ × X)) (m : map.FinMap nat_cmp X) (k at : ℕ) (v : X) → IsSeenAs es m

@@ -1,5 +1,6 @@
 -- Entries whose keys rise.
-use Rattle.std.proofs.Common.{◌≡◌, ℕ, zero, suc, ◌<◌, ◌≤◌, true, List, [], ◌∷◌, Some, None, length, get_or, unwrap_or, refl, sym, ◌∙◌, ap, inl, inr, arith}
+use Rattle.std.proofs.Common.{◌≡◌, ℕ, zero, suc, ◌<◌, ◌≤◌, true, List, [], ◌∷◌, Some, None, length, get_or, unwrap_or, refl, sym}
+use Rattle.std.proofs.Common.{◌∙◌, ap, inl, inr, arith}
 use Rattle.std.specs.Prelude.{◌≢◌, ◌==◌, Option, is_some, All, AllPairs, Contains}
 use Rattle.std.specs.List.{list_any}
 use Rattle.std.specs.Ordering.{nat_cmp}
@@ -74,7 +75,8 @@ module _ {X : Type 0} where
   differ : (e : ℕ × X) (es : List (ℕ × X)) → below_all nat_cmp e.0 es ≡ true → AllPairs (λ e other. e.0 ≢ other.0) es
       → (i j : ℕ) (d : ℕ × X) → i < j → j < length (e ∷ es) → (get_or (e ∷ es) i d).0 ≢ (get_or (e ∷ es) j d).0
   differ e es below rest i zero d lt within = absurd (omega (arith, lt))
-  differ e es below rest zero (suc j) d lt within = (let above = below_at e.0 es j d below (omega (arith, within)) in λ same. omega (arith, above, same))
+  differ e es below rest zero (suc j) d lt within =
+      (let above = below_at e.0 es j d below (omega (arith, within)) in λ same. omega (arith, above, same))
   differ e es below rest (suc i) (suc j) d lt within = rest i j d (omega (arith, lt)) (omega (arith, within))
 
   -- no two that stand there have one key
@@ -93,7 +95,8 @@ found_somewhere k (e ∷ es) = let rest = found_somewhere k es in grind (arith, 
 pub found_entry : {X : Type 0} (k : ℕ) (x : X) (es : List (ℕ × X)) → find nat_cmp k es ≡ Some x → Contains es (k, x)
 found_entry k x [] found = (let d : None ≡ Some x = found in absurd (cc))
 found_entry {X} k x (e ∷ es) found = elim (same_or_other k e.0) [
-  | inl same ↦ (let word : Some e.1 ≡ Some x = sym (here e es same) ∙ found in let value : e.1 ≡ x = ap (λ (o : Option X). unwrap_or o x) word in (0, omega arith, λ i. (sym same i, value i)))
+  | inl same ↦ (let word : Some e.1 ≡ Some x = sym (here e es same) ∙ found in
+      let value : e.1 ≡ x = ap (λ (o : Option X). unwrap_or o x) word in (0, omega arith, λ i. (sym same i, value i)))
   | inr other ↦ (let rest = found_entry k x es (sym (later e es other) ∙ found) in (suc rest.0, omega (arith, rest.1), rest.2))
 ]
   where

@@ -1,6 +1,7 @@
 -- The place of a key among entries whose keys rise, and what a look, an insertion and a removal
 -- there do.
-use Rattle.std.proofs.Common.{◌≡◌, ℕ, suc, ◌+◌, ◌<◌, ◌≤◌, Bool, true, false, cond, not, List, [], ◌∷◌, Option, Some, None, length, get_or, refl, sym, ap, ◌∙◌, true≢false, arith}
+use Rattle.std.proofs.Common.{◌≡◌, ℕ, suc, ◌+◌, ◌<◌, ◌≤◌, Bool, true, false, cond, not, List, [], ◌∷◌, Option, Some, None, length}
+use Rattle.std.proofs.Common.{get_or, refl, sym, ap, ◌∙◌, true≢false, arith}
 use Rattle.std.specs.Prelude.{nat_le, nat_lt, is_some, slice_get, ◌==◌}
 use Rattle.std.specs.Bool.{then_some}
 use Rattle.std.specs.Option.{option_and_then}
@@ -55,7 +56,9 @@ module _ {X : Type 0} where
   find-place k [] sorted = refl
   find-place k (e ∷ es) sorted =
       let parts = sorted_first e es sorted in
-      elim (nat_lt e.0 k) as (λ b. nat_lt e.0 k ≡ b → find nat_cmp k (e ∷ es) ≡ option_and_then (value_if k) (slice_get (e ∷ es) (cond b (1 + place k es) 0))) [
+      elim (nat_lt e.0 k) as
+      (λ b. nat_lt e.0 k ≡ b
+      → find nat_cmp k (e ∷ es) ≡ option_and_then (value_if k) (slice_get (e ∷ es) (cond b (1 + place k es) 0))) [
         | true ↦ λ is. rw (passed k e (ltb-true e.0 k is), one_more (place k es)) (find-place k es parts.1)
         | false ↦ λ is. at_front k e es (ltb-false e.0 k is) parts.0
       ] refl
@@ -102,7 +105,8 @@ module _ {X : Type 0} where
   where_key-remove k [] sorted present = refl
   where_key-remove k (e ∷ es) sorted present =
       let parts = sorted_first e es sorted in
-      elim (nat_lt e.0 k) as (λ b. nat_lt e.0 k ≡ b → where_key nat_cmp (is_other k) (e ∷ es) ≡ remove (e ∷ es) (cond b (1 + place k es) 0)) [
+      elim (nat_lt e.0 k) as
+      (λ b. nat_lt e.0 k ≡ b → where_key nat_cmp (is_other k) (e ∷ es) ≡ remove (e ∷ es) (cond b (1 + place k es) 0)) [
         | true ↦ λ is.
             let apart = passed k e (ltb-true e.0 k is) in
             rw (one_more (place k es), apart) (ap (λ xs. e ∷ xs) (where_key-remove k es parts.1 (rw apart at present)))
@@ -110,7 +114,12 @@ module _ {X : Type 0} where
       ] refl
 
   value_there : (k : ℕ) (e : ℕ × X) → is_some (value_if k e) ≡ true → value_if k e ≡ Some e.1
-  value_there k e = elim (e.0 == k) as (λ b. is_some (then_some b e.1) ≡ true → then_some b e.1 ≡ Some e.1) [ true ↦ λ is. refl | false ↦ λ is. absurd (true≢false (sym is)) ]
+  value_there k e =
+      elim (e.0 == k) as (λ b. is_some (then_some b e.1) ≡ true → then_some b e.1 ≡ Some e.1) [
+        | true ↦
+            λ is. refl
+        | false ↦ λ is. absurd (true≢false (sym is))
+      ]
 
   -- a key whose place is past the end isn't there
   pub find_past : (k : ℕ) (es : List (ℕ × X)) → is_sorted nat_cmp es ≡ true → length es ≤ place k es → find nat_cmp k es ≡ None

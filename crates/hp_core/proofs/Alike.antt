@@ -22,7 +22,9 @@ events_in (e ∷ es) (o ∷ os) l = ap (λ (xs : List Event). e ∷ xs) (events_
 
 -- the outcomes too
 same_told : (es : List Event) (os ps : List Outcome) → length os ≡ length es → length ps ≡ length es → zip es ps ≡ zip es os → ps ≡ os
-same_told es os ps l m e = sym (seconds-zip es ps m) ∙ (ap (λ (xs : List (Event × Outcome)). map (λ (p : Event × Outcome). p.1) xs) e ∙ seconds-zip es os l)
+same_told es os ps l m e =
+    sym (seconds-zip es ps m)
+    ∙ (ap (λ (xs : List (Event × Outcome)). map (λ (p : Event × Outcome). p.1) xs) e ∙ seconds-zip es os l)
 
 -- what the machine says of two runs from its opening
 abbrev MachineSays : Type 0

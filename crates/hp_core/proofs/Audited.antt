@@ -1,6 +1,7 @@
 -- Nothing is wrong with a picture of a core.
 use Rattle.std.proofs.Common.{◌≡◌, ℕ, zero, suc, ◌+◌, ◌<◌, ◌≤◌, length, get_or, refl, sym, ◌∙◌, ap, subst, arith, inl, inr}
-use Rattle.std.specs.Prelude.{Bool, true, false, not, ◌&&◌, ◌==◌, nat_lt, cond, Option, Some, None, is_some, IsSomeAnd, IfSome, All, Contains, slice_get, sum_by, count_by, ℤ, pos, ◌+ℤ◌, ◌-ℤ◌}
+use Rattle.std.specs.Prelude.{Bool, true, false, not, ◌&&◌, ◌==◌, nat_lt, cond, Option, Some, None, is_some, IsSomeAnd, IfSome}
+use Rattle.std.specs.Prelude.{All, Contains, slice_get, sum_by, count_by, ℤ, pos, ◌+ℤ◌, ◌-ℤ◌}
 use Rattle.std.specs.Option.{unwrap_or}
 use Rattle.std.specs.FinMap as finite
 use Rattle.std.specs.Ordering.{nat_cmp}
@@ -31,7 +32,8 @@ use Rattle.hp_laws.proofs.Moves.{Placing, same_place, other_hand, other_page}
 use Rattle.hp_laws.proofs.Runs.{always}
 use Rattle.hp_audit.specs.declared.picture.FilePicture.{FilePicture}
 use Rattle.hp_audit.specs.declared.picture.Picture.{Picture}
-use Rattle.hp_audit.specs.Findings.{IsFileShaped, IsShaped, Agrees, IsOnePlace, IsBelow, IsCounted, IsRight, times_in, pages_in, place_count, is_vacant, vacant_of, vacant_in, has_page}
+use Rattle.hp_audit.specs.Findings.{IsFileShaped, IsShaped, Agrees, IsOnePlace, IsBelow, IsCounted, IsRight, times_in, pages_in}
+use Rattle.hp_audit.specs.Findings.{place_count, is_vacant, vacant_of, vacant_in, has_page}
 use Rattle.hp_audit.proofs.Counts.{counts as passed, counted, counted_in}
 use Rattle.hp_fault.specs.View.{no_file, pages_of}
 use Rattle.hp_core.specs.State.{CoreState, as_state}
@@ -53,7 +55,10 @@ pages_told s f file is = λ k d within. sym (is.pages (get_or file.pages.items k
 
 file_shaped : (s : CoreState) (f : ℕ) (file : FilePicture) → IsFilePicture (as_state s) f file → IsFileShaped file
 file_shaped s f file is = record {
-  regions = All-weaker (λ (region : ℕ × ℕ). (region.0 < region.1) × (region.1 ≤ LIMIT)) (λ (region : ℕ × ℕ). (region.0 ≤ region.1) × (region.1 ≤ LIMIT)) (λ region h. (omega (arith, h.0), h.1)) file.regions.items is.ranges;
+  regions =
+      All-weaker (λ (region : ℕ × ℕ). (region.0 < region.1) × (region.1 ≤ LIMIT))
+      (λ (region : ℕ × ℕ). (region.0 ≤ region.1) × (region.1 ≤ LIMIT)) (λ region h. (omega (arith, h.0), h.1))
+      file.regions.items is.ranges;
   pages = is.in_file;
   once = keys_differ file.pages.items is.in_order;
 }
@@ -69,7 +74,8 @@ unfolding pages_of
 file_there s f i x has = elim (nat_lt f (length s.parts.files)) as (λ b. nat_lt f (length s.parts.files) ≡ b → f < length s.parts.files) [
   | true ↦ λ e. ltb-true f (length s.parts.files) e
   | false ↦ λ e.
-      let none : get_or s.parts.files f no_file ≡ no_file = get_or-eq_default s.parts.files no_file (ltb-false f (length s.parts.files) e) in
+      let none : get_or s.parts.files f no_file ≡ no_file =
+      get_or-eq_default s.parts.files no_file (ltb-false f (length s.parts.files) e) in
       let bare : (as_state s).pages f i ≡ None = ap (λ file. finite.get file.cache i) none ∙ finite.get-empty nat_cmp i in
       let d : ◌≡◌ {A = Option ℕ} None (Some x) = sym bare ∙ has in absurd (cc)
 ] refl
@@ -130,7 +136,10 @@ page_told s e h is =
 shaped : (s : CoreState) (p : Picture) → IsSound s → IsPicture s p → IsShaped p
 shaped s p h is = record {
   files = each_file s p IsFileShaped is (λ f file of. file_shaped s f file of);
-  tables = All-weaker (IsTranslation (as_state s)) (λ (entry : ℕ × ℕ × ℕ × ℕ). (entry.1 < length p.files.items) × (entry.2 < LIMIT)) (λ e of. within e of) p.tables.items (told s p is);
+  tables =
+      All-weaker (IsTranslation (as_state s))
+      (λ (entry : ℕ × ℕ × ℕ × ℕ). (entry.1 < length p.files.items) × (entry.2 < LIMIT)) (λ e of. within e of)
+      p.tables.items (told s p is);
 }
   where
     within : (e : ℕ × ℕ × ℕ × ℕ) → IsTranslation (as_state s) e → (e.1 < length p.files.items) × (e.2 < LIMIT)
@@ -178,14 +187,19 @@ not_some (Some x) = refl
 vacant_same : (s : CoreState) (f : ℕ) (file : FilePicture) → IsFilePicture (as_state s) f file
     → vacant_of file ≡ vacant LIMIT ((as_state s).reserved f) ((as_state s).pages f)
 unfolding vacant_of vacant
-vacant_same s f file is = count_below-ext (is_vacant file) (λ i. (as_state s).reserved f i && is_none ((as_state s).pages f i)) LIMIT (λ i low.
-    let page : has_page file.pages.items i ≡ is_some ((as_state s).pages f i) = found_somewhere i file.pages.items ∙ ap (λ (o : Option ℕ). is_some o) (is.pages i) in
-    ap (λ (b : Bool). b && not (has_page file.pages.items i)) (is.reserved i) ∙ ap (λ (b : Bool). (as_state s).reserved f i && b) (ap not page ∙ not_some ((as_state s).pages f i)))
+vacant_same s f file is =
+    count_below-ext (is_vacant file) (λ i. (as_state s).reserved f i && is_none ((as_state s).pages f i)) LIMIT (λ i low.
+    let page : has_page file.pages.items i ≡ is_some ((as_state s).pages f i) =
+    found_somewhere i file.pages.items ∙ ap (λ (o : Option ℕ). is_some o) (is.pages i) in
+    ap (λ (b : Bool). b && not (has_page file.pages.items i)) (is.reserved i)
+    ∙ ap (λ (b : Bool). (as_state s).reserved f i && b) (ap not page ∙ not_some ((as_state s).pages f i)))
 
 vacant_all : (s : CoreState) (p : Picture) → IsPicture s p → vacant_in p ≡ head.vacant_in (as_state s)
 vacant_all s p is =
     let of_files : ℕ → ℕ = λ f. vacant LIMIT ((as_state s).reserved f) ((as_state s).pages f) in
-    sum_by-total vacant_of of_files p.files.items (λ f within d. vacant_same s f (get_or p.files.items f d) (is.files f (omega (arith, is.as_many, within)) d)) ∙ ap (λ (n : ℕ). total n of_files) is.as_many
+    sum_by-total vacant_of of_files p.files.items
+    (λ f within d. vacant_same s f (get_or p.files.items f d) (is.files f (omega (arith, is.as_many, within)) d))
+    ∙ ap (λ (n : ℕ). total n of_files) is.as_many
 
 signed : (r v less more : ℕ) → r + less ≡ v + more → pos r ≡ pos v +ℤ (pos more -ℤ pos less)
 signed r v less more h = grind (arith, ints, h)
@@ -195,7 +209,11 @@ unfolding owed_of resv_of free_of
 counts s p h is =
     let top = head_of s h in
     record {
-      exact = ap (λ (n : ℕ). pos n) is.resv ∙ (signed (as_state s).resv (vacant_in p) (head.all_less (as_state s)) (head.all_more (as_state s)) (top.count ∙ ap (λ (n : ℕ). n + head.all_more (as_state s)) (sym (vacant_all s p is))) ∙ ap (λ (z : ℤ). pos (vacant_in p) +ℤ z) (sym is.owed));
+      exact =
+          ap (λ (n : ℕ). pos n) is.resv
+          ∙ (signed (as_state s).resv (vacant_in p) (head.all_less (as_state s)) (head.all_more (as_state s))
+          (top.count ∙ ap (λ (n : ℕ). n + head.all_more (as_state s)) (sym (vacant_all s p is)))
+          ∙ ap (λ (z : ℤ). pos (vacant_in p) +ℤ z) (sym is.owed));
       enough = omega (arith, is.resv, top.enough, is.frees);
     }
 
@@ -204,7 +222,9 @@ abbrev IsPlaced : CoreState → ℕ → Place → Type 0
 IsPlaced s x q = IsAt (as_state s).frame (λ t. hand ((as_state s).calls t)) (as_state s).pages x q
 
 alone : (s : CoreState) (x : ℕ) (q r : Place) → IsSound s → IsPlaced s x q → IsPlaced s x r → q ≡ r
-alone s x q r h a b = same_place (as_state s).frames (as_state s).frame (λ t. hand ((as_state s).calls t)) (as_state s).pages (head_of s h).place x q r a b
+alone s x q r h a b =
+    same_place (as_state s).frames (as_state s).frame (λ t. hand ((as_state s).calls t)) (as_state s).pages
+    (head_of s h).place x q r a b
 
 bit_one : (b : Bool) → bit b ≤ 1
 bit_one true = omega arith
@@ -225,7 +245,8 @@ free_once s p x is = omega (arith, is.free x, bit_one (is_free ((as_state s).fra
 -- one that is told in a hand is in some call's
 hand_at : (s : CoreState) (p : Picture) (x : ℕ) → IsPicture s p → 0 < times_in p.hands.items x → (t : ℕ) × IsPlaced s x (Hand t)
 hand_at s p x is some =
-    let at = total_somewhere ((as_state s).geometry.tasks + 1) (λ t. bit (is_that x (hand ((as_state s).calls t)))) (omega (arith, some, is.hands x)) in
+    let at = total_somewhere ((as_state s).geometry.tasks + 1) (λ t. bit (is_that x (hand ((as_state s).calls t))))
+    (omega (arith, some, is.hands x)) in
     (at.0, that_is x (hand ((as_state s).calls at.0)) (is_one (is_that x (hand ((as_state s).calls at.0))) at.2))
 
 -- each frame has its place, as the machine's invariant says it
@@ -235,30 +256,43 @@ placing s h = (always (as_state s) (reached_of s h)).inv.place
 hand_once : (s : CoreState) (p : Picture) (x : ℕ) → IsSound s → IsPicture s p → times_in p.hands.items x ≤ 1
 hand_once s p x h is =
     let holds : ℕ → Bool = λ t. is_that x (hand ((as_state s).calls t)) in
-    let few = at_most_one ((as_state s).geometry.tasks + 1) holds true (λ t e. refl) (λ t u a b. other_hand (as_state s).frames (as_state s).frame (λ v. hand ((as_state s).calls v)) (as_state s).pages u t x (placing s h) (that_is x (hand ((as_state s).calls u)) b) (that_is x (hand ((as_state s).calls t)) a)) in
+    let few = at_most_one ((as_state s).geometry.tasks + 1) holds true (λ t e. refl)
+    (λ t u a b. other_hand (as_state s).frames (as_state s).frame (λ v. hand ((as_state s).calls v))
+    (as_state s).pages u t x (placing s h) (that_is x (hand ((as_state s).calls u)) b)
+    (that_is x (hand ((as_state s).calls t)) a)) in
     omega (arith, few, is.hands x)
 
 -- two pages in one frame are one
 one_page : (s : CoreState) (x f i k j : ℕ) → IsSound s → (as_state s).pages f i ≡ Some x → (as_state s).pages k j ≡ Some x
     → (f ≡ k) × (i ≡ j)
-one_page s x f i k j h a b = other_page (as_state s).frames (as_state s).frame (λ t. hand ((as_state s).calls t)) (as_state s).pages k j f i x (placing s h) b a
+one_page s x f i k j h a b =
+    other_page (as_state s).frames (as_state s).frame (λ t. hand ((as_state s).calls t)) (as_state s).pages k j f i x
+    (placing s h) b a
 
 -- a frame that a file's picture has is the file's page
 page_of : (s : CoreState) (f x : ℕ) (file : FilePicture) → IsFilePicture (as_state s) f file → 0 < pages_in file.pages.items x
     → (i : ℕ) × IsPlaced s x (Page f i)
-page_of s f x file is some = counted (λ (page : ℕ × ℕ). page.1) (λ y. (i : ℕ) × ((as_state s).pages f i ≡ Some y)) x file.pages.items (λ k d within. ((get_or file.pages.items k d).0, pages_told s f file is k d within)) some
+page_of s f x file is some =
+    counted (λ (page : ℕ × ℕ). page.1) (λ y. (i : ℕ) × ((as_state s).pages f i ≡ Some y)) x file.pages.items
+    (λ k d within. ((get_or file.pages.items k d).0, pages_told s f file is k d within)) some
 
 page_at : (s : CoreState) (p : Picture) (x : ℕ) → IsPicture s p → 0 < sum_by (λ file. pages_in file.pages.items x) p.files.items
     → (place : ℕ × ℕ) × IsPlaced s x (Page place.0 place.1)
 page_at s p x is some =
     let P : ℕ → Type 0 = λ y. (place : ℕ × ℕ) × ((as_state s).pages place.0 place.1 ≡ Some y) in
-    counted_in P x p.files.items (each_file s p (λ file. All (λ page. P page.1) file.pages.items) is (λ f file of k d within. ((f, (get_or file.pages.items k d).0), pages_told s f file of k d within))) some
+    counted_in P x p.files.items
+    (each_file s p (λ file. All (λ page. P page.1) file.pages.items) is
+    (λ f file of k d within. ((f, (get_or file.pages.items k d).0), pages_told s f file of k d within))) some
 
 -- a file has a frame at one index
 once_in_file : (s : CoreState) (f x : ℕ) (file : FilePicture) → IsSound s → IsFilePicture (as_state s) f file
     → pages_in file.pages.items x ≤ 1
-once_in_file s f x file h is = sum_at_most_one (λ (page : ℕ × ℕ). cond (page.1 == x) 1 0) file.pages.items (λ k d within. one ((get_or file.pages.items k d).1 == x)) (λ i j d lt within a b.
-    keys_differ file.pages.items is.in_order i j d lt within (one_page s x f (get_or file.pages.items i d).0 f (get_or file.pages.items j d).0 h (at i d (omega (arith, lt, within)) a) (at j d within b)).1)
+once_in_file s f x file h is =
+    sum_at_most_one (λ (page : ℕ × ℕ). cond (page.1 == x) 1 0) file.pages.items
+    (λ k d within. one ((get_or file.pages.items k d).1 == x)) (λ i j d lt within a b.
+    keys_differ file.pages.items is.in_order i j d lt within
+    (one_page s x f (get_or file.pages.items i d).0 f (get_or file.pages.items j d).0 h
+    (at i d (omega (arith, lt, within)) a) (at j d within b)).1)
   where
     one : (b : Bool) → cond {A = ℕ} b 1 0 ≤ 1
     one true = omega arith
@@ -266,11 +300,15 @@ once_in_file s f x file h is = sum_at_most_one (λ (page : ℕ × ℕ). cond (pa
 
     at : (k : ℕ) (d : ℕ × ℕ) → k < length file.pages.items → 0 < cond {A = ℕ} ((get_or file.pages.items k d).1 == x) 1 0
         → IsPlaced s x (Page f (get_or file.pages.items k d).0)
-    at k d within some = pages_told s f file is k d within ∙ ap (λ (y : ℕ). Some y) (eqb-true (get_or file.pages.items k d).1 x (passed ((get_or file.pages.items k d).1 == x) some))
+    at k d within some =
+        pages_told s f file is k d within
+        ∙ ap (λ (y : ℕ). Some y) (eqb-true (get_or file.pages.items k d).1 x (passed ((get_or file.pages.items k d).1 == x) some))
 
 page_once : (s : CoreState) (p : Picture) (x : ℕ) → IsSound s → IsPicture s p
     → sum_by (λ file. pages_in file.pages.items x) p.files.items ≤ 1
-page_once s p x h is = sum_at_most_one (λ (file : FilePicture). pages_in file.pages.items x) p.files.items (each_file s p (λ file. pages_in file.pages.items x ≤ 1) is (λ f file of. once_in_file s f x file h of)) (λ i j d lt within a b.
+page_once s p x h is =
+    sum_at_most_one (λ (file : FilePicture). pages_in file.pages.items x) p.files.items
+    (each_file s p (λ file. pages_in file.pages.items x ≤ 1) is (λ f file of. once_in_file s f x file h of)) (λ i j d lt within a b.
     let here = page_of s i x (get_or p.files.items i d) (is.files i (omega (arith, is.as_many, lt, within)) d) a in
     let there = page_of s j x (get_or p.files.items j d) (is.files j (omega (arith, is.as_many, within)) d) b in
     let same : i ≡ j = (one_page s x i here.0 j there.0 h here.1 there.1).0 in
@@ -287,10 +325,13 @@ few_places (suc a) (suc b) c la lb lc ab ac bc = absurd (ab (omega arith) (omega
 
 one_place : (s : CoreState) (p : Picture) → IsSound s → IsPicture s p → IsOnePlace p
 unfolding place_count
-one_place s p h is = λ x. few_places (times_in p.free.items x) (times_in p.hands.items x) (sum_by (λ file. pages_in file.pages.items x) p.files.items) (free_once s p x is) (hand_once s p x h is) (page_once s p x h is)
+one_place s p h is =
+    λ x. few_places (times_in p.free.items x) (times_in p.hands.items x)
+    (sum_by (λ file. pages_in file.pages.items x) p.files.items) (free_once s p x is) (hand_once s p x h is) (page_once s p x h is)
     (λ a b. (let there = hand_at s p x is b in not_hand (alone s x Free (Hand there.0) h (free_at s p x is a) there.1)))
     (λ a c. (let there = page_at s p x is c in not_page (alone s x Free (Page there.0.0 there.0.1) h (free_at s p x is a) there.1)))
-    (λ b c. (let here = hand_at s p x is b in let there = page_at s p x is c in apart (alone s x (Hand here.0) (Page there.0.0 there.0.1) h here.1 there.1)))
+    (λ b c. (let here = hand_at s p x is b in let there = page_at s p x is c in
+    apart (alone s x (Hand here.0) (Page there.0.0 there.0.1) h here.1 there.1)))
   where
     not_hand : {t : ℕ} → Free ≡ Hand t → ⊥
     not_hand e = cc

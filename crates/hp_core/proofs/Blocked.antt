@@ -59,11 +59,14 @@ told_by_turn inflight here Q (Slot f i) (Blocked p u) h = (h.1, ap (λ again. So
 told_by_turn inflight here Q (Slot f i) (Ended a) h = tt
 
 -- a blocked turn is told as a call that stands again where it stood
-pub finished_blocked : {P : Type 0} (inflight : P → Call) (here : P) (Q : Type 0) (w : Want) (stepped : Result (Turn P) (Stopped P)) (done : Done)
+pub finished_blocked : {P : Type 0} (inflight : P → Call) (here : P) (Q : Type 0) (w : Want)
+    (stepped : Result (Turn P) (Stopped P)) (done : Done)
     → done ≡ finished inflight stepped
     → IfOk stepped (λ turn. IfWanting w (IfBlocked turn (λ again. (again ≡ here) × Q)))
     → IfOk done (λ d. IfToldBlocked d.0 (IfWanting w (Q × (d.1 ≡ Some (inflight here)))))
-finished_blocked {P} inflight here Q w stepped done e h = subst (λ (r : Done). IfOk r (λ d. IfToldBlocked d.0 (IfWanting w (Q × (d.1 ≡ Some (inflight here)))))) (sym e) (by_result stepped h)
+finished_blocked {P} inflight here Q w stepped done e h =
+    subst (λ (r : Done). IfOk r (λ d. IfToldBlocked d.0 (IfWanting w (Q × (d.1 ≡ Some (inflight here)))))) (sym e)
+    (by_result stepped h)
   where
     by_result : (stepped : Result (Turn P) (Stopped P)) → IfOk stepped (λ turn. IfWanting w (IfBlocked turn (λ again. (again ≡ here) × Q)))
         → IfOk (finished inflight stepped) (λ d. IfToldBlocked d.0 (IfWanting w (Q × (d.1 ≡ Some (inflight here)))))
@@ -104,19 +107,22 @@ wants_of s u t (inr h) = inr (h.0, h.1)
 
 not_refused : {P X : Type 0} (inflight : P → Call) (turn : Turn P) (why : Refusal) (o : Outcome) → o ≡ outcome.Refused why
     → o ≡ rows.told inflight turn → X
-not_refused inflight (Moved p) why o e d = (let z : outcome.Refused why ≡ outcome.Moved (rows.word_of (inflight p)) = sym e ∙ d in absurd (cc))
+not_refused inflight (Moved p) why o e d =
+    (let z : outcome.Refused why ≡ outcome.Moved (rows.word_of (inflight p)) = sym e ∙ d in absurd (cc))
 not_refused inflight (Blocked p u) why o e d = (let z : outcome.Refused why ≡ outcome.Blocked u = sym e ∙ d in absurd (cc))
 not_refused inflight (Ended a) why o e d = (let z : outcome.Refused why ≡ outcome.Ended a = sym e ∙ d in absurd (cc))
 
 -- a step of a call isn't refused
-call_not_refused : {X : Type 0} (s : Pool) (t : ℕ) (killed grant : Bool) (c : Call) (o : Outcome) (new : Pool) (next : Option Call) (why : Refusal)
+call_not_refused : {X : Type 0} (s : Pool) (t : ℕ) (killed grant : Bool) (c : Call) (o : Outcome) (new : Pool)
+    (next : Option Call) (why : Refusal)
     → rows.CallRow s t killed grant c o new next → o ≡ outcome.Refused why → X
 unfolding rows.CallRow
 call_not_refused s t killed grant (call.Touch p) o new next why (turn, row, tells, leaves) e = not_refused call.Touch turn why o e tells
 call_not_refused s t killed grant (call.Map p) o new next why (turn, row, tells, leaves) e = not_refused call.Map turn why o e tells
 call_not_refused s t killed grant (call.Alloc p) o new next why (turn, row, tells, leaves) e = not_refused call.Alloc turn why o e tells
 call_not_refused s t killed grant (call.Punch p) o new next why (turn, row, tells, leaves) e = not_refused call.Punch turn why o e tells
-call_not_refused s t killed grant (call.Truncate p) o new next why (turn, row, tells, leaves) e = not_refused call.Truncate turn why o e tells
+call_not_refused s t killed grant (call.Truncate p) o new next why (turn, row, tells, leaves) e =
+    not_refused call.Truncate turn why o e tells
 call_not_refused s t killed grant (call.Unmap p) o new next why (turn, row, tells, leaves) e = not_refused call.Unmap turn why o e tells
 call_not_refused s t killed grant (call.Exit p) o new next why (turn, row, tells, leaves) e = not_refused call.Exit turn why o e tells
 
@@ -138,7 +144,8 @@ refused_same p after seats new (Begin t op) o why row e = (
       (λ _ r. by_test (is_killed (seat_at seats t).life && not (rows.is_exit op)) r (λ _ r. r.1) (λ _ r. not_begun o why e r.0))
       (λ c _ r. r.1)),
 )
-refused_same p after seats new (Kill t) o why row e = (row.1, by_test (is_alive (seat_at seats t).life) row.0 (λ _ r. not_marked o why e r.0) (λ _ r. r.1))
+refused_same p after seats new (Kill t) o why row e =
+    (row.1, by_test (is_alive (seat_at seats t).life) row.0 (λ _ r. not_marked o why e r.0) (λ _ r. r.1))
 refused_same p after seats new (Step t grant) o why row e = by_test (is_dead (seat_at seats t).life) row
     (λ _ r. (r.1, r.0.1))
     (λ _ r. by_option (seat_at seats t).call r
@@ -153,7 +160,8 @@ unfolding calls_of
 blocked_same s (Begin t op) u after new h fits row stays = absurd stays
 blocked_same s (Kill t) u after new h fits row stays = absurd stays
 blocked_same s (Step t grant) u after new h fits row stays =
-    let held = blocked_by_holder (as_state s) t grant u (state_with after new) (reached_of s h) (event_row s.parts after s.seats new (Step t grant) (outcome.Blocked u) fits row) in
+    let held = blocked_by_holder (as_state s) t grant u (state_with after new) (reached_of s h)
+    (event_row s.parts after s.seats new (Step t grant) (outcome.Blocked u) fits row) in
     wanting (seat_at s.seats t).call ((after ≡ s.parts) × (new ≡ s.seats)) (wants_of (as_state s) u t held.2) stays
 
 same_fields : (s : CoreState) (after : PartsState) (new : List Seat) → (after ≡ s.parts) × (new ≡ s.seats) → with_fields s after new ≡ s
@@ -170,8 +178,10 @@ idle_result s event (Ok outcome.Begun) after new h fits row stays = λ idle. abs
 idle_result s event (Ok (outcome.Moved p)) after new h fits row stays = λ idle. absurd idle
 idle_result s event (Ok (outcome.Ended a)) after new h fits row stays = λ idle. absurd idle
 idle_result s event (Ok outcome.Marked) after new h fits row stays = λ idle. absurd idle
-idle_result s event (Ok (outcome.Blocked u)) after new h fits row stays = λ _. same_fields s after new (blocked_same s event u after new h fits row stays)
-idle_result s event (Ok (outcome.Refused why)) after new h fits row stays = λ _. same_fields s after new (refused_same s.parts after s.seats new event (outcome.Refused why) why row refl)
+idle_result s event (Ok (outcome.Blocked u)) after new h fits row stays =
+    λ _. same_fields s after new (blocked_same s event u after new h fits row stays)
+idle_result s event (Ok (outcome.Refused why)) after new h fits row stays =
+    λ _. same_fields s after new (refused_same s.parts after s.seats new event (outcome.Refused why) why row refl)
 
 told_map : {P Q : Type 0} (o : Outcome) → (P → Q) → IfToldBlocked o P → IfToldBlocked o Q
 told_map outcome.Begun f h = tt
@@ -192,7 +202,9 @@ pub seat_same : (o : Outcome) (old new : Seat) (c : Call) (next : Option Call) (
     → IfToldBlocked o (IfWanting (standing c).wants (Q × (next ≡ Some c)))
     → IfToldBlocked o (IfSome old.call (λ call. IfWanting (standing call).wants (Q × (new ≡ old))))
 seat_same o old new c next exits Q was life there =
-    told_map o (λ h. subst (λ (call : Option Call). IfSome call (λ call. IfWanting (standing call).wants (Q × (new ≡ old)))) (sym was) (want_map (standing c).wants (λ q. (q.0, same q.1)) h))
+    told_map o (λ h. subst
+    (λ (call : Option Call). IfSome call (λ call. IfWanting (standing call).wants (Q × (new ≡ old)))) (sym was)
+    (want_map (standing c).wants (λ q. (q.0, same q.1)) h))
   where
     lives : (b : Bool) → (if b && false then Dead else old.life) ≡ old.life
     lives true = refl

@@ -1,5 +1,6 @@
 -- The steps of the loops that copy a core's lists.
-use Rattle.std.proofs.Common.{◌≡◌, ℕ, suc, ◌+◌, ◌-◌, ◌<◌, ◌≤◌, List, [], ◌∷◌, ◌++◌, length, get_or, take, refl, sym, ◌∙◌, ap, subst, arith, add-one, inl, inr}
+use Rattle.std.proofs.Common.{◌≡◌, ℕ, suc, ◌+◌, ◌-◌, ◌<◌, ◌≤◌, List, [], ◌∷◌, ◌++◌, length, get_or, take, refl, sym, ◌∙◌, ap}
+use Rattle.std.proofs.Common.{subst, arith, add-one, inl, inr}
 use Rattle.std.specs.Prelude.{Bool, true, false, cond, Option, Some, None, ◌==◌, ◌&&◌, ◌↔◌, nat_lt, IsTrue, count_by, slice_get, map}
 use Rattle.std.proofs.lemmas.Bool.{cases_lt, ne_eqb}
 use Rattle.std.proofs.lemmas.Bool.Decides.{nat_tests}
@@ -40,13 +41,16 @@ free_test xs x b h = by_state (slice_get xs x) refl b h
     by_state : (o : Option FrameState) → slice_get xs x ≡ o → (c : Bool) → (IsTrue c ↔ (slice_get xs x ≡ Some Free))
         → is_free (frame_at xs x) ≡ c
     by_state (Some s) e c k = ap (λ (y : FrameState). is_free y) (frame_at_is xs x s e) ∙ is_kept s c e k
-    by_state None e c k = ap (λ (y : FrameState). is_free y) (frame_at_none xs x e) ∙ not_free c (λ t. (let d : None ≡ Some Free = sym e ∙ k.0 t in absurd (cc)))
+    by_state None e c k =
+        ap (λ (y : FrameState). is_free y) (frame_at_none xs x e)
+        ∙ not_free c (λ t. (let d : None ≡ Some Free = sym e ∙ k.0 t in absurd (cc)))
 
 -- one frame more is looked at
 one_more : (fr : ℕ → Bool) (n x : ℕ) → bit (nat_lt x n && fr x) + cond ((n == x) && fr n) 1 0 ≡ bit (nat_lt x (n + 1) && fr x)
 one_more fr n x = elim (same_or_other x n) [
   | inl e ↦ subst (λ (y : ℕ). bit (nat_lt y n && fr y) + cond ((n == y) && fr n) 1 0 ≡ bit (nat_lt y (n + 1) && fr y)) (sym e) (here (fr n))
-  | inr d ↦ (let a : (n == x) ≡ false = ne_eqb n x (λ e. d (sym e)) in let b : nat_lt x (n + 1) ≡ nat_lt x n = grind (arith, nat_tests, d) in rw (a, b) (omega arith))
+  | inr d ↦ (let a : (n == x) ≡ false = ne_eqb n x (λ e. d (sym e)) in
+      let b : nat_lt x (n + 1) ≡ nat_lt x n = grind (arith, nat_tests, d) in rw (a, b) (omega arith))
 ]
   where
     here : (b : Bool) → bit (nat_lt n n && b) + cond ((n == n) && b) 1 0 ≡ bit (nat_lt n (n + 1) && b)
@@ -66,8 +70,10 @@ pub free_more : (fr : ℕ → Bool) (n : ℕ) (xs ys : List ℕ) → fr n ≡ tr
     → count_by (λ frame. frame == x) ys ≡ bit (nat_lt x (n + 1) && fr x)
 free_more fr n xs ys free is before x =
     let last : count_by {X = ℕ} (λ frame. frame == x) (n ∷ []) ≡ 0 + cond (n == x) 1 0 = refl in
-    let both : count_by (λ frame. frame == x) (xs ++ n ∷ []) ≡ count_by (λ frame. frame == x) xs + count_by (λ frame. frame == x) (n ∷ []) = sum_by-append (λ (frame : ℕ). cond (frame == x) 1 0) xs (n ∷ []) in
-    let added : count_by (λ frame. frame == x) ys ≡ count_by (λ frame. frame == x) (xs ++ n ∷ []) = ap (λ (zs : List ℕ). count_by (λ frame. frame == x) zs) is in
+    let both : count_by (λ frame. frame == x) (xs ++ n ∷ []) ≡ count_by (λ frame. frame == x) xs + count_by
+    (λ frame. frame == x) (n ∷ []) = sum_by-append (λ (frame : ℕ). cond (frame == x) 1 0) xs (n ∷ []) in
+    let added : count_by (λ frame. frame == x) ys ≡ count_by (λ frame. frame == x) (xs ++ n ∷ []) =
+    ap (λ (zs : List ℕ). count_by (λ frame. frame == x) zs) is in
     let same : cond ((n == x) && fr n) 1 0 ≡ cond {A = ℕ} (n == x) 1 0 = rw free (onto (n == x)) in
     let next = one_more fr n x in
     let all = before x in
@@ -82,7 +88,8 @@ pub free_same : (fr : ℕ → Bool) (n : ℕ) (xs ys : List ℕ) → fr n ≡ fa
     → ((x : ℕ) → count_by (λ frame. frame == x) xs ≡ bit (nat_lt x n && fr x)) → (x : ℕ)
     → count_by (λ frame. frame == x) ys ≡ bit (nat_lt x (n + 1) && fr x)
 free_same fr n xs ys taken is before x =
-    let kept : count_by (λ frame. frame == x) ys ≡ count_by (λ frame. frame == x) xs = ap (λ (zs : List ℕ). count_by (λ frame. frame == x) zs) is in
+    let kept : count_by (λ frame. frame == x) ys ≡ count_by (λ frame. frame == x) xs =
+    ap (λ (zs : List ℕ). count_by (λ frame. frame == x) zs) is in
     let same : cond {A = ℕ} ((n == x) && fr n) 1 0 ≡ 0 = rw taken (onto (n == x)) in
     let next = one_more fr n x in
     let all = before x in
@@ -124,12 +131,19 @@ pub ranges_more : (regions : List Region) (k : ℕ) (o : Option (ℕ × ℕ)) (r
 ranges_more regions k o r xs ys read some before is = by_region (slice_get regions k) refl
   where
     by_region : (g : Option Region) → slice_get regions k ≡ g → ys ≡ map (λ r. (r.from, r.to)) (take (k + 1) regions)
-    by_region None e = (let d : None ≡ Some r = sym (ap (λ (g : Option Region). option_map (λ r. (r.from, r.to)) g) e) ∙ (sym read ∙ some) in absurd (cc))
+    by_region None e =
+        (let d : None ≡ Some r = sym (ap (λ (g : Option Region). option_map (λ r. (r.from, r.to)) g) e)
+        ∙ (sym read ∙ some) in absurd (cc))
     by_region (Some y) e =
         let d : Some (y.from, y.to) ≡ Some r = sym (ap (λ (g : Option Region). option_map (λ r. (r.from, r.to)) g) e) ∙ (sym read ∙ some) in
         let same : (y.from, y.to) ≡ r = ap (λ (p : Option (ℕ × ℕ)). unwrap_or p r) d in
-        let more : take (k + 1) regions ≡ take k regions ++ y ∷ [] = take_more regions k y (slice_get_within regions k y e) ∙ ap (λ (z : Region). take k regions ++ z ∷ []) (get_or_from_slice_get regions k y y e) in
-        is ∙ (ap (λ (z : ℕ × ℕ). xs ++ z ∷ []) (sym same) ∙ (ap (λ (zs : List (ℕ × ℕ)). zs ++ (y.from, y.to) ∷ []) before ∙ (sym (map-append (λ (r : Region). (r.from, r.to)) (take k regions) (y ∷ [])) ∙ ap (λ (rs : List Region). map (λ r. (r.from, r.to)) rs) (sym more))))
+        let more : take (k + 1) regions ≡ take k regions ++ y ∷ [] =
+        take_more regions k y (slice_get_within regions k y e)
+        ∙ ap (λ (z : Region). take k regions ++ z ∷ []) (get_or_from_slice_get regions k y y e) in
+        is ∙ (ap (λ (z : ℕ × ℕ). xs ++ z ∷ []) (sym same)
+        ∙ (ap (λ (zs : List (ℕ × ℕ)). zs ++ (y.from, y.to) ∷ []) before
+        ∙ (sym (map-append (λ (r : Region). (r.from, r.to)) (take k regions) (y ∷ []))
+        ∙ ap (λ (rs : List Region). map (λ r. (r.from, r.to)) rs) (sym more))))
 
 -- no task yet
 pub no_translations : (spaces : List Table) → [] ≡ all_translations spaces 0
@@ -145,5 +159,9 @@ more_translations spaces k task table xs ys within numbered is before more =
     let next : task ≡ suc k = numbered ∙ add-one k in
     let back : suc k - 1 ≡ k = omega arith in
     let q : (suc k == 0) ≡ false = ne_eqb (suc k) 0 (λ z. omega (arith, z)) in
-    let there : table ≡ table_of spaces (suc k) = rw q (is ∙ (get_or_default spaces k table no_table within ∙ ap (λ (j : ℕ). get_or spaces j no_table) (sym back))) in
-    more ∙ (ap (λ (zs : List (ℕ × ℕ × ℕ × ℕ)). zs ++ translations task table) before ∙ (ap (λ (t : ℕ). all_translations spaces k ++ translations t table) next ∙ (ap (λ (d : Table). all_translations spaces k ++ translations (suc k) d) there ∙ ap (λ (n : ℕ). all_translations spaces n) (sym (add-one k)))))
+    let there : table ≡ table_of spaces (suc k) =
+    rw q (is ∙ (get_or_default spaces k table no_table within ∙ ap (λ (j : ℕ). get_or spaces j no_table) (sym back))) in
+    more ∙ (ap (λ (zs : List (ℕ × ℕ × ℕ × ℕ)). zs ++ translations task table) before
+    ∙ (ap (λ (t : ℕ). all_translations spaces k ++ translations t table) next
+    ∙ (ap (λ (d : Table). all_translations spaces k ++ translations (suc k) d) there
+    ∙ ap (λ (n : ℕ). all_translations spaces n) (sym (add-one k)))))

@@ -28,18 +28,24 @@ reserved_same (r ∷ rs) i = ap (λ (b : Bool). is_within r.from r.to i || b) (r
 -- each region has an index, and all end within the limit
 ranges_of : (low : ℕ) (rs : List Region) → IsApartFrom low rs → All (λ r. (r.from < r.to) × (r.to ≤ LIMIT)) rs
 ranges_of low [] apart = All-nil (λ (r : Region). (r.from < r.to) × (r.to ≤ LIMIT))
-ranges_of low (r ∷ rs) apart = All-cons (λ (r : Region). (r.from < r.to) × (r.to ≤ LIMIT)) r rs (apart.1, apart.2) (ranges_of (r.to + 1) rs apart.3)
+ranges_of low (r ∷ rs) apart =
+    All-cons (λ (r : Region). (r.from < r.to) × (r.to ≤ LIMIT)) r rs (apart.1, apart.2) (ranges_of (r.to + 1) rs apart.3)
 
 -- all begin above what they stand above
 above : (low : ℕ) (rs : List Region) → IsApartFrom low rs → All (λ r. low ≤ r.from) rs
 above low [] apart = All-nil (λ (r : Region). low ≤ r.from)
-above low (r ∷ rs) apart = All-cons (λ (r : Region). low ≤ r.from) r rs apart.0 (All-weaker (λ (s : Region). r.to + 1 ≤ s.from) (λ (s : Region). low ≤ s.from) (λ s l. (let a = apart.0 in let b = apart.1 in omega (arith, a, b, l))) rs (above (r.to + 1) rs apart.3))
+above low (r ∷ rs) apart =
+    All-cons (λ (r : Region). low ≤ r.from) r rs apart.0
+    (All-weaker (λ (s : Region). r.to + 1 ≤ s.from) (λ (s : Region). low ≤ s.from)
+    (λ s l. (let a = apart.0 in let b = apart.1 in omega (arith, a, b, l))) rs (above (r.to + 1) rs apart.3))
 
 apart_pairs : (low : ℕ) (rs : List Region) → IsApartFrom low rs → AllPairs (λ region other. region.1 < other.0) (map pair_of rs)
 apart_pairs low [] apart = λ i j d l within. absurd (omega arith)
 apart_pairs low (r ∷ rs) apart =
     let R : ℕ × ℕ → ℕ × ℕ → Type 0 = λ region other. region.1 < other.0 in
-    let later : All (λ (s : Region). r.to < s.from) rs = All-weaker (λ (s : Region). r.to + 1 ≤ s.from) (λ (s : Region). r.to < s.from) (λ s l. omega (arith, l)) rs (above (r.to + 1) rs apart.3) in
+    let later : All (λ (s : Region). r.to < s.from) rs =
+    All-weaker (λ (s : Region). r.to + 1 ≤ s.from) (λ (s : Region). r.to < s.from) (λ s l. omega (arith, l)) rs
+    (above (r.to + 1) rs apart.3) in
     AllPairs-cons R (r.from, r.to) (map pair_of rs) (All-map (R (r.from, r.to)) pair_of rs later) (apart_pairs (r.to + 1) rs apart.3)
 
 to_test : (b : Bool) → T b → IsTrue b
@@ -55,8 +61,14 @@ file_picture_of s f p h =
       size = h.size;
       locked = h.locked;
       reserved = λ i. ap (λ (rs : List (ℕ × ℕ)). is_reserved rs i) h.regions ∙ reserved_same file.map.regions i;
-      ranges = All-same (λ (region : ℕ × ℕ). (region.0 < region.1) × (region.1 ≤ LIMIT)) p.regions.items (map pair_of file.map.regions) h.regions (All-map (λ (region : ℕ × ℕ). (region.0 < region.1) × (region.1 ≤ LIMIT)) pair_of file.map.regions (ranges_of 0 file.map.regions h.apart));
-      apart = subst (λ (rs : List (ℕ × ℕ)). AllPairs (λ region other. region.1 < other.0) rs) (sym h.regions) (apart_pairs 0 file.map.regions h.apart);
+      ranges =
+          All-same (λ (region : ℕ × ℕ). (region.0 < region.1) × (region.1 ≤ LIMIT)) p.regions.items
+          (map pair_of file.map.regions) h.regions
+          (All-map (λ (region : ℕ × ℕ). (region.0 < region.1) × (region.1 ≤ LIMIT)) pair_of file.map.regions
+          (ranges_of 0 file.map.regions h.apart));
+      apart =
+          subst (λ (rs : List (ℕ × ℕ)). AllPairs (λ region other. region.1 < other.0) rs) (sym h.regions)
+          (apart_pairs 0 file.map.regions h.apart);
       pages = λ i. ap (λ (es : List (ℕ × ℕ)). finite.find nat_cmp i es) h.pages ∙ sym (finite.get-entries file.cache i);
       in_order = ap (λ (es : List (ℕ × ℕ)). finite.is_sorted nat_cmp es) h.pages ∙ to_test _ (finite.entries_sorted file.cache);
       in_file = h.in_file;

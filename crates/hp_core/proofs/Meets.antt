@@ -140,7 +140,11 @@ truncate_fits s t (truncate.Want p) reached few e = tt
 truncate_fits s t (truncate.Locked p) reached few e = (laws.truncate_stands s t _ reached e).file
 truncate_fits s t (truncate.Unmap p) reached few e = ((laws.truncate_stands s t _ reached e).task, few)
 truncate_fits s t (truncate.Evict p) reached few e =
-    let h = laws.truncate_stands s t _ reached e in (h.file, page_at s p.truncation.file p.index h.page, few_evicted (s.reserved p.truncation.file) (p.index + 1) s.geometry.limit p.evicted h.evicted)
+    let h = laws.truncate_stands s t _ reached e in (
+      h.file,
+      page_at s p.truncation.file p.index h.page,
+      few_evicted (s.reserved p.truncation.file) (p.index + 1) s.geometry.limit p.evicted h.evicted,
+    )
 truncate_fits s t (truncate.Free p) reached few e = let h = laws.truncate_stands s t _ reached e in (h.hand.1, h.hand.0)
 truncate_fits s t (truncate.Unslot p) reached few e = (laws.truncate_stands s t _ reached e).slot
 truncate_fits s t (truncate.Tail p) reached few e = let h = laws.truncate_stands s t _ reached e in (h.file, h.evicted)

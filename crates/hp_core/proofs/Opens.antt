@@ -22,7 +22,8 @@ use Rattle.hp_machine.specs.Events as rows
 use Rattle.hp_machine.specs.declared.outcome.Life.TheVariants as life
 use Rattle.hp_fault.specs.declared.parts.FileState.{FileState}
 use Rattle.hp_fault.specs.State.{PartsState}
-use Rattle.hp_fault.specs.View.{no_file, no_table, table_of, holders_of, sizes_of, pendings_of, spares_of, sets_of, pages_of, prepared_of, areas_of, entries_of, geometry_of}
+use Rattle.hp_fault.specs.View.{no_file, no_table, table_of, holders_of, sizes_of, pendings_of, spares_of, sets_of, pages_of}
+use Rattle.hp_fault.specs.View.{prepared_of, areas_of, entries_of, geometry_of}
 use Rattle.hp_core.specs.declared.seat.Seat.{Seat}
 use Rattle.hp_core.specs.State.{seat_at, no_seat, calls_of, lives_of, state_with}
 use Rattle.hp_core.specs.Opening.{IsFresh, IsVacant}
@@ -43,7 +44,8 @@ same_table xs h t = elim (same_or_other t 0) [
 copies_at : {A : Type 0} (a d : A) (n i : ℕ) → get_or (replicate n a) i d ≡ (if nat_lt i n then a else d)
 copies_at {A} a d n i = elim (cases_lt i n) [
   | inl l ↦ get_or-replicate n i a d l ∙ (let q : nat_lt i n ≡ true = grind (arith, nat_tests, l) in rw q refl)
-  | inr l ↦ get_or-eq_default (replicate n a) d (let e = length-replicate n a in omega arith) ∙ (let q : nat_lt i n ≡ false = grind (arith, nat_tests, l) in rw q refl)
+  | inr l ↦ get_or-eq_default (replicate n a) d (let e = length-replicate n a in omega arith)
+      ∙ (let q : nat_lt i n ≡ false = grind (arith, nat_tests, l) in rw q refl)
 ]
 
 same_copies : {A : Type 0} (a : A) (n i : ℕ) → get_or (replicate n a) i a ≡ a
@@ -132,11 +134,17 @@ module _ (z : Sizes) (p : PartsState) (seats : List Seat) (h : AreFresh z p seat
 
   sets_are : sets_of p.files ≡ (λ _ _. false)
   unfolding sets_of
-  sets_are = fun_ext (λ f. fun_ext (λ i. file_is (λ y. is_member y.map.regions i ≡ false) (λ y fresh. ap (λ (rs : List _). is_member rs i) fresh.regions) refl f))
+  sets_are =
+      fun_ext (λ f. fun_ext
+      (λ i. file_is (λ y. is_member y.map.regions i ≡ false)
+      (λ y fresh. ap (λ (rs : List _). is_member rs i) fresh.regions) refl f))
 
   pages_are : pages_of p.files ≡ (λ _ _. None)
   unfolding pages_of
-  pages_are = fun_ext (λ f. fun_ext (λ i. file_is (λ y. get y.cache i ≡ None) (λ y fresh. ap (λ (m : FinMap nat_cmp ℕ). get m i) fresh.cache ∙ get-empty nat_cmp i) (get-empty nat_cmp i) f))
+  pages_are =
+      fun_ext (λ f. fun_ext
+      (λ i. file_is (λ y. get y.cache i ≡ None)
+      (λ y fresh. ap (λ (m : FinMap nat_cmp ℕ). get m i) fresh.cache ∙ get-empty nat_cmp i) (get-empty nat_cmp i) f))
 
   prepared_are : prepared_of p.spaces ≡ (λ _. false)
   unfolding prepared_of
@@ -152,7 +160,9 @@ module _ (z : Sizes) (p : PartsState) (seats : List Seat) (h : AreFresh z p seat
 
   lives_are : lives_of seats ≡ (λ t. if nat_le 1 t && nat_le t z.tasks then life.Alive else life.Dead)
   unfolding lives_of
-  lives_are = fun_ext (λ t. vacant_life seats h.all_seats t ∙ ap (λ (n : ℕ). if nat_le 1 t && nat_le t n then life.Alive else life.Dead) h.seats_long)
+  lives_are =
+      fun_ext (λ t. vacant_life seats h.all_seats t
+      ∙ ap (λ (n : ℕ). if nat_le 1 t && nat_le t n then life.Alive else life.Dead) h.seats_long)
 
   calls_are : calls_of seats ≡ (λ _. None)
   unfolding calls_of

@@ -47,18 +47,24 @@ hands_of : (s : CoreState) (hands : List ℕ) (x : ℕ) → IsSound s → hands 
 unfolding IsSound
 hands_of s hands x h is =
     let n : length s.parts.spaces ≡ length s.seats = h.1.spaces ∙ sym h.1.seats in
-    ap (λ (xs : List ℕ). count_by (λ frame. frame == x) xs) is ∙ (given_times (λ (seat : Seat). hand seat.call) x s.seats ∙ sum_is (λ (call : Option Call). bit (is_that x (hand call))) s.seats (length s.parts.spaces) refl n)
+    ap (λ (xs : List ℕ). count_by (λ frame. frame == x) xs) is
+    ∙ (given_times (λ (seat : Seat). hand seat.call) x s.seats
+    ∙ sum_is (λ (call : Option Call). bit (is_that x (hand call))) s.seats (length s.parts.spaces) refl n)
 
 pub few_files : (s : CoreState) → IsSound s → length s.parts.files ≤ 16
 unfolding IsSound
-few_files s h = (let l : length s.parts.files ≡ s.sizes.files = h.1.files in let m = few s.sizes.frames s.sizes.files s.sizes.slots s.sizes.tasks h.1.limits in omega (arith, l, m))
+few_files s h =
+    (let l : length s.parts.files ≡ s.sizes.files = h.1.files in
+    let m = few s.sizes.frames s.sizes.files s.sizes.slots s.sizes.tasks h.1.limits in omega (arith, l, m))
   where
     few : (a b c d : ℕ) → IsWithinLimits a b c d → b ≤ 16
     few a b c d h = grind (arith, nat_tests, h)
 
 pub few_spaces : (s : CoreState) → IsSound s → length s.parts.spaces ≤ 64
 unfolding IsSound
-few_spaces s h = (let l : length s.parts.spaces ≡ s.sizes.tasks = h.1.spaces in let m = few_tasks s.sizes.frames s.sizes.files s.sizes.slots s.sizes.tasks h.1.limits in omega (arith, l, m))
+few_spaces s h =
+    (let l : length s.parts.spaces ≡ s.sizes.tasks = h.1.spaces in
+    let m = few_tasks s.sizes.frames s.sizes.files s.sizes.slots s.sizes.tasks h.1.limits in omega (arith, l, m))
 
 -- what is copied, list by list
 pub record AreCopies (s : CoreState) (p : Picture) : Type 0 where

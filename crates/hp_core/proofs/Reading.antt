@@ -19,7 +19,8 @@ file_in s n file h e l = let k = h.1.files in omega (arith, k, l, e)
 
 pub file_read : (s : CoreState) (n file : ℕ) (y : FileState) → IsSound s → n ≡ file → file < (config_of s).files
     → y ≡ get_or s.parts.files n y → y ≡ get_or s.parts.files file no_file
-file_read s n file y h e l is = is ∙ (get_or_default s.parts.files n y no_file (file_in s n file h e l) ∙ ap (λ (k : ℕ). get_or s.parts.files k no_file) e)
+file_read s n file y h e l is =
+    is ∙ (get_or_default s.parts.files n y no_file (file_in s n file h e l) ∙ ap (λ (k : ℕ). get_or s.parts.files k no_file) e)
 
 pub space_in : (s : CoreState) (n task : ℕ) → IsSound s → n ≡ task → 1 ≤ task → task ≤ (config_of s).tasks → n - 1 < length s.parts.spaces
 unfolding IsSound config_of
@@ -29,7 +30,8 @@ pub space_read : (s : CoreState) (n task : ℕ) (y : Table) → IsSound s → n 
     → y ≡ get_or s.parts.spaces (n - 1) y → y ≡ table_of s.parts.spaces task
 space_read s n task y h e low high is =
     let q : (task == 0) ≡ false = ne_eqb task 0 (λ z. omega (arith, z, low)) in
-    rw q (is ∙ (get_or_default s.parts.spaces (n - 1) y no_table (space_in s n task h e low high) ∙ ap (λ (k : ℕ). get_or s.parts.spaces (k - 1) no_table) e))
+    rw q (is ∙ (get_or_default s.parts.spaces (n - 1) y no_table (space_in s n task h e low high)
+    ∙ ap (λ (k : ℕ). get_or s.parts.spaces (k - 1) no_table) e))
 
 pub seat_in : (s : CoreState) (n task : ℕ) → IsSound s → n ≡ task → 1 ≤ task → task ≤ (config_of s).tasks → n - 1 < length s.seats
 unfolding IsSound config_of
@@ -39,7 +41,8 @@ pub seat_read : (s : CoreState) (n task : ℕ) (y : Seat) → IsSound s → n �
     → y ≡ get_or s.seats (n - 1) y → y ≡ seat_at s.seats task
 seat_read s n task y h e low high is =
     let q : (task == 0) ≡ false = ne_eqb task 0 (λ z. omega (arith, z, low)) in
-    rw q (is ∙ (get_or_default s.seats (n - 1) y no_seat (seat_in s n task h e low high) ∙ ap (λ (k : ℕ). get_or s.seats (k - 1) no_seat) e))
+    rw q (is ∙ (get_or_default s.seats (n - 1) y no_seat (seat_in s n task h e low high)
+    ∙ ap (λ (k : ℕ). get_or s.seats (k - 1) no_seat) e))
 
 pub few_tasks : (a b c d : ℕ) → IsWithinLimits a b c d → d ≤ 64
 few_tasks a b c d h = grind (arith, nat_tests, h)

@@ -33,29 +33,35 @@ turn_row : {P : Type 0} (inflight : P → Call) (row : Turn P → Pool → Type 
 turn_row inflight row new (Ok turn) r = (turn, r, refl, refl)
 turn_row inflight row new (Err stopped) r = tt
 
-finished_row : {P : Type 0} (inflight : P → Call) (row : Turn P → Pool → Type 0) (new : Pool) (stepped : Result (Turn P) (Stopped P)) (done : Done)
+finished_row : {P : Type 0} (inflight : P → Call) (row : Turn P → Pool → Type 0) (new : Pool)
+    (stepped : Result (Turn P) (Stopped P)) (done : Done)
     → done ≡ finished inflight stepped → IfOk stepped (λ turn. row turn new) → IfOk done (λ d. TurnRow inflight row d.0 new d.1)
-finished_row inflight row new stepped done e h = subst (λ (r : Done). IfOk r (λ d. TurnRow inflight row d.0 new d.1)) (sym e) (turn_row inflight row new stepped h)
+finished_row inflight row new stepped done e h =
+    subst (λ (r : Done). IfOk r (λ d. TurnRow inflight row d.0 new d.1)) (sym e) (turn_row inflight row new stepped h)
 
-pub touch_row : (s : Pool) (t : ℕ) (killed grant : Bool) (p : TouchPhase) (new : Pool) (stepped : Result (Turn TouchPhase) (Stopped TouchPhase)) (done : Done)
+pub touch_row : (s : Pool) (t : ℕ) (killed grant : Bool) (p : TouchPhase) (new : Pool)
+    (stepped : Result (Turn TouchPhase) (Stopped TouchPhase)) (done : Done)
     → done ≡ finished call.Touch stepped → IfOk stepped (λ turn. TouchRow s t killed grant p turn new)
     → IfOk done (λ d. CallRow s t killed grant (call.Touch p) d.0 new d.1)
 unfolding CallRow
 touch_row s t killed grant p new stepped done e h = finished_row call.Touch (TouchRow s t killed grant p) new stepped done e h
 
-pub map_row : (s : Pool) (t : ℕ) (killed grant : Bool) (p : MapPhase) (new : Pool) (stepped : Result (Turn MapPhase) (Stopped MapPhase)) (done : Done)
+pub map_row : (s : Pool) (t : ℕ) (killed grant : Bool) (p : MapPhase) (new : Pool)
+    (stepped : Result (Turn MapPhase) (Stopped MapPhase)) (done : Done)
     → done ≡ finished call.Map stepped → IfOk stepped (λ turn. MapRow s t killed grant p turn new)
     → IfOk done (λ d. CallRow s t killed grant (call.Map p) d.0 new d.1)
 unfolding CallRow
 map_row s t killed grant p new stepped done e h = finished_row call.Map (MapRow s t killed grant p) new stepped done e h
 
-pub alloc_row : (s : Pool) (t : ℕ) (killed grant : Bool) (p : AllocPhase) (new : Pool) (stepped : Result (Turn AllocPhase) (Stopped AllocPhase)) (done : Done)
+pub alloc_row : (s : Pool) (t : ℕ) (killed grant : Bool) (p : AllocPhase) (new : Pool)
+    (stepped : Result (Turn AllocPhase) (Stopped AllocPhase)) (done : Done)
     → done ≡ finished call.Alloc stepped → IfOk stepped (λ turn. AllocRow s t killed grant p turn new)
     → IfOk done (λ d. CallRow s t killed grant (call.Alloc p) d.0 new d.1)
 unfolding CallRow
 alloc_row s t killed grant p new stepped done e h = finished_row call.Alloc (AllocRow s t killed grant p) new stepped done e h
 
-pub punch_row : (s : Pool) (t : ℕ) (killed grant : Bool) (p : PunchPhase) (new : Pool) (stepped : Result (Turn PunchPhase) (Stopped PunchPhase)) (done : Done)
+pub punch_row : (s : Pool) (t : ℕ) (killed grant : Bool) (p : PunchPhase) (new : Pool)
+    (stepped : Result (Turn PunchPhase) (Stopped PunchPhase)) (done : Done)
     → done ≡ finished call.Punch stepped → IfOk stepped (λ turn. PunchRow s t killed grant p turn new)
     → IfOk done (λ d. CallRow s t killed grant (call.Punch p) d.0 new d.1)
 unfolding CallRow

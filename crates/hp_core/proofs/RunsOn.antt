@@ -33,8 +33,12 @@ pub run_more : (s mid new : CoreState) (es : List Event) (os : List Outcome) (e 
     → Row mid e o new → Run s (es ++ e ∷ []) (os ++ o ∷ []) new
 unfolding Run Row
 run_more s mid new es os e o run row =
-    let long : length (os ++ o ∷ []) ≡ length (es ++ e ∷ []) = omega (arith, run.1, longer os o, longer es e) in
-    (subst (λ (zs : List (Event × Outcome)). rows.Run (as_state s) zs (as_state new)) (sym (zip_more es os e o run.1)) (run_on (as_state s) (as_state mid) (as_state new) (zip es os) e o run.0 row.0), long, row.1 ∙ run.2)
+    let long : length (os ++ o ∷ []) ≡ length (es ++ e ∷ []) = omega (arith, run.1, longer os o, longer es e) in (
+      subst (λ (zs : List (Event × Outcome)). rows.Run (as_state s) zs (as_state new)) (sym (zip_more es os e o run.1))
+          (run_on (as_state s) (as_state mid) (as_state new) (zip es os) e o run.0 row.0),
+      long,
+      row.1 ∙ run.2,
+    )
 
 pub run_long : (s new : CoreState) (es : List Event) (os : List Outcome) → Run s es os new → length os ≡ length es
 unfolding Run
@@ -48,7 +52,8 @@ pub ran_next : (s mid new : CoreState) (es : List Event) (i : ℕ) (os more : Li
     → Run s (take (i + 1) es) more new
 ran_next s mid new es i os more e o within is longer run row =
     subst (λ (xs : List Outcome). Run s (take (i + 1) es) xs new) (sym longer)
-    (subst (λ (xs : List Event). Run s xs (os ++ o ∷ []) new) (sym (take_more es i e within ∙ ap (λ (x : Event). take i es ++ x ∷ []) (sym is)))
+    (subst (λ (xs : List Event). Run s xs (os ++ o ∷ []) new)
+    (sym (take_more es i e within ∙ ap (λ (x : Event). take i es ++ x ∷ []) (sym is)))
     (run_more s mid new (take i es) os e o run row))
 
 taken : {A : Type 0} (xs : List A) (i : ℕ) → i ≤ length xs → length (take i xs) ≡ i
@@ -62,8 +67,11 @@ ran_all s new es i os past run = subst (λ (xs : List Event). Run s xs os new) (
 
 pub ran_stopped : (s mid new : CoreState) (es : List Event) (i n : ℕ) (os : List Outcome) → i ≤ length es → n ≡ length os
     → new ≡ mid → Run s (take i es) os mid → (x : List Outcome) × Run s (take n es) x new
-ran_stopped s mid new es i n os within long same run =
-    (os, subst (λ (z : CoreState). Run s (take n es) os z) (sym same) (subst (λ (k : ℕ). Run s (take k es) os mid) (sym (long ∙ told_long s mid es i os within run)) run))
+ran_stopped s mid new es i n os within long same run = (
+  os,
+  subst (λ (z : CoreState). Run s (take n es) os z) (sym same)
+      (subst (λ (k : ℕ). Run s (take k es) os mid) (sym (long ∙ told_long s mid es i os within run)) run),
+)
 
 -- of no events nothing happened
 pub ran_empty : (s : CoreState) (es : List Event) (os : List Outcome) → (length es == 0) ≡ true → os ≡ [] → Run s es os s
@@ -79,4 +87,5 @@ pub wanted_at : (mid new : CoreState) (es : List Event) (i n : ℕ) (e : Event) 
     → HoldsAt (λ event. WantsGrowth new.parts new.seats event) es n
 wanted_at mid new es i n e within is long same wants =
     subst (λ (k : ℕ). HoldsAt (λ event. WantsGrowth new.parts new.seats event) es k) (sym long)
-    (at_read es (λ event. WantsGrowth new.parts new.seats event) i e within is (subst (λ (s : CoreState). WantsGrowth s.parts s.seats e) (sym same) wants))
+    (at_read es (λ event. WantsGrowth new.parts new.seats event) i e within is
+    (subst (λ (s : CoreState). WantsGrowth s.parts s.seats e) (sym same) wants))

@@ -29,7 +29,8 @@ use Rattle.hp_core.specs.Turns.{life_after}
 -- a task that isn't dead has a seat
 pub seated : (seats : List Seat) (t : ℕ) → is_dead (seat_at seats t).life ≡ false → (1 ≤ t) × (t ≤ length seats)
 seated seats t alive = elim (same_or_other t 0) [
-  | inl e ↦ absurd (let d : is_dead (seat_at seats t).life ≡ true = ap (λ (k : ℕ). is_dead (seat_at seats k).life) e in let f : true ≡ false = sym d ∙ alive in cc)
+  | inl e ↦ absurd (let d : is_dead (seat_at seats t).life ≡ true = ap (λ (k : ℕ). is_dead (seat_at seats k).life)
+      e in let f : true ≡ false = sym d ∙ alive in cc)
   | inr h ↦ elim (cases_lt (t - 1) (length seats)) [
     | inl l ↦ (omega (arith, h), omega (arith, h, l))
     | inr past ↦ absurd (let q : (t == 0) ≡ false = ne_eqb t 0 h in
@@ -52,7 +53,8 @@ off_seat seats t y j low h = elim (same_or_other j 0) [
 seen_set : {B : Type 0} (v : Seat → B) (seats : List Seat) (t : ℕ) (y : Seat) → 1 ≤ t → t ≤ length seats
     → ◌≡◌ {A = ℕ → B} (λ j. v (seat_at (with_seat seats t y) j)) (put (λ j. v (seat_at seats j)) t (v y))
 seen_set {B} v seats t y low high = fun_ext (λ j. elim (same_or_other j t) [
-  | inl e ↦ subst (λ (w : ℕ). v (seat_at (with_seat seats t y) w) ≡ put (λ (k : ℕ). v (seat_at seats k)) t (v y) w) (sym e) (ap v (at_seat seats t y low high) ∙ sym (put_same (λ (k : ℕ). v (seat_at seats k)) t (v y)))
+  | inl e ↦ subst (λ (w : ℕ). v (seat_at (with_seat seats t y) w) ≡ put (λ (k : ℕ). v (seat_at seats k)) t (v y) w)
+      (sym e) (ap v (at_seat seats t y low high) ∙ sym (put_same (λ (k : ℕ). v (seat_at seats k)) t (v y)))
   | inr h ↦ ap v (off_seat seats t y j low h) ∙ sym (put_other (λ (k : ℕ). v (seat_at seats k)) t (v y) j h)
 ])
 
@@ -125,7 +127,9 @@ begin_row p seats new t op told row =
     (λ call some r. (r.0, ap (state_with p) r.1)) rest) row
   where
     begun : (p : PartsState) (seats : List Seat) (t : ℕ) (op : Op) → is_dead (seat_at seats t).life ≡ false
-        → state_with p (with_seat seats t (record { life = (seat_at seats t).life; call = Some (first op) })) ≡ record (state_with p seats) { calls = put (calls_of seats) t (Some (first op)) }
+        → state_with p (with_seat seats t
+        (record { life = (seat_at seats t).life; call = Some (first op) })) ≡ record (state_with p
+        seats) { calls = put (calls_of seats) t (Some (first op)) }
     begun p seats t op alive =
         let l = seated seats t alive in
         let y : Seat = record { life = (seat_at seats t).life; call = Some (first op) } in
@@ -148,7 +152,11 @@ kill_row p seats new t told row =
     lives Dead e = absurd (let f : false ≡ true = e in cc)
 
     marked : (p : PartsState) (seats : List Seat) (t : ℕ) → is_alive (seat_at seats t).life ≡ true
-        → state_with p (with_seat seats t (record { life = Killed; call = (seat_at seats t).call })) ≡ record (state_with p seats) { life = put (lives_of seats) t Killed }
+        → state_with p (with_seat seats t
+        (record { life = Killed; call = (seat_at seats t).call })) ≡ record (state_with p seats) {
+          life = put
+              (lives_of seats) t Killed;
+        }
     marked p seats t alive =
         let l = seated seats t (lives (seat_at seats t).life alive) in
         let y : Seat = record { life = Killed; call = (seat_at seats t).call } in
@@ -195,4 +203,5 @@ step_row p n seats t grant told inflight y alive some row lives =
     let l = seated seats t alive in
     let life = lives_step seats t y inflight l.0 l.1 lives in
     let calls = calls_set seats t y l.0 l.1 in
-    at_false _ _ _ alive (at_some _ _ _ inflight some (pool_of n, y.call, row, λ i. record (state_with n seats) { life = life i; calls = calls i }))
+    at_false _ _ _ alive
+    (at_some _ _ _ inflight some (pool_of n, y.call, row, λ i. record (state_with n seats) { life = life i; calls = calls i }))

@@ -36,15 +36,21 @@ step_is p after seats new t grant told fits row =
         → new ≡ seats → after ≡ p → rows.StepRow (state_with p seats) t grant why (state_with p seats)
         → rows.StepRow (state_with p seats) t grant told (state_with after new)
     refused p after seats new t grant told e d f h =
-        subst (λ (q : PartsState). rows.StepRow (state_with p seats) t grant told (state_with q new)) (sym f) (subst (λ (ss : List Seat). rows.StepRow (state_with p seats) t grant told (state_with p ss)) (sym d) (subst (λ (o : Outcome). rows.StepRow (state_with p seats) t grant o (state_with p seats)) (sym e) h))
+        subst (λ (q : PartsState). rows.StepRow (state_with p seats) t grant told (state_with q new)) (sym f)
+        (subst (λ (ss : List Seat). rows.StepRow (state_with p seats) t grant told (state_with p ss)) (sym d)
+        (subst (λ (o : Outcome). rows.StepRow (state_with p seats) t grant o (state_with p seats)) (sym e) h))
 
 -- what an event makes of the parts and the seats is a row of the machine
 pub event_row : (p after : PartsState) (seats new : List Seat) (e : Event) (told : Outcome) → EventFits p seats e
     → EventSeats p seats e told after new → rows.Row (state_with p seats) e told (state_with after new)
 unfolding EventSeats
-event_row p after seats new (Begin t op) told fits row = subst (λ (q : PartsState). rows.BeginRow (state_with p seats) t op told (state_with q new)) (sym row.1) (begin_row p seats new t op told row.0)
+event_row p after seats new (Begin t op) told fits row =
+    subst (λ (q : PartsState). rows.BeginRow (state_with p seats) t op told (state_with q new)) (sym row.1)
+    (begin_row p seats new t op told row.0)
 event_row p after seats new (Step t grant) told fits row = step_is p after seats new t grant told fits row
-event_row p after seats new (Kill t) told fits row = subst (λ (q : PartsState). rows.KillRow (state_with p seats) t told (state_with q new)) (sym row.1) (kill_row p seats new t told row.0)
+event_row p after seats new (Kill t) told fits row =
+    subst (λ (q : PartsState). rows.KillRow (state_with p seats) t told (state_with q new)) (sym row.1)
+    (kill_row p seats new t told row.0)
 
 -- one more event of a run
 pub run_on : (s mid new : State) (es : List (Event × Outcome)) (e : Event) (told : Outcome) → rows.Run s es mid
@@ -54,8 +60,12 @@ run_on s mid new (x ∷ es) e told run row = (run.0, run.1, run_on run.0 mid new
 
 reached_after : (s new : State) (e : Event) (told : Outcome) → rows.IsReached s → rows.Row s e told new
     → new.geometry ≡ s.geometry → new.frames ≡ s.frames → rows.IsReached new
-reached_after s new e told reached row same long =
-    (reached.0 ++ (e, told) ∷ [], subst (λ (o : State). rows.Run o (reached.0 ++ (e, told) ∷ []) new) (λ i. rows.opening (sym same i) (sym long i)) (run_on (rows.opening s.geometry s.frames) s new reached.0 e told reached.1 row))
+reached_after s new e told reached row same long = (
+  reached.0 ++ (e, told) ∷ [],
+  subst (λ (o : State). rows.Run o (reached.0 ++ (e, told) ∷ []) new)
+      (λ i. rows.opening (sym same i) (sym long i))
+      (run_on (rows.opening s.geometry s.frames) s new reached.0 e told reached.1 row),
+)
 
 -- what an event ensures of a core's fields
 abbrev pub Stepped : CoreState → Event → Outcome → PartsState → List Seat → Type 0
@@ -70,7 +80,8 @@ unfolding IsSound
 sound_after s e told after new h fits done =
     let z = done.1 in
     let kept = h.1 in
-    let same : geometry_of after ≡ geometry_of s.parts = λ i. record (geometry_of s.parts) { files = z.files i; slots = z.slots i; tasks = z.spaces i } in (
+    let same : geometry_of after ≡ geometry_of s.parts = λ i.
+    record (geometry_of s.parts) { files = z.files i; slots = z.slots i; tasks = z.spaces i } in (
       reached_after (as_state s) (state_with after new) e told h.0 (event_row s.parts after s.seats new e told fits done.0) same z.frames,
       record {
         locks = z.locks ∙ (kept.locks ∙ sym z.files);
@@ -89,7 +100,9 @@ pub sound_result : (s : CoreState) (e : Event) (result : Result Outcome AllocErr
     → IfOk result (λ told. EventSeats s.parts s.seats e told after new) → SizesStay s.parts after → length new ≡ length s.seats
     → OnErr result ((after ≡ s.parts) × (new ≡ s.seats)) → IsSound (with_fields s after new)
 sound_result s e (Ok told) after new h fits row sizes seats err = sound_after s e told after new h fits (row, sizes, seats)
-sound_result s e (Err x) after new h fits row sizes seats err = subst (λ (q : PartsState). IsSound (with_fields s q new)) (sym err.0) (subst (λ (ss : List Seat). IsSound (with_fields s s.parts ss)) (sym err.1) h)
+sound_result s e (Err x) after new h fits row sizes seats err =
+    subst (λ (q : PartsState). IsSound (with_fields s q new)) (sym err.0)
+    (subst (λ (ss : List Seat). IsSound (with_fields s s.parts ss)) (sym err.1) h)
 
 -- and the event is a row of the machine
 pub row_result : (s : CoreState) (e : Event) (result : Result Outcome AllocError) (after : PartsState) (new : List Seat)

@@ -28,7 +28,9 @@ sum_upto f xs none (suc k) l =
     let before = sum_upto f xs none k (omega arith) in
     let next = sum_by_more (λ (seat : Seat). f seat.call) xs k no_seat (omega arith) in
     let same : take (suc k) xs ≡ take (k + 1) xs = ap (λ (n : ℕ). take n xs) (sym (add-one k)) in
-    ap (λ (ys : List Seat). sum_by (λ (seat : Seat). f seat.call) ys) same ∙ (next ∙ (ap (λ (n : ℕ). n + f (get_or xs k no_seat).call) before ∙ ap (λ (y : Seat). total (suc k) (λ t. f (seat_at xs t).call) + f y.call) (sym (seat_next xs k))))
+    ap (λ (ys : List Seat). sum_by (λ (seat : Seat). f seat.call) ys) same
+    ∙ (next ∙ (ap (λ (n : ℕ). n + f (get_or xs k no_seat).call) before
+    ∙ ap (λ (y : Seat). total (suc k) (λ t. f (seat_at xs t).call) + f y.call) (sym (seat_next xs k))))
 
 pub sum_is : (f : Option Call → ℕ) (xs : List Seat) (n : ℕ) → f None ≡ 0 → n ≡ length xs
     → sum_by (λ seat. f seat.call) xs ≡ total (n + 1) (λ t. f (calls_of xs t))
@@ -36,13 +38,16 @@ unfolding calls_of
 sum_is f xs n none e =
     let all = sum_upto f xs none (length xs) (omega arith) in
     let whole : take (length xs) xs ≡ xs = take_all (length xs) xs (omega arith) in
-    sym (ap (λ (ys : List Seat). sum_by (λ (seat : Seat). f seat.call) ys) whole) ∙ (all ∙ ap (λ (k : ℕ). total k (λ t. f (seat_at xs t).call)) (omega (arith, e)))
+    sym (ap (λ (ys : List Seat). sum_by (λ (seat : Seat). f seat.call) ys) whole)
+    ∙ (all ∙ ap (λ (k : ℕ). total k (λ t. f (seat_at xs t).call)) (omega (arith, e)))
 
 pub owed_is : (s : CoreState) (seats : List Seat) (a b : ℕ) → IsSound s → seats ≡ s.seats
     → b ≡ sum_by (λ seat. less seat.call) seats → a ≡ sum_by (λ seat. more seat.call) seats → (pos a -ℤ pos b) ≡ owed_of s
 unfolding IsSound owed_of
 owed_is s seats a b h e lesses mores =
     let n : length s.parts.spaces ≡ length s.seats = h.1.spaces ∙ sym h.1.seats in
-    let one : b ≡ all_less (as_state s) = lesses ∙ (ap (λ (xs : List Seat). sum_by (λ (seat : Seat). less seat.call) xs) e ∙ sum_is less s.seats _ refl n) in
-    let two : a ≡ all_more (as_state s) = mores ∙ (ap (λ (xs : List Seat). sum_by (λ (seat : Seat). more seat.call) xs) e ∙ sum_is more s.seats _ refl n) in
+    let one : b ≡ all_less (as_state s) =
+    lesses ∙ (ap (λ (xs : List Seat). sum_by (λ (seat : Seat). less seat.call) xs) e ∙ sum_is less s.seats _ refl n) in
+    let two : a ≡ all_more (as_state s) =
+    mores ∙ (ap (λ (xs : List Seat). sum_by (λ (seat : Seat). more seat.call) xs) e ∙ sum_is more s.seats _ refl n) in
     λ i. pos (two i) -ℤ pos (one i)

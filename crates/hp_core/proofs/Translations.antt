@@ -78,7 +78,8 @@ times_own s t f i x h =
     let given = count_by-filter_map (is_entry t f i x) (translation t table.mappings) es in
     let below = count_by-find told VPNS 0 es (is_sorted-Rises es (in_order table)) (within_space s t h) in
     let same = count_below-ext (λ v. passes (told v) (finite.find nat_cmp v es)) (translates (as_state s) t f i x) VPNS
-    (λ v low. ap (λ (o : Option ℕ). passes (told v) o) (sym (finite.get-entries table.entries v)) ∙ by_frame v (finite.get table.entries v)) in
+    (λ v low. ap (λ (o : Option ℕ). passes (told v) o) (sym (finite.get-entries table.entries v))
+    ∙ by_frame v (finite.get table.entries v)) in
     given ∙ (below ∙ same)
   where
     table : Table
@@ -138,7 +139,8 @@ none_there s t f i x h out =
   where
     by_frame : (v : ℕ) (o : Option ℕ) → (as_state s).table t v ≡ o → (is_there (find ((as_state s).areas t) v) f i && is_that x o) ≡ false
     by_frame v None is = and-false (is_there (find ((as_state s).areas t) v) f i)
-    by_frame v (Some y) is = (let there = (always (as_state s) (reached_of s h)).inv.entries.owners t v y is in absurd (out there.0 there.1))
+    by_frame v (Some y) is =
+        (let there = (always (as_state s) (reached_of s h)).inv.entries.owners t v y is in absurd (out there.0 there.1))
 
 -- all copies: an entry is told as often as virtual pages are translated so
 pub all_counted : (s : CoreState) (t f i x : ℕ) → IsSound s

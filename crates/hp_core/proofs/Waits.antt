@@ -1,6 +1,7 @@
 -- Who is blocked, and by whom: the reader against the rows of the machine.
 use Rattle.std.proofs.Common.{◌≡◌, ℕ, ◌+◌, ◌-◌, ◌≤◌, refl, sym, ◌∙◌, ap, subst, true≢false}
-use Rattle.std.specs.Prelude.{Bool, true, false, ◌||◌, ◌==◌, Option, Some, None, MatchBool, MatchOption, length, is_some, nat_le, nat_lt, if◌then◌else◌, slice_index_or}
+use Rattle.std.specs.Prelude.{Bool, true, false, ◌||◌, ◌==◌, Option, Some, None, MatchBool, MatchOption, length, is_some, nat_le}
+use Rattle.std.specs.Prelude.{nat_lt, if◌then◌else◌, slice_index_or}
 use Rattle.hp_base.specs.declared.limits.TheConstants.{LIMIT}
 use Rattle.hp_base.specs.Numbers.{put, put2}
 use Rattle.hp_base.proofs.Puts.{put_self}
@@ -46,7 +47,8 @@ use Rattle.hp_core.specs.State.{CoreState, seat_at, calls_of, lives_of, as_state
 use Rattle.hp_core.specs.Sound.{IsSound}
 use Rattle.hp_core.specs.Runs.{Row}
 use Rattle.hp_core.specs.Waiting.{WaitsFor}
-use Rattle.hp_core.specs.Blockers.{is_bad, slot_blocker, touch_blocker, map_blocker, alloc_blocker, punch_blocker, truncate_blocker, call_blocker, seat_call_blocker, task_blocker}
+use Rattle.hp_core.specs.Blockers.{is_bad, slot_blocker, touch_blocker, map_blocker, alloc_blocker, punch_blocker}
+use Rattle.hp_core.specs.Blockers.{truncate_blocker, call_blocker, seat_call_blocker, task_blocker}
 use Rattle.hp_core.proofs.Seats.{by_test, by_option, at_false, at_some}
 
 -- the holder that a turn was blocked by
@@ -61,7 +63,10 @@ told_of other = None
 
 -- the tests at the start of a call on a file, and who holds it up
 start_held : {P : Type 0} (x y z : Bool) (o : Option ℕ) (turn : Turn P) (s new : Pool) (a b c : Answer) (next here : P) (taken : Pool)
-    → MatchBool x ((turn ≡ Ended a) × (new ≡ s)) (MatchBool y ((turn ≡ Ended b) × (new ≡ s)) (MatchBool z ((turn ≡ Ended c) × (new ≡ s)) (MatchOption o ((turn ≡ Moved next) × (new ≡ taken)) (λ h. (turn ≡ Blocked here h) × (new ≡ s)))))
+    → MatchBool x ((turn ≡ Ended a) × (new ≡ s))
+    (MatchBool y ((turn ≡ Ended b) × (new ≡ s))
+    (MatchBool z ((turn ≡ Ended c) × (new ≡ s))
+    (MatchOption o ((turn ≡ Moved next) × (new ≡ taken)) (λ h. (turn ≡ Blocked here h) × (new ≡ s)))))
     → held_up turn ≡ (if x || y || z then None else o)
 start_held true y z o turn s new a b c next here taken r = ap held_up r.0
 start_held false true z o turn s new a b c next here taken r = ap held_up r.0
@@ -77,7 +82,10 @@ nobody {A} h e = absurd (true≢false (ap (λ (o : Option ℕ). elim o [ None �
 
 start_blocks : {P : Type 0} (x y z : Bool) (o : Option ℕ) (h : ℕ) (s : Pool) (a b c : Answer) (next here : P) (taken : Pool)
     → (if x || y || z then None else o) ≡ Some h
-    → MatchBool x ((Blocked here h ≡ Ended a) × (s ≡ s)) (MatchBool y ((Blocked here h ≡ Ended b) × (s ≡ s)) (MatchBool z ((Blocked here h ≡ Ended c) × (s ≡ s)) (MatchOption o ((Blocked here h ≡ Moved next) × (s ≡ taken)) (λ k. (Blocked here h ≡ Blocked here k) × (s ≡ s)))))
+    → MatchBool x ((Blocked here h ≡ Ended a) × (s ≡ s))
+    (MatchBool y ((Blocked here h ≡ Ended b) × (s ≡ s))
+    (MatchBool z ((Blocked here h ≡ Ended c) × (s ≡ s))
+    (MatchOption o ((Blocked here h ≡ Moved next) × (s ≡ taken)) (λ k. (Blocked here h ≡ Blocked here k) × (s ≡ s)))))
 start_blocks true y z o h s a b c next here taken e = nobody h e
 start_blocks false true z o h s a b c next here taken e = nobody h e
 start_blocks false false true o h s a b c next here taken e = nobody h e
@@ -107,8 +115,10 @@ map_held : (p : PartsState) (t : ℕ) (killed grant : Bool) (phase : MapPhase) (
     → MapRow (pool_of p) t killed grant phase turn new → held_up turn ≡ map_blocker p killed phase
 unfolding holders_of
 map_held p t killed grant (at.Start q) turn new row =
-    start_held (nat_le (length p.files) q.map.file) ((q.map.len == 0) || nat_lt LIMIT (q.map.from + q.map.len)) killed (slice_index_or p.locks q.map.file None) turn (pool_of p) new
-    answer.BadFile answer.BadRange answer.Killed (at.Room (record { map = q.map })) (at.Start q) (record (pool_of p) { locks = put (holders_of p.locks) q.map.file (Some t) }) row
+    start_held (nat_le (length p.files) q.map.file) ((q.map.len == 0) || nat_lt LIMIT (q.map.from + q.map.len)) killed
+    (slice_index_or p.locks q.map.file None) turn (pool_of p) new
+    answer.BadFile answer.BadRange answer.Killed (at.Room (record { map = q.map })) (at.Start q)
+    (record (pool_of p) { locks = put (holders_of p.locks) q.map.file (Some t) }) row
 map_held p t killed grant (at.Room q) turn new row = by_option row.0 row.2
     (λ none r. ap (λ (u : Turn MapPhase). held_up u) r.0)
     (λ base some m. moves_in grant q.map.reserve turn _ _ _ new _ _ _ m)
@@ -125,8 +135,10 @@ map_blocks : (p : PartsState) (t : ℕ) (killed grant : Bool) (phase : MapPhase)
     → MapRow (pool_of p) t killed grant phase (Blocked phase h) (pool_of p)
 unfolding holders_of
 map_blocks p t killed grant (at.Start q) h e =
-    start_blocks (nat_le (length p.files) q.map.file) ((q.map.len == 0) || nat_lt LIMIT (q.map.from + q.map.len)) killed (slice_index_or p.locks q.map.file None) h (pool_of p)
-    answer.BadFile answer.BadRange answer.Killed (at.Room (record { map = q.map })) (at.Start q) (record (pool_of p) { locks = put (holders_of p.locks) q.map.file (Some t) }) e
+    start_blocks (nat_le (length p.files) q.map.file) ((q.map.len == 0) || nat_lt LIMIT (q.map.from + q.map.len))
+    killed (slice_index_or p.locks q.map.file None) h (pool_of p)
+    answer.BadFile answer.BadRange answer.Killed (at.Room (record { map = q.map })) (at.Start q)
+    (record (pool_of p) { locks = put (holders_of p.locks) q.map.file (Some t) }) e
 map_blocks p t killed grant (at.Room q) h e = nobody h e
 map_blocks p t killed grant (at.Missing q) h e = nobody h e
 map_blocks p t killed grant (at.Changed q) h e = nobody h e
@@ -161,7 +173,8 @@ take_held s missing no_frame taken turn new row =
     row (λ r. ap held_up r.3.0) (λ r. ap held_up r.2.0)
 
 -- a look for a page and its entry
-look_held : {P : Type 0} (place : Option (ℕ × ℕ)) (entry : Option ℕ) (turn : Turn P) (s new : Pool) (a : Answer) (next : ℕ × ℕ → P) (Reads : ℕ → Type 0)
+look_held : {P : Type 0} (place : Option (ℕ × ℕ)) (entry : Option ℕ) (turn : Turn P) (s new : Pool) (a : Answer)
+    (next : ℕ × ℕ → P) (Reads : ℕ → Type 0)
     → MatchOption place ((turn ≡ Ended a) × (new ≡ s)) (λ k. MatchOption entry ((turn ≡ Moved (next k)) × (new ≡ s)) Reads)
     → ((x : ℕ) → Reads x → held_up turn ≡ None) → held_up turn ≡ None
 look_held None entry turn s new a next Reads r reads = ap held_up r.0
@@ -179,22 +192,34 @@ found_held false false turn s new x z Reads r reads = ap held_up r.0
 touch_held : (p : PartsState) (t : ℕ) (killed grant : Bool) (phase : TouchPhase) (turn : Turn TouchPhase) (new : Pool)
     → TouchRow (pool_of p) t killed grant phase turn new → held_up turn ≡ touch_blocker p killed phase
 unfolding holders_of
-touch_held p t killed grant (touch.Look q) turn new row = look_held _ _ turn _ new _ _ (λ x. (word : ℕ) × (frame_at p.bank.frames x ≡ Placed word) × Ends (answer_of q.access word) (record (pool_of p) { frame = frame_after q.access (frame_at p.bank.frames) x }) turn new) row (λ x r. ap held_up r.2.0)
+touch_held p t killed grant (touch.Look q) turn new row =
+    look_held _ _ turn _ new _ _
+    (λ x. (word : ℕ) × (frame_at p.bank.frames x ≡ Placed word)
+    × Ends (answer_of q.access word) (record (pool_of p) { frame = frame_after q.access (frame_at p.bank.frames) x })
+    turn new) row (λ x r. ap held_up r.2.0)
 touch_held p t killed grant (touch.Want q) turn new row = by_test killed row
     (λ e r. rw e (ap held_up r.0))
     (λ e r. rw e (by_option _ r (λ none m. ap held_up m.0 ∙ sym none) (λ h some m. ap held_up m.0 ∙ sym some)))
-touch_held p t killed grant (touch.Locked q) turn new row = moves_on (nat_le (sizes_of p.files q.touch.file) q.touch.index) (is_some (pages_of p.files q.touch.file q.touch.index)) turn _ _ _ new _ _ _ row
+touch_held p t killed grant (touch.Locked q) turn new row =
+    moves_on (nat_le (sizes_of p.files q.touch.file) q.touch.index)
+    (is_some (pages_of p.files q.touch.file q.touch.index)) turn _ _ _ new _ _ _ row
 touch_held p t killed grant (touch.Missing q) turn new row = moves _ turn _ _ new _ _ row
-touch_held p t killed grant (touch.Changed q) turn new row = by_test killed row (λ _ r. ap held_up r.0) (λ _ r. take_held (pool_of p) q.pending.missing _ _ turn new r)
+touch_held p t killed grant (touch.Changed q) turn new row =
+    by_test killed row (λ _ r. ap held_up r.0) (λ _ r. take_held (pool_of p) q.pending.missing _ _ turn new r)
 touch_held p t killed grant (touch.Abort q) turn new row = ap held_up row.0
 touch_held p t killed grant (touch.Taken q) turn new row = moves _ turn _ _ new _ _ row
 touch_held p t killed grant (touch.Settle q) turn new row = ap held_up row.1.0
-touch_held p t killed grant (touch.Committed q) turn new row = moves_on (nat_le (sizes_of p.files q.touch.file) q.touch.index) grant turn _ _ _ new _ _ _ row
+touch_held p t killed grant (touch.Committed q) turn new row =
+    moves_on (nat_le (sizes_of p.files q.touch.file) q.touch.index) grant turn _ _ _ new _ _ _ row
 touch_held p t killed grant (touch.Restore q) turn new row = ap held_up row.0
 touch_held p t killed grant (touch.Found q) turn new row =
     found_held _ grant turn _ new _ _
     ((x : ℕ) × (word : ℕ) × (pages_of p.files q.touch.file q.touch.index ≡ Some x) × (frame_at p.bank.frames x ≡ Placed word)
-    × Goes (touch.Leave (record { touch = q.touch; answer = answer_of q.touch.access word })) (record (pool_of p) { table = put2 (entries_of p.spaces) t q.touch.vpn (Some x); frame = frame_after q.touch.access (frame_at p.bank.frames) x }) turn new)
+    × Goes (touch.Leave (record { touch = q.touch; answer = answer_of q.touch.access word }))
+    (record (pool_of p) {
+      table = put2 (entries_of p.spaces) t q.touch.vpn (Some x);
+      frame = frame_after q.touch.access (frame_at p.bank.frames) x;
+    }) turn new)
     row (λ r. ap held_up r.4.0)
 touch_held p t killed grant (touch.Leave q) turn new row = ap held_up row.0
 
@@ -204,7 +229,8 @@ touch_blocks : (p : PartsState) (t : ℕ) (killed grant : Bool) (phase : TouchPh
 unfolding holders_of
 touch_blocks p t killed grant (touch.Look q) h e = nobody h e
 touch_blocks p t killed grant (touch.Want q) h e =
-    want_blocks killed (slice_index_or p.slots (slot_number (length p.slots) q.touch.file q.touch.index) None) h (pool_of p) _ _ (touch.Locked (record { touch = q.touch })) (touch.Want q) e
+    want_blocks killed (slice_index_or p.slots (slot_number (length p.slots) q.touch.file q.touch.index) None) h
+    (pool_of p) _ _ (touch.Locked (record { touch = q.touch })) (touch.Want q) e
 touch_blocks p t killed grant (touch.Locked q) h e = nobody h e
 touch_blocks p t killed grant (touch.Missing q) h e = nobody h e
 touch_blocks p t killed grant (touch.Changed q) h e = nobody h e
@@ -224,7 +250,9 @@ slot_held_up (Some h) turn s new taken next here r = ap held_up r.0
 
 -- the slot is left: to the next index, or on with the answer
 unslot_held : {P : Type 0} (o : Option Answer) (a b : Bool) (turn : Turn P) (after new : Pool) (x y z : P) (w : Answer → P)
-    → MatchOption o (MatchBool a ((turn ≡ Moved x) × (new ≡ after)) (MatchBool b ((turn ≡ Moved y) × (new ≡ after)) ((turn ≡ Moved z) × (new ≡ after)))) (λ k. (turn ≡ Moved (w k)) × (new ≡ after))
+    → MatchOption o (MatchBool a ((turn ≡ Moved x) × (new ≡ after))
+    (MatchBool b ((turn ≡ Moved y) × (new ≡ after)) ((turn ≡ Moved z) × (new ≡ after))))
+    (λ k. (turn ≡ Moved (w k)) × (new ≡ after))
     → held_up turn ≡ None
 unslot_held None a b turn after new x y z w r = moves_on a b turn after after after new x y z r
 unslot_held (Some k) a b turn after new x y z w r = ap held_up r.0
@@ -240,7 +268,8 @@ alloc_held : (p : PartsState) (t : ℕ) (killed grant : Bool) (phase : AllocPhas
     → AllocRow (pool_of p) t killed grant phase turn new → held_up turn ≡ alloc_blocker p killed phase
 unfolding holders_of
 alloc_held p t killed grant (alloc.Start q) turn new row =
-    start_held (nat_le (length p.files) q.allocation.file) (is_bad q.allocation.from q.allocation.len) killed (slice_index_or p.locks q.allocation.file None) turn (pool_of p) new
+    start_held (nat_le (length p.files) q.allocation.file) (is_bad q.allocation.from q.allocation.len) killed
+    (slice_index_or p.locks q.allocation.file None) turn (pool_of p) new
     answer.BadFile answer.BadRange answer.Interrupted _ (alloc.Start q) _ row
 alloc_held p t killed grant (alloc.Head q) turn new row = moves killed turn _ _ new _ _ row
 alloc_held p t killed grant (alloc.Want q) turn new row = by_test killed row
@@ -248,13 +277,15 @@ alloc_held p t killed grant (alloc.Want q) turn new row = by_test killed row
     (λ e r. rw e (slot_held_up _ turn _ new _ _ _ r))
 alloc_held p t killed grant (alloc.Locked q) turn new row = moves _ turn _ _ new _ _ row
 alloc_held p t killed grant (alloc.Missing q) turn new row = moves _ turn _ _ new _ _ row
-alloc_held p t killed grant (alloc.Changed q) turn new row = by_test killed row (λ _ r. ap held_up r.0) (λ _ r. take_held (pool_of p) q.pending.missing _ _ turn new r)
+alloc_held p t killed grant (alloc.Changed q) turn new row =
+    by_test killed row (λ _ r. ap held_up r.0) (λ _ r. take_held (pool_of p) q.pending.missing _ _ turn new r)
 alloc_held p t killed grant (alloc.Abort q) turn new row = ap held_up row.0
 alloc_held p t killed grant (alloc.Taken q) turn new row = moves _ turn _ _ new _ _ row
 alloc_held p t killed grant (alloc.Settle q) turn new row = ap held_up row.1.0
 alloc_held p t killed grant (alloc.Committed q) turn new row = moves grant turn _ _ new _ _ row
 alloc_held p t killed grant (alloc.Restore q) turn new row = ap held_up row.0
-alloc_held p t killed grant (alloc.Unslot q) turn new row = unslot_held q.answer (nat_lt (q.index + 1) (q.allocation.from + q.allocation.len)) q.allocation.keep turn _ new _ _ _ _ row
+alloc_held p t killed grant (alloc.Unslot q) turn new row =
+    unslot_held q.answer (nat_lt (q.index + 1) (q.allocation.from + q.allocation.len)) q.allocation.keep turn _ new _ _ _ _ row
 alloc_held p t killed grant (alloc.Extend q) turn new row = ap held_up row.0
 alloc_held p t killed grant (alloc.Leave q) turn new row = ap held_up row.0
 
@@ -262,10 +293,15 @@ alloc_blocks : (p : PartsState) (t : ℕ) (killed grant : Bool) (phase : AllocPh
     → AllocRow (pool_of p) t killed grant phase (Blocked phase h) (pool_of p)
 unfolding holders_of
 alloc_blocks p t killed grant (alloc.Start q) h e =
-    start_blocks (nat_le (length p.files) q.allocation.file) (is_bad q.allocation.from q.allocation.len) killed (slice_index_or p.locks q.allocation.file None) h (pool_of p)
-    answer.BadFile answer.BadRange answer.Interrupted (alloc.Head (record { allocation = q.allocation; index = q.allocation.from })) (alloc.Start q) (record (pool_of p) { locks = put (holders_of p.locks) q.allocation.file (Some t) }) e
+    start_blocks (nat_le (length p.files) q.allocation.file) (is_bad q.allocation.from q.allocation.len) killed
+    (slice_index_or p.locks q.allocation.file None) h (pool_of p)
+    answer.BadFile answer.BadRange answer.Interrupted
+    (alloc.Head (record { allocation = q.allocation; index = q.allocation.from })) (alloc.Start q)
+    (record (pool_of p) { locks = put (holders_of p.locks) q.allocation.file (Some t) }) e
 alloc_blocks p t killed grant (alloc.Head q) h e = nobody h e
-alloc_blocks p t killed grant (alloc.Want q) h e = want_blocks killed (slot_blocker p q.allocation.file q.index) h (pool_of p) _ _ (alloc.Locked (record { allocation = q.allocation; index = q.index })) (alloc.Want q) e
+alloc_blocks p t killed grant (alloc.Want q) h e =
+    want_blocks killed (slot_blocker p q.allocation.file q.index) h (pool_of p) _ _
+    (alloc.Locked (record { allocation = q.allocation; index = q.index })) (alloc.Want q) e
 alloc_blocks p t killed grant (alloc.Locked q) h e = nobody h e
 alloc_blocks p t killed grant (alloc.Missing q) h e = nobody h e
 alloc_blocks p t killed grant (alloc.Changed q) h e = nobody h e
@@ -283,7 +319,8 @@ punch_held : (p : PartsState) (t : ℕ) (killed grant : Bool) (phase : PunchPhas
     → PunchRow (pool_of p) t killed grant phase turn new → held_up turn ≡ punch_blocker p killed phase
 unfolding holders_of
 punch_held p t killed grant (punch.Start q) turn new row =
-    start_held (nat_le (length p.files) q.hole.file) (is_bad q.hole.from q.hole.len) killed (slice_index_or p.locks q.hole.file None) turn (pool_of p) new
+    start_held (nat_le (length p.files) q.hole.file) (is_bad q.hole.from q.hole.len) killed
+    (slice_index_or p.locks q.hole.file None) turn (pool_of p) new
     answer.BadFile answer.BadRange answer.Killed _ (punch.Start q) _ row
 punch_held p t killed grant (punch.Want q) turn new row = slot_held_up _ turn _ new _ _ _ row
 punch_held p t killed grant (punch.Locked q) turn new row = moves _ turn _ _ new _ _ row
@@ -298,9 +335,13 @@ punch_blocks : (p : PartsState) (t : ℕ) (killed grant : Bool) (phase : PunchPh
     → PunchRow (pool_of p) t killed grant phase (Blocked phase h) (pool_of p)
 unfolding holders_of
 punch_blocks p t killed grant (punch.Start q) h e =
-    start_blocks (nat_le (length p.files) q.hole.file) (is_bad q.hole.from q.hole.len) killed (slice_index_or p.locks q.hole.file None) h (pool_of p)
-    answer.BadFile answer.BadRange answer.Killed (punch.Want (record { hole = q.hole; index = q.hole.from })) (punch.Start q) (record (pool_of p) { locks = put (holders_of p.locks) q.hole.file (Some t) }) e
-punch_blocks p t killed grant (punch.Want q) h e = want_blocks false (slot_blocker p q.hole.file q.index) h (pool_of p) _ (Unit {0}) (punch.Locked (record { hole = q.hole; index = q.index })) (punch.Want q) e
+    start_blocks (nat_le (length p.files) q.hole.file) (is_bad q.hole.from q.hole.len) killed
+    (slice_index_or p.locks q.hole.file None) h (pool_of p)
+    answer.BadFile answer.BadRange answer.Killed (punch.Want (record { hole = q.hole; index = q.hole.from }))
+    (punch.Start q) (record (pool_of p) { locks = put (holders_of p.locks) q.hole.file (Some t) }) e
+punch_blocks p t killed grant (punch.Want q) h e =
+    want_blocks false (slot_blocker p q.hole.file q.index) h (pool_of p) _ (Unit {0})
+    (punch.Locked (record { hole = q.hole; index = q.index })) (punch.Want q) e
 punch_blocks p t killed grant (punch.Locked q) h e = nobody h e
 punch_blocks p t killed grant (punch.Unmap q) h e = nobody h e
 punch_blocks p t killed grant (punch.Evict q) h e = nobody h e
@@ -314,7 +355,8 @@ truncate_held : (p : PartsState) (t : ℕ) (killed grant : Bool) (phase : Trunca
     → TruncateRow (pool_of p) t killed grant phase turn new → held_up turn ≡ truncate_blocker p killed phase
 unfolding holders_of
 truncate_held p t killed grant (truncate.Start q) turn new row =
-    start_held (nat_le (length p.files) q.truncation.file) (nat_lt LIMIT q.truncation.new) killed (slice_index_or p.locks q.truncation.file None) turn (pool_of p) new
+    start_held (nat_le (length p.files) q.truncation.file) (nat_lt LIMIT q.truncation.new) killed
+    (slice_index_or p.locks q.truncation.file None) turn (pool_of p) new
     answer.BadFile answer.BadRange answer.Killed _ (truncate.Start q) _ row
 truncate_held p t killed grant (truncate.Size q) turn new row = moves _ turn _ _ new _ _ row.2
 truncate_held p t killed grant (truncate.Want q) turn new row = slot_held_up _ turn _ new _ _ _ row
@@ -331,10 +373,14 @@ truncate_blocks : (p : PartsState) (t : ℕ) (killed grant : Bool) (phase : Trun
     → truncate_blocker p killed phase ≡ Some h → TruncateRow (pool_of p) t killed grant phase (Blocked phase h) (pool_of p)
 unfolding holders_of
 truncate_blocks p t killed grant (truncate.Start q) h e =
-    start_blocks (nat_le (length p.files) q.truncation.file) (nat_lt LIMIT q.truncation.new) killed (slice_index_or p.locks q.truncation.file None) h (pool_of p)
-    answer.BadFile answer.BadRange answer.Killed (truncate.Size (record { truncation = q.truncation })) (truncate.Start q) (record (pool_of p) { locks = put (holders_of p.locks) q.truncation.file (Some t) }) e
+    start_blocks (nat_le (length p.files) q.truncation.file) (nat_lt LIMIT q.truncation.new) killed
+    (slice_index_or p.locks q.truncation.file None) h (pool_of p)
+    answer.BadFile answer.BadRange answer.Killed (truncate.Size (record { truncation = q.truncation }))
+    (truncate.Start q) (record (pool_of p) { locks = put (holders_of p.locks) q.truncation.file (Some t) }) e
 truncate_blocks p t killed grant (truncate.Size q) h e = nobody h e
-truncate_blocks p t killed grant (truncate.Want q) h e = want_blocks false (slot_blocker p q.truncation.file q.index) h (pool_of p) _ (Unit {0}) (truncate.Locked (record { truncation = q.truncation; index = q.index; evicted = q.evicted })) (truncate.Want q) e
+truncate_blocks p t killed grant (truncate.Want q) h e =
+    want_blocks false (slot_blocker p q.truncation.file q.index) h (pool_of p) _ (Unit {0})
+    (truncate.Locked (record { truncation = q.truncation; index = q.index; evicted = q.evicted })) (truncate.Want q) e
 truncate_blocks p t killed grant (truncate.Locked q) h e = nobody h e
 truncate_blocks p t killed grant (truncate.Unmap q) h e = nobody h e
 truncate_blocks p t killed grant (truncate.Evict q) h e = nobody h e
@@ -371,13 +417,20 @@ told_held inflight (Ended a) = refl
 call_held : (p : PartsState) (t : ℕ) (killed grant : Bool) (inflight : Call) (told : Outcome) (new : Pool) (next : Option Call)
     → rows.CallRow (pool_of p) t killed grant inflight told new next → told_of told ≡ call_blocker p killed inflight
 unfolding rows.CallRow
-call_held p t killed grant (call.Touch phase) told new next row = ap told_of row.2 ∙ (told_held call.Touch row.0 ∙ touch_held p t killed grant phase row.0 new row.1)
-call_held p t killed grant (call.Map phase) told new next row = ap told_of row.2 ∙ (told_held call.Map row.0 ∙ map_held p t killed grant phase row.0 new row.1)
-call_held p t killed grant (call.Alloc phase) told new next row = ap told_of row.2 ∙ (told_held call.Alloc row.0 ∙ alloc_held p t killed grant phase row.0 new row.1)
-call_held p t killed grant (call.Punch phase) told new next row = ap told_of row.2 ∙ (told_held call.Punch row.0 ∙ punch_held p t killed grant phase row.0 new row.1)
-call_held p t killed grant (call.Truncate phase) told new next row = ap told_of row.2 ∙ (told_held call.Truncate row.0 ∙ truncate_held p t killed grant phase row.0 new row.1)
-call_held p t killed grant (call.Unmap phase) told new next row = ap told_of row.2 ∙ (told_held call.Unmap row.0 ∙ unmap_held p t killed grant phase row.0 new row.1)
-call_held p t killed grant (call.Exit phase) told new next row = ap told_of row.2 ∙ (told_held call.Exit row.0 ∙ exit_held p t killed grant phase row.0 new row.1)
+call_held p t killed grant (call.Touch phase) told new next row =
+    ap told_of row.2 ∙ (told_held call.Touch row.0 ∙ touch_held p t killed grant phase row.0 new row.1)
+call_held p t killed grant (call.Map phase) told new next row =
+    ap told_of row.2 ∙ (told_held call.Map row.0 ∙ map_held p t killed grant phase row.0 new row.1)
+call_held p t killed grant (call.Alloc phase) told new next row =
+    ap told_of row.2 ∙ (told_held call.Alloc row.0 ∙ alloc_held p t killed grant phase row.0 new row.1)
+call_held p t killed grant (call.Punch phase) told new next row =
+    ap told_of row.2 ∙ (told_held call.Punch row.0 ∙ punch_held p t killed grant phase row.0 new row.1)
+call_held p t killed grant (call.Truncate phase) told new next row =
+    ap told_of row.2 ∙ (told_held call.Truncate row.0 ∙ truncate_held p t killed grant phase row.0 new row.1)
+call_held p t killed grant (call.Unmap phase) told new next row =
+    ap told_of row.2 ∙ (told_held call.Unmap row.0 ∙ unmap_held p t killed grant phase row.0 new row.1)
+call_held p t killed grant (call.Exit phase) told new next row =
+    ap told_of row.2 ∙ (told_held call.Exit row.0 ∙ exit_held p t killed grant phase row.0 new row.1)
 
 call_blocks : (p : PartsState) (t : ℕ) (killed grant : Bool) (inflight : Call) (h : ℕ) → call_blocker p killed inflight ≡ Some h
     → rows.CallRow (pool_of p) t killed grant inflight (outcome.Blocked h) (pool_of p) (Some inflight)
@@ -428,13 +481,19 @@ step_blocks s t grant h e =
     let inflight = b.1.0 in
     let calls = same_calls (calls_of s.seats) t inflight b.1.1 in
     let lives = lives_on (lives_of s.seats) t inflight inflight in
-    at_false _ _ _ b.0 (at_some _ _ _ inflight b.1.1 (pool_of s.parts, Some inflight, call_blocks s.parts t _ grant inflight h b.1.2, λ i. record (as_state s) { life = sym lives i; calls = sym calls i }))
+    at_false _ _ _ b.0 (at_some _ _ _ inflight b.1.1 (
+      pool_of s.parts,
+      Some inflight,
+      call_blocks s.parts t _ grant inflight h b.1.2,
+      λ i. record (as_state s) { life = sym lives i; calls = sym calls i },
+    ))
 
 -- the reader names whom the next step is blocked by
 names : (s : CoreState) (t : ℕ) (o : Option ℕ) → IsSound s → task_blocker s.parts (seat_at s.seats t) ≡ o → WaitsFor s t o
 unfolding WaitsFor Row
 names s t (Some h) sound e = λ grant. (step_blocks s t grant h e, refl)
-names s t None sound e = λ grant holder new row. nobody holder (sym e ∙ sym (step_held s t grant (outcome.Blocked holder) (as_state new) sound row.0))
+names s t None sound e =
+    λ grant holder new row. nobody holder (sym e ∙ sym (step_held s t grant (outcome.Blocked holder) (as_state new) sound row.0))
 
 pub waits : (s : CoreState) (t : ℕ) (o : Option ℕ) → IsSound s → o ≡ task_blocker s.parts (seat_at s.seats t) → WaitsFor s t o
 waits s t o sound e = names s t o sound (sym e)

@@ -1,5 +1,6 @@
 -- A core as plain data.
-use Rattle.std.specs.Prelude.{◌≡◌, ℕ, ◌+◌, ◌<◌, ◌≤◌, ◌==◌, Bool, false, ◌&&◌, Option, Some, None, length, is_some, IsTrue, All, AllPairs, HoldsAt, count_by}
+use Rattle.std.specs.Prelude.{◌≡◌, ℕ, ◌+◌, ◌<◌, ◌≤◌, ◌==◌, Bool, false, ◌&&◌, Option, Some, None, length, is_some, IsTrue, All}
+use Rattle.std.specs.Prelude.{AllPairs, HoldsAt, count_by}
 use Rattle.std.specs.FinMap as map
 use Rattle.std.specs.Ordering.{nat_cmp}
 use Rattle.hp_base.specs.Numbers.{bit, total}
@@ -47,7 +48,8 @@ pub record IsPicture (s : CoreState) (p : Picture) : Type 0 where
   pub frees : length p.free.items ≡ free_of s
   pub resv : p.resv ≡ resv_of s
   pub owed : p.owed ≡ owed_of s
-  pub hands : (x : ℕ) → count_by (λ frame. frame == x) p.hands.items ≡ total ((as_state s).geometry.tasks + 1) (λ t. bit (is_that x (hand ((as_state s).calls t))))
+  pub hands : (x : ℕ) → count_by (λ frame. frame == x) p.hands.items ≡ total ((as_state s).geometry.tasks + 1)
+      (λ t. bit (is_that x (hand ((as_state s).calls t))))
   pub as_many : length p.files.items ≡ (as_state s).geometry.files
   pub files : (f : ℕ) → f < (as_state s).geometry.files → HoldsAt (IsFilePicture (as_state s) f) p.files.items f
   pub tables : (t f i x : ℕ) → count_by (is_entry t f i x) p.tables.items ≡ count_below (translates (as_state s) t f i x) VPNS

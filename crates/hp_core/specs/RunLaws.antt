@@ -10,4 +10,5 @@ use Rattle.hp_core.specs.Runs.{Run, IsOpening}
 -- two cores of one config to which the same happened told the same, and are equal up to a renaming of frames
 abbrev pub FramesDontShow : Config → Type 0
 FramesDontShow config = (a b s n : CoreState) (events : List Event) (told other : List Outcome)
-    → IsOpening config a → IsOpening config b → Run a events told s → Run b events other n → (other ≡ told) × Alike config.frames (as_state s) (as_state n)
+    → IsOpening config a → IsOpening config b → Run a events told s → Run b events other n
+    → (other ≡ told) × Alike config.frames (as_state s) (as_state n)

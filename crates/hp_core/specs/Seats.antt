@@ -59,5 +59,6 @@ EventSeats p seats (Kill t) told after new = KillSeats seats t told new × (afte
 -- where a step is blocked, parts and seats are what they were; no begin and no kill is
 abbrev pub BlockedStays : PartsState → List Seat → Event → PartsState → List Seat → Type 0
 BlockedStays p seats (Begin t op) after new = ⊥
-BlockedStays p seats (Step t grant) after new = IfSome (seat_at seats t).call (λ inflight. IfWanting (standing inflight).wants ((after ≡ p) × (new ≡ seats)))
+BlockedStays p seats (Step t grant) after new =
+    IfSome (seat_at seats t).call (λ inflight. IfWanting (standing inflight).wants ((after ≡ p) × (new ≡ seats)))
 BlockedStays p seats (Kill t) after new = ⊥

@@ -139,8 +139,11 @@ fn step_task(
     grant: bool,
 ) -> Result<Outcome, AllocError>
     requires { StepFits (state_of parts.old) seats.old.items task }
-    ensures row { IfOk result (λ told. StepSeats (state_of parts.old) seats.old.items task grant told (state_of parts.new) seats.new.items) }
-    ensures blocked { IfOk result (λ told. IfToldBlocked told (BlockedStays (state_of parts.old) seats.old.items (Step task grant) (state_of parts.new) seats.new.items)) }
+    ensures row { IfOk result
+        (λ told. StepSeats (state_of parts.old) seats.old.items task grant told (state_of parts.new) seats.new.items) }
+    ensures blocked { IfOk result
+        (λ told. IfToldBlocked told
+        (BlockedStays (state_of parts.old) seats.old.items (Step task grant) (state_of parts.new) seats.new.items)) }
     ensures sizes { SizesStay (state_of parts.old) (state_of parts.new) }
     ensures seats { length seats.new.items ≡ length seats.old.items }
     ensures err { OnErr result ((state_of parts.new ≡ state_of parts.old) × (seats.new.items ≡ seats.old.items)) }
@@ -171,7 +174,8 @@ pub fn step_event(
 ) -> Result<Outcome, AllocError>
     requires { EventFits (state_of parts.old) seats.old.items event }
     ensures row { IfOk result (λ told. EventSeats (state_of parts.old) seats.old.items event told (state_of parts.new) seats.new.items) }
-    ensures blocked { IfOk result (λ told. IfToldBlocked told (BlockedStays (state_of parts.old) seats.old.items event (state_of parts.new) seats.new.items)) }
+    ensures blocked { IfOk result
+        (λ told. IfToldBlocked told (BlockedStays (state_of parts.old) seats.old.items event (state_of parts.new) seats.new.items)) }
     ensures sizes { SizesStay (state_of parts.old) (state_of parts.new) }
     ensures seats { length seats.new.items ≡ length seats.old.items }
     ensures err { OnErr result ((state_of parts.new ≡ state_of parts.old) × (seats.new.items ≡ seats.old.items)) }

@@ -2,8 +2,11 @@
 //! on, and looks at a field, which brings to hand what always holds of a core.
 ghost use Rattle.hp_machine.specs.Events.{IsReached};
 ghost use Rattle.hp_core.specs.State.{as_state};
-ghost use Rattle.hp_laws.specs.Laws.{AllocNeverLacks, AllocTakes, BlockedByHolders, EvictedStays, EvictsFew, LockHoldersWaitForSlots, LosesUnderLock, NeverShort, SlotHoldersGoOn, SomeCallGoesOn, TouchNeverLacks, TouchTakes, TruncationCuts};
-ghost use Rattle.hp_laws.specs.Protocol.{BareWhereMade, ChangesAreCalls, HandsApart, LiesWithin, PagesAreReserved, PassedIsBare, SparesSuffice};
+ghost use Rattle.hp_laws.specs.Laws.{AllocNeverLacks, AllocTakes, BlockedByHolders, EvictedStays, EvictsFew};
+ghost use Rattle.hp_laws.specs.Laws.{LockHoldersWaitForSlots, LosesUnderLock, NeverShort, SlotHoldersGoOn, SomeCallGoesOn};
+ghost use Rattle.hp_laws.specs.Laws.{TouchNeverLacks, TouchTakes, TruncationCuts};
+ghost use Rattle.hp_laws.specs.Protocol.{BareWhereMade, ChangesAreCalls, HandsApart, LiesWithin, PagesAreReserved, PassedIsBare};
+ghost use Rattle.hp_laws.specs.Protocol.{SparesSuffice};
 
 use crate::core_state::Core;
 

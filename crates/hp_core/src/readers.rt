@@ -4,7 +4,9 @@ ghost use Rattle.hp_base.specs.Numbers.{total};
 ghost use Rattle.hp_base.specs.Indices.{count_below};
 ghost use Rattle.hp_fault.specs.View.{sets_of};
 ghost use Rattle.hp_core.specs.State.{CoreState, seat_at};
-ghost use Rattle.hp_core.specs.Readers.{config_of, free_of, resv_of, calls_of, size_of, reserved_of, regions_of, pages_of, changes_of, spare_of, life_of, mappings_of, entries_of, translation_of, phase_of, all_reserved_of, all_pages_of};
+ghost use Rattle.hp_core.specs.Readers.{config_of, free_of, resv_of, calls_of, size_of, reserved_of, regions_of, pages_of};
+ghost use Rattle.hp_core.specs.Readers.{changes_of, spare_of, life_of, mappings_of, entries_of, translation_of, phase_of};
+ghost use Rattle.hp_core.specs.Readers.{all_reserved_of, all_pages_of};
 ghost use Rattle.hp_core.specs.Runs.{Headline};
 
 use crate::core_state::Core;

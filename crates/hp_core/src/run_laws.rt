@@ -1,6 +1,7 @@
 //! Theorems on runs and histories, said of cores. There is nothing to run.
 ghost use Rattle.hp_base.specs.declared.config.Config.{Config};
-ghost use Rattle.hp_laws.specs.HistoryLaws.{HasHistory, FewOwnSteps, KeepsPromises, PromisedNeverLacks, PromisedIsServed, LoadsTellLastWords, LoadsEndWithLastWords};
+ghost use Rattle.hp_laws.specs.HistoryLaws.{HasHistory, FewOwnSteps, KeepsPromises, PromisedNeverLacks, PromisedIsServed};
+ghost use Rattle.hp_laws.specs.HistoryLaws.{LoadsTellLastWords, LoadsEndWithLastWords};
 ghost use Rattle.hp_meaning.specs.Meaning.{CallsAloneMean};
 ghost use Rattle.hp_core.specs.State.{as_state};
 ghost use Rattle.hp_core.specs.RunLaws.{FramesDontShow};

@@ -1,5 +1,6 @@
 //! A task's life and its call in flight, and one step of it.
-ghost use Rattle.std.specs.Prelude.{◌≡◌, true, IfOk, IfErr, IfSome, OnErr, MatchOption, IsSome, IfNone, None, Some, ◌≤◌, ◌&&◌, if◌then◌else◌};
+ghost use Rattle.std.specs.Prelude.{◌≡◌, true, IfOk, IfErr, IfSome, OnErr, MatchOption, IsSome, IfNone, None, Some, ◌≤◌, ◌&&◌};
+ghost use Rattle.std.specs.Prelude.{if◌then◌else◌};
 ghost use Rattle.hp_base.specs.Numbers.{is_none};
 ghost use Rattle.hp_machine.specs.Events.{CallRow};
 ghost use Rattle.hp_machine.specs.State as machine;
@@ -101,11 +102,15 @@ pub fn step_seat(
 ) -> Result<Option<Outcome>, AllocError>
     requires { IfSome seat.old.call (λ call. CallFits (state_of parts.old) task call) }
     ensures idle { IfOk result (λ told. MatchOption seat.old.call (told ≡ None) (λ call. IsSome told)) }
-    ensures row { IfOk result (λ told. IfSome told (λ outcome. IfSome seat.old.call (λ call. CallRow (view parts.old) task (machine.is_killed seat.old.life) grant call outcome (view parts.new) seat.new.call))) }
+    ensures row { IfOk result
+        (λ told. IfSome told
+        (λ outcome. IfSome seat.old.call
+        (λ call. CallRow (view parts.old) task (machine.is_killed seat.old.life) grant call outcome (view parts.new) seat.new.call))) }
     ensures blocked { IfOk result (λ told. IfSome told (λ outcome. IfToldBlocked outcome (IfSome seat.old.call
         (λ call. IfWanting (standing call).wants ((state_of parts.new ≡ state_of parts.old) × (seat.new ≡ seat.old)))))) }
     ensures same { IfOk result (λ told. IfNone told ((state_of parts.new ≡ state_of parts.old) × (seat.new ≡ seat.old))) }
-    ensures life { IfOk result (λ told. IfSome told (λ outcome. IfSome seat.old.call (λ call. seat.new.life ≡ life_after seat.old.life call seat.new.call))) }
+    ensures life { IfOk result
+        (λ told. IfSome told (λ outcome. IfSome seat.old.call (λ call. seat.new.life ≡ life_after seat.old.life call seat.new.call))) }
     ensures sizes { SizesStay (state_of parts.old) (state_of parts.new) }
     ensures err { OnErr result ((state_of parts.new ≡ state_of parts.old) × (seat.new ≡ seat.old)) }
     ensures growth { OnErr result (grant ≡ true) }

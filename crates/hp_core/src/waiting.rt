@@ -1,7 +1,8 @@
 //! Whom a task waits for.
 ghost use Rattle.std.specs.Prelude.{◌≡◌, ◌≤◌, length};
 ghost use Rattle.hp_fault.specs.State.{state_of, IsSized};
-ghost use Rattle.hp_core.specs.Blockers.{lock_blocker, slot_blocker, touch_blocker, map_blocker, alloc_blocker, punch_blocker, truncate_blocker, call_blocker, task_blocker};
+ghost use Rattle.hp_core.specs.Blockers.{lock_blocker, slot_blocker, touch_blocker, map_blocker, alloc_blocker, punch_blocker};
+ghost use Rattle.hp_core.specs.Blockers.{truncate_blocker, call_blocker, task_blocker};
 ghost use Rattle.hp_core.specs.Readers.{config_of};
 ghost use Rattle.hp_core.specs.Waiting.{WaitsFor};
 

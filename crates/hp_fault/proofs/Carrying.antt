@@ -23,9 +23,11 @@ carry_leaf here next turn wanted new after e = (ap (carried here next) e.0, e.1)
 
 pub carry_want : {P : Type 0} (s : Pool) (t f i : ℕ) (here next : P) (turn : Turn (Unit {0})) (new : Pool)
     → WantSlotRow s t f i tt tt turn new → WantSlotRow s t f i here next (carried here next turn) new
-carry_want s t f i here next turn new row = map_option (s.slots (slot_of s.geometry f i)) (carry_leaf here next turn _ new _) (λ _. carry_leaf here next turn _ new _) row
+carry_want s t f i here next turn new row =
+    map_option (s.slots (slot_of s.geometry f i)) (carry_leaf here next turn _ new _) (λ _. carry_leaf here next turn _ new _) row
 
-pub carry_start : {P : Type 0} (s : Pool) (t : ℕ) (killed : Bool) (f : ℕ) (bad : Bool) (at_kill : Answer) (here next : P) (turn : Turn (Unit {0})) (new : Pool)
+pub carry_start : {P : Type 0} (s : Pool) (t : ℕ) (killed : Bool) (f : ℕ) (bad : Bool) (at_kill : Answer)
+    (here next : P) (turn : Turn (Unit {0})) (new : Pool)
     → StartRow s t killed f bad at_kill tt tt turn new → StartRow s t killed f bad at_kill here next (carried here next turn) new
 carry_start s t killed f bad at_kill here next turn new row =
     map_test (nat_le s.geometry.files f) (carry_leaf here next turn _ new _)

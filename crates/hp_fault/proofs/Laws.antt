@@ -21,7 +21,8 @@ use Rattle.hp_region.specs.declared.region.Region.{Region}
 use Rattle.hp_table.specs.Table.{Table}
 use Rattle.hp_machine.specs.State as machine
 use Rattle.hp_fault.specs.declared.parts.FileState.{FileState}
-use Rattle.hp_fault.specs.View.{no_file, no_table, holders_of, sizes_of, pendings_of, spares_of, sets_of, pages_of, table_of, prepared_of, areas_of, entries_of}
+use Rattle.hp_fault.specs.View.{no_file, no_table, holders_of, sizes_of, pendings_of, spares_of, sets_of, pages_of, table_of}
+use Rattle.hp_fault.specs.View.{prepared_of, areas_of, entries_of}
 
 -- the bank's count of free frames is the machine's
 same_free : (s : FrameState) → machine.is_free s ≡ bank.is_free s
@@ -112,7 +113,9 @@ sets_set xs f y l = at_set {B = ℕ → Bool} (λ file. is_member file.map.regio
 pub sets_same : (xs : List FileState) (f : ℕ) (y : FileState) → f < length xs
     → y.map.regions ≡ (slice_index_or xs f no_file).map.regions → sets_of (slice_set xs f y) ≡ sets_of xs
 unfolding sets_of
-sets_same xs f y l e = at_same {B = ℕ → Bool} (λ file. is_member file.map.regions) no_file xs f y l (ap {B = ℕ → Bool} (λ (rs : List Region). is_member rs) e)
+sets_same xs f y l e =
+    at_same {B = ℕ → Bool} (λ file. is_member file.map.regions) no_file xs f y l
+    (ap {B = ℕ → Bool} (λ (rs : List Region). is_member rs) e)
 
 pub pages_at : (xs : List FileState) (f i : ℕ) → pages_of xs f i ≡ get (slice_index_or xs f no_file).cache i
 unfolding pages_of
@@ -125,29 +128,38 @@ pages_are xs f = refl
 pub pages_same : (xs : List FileState) (f : ℕ) (y : FileState) → f < length xs → y.cache ≡ (slice_index_or xs f no_file).cache
     → pages_of (slice_set xs f y) ≡ pages_of xs
 unfolding pages_of
-pages_same xs f y l e = at_same {B = ℕ → Option ℕ} (λ file. get file.cache) no_file xs f y l (ap {B = ℕ → Option ℕ} (λ (m : FinMap nat_cmp ℕ). get m) e)
+pages_same xs f y l e =
+    at_same {B = ℕ → Option ℕ} (λ file. get file.cache) no_file xs f y l (ap {B = ℕ → Option ℕ} (λ (m : FinMap nat_cmp ℕ). get m) e)
 
 -- one page comes, or goes
 pages_put : (xs : List FileState) (f i : ℕ) (o : Option ℕ) (y : FileState) → f < length xs
     → ◌≡◌ {A = ℕ → Option ℕ} (λ j. get y.cache j) (put (λ j. get (slice_index_or xs f no_file).cache j) i o)
     → pages_of (slice_set xs f y) ≡ put2 (pages_of xs) f i o
 unfolding pages_of
-pages_put xs f i o y l e = at_set {B = ℕ → Option ℕ} (λ file. get file.cache) no_file xs f y l ∙ ap (λ (m : ℕ → Option ℕ). put (λ (k : ℕ). get (slice_index_or xs k no_file).cache) f m) e
+pages_put xs f i o y l e =
+    at_set {B = ℕ → Option ℕ} (λ file. get file.cache) no_file xs f y l
+    ∙ ap (λ (m : ℕ → Option ℕ). put (λ (k : ℕ). get (slice_index_or xs k no_file).cache) f m) e
 
 pub pages_placed : (xs : List FileState) (f i x : ℕ) (y : FileState) → f < length xs
     → y.cache ≡ insert (slice_index_or xs f no_file).cache i x → pages_of (slice_set xs f y) ≡ put2 (pages_of xs) f i (Some x)
-pages_placed xs f i x y l e = pages_put xs f i (Some x) y l (ap {B = ℕ → Option ℕ} (λ (m : FinMap nat_cmp ℕ) (j : ℕ). get m j) e ∙ get_inserted (slice_index_or xs f no_file).cache i x)
+pages_placed xs f i x y l e =
+    pages_put xs f i (Some x) y l
+    (ap {B = ℕ → Option ℕ} (λ (m : FinMap nat_cmp ℕ) (j : ℕ). get m j) e ∙ get_inserted (slice_index_or xs f no_file).cache i x)
 
 pub pages_evicted : (xs : List FileState) (f i : ℕ) (y : FileState) → f < length xs
     → y.cache ≡ remove (slice_index_or xs f no_file).cache i → pages_of (slice_set xs f y) ≡ put2 (pages_of xs) f i None
-pages_evicted xs f i y l e = pages_put xs f i None y l (ap {B = ℕ → Option ℕ} (λ (m : FinMap nat_cmp ℕ) (j : ℕ). get m j) e ∙ get_removed (slice_index_or xs f no_file).cache i)
+pages_evicted xs f i y l e =
+    pages_put xs f i None y l
+    (ap {B = ℕ → Option ℕ} (λ (m : FinMap nat_cmp ℕ) (j : ℕ). get m j) e ∙ get_removed (slice_index_or xs f no_file).cache i)
 
 -- one index leaves a file's set
 pub sets_without : (xs : List FileState) (f i : ℕ) (y : FileState) → f < length xs
     → is_member y.map.regions ≡ put (is_member (slice_index_or xs f no_file).map.regions) i false
     → sets_of (slice_set xs f y) ≡ put2 (sets_of xs) f i false
 unfolding sets_of
-sets_without xs f i y l e = at_set {B = ℕ → Bool} (λ file. is_member file.map.regions) no_file xs f y l ∙ ap (λ (m : ℕ → Bool). put (λ (k : ℕ). is_member (slice_index_or xs k no_file).map.regions) f m) e
+sets_without xs f i y l e =
+    at_set {B = ℕ → Bool} (λ file. is_member file.map.regions) no_file xs f y l
+    ∙ ap (λ (m : ℕ → Bool). put (λ (k : ℕ). is_member (slice_index_or xs k no_file).map.regions) f m) e
 
 -- tasks
 pub prepared_at : (xs : List Table) (t : ℕ) → prepared_of xs t ≡ (table_of xs t).ready
@@ -162,7 +174,8 @@ areas_at xs t = refl
 seen_put : {A B : Type 0} (v : A → B) (f : ℕ → A) (k : ℕ) (a : A)
     → ◌≡◌ {A = ℕ → B} (λ (j : ℕ). v (put f k a j)) (put (λ (j : ℕ). v (f j)) k (v a))
 seen_put {A} {B} v f k a = fun_ext (λ j. elim (same_or_other j k) [
-  | inl e ↦ subst (λ (w : ℕ). v (put f k a w) ≡ put (λ (u : ℕ). v (f u)) k (v a) w) (sym e) (ap v (put_same f k a) ∙ sym (put_same (λ (u : ℕ). v (f u)) k (v a)))
+  | inl e ↦ subst (λ (w : ℕ). v (put f k a w) ≡ put (λ (u : ℕ). v (f u)) k (v a) w) (sym e)
+      (ap v (put_same f k a) ∙ sym (put_same (λ (u : ℕ). v (f u)) k (v a)))
   | inr h ↦ ap v (put_other f k a j h) ∙ sym (put_other (λ (u : ℕ). v (f u)) k (v a) j h)
 ])
 
@@ -181,14 +194,16 @@ off_task xs t y j low h = elim (same_or_other j 0) [
 table_set : (xs : List Table) (t : ℕ) (y : Table) → 1 ≤ t → t ≤ length xs
     → ◌≡◌ {A = ℕ → Table} (λ j. table_of (slice_set xs (t - 1) y) j) (put (λ j. table_of xs j) t y)
 table_set xs t y low high = fun_ext (λ j. elim (same_or_other j t) [
-  | inl e ↦ subst (λ (w : ℕ). table_of (slice_set xs (t - 1) y) w ≡ put (λ j. table_of xs j) t y w) (sym e) (at_task xs t y low high ∙ sym (put_same (λ j. table_of xs j) t y))
+  | inl e ↦ subst (λ (w : ℕ). table_of (slice_set xs (t - 1) y) w ≡ put (λ j. table_of xs j) t y w) (sym e)
+      (at_task xs t y low high ∙ sym (put_same (λ j. table_of xs j) t y))
   | inr h ↦ off_task xs t y j low h ∙ sym (put_other (λ j. table_of xs j) t y j h)
 ])
 
 -- a part of one task's table changes
 seen_set : {B : Type 0} (v : Table → B) (xs : List Table) (t : ℕ) (y : Table) → 1 ≤ t → t ≤ length xs
     → ◌≡◌ {A = ℕ → B} (λ j. v (table_of (slice_set xs (t - 1) y) j)) (put (λ j. v (table_of xs j)) t (v y))
-seen_set {B} v xs t y low high = ap {B = ℕ → B} (λ (g : ℕ → Table). λ (j : ℕ). v (g j)) (table_set xs t y low high) ∙ seen_put v (λ j. table_of xs j) t y
+seen_set {B} v xs t y low high =
+    ap {B = ℕ → B} (λ (g : ℕ → Table). λ (j : ℕ). v (g j)) (table_set xs t y low high) ∙ seen_put v (λ j. table_of xs j) t y
 
 pub prepared_set : (xs : List Table) (t : ℕ) (y : Table) → 1 ≤ t → t ≤ length xs
     → prepared_of (slice_set xs (t - 1) y) ≡ put (prepared_of xs) t y.ready
@@ -198,7 +213,8 @@ prepared_set xs t y low high = seen_set (λ (d : Table). d.ready) xs t y low hig
 pub prepared_same : (xs : List Table) (t : ℕ) (y : Table) → 1 ≤ t → t ≤ length xs → y.ready ≡ (table_of xs t).ready
     → prepared_of (slice_set xs (t - 1) y) ≡ prepared_of xs
 unfolding prepared_of
-prepared_same xs t y low high e = seen_set (λ (d : Table). d.ready) xs t y low high ∙ put_known (λ j. (table_of xs j).ready) t y.ready (sym e)
+prepared_same xs t y low high e =
+    seen_set (λ (d : Table). d.ready) xs t y low high ∙ put_known (λ j. (table_of xs j).ready) t y.ready (sym e)
 
 pub areas_set : (xs : List Table) (t : ℕ) (y : Table) → 1 ≤ t → t ≤ length xs
     → areas_of (slice_set xs (t - 1) y) ≡ put (areas_of xs) t y.mappings
@@ -208,7 +224,8 @@ areas_set xs t y low high = seen_set (λ (d : Table). d.mappings) xs t y low hig
 pub areas_same : (xs : List Table) (t : ℕ) (y : Table) → 1 ≤ t → t ≤ length xs → y.mappings ≡ (table_of xs t).mappings
     → areas_of (slice_set xs (t - 1) y) ≡ areas_of xs
 unfolding areas_of
-areas_same xs t y low high e = seen_set (λ (d : Table). d.mappings) xs t y low high ∙ put_known (λ j. (table_of xs j).mappings) t y.mappings (sym e)
+areas_same xs t y low high e =
+    seen_set (λ (d : Table). d.mappings) xs t y low high ∙ put_known (λ j. (table_of xs j).mappings) t y.mappings (sym e)
 
 pub entries_at : (xs : List Table) (t v : ℕ) → entries_of xs t v ≡ get (table_of xs t).entries v
 unfolding entries_of
@@ -219,7 +236,8 @@ pub entries_same : (xs : List Table) (t : ℕ) (y : Table) → 1 ≤ t → t ≤
 unfolding entries_of
 entries_same xs t y low high e =
     seen_set {B = ℕ → Option ℕ} (λ (d : Table) (w : ℕ). get d.entries w) xs t y low high
-    ∙ put_known {A = ℕ → Option ℕ} (λ j w. get (table_of xs j).entries w) t (λ w. get y.entries w) (ap {B = ℕ → Option ℕ} (λ (m : FinMap nat_cmp ℕ) (w : ℕ). get m w) (sym e))
+    ∙ put_known {A = ℕ → Option ℕ} (λ j w. get (table_of xs j).entries w) t (λ w. get y.entries w)
+    (ap {B = ℕ → Option ℕ} (λ (m : FinMap nat_cmp ℕ) (w : ℕ). get m w) (sym e))
 
 -- one entry comes
 pub entries_installed : (xs : List Table) (t v x : ℕ) (y : Table) → 1 ≤ t → t ≤ length xs
@@ -227,7 +245,8 @@ pub entries_installed : (xs : List Table) (t v x : ℕ) (y : Table) → 1 ≤ t 
 unfolding entries_of
 entries_installed xs t v x y low high e =
     seen_set {B = ℕ → Option ℕ} (λ (d : Table) (w : ℕ). get d.entries w) xs t y low high
-    ∙ ap (λ (m : ℕ → Option ℕ). put (λ (j : ℕ) (w : ℕ). get (table_of xs j).entries w) t m) (ap {B = ℕ → Option ℕ} (λ (m : FinMap nat_cmp ℕ) (w : ℕ). get m w) e ∙ get_inserted (table_of xs t).entries v x)
+    ∙ ap (λ (m : ℕ → Option ℕ). put (λ (j : ℕ) (w : ℕ). get (table_of xs j).entries w) t m)
+    (ap {B = ℕ → Option ℕ} (λ (m : FinMap nat_cmp ℕ) (w : ℕ). get m w) e ∙ get_inserted (table_of xs t).entries v x)
 
 pub entries_are : (xs : List Table) (t : ℕ) → ◌≡◌ {A = ℕ → Option ℕ} (entries_of xs t) (get (table_of xs t).entries)
 unfolding entries_of
@@ -262,11 +281,39 @@ pub ruleset lock_laws = (holders_at, holders_set, get_or_past, length-set)
 
 pub ruleset room_laws = (nat_tests, ne_eqb, set-get_or, areas_at, areas_same, prepared_set, entries_same, length-set)
 
-pub ruleset change_laws = (nat_tests, set-get_or, sizes_same, pendings_at, pendings_set, spares_at, spares_set, spares_same, sets_at, sets_same, pages_same, length-set)
+pub ruleset change_laws = (
+  nat_tests,
+  set-get_or,
+  sizes_same,
+  pendings_at,
+  pendings_set,
+  spares_at,
+  spares_set,
+  spares_same,
+  sets_at,
+  sets_same,
+  pages_same,
+  length-set,
+)
 
 pub ruleset commit_laws = (sizes_same, pendings_at, pendings_set, spares_at, spares_set, sets_at, sets_set, pages_same, length-set)
 
-pub ruleset enter_laws = (nat_tests, ne_eqb, sizes_at, sizes_set, pendings_same, spares_same, sets_same, pages_same, areas_at, areas_set, prepared_at, prepared_set, entries_same, length-set)
+pub ruleset enter_laws = (
+  nat_tests,
+  ne_eqb,
+  sizes_at,
+  sizes_set,
+  pendings_same,
+  spares_same,
+  sets_same,
+  pages_same,
+  areas_at,
+  areas_set,
+  prepared_at,
+  prepared_set,
+  entries_same,
+  length-set,
+)
 
 pub ruleset frame_laws = (frame_at_set, frame_at_is, frame_got, slice_get_within, length-set)
 
@@ -278,16 +325,66 @@ pub ruleset size_laws = (sizes_at, sizes_set, pendings_same, spares_same, sets_s
 
 pub ruleset page_laws = (sizes_at, pages_at)
 
-pub ruleset place_laws = (sizes_at, sizes_same, pendings_same, spares_same, sets_same, pages_at, pages_placed, frame_at_set, frame_at_is, frame_got, length-set)
+pub ruleset place_laws = (
+  sizes_at,
+  sizes_same,
+  pendings_same,
+  spares_same,
+  sets_same,
+  pages_at,
+  pages_placed,
+  frame_at_set,
+  frame_at_is,
+  frame_got,
+  length-set,
+)
 
-pub ruleset install_laws = (nat_tests, ne_eqb, sizes_at, pages_at, areas_at, areas_same, prepared_same, entries_at, entries_installed, frame_at_is, frame_got, length-set)
+pub ruleset install_laws = (
+  nat_tests,
+  ne_eqb,
+  sizes_at,
+  pages_at,
+  areas_at,
+  areas_same,
+  prepared_same,
+  entries_at,
+  entries_installed,
+  frame_at_is,
+  frame_got,
+  length-set,
+)
 
 pub ruleset clear_laws = (nat_tests, ne_eqb, areas_at, areas_same, prepared_same, entries_are, entries_set, length-set)
 
 pub ruleset drop_laws = (nat_tests, ne_eqb, areas_at, areas_set, prepared_same, entries_at, entries_same, length-set)
 
-pub ruleset evict_laws = (sizes_same, pendings_same, spares_same, sets_same, pages_at, pages_evicted, frame_at_set, frame_at_is, frame_got, slice_get_within, length-set)
+pub ruleset evict_laws = (
+  sizes_same,
+  pendings_same,
+  spares_same,
+  sets_same,
+  pages_at,
+  pages_evicted,
+  frame_at_set,
+  frame_at_is,
+  frame_got,
+  slice_get_within,
+  length-set,
+)
 
-pub ruleset delete_laws = (nat_tests, set-get_or, sizes_same, pendings_at, pendings_same, spares_at, spares_set, sets_at, sets_without, pages_same, length-set)
+pub ruleset delete_laws = (
+  nat_tests,
+  set-get_or,
+  sizes_same,
+  pendings_at,
+  pendings_same,
+  spares_at,
+  spares_set,
+  sets_at,
+  sets_without,
+  pages_same,
+  length-set,
+)
 
-pub ruleset tail_laws = (get_or_read, sizes_same, pendings_at, pendings_same, spares_at, spares_same, sets_at, sets_set, pages_same, length-set)
+pub ruleset tail_laws =
+    (get_or_read, sizes_same, pendings_at, pendings_same, spares_at, spares_same, sets_at, sets_set, pages_same, length-set)

@@ -1,7 +1,9 @@
 //! One function for each phase of an allocation (Linux: `hugetlbfs_fallocate`).
 ghost use Rattle.std.specs.Prelude.{◌≡◌, ◌≤◌, ◌<◌, ◌+◌, true, None, Some, IfOk, IfErr, OnErr};
 ghost use Rattle.hp_machine.specs.State.{Pool, slot_of};
-ghost use Rattle.hp_machine.specs.AllocRows.{AllocRow, AllocStartRow, AllocHeadRow, AllocWantRow, AllocLockedRow, AllocMissingRow, AllocChangedRow, AllocAbortRow, AllocTakenRow, AllocSettleRow, AllocCommittedRow, AllocRestoreRow, AllocUnslotRow, AllocExtendRow, AllocLeaveRow};
+ghost use Rattle.hp_machine.specs.AllocRows.{AllocRow, AllocStartRow, AllocHeadRow, AllocWantRow, AllocLockedRow};
+ghost use Rattle.hp_machine.specs.AllocRows.{AllocMissingRow, AllocChangedRow, AllocAbortRow, AllocTakenRow, AllocSettleRow};
+ghost use Rattle.hp_machine.specs.AllocRows.{AllocCommittedRow, AllocRestoreRow, AllocUnslotRow, AllocExtendRow, AllocLeaveRow};
 ghost use Rattle.hp_machine.specs.Wants.{alloc_wants};
 ghost use Rattle.hp_machine.specs.Standings.{standing};
 ghost use Rattle.hp_machine.specs.declared.call.Call.TheVariants as call;
@@ -371,7 +373,8 @@ fn unslot(allocation: Allocation, index: Index, answer: Option<Answer>) -> Turn<
 
 // To the abort phase, with the answer.
 fn abort(allocation: Allocation, index: Index, pending: Pending, answer: Answer) -> Turn<AllocPhase>
-    ensures { result ≡ Turn.Moved (AllocPhase.Abort (record { allocation = allocation; index = index; pending = pending; answer = answer })) }
+    ensures { result ≡ Turn.Moved
+        (AllocPhase.Abort (record { allocation = allocation; index = index; pending = pending; answer = answer })) }
 {
     Turn::Moved(AllocPhase::Abort(Abort {
         allocation,

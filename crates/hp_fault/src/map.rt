@@ -1,6 +1,7 @@
 //! One function for each phase of a map (Linux: `hugetlb_reserve_pages`, `hugetlbfs_file_mmap`).
 ghost use Rattle.std.specs.Prelude.{◌≡◌, ◌≤◌, ◌<◌, ◌+◌, true, Some, IfOk, IfErr, OnErr};
-ghost use Rattle.hp_machine.specs.MapRows.{MapRow, MapStartRow, MapRoomRow, MapMissingRow, MapChangedRow, MapAbortRow, MapAccountedRow, MapSettleRow, MapEnterRow, MapLeaveRow};
+ghost use Rattle.hp_machine.specs.MapRows.{MapRow, MapStartRow, MapRoomRow, MapMissingRow, MapChangedRow, MapAbortRow};
+ghost use Rattle.hp_machine.specs.MapRows.{MapAccountedRow, MapSettleRow, MapEnterRow, MapLeaveRow};
 ghost use Rattle.hp_machine.specs.Wants.{map_wants};
 ghost use Rattle.hp_base.specs.Mappings.{fits};
 ghost use Rattle.hp_machine.specs.Standings.{standing};

@@ -1,6 +1,7 @@
 //! What steps of several operations have in common: how a call on a file starts, how slots are taken and
 //! left, and how a page comes into a file.
-ghost use Rattle.std.specs.Prelude.{◌≡◌, ◌<◌, ◌≤◌, ◌+◌, ◌-◌, ◌↔◌, ◌==◌, ◌||◌, ℕ, nat_lt, None, Some, OnOk, OnErr, IfErr, IfSome, IfNone, IsNone, length, if◌then◌else◌};
+ghost use Rattle.std.specs.Prelude.{◌≡◌, ◌<◌, ◌≤◌, ◌+◌, ◌-◌, ◌↔◌, ◌==◌, ◌||◌, ℕ, nat_lt, None, Some, OnOk, OnErr, IfErr, IfSome};
+ghost use Rattle.std.specs.Prelude.{IfNone, IsNone, length, if◌then◌else◌};
 ghost use Rattle.hp_frames.specs.Bank.{HasWord, IsPlaced, IsFree, frame_at, free_count, with_frame, with_resv};
 ghost use Rattle.hp_frames.specs.declared.frame.FrameState.TheVariants.{Hand};
 ghost use Rattle.hp_machine.specs.State.{slot_of};

@@ -1,7 +1,9 @@
 //! One function for each phase of a touch: a load or a store (Linux: `hugetlb_fault`, `hugetlb_no_page`).
 ghost use Rattle.std.specs.Prelude.{◌≡◌, ◌≤◌, ◌<◌, ◌+◌, ℕ, true, None, Some, IfOk, IfErr, IfSome, IsSome, OnErr};
 ghost use Rattle.hp_machine.specs.State.{slot_of};
-ghost use Rattle.hp_machine.specs.TouchRows.{TouchRow, TouchLookRow, TouchWantRow, TouchLockedRow, TouchMissingRow, TouchChangedRow, TouchAbortRow, TouchTakenRow, TouchSettleRow, TouchCommittedRow, TouchRestoreRow, TouchFoundRow, TouchLeaveRow};
+ghost use Rattle.hp_machine.specs.TouchRows.{TouchRow, TouchLookRow, TouchWantRow, TouchLockedRow, TouchMissingRow};
+ghost use Rattle.hp_machine.specs.TouchRows.{TouchChangedRow, TouchAbortRow, TouchTakenRow, TouchSettleRow, TouchCommittedRow};
+ghost use Rattle.hp_machine.specs.TouchRows.{TouchRestoreRow, TouchFoundRow, TouchLeaveRow};
 ghost use Rattle.hp_machine.specs.Wants.{touch_wants};
 ghost use Rattle.hp_base.specs.Mappings.{find};
 ghost use Rattle.hp_machine.specs.Standings.{standing};

@@ -1,5 +1,7 @@
 -- The list of free frames and their number, after one frame goes elsewhere.
-use Rattle.std.proofs.Common.{◌≡◌, ◌≢◌, ℕ, suc, ◌+◌, ◌<◌, ◌≤◌, ◌^◌, Bool, true, false, cond, List, [], ◌∷◌, ◌++◌, length, set, get_or, Option, Some, None, slice_get, replicate, arith, zero, ap, refl, ◌∙◌, subst, sym, inl, inr, true≢false}
+use Rattle.std.proofs.Common.{◌≡◌, ◌≢◌, ℕ, suc, ◌+◌, ◌<◌, ◌≤◌, ◌^◌, Bool, true, false, cond, List, [], ◌∷◌, ◌++◌, length, set}
+use Rattle.std.proofs.Common.{get_or, Option, Some, None, slice_get, replicate, arith, zero, ap, refl, ◌∙◌, subst, sym, inl, inr}
+use Rattle.std.proofs.Common.{true≢false}
 use Rattle.std.specs.Prelude.{nat_eq, ◌||◌, not}
 use Rattle.std.specs.List.{list_any}
 use Rattle.std.proofs.lemmas.Option.{slice_get_within, get_or_from_slice_get, slice_get-get_or}
@@ -25,7 +27,8 @@ set_same xs i s t h =
 
 pub set_other : (xs : List FrameState) (i j : ℕ) (s t : FrameState) → slice_get xs j ≡ Some s → j ≢ i → slice_get (set xs i t) j ≡ Some s
 set_other xs i j s t h e =
-    slice_get-get_or (set xs i t) j s (rw length-set (slice_get_within xs j s h)) ∙ ap Some (get_or-set_other xs i j t s e ∙ get_or_from_slice_get xs j s s h)
+    slice_get-get_or (set xs i t) j s (rw length-set (slice_get_within xs j s h))
+    ∙ ap Some (get_or-set_other xs i j t s e ∙ get_or_from_slice_get xs j s s h)
 
 pub free_after : (xs : List FrameState) (x : ℕ) (s t : FrameState) → slice_get xs x ≡ Some s
     → free_frames (set xs x t) + count_one s ≡ free_frames xs + count_one t
@@ -34,9 +37,13 @@ free_after xs x s t h =
     let within = slice_get_within xs x s h in
     let was : get_or xs x Hand ≡ s = get_or_from_slice_get xs x s Hand h in
     let is : get_or (set xs x t) x Hand ≡ t = get_or-set_same xs x t Hand within in
-    let n = count_below-at (λ j. is_free (get_or xs j Hand)) (λ j. is_free (get_or (set xs x t) j Hand)) (length xs) x within (λ j other. ap is_free (get_or-set_other xs x j t Hand other)) in
-    let m = subst (λ (u : FrameState). count_below (λ j. is_free (get_or (set xs x t) j Hand)) (length xs) + count_one (get_or xs x Hand) ≡ count_below (λ j. is_free (get_or xs j Hand)) (length xs) + count_one u) is n in
-    rw length-set (subst (λ (u : FrameState). count_below (λ j. is_free (get_or (set xs x t) j Hand)) (length xs) + count_one u ≡ count_below (λ j. is_free (get_or xs j Hand)) (length xs) + count_one t) was m)
+    let n = count_below-at (λ j. is_free (get_or xs j Hand)) (λ j. is_free (get_or (set xs x t) j Hand)) (length xs) x
+    within (λ j other. ap is_free (get_or-set_other xs x j t Hand other)) in
+    let m = subst (λ (u : FrameState). count_below (λ j. is_free (get_or (set xs x t) j Hand)) (length xs) + count_one
+    (get_or xs x Hand) ≡ count_below (λ j. is_free (get_or xs j Hand)) (length xs) + count_one u) is n in
+    rw length-set (subst
+    (λ (u : FrameState). count_below (λ j. is_free (get_or (set xs x t) j Hand)) (length xs) + count_one
+    u ≡ count_below (λ j. is_free (get_or xs j Hand)) (length xs) + count_one t) was m)
 
 -- different states, different frames
 apart : (fs : List FrameState) (x y : ℕ) (s t : FrameState) → slice_get fs x ≡ Some s → slice_get fs y ≡ Some t
@@ -135,7 +142,8 @@ AreBelow n (x ∷ xs) = (x < n) × AreBelow n xs
 pub one_more : (fs : List FrameState) (xs : List ℕ) (x : ℕ) → slice_get fs x ≡ Some Free → AreBelow x xs → AreFree fs xs
     → AreFree fs (xs ++ x ∷ [])
 one_more fs [] x at below free = (at, refl, tt)
-one_more fs (y ∷ ys) x at below free = (free.0, any_last x y ys free.1 (λ same. omega (arith, same, below.0)), one_more fs ys x at below.1 free.2)
+one_more fs (y ∷ ys) x at below free =
+    (free.0, any_last x y ys free.1 (λ same. omega (arith, same, below.0)), one_more fs ys x at below.1 free.2)
 
 pub next_below : (xs : List ℕ) (x : ℕ) → AreBelow x xs → AreBelow (x + 1) (xs ++ x ∷ [])
 next_below [] x below = (omega arith, tt)
@@ -152,7 +160,8 @@ unfolding free_frames frame_at
 all_free n = rw (length-replicate) (every n _ (λ j below. ap is_free (get_or-replicate n j Free Hand below)))
 
 pub free_at : (n x : ℕ) → x < n → slice_get (replicate n Free) x ≡ Some Free
-free_at n x below = slice_get-get_or (replicate n Free) x Hand (rw (length-replicate) below) ∙ ap Some (get_or-replicate n x Free Hand below)
+free_at n x below =
+    slice_get-get_or (replicate n Free) x Hand (rw (length-replicate) below) ∙ ap Some (get_or-replicate n x Free Hand below)
 
 -- their number fits
 pub few : (fs : List FrameState) (xs : List ℕ) (n : ℕ) → IsListed fs xs n → length xs < 2 ^ 32
@@ -166,10 +175,13 @@ pub has_room : (fs : List FrameState) (xs : List ℕ) (n x : ℕ) → slice_get 
 unfolding free_frames frame_at
 has_room fs xs n x at listed =
     let within = slice_get_within fs x Hand at in
-    let one = count_below_one (λ _. true) (λ j. not (nat_eq j x)) x (length fs) within refl (grind (arith, nat_tests)) (λ j other. grind (arith, nat_tests, other)) in
+    let one = count_below_one (λ _. true) (λ j. not (nat_eq j x)) x (length fs) within refl (grind (arith, nat_tests))
+    (λ j other. grind (arith, nat_tests, other)) in
     let all = count_below_le (λ _. true) (length fs) in
-    let less = count_below_mono (λ j. is_free (get_or fs j Hand)) (λ j. not (nat_eq j x)) (length fs) (λ j below free. elim (same_or_other j x) [
-      | inl e ↦ absurd (true≢false (sym free ∙ (ap (λ (i : ℕ). is_free (get_or fs i Hand)) e ∙ ap is_free (get_or_from_slice_get fs x Hand Hand at))))
+    let less = count_below_mono (λ j. is_free (get_or fs j Hand)) (λ j. not (nat_eq j x)) (length fs)
+    (λ j below free. elim (same_or_other j x) [
+      | inl e ↦ absurd (true≢false
+          (sym free ∙ (ap (λ (i : ℕ). is_free (get_or fs i Hand)) e ∙ ap is_free (get_or_from_slice_get fs x Hand Hand at))))
       | inr h ↦ grind (arith, nat_tests, h)
     ]) in
     omega (arith, listed.counted, listed.room, one, all, less)
@@ -188,4 +200,12 @@ pub opened : (fs : List FrameState) (xs : List ℕ) (n m : ℕ) → fs ≡ repli
 opened fs xs n m states free long room fits =
     let count : free_frames fs ≡ n = ap free_frames states ∙ all_free n in
     let wide : length fs ≡ n = ap length states ∙ length-replicate n Free in
-    record { listed = record { all_free = free; counted = omega (arith, count, long); room = omega (arith, wide, room); numbered = omega (arith, wide, fits) }; reserved = omega arith }
+    record {
+      listed = record {
+        all_free = free;
+        counted = omega (arith, count, long);
+        room = omega (arith, wide, room);
+        numbered = omega (arith, wide, fits);
+      };
+      reserved = omega arith;
+    }

@@ -1,5 +1,6 @@
 -- The frames of a pool and its count of reserved pages, however the bank keeps them.
-use Rattle.std.specs.Prelude.{◌≡◌, ◌≤◌, ◌<◌, ◌^◌, ℕ, Bool, true, false, not, List, [], ◌∷◌, length, Some, slice_get, slice_set, slice_index_or, nat_eq}
+use Rattle.std.specs.Prelude.{◌≡◌, ◌≤◌, ◌<◌, ◌^◌, ℕ, Bool, true, false, not, List, [], ◌∷◌, length, Some, slice_get, slice_set}
+use Rattle.std.specs.Prelude.{slice_index_or, nat_eq}
 use Rattle.std.specs.List.{list_any}
 use Rattle.hp_base.specs.Indices.{count_below}
 use Rattle.hp_frames.specs.declared.frame.FrameState.{FrameState}

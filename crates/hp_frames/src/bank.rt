@@ -1,6 +1,8 @@
 //! The bank: frames, a list of the free ones, and the count of reserved pages.
-ghost use Rattle.std.specs.Prelude.{◌≡◌, ℕ, ◌+◌, ◌-◌, ◌<◌, ◌≤◌, ◌↔◌, length, slice_get, IfOk, OnOk, OnErr, IsErr, IsErrOf, IsTrue, replicate, Some, slice_set, ◌++◌, ◌∷◌, [], vec_capacity};
-ghost use Rattle.hp_frames.specs.Bank.{BankState, free_count, frame_at, is_free, IsFree, InHands, HasWord, IsPlaced, with_frame, with_resv, AreFree};
+ghost use Rattle.std.specs.Prelude.{◌≡◌, ℕ, ◌+◌, ◌-◌, ◌<◌, ◌≤◌, ◌↔◌, length, slice_get, IfOk, OnOk, OnErr, IsErr, IsErrOf};
+ghost use Rattle.std.specs.Prelude.{IsTrue, replicate, Some, slice_set, ◌++◌, ◌∷◌, [], vec_capacity};
+ghost use Rattle.hp_frames.specs.Bank.{BankState, free_count, frame_at, is_free, IsFree, InHands, HasWord, IsPlaced, with_frame};
+ghost use Rattle.hp_frames.specs.Bank.{with_resv, AreFree};
 
 use crate::fault::Fault;
 use crate::frame::FrameState;

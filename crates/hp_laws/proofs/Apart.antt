@@ -14,7 +14,8 @@ use Rattle.hp_machine.specs.declared.exit.ExitPhase.TheVariants as exit
 use Rattle.hp_machine.specs.declared.call.Call.{Call}
 use Rattle.hp_machine.specs.declared.call.Call.TheVariants as call
 use Rattle.hp_laws.specs.Enough.{CanSettle}
-use Rattle.hp_laws.specs.Protocol.{ChangesAreCalls, SparesSuffice, PagesAreReserved, LiesWithin, is_bare, HandsApart, BareWhereMade, works_at, PassedIsBare}
+use Rattle.hp_laws.specs.Protocol.{ChangesAreCalls, SparesSuffice, PagesAreReserved, LiesWithin, is_bare, HandsApart}
+use Rattle.hp_laws.specs.Protocol.{BareWhereMade, works_at, PassedIsBare}
 use Rattle.hp_laws.specs.Sweep.{fills, ahead}
 use Rattle.hp_laws.proofs.Standing.{Stands}
 use Rattle.hp_laws.proofs.Invariant.{Reached, Inv, page_within}
@@ -62,8 +63,14 @@ pub hands_apart : (s : State) → IsReached s → HandsApart s
 hands_apart s reached t u x y d a b =
     let h = (always s reached).inv in
     let k = hand_slot (s.calls t) x a in
-    let j = hand_slot (s.calls u) y b in
-    (k.0, j.0, k.1, j.1, λ e. d (same_holder t u (s.slots (slot_of s.geometry k.0.0 k.0.1)) (holds_slot s.geometry s t k.0 h k.1) (ap (λ (m : ℕ × ℕ). s.slots (slot_of s.geometry m.0 m.1)) e ∙ holds_slot s.geometry s u j.0 h j.1)))
+    let j = hand_slot (s.calls u) y b in (
+      k.0,
+      j.0,
+      k.1,
+      j.1,
+      λ e. d (same_holder t u (s.slots (slot_of s.geometry k.0.0 k.0.1)) (holds_slot s.geometry s t k.0 h k.1)
+          (ap (λ (m : ℕ × ℕ). s.slots (slot_of s.geometry m.0 m.1)) e ∙ holds_slot s.geometry s u j.0 h j.1)),
+    )
 
 bare_at : (g : Geometry) (s : State) (t : ℕ) (c : Option Call) (k : ℕ × ℕ) → Stands g s t c → is_bare c ≡ true
     → slot_held c ≡ Some k → s.pages k.0 k.1 ≡ None
@@ -106,7 +113,8 @@ works g s u (Some (call.Touch (touch.Taken p))) k h e = (e, inl e)
 works g s u (Some (call.Touch (touch.Settle p))) k h e = (e, inl e)
 works g s u (Some (call.Touch (touch.Committed p))) k h e = (e, inl e)
 works g s u (Some (call.Touch (touch.Restore p))) k h e = (e, inl e)
-works g s u (Some (call.Touch (touch.Found p))) k h e = (e, inr (inl (subst (λ (m : ℕ × ℕ). s.pages m.0 m.1 ≢ None) (some_same e) h.facts.cached)))
+works g s u (Some (call.Touch (touch.Found p))) k h e =
+    (e, inr (inl (subst (λ (m : ℕ × ℕ). s.pages m.0 m.1 ≢ None) (some_same e) h.facts.cached)))
 works g s u (Some (call.Alloc (alloc.Missing p))) k h e = (e, inr (inr (ap (λ (m : ℕ × ℕ). Some m.0) (some_same e))))
 works g s u (Some (call.Alloc (alloc.Changed p))) k h e = (e, inr (inr (ap (λ (m : ℕ × ℕ). Some m.0) (some_same e))))
 works g s u (Some (call.Alloc (alloc.Abort p))) k h e = (e, inr (inr (ap (λ (m : ℕ × ℕ). Some m.0) (some_same e))))
@@ -135,14 +143,16 @@ passed_bare s all t f j cases =
           | inl a ↦ reached_not_passed s.geometry s f j h (reach_of s.geometry s u (f, j) h a) t p
           | inr a ↦ elim a [
             | inl b ↦ b none
-            | inr b ↦ d (same_holder u t (s.locks f) (locks_file s.geometry s u f h b) (locks_file s.geometry s t f h (passed_locked (s.calls t) f j p)))
+            | inr b ↦ d (same_holder u t (s.locks f) (locks_file s.geometry s u f h b)
+                (locks_file s.geometry s t f h (passed_locked (s.calls t) f j p)))
           ]
         ],
       ))
       | inr p ↦ (
         bare_made s all t (f, j) p.0 p.1,
         λ u d e. let w = works s.geometry s u (s.calls u) (f, j) (h.stands u) e in
-            d (same_holder u t (s.slots (slot_of s.geometry f j)) (holds_slot s.geometry s u (f, j) h w.0) (holds_slot s.geometry s t (f, j) h p.1)),
+            d (same_holder u t (s.slots (slot_of s.geometry f j)) (holds_slot s.geometry s u (f, j) h w.0)
+            (holds_slot s.geometry s t (f, j) h p.1)),
       )
     ]
 

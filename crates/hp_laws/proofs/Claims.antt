@@ -90,31 +90,51 @@ record CountsAt (g : Geometry) (s : State) (t : ℕ) (c : Option Call) (k : ℕ 
 counted : (g : Geometry) (s : State) (t : ℕ) (c : Option Call) (k : ℕ × ℕ) → Stands g s t c → counts_at c ≡ Some k → CountsAt g s t c k
 counted g s t (Some (call.Touch (touch.Changed p))) k h e =
     let o = only_of (p.pending.missing == 0) (p.touch.file, p.touch.index) k e in
-    subst (CountsAt g s t (Some (call.Touch (touch.Changed p)))) o.1 (record { marked = h.facts.marked o.0; bare = h.facts.bare; slot = h.slot; who = inl refl })
+    subst (CountsAt g s t (Some (call.Touch (touch.Changed p)))) o.1
+    (record { marked = h.facts.marked o.0; bare = h.facts.bare; slot = h.slot; who = inl refl })
 counted g s t (Some (call.Touch (touch.Taken p))) k h e =
     let o = only_of (p.pending.missing == 0) (p.touch.file, p.touch.index) k e in
-    subst (CountsAt g s t (Some (call.Touch (touch.Taken p)))) o.1 (record { marked = h.facts.marked o.0; bare = h.facts.bare; slot = h.slot; who = inl refl })
-counted g s t (Some (call.Touch (touch.Settle p))) k h e = subst (CountsAt g s t (Some (call.Touch (touch.Settle p)))) (some_same e) (record { marked = h.facts.marked; bare = h.facts.bare; slot = h.slot; who = inl refl })
-counted g s t (Some (call.Touch (touch.Committed p))) k h e = subst (CountsAt g s t (Some (call.Touch (touch.Committed p)))) (some_same e) (record { marked = h.facts.marked; bare = h.facts.bare; slot = h.slot; who = inl refl })
-counted g s t (Some (call.Touch (touch.Restore p))) k h e = subst (CountsAt g s t (Some (call.Touch (touch.Restore p)))) (some_same e) (record { marked = h.facts.marked; bare = h.facts.bare; slot = h.slot; who = inl refl })
+    subst (CountsAt g s t (Some (call.Touch (touch.Taken p)))) o.1
+    (record { marked = h.facts.marked o.0; bare = h.facts.bare; slot = h.slot; who = inl refl })
+counted g s t (Some (call.Touch (touch.Settle p))) k h e =
+    subst (CountsAt g s t (Some (call.Touch (touch.Settle p)))) (some_same e)
+    (record { marked = h.facts.marked; bare = h.facts.bare; slot = h.slot; who = inl refl })
+counted g s t (Some (call.Touch (touch.Committed p))) k h e =
+    subst (CountsAt g s t (Some (call.Touch (touch.Committed p)))) (some_same e)
+    (record { marked = h.facts.marked; bare = h.facts.bare; slot = h.slot; who = inl refl })
+counted g s t (Some (call.Touch (touch.Restore p))) k h e =
+    subst (CountsAt g s t (Some (call.Touch (touch.Restore p)))) (some_same e)
+    (record { marked = h.facts.marked; bare = h.facts.bare; slot = h.slot; who = inl refl })
 counted g s t (Some (call.Alloc (alloc.Changed p))) k h e =
     let o = only_of (p.pending.missing == 0) (p.allocation.file, p.index) k e in
-    subst (CountsAt g s t (Some (call.Alloc (alloc.Changed p)))) o.1 (record { marked = h.facts.marked o.0; bare = h.facts.bare; slot = h.slot; who = inr h.lock })
+    subst (CountsAt g s t (Some (call.Alloc (alloc.Changed p)))) o.1
+    (record { marked = h.facts.marked o.0; bare = h.facts.bare; slot = h.slot; who = inr h.lock })
 counted g s t (Some (call.Alloc (alloc.Taken p))) k h e =
     let o = only_of (p.pending.missing == 0) (p.allocation.file, p.index) k e in
-    subst (CountsAt g s t (Some (call.Alloc (alloc.Taken p)))) o.1 (record { marked = h.facts.marked o.0; bare = h.facts.bare; slot = h.slot; who = inr h.lock })
-counted g s t (Some (call.Alloc (alloc.Settle p))) k h e = subst (CountsAt g s t (Some (call.Alloc (alloc.Settle p)))) (some_same e) (record { marked = h.facts.marked; bare = h.facts.bare; slot = h.slot; who = inr h.lock })
-counted g s t (Some (call.Alloc (alloc.Committed p))) k h e = subst (CountsAt g s t (Some (call.Alloc (alloc.Committed p)))) (some_same e) (record { marked = h.facts.marked; bare = h.facts.bare; slot = h.slot; who = inr h.lock })
-counted g s t (Some (call.Alloc (alloc.Restore p))) k h e = subst (CountsAt g s t (Some (call.Alloc (alloc.Restore p)))) (some_same e) (record { marked = h.facts.marked; bare = h.facts.bare; slot = h.slot; who = inr h.lock })
-counted g s t (Some (call.Punch (punch.Delete p))) k h e = subst (CountsAt g s t (Some (call.Punch (punch.Delete p)))) (some_same e) (record { marked = h.facts.marked; bare = h.facts.bare; slot = h.slot; who = inr h.lock })
+    subst (CountsAt g s t (Some (call.Alloc (alloc.Taken p)))) o.1
+    (record { marked = h.facts.marked o.0; bare = h.facts.bare; slot = h.slot; who = inr h.lock })
+counted g s t (Some (call.Alloc (alloc.Settle p))) k h e =
+    subst (CountsAt g s t (Some (call.Alloc (alloc.Settle p)))) (some_same e)
+    (record { marked = h.facts.marked; bare = h.facts.bare; slot = h.slot; who = inr h.lock })
+counted g s t (Some (call.Alloc (alloc.Committed p))) k h e =
+    subst (CountsAt g s t (Some (call.Alloc (alloc.Committed p)))) (some_same e)
+    (record { marked = h.facts.marked; bare = h.facts.bare; slot = h.slot; who = inr h.lock })
+counted g s t (Some (call.Alloc (alloc.Restore p))) k h e =
+    subst (CountsAt g s t (Some (call.Alloc (alloc.Restore p)))) (some_same e)
+    (record { marked = h.facts.marked; bare = h.facts.bare; slot = h.slot; who = inr h.lock })
+counted g s t (Some (call.Punch (punch.Delete p))) k h e =
+    subst (CountsAt g s t (Some (call.Punch (punch.Delete p)))) (some_same e)
+    (record { marked = h.facts.marked; bare = h.facts.bare; slot = h.slot; who = inr h.lock })
 counted g s t (Some (call.Punch (punch.Free p))) k h e =
     let o = only_of p.denied (p.hole.file, p.index) k e in
-    subst (CountsAt g s t (Some (call.Punch (punch.Free p)))) o.1 (record { marked = h.facts.marked o.0; bare = h.facts.bare; slot = h.slot; who = inr h.lock })
+    subst (CountsAt g s t (Some (call.Punch (punch.Free p)))) o.1
+    (record { marked = h.facts.marked o.0; bare = h.facts.bare; slot = h.slot; who = inr h.lock })
 counted g s t c k h e = (let d : ◌≡◌ {A = Option (ℕ × ℕ)} None (Some k) = e in absurd (cc))
 
 -- how a call that counts on an index has it to itself
 abbrev Owns : Geometry → State → ℕ → Option Call → ℕ → ℕ → Type 0
-Owns g s t c f j = (HasSlot g s t f j × ((fills c ≡ Some (f, j)) ⊎ HasLock s t f)) ⊎ (HasLock s t f × ((passed c f j ≡ true) ⊎ HasSlot g s t f j))
+Owns g s t c f j =
+    (HasSlot g s t f j × ((fills c ≡ Some (f, j)) ⊎ HasLock s t f)) ⊎ (HasLock s t f × ((passed c f j ≡ true) ⊎ HasSlot g s t f j))
 
 -- what a claim means
 pub record Claimed (g : Geometry) (s : State) (t : ℕ) (c : Option Call) (f j : ℕ) : Type 0 where
@@ -158,7 +178,11 @@ by_place g s t k i c f j h e o held bare locked above_it = elim (same_or_other j
   | inl d ↦ record {
     marked = o.2;
     bare = ap (s.pages f) d ∙ (ap (λ (m : ℕ). s.pages m i) (sym o.0) ∙ bare);
-    owns = inr (ap s.locks (sym o.0) ∙ locked, inr (ap (λ (m : ℕ). s.slots (slot_of g f m)) d ∙ (ap (λ (m : ℕ). s.slots (slot_of g m i)) (sym o.0) ∙ held)));
+    owns =
+        inr (
+          ap s.locks (sym o.0) ∙ locked,
+          inr (ap (λ (m : ℕ). s.slots (slot_of g f m)) d ∙ (ap (λ (m : ℕ). s.slots (slot_of g m i)) (sym o.0) ∙ held)),
+        );
   }
   | inr d ↦ by_passed g s t c f j h e (above_it o.0 (let z = o.1 in omega arith)) o.2
 ]
@@ -182,8 +206,12 @@ claimed g s t (Some (call.Truncate (truncate.Unmap p))) f j h e y q =
 claimed g s t (Some (call.Truncate (truncate.Evict p))) f j h e y q =
     let o = tail_claim p.truncation.file f (p.index + 1) j _ q in
     by_passed g s t _ f j h e (above p.truncation.file f p.index j o.0 o.1) o.2
-claimed g s t (Some (call.Truncate (truncate.Free p))) f j h e y q = by_place g s t p.truncation.file p.index _ f j h e (tail_claim p.truncation.file f p.index j _ q) y.slot y.facts.bare y.lock (λ a b. above p.truncation.file f p.index j a b)
-claimed g s t (Some (call.Truncate (truncate.Unslot p))) f j h e y q = by_place g s t p.truncation.file p.index _ f j h e (tail_claim p.truncation.file f p.index j _ q) y.slot y.facts.bare y.lock (λ a b. above p.truncation.file f p.index j a b)
+claimed g s t (Some (call.Truncate (truncate.Free p))) f j h e y q =
+    by_place g s t p.truncation.file p.index _ f j h e (tail_claim p.truncation.file f p.index j _ q) y.slot
+    y.facts.bare y.lock (λ a b. above p.truncation.file f p.index j a b)
+claimed g s t (Some (call.Truncate (truncate.Unslot p))) f j h e y q =
+    by_place g s t p.truncation.file p.index _ f j h e (tail_claim p.truncation.file f p.index j _ q) y.slot
+    y.facts.bare y.lock (λ a b. above p.truncation.file f p.index j a b)
 claimed g s t (Some (call.Truncate (truncate.Tail p))) f j h e y q =
     let o = tail_claim p.truncation.file f p.truncation.new j _ q in
     by_passed g s t _ f j h e (on_from p.truncation.file f p.truncation.new j o.0 o.1) o.2
@@ -199,7 +227,9 @@ claimed g s t (Some (call.Exit p)) f j h e y q = by_index g s t _ f j y q
 
 fills_not_passed : {P : Type 0} (g : Geometry) (s : State) (t u f j : ℕ) → Inv g s → fills (s.calls t) ≡ Some (f, j)
     → passed (s.calls u) f j ≡ true → P
-fills_not_passed g s t u f j h a p = absurd (reached_not_passed g s f j h (subst (λ (o : Option (ℕ × ℕ)). IfSome o (λ k. Reached s.size (λ w. ahead (s.calls w)) k.0 k.1)) a (h.reach t)) u p)
+fills_not_passed g s t u f j h a p =
+    absurd (reached_not_passed g s f j h
+    (subst (λ (o : Option (ℕ × ℕ)). IfSome o (λ k. Reached s.size (λ w. ahead (s.calls w)) k.0 k.1)) a (h.reach t)) u p)
 
 -- two calls never count on one index
 pub once : (g : Geometry) (s : State) (t u f j : ℕ) → Inv g s → Claimed g s t (s.calls t) f j → Claimed g s u (s.calls u) f j → t ≡ u

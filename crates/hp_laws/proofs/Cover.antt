@@ -29,21 +29,29 @@ need g s c = total g.files (λ f. total g.limit (λ j. bit (claim s.reserved c f
 all_needs : (g : Geometry) (s : State) → Inv g s → total (g.tasks + 1) (λ t. need g s (s.calls t)) ≤ vacant_of g s.reserved s.pages
 unfolding vacant
 all_needs g s h =
-    let a : total (g.tasks + 1) (λ t. need g s (s.calls t)) ≡ total g.files (λ f. total (g.tasks + 1) (λ t. total g.limit (λ j. bit (claim s.reserved (s.calls t) f j))))
+    let a : total (g.tasks + 1) (λ t. need g s (s.calls t)) ≡ total g.files
+    (λ f. total (g.tasks + 1) (λ t. total g.limit (λ j. bit (claim s.reserved (s.calls t) f j))))
     = exchange (g.tasks + 1) g.files (λ t f. total g.limit (λ j. bit (claim s.reserved (s.calls t) f j))) in
-    let b = total_le g.files (λ f. vacant g.limit (s.reserved f) (s.pages f)) (λ f. total (g.tasks + 1) (λ t. total g.limit (λ j. bit (claim s.reserved (s.calls t) f j)))) (λ f. each f) in
+    let b = total_le g.files (λ f. vacant g.limit (s.reserved f) (s.pages f))
+    (λ f. total (g.tasks + 1) (λ t. total g.limit (λ j. bit (claim s.reserved (s.calls t) f j)))) (λ f. each f) in
     omega arith
   where
     each : (f : ℕ)
         → total (g.tasks + 1) (λ t. total g.limit (λ j. bit (claim s.reserved (s.calls t) f j))) ≤ vacant g.limit (s.reserved f) (s.pages f)
     each f =
-        let a : total (g.tasks + 1) (λ t. total g.limit (λ j. bit (claim s.reserved (s.calls t) f j))) ≡ total g.limit (λ j. total (g.tasks + 1) (λ t. bit (claim s.reserved (s.calls t) f j)))
+        let a : total (g.tasks + 1) (λ t. total g.limit (λ j. bit (claim s.reserved (s.calls t) f j))) ≡ total g.limit
+        (λ j. total (g.tasks + 1) (λ t. bit (claim s.reserved (s.calls t) f j)))
         = exchange (g.tasks + 1) g.limit (λ t j. bit (claim s.reserved (s.calls t) f j)) in
-        let b : total g.limit (λ j. total (g.tasks + 1) (λ t. bit (claim s.reserved (s.calls t) f j))) ≤ total g.limit (λ j. bit (s.reserved f j && is_none (s.pages f j)))
-        = total_le g.limit (λ j. bit (s.reserved f j && is_none (s.pages f j))) (λ j. total (g.tasks + 1) (λ t. bit (claim s.reserved (s.calls t) f j))) (λ j.
+        let b : total g.limit (λ j. total (g.tasks + 1) (λ t. bit (claim s.reserved (s.calls t) f j))) ≤ total g.limit
+        (λ j. bit (s.reserved f j && is_none (s.pages f j)))
+        =
+        total_le g.limit (λ j. bit (s.reserved f j && is_none (s.pages f j)))
+        (λ j. total (g.tasks + 1) (λ t. bit (claim s.reserved (s.calls t) f j))) (λ j.
         at_most_one (g.tasks + 1) (λ t. claim s.reserved (s.calls t) f j) (s.reserved f j && is_none (s.pages f j))
-        (λ t p. let c = claimed g s t (s.calls t) f j h refl (h.stands t) p in ap (λ (m : Bool). m && is_none (s.pages f j)) c.marked ∙ ap is_none c.bare)
-        (λ t u p q. once g s t u f j h (claimed g s t (s.calls t) f j h refl (h.stands t) p) (claimed g s u (s.calls u) f j h refl (h.stands u) q))) in
+        (λ t p. let c = claimed g s t (s.calls t) f j h refl (h.stands t) p in
+        ap (λ (m : Bool). m && is_none (s.pages f j)) c.marked ∙ ap is_none c.bare)
+        (λ t u p q. once g s t u f j h (claimed g s t (s.calls t) f j h refl (h.stands t) p)
+        (claimed g s u (s.calls u) f j h refl (h.stands u) q))) in
         let d = count_below-total (λ j. s.reserved f j && is_none (s.pages f j)) g.limit in
         omega arith
 
@@ -54,8 +62,10 @@ one_claim : (g : Geometry) (s : State) (c : Option Call) (f i : ℕ) (b : Bool) 
     → (b ≡ true → claim s.reserved c f i ≡ true) → bit b ≤ need g s c
 one_claim g s c f i false l m e = omega arith
 one_claim g s c f i true l m e =
-    let a : total g.limit (λ j. bit (claim s.reserved c f j)) ≤ need g s c = total_has g.files f (λ k. total g.limit (λ j. bit (claim s.reserved c k j))) l in
-    let b : bit (claim s.reserved c f i) ≤ total g.limit (λ j. bit (claim s.reserved c f j)) = total_has g.limit i (λ j. bit (claim s.reserved c f j)) m in
+    let a : total g.limit (λ j. bit (claim s.reserved c f j)) ≤ need g s c =
+    total_has g.files f (λ k. total g.limit (λ j. bit (claim s.reserved c k j))) l in
+    let b : bit (claim s.reserved c f i) ≤ total g.limit (λ j. bit (claim s.reserved c f j)) =
+    total_has g.limit i (λ j. bit (claim s.reserved c f j)) m in
     let d : bit (claim s.reserved c f i) ≡ 1 = ap bit (e refl) in
     omega arith
 
@@ -63,9 +73,12 @@ tail_needs : (g : Geometry) (s : State) (c : Option Call) (f from n : ℕ) → f
     → ((j : ℕ) → claim s.reserved c f j ≡ ((f == f) && (nat_le from j && s.reserved f j))) → n ≤ need g s c
 unfolding count_within
 tail_needs g s c f from n l m e =
-    let a : total g.limit (λ j. bit (claim s.reserved c f j)) ≤ need g s c = total_has g.files f (λ k. total g.limit (λ j. bit (claim s.reserved c k j))) l in
+    let a : total g.limit (λ j. bit (claim s.reserved c f j)) ≤ need g s c =
+    total_has g.files f (λ k. total g.limit (λ j. bit (claim s.reserved c k j))) l in
     let b : total g.limit (λ j. bit (claim s.reserved c f j)) ≡ total g.limit (λ j. bit (nat_le from j && s.reserved f j))
-    = total_same g.limit (λ j. bit (nat_le from j && s.reserved f j)) (λ j. bit (claim s.reserved c f j)) (λ j d. ap bit (e j) ∙ drop_same (nat_le from j && s.reserved f j)) in
+    =
+    total_same g.limit (λ j. bit (nat_le from j && s.reserved f j)) (λ j. bit (claim s.reserved c f j))
+    (λ j d. ap bit (e j) ∙ drop_same (nat_le from j && s.reserved f j)) in
     let d = count_below-total (λ j. nat_le from j && s.reserved f j) g.limit in
     omega arith
   where
@@ -79,21 +92,52 @@ when false f i e = (let d : false ≡ true = e in cc)
 
 -- what a call owes is within what it counts on
 less_needs : (g : Geometry) (s : State) (t : ℕ) (c : Option Call) → Stands g s t c → less c ≤ need g s c
-less_needs g s t (Some (call.Touch (touch.Taken p))) h = one_claim g s (Some (call.Touch (touch.Taken p))) p.touch.file p.touch.index (p.pending.missing == 0) h.facts.aim.1 h.facts.aim.2 (λ d. when (p.pending.missing == 0) p.touch.file p.touch.index d)
-less_needs g s t (Some (call.Touch (touch.Committed p))) h = one_claim g s (Some (call.Touch (touch.Committed p))) p.touch.file p.touch.index true h.facts.aim.1 h.facts.aim.2 (λ d. self p.touch.file p.touch.index)
-less_needs g s t (Some (call.Touch (touch.Restore p))) h = one_claim g s (Some (call.Touch (touch.Restore p))) p.touch.file p.touch.index true h.facts.aim.1 h.facts.aim.2 (λ d. self p.touch.file p.touch.index)
-less_needs g s t (Some (call.Alloc (alloc.Taken p))) h = one_claim g s (Some (call.Alloc (alloc.Taken p))) p.allocation.file p.index (p.pending.missing == 0) h.facts.range.0 (let a = h.facts.range.2 in let b = h.facts.range.3 in omega arith) (λ d. when (p.pending.missing == 0) p.allocation.file p.index d)
-less_needs g s t (Some (call.Alloc (alloc.Committed p))) h = one_claim g s (Some (call.Alloc (alloc.Committed p))) p.allocation.file p.index true h.facts.range.0 (let a = h.facts.range.2 in let b = h.facts.range.3 in omega arith) (λ d. self p.allocation.file p.index)
-less_needs g s t (Some (call.Alloc (alloc.Restore p))) h = one_claim g s (Some (call.Alloc (alloc.Restore p))) p.allocation.file p.index true h.facts.range.0 (let a = h.facts.range.2 in let b = h.facts.range.3 in omega arith) (λ d. self p.allocation.file p.index)
-less_needs g s t (Some (call.Punch (punch.Delete p))) h = one_claim g s (Some (call.Punch (punch.Delete p))) p.hole.file p.index true h.facts.range.0 (let a = h.facts.range.2 in let b = h.facts.range.3 in omega arith) (λ d. self p.hole.file p.index)
-less_needs g s t (Some (call.Punch (punch.Free p))) h = one_claim g s (Some (call.Punch (punch.Free p))) p.hole.file p.index p.denied h.facts.range.0 (let a = h.facts.range.2 in let b = h.facts.range.3 in omega arith) (λ d. when p.denied p.hole.file p.index d)
-less_needs g s t (Some (call.Truncate (truncate.Want p))) h = tail_needs g s (Some (call.Truncate (truncate.Want p))) p.truncation.file (p.index + 1) p.evicted h.facts.file h.facts.lost (λ j. refl)
-less_needs g s t (Some (call.Truncate (truncate.Locked p))) h = tail_needs g s (Some (call.Truncate (truncate.Locked p))) p.truncation.file (p.index + 1) p.evicted h.facts.file h.facts.lost (λ j. refl)
-less_needs g s t (Some (call.Truncate (truncate.Unmap p))) h = tail_needs g s (Some (call.Truncate (truncate.Unmap p))) p.truncation.file (p.index + 1) p.evicted h.facts.file h.facts.lost (λ j. refl)
-less_needs g s t (Some (call.Truncate (truncate.Evict p))) h = tail_needs g s (Some (call.Truncate (truncate.Evict p))) p.truncation.file (p.index + 1) p.evicted h.facts.file h.facts.lost (λ j. refl)
-less_needs g s t (Some (call.Truncate (truncate.Free p))) h = tail_needs g s (Some (call.Truncate (truncate.Free p))) p.truncation.file (p.index) p.evicted h.facts.file h.facts.lost (λ j. refl)
-less_needs g s t (Some (call.Truncate (truncate.Unslot p))) h = tail_needs g s (Some (call.Truncate (truncate.Unslot p))) p.truncation.file (p.index) p.evicted h.facts.file h.facts.lost (λ j. refl)
-less_needs g s t (Some (call.Truncate (truncate.Tail p))) h = tail_needs g s (Some (call.Truncate (truncate.Tail p))) p.truncation.file (p.truncation.new) p.evicted h.facts.file h.facts.lost (λ j. refl)
+less_needs g s t (Some (call.Touch (touch.Taken p))) h =
+    one_claim g s (Some (call.Touch (touch.Taken p))) p.touch.file p.touch.index (p.pending.missing == 0)
+    h.facts.aim.1 h.facts.aim.2 (λ d. when (p.pending.missing == 0) p.touch.file p.touch.index d)
+less_needs g s t (Some (call.Touch (touch.Committed p))) h =
+    one_claim g s (Some (call.Touch (touch.Committed p))) p.touch.file p.touch.index true h.facts.aim.1 h.facts.aim.2
+    (λ d. self p.touch.file p.touch.index)
+less_needs g s t (Some (call.Touch (touch.Restore p))) h =
+    one_claim g s (Some (call.Touch (touch.Restore p))) p.touch.file p.touch.index true h.facts.aim.1 h.facts.aim.2
+    (λ d. self p.touch.file p.touch.index)
+less_needs g s t (Some (call.Alloc (alloc.Taken p))) h =
+    one_claim g s (Some (call.Alloc (alloc.Taken p))) p.allocation.file p.index (p.pending.missing == 0)
+    h.facts.range.0 (let a = h.facts.range.2 in let b = h.facts.range.3 in omega arith)
+    (λ d. when (p.pending.missing == 0) p.allocation.file p.index d)
+less_needs g s t (Some (call.Alloc (alloc.Committed p))) h =
+    one_claim g s (Some (call.Alloc (alloc.Committed p))) p.allocation.file p.index true h.facts.range.0
+    (let a = h.facts.range.2 in let b = h.facts.range.3 in omega arith) (λ d. self p.allocation.file p.index)
+less_needs g s t (Some (call.Alloc (alloc.Restore p))) h =
+    one_claim g s (Some (call.Alloc (alloc.Restore p))) p.allocation.file p.index true h.facts.range.0
+    (let a = h.facts.range.2 in let b = h.facts.range.3 in omega arith) (λ d. self p.allocation.file p.index)
+less_needs g s t (Some (call.Punch (punch.Delete p))) h =
+    one_claim g s (Some (call.Punch (punch.Delete p))) p.hole.file p.index true h.facts.range.0
+    (let a = h.facts.range.2 in let b = h.facts.range.3 in omega arith) (λ d. self p.hole.file p.index)
+less_needs g s t (Some (call.Punch (punch.Free p))) h =
+    one_claim g s (Some (call.Punch (punch.Free p))) p.hole.file p.index p.denied h.facts.range.0
+    (let a = h.facts.range.2 in let b = h.facts.range.3 in omega arith) (λ d. when p.denied p.hole.file p.index d)
+less_needs g s t (Some (call.Truncate (truncate.Want p))) h =
+    tail_needs g s (Some (call.Truncate (truncate.Want p))) p.truncation.file (p.index + 1) p.evicted h.facts.file
+    h.facts.lost (λ j. refl)
+less_needs g s t (Some (call.Truncate (truncate.Locked p))) h =
+    tail_needs g s (Some (call.Truncate (truncate.Locked p))) p.truncation.file (p.index + 1) p.evicted h.facts.file
+    h.facts.lost (λ j. refl)
+less_needs g s t (Some (call.Truncate (truncate.Unmap p))) h =
+    tail_needs g s (Some (call.Truncate (truncate.Unmap p))) p.truncation.file (p.index + 1) p.evicted h.facts.file
+    h.facts.lost (λ j. refl)
+less_needs g s t (Some (call.Truncate (truncate.Evict p))) h =
+    tail_needs g s (Some (call.Truncate (truncate.Evict p))) p.truncation.file (p.index + 1) p.evicted h.facts.file
+    h.facts.lost (λ j. refl)
+less_needs g s t (Some (call.Truncate (truncate.Free p))) h =
+    tail_needs g s (Some (call.Truncate (truncate.Free p))) p.truncation.file (p.index) p.evicted h.facts.file
+    h.facts.lost (λ j. refl)
+less_needs g s t (Some (call.Truncate (truncate.Unslot p))) h =
+    tail_needs g s (Some (call.Truncate (truncate.Unslot p))) p.truncation.file (p.index) p.evicted h.facts.file
+    h.facts.lost (λ j. refl)
+less_needs g s t (Some (call.Truncate (truncate.Tail p))) h =
+    tail_needs g s (Some (call.Truncate (truncate.Tail p))) p.truncation.file (p.truncation.new) p.evicted
+    h.facts.file h.facts.lost (λ j. refl)
 less_needs g s t (Some (call.Map (map.Start _))) h = omega arith
 less_needs g s t (Some (call.Unmap (unmap.Start _))) h = omega arith
 less_needs g s t (Some (call.Exit exit.Start)) h = omega arith
@@ -106,8 +150,11 @@ enough g s t c h l e =
     let n : ℕ = g.tasks + 1 in
     let a : total n (λ u. need g s (s.calls u)) ≤ vacant_of g s.reserved s.pages = all_needs g s h in
     let d : total n (λ u. need g s (s.calls u)) ≡ total n (λ u. less (s.calls u)) + total n (λ u. need g s (s.calls u) - less (s.calls u))
-    = total_add n (λ u. less (s.calls u)) (λ u. need g s (s.calls u) - less (s.calls u)) (λ u. need g s (s.calls u)) (λ u. let y : less (s.calls u) ≤ need g s (s.calls u) = less_needs g s u (s.calls u) (h.stands u) in omega arith) in
-    let p : need g s (s.calls t) - less (s.calls t) ≤ total n (λ u. need g s (s.calls u) - less (s.calls u)) = total_has n t (λ u. need g s (s.calls u) - less (s.calls u)) l in
+    =
+    total_add n (λ u. less (s.calls u)) (λ u. need g s (s.calls u) - less (s.calls u)) (λ u. need g s (s.calls u))
+    (λ u. let y : less (s.calls u) ≤ need g s (s.calls u) = less_needs g s u (s.calls u) (h.stands u) in omega arith) in
+    let p : need g s (s.calls t) - less (s.calls t) ≤ total n (λ u. need g s (s.calls u) - less (s.calls u)) =
+    total_has n t (λ u. need g s (s.calls u) - less (s.calls u)) l in
     let q : more (s.calls t) ≤ total n (λ u. more (s.calls u)) = total_has n t (λ u. more (s.calls u)) l in
     let x : need g s (s.calls t) ≡ need g s c = ap (need g s) e in
     let y : less (s.calls t) ≡ less c = ap less e in
@@ -120,14 +167,27 @@ is_zero m e = grind (arith, nat_tests)
 
 pub can_settle : (g : Geometry) (s : State) (t : ℕ) (c : Option Call) → Inv g s → t < g.tasks + 1 → s.calls t ≡ c → Stands g s t c
     → CanSettle s c
-can_settle g s t (Some (call.Touch (touch.Changed p))) k l e h = λ z. let o : 1 ≤ need g s (Some (call.Touch (touch.Changed p))) = one_claim g s (Some (call.Touch (touch.Changed p))) p.touch.file p.touch.index true h.facts.aim.1 h.facts.aim.2 (λ d. when (p.pending.missing == 0) p.touch.file p.touch.index (is_zero p.pending.missing z)) in let q = enough g s t _ k l e in omega arith
+can_settle g s t (Some (call.Touch (touch.Changed p))) k l e h =
+    λ z. let o : 1 ≤ need g s (Some (call.Touch (touch.Changed p))) = one_claim g s
+    (Some (call.Touch (touch.Changed p))) p.touch.file p.touch.index true h.facts.aim.1 h.facts.aim.2
+    (λ d. when (p.pending.missing == 0) p.touch.file p.touch.index (is_zero p.pending.missing z)) in
+    let q = enough g s t _ k l e in omega arith
 can_settle g s t (Some (call.Touch (touch.Settle p))) k l e h =
-    let o : 1 ≤ need g s (Some (call.Touch (touch.Settle p))) = one_claim g s (Some (call.Touch (touch.Settle p))) p.touch.file p.touch.index true h.facts.aim.1 h.facts.aim.2 (λ d. self p.touch.file p.touch.index) in
+    let o : 1 ≤ need g s (Some (call.Touch (touch.Settle p))) =
+    one_claim g s (Some (call.Touch (touch.Settle p))) p.touch.file p.touch.index true h.facts.aim.1 h.facts.aim.2
+    (λ d. self p.touch.file p.touch.index) in
     let q = enough g s t _ k l e in
     omega arith
-can_settle g s t (Some (call.Alloc (alloc.Changed p))) k l e h = λ z. let o : 1 ≤ need g s (Some (call.Alloc (alloc.Changed p))) = one_claim g s (Some (call.Alloc (alloc.Changed p))) p.allocation.file p.index true h.facts.range.0 (let a = h.facts.range.2 in let b = h.facts.range.3 in omega arith) (λ d. when (p.pending.missing == 0) p.allocation.file p.index (is_zero p.pending.missing z)) in let q = enough g s t _ k l e in omega arith
+can_settle g s t (Some (call.Alloc (alloc.Changed p))) k l e h =
+    λ z. let o : 1 ≤ need g s (Some (call.Alloc (alloc.Changed p))) = one_claim g s
+    (Some (call.Alloc (alloc.Changed p))) p.allocation.file p.index true h.facts.range.0
+    (let a = h.facts.range.2 in let b = h.facts.range.3 in omega arith)
+    (λ d. when (p.pending.missing == 0) p.allocation.file p.index (is_zero p.pending.missing z)) in
+    let q = enough g s t _ k l e in omega arith
 can_settle g s t (Some (call.Alloc (alloc.Settle p))) k l e h =
-    let o : 1 ≤ need g s (Some (call.Alloc (alloc.Settle p))) = one_claim g s (Some (call.Alloc (alloc.Settle p))) p.allocation.file p.index true h.facts.range.0 (let a = h.facts.range.2 in let b = h.facts.range.3 in omega arith) (λ d. self p.allocation.file p.index) in
+    let o : 1 ≤ need g s (Some (call.Alloc (alloc.Settle p))) =
+    one_claim g s (Some (call.Alloc (alloc.Settle p))) p.allocation.file p.index true h.facts.range.0
+    (let a = h.facts.range.2 in let b = h.facts.range.3 in omega arith) (λ d. self p.allocation.file p.index) in
     let q = enough g s t _ k l e in
     omega arith
 can_settle g s t (Some (call.Map (map.Settle p))) k l e h = let q = enough g s t _ k l e in omega arith

@@ -13,7 +13,8 @@ use Rattle.hp_machine.specs.declared.call.Call.{Call}
 use Rattle.hp_laws.specs.Sweep.{fills, ahead, passed, gone}
 use Rattle.hp_laws.proofs.Standing.{HasSlot, HasLock, Stands}
 use Rattle.hp_laws.proofs.Staying.{stands_after}
-use Rattle.hp_laws.proofs.Invariant.{Reached, Swept, Holders, Inv, goes_on, put_known, vacant_of, place_same, same_opens, holds, to, if_weaker}
+use Rattle.hp_laws.proofs.Invariant.{Reached, Swept, Holders, Inv, goes_on, put_known, vacant_of, place_same, same_opens, holds}
+use Rattle.hp_laws.proofs.Invariant.{to, if_weaker}
 use Rattle.hp_laws.proofs.Holding.{some_same, left_holders, left_stands}
 use Rattle.hp_laws.proofs.Passing.{locks_file, holds_slot, fills_slot, passed_locked, reached_not_passed, same_holder}
 
@@ -47,10 +48,15 @@ view_cases v calls t u c f j P p other own = elim (put_tells (λ (w : ℕ). v (c
 
 -- the holders are as they were
 same_holders : (g : Geometry) (s : State) (t : ℕ) (b c : Option Call) → Inv g s → s.calls t ≡ b → holds c ≡ holds b
-    → Holders g s.slots s.locks (put (λ (u : ℕ). slot_held (s.calls u)) t (slot_held c)) (put (λ (u : ℕ). locked_file (s.calls u)) t (locked_file c))
+    → Holders g s.slots s.locks (put (λ (u : ℕ). slot_held (s.calls u)) t (slot_held c))
+    (put (λ (u : ℕ). locked_file (s.calls u)) t (locked_file c))
 same_holders g s t b c h e same =
-    subst (λ (a : ℕ → Option (ℕ × ℕ)). Holders g s.slots s.locks a (put (λ (u : ℕ). locked_file (s.calls u)) t (locked_file c))) (sym (put_known (λ (u : ℕ). slot_held (s.calls u)) t (slot_held c) (ap slot_held e ∙ sym (ap (λ p. p.0) same))))
-    (subst (λ (a : ℕ → Option ℕ). Holders g s.slots s.locks (λ u. slot_held (s.calls u)) a) (sym (put_known (λ (u : ℕ). locked_file (s.calls u)) t (locked_file c) (ap locked_file e ∙ sym (ap (λ p. p.1) same)))) h.holders)
+    subst (λ (a : ℕ → Option (ℕ × ℕ)). Holders g s.slots s.locks a
+    (put (λ (u : ℕ). locked_file (s.calls u)) t (locked_file c)))
+    (sym (put_known (λ (u : ℕ). slot_held (s.calls u)) t (slot_held c) (ap slot_held e ∙ sym (ap (λ p. p.0) same))))
+    (subst (λ (a : ℕ → Option ℕ). Holders g s.slots s.locks (λ u. slot_held (s.calls u)) a)
+    (sym (put_known (λ (u : ℕ). locked_file (s.calls u)) t (locked_file c)
+    (ap locked_file e ∙ sym (ap (λ p. p.1) same)))) h.holders)
 
 -- another call under a lock stands in another file
 other_file : (g : Geometry) (s : State) (t u k f : ℕ) → Inv g s → HasLock s t f → u ≢ t → locked_file (s.calls u) ≡ Some k → k ≢ f
@@ -69,31 +75,59 @@ pub cuts : (g : Geometry) (s : State) (t : ℕ) (b c : Option Call) (f new top :
     → fills c ≡ None → ((k j : ℕ) → gone c k j ≡ true → ⊥)
     → Stands g (record s { pool = record s.pool { size = put s.size f new } }) t c
     → Inv g (to (record s { pool = record s.pool { size = put s.size f new } }) t c)
-cuts g s t b c f new top h l e same_held same_hand same_change balance held low size_low bare none_ahead covers passes no_fill none_gone own = goes_on g s n t b c h l e (record {
-  geometry = h.geometry;
-  entries = h.entries;
-  ranges = h.ranges;
-  spread = h.spread;
-  inside = h.inside;
-  spares = h.spares;
-  enough = h.enough;
-  count = omega arith;
-  place = place_same g s t b c h e same_hand;
-  sweep = record {
-    below = λ w v x k j p q. covered k j (h.sweep.below w v x k j p q);
-    past = λ u k j p. view_cases passed s.calls t u c k j ((s.pages k j ≡ None) × (n.size k ≤ j)) p
-        (λ d q. let o = h.sweep.past u k j q in (o.0, (let z : n.size k ≡ s.size k = put_other s.size f new k (other_file g s t u k f h held d (passed_locked (s.calls u) k j q)) in let y = o.1 in omega arith)))
-        (λ q. let o = passes k j q in (ap (λ (m : ℕ). s.pages m j) o.0 ∙ bare j o.1, (let z : n.size k ≡ new = ap (put s.size f new) o.0 ∙ put_same s.size f new in let y = o.2 in omega arith)));
-    gone = λ u k j p. view_cases gone s.calls t u c k j (s.reserved k j ≡ false) p (λ d q. h.sweep.gone u k j q) (λ q. absurd (none_gone k j q));
-  };
-  reach = λ w. if_weaker (fills (s.calls w)) (λ k p r. covered k.0 k.1 r) (h.reach w);
-  fill = subst (λ (o : Option (ℕ × ℕ)). IfSome o (λ k. Reached n.size (put (λ (w : ℕ). ahead (s.calls w)) t (ahead c)) k.0 k.1)) (sym no_fill) tt;
-  sizes = λ k. elim (put_tells s.size f new k) [ inl q ↦ (let z = q.1 in omega arith) | inr q ↦ (let z = q.1 in let y = h.sizes k in omega arith) ];
-  changes = same_opens s.pending b c same_change;
-  holders = same_holders g s t b c h e same_held;
-  others = λ u d. stands_after g s n u (s.calls u) (record { slot = λ k a. a; page = λ k j a. refl; mark = λ k j a w r. r; entries = λ k j a w v y p q. (y, p, q); lock = λ k a. (a, put_other s.size f new k (other_lock s t u k f held d a), λ j r. r); areas = refl; prepared = refl; table = λ v y p. (y, p) }) (h.stands u);
-  own = own;
-})
+cuts g s t b c f new top h l e same_held same_hand same_change balance held low size_low bare none_ahead covers passes
+    no_fill none_gone own = goes_on g s n t b c h l e (record {
+      geometry = h.geometry;
+      entries = h.entries;
+      ranges = h.ranges;
+      spread = h.spread;
+      inside = h.inside;
+      spares = h.spares;
+      enough = h.enough;
+      count = omega arith;
+      place = place_same g s t b c h e same_hand;
+      sweep = record {
+        below = λ w v x k j p q. covered k j (h.sweep.below w v x k j p q);
+        past = λ u k j p. view_cases passed s.calls t u c k j ((s.pages k j ≡ None) × (n.size k ≤ j)) p
+            (λ d q. let o = h.sweep.past u k j q in (
+              o.0,
+              (let z : n.size k ≡ s.size k = put_other s.size f new k
+                  (other_file g s t u k f h held d (passed_locked (s.calls u) k j q)) in let y = o.1 in omega arith),
+            ))
+            (λ q. let o = passes k j q in (
+              ap (λ (m : ℕ). s.pages m j) o.0 ∙ bare j o.1,
+              (let z : n.size k ≡ new = ap (put s.size f new) o.0 ∙ put_same s.size f new in let y = o.2 in omega arith),
+            ));
+        gone =
+            λ u k j p. view_cases gone s.calls t u c k j (s.reserved k j ≡ false) p (λ d q. h.sweep.gone u k j q)
+            (λ q. absurd (none_gone k j q));
+      };
+      reach = λ w. if_weaker (fills (s.calls w)) (λ k p r. covered k.0 k.1 r) (h.reach w);
+      fill =
+          subst (λ (o : Option (ℕ × ℕ)). IfSome o
+          (λ k. Reached n.size (put (λ (w : ℕ). ahead (s.calls w)) t (ahead c)) k.0 k.1)) (sym no_fill) tt;
+      sizes =
+          λ k. elim (put_tells s.size f new k) [
+            | inl q ↦ (let z = q.1 in omega arith)
+            | inr q ↦
+                (let z = q.1 in let y = h.sizes k in omega arith)
+          ];
+      changes = same_opens s.pending b c same_change;
+      holders = same_holders g s t b c h e same_held;
+      others =
+          λ u d. stands_after g s n u (s.calls u)
+          (record {
+            slot = λ k a. a;
+            page = λ k j a. refl;
+            mark = λ k j a w r. r;
+            entries = λ k j a w v y p q. (y, p, q);
+            lock = λ k a. (a, put_other s.size f new k (other_lock s t u k f held d a), λ j r. r);
+            areas = refl;
+            prepared = refl;
+            table = λ v y p. (y, p);
+          }) (h.stands u);
+      own = own;
+    })
   where
     n : State
     n = record s { pool = record s.pool { size = put s.size f new } }
@@ -119,34 +153,42 @@ pub passes : (g : Geometry) (s : State) (t : ℕ) (b c : Option Call) (f i new :
     → ((k j : ℕ) → passed c k j ≡ true → (passed b k j ≡ true) ⊎ ((k ≡ f) × (j ≡ i) × (new ≤ j))) → ((k j : ℕ) → gone c k j ≡ true → ⊥)
     → Stands g (record s { pool = record s.pool { slots = put s.slots (slot_of g f i) None } }) t c
     → Inv g (to (record s { pool = record s.pool { slots = put s.slots (slot_of g f i) None } }) t c)
-passes g s t b c f i new h l e same_lock some none same_hand same_change balance no_b no_c held bare sized aheads passing none_gone own = goes_on g s n t b c h l e (record {
-  geometry = h.geometry;
-  entries = h.entries;
-  ranges = h.ranges;
-  spread = h.spread;
-  inside = h.inside;
-  sizes = h.sizes;
-  spares = h.spares;
-  enough = h.enough;
-  count = omega arith;
-  place = place_same g s t b c h e same_hand;
-  sweep = record {
-    below = λ w v x k j p q. covered k j (h.sweep.below w v x k j p q) (λ y z. no_entry w v x k j p q y z);
-    past = λ u k j p. view_cases passed s.calls t u c k j ((s.pages k j ≡ None) × (s.size k ≤ j)) p
-        (λ d q. h.sweep.past u k j q)
-        (λ q. elim (passing k j q) [
-          | inl y ↦ h.sweep.past t k j (ap (λ (m : Option Call). passed m k j) e ∙ y)
-          | inr y ↦ (ap (λ (m : ℕ). s.pages m j) y.0 ∙ (ap (s.pages f) y.1 ∙ bare), (let z : s.size k ≡ new = ap s.size y.0 ∙ sized in let a = y.2 in omega arith))
-        ]);
-    gone = λ u k j p. view_cases gone s.calls t u c k j (s.reserved k j ≡ false) p (λ d q. h.sweep.gone u k j q) (λ q. absurd (none_gone k j q));
-  };
-  reach = λ w. if_weaker (fills (s.calls w)) (λ k p r. covered k.0 k.1 r (λ y z. no_filler w k p y z)) (h.reach w);
-  fill = subst (λ (o : Option (ℕ × ℕ)). IfSome o (λ k. Reached s.size (put (λ (w : ℕ). ahead (s.calls w)) t (ahead c)) k.0 k.1)) (sym no_c) tt;
-  changes = same_opens s.pending b c same_change;
-  holders = left_holders g s t b c f i h e same_lock some none;
-  others = left_stands g s t f i h held;
-  own = own;
-})
+passes g s t b c f i new h l e same_lock some none same_hand same_change balance no_b no_c held bare sized aheads
+    passing none_gone own = goes_on g s n t b c h l e (record {
+      geometry = h.geometry;
+      entries = h.entries;
+      ranges = h.ranges;
+      spread = h.spread;
+      inside = h.inside;
+      sizes = h.sizes;
+      spares = h.spares;
+      enough = h.enough;
+      count = omega arith;
+      place = place_same g s t b c h e same_hand;
+      sweep = record {
+        below = λ w v x k j p q. covered k j (h.sweep.below w v x k j p q) (λ y z. no_entry w v x k j p q y z);
+        past = λ u k j p. view_cases passed s.calls t u c k j ((s.pages k j ≡ None) × (s.size k ≤ j)) p
+            (λ d q. h.sweep.past u k j q)
+            (λ q. elim (passing k j q) [
+              | inl y ↦ h.sweep.past t k j (ap (λ (m : Option Call). passed m k j) e ∙ y)
+              | inr y ↦ (
+                ap (λ (m : ℕ). s.pages m j) y.0 ∙ (ap (s.pages f) y.1 ∙ bare),
+                (let z : s.size k ≡ new = ap s.size y.0 ∙ sized in let a = y.2 in omega arith),
+              )
+            ]);
+        gone =
+            λ u k j p. view_cases gone s.calls t u c k j (s.reserved k j ≡ false) p (λ d q. h.sweep.gone u k j q)
+            (λ q. absurd (none_gone k j q));
+      };
+      reach = λ w. if_weaker (fills (s.calls w)) (λ k p r. covered k.0 k.1 r (λ y z. no_filler w k p y z)) (h.reach w);
+      fill =
+          subst (λ (o : Option (ℕ × ℕ)). IfSome o
+          (λ k. Reached s.size (put (λ (w : ℕ). ahead (s.calls w)) t (ahead c)) k.0 k.1)) (sym no_c) tt;
+      changes = same_opens s.pending b c same_change;
+      holders = left_holders g s t b c f i h e same_lock some none;
+      others = left_stands g s t f i h held;
+      own = own;
+    })
   where
     n : State
     n = record s { pool = record s.pool { slots = put s.slots (slot_of g f i) None } }
@@ -170,12 +212,15 @@ passes g s t b c f i new h l e same_lock some none same_hand same_change balance
     no_entry : (w v x k j : ℕ) → s.table w v ≡ Some x → find (s.areas w) v ≡ Some (k, j) → k ≡ f → j ≡ i → ⊥
     no_entry w v x k j p q y z =
         let o = h.entries.agree w v x p in
-        let d : ◌≡◌ {A = Option ℕ} None (Some x) = sym bare ∙ (ap (λ (m : ℕ). s.pages m i) (sym y) ∙ (ap (s.pages k) (sym z) ∙ (sym (pair_page o.0 _ k j o.1 q) ∙ o.2))) in
+        let d : ◌≡◌ {A = Option ℕ} None (Some x) =
+        sym bare ∙ (ap (λ (m : ℕ). s.pages m i) (sym y) ∙ (ap (s.pages k) (sym z) ∙ (sym (pair_page o.0 _ k j o.1 q) ∙ o.2))) in
         absurd (cc)
 
     no_filler : (w : ℕ) (k : ℕ × ℕ) → fills (s.calls w) ≡ Some k → k.0 ≡ f → k.1 ≡ i → ⊥
     no_filler w k p y z =
-        let a : s.slots (slot_of g f i) ≡ Some w = ap (λ (m : ℕ). s.slots (slot_of g m i)) (sym y) ∙ (ap (λ (m : ℕ). s.slots (slot_of g k.0 m)) (sym z) ∙ holds_slot g s w k h (fills_slot (s.calls w) k p)) in
+        let a : s.slots (slot_of g f i) ≡ Some w =
+        ap (λ (m : ℕ). s.slots (slot_of g m i)) (sym y)
+        ∙ (ap (λ (m : ℕ). s.slots (slot_of g k.0 m)) (sym z) ∙ holds_slot g s w k h (fills_slot (s.calls w) k p)) in
         let d : w ≡ t = same_holder w t (s.slots (slot_of g f i)) a held in
         let q : ◌≡◌ {A = Option (ℕ × ℕ)} None (Some k) = sym no_b ∙ (ap fills (sym e) ∙ (ap (λ (m : ℕ). fills (s.calls m)) (sym d) ∙ p)) in
         absurd (cc)
@@ -192,62 +237,104 @@ pub cuts_tail : (g : Geometry) (s : State) (t : ℕ) (b c : Option Call) (f new 
     → HasLock s t f → ((j : ℕ) → new ≤ j → passed (s.calls t) f j ≡ true)
     → Stands g (record s { pool = record s.pool { reserved = put s.reserved f (cut_tail (s.reserved f) new) } }) t c
     → Inv g (to (record s { pool = record s.pool { reserved = put s.reserved f (cut_tail (s.reserved f) new) } }) t c)
-cuts_tail g s t b c f new h l e in_files same_ahead same_passed goners same_held same_hand same_change no_fill balance held passing own = goes_on g s n t b c h l e (record {
-  geometry = h.geometry;
-  entries = h.entries;
-  ranges = h.ranges;
-  spread = h.spread;
-  sizes = h.sizes;
-  spares = h.spares;
-  enough = h.enough;
-  count = (let z = lost_tail in omega arith);
-  place = place_same g s t b c h e same_hand;
-  inside = record {
-    within = λ k j a. h.inside.within k j (was_true (s.reserved k j) (n.reserved k j) (cut_still k j) a);
-    bare = λ k j a. elim (same_or_other k f) [
-      | inl d ↦ elim (cut_false (s.reserved f) new j (ap (λ (m : ℕ → Bool). m j) (sym (ap n.reserved d ∙ put_same s.reserved f (cut_tail (s.reserved f) new))) ∙ a)) [
-        | inl q ↦ ap (λ (m : ℕ). s.pages m j) d ∙ h.inside.bare f j q
-        | inr q ↦ ap (λ (m : ℕ). s.pages m j) d ∙ (h.sweep.past t f j (passing j q)).0
-      ]
-      | inr d ↦ h.inside.bare k j (ap (λ (m : ℕ → Bool). m j) (sym (put_other s.reserved f (cut_tail (s.reserved f) new) k d)) ∙ a)
-    ];
-  };
-  sweep = subst (λ (a : ℕ → ℕ → ℕ → Bool). Swept s.size n.reserved s.pages s.areas s.table a (put (λ (u : ℕ). passed (s.calls u)) t (passed c)) (put (λ (u : ℕ). gone (s.calls u)) t (gone c))) (sym (put_known (λ (u : ℕ). ahead (s.calls u)) t (ahead c) (ap ahead e ∙ sym same_ahead)))
-      (subst (λ (a : ℕ → ℕ → ℕ → Bool). Swept s.size n.reserved s.pages s.areas s.table (λ u. ahead (s.calls u)) a (put (λ (u : ℕ). gone (s.calls u)) t (gone c))) (sym (put_known (λ (u : ℕ). passed (s.calls u)) t (passed c) (ap passed e ∙ sym same_passed)))
-      (record {
-        below = h.sweep.below;
-        past = h.sweep.past;
-        gone = λ u k j p. view_cases gone s.calls t u c k j (n.reserved k j ≡ false) p
-            (λ d q. cut_still k j (h.sweep.gone u k j q))
-            (λ q. let o = goners k j q in ap (λ (m : ℕ → Bool). m j) (ap n.reserved o.0 ∙ put_same s.reserved f (cut_tail (s.reserved f) new)) ∙ cut_above (s.reserved f) new j o.1);
-      }));
-  reach = subst (λ (a : ℕ → ℕ → ℕ → Bool). (w : ℕ) → IfSome (fills (s.calls w)) (λ k. Reached s.size a k.0 k.1)) (sym (put_known (λ (u : ℕ). ahead (s.calls u)) t (ahead c) (ap ahead e ∙ sym same_ahead))) h.reach;
-  fill = subst (λ (o : Option (ℕ × ℕ)). IfSome o (λ k. Reached s.size (put (λ (w : ℕ). ahead (s.calls w)) t (ahead c)) k.0 k.1)) (sym no_fill) tt;
-  changes = same_opens s.pending b c same_change;
-  holders = same_holders g s t b c h e same_held;
-  others = λ u d. stands_after g s n u (s.calls u) (record { slot = λ k a. a; page = λ k j a. refl; mark = λ k j a w r. kept u d k j w r; entries = λ k j a w v y p q. (y, p, q); lock = λ k a. (a, refl, λ j r. ap (λ (m : ℕ → Bool). m j) (put_other s.reserved f (cut_tail (s.reserved f) new) k (other_lock s t u k f held d a)) ∙ r); areas = refl; prepared = refl; table = λ v y p. (y, p) }) (h.stands u);
-  own = own;
-})
+cuts_tail g s t b c f new h l e in_files same_ahead same_passed goners same_held same_hand same_change no_fill balance
+    held passing own = goes_on g s n t b c h l e (record {
+      geometry = h.geometry;
+      entries = h.entries;
+      ranges = h.ranges;
+      spread = h.spread;
+      sizes = h.sizes;
+      spares = h.spares;
+      enough = h.enough;
+      count = (let z = lost_tail in omega arith);
+      place = place_same g s t b c h e same_hand;
+      inside = record {
+        within = λ k j a. h.inside.within k j (was_true (s.reserved k j) (n.reserved k j) (cut_still k j) a);
+        bare = λ k j a. elim (same_or_other k f) [
+          | inl d ↦ elim (cut_false (s.reserved f) new j
+              (ap (λ (m : ℕ → Bool). m j) (sym (ap n.reserved d ∙ put_same s.reserved f (cut_tail (s.reserved f) new))) ∙ a)) [
+                | inl q ↦ ap (λ (m : ℕ). s.pages m j) d ∙ h.inside.bare f j q
+                | inr q ↦ ap (λ (m : ℕ). s.pages m j) d ∙ (h.sweep.past t f j (passing j q)).0
+              ]
+          | inr d ↦ h.inside.bare k j (ap (λ (m : ℕ → Bool). m j) (sym (put_other s.reserved f (cut_tail (s.reserved f) new) k d)) ∙ a)
+        ];
+      };
+      sweep =
+          subst (λ (a : ℕ → ℕ → ℕ → Bool). Swept s.size n.reserved s.pages s.areas s.table a
+          (put (λ (u : ℕ). passed (s.calls u)) t (passed c)) (put (λ (u : ℕ). gone (s.calls u)) t (gone c)))
+          (sym (put_known (λ (u : ℕ). ahead (s.calls u)) t (ahead c) (ap ahead e ∙ sym same_ahead)))
+          (subst (λ (a : ℕ → ℕ → ℕ → Bool). Swept s.size n.reserved s.pages s.areas s.table (λ u. ahead (s.calls u)) a
+          (put (λ (u : ℕ). gone (s.calls u)) t (gone c)))
+          (sym (put_known (λ (u : ℕ). passed (s.calls u)) t (passed c) (ap passed e ∙ sym same_passed)))
+          (record {
+            below = h.sweep.below;
+            past = h.sweep.past;
+            gone = λ u k j p. view_cases gone s.calls t u c k j (n.reserved k j ≡ false) p
+                (λ d q. cut_still k j (h.sweep.gone u k j q))
+                (λ q. let o = goners k j q in
+                ap (λ (m : ℕ → Bool). m j) (ap n.reserved o.0 ∙ put_same s.reserved f (cut_tail (s.reserved f) new))
+                ∙ cut_above (s.reserved f) new j o.1);
+          }));
+      reach =
+          subst (λ (a : ℕ → ℕ → ℕ → Bool). (w : ℕ) → IfSome (fills (s.calls w)) (λ k. Reached s.size a k.0 k.1))
+          (sym (put_known (λ (u : ℕ). ahead (s.calls u)) t (ahead c) (ap ahead e ∙ sym same_ahead))) h.reach;
+      fill =
+          subst (λ (o : Option (ℕ × ℕ)). IfSome o
+          (λ k. Reached s.size (put (λ (w : ℕ). ahead (s.calls w)) t (ahead c)) k.0 k.1)) (sym no_fill) tt;
+      changes = same_opens s.pending b c same_change;
+      holders = same_holders g s t b c h e same_held;
+      others =
+          λ u d. stands_after g s n u (s.calls u)
+          (record {
+            slot = λ k a. a;
+            page = λ k j a. refl;
+            mark = λ k j a w r. kept u d k j w r;
+            entries = λ k j a w v y p q. (y, p, q);
+            lock = λ k a. (
+              a,
+              refl,
+              λ j r. ap (λ (m : ℕ → Bool). m j)
+                  (put_other s.reserved f (cut_tail (s.reserved f) new) k (other_lock s t u k f held d a)) ∙ r,
+            );
+            areas = refl;
+            prepared = refl;
+            table = λ v y p. (y, p);
+          }) (h.stands u);
+      own = own;
+    })
   where
     n : State
     n = record s { pool = record s.pool { reserved = put s.reserved f (cut_tail (s.reserved f) new) } }
 
     cut_still : (k j : ℕ) → s.reserved k j ≡ false → n.reserved k j ≡ false
     cut_still k j a = elim (same_or_other k f) [
-      | inl d ↦ ap (λ (m : ℕ → Bool). m j) (ap n.reserved d ∙ put_same s.reserved f (cut_tail (s.reserved f) new)) ∙ cut_out (s.reserved f) new j (ap (λ (m : ℕ). s.reserved m j) (sym d) ∙ a)
+      | inl d ↦ ap (λ (m : ℕ → Bool). m j) (ap n.reserved d ∙ put_same s.reserved f (cut_tail (s.reserved f) new))
+          ∙ cut_out (s.reserved f) new j (ap (λ (m : ℕ). s.reserved m j) (sym d) ∙ a)
       | inr d ↦ ap (λ (m : ℕ → Bool). m j) (put_other s.reserved f (cut_tail (s.reserved f) new) k d) ∙ a
     ]
 
     lost_tail : vacant_of g s.reserved s.pages ≡ vacant_of g n.reserved s.pages + count_within (s.reserved f) new g.limit
     lost_tail =
-        let a : vacant_of g n.reserved s.pages + vacant g.limit (s.reserved f) (s.pages f) ≡ vacant_of g s.reserved s.pages + vacant g.limit (n.reserved f) (s.pages f)
-        = total_change g.files f (λ k. vacant g.limit (s.reserved k) (s.pages k)) (λ k. vacant g.limit (n.reserved k) (s.pages k)) in_files (λ k d. ap (λ (m : ℕ → Bool). vacant g.limit m (s.pages k)) (put_other s.reserved f (cut_tail (s.reserved f) new) k d)) in
-        let z : vacant g.limit (s.reserved f) (s.pages f) ≡ vacant g.limit (n.reserved f) (s.pages f) + count_within (s.reserved f) new g.limit
-        = vacant_cut g.limit (s.reserved f) (s.pages f) new (λ i q. (h.sweep.past t f i (passing i q)).0) ∙ ap (λ (m : ℕ → Bool). vacant g.limit m (s.pages f) + count_within (s.reserved f) new g.limit) (sym (put_same s.reserved f (cut_tail (s.reserved f) new))) in
+        let a : vacant_of g n.reserved s.pages + vacant g.limit (s.reserved f) (s.pages f) ≡ vacant_of g s.reserved
+        s.pages + vacant g.limit (n.reserved f) (s.pages f)
+        =
+        total_change g.files f (λ k. vacant g.limit (s.reserved k) (s.pages k))
+        (λ k. vacant g.limit (n.reserved k) (s.pages k)) in_files
+        (λ k d. ap (λ (m : ℕ → Bool). vacant g.limit m (s.pages k))
+        (put_other s.reserved f (cut_tail (s.reserved f) new) k d)) in
+        let z : vacant g.limit (s.reserved f) (s.pages f) ≡ vacant g.limit (n.reserved f) (s.pages f) + count_within
+        (s.reserved f) new g.limit
+        =
+        vacant_cut g.limit (s.reserved f) (s.pages f) new (λ i q. (h.sweep.past t f i (passing i q)).0)
+        ∙ ap (λ (m : ℕ → Bool). vacant g.limit m (s.pages f) + count_within (s.reserved f) new g.limit)
+        (sym (put_same s.reserved f (cut_tail (s.reserved f) new))) in
         omega arith
 
     not_passed : (u k j : ℕ) → fills (s.calls u) ≡ Some (k, j) → k ≡ f → j < new
-    not_passed u k j a y = not_above j (λ q. reached_not_passed g s f j h (subst (λ (o : Option (ℕ × ℕ)). IfSome o (λ k. Reached s.size (λ u. ahead (s.calls u)) k.0 k.1)) (a ∙ ap (λ (m : ℕ). Some (m, j)) y) (h.reach u)) t (passing j q))
+    not_passed u k j a y =
+        not_above j (λ q. reached_not_passed g s f j h
+        (subst (λ (o : Option (ℕ × ℕ)). IfSome o (λ k. Reached s.size (λ u. ahead (s.calls u)) k.0 k.1))
+        (a ∙ ap (λ (m : ℕ). Some (m, j)) y) (h.reach u)) t (passing j q))
       where
         not_above : (j : ℕ) → (new ≤ j → ⊥) → j < new
         not_above j p = grind arith
@@ -258,6 +345,7 @@ cuts_tail g s t b c f new h l e in_files same_ahead same_passed goners same_held
       | inr o ↦ ap (λ (m : ℕ → Bool). m j) (put_other s.reserved f (cut_tail (s.reserved f) new) k (other_file g s t u k f h held d o)) ∙ z
       | inl o ↦ elim (same_or_other k f) [
         | inr y ↦ ap (λ (m : ℕ → Bool). m j) (put_other s.reserved f (cut_tail (s.reserved f) new) k y) ∙ z
-        | inl y ↦ ap (λ (m : ℕ → Bool). m j) (ap n.reserved y ∙ put_same s.reserved f (cut_tail (s.reserved f) new)) ∙ cut_below (s.reserved f) new j (not_passed u k j o y) (ap (λ (m : ℕ). s.reserved m j) (sym y) ∙ z)
+        | inl y ↦ ap (λ (m : ℕ → Bool). m j) (ap n.reserved y ∙ put_same s.reserved f (cut_tail (s.reserved f) new))
+            ∙ cut_below (s.reserved f) new j (not_passed u k j o y) (ap (λ (m : ℕ). s.reserved m j) (sym y) ∙ z)
       ]
     ]

@@ -63,7 +63,10 @@ at_or_above i n unwanted = grind (arith, nat_tests, unwanted)
 
 touch_same : (s : Pool) (t : ℕ) (killed : Bool) (p : TouchPhase) (turn : Turn TouchPhase) (new : Pool) → ¬ touch_wants s p
     → TouchRow s t killed false p turn new ↔ TouchRow s t killed true p turn new
-touch_same s t killed (touch.Missing p) turn new unwanted = change_same s p.touch.file p.touch.index (p.touch.index + 1) (touch.Leave (record { touch = p.touch; answer = answer.NoMemory })) (λ change. touch.Changed (record { touch = p.touch; pending = change })) turn new unwanted
+touch_same s t killed (touch.Missing p) turn new unwanted =
+    change_same s p.touch.file p.touch.index (p.touch.index + 1)
+    (touch.Leave (record { touch = p.touch; answer = answer.NoMemory }))
+    (λ change. touch.Changed (record { touch = p.touch; pending = change })) turn new unwanted
 touch_same s t killed (touch.Committed p) turn new unwanted = let q = at_or_above p.touch.index (s.size p.touch.file) unwanted in rw q alike
 touch_same s t killed (touch.Found p) turn new unwanted = let q = at_or_above p.touch.index (s.size p.touch.file) unwanted in rw q alike
 touch_same s t killed p turn new unwanted = alike
@@ -79,12 +82,18 @@ map_same : (s : Pool) (t : ℕ) (killed : Bool) (p : MapPhase) (turn : Turn MapP
 map_same s t killed (map.Room p) turn new unwanted =
     let I : Option ℕ → Type 0 = IsRoom s.geometry.space (s.areas t) p.map.len in
     (λ r. by_room I (λ base is. unwanted (base, is)) r, λ r. by_room I (λ base is. unwanted (base, is)) r)
-map_same s t killed (map.Missing p) turn new unwanted = change_same s p.map.file p.map.from (p.map.from + p.map.len) (map.Leave (record { map = p.map; answer = answer.NoMemory })) (λ change. map.Changed (record { map = p.map; base = p.base; pending = change })) turn new unwanted
+map_same s t killed (map.Missing p) turn new unwanted =
+    change_same s p.map.file p.map.from (p.map.from + p.map.len)
+    (map.Leave (record { map = p.map; answer = answer.NoMemory }))
+    (λ change. map.Changed (record { map = p.map; base = p.base; pending = change })) turn new unwanted
 map_same s t killed p turn new unwanted = alike
 
 alloc_same : (s : Pool) (t : ℕ) (killed : Bool) (p : AllocPhase) (turn : Turn AllocPhase) (new : Pool) → ¬ alloc_wants s p
     → AllocRow s t killed false p turn new ↔ AllocRow s t killed true p turn new
-alloc_same s t killed (alloc.Missing p) turn new unwanted = change_same s p.allocation.file p.index (p.index + 1) (alloc.Unslot (record { allocation = p.allocation; index = p.index; answer = Some answer.NoMemory })) (λ change. alloc.Changed (record { allocation = p.allocation; index = p.index; pending = change })) turn new unwanted
+alloc_same s t killed (alloc.Missing p) turn new unwanted =
+    change_same s p.allocation.file p.index (p.index + 1)
+    (alloc.Unslot (record { allocation = p.allocation; index = p.index; answer = Some answer.NoMemory }))
+    (λ change. alloc.Changed (record { allocation = p.allocation; index = p.index; pending = change })) turn new unwanted
 alloc_same s t killed (alloc.Committed p) turn new unwanted = absurd (unwanted tt)
 alloc_same s t killed p turn new unwanted = alike
 
@@ -130,13 +139,27 @@ turn_same call R Q o new next same = (λ r. (r.0, (same r.0).0 r.1, r.2, r.3), �
 call_same : (s : Pool) (t : ℕ) (killed : Bool) (c : Call) (o : Outcome) (new : Pool) (next : Option Call) → ¬ Wants s t c
     → CallRow s t killed false c o new next ↔ CallRow s t killed true c o new next
 unfolding CallRow
-call_same s t killed (call.Touch p) o new next unwanted = turn_same call.Touch (TouchRow s t killed false p) (TouchRow s t killed true p) o new next (λ turn. touch_same s t killed p turn new unwanted)
-call_same s t killed (call.Map p) o new next unwanted = turn_same call.Map (MapRow s t killed false p) (MapRow s t killed true p) o new next (λ turn. map_same s t killed p turn new unwanted)
-call_same s t killed (call.Alloc p) o new next unwanted = turn_same call.Alloc (AllocRow s t killed false p) (AllocRow s t killed true p) o new next (λ turn. alloc_same s t killed p turn new unwanted)
-call_same s t killed (call.Punch p) o new next unwanted = turn_same call.Punch (PunchRow s t killed false p) (PunchRow s t killed true p) o new next (λ turn. punch_same s t killed p turn new unwanted)
-call_same s t killed (call.Truncate p) o new next unwanted = turn_same call.Truncate (TruncateRow s t killed false p) (TruncateRow s t killed true p) o new next (λ turn. truncate_same s t killed p turn new)
-call_same s t killed (call.Unmap p) o new next unwanted = turn_same call.Unmap (UnmapRow s t killed false p) (UnmapRow s t killed true p) o new next (λ turn. unmap_same s t killed p turn new)
-call_same s t killed (call.Exit p) o new next unwanted = turn_same call.Exit (ExitRow s t killed false p) (ExitRow s t killed true p) o new next (λ turn. exit_same s t killed p turn new)
+call_same s t killed (call.Touch p) o new next unwanted =
+    turn_same call.Touch (TouchRow s t killed false p) (TouchRow s t killed true p) o new next
+    (λ turn. touch_same s t killed p turn new unwanted)
+call_same s t killed (call.Map p) o new next unwanted =
+    turn_same call.Map (MapRow s t killed false p) (MapRow s t killed true p) o new next
+    (λ turn. map_same s t killed p turn new unwanted)
+call_same s t killed (call.Alloc p) o new next unwanted =
+    turn_same call.Alloc (AllocRow s t killed false p) (AllocRow s t killed true p) o new next
+    (λ turn. alloc_same s t killed p turn new unwanted)
+call_same s t killed (call.Punch p) o new next unwanted =
+    turn_same call.Punch (PunchRow s t killed false p) (PunchRow s t killed true p) o new next
+    (λ turn. punch_same s t killed p turn new unwanted)
+call_same s t killed (call.Truncate p) o new next unwanted =
+    turn_same call.Truncate (TruncateRow s t killed false p) (TruncateRow s t killed true p) o new next
+    (λ turn. truncate_same s t killed p turn new)
+call_same s t killed (call.Unmap p) o new next unwanted =
+    turn_same call.Unmap (UnmapRow s t killed false p) (UnmapRow s t killed true p) o new next
+    (λ turn. unmap_same s t killed p turn new)
+call_same s t killed (call.Exit p) o new next unwanted =
+    turn_same call.Exit (ExitRow s t killed false p) (ExitRow s t killed true p) o new next
+    (λ turn. exit_same s t killed p turn new)
 
 in_call : (R Q : Call → Type 0) (I : Type 0) (m : Option Call) (c : Call) → m ≡ Some c → R c ↔ Q c → MatchOption m I R ↔ MatchOption m I Q
 in_call R Q I None c is same = (let d : ◌≡◌ {A = Option Call} None (Some c) = is in absurd (cc))
@@ -151,13 +174,23 @@ pub same_step : (s : State) (t : ℕ) (c : Call) (o : Outcome) (after : State) �
     → Row s (Step t false) o after ↔ Row s (Step t true) o after
 unfolding StepRow
 same_step s t c o after some unwanted =
-    let steps : (Bool → Call → Type 0) = λ grant call. (pool : Pool) × (next : Option Call) × CallRow (pool_of s) t (is_killed (s.life t)) grant call o pool next × (after ≡ record (with_pool s pool) { life = lives_after s.life t call next; calls = put s.calls t next }) in
-    let same : (pool : Pool) (next : Option Call) → CallRow (pool_of s) t (is_killed (s.life t)) false c o pool next ↔ CallRow (pool_of s) t (is_killed (s.life t)) true c o pool next = λ pool next. call_same (pool_of s) t (is_killed (s.life t)) c o pool next unwanted in
-    in_life _ _ _ (is_dead (s.life t)) (in_call (steps false) (steps true) _ (s.calls t) c some (λ r. (r.0, r.1, (same r.0 r.1).0 r.2, r.3), λ r. (r.0, r.1, (same r.0 r.1).1 r.2, r.3)))
+    let steps : (Bool → Call → Type 0) =
+    λ grant call. (pool : Pool) × (next : Option Call)
+    × CallRow (pool_of s) t (is_killed (s.life t)) grant call o pool next
+    × (after ≡ record (with_pool s pool) { life = lives_after s.life t call next; calls = put s.calls t next }) in
+    let same : (pool : Pool) (next : Option Call)
+    → CallRow (pool_of s) t (is_killed (s.life t)) false c o pool next ↔ CallRow (pool_of s) t
+    (is_killed (s.life t)) true c o pool next = λ pool next. call_same (pool_of s) t (is_killed (s.life t)) c o pool
+    next unwanted in
+    in_life _ _ _ (is_dead (s.life t))
+    (in_call (steps false) (steps true) _ (s.calls t) c some
+    (λ r. (r.0, r.1, (same r.0 r.1).0 r.2, r.3), λ r. (r.0, r.1, (same r.0 r.1).1 r.2, r.3)))
 
 -- the two rows move to different phases
 abbrev Parted : {P : Type 0} → (R Q : Turn P → Pool → Type 0) → Type 0
-Parted {P} R Q = (turn others : Turn P) (new news : Pool) → R turn new → Q others news → (q : P) × (other : P) × (turn ≡ Moved q) × (others ≡ Moved other) × (q ≢ other)
+Parted {P} R Q =
+    (turn others : Turn P) (new news : Pool) → R turn new → Q others news
+    → (q : P) × (other : P) × (turn ≡ Moved q) × (others ≡ Moved other) × (q ≢ other)
 
 clash : (b : Bool) → b ≡ true → b ≡ false → ⊥
 clash b e d = (let z : true ≡ false = sym e ∙ d in absurd (cc))
@@ -187,18 +220,24 @@ answer_at p = answer.Done
 
 touch_other : (s : Pool) (t : ℕ) (killed : Bool) (p : TouchPhase) → touch_wants s p
     → Parted (TouchRow s t killed false p) (TouchRow s t killed true p)
-touch_other s t killed (touch.Missing p) wants = change_other s p.touch.file p.touch.index (p.touch.index + 1) (touch.Leave (record { touch = p.touch; answer = answer.NoMemory })) (λ change. touch.Changed (record { touch = p.touch; pending = change })) wants (λ change e. cc)
+touch_other s t killed (touch.Missing p) wants =
+    change_other s p.touch.file p.touch.index (p.touch.index + 1)
+    (touch.Leave (record { touch = p.touch; answer = answer.NoMemory }))
+    (λ change. touch.Changed (record { touch = p.touch; pending = change })) wants (λ change e. cc)
 touch_other s t killed (touch.Committed p) wants = λ turn others new news r q.
     let high : Bool = nat_le (s.size p.touch.file) p.touch.index in
     let low = below_size p.touch.index (s.size p.touch.file) wants in
-    by_test high r (λ on _. absurd (clash high on low)) (λ _ a. by_test high q (λ on _. absurd (clash high on low)) (λ _ b. (_, _, a.0, b.0, λ e. cc)))
+    by_test high r (λ on _. absurd (clash high on low))
+    (λ _ a. by_test high q (λ on _. absurd (clash high on low)) (λ _ b. (_, _, a.0, b.0, λ e. cc)))
 touch_other s t killed (touch.Found p) wants = λ turn others new news r q.
     let high : Bool = nat_le (s.size p.touch.file) p.touch.index in
     let low = below_size p.touch.index (s.size p.touch.file) wants in
-    by_test high r (λ on _. absurd (clash high on low)) (λ _ a. by_test high q (λ on _. absurd (clash high on low)) (λ _ b. (_, _, a.0, b.4.0, λ e. told p.touch.access b.1 e)))
+    by_test high r (λ on _. absurd (clash high on low))
+    (λ _ a. by_test high q (λ on _. absurd (clash high on low)) (λ _ b. (_, _, a.0, b.4.0, λ e. told p.touch.access b.1 e)))
   where
     told : (access : Access) (word : ℕ)
-        → touch.Leave (record { touch = p.touch; answer = answer.NoMemory }) ≡ touch.Leave (record { touch = p.touch; answer = answer_of access word })
+        → touch.Leave (record { touch = p.touch; answer = answer.NoMemory }) ≡ touch.Leave
+        (record { touch = p.touch; answer = answer_of access word })
         → ⊥
     told Load word e = (let d : answer.NoMemory ≡ answer.Word word = ap answer_at e in absurd (cc))
     told (Store new) word e = (let d : answer.NoMemory ≡ answer.Done = ap answer_at e in absurd (cc))
@@ -215,13 +254,20 @@ map_other s t killed (map.Room p) wants = λ turn others new news r q. by_found 
         → MapRoomRow s t true p others news → (a : MapPhase) × (b : MapPhase) × (turn ≡ Moved a) × (others ≡ Moved b) × (a ≢ b)
     by_found (None, is, row) q = absurd (none_fits s.geometry.space p.map.len (s.areas t) is wants)
     by_found (Some base, is, row) (None, same, next) = absurd (none_fits s.geometry.space p.map.len (s.areas t) same wants)
-    by_found (Some base, is, row) (Some other, same, next) = by_test p.map.reserve next (λ _ n. (_, _, row.0, n.0, λ e. cc)) (λ _ n. (_, _, row.0, n.0, λ e. cc))
-map_other s t killed (map.Missing p) wants = change_other s p.map.file p.map.from (p.map.from + p.map.len) (map.Leave (record { map = p.map; answer = answer.NoMemory })) (λ change. map.Changed (record { map = p.map; base = p.base; pending = change })) wants (λ change e. cc)
+    by_found (Some base, is, row) (Some other, same, next) =
+        by_test p.map.reserve next (λ _ n. (_, _, row.0, n.0, λ e. cc)) (λ _ n. (_, _, row.0, n.0, λ e. cc))
+map_other s t killed (map.Missing p) wants =
+    change_other s p.map.file p.map.from (p.map.from + p.map.len)
+    (map.Leave (record { map = p.map; answer = answer.NoMemory }))
+    (λ change. map.Changed (record { map = p.map; base = p.base; pending = change })) wants (λ change e. cc)
 map_other s t killed p wants = absurd wants
 
 alloc_other : (s : Pool) (t : ℕ) (killed : Bool) (p : AllocPhase) → alloc_wants s p
     → Parted (AllocRow s t killed false p) (AllocRow s t killed true p)
-alloc_other s t killed (alloc.Missing p) wants = change_other s p.allocation.file p.index (p.index + 1) (alloc.Unslot (record { allocation = p.allocation; index = p.index; answer = Some answer.NoMemory })) (λ change. alloc.Changed (record { allocation = p.allocation; index = p.index; pending = change })) wants (λ change e. cc)
+alloc_other s t killed (alloc.Missing p) wants =
+    change_other s p.allocation.file p.index (p.index + 1)
+    (alloc.Unslot (record { allocation = p.allocation; index = p.index; answer = Some answer.NoMemory }))
+    (λ change. alloc.Changed (record { allocation = p.allocation; index = p.index; pending = change })) wants (λ change e. cc)
 alloc_other s t killed (alloc.Committed p) wants = λ turn others new news r q. (_, _, r.0, q.0, λ e. cc)
 alloc_other s t killed p wants = absurd wants
 
@@ -262,10 +308,18 @@ turn_other call R Q o told new news next nexts one parted r q = λ same.
 call_other : (s : Pool) (t : ℕ) (killed : Bool) (c : Call) (o told : Outcome) (new news : Pool) (next nexts : Option Call)
     → Wants s t c → CallRow s t killed false c o new next → CallRow s t killed true c told news nexts → next ≢ nexts
 unfolding CallRow
-call_other s t killed (call.Touch p) o told new news next nexts wants r q = turn_other call.Touch (TouchRow s t killed false p) (TouchRow s t killed true p) o told new news next nexts (λ a b e. cc) (touch_other s t killed p wants) r q
-call_other s t killed (call.Map p) o told new news next nexts wants r q = turn_other call.Map (MapRow s t killed false p) (MapRow s t killed true p) o told new news next nexts (λ a b e. cc) (map_other s t killed p wants) r q
-call_other s t killed (call.Alloc p) o told new news next nexts wants r q = turn_other call.Alloc (AllocRow s t killed false p) (AllocRow s t killed true p) o told new news next nexts (λ a b e. cc) (alloc_other s t killed p wants) r q
-call_other s t killed (call.Punch p) o told new news next nexts wants r q = turn_other call.Punch (PunchRow s t killed false p) (PunchRow s t killed true p) o told new news next nexts (λ a b e. cc) (punch_other s t killed p wants) r q
+call_other s t killed (call.Touch p) o told new news next nexts wants r q =
+    turn_other call.Touch (TouchRow s t killed false p) (TouchRow s t killed true p) o told new news next nexts
+    (λ a b e. cc) (touch_other s t killed p wants) r q
+call_other s t killed (call.Map p) o told new news next nexts wants r q =
+    turn_other call.Map (MapRow s t killed false p) (MapRow s t killed true p) o told new news next nexts
+    (λ a b e. cc) (map_other s t killed p wants) r q
+call_other s t killed (call.Alloc p) o told new news next nexts wants r q =
+    turn_other call.Alloc (AllocRow s t killed false p) (AllocRow s t killed true p) o told new news next nexts
+    (λ a b e. cc) (alloc_other s t killed p wants) r q
+call_other s t killed (call.Punch p) o told new news next nexts wants r q =
+    turn_other call.Punch (PunchRow s t killed false p) (PunchRow s t killed true p) o told new news next nexts
+    (λ a b e. cc) (punch_other s t killed p wants) r q
 call_other s t killed c o told new news next nexts wants r q = absurd wants
 
 -- a denied step whose row wants growth leaves another call than a granted one
@@ -275,7 +329,8 @@ pub other_step : (s : State) (t : ℕ) (c : Call) (o told : Outcome) (after othe
 other_step s t c o told after others some lives wants r q =
     let a = step_of s t false c o after r lives some in
     let b = step_of s t true c told others q lives some in
-    λ same. call_other (pool_of s) t (is_killed (s.life t)) c o told a.0 b.0 a.1 b.1 wants a.2 b.2 (sym (left_at a.1 after (ap (λ (z : State). z.calls) a.3)) ∙ (same ∙ left_at b.1 others (ap (λ (z : State). z.calls) b.3)))
+    λ same. call_other (pool_of s) t (is_killed (s.life t)) c o told a.0 b.0 a.1 b.1 wants a.2 b.2
+    (sym (left_at a.1 after (ap (λ (z : State). z.calls) a.3)) ∙ (same ∙ left_at b.1 others (ap (λ (z : State). z.calls) b.3)))
   where
     left_at : (next : Option Call) (n : State) → n.calls ≡ put s.calls t next → n.calls t ≡ next
     left_at next n e = ap (λ (calls : ℕ → Option Call). calls t) e ∙ put_same s.calls t next

@@ -67,7 +67,9 @@ touches_word g s (Store new) x word h e = record {
   spares = h.spares;
   holders = h.holders;
   stands = h.stands;
-  enough = (let a : free_frames (put s.frame x (state.Placed new)) s.frames ≡ free_frames s.frame s.frames = free_same s.frame x s.frames (state.Placed new) (ap is_free (sym e)) in let z = h.enough in omega arith);
+  enough =
+      (let a : free_frames (put s.frame x (state.Placed new)) s.frames ≡ free_frames s.frame s.frames = free_same
+      s.frame x s.frames (state.Placed new) (ap is_free (sym e)) in let z = h.enough in omega arith);
   place = writes_frame s.frames s.frame (λ u. hand (s.calls u)) s.pages x word new h.place e;
 }
 
@@ -77,25 +79,26 @@ pub rebalances : (g : Geometry) (s : State) (t : ℕ) (b c : Option Call) (r : �
     → (r + less c) + more b ≡ (s.resv + less b) + more c → r ≤ free_frames s.frame s.frames
     → IfSome (fills c) (λ k. Reached s.size (λ u. ahead (s.calls u)) k.0 k.1) → Stands g s t c
     → Inv g (to (record s { pool = record s.pool { resv = r } }) t c)
-rebalances g s t b c r h l e same same_held same_hand same_change balance enough fill own = goes g s (record s { pool = record s.pool { resv = r } }) t b c h l e same same_held (record {
-  geometry = h.geometry;
-  entries = h.entries;
-  ranges = h.ranges;
-  spread = h.spread;
-  inside = h.inside;
-  sweep = h.sweep;
-  reach = h.reach;
-  fill = fill;
-  sizes = h.sizes;
-  spares = h.spares;
-  holders = h.holders;
-  count = omega arith;
-  enough = enough;
-  place = place_same g s t b c h e same_hand;
-  changes = same_opens s.pending b c same_change;
-  others = λ u d. h.stands u;
-  own = own;
-})
+rebalances g s t b c r h l e same same_held same_hand same_change balance enough fill own =
+    goes g s (record s { pool = record s.pool { resv = r } }) t b c h l e same same_held (record {
+      geometry = h.geometry;
+      entries = h.entries;
+      ranges = h.ranges;
+      spread = h.spread;
+      inside = h.inside;
+      sweep = h.sweep;
+      reach = h.reach;
+      fill = fill;
+      sizes = h.sizes;
+      spares = h.spares;
+      holders = h.holders;
+      count = omega arith;
+      enough = enough;
+      place = place_same g s t b c h e same_hand;
+      changes = same_opens s.pending b c same_change;
+      others = λ u d. h.stands u;
+      own = own;
+    })
 
 opens_none : (c : Option Call) (k : ℕ) → change_in c ≡ None → opens k c ≡ 0
 opens_none c k e = ap (λ (o : Option ℕ). elim o [ None ↦ 0 | Some j ↦ bit (j == k) ]) e
@@ -108,31 +111,46 @@ pub opened : (g : Geometry) (s : State) (t : ℕ) (b c : Option Call) (f : ℕ) 
     → sweeps c ≡ sweeps b → holds c ≡ holds b → hand c ≡ hand b → change_in b ≡ None → change_in c ≡ Some f
     → less c + more b ≡ less b + more c
     → IfSome (fills c) (λ k. Reached s.size (λ u. ahead (s.calls u)) k.0 k.1) → Stands g s t c
-    → Inv g (to (record s { pool = record s.pool { pending = put s.pending f (s.pending f + 1); spare = put s.spare f (max (s.spare f) (s.pending f + 1)) } }) t c)
-opened g s t b c f h l e same same_held same_hand none some balance fill own = goes g s (record s { pool = record s.pool { pending = put s.pending f (s.pending f + 1); spare = put s.spare f (max (s.spare f) (s.pending f + 1)) } }) t b c h l e same same_held (record {
-  geometry = h.geometry;
-  entries = h.entries;
-  ranges = h.ranges;
-  spread = h.spread;
-  inside = h.inside;
-  sweep = h.sweep;
-  reach = h.reach;
-  fill = fill;
-  sizes = h.sizes;
-  holders = h.holders;
-  enough = h.enough;
-  count = omega arith;
-  place = place_same g s t b c h e same_hand;
-  spares = λ k. more_spare s.pending s.spare f k (h.spares k);
-  others = λ u d. h.stands u;
-  own = own;
-  changes = λ k. raised s.pending f k (opens k b) (opens k c) (opens_none b k none) (opens_some c f k some);
-})
+    → Inv g (to (record s {
+      pool = record s.pool {
+        pending = put s.pending f (s.pending f + 1);
+        spare = put s.spare f (max (s.spare f) (s.pending f + 1));
+      };
+    }) t c)
+opened g s t b c f h l e same same_held same_hand none some balance fill own =
+    goes g s (record s {
+      pool = record s.pool {
+        pending = put s.pending f (s.pending f + 1);
+        spare = put s.spare f (max (s.spare f) (s.pending f + 1));
+      };
+    }) t b c h l e same same_held (record {
+      geometry = h.geometry;
+      entries = h.entries;
+      ranges = h.ranges;
+      spread = h.spread;
+      inside = h.inside;
+      sweep = h.sweep;
+      reach = h.reach;
+      fill = fill;
+      sizes = h.sizes;
+      holders = h.holders;
+      enough = h.enough;
+      count = omega arith;
+      place = place_same g s t b c h e same_hand;
+      spares = λ k. more_spare s.pending s.spare f k (h.spares k);
+      others = λ u d. h.stands u;
+      own = own;
+      changes = λ k. raised s.pending f k (opens k b) (opens k c) (opens_none b k none) (opens_some c f k some);
+    })
   where
     more_spare : (p q : ℕ → ℕ) (f k : ℕ) → p k ≤ q k → put p f (p f + 1) k ≤ put q f (max (q f) (p f + 1)) k
     more_spare p q f k l = elim (same_or_other k f) [
-      | inl d ↦ (let a : put p f (p f + 1) k ≡ p f + 1 = ap (put p f (p f + 1)) d ∙ put_same p f (p f + 1) in let b : put q f (max (q f) (p f + 1)) k ≡ max (q f) (p f + 1) = ap (put q f (max (q f) (p f + 1))) d ∙ put_same q f (max (q f) (p f + 1)) in omega arith)
-      | inr d ↦ (let a : put p f (p f + 1) k ≡ p k = put_other p f (p f + 1) k d in let b : put q f (max (q f) (p f + 1)) k ≡ q k = put_other q f (max (q f) (p f + 1)) k d in omega arith)
+      | inl d ↦ (let a : put p f (p f + 1) k ≡ p f + 1 = ap (put p f (p f + 1)) d ∙ put_same p f (p f + 1) in
+          let b : put q f (max (q f) (p f + 1)) k ≡ max (q f) (p f + 1) = ap (put q f (max (q f) (p f + 1))) d
+          ∙ put_same q f (max (q f) (p f + 1)) in
+          omega arith)
+      | inr d ↦ (let a : put p f (p f + 1) k ≡ p k = put_other p f (p f + 1) k d in
+          let b : put q f (max (q f) (p f + 1)) k ≡ q k = put_other q f (max (q f) (p f + 1)) k d in omega arith)
     ]
 
     raised : (p : ℕ → ℕ) (f k m n : ℕ) → m ≡ 0 → n ≡ bit (f == k) → put p f (p f + 1) k + m ≡ p k + n
@@ -160,32 +178,38 @@ pub closed : (g : Geometry) (s : State) (t : ℕ) (b c : Option Call) (f : ℕ) 
     → less c + more b ≡ less b + more c
     → IfSome (fills c) (λ k. Reached s.size (λ u. ahead (s.calls u)) k.0 k.1) → Stands g s t c
     → Inv g (to (record s { pool = record s.pool { pending = put s.pending f (s.pending f - 1) } }) t c)
-closed g s t b c f h l e same same_held same_hand some none balance fill own = goes g s (record s { pool = record s.pool { pending = put s.pending f (s.pending f - 1) } }) t b c h l e same same_held (record {
-  geometry = h.geometry;
-  entries = h.entries;
-  ranges = h.ranges;
-  spread = h.spread;
-  inside = h.inside;
-  sweep = h.sweep;
-  reach = h.reach;
-  fill = fill;
-  sizes = h.sizes;
-  holders = h.holders;
-  enough = h.enough;
-  count = omega arith;
-  place = place_same g s t b c h e same_hand;
-  spares = λ k. less_pending s.pending s.spare f k (h.spares k);
-  others = λ u d. h.stands u;
-  own = own;
-  changes = λ k. lowered s.pending f k (opens k b) (opens k c) (has_pending g s t b f h l e some) (opens_some b f k some) (opens_none c k none);
-})
+closed g s t b c f h l e same same_held same_hand some none balance fill own =
+    goes g s (record s { pool = record s.pool { pending = put s.pending f (s.pending f - 1) } }) t b c h l e same
+    same_held (record {
+      geometry = h.geometry;
+      entries = h.entries;
+      ranges = h.ranges;
+      spread = h.spread;
+      inside = h.inside;
+      sweep = h.sweep;
+      reach = h.reach;
+      fill = fill;
+      sizes = h.sizes;
+      holders = h.holders;
+      enough = h.enough;
+      count = omega arith;
+      place = place_same g s t b c h e same_hand;
+      spares = λ k. less_pending s.pending s.spare f k (h.spares k);
+      others = λ u d. h.stands u;
+      own = own;
+      changes =
+          λ k. lowered s.pending f k (opens k b) (opens k c) (has_pending g s t b f h l e some) (opens_some b f k some)
+          (opens_none c k none);
+    })
   where
     less_pending : (p q : ℕ → ℕ) (f k : ℕ) → p k ≤ q k → put p f (p f - 1) k ≤ q k
     less_pending p q f k l = grind (arith, put_tells)
 
 pub grown_keeps : (r : ℕ → ℕ → Bool) (f from to k j : ℕ) → r k j ≡ true → put r f (add_range (r f) from to) k j ≡ true
 grown_keeps r f from to k j a = elim (same_or_other k f) [
-  | inl d ↦ ap (λ (m : ℕ). put r f (add_range (r f) from to) m j) d ∙ (ap (λ (m : ℕ → Bool). m j) (put_same r f (add_range (r f) from to)) ∙ add_range_keeps (r f) from to j (ap (λ (m : ℕ). r m j) (sym d) ∙ a))
+  | inl d ↦ ap (λ (m : ℕ). put r f (add_range (r f) from to) m j) d
+      ∙ (ap (λ (m : ℕ → Bool). m j) (put_same r f (add_range (r f) from to))
+      ∙ add_range_keeps (r f) from to j (ap (λ (m : ℕ). r m j) (sym d) ∙ a))
   | inr d ↦ ap (λ (m : ℕ → Bool). m j) (put_other r f (add_range (r f) from to) k d) ∙ a
 ]
 
@@ -193,7 +217,9 @@ grown_keeps r f from to k j a = elim (same_or_other k f) [
 still_gone : (r : ℕ → ℕ → Bool) (f from to k j : ℕ) → (k ≡ f → is_within from to j ≡ true → ⊥) → r k j ≡ false
     → put r f (add_range (r f) from to) k j ≡ false
 still_gone r f from to k j h a = elim (same_or_other k f) [
-  | inl d ↦ ap (λ (m : ℕ). put r f (add_range (r f) from to) m j) d ∙ (ap (λ (m : ℕ → Bool). m j) (put_same r f (add_range (r f) from to)) ∙ add_range_out (r f) from to j (ap (λ (m : ℕ). r m j) (sym d) ∙ a) (h d))
+  | inl d ↦ ap (λ (m : ℕ). put r f (add_range (r f) from to) m j) d
+      ∙ (ap (λ (m : ℕ → Bool). m j) (put_same r f (add_range (r f) from to))
+      ∙ add_range_out (r f) from to j (ap (λ (m : ℕ). r m j) (sym d) ∙ a) (h d))
   | inr d ↦ ap (λ (m : ℕ → Bool). m j) (put_other r f (add_range (r f) from to) k d) ∙ a
 ]
 
@@ -206,10 +232,11 @@ grown_within : (r : ℕ → ℕ → Bool) (f from to k j files limit : ℕ) → 
     → put r f (add_range (r f) from to) k j ≡ true → (k < files) × (j < limit)
 unfolding add_range
 grown_within r f from to k j files limit in_files in_limit h a = elim (same_or_other k f) [
-  | inl d ↦ elim (in_range (is_within from to j) (r f j) (ap (λ (m : ℕ → Bool). m j) (sym (ap (put r f (add_range (r f) from to)) d ∙ put_same r f (add_range (r f) from to))) ∙ a)) [
-    | inl e ↦ (subst (λ (m : ℕ). m < files) (sym d) in_files, low_index from to j limit in_limit e)
-    | inr e ↦ subst (λ (m : ℕ). (m < files) × (j < limit)) (sym d) (h f j e)
-  ]
+  | inl d ↦ elim (in_range (is_within from to j) (r f j)
+      (ap (λ (m : ℕ → Bool). m j) (sym (ap (put r f (add_range (r f) from to)) d ∙ put_same r f (add_range (r f) from to))) ∙ a)) [
+        | inl e ↦ (subst (λ (m : ℕ). m < files) (sym d) in_files, low_index from to j limit in_limit e)
+        | inr e ↦ subst (λ (m : ℕ). (m < files) × (j < limit)) (sym d) (h f j e)
+      ]
   | inr d ↦ h k j (ap (λ (m : ℕ → Bool). m j) (sym (put_other r f (add_range (r f) from to) k d)) ∙ a)
 ]
   where
@@ -235,13 +262,21 @@ unless false d h e = refl
 
 -- a range joins the reserved indices of a file
 grown_vacant : (g : Geometry) (s : State) (f from to : ℕ) → Inv g s → f < g.files → to ≤ g.limit
-    → vacant_of g (put s.reserved f (add_range (s.reserved f) from to)) s.pages ≡ vacant_of g s.reserved s.pages + missing (s.reserved f) from to
+    → vacant_of g (put s.reserved f (add_range (s.reserved f) from to)) s.pages ≡ vacant_of g s.reserved
+    s.pages + missing (s.reserved f) from to
 grown_vacant g s f from to h l low =
     let r : ℕ → ℕ → Bool = put s.reserved f (add_range (s.reserved f) from to) in
-    let a : vacant_of g r s.pages + vacant g.limit (s.reserved f) (s.pages f) ≡ vacant_of g s.reserved s.pages + vacant g.limit (r f) (s.pages f)
-    = total_change g.files f (λ k. vacant g.limit (s.reserved k) (s.pages k)) (λ k. vacant g.limit (r k) (s.pages k)) l (λ k d. ap (λ (m : ℕ → Bool). vacant g.limit m (s.pages k)) (put_other s.reserved f (add_range (s.reserved f) from to) k d)) in
+    let a : vacant_of g r s.pages + vacant g.limit (s.reserved f) (s.pages f) ≡ vacant_of g s.reserved
+    s.pages + vacant g.limit (r f) (s.pages f)
+    =
+    total_change g.files f (λ k. vacant g.limit (s.reserved k) (s.pages k))
+    (λ k. vacant g.limit (r k) (s.pages k)) l
+    (λ k d. ap (λ (m : ℕ → Bool). vacant g.limit m (s.pages k))
+    (put_other s.reserved f (add_range (s.reserved f) from to) k d)) in
     let b : vacant g.limit (r f) (s.pages f) ≡ vacant g.limit (s.reserved f) (s.pages f) + missing (s.reserved f) from to
-    = ap (λ (m : ℕ → Bool). vacant g.limit m (s.pages f)) (put_same s.reserved f (add_range (s.reserved f) from to)) ∙ vacant_add g.limit (s.reserved f) (s.pages f) from to low (λ i. h.inside.bare f i) in
+    =
+    ap (λ (m : ℕ → Bool). vacant g.limit m (s.pages f)) (put_same s.reserved f (add_range (s.reserved f) from to))
+    ∙ vacant_add g.limit (s.reserved f) (s.pages f) from to low (λ i. h.inside.bare f i) in
     omega arith
 
 -- the state after a commit
@@ -262,25 +297,56 @@ pub commits : (g : Geometry) (s : State) (t : ℕ) (b c : Option Call) (f : ℕ)
     → less c + more b ≡ less b + missing (s.reserved f) change.from change.to + more c
     → IfSome (fills c) (λ k. Reached s.size (λ u. ahead (s.calls u)) k.0 k.1) → Stands g (committing s f change) t c
     → Inv g (to (committing s f change) t c)
-commits g s t b c f change h l e in_files low same same_held same_hand some none nobody balance fill own = goes g s (committing s f change) t b c h l e same same_held (record {
-  geometry = h.geometry;
-  entries = h.entries;
-  ranges = h.ranges;
-  spread = h.spread;
-  reach = h.reach;
-  fill = fill;
-  sizes = h.sizes;
-  holders = h.holders;
-  enough = h.enough;
-  count = (let v : vacant_of g (committing s f change).reserved s.pages ≡ vacant_of g s.reserved s.pages + missing (s.reserved f) change.from change.to = grown_vacant g s f change.from change.to h in_files low in omega arith);
-  place = place_same g s t b c h e same_hand;
-  inside = record { within = λ k i a. grown_within s.reserved f change.from change.to k i (g.files) (g.limit) in_files low h.inside.within a; bare = λ k i a. h.inside.bare k i (unless (s.reserved k i) _ (grown_keeps s.reserved f change.from change.to k i) a) };
-  sweep = record { below = h.sweep.below; past = h.sweep.past; gone = λ u k j a. still_gone s.reserved f change.from change.to k j (λ d z. nobody u j (ap (λ (m : ℕ). passed (s.calls u) m j) (sym d) ∙ gone_passed (s.calls u) k j a) z) (h.sweep.gone u k j a) };
-  spares = λ k. spare_after s.pending s.spare f k _ (has_pending g s t b f h l e some) (few (touches (s.reserved f) change.from change.to) (s.spare f)) (h.spares k);
-  others = λ u d. stands_after g s (committing s f change) u (s.calls u) (record { slot = λ k a. a; page = λ k j a. refl; mark = λ k j a w. grown_keeps s.reserved f change.from change.to k j; entries = λ k j a w v x p q. (x, p, q); lock = λ k a. (a, refl, λ j. grown_keeps s.reserved f change.from change.to k j); areas = refl; prepared = refl; table = λ v x p. (x, p) }) (h.stands u);
-  own = own;
-  changes = λ k. lowered s.pending f k (opens k b) (opens k c) (has_pending g s t b f h l e some) (opens_some b f k some) (opens_none c k none);
-})
+commits g s t b c f change h l e in_files low same same_held same_hand some none nobody balance fill own =
+    goes g s (committing s f change) t b c h l e same same_held (record {
+      geometry = h.geometry;
+      entries = h.entries;
+      ranges = h.ranges;
+      spread = h.spread;
+      reach = h.reach;
+      fill = fill;
+      sizes = h.sizes;
+      holders = h.holders;
+      enough = h.enough;
+      count =
+          (let v : vacant_of g (committing s f change).reserved s.pages ≡ vacant_of g s.reserved s.pages + missing
+          (s.reserved f) change.from change.to = grown_vacant g s f change.from change.to h in_files low in omega arith);
+      place = place_same g s t b c h e same_hand;
+      inside =
+          record {
+            within = λ k i a. grown_within s.reserved f change.from change.to k i (g.files) (g.limit) in_files low
+                h.inside.within a;
+            bare = λ k i a. h.inside.bare k i
+                (unless (s.reserved k i) _ (grown_keeps s.reserved f change.from change.to k i) a);
+          };
+      sweep =
+          record {
+            below = h.sweep.below;
+            past = h.sweep.past;
+            gone = λ u k j a. still_gone s.reserved f change.from change.to k j
+                (λ d z. nobody u j (ap (λ (m : ℕ). passed (s.calls u) m j) (sym d) ∙ gone_passed (s.calls u) k j a) z)
+                (h.sweep.gone u k j a);
+          };
+      spares =
+          λ k. spare_after s.pending s.spare f k _ (has_pending g s t b f h l e some)
+          (few (touches (s.reserved f) change.from change.to) (s.spare f)) (h.spares k);
+      others =
+          λ u d. stands_after g s (committing s f change) u (s.calls u)
+          (record {
+            slot = λ k a. a;
+            page = λ k j a. refl;
+            mark = λ k j a w. grown_keeps s.reserved f change.from change.to k j;
+            entries = λ k j a w v x p q. (x, p, q);
+            lock = λ k a. (a, refl, λ j. grown_keeps s.reserved f change.from change.to k j);
+            areas = refl;
+            prepared = refl;
+            table = λ v x p. (x, p);
+          }) (h.stands u);
+      own = own;
+      changes =
+          λ k. lowered s.pending f k (opens k b) (opens k c) (has_pending g s t b f h l e some) (opens_some b f k some)
+          (opens_none c k none);
+    })
   where
     few : (b : Bool) (spare : ℕ) → spare ≤ (if b then spare else spare - 1) + 1
     few true spare = omega arith
@@ -288,8 +354,11 @@ commits g s t b c f change h l e in_files low same same_held same_hand some none
 
     spare_after : (p q : ℕ → ℕ) (f k spare : ℕ) → 1 ≤ p f → q f ≤ spare + 1 → p k ≤ q k → put p f (p f - 1) k ≤ put q f spare k
     spare_after p q f k spare one few l = elim (same_or_other k f) [
-      | inl d ↦ (let a : put p f (p f - 1) k ≡ p f - 1 = ap (put p f (p f - 1)) d ∙ put_same p f (p f - 1) in let z : put q f spare k ≡ spare = ap (put q f spare) d ∙ put_same q f spare in let w : p k ≡ p f = ap p d in let y : q k ≡ q f = ap q d in omega arith)
-      | inr d ↦ (let a : put p f (p f - 1) k ≡ p k = put_other p f (p f - 1) k d in let z : put q f spare k ≡ q k = put_other q f spare k d in omega arith)
+      | inl d ↦ (let a : put p f (p f - 1) k ≡ p f - 1 = ap (put p f (p f - 1)) d ∙ put_same p f (p f - 1) in
+          let z : put q f spare k ≡ spare = ap (put q f spare) d ∙ put_same q f spare in
+          let w : p k ≡ p f = ap p d in let y : q k ≡ q f = ap q d in omega arith)
+      | inr d ↦ (let a : put p f (p f - 1) k ≡ p k = put_other p f (p f - 1) k d in
+          let z : put q f spare k ≡ q k = put_other q f spare k d in omega arith)
     ]
 
 -- a free frame goes into the call's hand
@@ -299,25 +368,31 @@ pub takes : (g : Geometry) (s : State) (t : ℕ) (b c : Option Call) (x r : ℕ)
     → (r + less c) + more b ≡ (s.resv + less b) + more c → r + 1 ≤ free_frames s.frame s.frames
     → IfSome (fills c) (λ k. Reached s.size (λ u. ahead (s.calls u)) k.0 k.1) → Stands g s t c
     → Inv g (to (record s { pool = record s.pool { frame = put s.frame x state.Hand; resv = r } }) t c)
-takes g s t b c x r h l e free same same_held none some same_change balance enough fill own = goes g s (record s { pool = record s.pool { frame = put s.frame x state.Hand; resv = r } }) t b c h l e same same_held (record {
-  geometry = h.geometry;
-  entries = h.entries;
-  ranges = h.ranges;
-  spread = h.spread;
-  inside = h.inside;
-  sweep = h.sweep;
-  reach = h.reach;
-  fill = fill;
-  sizes = h.sizes;
-  spares = h.spares;
-  holders = h.holders;
-  count = omega arith;
-  enough = (let a : free_frames (put s.frame x state.Hand) s.frames + bit (is_free (s.frame x)) ≡ free_frames s.frame s.frames + 0 = free_change s.frame x s.frames state.Hand (h.place.one.real x Free free) in let z : bit (is_free (s.frame x)) ≡ 1 = ap (λ (m : FrameState). bit (is_free m)) free in omega arith);
-  place = subst (λ (o : Option ℕ). Placing s.frames (put s.frame x state.Hand) (put (λ (u : ℕ). hand (s.calls u)) t o) s.pages) (sym some) (takes_frame s.frames s.frame (λ u. hand (s.calls u)) s.pages t x h.place (ap hand e ∙ none) free);
-  changes = same_opens s.pending b c same_change;
-  others = λ u d. h.stands u;
-  own = own;
-})
+takes g s t b c x r h l e free same same_held none some same_change balance enough fill own =
+    goes g s (record s { pool = record s.pool { frame = put s.frame x state.Hand; resv = r } }) t b c h l e same same_held (record {
+      geometry = h.geometry;
+      entries = h.entries;
+      ranges = h.ranges;
+      spread = h.spread;
+      inside = h.inside;
+      sweep = h.sweep;
+      reach = h.reach;
+      fill = fill;
+      sizes = h.sizes;
+      spares = h.spares;
+      holders = h.holders;
+      count = omega arith;
+      enough =
+          (let a : free_frames (put s.frame x state.Hand) s.frames + bit (is_free (s.frame x)) ≡ free_frames s.frame
+          s.frames + 0 = free_change s.frame x s.frames state.Hand (h.place.one.real x Free free) in
+          let z : bit (is_free (s.frame x)) ≡ 1 = ap (λ (m : FrameState). bit (is_free m)) free in omega arith);
+      place =
+          subst (λ (o : Option ℕ). Placing s.frames (put s.frame x state.Hand) (put (λ (u : ℕ). hand (s.calls u)) t o)
+          s.pages) (sym some) (takes_frame s.frames s.frame (λ u. hand (s.calls u)) s.pages t x h.place (ap hand e ∙ none) free);
+      changes = same_opens s.pending b c same_change;
+      others = λ u d. h.stands u;
+      own = own;
+    })
 
 -- the frame in the call's hand is freed
 pub gives : (g : Geometry) (s : State) (t : ℕ) (b c : Option Call) (x r : ℕ) → Inv g s → t < g.tasks + 1 → s.calls t ≡ b
@@ -325,28 +400,32 @@ pub gives : (g : Geometry) (s : State) (t : ℕ) (b c : Option Call) (x r : ℕ)
     → (r + less c) + more b ≡ (s.resv + less b) + more c → r ≤ s.resv + 1
     → IfSome (fills c) (λ k. Reached s.size (λ u. ahead (s.calls u)) k.0 k.1) → Stands g s t c
     → Inv g (to (record s { pool = record s.pool { frame = put s.frame x state.Free; resv = r } }) t c)
-gives g s t b c x r h l e same same_held some none same_change balance enough fill own = goes g s (record s { pool = record s.pool { frame = put s.frame x state.Free; resv = r } }) t b c h l e same same_held (record {
-  geometry = h.geometry;
-  entries = h.entries;
-  ranges = h.ranges;
-  spread = h.spread;
-  inside = h.inside;
-  sweep = h.sweep;
-  reach = h.reach;
-  fill = fill;
-  sizes = h.sizes;
-  spares = h.spares;
-  holders = h.holders;
-  count = omega arith;
-  enough = (let held : hand (s.calls t) ≡ Some x = ap hand e ∙ some in
-      let a : free_frames (put s.frame x state.Free) s.frames + bit (is_free (s.frame x)) ≡ free_frames s.frame s.frames + 1 = free_change s.frame x s.frames state.Free (h.place.one.real x (Hand t) held) in
-      let z : bit (is_free (s.frame x)) ≡ 0 = ap (λ (m : FrameState). bit (is_free m)) (h.place.hands t x held) in
-      let y = h.enough in omega arith);
-  place = subst (λ (o : Option ℕ). Placing s.frames (put s.frame x state.Free) (put (λ (u : ℕ). hand (s.calls u)) t o) s.pages) (sym none) (gives_frame s.frames s.frame (λ u. hand (s.calls u)) s.pages t x h.place (ap hand e ∙ some));
-  changes = same_opens s.pending b c same_change;
-  others = λ u d. h.stands u;
-  own = own;
-})
+gives g s t b c x r h l e same same_held some none same_change balance enough fill own =
+    goes g s (record s { pool = record s.pool { frame = put s.frame x state.Free; resv = r } }) t b c h l e same same_held (record {
+      geometry = h.geometry;
+      entries = h.entries;
+      ranges = h.ranges;
+      spread = h.spread;
+      inside = h.inside;
+      sweep = h.sweep;
+      reach = h.reach;
+      fill = fill;
+      sizes = h.sizes;
+      spares = h.spares;
+      holders = h.holders;
+      count = omega arith;
+      enough = (let held : hand (s.calls t) ≡ Some x = ap hand e ∙ some in
+          let a : free_frames (put s.frame x state.Free) s.frames + bit (is_free (s.frame x)) ≡ free_frames s.frame
+          s.frames + 1 = free_change s.frame x s.frames state.Free (h.place.one.real x (Hand t) held) in
+          let z : bit (is_free (s.frame x)) ≡ 0 = ap (λ (m : FrameState). bit (is_free m)) (h.place.hands t x held) in
+          let y = h.enough in omega arith);
+      place =
+          subst (λ (o : Option ℕ). Placing s.frames (put s.frame x state.Free) (put (λ (u : ℕ). hand (s.calls u)) t o)
+          s.pages) (sym none) (gives_frame s.frames s.frame (λ u. hand (s.calls u)) s.pages t x h.place (ap hand e ∙ some));
+      changes = same_opens s.pending b c same_change;
+      others = λ u d. h.stands u;
+      own = own;
+    })
 
 -- the frame in the call's hand becomes the page
 pub places : (g : Geometry) (s : State) (t : ℕ) (b c : Option Call) (f i x : ℕ) → Inv g s → t < g.tasks + 1 → s.calls t ≡ b
@@ -358,28 +437,56 @@ pub places : (g : Geometry) (s : State) (t : ℕ) (b c : Option Call) (f i x : �
     → IfSome (fills c) (λ k. Reached s.size (λ u. ahead (s.calls u)) k.0 k.1)
     → Stands g (record s { pool = record s.pool { pages = put2 s.pages f i (Some x); frame = put s.frame x (state.Placed 0) } }) t c
     → Inv g (to (record s { pool = record s.pool { pages = put2 s.pages f i (Some x); frame = put s.frame x (state.Placed 0) } }) t c)
-places g s t b c f i x h l e in_files in_limit same same_held some none same_change balance marked bare held nobody fill own = goes g s n t b c h l e same same_held (record {
-  geometry = h.geometry;
-  ranges = h.ranges;
-  spread = h.spread;
-  reach = h.reach;
-  fill = fill;
-  sizes = h.sizes;
-  spares = h.spares;
-  holders = h.holders;
-  count = (let v : vacant_of g s.reserved n.pages + 1 ≡ vacant_of g s.reserved s.pages = placed_vacant in omega arith);
-  enough = (let a : free_frames (put s.frame x (state.Placed 0)) s.frames ≡ free_frames s.frame s.frames = free_same s.frame x s.frames (state.Placed 0) (ap is_free (sym (h.place.hands t x (ap hand e ∙ some)))) in let z = h.enough in omega arith);
-  place = subst (λ (o : Option ℕ). Placing s.frames n.frame (put (λ (u : ℕ). hand (s.calls u)) t o) n.pages) (sym none) (places_frame s.frames s.frame (λ u. hand (s.calls u)) s.pages t f i x h.place (ap hand e ∙ some) bare);
-  entries = record { owners = h.entries.owners; agree = λ w v y a. let o = h.entries.agree w v y a in (o.0, o.1, still o.0.0 o.0.1 y o.2) };
-  inside = record {
-    bare = λ k j a. bare_still k j a (h.inside.bare k j a);
-    within = h.inside.within;
-  };
-  sweep = record { below = h.sweep.below; gone = h.sweep.gone; past = λ u k j a. let o = h.sweep.past u k j a in (free_still u k j a o.0, o.1) };
-  changes = same_opens s.pending b c same_change;
-  others = λ u d. stands_after g s n u (s.calls u) (record { slot = λ k a. a; page = λ k j a. other u d k j a; mark = λ k j a w r. r; entries = λ k j a w v y p q. (y, p, q); lock = λ k a. (a, refl, λ j r. r); areas = refl; prepared = refl; table = λ v y p. (y, p) }) (h.stands u);
-  own = own;
-})
+places g s t b c f i x h l e in_files in_limit same same_held some none same_change balance marked bare held nobody fill own =
+    goes g s n t b c h l e same same_held (record {
+      geometry = h.geometry;
+      ranges = h.ranges;
+      spread = h.spread;
+      reach = h.reach;
+      fill = fill;
+      sizes = h.sizes;
+      spares = h.spares;
+      holders = h.holders;
+      count = (let v : vacant_of g s.reserved n.pages + 1 ≡ vacant_of g s.reserved s.pages = placed_vacant in omega arith);
+      enough =
+          (let a : free_frames (put s.frame x (state.Placed 0)) s.frames ≡ free_frames s.frame s.frames = free_same
+          s.frame x s.frames (state.Placed 0) (ap is_free (sym (h.place.hands t x (ap hand e ∙ some)))) in
+          let z = h.enough in omega arith);
+      place =
+          subst (λ (o : Option ℕ). Placing s.frames n.frame (put (λ (u : ℕ). hand (s.calls u)) t o) n.pages) (sym none)
+          (places_frame s.frames s.frame (λ u. hand (s.calls u)) s.pages t f i x h.place (ap hand e ∙ some) bare);
+      entries =
+          record {
+            owners = h.entries.owners;
+            agree = λ w v y a. let o = h.entries.agree w v y a in
+                (o.0, o.1, still o.0.0 o.0.1 y o.2);
+          };
+      inside = record {
+        bare = λ k j a. bare_still k j a (h.inside.bare k j a);
+        within = h.inside.within;
+      };
+      sweep =
+          record {
+            below = h.sweep.below;
+            gone = h.sweep.gone;
+            past = λ u k j a. let o = h.sweep.past u k j a in
+                (free_still u k j a o.0, o.1);
+          };
+      changes = same_opens s.pending b c same_change;
+      others =
+          λ u d. stands_after g s n u (s.calls u)
+          (record {
+            slot = λ k a. a;
+            page = λ k j a. other u d k j a;
+            mark = λ k j a w r. r;
+            entries = λ k j a w v y p q. (y, p, q);
+            lock = λ k a. (a, refl, λ j r. r);
+            areas = refl;
+            prepared = refl;
+            table = λ v y p. (y, p);
+          }) (h.stands u);
+      own = own;
+    })
   where
     n : State
     n = record s { pool = record s.pool { pages = put2 s.pages f i (Some x); frame = put s.frame x (state.Placed 0) } }
@@ -401,14 +508,22 @@ places g s t b c f i x h l e in_files in_limit same same_held some none same_cha
 
     other : (u : ℕ) → u ≢ t → (k j : ℕ) → s.slots (slot_of g k j) ≡ Some u → put2 s.pages f i (Some x) k j ≡ s.pages k j
     other u d k j a = elim (put2_tells s.pages f i (Some x) k j) [
-      | inl q ↦ (let z : s.slots (slot_of g f i) ≡ Some u = ap (λ (m : ℕ). s.slots (slot_of g m i)) (sym q.0) ∙ (ap (λ (m : ℕ). s.slots (slot_of g k m)) (sym q.1) ∙ a) in absurd (d (some_same (sym z ∙ held))))
+      | inl q ↦ (let z : s.slots (slot_of g f i) ≡ Some u = ap (λ (m : ℕ). s.slots (slot_of g m i)) (sym q.0)
+          ∙ (ap (λ (m : ℕ). s.slots (slot_of g k m)) (sym q.1) ∙ a) in absurd (d (some_same (sym z ∙ held))))
       | inr q ↦ q.1
     ]
 
     placed_vacant : vacant_of g s.reserved n.pages + 1 ≡ vacant_of g s.reserved s.pages
     placed_vacant =
-        let a : vacant_of g s.reserved n.pages + vacant g.limit (s.reserved f) (s.pages f) ≡ vacant_of g s.reserved s.pages + vacant g.limit (s.reserved f) (put2 s.pages f i (Some x) f)
-        = total_change g.files f (λ k. vacant g.limit (s.reserved k) (s.pages k)) (λ k. vacant g.limit (s.reserved k) (put2 s.pages f i (Some x) k)) in_files (λ k d. ap (vacant g.limit (s.reserved k)) (put_other s.pages f (put (s.pages f) i (Some x)) k d)) in
+        let a : vacant_of g s.reserved n.pages + vacant g.limit (s.reserved f) (s.pages f) ≡ vacant_of g s.reserved
+        s.pages + vacant g.limit (s.reserved f) (put2 s.pages f i (Some x) f)
+        =
+        total_change g.files f (λ k. vacant g.limit (s.reserved k) (s.pages k))
+        (λ k. vacant g.limit (s.reserved k) (put2 s.pages f i (Some x) k)) in_files
+        (λ k d. ap (vacant g.limit (s.reserved k)) (put_other s.pages f (put (s.pages f) i (Some x)) k d)) in
         let z : vacant g.limit (s.reserved f) (put2 s.pages f i (Some x) f) + 1 ≡ vacant g.limit (s.reserved f) (s.pages f)
-        = ap (λ (m : ℕ → Option ℕ). vacant g.limit (s.reserved f) m + 1) (put_same s.pages f (put (s.pages f) i (Some x))) ∙ vacant_place g.limit (s.reserved f) (s.pages f) i x in_limit marked bare in
+        =
+        ap (λ (m : ℕ → Option ℕ). vacant g.limit (s.reserved f) m + 1)
+        (put_same s.pages f (put (s.pages f) i (Some x)))
+        ∙ vacant_place g.limit (s.reserved f) (s.pages f) i x in_limit marked bare in
         omega arith

@@ -76,12 +76,14 @@ neither : {P : Type 0} → (false ≡ true) ⊎ (false ≡ true) → P
 neither (inl e) = absurd (cc)
 neither (inr e) = absurd (cc)
 
-cut_turn : (s : State) (t : ℕ) (killed grant : Bool) (cut : Truncation) (b : Bool) (phase : TruncatePhase) (turn : Turn TruncatePhase) (new : Pool)
+cut_turn : (s : State) (t : ℕ) (killed grant : Bool) (cut : Truncation) (b : Bool) (phase : TruncatePhase)
+    (turn : Turn TruncatePhase) (new : Pool)
     → Cutting cut phase → (b ≡ true → (is_over phase ≡ true) ⊎ (is_tail (word_of (call.Truncate phase)) ≡ true))
     → TruncateRow (pool_of s) t killed grant phase turn new → TurnWell TruncatePhase (After cut b) Any turn
 cut_turn s t killed grant cut b (truncate.Start p) turn new h was row = absurd h
 cut_turn s t killed grant cut b (truncate.Size p) turn new h was row = absurd h
-cut_turn s t killed grant cut b (truncate.Want p) turn new h was row = by_option (s.slots (slot_of s.geometry p.truncation.file p.index)) row
+cut_turn s t killed grant cut b (truncate.Want p) turn new h was row =
+    by_option (s.slots (slot_of s.geometry p.truncation.file p.index)) row
     (λ _ r. at_leaf (After cut b) Any _ turn r.0 (h, λ e. neither (was e)))
     (λ u _ r. at_leaf (After cut b) Any (Blocked (truncate.Want p) u) turn r.0 (h, λ e. neither (was e)))
 cut_turn s t killed grant cut b (truncate.Locked p) turn new h was row = by_test (is_some (s.pages p.truncation.file p.index)) row
@@ -90,7 +92,8 @@ cut_turn s t killed grant cut b (truncate.Locked p) turn new h was row = by_test
 cut_turn s t killed grant cut b (truncate.Unmap p) turn new h was row = by_test (nat_lt p.task s.geometry.tasks) row
     (λ _ r. at_leaf (After cut b) Any _ turn r.0 (h, λ e. neither (was e)))
     (λ _ r. at_leaf (After cut b) Any _ turn r.0 (h, λ e. neither (was e)))
-cut_turn s t killed grant cut b (truncate.Evict p) turn new h was (x, page, row) = at_leaf (After cut b) Any _ turn row.0 (h, λ e. neither (was e))
+cut_turn s t killed grant cut b (truncate.Evict p) turn new h was (x, page, row) =
+    at_leaf (After cut b) Any _ turn row.0 (h, λ e. neither (was e))
 cut_turn s t killed grant cut b (truncate.Free p) turn new h was row = at_leaf (After cut b) Any _ turn row.0 (h, λ e. neither (was e))
 cut_turn s t killed grant cut b (truncate.Unslot p) turn new h was row = by_test (nat_lt p.truncation.new p.index) row
     (λ _ r. at_leaf (After cut b) Any _ turn r.0 (h, λ e. neither (was e)))
@@ -116,10 +119,12 @@ IsCutBy b None = Unit {0}
 IsCutBy b (Some (call.Truncate phase)) = b ≡ true → (is_over phase ≡ true) ⊎ (is_tail (word_of (call.Truncate phase)) ≡ true)
 IsCutBy b (Some other) = Unit {0}
 
-cut_call : (s : State) (t : ℕ) (killed grant : Bool) (cut : Truncation) (a b : Bool) (c : Call) (o : Outcome) (pool : Pool) (next : Option Call)
+cut_call : (s : State) (t : ℕ) (killed grant : Bool) (cut : Truncation) (a b : Bool) (c : Call) (o : Outcome)
+    (pool : Pool) (next : Option Call)
     → CallCuts cut a (Some c) → IsCutBy b (Some c) → CallRow (pool_of s) t killed grant c o pool next → CallCuts cut b next
 unfolding CallRow
-cut_call s t killed grant cut a b (call.Truncate p) o pool next w was (turn, row, tells, leaves) = subst (CallCuts cut b) (sym leaves) (next_cuts cut b turn (cut_turn s t killed grant cut b p turn pool w.0 was row))
+cut_call s t killed grant cut a b (call.Truncate p) o pool next w was (turn, row, tells, leaves) =
+    subst (CallCuts cut b) (sym leaves) (next_cuts cut b turn (cut_turn s t killed grant cut b p turn pool w.0 was row))
 cut_call s t killed grant cut a b (call.Touch p) o pool next w was row = absurd w
 cut_call s t killed grant cut a b (call.Map p) o pool next w was row = absurd w
 cut_call s t killed grant cut a b (call.Alloc p) o pool next w was row = absurd w
@@ -131,7 +136,8 @@ cut_row : (s : State) (t : ℕ) (cut : Truncation) (b : Bool) (event : Event) (o
     → is_begun t event o ≡ 0 → CallCuts cut b (s.calls t) → Row s event o n → CallCuts cut b (n.calls t)
 cut_row s t cut b event o n h quiet w row = own_or_same s t event o n (CallCuts cut b (n.calls t)) h quiet row
     (λ calls areas lives no_end. subst (CallCuts cut b) (sym calls) w)
-    (λ grant c pool next is e r d. subst (λ (m : State). CallCuts cut b (m.calls t)) (sym d) (subst (CallCuts cut b) (sym (put_same s.calls t next))
+    (λ grant c pool next is e r d. subst (λ (m : State). CallCuts cut b (m.calls t)) (sym d)
+    (subst (CallCuts cut b) (sym (put_same s.calls t next))
     (let was = subst (CallCuts cut b) e w in cut_call s t (is_killed (s.life t)) grant cut b b c o pool next was (still c was) r)))
   where
     still : (c : Call) → CallCuts cut b (Some c) → IsCutBy b (Some c)
@@ -205,8 +211,11 @@ tail_step : (s : State) (t : ℕ) (cut : Truncation) (grant : Bool) (phase : Tru
     → Row s (Step t grant) o n → s.reserved cut.file i ≡ true → n.reserved cut.file i ≡ false → CallCuts cut true (n.calls t)
 tail_step s t cut grant phase o n i e h tail row a b = step_cases s t grant o n (CallCuts cut true (n.calls t)) row
     (λ why _ d. clash (s.reserved cut.file i) a (ap (λ (m : State). m.reserved cut.file i) (sym d) ∙ b))
-    (λ c lives some pool next r d. subst (λ (m : State). CallCuts cut true (m.calls t)) (sym d) (subst (CallCuts cut true) (sym (put_same s.calls t next))
-    (cut_call s t (is_killed (s.life t)) grant cut false true (call.Truncate phase) o pool next (h, λ z. absurd (never z)) (λ _. inr tail) (subst (λ (m : Call). CallRow (pool_of s) t (is_killed (s.life t)) grant m o pool next) (same_call (sym some ∙ e)) r))))
+    (λ c lives some pool next r d. subst (λ (m : State). CallCuts cut true (m.calls t)) (sym d)
+    (subst (CallCuts cut true) (sym (put_same s.calls t next))
+    (cut_call s t (is_killed (s.life t)) grant cut false true (call.Truncate phase) o pool next
+    (h, λ z. absurd (never z)) (λ _. inr tail)
+    (subst (λ (m : Call). CallRow (pool_of s) t (is_killed (s.life t)) grant m o pool next) (same_call (sym some ∙ e)) r))))
   where
     never : false ≡ true → ⊥
     never z = cc
@@ -224,10 +233,14 @@ kept_row s t cut i event o n h quiet w row a = by_mark (n.reserved cut.file i) r
     goes b (Over over) = cut_row s t cut true event o n h quiet over row
     goes b (Holds phase e cutting on) =
         let k = goes_under s event o n cut.file i h row a b in
-        let lock : HasLock s t cut.file = subst (λ (m : ℕ). s.locks m ≡ Some t) refl (locks_file s.geometry s t cut.file h.inv (ap locked_file e ∙ lock_at cut phase cutting on)) in
+        let lock : HasLock s t cut.file =
+        subst (λ (m : ℕ). s.locks m ≡ Some t) refl
+        (locks_file s.geometry s t cut.file h.inv (ap locked_file e ∙ lock_at cut phase cutting on)) in
         let d : k.0 ≡ t = same_holder k.0 t (s.locks cut.file) k.5 lock in
         let there : Some k.2 ≡ Some (call.Truncate phase) = sym (ap s.calls (sym d) ∙ k.4) ∙ e in
-        tail_step s t cut k.1 phase o n i e cutting (only_tail phase (subst (λ (m : Call). (word_of m ≡ word.Delete) ⊎ (word_of m ≡ word.Tail)) (same_call there) k.6)) (subst (λ (m : Event). Row s m o n) (k.3 ∙ ap (λ (m : ℕ). Step m k.1) d) row) a b
+        tail_step s t cut k.1 phase o n i e cutting
+        (only_tail phase (subst (λ (m : Call). (word_of m ≡ word.Delete) ⊎ (word_of m ≡ word.Tail))
+        (same_call there) k.6)) (subst (λ (m : Event). Row s m o n) (k.3 ∙ ap (λ (m : ℕ). Step m k.1) d) row) a b
       where
         same_call : {a b : Call} → Some a ≡ Some b → a ≡ b
         same_call z = cc
@@ -240,20 +253,26 @@ kept_run : (t : ℕ) (cut : Truncation) (i : ℕ) (s : State) (es : List (Event 
     → calls_begun t es ≡ 0 → CallCuts cut false (s.calls t)
     → (s.reserved cut.file i ≡ true) ⊎ CallCuts cut true (s.calls t)
     → CallCuts cut false (n.calls t) × ((n.reserved cut.file i ≡ true) ⊎ CallCuts cut true (n.calls t))
-kept_run t cut i s [] n r h quiet w k = subst (λ (m : State). CallCuts cut false (m.calls t) × ((m.reserved cut.file i ≡ true) ⊎ CallCuts cut true (m.calls t))) (sym r) (w, k)
-kept_run t cut i s (e ∷ es) n r h quiet w k = kept_run t cut i r.0 es n r.2 (row_keeps s e.0 e.1 r.0 h r.1) (omega arith) (cut_row s t cut false e.0 e.1 r.0 h (omega arith) w r.1) (elim k [
-  | inl a ↦ kept_row s t cut i e.0 e.1 r.0 h (omega arith) w r.1 a
-  | inr b ↦ inr (cut_row s t cut true e.0 e.1 r.0 h (omega arith) b r.1)
-])
+kept_run t cut i s [] n r h quiet w k =
+    subst (λ (m : State). CallCuts cut false (m.calls t)
+    × ((m.reserved cut.file i ≡ true) ⊎ CallCuts cut true (m.calls t))) (sym r) (w, k)
+kept_run t cut i s (e ∷ es) n r h quiet w k =
+    kept_run t cut i r.0 es n r.2 (row_keeps s e.0 e.1 r.0 h r.1) (omega arith)
+    (cut_row s t cut false e.0 e.1 r.0 h (omega arith) w r.1) (elim k [
+      | inl a ↦ kept_row s t cut i e.0 e.1 r.0 h (omega arith) w r.1 a
+      | inr b ↦ inr (cut_row s t cut true e.0 e.1 r.0 h (omega arith) b r.1)
+    ])
 
 -- what is over has taken out what lies from the new size on
 over_gone : (cut : Truncation) (i : ℕ) (phase : TruncatePhase) → Cutting cut phase → is_over phase ≡ true → cut.new ≤ i
     → gone (Some (call.Truncate phase)) cut.file i ≡ true
-over_gone cut i (truncate.Settle p) h e l = subst (λ (m : Truncation). ((m.file == cut.file) && nat_le m.new i) ≡ true) (sym h) (from_on cut.file cut.new i l)
+over_gone cut i (truncate.Settle p) h e l =
+    subst (λ (m : Truncation). ((m.file == cut.file) && nat_le m.new i) ≡ true) (sym h) (from_on cut.file cut.new i l)
   where
     from_on : (f new j : ℕ) → new ≤ j → ((f == f) && nat_le new j) ≡ true
     from_on f new j l = grind (arith, nat_tests)
-over_gone cut i (truncate.Leave p) h e l = subst (λ (m : Truncation). ((m.file == cut.file) && nat_le m.new i) ≡ true) (sym h) (from_on cut.file cut.new i l)
+over_gone cut i (truncate.Leave p) h e l =
+    subst (λ (m : Truncation). ((m.file == cut.file) && nat_le m.new i) ≡ true) (sym h) (from_on cut.file cut.new i l)
   where
     from_on : (f new j : ℕ) → new ≤ j → ((f == f) && nat_le new j) ≡ true
     from_on f new j l = grind (arith, nat_tests)
@@ -273,7 +292,9 @@ evicted_stays s t p rest n q reached e run quiet there not_gone =
     elim k.1 [
       | inl a ↦ a
       | inr over ↦ (let o : After p.truncation true q = subst (CallCuts p.truncation true) there over in
-          clash (gone (n.calls t) p.truncation.file p.index) (ap (λ (m : Option Call). gone m p.truncation.file p.index) there ∙ over_gone p.truncation p.index q o.0 (o.1 refl) y.facts.index.0) not_gone)
+          clash (gone (n.calls t) p.truncation.file p.index)
+          (ap (λ (m : Option Call). gone m p.truncation.file p.index) there
+          ∙ over_gone p.truncation p.index q o.0 (o.1 refl) y.facts.index.0) not_gone)
     ]
   where
     never : false ≡ true → ⊥

@@ -49,10 +49,14 @@ no_page : {P : Type 0} (x : ℕ) → ◌≡◌ {A = Option ℕ} None (Some x) �
 no_page x e = absurd (cc)
 
 pub history_holds : (g : Geometry) (frames : ℕ) (ms : List Moment) (s : State) → History g frames ms s → Always s × Holds ms s
-history_holds g frames [] s h = (subst Always (sym h) (opens_well g frames), λ f i x w a b. no_page x (sym (ap (λ (m : State). m.pages f i) h) ∙ a))
+history_holds g frames [] s h =
+    (subst Always (sym h) (opens_well g frames), λ f i x w a b. no_page x (sym (ap (λ (m : State). m.pages f i) h) ∙ a))
 history_holds g frames (m ∷ ms) s h =
-    let k = history_holds g frames ms m.before h.2 in
-    (subst Always h.0 (row_keeps m.before m.event m.outcome m.after k.0 h.1), subst (Holds (m ∷ ms)) h.0 (holds_after m.before m.event m.outcome m.after ms (row_tells m.before m.event m.outcome m.after k.0 h.1) k.1))
+    let k = history_holds g frames ms m.before h.2 in (
+      subst Always h.0 (row_keeps m.before m.event m.outcome m.after k.0 h.1),
+      subst (Holds (m ∷ ms)) h.0
+          (holds_after m.before m.event m.outcome m.after ms (row_tells m.before m.event m.outcome m.after k.0 h.1) k.1),
+    )
 
 -- the page that a load read
 abbrev Reads : State → (f i w : ℕ) → Type 0
@@ -72,7 +76,8 @@ look_reads s t killed grant p o pool next f i w h (turn, row, tells, leaves) loa
     (λ none r. absurd (not_moved (sym (tells ∙ ap (told call.Touch) r.0) ∙ ends)))
     (λ x entry r. let k = h.entries.agree t p.vpn x entry in
     let same : k.0 ≡ (f, i) = pair_of (sym k.1 ∙ there) in
-    let word : r.0 ≡ w = ended_word (sym (tells ∙ (ap (told call.Touch) r.2.0 ∙ ap (λ (a : Access). outcome.Ended (answer_of a r.0)) loads)) ∙ ends) in
+    let word : r.0 ≡ w =
+    ended_word (sym (tells ∙ (ap (told call.Touch) r.2.0 ∙ ap (λ (a : Access). outcome.Ended (answer_of a r.0)) loads)) ∙ ends) in
     (x, subst (λ (m : ℕ × ℕ). s.pages m.0 m.1 ≡ Some x) same k.2, r.1 ∙ ap (λ (m : ℕ). state.Placed m) word)))
   where
     not_moved : {q : Phase} {a : Answer} → outcome.Moved q ≡ outcome.Ended a → ⊥
@@ -94,21 +99,30 @@ found_reads : (s : State) (t : ℕ) (killed grant : Bool) (p : Found) (o : Outco
 unfolding CallRow
 found_reads s t killed grant p o pool next w (turn, row, tells, leaves) loads is =
     by_test (nat_le (s.size p.touch.file) p.touch.index) row
-    (λ _ r. (let z : answer.Beyond ≡ answer.Word w = ap (λ (m : Leave). m.answer) (same_leave (sym (leaves ∙ ap (left call.Touch) r.0) ∙ is)) in absurd (cc)))
+    (λ _ r. (let z : answer.Beyond ≡ answer.Word w = ap (λ (m : Leave). m.answer)
+    (same_leave (sym (leaves ∙ ap (left call.Touch) r.0) ∙ is)) in absurd (cc)))
     (λ _ r. by_test grant r
-    (λ _ r. let word : r.1 ≡ w = same_word (sym (ap (λ (a : Access). answer_of a r.1) loads) ∙ ap (λ (m : Leave). m.answer) (same_leave (sym (leaves ∙ ap (left call.Touch) r.4.0) ∙ is))) in
+    (λ _ r. let word : r.1 ≡ w = same_word
+    (sym (ap (λ (a : Access). answer_of a r.1) loads)
+    ∙ ap (λ (m : Leave). m.answer) (same_leave (sym (leaves ∙ ap (left call.Touch) r.4.0) ∙ is))) in
     (r.0, r.2, r.3 ∙ ap (λ (m : ℕ). state.Placed m) word))
-    (λ _ r. (let z : answer.NoMemory ≡ answer.Word w = ap (λ (m : Leave). m.answer) (same_leave (sym (leaves ∙ ap (left call.Touch) r.0) ∙ is)) in absurd (cc))))
+    (λ _ r. (let z : answer.NoMemory ≡ answer.Word w = ap (λ (m : Leave). m.answer)
+    (same_leave (sym (leaves ∙ ap (left call.Touch) r.0) ∙ is)) in absurd (cc))))
 
 read_page : (m : Moment) (f i w : ℕ) → Always m.before → Row m.before m.event m.outcome m.after → Read f i m w → Reads m.before f i w
 read_page m f i w h row read = elim read [
   | inl r ↦ (let s : State = m.before in
-      let step = step_of s r.0 r.1 (call.Touch (touch.Look r.2)) m.outcome m.after (subst (λ (e : Event). Row s e m.outcome m.after) r.3 row) (h.lives.busy r.0 (call.Touch (touch.Look r.2)) r.4) r.4 in
+      let step = step_of s r.0 r.1 (call.Touch (touch.Look r.2)) m.outcome m.after
+      (subst (λ (e : Event). Row s e m.outcome m.after) r.3 row) (h.lives.busy r.0 (call.Touch (touch.Look r.2)) r.4) r.4 in
       look_reads s r.0 (is_killed (s.life r.0)) r.1 r.2 m.outcome step.0 step.1 f i w h.inv step.2 r.5 r.6 r.7)
   | inr r ↦ (let s : State = m.before in
-      let step = step_of s r.0 r.1 (call.Touch (touch.Found r.2)) m.outcome m.after (subst (λ (e : Event). Row s e m.outcome m.after) r.3 row) (h.lives.busy r.0 (call.Touch (touch.Found r.2)) r.4) r.4 in
-      let next : step.1 ≡ Some (call.Touch (touch.Leave (record { touch = r.2.touch; answer = answer.Word w }))) = sym (ap (λ (n : State). n.calls r.0) step.3 ∙ put_same s.calls r.0 step.1) ∙ r.8 in
-      subst (λ (k : ℕ). Reads s k i w) r.6 (subst (λ (k : ℕ). Reads s r.2.touch.file k w) r.7 (found_reads s r.0 (is_killed (s.life r.0)) r.1 r.2 m.outcome step.0 step.1 w step.2 r.5 next)))
+      let step = step_of s r.0 r.1 (call.Touch (touch.Found r.2)) m.outcome m.after
+      (subst (λ (e : Event). Row s e m.outcome m.after) r.3 row) (h.lives.busy r.0 (call.Touch (touch.Found r.2)) r.4) r.4 in
+      let next : step.1 ≡ Some (call.Touch (touch.Leave (record { touch = r.2.touch; answer = answer.Word w }))) =
+      sym (ap (λ (n : State). n.calls r.0) step.3 ∙ put_same s.calls r.0 step.1) ∙ r.8 in
+      subst (λ (k : ℕ). Reads s k i w) r.6
+      (subst (λ (k : ℕ). Reads s r.2.touch.file k w) r.7
+      (found_reads s r.0 (is_killed (s.life r.0)) r.1 r.2 m.outcome step.0 step.1 w step.2 r.5 next)))
 ]
 
 -- a load tells the last word of its page, and no other is the last one

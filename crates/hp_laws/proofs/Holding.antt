@@ -35,7 +35,12 @@ slot_left_holders : (g : Geometry) (slots locks : ℕ → Option ℕ) (held : �
 slot_left_holders g slots locks held locked t f i h some = record {
   slot = λ k u e. elim (put_tells slots (slot_of g f i) None k) [
     | inl q ↦ (let d : ◌≡◌ {A = Option ℕ} None (Some u) = sym q.1 ∙ e in absurd (cc))
-    | inr q ↦ (let o = h.slot k u (sym q.1 ∙ e) in (o.0, put_other held t None u (λ d. q.0 (sym o.2 ∙ ap (λ (m : ℕ × ℕ). slot_of g m.0 m.1) (some_same (sym o.1 ∙ (ap held d ∙ some))))) ∙ o.1, o.2))
+    | inr q ↦ (let o = h.slot k u (sym q.1 ∙ e) in (
+      o.0,
+      put_other held t None u
+          (λ d. q.0 (sym o.2 ∙ ap (λ (m : ℕ × ℕ). slot_of g m.0 m.1) (some_same (sym o.1 ∙ (ap held d ∙ some))))) ∙ o.1,
+      o.2,
+    ))
   ];
   lock = h.lock;
 }
@@ -87,10 +92,25 @@ takes_slot g s t b c f i h l e free same same_lock none some fill own = goes_as 
   sizes = h.sizes;
   changes = same_opens s.pending b c (ap (λ p. p.3) same);
   spares = h.spares;
-  holders = subst (λ (o : Option (ℕ × ℕ)). Holders g n.slots s.locks (put (λ (u : ℕ). slot_held (s.calls u)) t o) (put (λ (u : ℕ). locked_file (s.calls u)) t (locked_file c))) (sym some)
-      (subst (λ (a : ℕ → Option ℕ). Holders g n.slots s.locks (put (λ (u : ℕ). slot_held (s.calls u)) t (Some (f, i))) a) (sym (put_known (λ (u : ℕ). locked_file (s.calls u)) t (locked_file c) (ap locked_file e ∙ sym same_lock)))
-      (slot_taken_holders g s.slots s.locks (λ u. slot_held (s.calls u)) (λ u. locked_file (s.calls u)) t f i h.holders (ap slot_held e ∙ none)));
-  others = λ u d. stands_after g s n u (s.calls u) (record { slot = still u; page = λ k j a. refl; mark = λ k j a w r. r; entries = λ k j a w v x p q. (x, p, q); lock = λ k a. (a, refl, λ j r. r); areas = refl; prepared = refl; table = λ v x p. (x, p) }) (h.stands u);
+  holders =
+      subst (λ (o : Option (ℕ × ℕ)). Holders g n.slots s.locks (put (λ (u : ℕ). slot_held (s.calls u)) t o)
+      (put (λ (u : ℕ). locked_file (s.calls u)) t (locked_file c))) (sym some)
+      (subst (λ (a : ℕ → Option ℕ). Holders g n.slots s.locks (put (λ (u : ℕ). slot_held (s.calls u)) t (Some (f, i)))
+      a) (sym (put_known (λ (u : ℕ). locked_file (s.calls u)) t (locked_file c) (ap locked_file e ∙ sym same_lock)))
+      (slot_taken_holders g s.slots s.locks (λ u. slot_held (s.calls u)) (λ u. locked_file (s.calls u)) t f i
+      h.holders (ap slot_held e ∙ none)));
+  others =
+      λ u d. stands_after g s n u (s.calls u)
+      (record {
+        slot = still u;
+        page = λ k j a. refl;
+        mark = λ k j a w r. r;
+        entries = λ k j a w v x p q. (x, p, q);
+        lock = λ k a. (a, refl, λ j r. r);
+        areas = refl;
+        prepared = refl;
+        table = λ v x p. (x, p);
+      }) (h.stands u);
   own = own;
 })
   where
@@ -102,14 +122,31 @@ takes_slot g s t b c f i h l e free same same_lock none some fill own = goes_as 
 
 pub left_holders : (g : Geometry) (s : State) (t : ℕ) (b c : Option Call) (f i : ℕ) → Inv g s → s.calls t ≡ b
     → locked_file c ≡ locked_file b → slot_held b ≡ Some (f, i) → slot_held c ≡ None
-    → Holders g (put s.slots (slot_of g f i) None) s.locks (put (λ (u : ℕ). slot_held (s.calls u)) t (slot_held c)) (put (λ (u : ℕ). locked_file (s.calls u)) t (locked_file c))
-left_holders g s t b c f i h e same_lock some none = subst (λ (o : Option (ℕ × ℕ)). Holders g (put s.slots (slot_of g f i) None) s.locks (put (λ (u : ℕ). slot_held (s.calls u)) t o) (put (λ (u : ℕ). locked_file (s.calls u)) t (locked_file c))) (sym none)
-    (subst (λ (a : ℕ → Option ℕ). Holders g (put s.slots (slot_of g f i) None) s.locks (put (λ (u : ℕ). slot_held (s.calls u)) t None) a) (sym (put_known (λ (u : ℕ). locked_file (s.calls u)) t (locked_file c) (ap locked_file e ∙ sym same_lock)))
-    (slot_left_holders g s.slots s.locks (λ u. slot_held (s.calls u)) (λ u. locked_file (s.calls u)) t f i h.holders (ap slot_held e ∙ some)))
+    → Holders g (put s.slots (slot_of g f i) None) s.locks (put (λ (u : ℕ). slot_held (s.calls u)) t (slot_held c))
+    (put (λ (u : ℕ). locked_file (s.calls u)) t (locked_file c))
+left_holders g s t b c f i h e same_lock some none =
+    subst (λ (o : Option (ℕ × ℕ)). Holders g (put s.slots (slot_of g f i) None) s.locks
+    (put (λ (u : ℕ). slot_held (s.calls u)) t o) (put (λ (u : ℕ). locked_file (s.calls u)) t (locked_file c))) (sym none)
+    (subst (λ (a : ℕ → Option ℕ). Holders g (put s.slots (slot_of g f i) None) s.locks
+    (put (λ (u : ℕ). slot_held (s.calls u)) t None) a)
+    (sym (put_known (λ (u : ℕ). locked_file (s.calls u)) t (locked_file c) (ap locked_file e ∙ sym same_lock)))
+    (slot_left_holders g s.slots s.locks (λ u. slot_held (s.calls u)) (λ u. locked_file (s.calls u)) t f i h.holders
+    (ap slot_held e ∙ some)))
 
 pub left_stands : (g : Geometry) (s : State) (t f i : ℕ) → Inv g s → HasSlot g s t f i → (u : ℕ) → u ≢ t
     → Stands g (record s { pool = record s.pool { slots = put s.slots (slot_of g f i) None } }) u (s.calls u)
-left_stands g s t f i h held u d = stands_after g s n u (s.calls u) (record { slot = still; page = λ k j a. refl; mark = λ k j a w r. r; entries = λ k j a w v x p q. (x, p, q); lock = λ k a. (a, refl, λ j r. r); areas = refl; prepared = refl; table = λ v x p. (x, p) }) (h.stands u)
+left_stands g s t f i h held u d =
+    stands_after g s n u (s.calls u)
+    (record {
+      slot = still;
+      page = λ k j a. refl;
+      mark = λ k j a w r. r;
+      entries = λ k j a w v x p q. (x, p, q);
+      lock = λ k a. (a, refl, λ j r. r);
+      areas = refl;
+      prepared = refl;
+      table = λ v x p. (x, p);
+    }) (h.stands u)
   where
     n : State
     n = record s { pool = record s.pool { slots = put s.slots (slot_of g f i) None } }
@@ -169,10 +206,26 @@ takes_lock g s t b c f h l e free same same_slot none some fill own = goes_as g 
   fill = subst (λ (o : Option (ℕ × ℕ)). IfSome o (λ k. Reached s.size (λ u. ahead (s.calls u)) k.0 k.1)) (sym fill) tt;
   changes = same_opens s.pending b c (ap (λ p. p.3) same);
   spares = h.spares;
-  holders = subst (λ (o : Option ℕ). Holders g s.slots n.locks (put (λ (u : ℕ). slot_held (s.calls u)) t (slot_held c)) (put (λ (u : ℕ). locked_file (s.calls u)) t o)) (sym some)
-      (subst (λ (a : ℕ → Option (ℕ × ℕ)). Holders g s.slots n.locks a (put (λ (u : ℕ). locked_file (s.calls u)) t (Some f))) (sym (put_known (λ (u : ℕ). slot_held (s.calls u)) t (slot_held c) (ap slot_held e ∙ sym same_slot)))
-      (lock_taken_holders g s.slots s.locks (λ u. slot_held (s.calls u)) (λ u. locked_file (s.calls u)) t f h.holders (ap locked_file e ∙ none)));
-  others = λ u d. stands_after g s n u (s.calls u) (record { slot = λ k a. a; page = λ k j a. refl; mark = λ k j a w r. r; entries = λ k j a w v x p q. (x, p, q); lock = λ k a. (still u k a, refl, λ j r. r); areas = refl; prepared = refl; table = λ v x p. (x, p) }) (h.stands u);
+  holders =
+      subst (λ (o : Option ℕ). Holders g s.slots n.locks (put (λ (u : ℕ). slot_held (s.calls u)) t (slot_held c))
+      (put (λ (u : ℕ). locked_file (s.calls u)) t o)) (sym some)
+      (subst (λ (a : ℕ → Option (ℕ × ℕ)). Holders g s.slots n.locks a
+      (put (λ (u : ℕ). locked_file (s.calls u)) t (Some f)))
+      (sym (put_known (λ (u : ℕ). slot_held (s.calls u)) t (slot_held c) (ap slot_held e ∙ sym same_slot)))
+      (lock_taken_holders g s.slots s.locks (λ u. slot_held (s.calls u)) (λ u. locked_file (s.calls u)) t f h.holders
+      (ap locked_file e ∙ none)));
+  others =
+      λ u d. stands_after g s n u (s.calls u)
+      (record {
+        slot = λ k a. a;
+        page = λ k j a. refl;
+        mark = λ k j a w r. r;
+        entries = λ k j a w v x p q. (x, p, q);
+        lock = λ k a. (still u k a, refl, λ j r. r);
+        areas = refl;
+        prepared = refl;
+        table = λ v x p. (x, p);
+      }) (h.stands u);
   own = own;
 })
   where
@@ -212,9 +265,24 @@ leaves_lock g s t b f h l e no_less no_more no_hand no_change no_slot some held 
   fill = tt;
   changes = same_opens s.pending b None (sym no_change);
   spares = h.spares;
-  holders = subst (λ (a : ℕ → Option (ℕ × ℕ)). Holders g s.slots n.locks a (put (λ (u : ℕ). locked_file (s.calls u)) t None)) (sym (put_known (λ (u : ℕ). slot_held (s.calls u)) t None (ap slot_held e ∙ no_slot)))
-      (lock_left_holders g s.slots s.locks (λ u. slot_held (s.calls u)) (λ u. locked_file (s.calls u)) t f h.holders (ap locked_file e ∙ some));
-  others = λ u d. stands_after g s n u (s.calls u) (record { slot = λ k a. a; page = λ k j a. refl; mark = λ k j a w r. r; entries = λ k j a w v x p q. (x, p, q); lock = λ k a. (still u d k a, refl, λ j r. r); areas = refl; prepared = refl; table = λ v x p. (x, p) }) (h.stands u);
+  holders =
+      subst (λ (a : ℕ → Option (ℕ × ℕ)). Holders g s.slots n.locks a
+      (put (λ (u : ℕ). locked_file (s.calls u)) t None))
+      (sym (put_known (λ (u : ℕ). slot_held (s.calls u)) t None (ap slot_held e ∙ no_slot)))
+      (lock_left_holders g s.slots s.locks (λ u. slot_held (s.calls u)) (λ u. locked_file (s.calls u)) t f h.holders
+      (ap locked_file e ∙ some));
+  others =
+      λ u d. stands_after g s n u (s.calls u)
+      (record {
+        slot = λ k a. a;
+        page = λ k j a. refl;
+        mark = λ k j a w r. r;
+        entries = λ k j a w v x p q. (x, p, q);
+        lock = λ k a. (still u d k a, refl, λ j r. r);
+        areas = refl;
+        prepared = refl;
+        table = λ v x p. (x, p);
+      }) (h.stands u);
   own = record { slot = tt; lock = tt; facts = tt };
 })
   where
@@ -231,7 +299,13 @@ leaves_lock g s t b f h l e no_less no_more no_hand no_change no_slot some held 
         → Reached s.size (put (λ (u : ℕ). ahead (s.calls u)) t (ahead None)) k j
     covered k j r = elim r [
       | inl a ↦ inl a
-      | inr a ↦ inr (a.0, ap (λ (m : ℕ → ℕ → Bool). m k j) (put_other (λ (u : ℕ). ahead (s.calls u)) t (ahead None) a.0 (λ d. (let z : false ≡ true = sym (none_ahead k j) ∙ (ap (λ (c : Option Call). ahead c k j) (sym (ap s.calls d ∙ e)) ∙ a.1) in absurd (cc)))) ∙ a.1)
+      | inr a ↦ inr (
+        a.0,
+        ap (λ (m : ℕ → ℕ → Bool). m k j)
+            (put_other (λ (u : ℕ). ahead (s.calls u)) t (ahead None) a.0
+            (λ d. (let z : false ≡ true = sym (none_ahead k j)
+            ∙ (ap (λ (c : Option Call). ahead c k j) (sym (ap s.calls d ∙ e)) ∙ a.1) in absurd (cc)))) ∙ a.1,
+      )
     ]
 
     if_reached : (o : Option (ℕ × ℕ)) → IfSome o (λ k. Reached s.size (λ u. ahead (s.calls u)) k.0 k.1)

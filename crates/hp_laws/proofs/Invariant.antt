@@ -52,7 +52,8 @@ Reached size aheads f i = (i < size f) ⊎ ((u : ℕ) × (aheads u f i ≡ true)
 
 -- what is translated is reached; what a truncation has passed has no page and is above the size, and what it
 -- took out of the reserve map is out of it
-pub record Swept (size : ℕ → ℕ) (reserved : ℕ → ℕ → Bool) (pages : ℕ → ℕ → Option ℕ) (areas : ℕ → List Mapping) (table : ℕ → ℕ → Option ℕ) (aheads passes gones : ℕ → ℕ → ℕ → Bool) : Type 0 where
+pub record Swept (size : ℕ → ℕ) (reserved : ℕ → ℕ → Bool) (pages : ℕ → ℕ → Option ℕ) (areas : ℕ → List Mapping)
+    (table : ℕ → ℕ → Option ℕ) (aheads passes gones : ℕ → ℕ → ℕ → Bool) : Type 0 where
   pub below : (t v x f i : ℕ) → table t v ≡ Some x → find (areas t) v ≡ Some (f, i) → Reached size aheads f i
   pub past : (u f j : ℕ) → passes u f j ≡ true → (pages f j ≡ None) × (size f ≤ j)
   pub gone : (u f j : ℕ) → gones u f j ≡ true → reserved f j ≡ false
@@ -91,7 +92,8 @@ each_call P calls t c others own u = elim (same_or_other u t) [
 pub view_put : {A : Type 0} (v : Option Call → A) (calls : ℕ → Option Call) (t : ℕ) (c : Option Call)
     → ◌≡◌ {A = ℕ → A} (λ (u : ℕ). v (put calls t c u)) (put (λ (u : ℕ). v (calls u)) t (v c))
 view_put {A} v calls t c = fun_ext (λ u. elim (same_or_other u t) [
-  | inl e ↦ subst (λ (w : ℕ). v (put calls t c w) ≡ put (λ (u : ℕ). v (calls u)) t (v c) w) (sym e) (ap v (put_same calls t c) ∙ sym (put_same (λ (u : ℕ). v (calls u)) t (v c)))
+  | inl e ↦ subst (λ (w : ℕ). v (put calls t c w) ≡ put (λ (u : ℕ). v (calls u)) t (v c) w) (sym e)
+      (ap v (put_same calls t c) ∙ sym (put_same (λ (u : ℕ). v (calls u)) t (v c)))
   | inr h ↦ ap v (put_other calls t c u h) ∙ sym (put_other (λ (u : ℕ). v (calls u)) t (v c) u h)
 ])
 
@@ -99,7 +101,8 @@ view_put {A} v calls t c = fun_ext (λ u. elim (same_or_other u t) [
 pub sum_after : (v : Option Call → ℕ) (n : ℕ) (calls : ℕ → Option Call) (t : ℕ) (b c : Option Call) → t < n → calls t ≡ b
     → total n (λ u. v (put calls t c u)) + v b ≡ total n (λ u. v (calls u)) + v c
 sum_after v n calls t b c l e =
-    let a : total n (λ u. v (put calls t c u)) + v (calls t) ≡ total n (λ u. v (calls u)) + v (put calls t c t) = total_change n t (λ u. v (calls u)) (λ u. v (put calls t c u)) l (λ j h. ap v (put_other calls t c j h)) in
+    let a : total n (λ u. v (put calls t c u)) + v (calls t) ≡ total n (λ u. v (calls u)) + v (put calls t c t) =
+    total_change n t (λ u. v (calls u)) (λ u. v (put calls t c u)) l (λ j h. ap v (put_other calls t c j h)) in
     let x : v (calls t) ≡ v b = ap v e in
     let y : v (put calls t c t) ≡ v c = ap v (put_same calls t c) in
     omega arith
@@ -130,7 +133,8 @@ to s t c = record s { calls = put s.calls t c }
 
 -- All that has to be shown where the call of task t goes on from b to c, and the rest from s to n, where
 -- `aheads` and so on is what is seen of the calls then.
-pub record GoesOn (g : Geometry) (s n : State) (t : ℕ) (b c : Option Call) (aheads passes gones : ℕ → ℕ → ℕ → Bool) (held : ℕ → Option (ℕ × ℕ)) (locked : ℕ → Option ℕ) : Type 0 where
+pub record GoesOn (g : Geometry) (s n : State) (t : ℕ) (b c : Option Call) (aheads passes gones : ℕ → ℕ → ℕ → Bool)
+    (held : ℕ → Option (ℕ × ℕ)) (locked : ℕ → Option ℕ) : Type 0 where
   pub geometry : n.geometry ≡ g
   pub count : (n.resv + less c) + (vacant_of g s.reserved s.pages + more b) ≡ (s.resv + less b) + (vacant_of g n.reserved n.pages + more c)
   pub enough : n.resv ≤ free_frames n.frame n.frames
@@ -150,34 +154,50 @@ pub record GoesOn (g : Geometry) (s n : State) (t : ℕ) (b c : Option Call) (ah
   pub own : Stands g n t c
 
 pub goes_on : (g : Geometry) (s n : State) (t : ℕ) (b c : Option Call) → Inv g s → t < g.tasks + 1 → s.calls t ≡ b
-    → GoesOn g s n t b c (put (λ (u : ℕ). ahead (s.calls u)) t (ahead c)) (put (λ (u : ℕ). passed (s.calls u)) t (passed c)) (put (λ (u : ℕ). gone (s.calls u)) t (gone c)) (put (λ (u : ℕ). slot_held (s.calls u)) t (slot_held c)) (put (λ (u : ℕ). locked_file (s.calls u)) t (locked_file c))
+    → GoesOn g s n t b c (put (λ (u : ℕ). ahead (s.calls u)) t (ahead c))
+    (put (λ (u : ℕ). passed (s.calls u)) t (passed c)) (put (λ (u : ℕ). gone (s.calls u)) t (gone c))
+    (put (λ (u : ℕ). slot_held (s.calls u)) t (slot_held c)) (put (λ (u : ℕ). locked_file (s.calls u)) t (locked_file c))
     → Inv g (record n { calls = put s.calls t c })
 goes_on g s n t b c h l e p =
     let aheads = sym (view_put ahead s.calls t c) in
     record {
       geometry = p.geometry;
-      count = count_after (g.tasks + 1) s.calls t b c s.resv (vacant_of g s.reserved s.pages) n.resv (vacant_of g n.reserved n.pages) l e h.count p.count;
+      count =
+          count_after (g.tasks + 1) s.calls t b c s.resv (vacant_of g s.reserved s.pages) n.resv
+          (vacant_of g n.reserved n.pages) l e h.count p.count;
       enough = p.enough;
       place = subst (λ (hs : ℕ → Option ℕ). Placing n.frames n.frame hs n.pages) (sym (view_put hand s.calls t c)) p.place;
       entries = p.entries;
       ranges = p.ranges;
       spread = p.spread;
       inside = p.inside;
-      sweep = subst (λ (a : ℕ → ℕ → ℕ → Bool). Swept n.size n.reserved n.pages n.areas n.table a (λ u. passed (put s.calls t c u)) (λ u. gone (put s.calls t c u))) aheads
-          (subst (λ (a : ℕ → ℕ → ℕ → Bool). Swept n.size n.reserved n.pages n.areas n.table (put (λ (u : ℕ). ahead (s.calls u)) t (ahead c)) a (λ u. gone (put s.calls t c u))) (sym (view_put passed s.calls t c))
-          (subst (λ (a : ℕ → ℕ → ℕ → Bool). Swept n.size n.reserved n.pages n.areas n.table (put (λ (u : ℕ). ahead (s.calls u)) t (ahead c)) (put (λ (u : ℕ). passed (s.calls u)) t (passed c)) a) (sym (view_put gone s.calls t c)) p.sweep));
+      sweep =
+          subst (λ (a : ℕ → ℕ → ℕ → Bool). Swept n.size n.reserved n.pages n.areas n.table a
+          (λ u. passed (put s.calls t c u)) (λ u. gone (put s.calls t c u))) aheads
+          (subst (λ (a : ℕ → ℕ → ℕ → Bool). Swept n.size n.reserved n.pages n.areas n.table
+          (put (λ (u : ℕ). ahead (s.calls u)) t (ahead c)) a (λ u. gone (put s.calls t c u))) (sym (view_put passed s.calls t c))
+          (subst (λ (a : ℕ → ℕ → ℕ → Bool). Swept n.size n.reserved n.pages n.areas n.table
+          (put (λ (u : ℕ). ahead (s.calls u)) t (ahead c)) (put (λ (u : ℕ). passed (s.calls u)) t (passed c)) a)
+          (sym (view_put gone s.calls t c)) p.sweep));
       reach = subst (λ (a : ℕ → ℕ → ℕ → Bool). (w : ℕ) → IfSome (fills (put s.calls t c w)) (λ k. Reached n.size a k.0 k.1)) aheads
-          (each_call (λ w d. IfSome (fills d) (λ k. Reached n.size (put (λ (u : ℕ). ahead (s.calls u)) t (ahead c)) k.0 k.1)) s.calls t c (λ u d. p.reach u) p.fill);
+          (each_call (λ w d. IfSome (fills d)
+          (λ k. Reached n.size (put (λ (u : ℕ). ahead (s.calls u)) t (ahead c)) k.0 k.1)) s.calls t c (λ u d. p.reach u) p.fill);
       sizes = p.sizes;
       changes = λ f.
-          let a : total (g.tasks + 1) (λ u. opens f (put s.calls t c u)) + opens f b ≡ total (g.tasks + 1) (λ u. opens f (s.calls u)) + opens f c = sum_after (opens f) (g.tasks + 1) s.calls t b c l e in
+          let a : total (g.tasks + 1) (λ u. opens f (put s.calls t c u)) + opens f b ≡ total (g.tasks + 1)
+          (λ u. opens f (s.calls u)) + opens f c = sum_after (opens f) (g.tasks + 1) s.calls t b c l e in
           let x : s.pending f ≡ total (g.tasks + 1) (λ u. opens f (s.calls u)) = h.changes f in
           let y : n.pending f + opens f b ≡ s.pending f + opens f c = p.changes f in
           omega arith;
       spares = p.spares;
-      holders = subst (λ (a : ℕ → Option (ℕ × ℕ)). Holders g n.slots n.locks a (λ u. locked_file (put s.calls t c u))) (sym (view_put slot_held s.calls t c))
-          (subst (λ (a : ℕ → Option ℕ). Holders g n.slots n.locks (put (λ (u : ℕ). slot_held (s.calls u)) t (slot_held c)) a) (sym (view_put locked_file s.calls t c)) p.holders);
-      stands = each_call (Stands g (record n { calls = put s.calls t c })) s.calls t c (λ u d. recall g n (put s.calls t c) u (s.calls u) (p.others u d)) (recall g n (put s.calls t c) t c p.own);
+      holders =
+          subst (λ (a : ℕ → Option (ℕ × ℕ)). Holders g n.slots n.locks a (λ u. locked_file (put s.calls t c u)))
+          (sym (view_put slot_held s.calls t c))
+          (subst (λ (a : ℕ → Option ℕ). Holders g n.slots n.locks
+          (put (λ (u : ℕ). slot_held (s.calls u)) t (slot_held c)) a) (sym (view_put locked_file s.calls t c)) p.holders);
+      stands =
+          each_call (Stands g (record n { calls = put s.calls t c })) s.calls t c
+          (λ u d. recall g n (put s.calls t c) u (s.calls u) (p.others u d)) (recall g n (put s.calls t c) t c p.own);
     }
   where
     recall : (g : Geometry) (n : State) (calls : ℕ → Option Call) (u : ℕ) (c : Option Call) → Stands g n u c
@@ -202,15 +222,21 @@ abbrev pub GoesAs : Geometry → State → State → ℕ → Option Call → Opt
 GoesAs g s n t b c held locked = GoesOn g s n t b c (λ u. ahead (s.calls u)) (λ u. passed (s.calls u)) (λ u. gone (s.calls u)) held locked
 
 pub goes_as : (g : Geometry) (s n : State) (t : ℕ) (b c : Option Call) → Inv g s → t < g.tasks + 1 → s.calls t ≡ b → sweeps c ≡ sweeps b
-    → GoesAs g s n t b c (put (λ (u : ℕ). slot_held (s.calls u)) t (slot_held c)) (put (λ (u : ℕ). locked_file (s.calls u)) t (locked_file c))
+    → GoesAs g s n t b c (put (λ (u : ℕ). slot_held (s.calls u)) t (slot_held c))
+    (put (λ (u : ℕ). locked_file (s.calls u)) t (locked_file c))
     → Inv g (record n { calls = put s.calls t c })
 goes_as g s n t b c h l e same p =
     let held = put (λ (u : ℕ). slot_held (s.calls u)) t (slot_held c) in
     let locked = put (λ (u : ℕ). locked_file (s.calls u)) t (locked_file c) in
     goes_on g s n t b c h l e
-    (subst (λ (a : ℕ → ℕ → ℕ → Bool). GoesOn g s n t b c a (put (λ (u : ℕ). passed (s.calls u)) t (passed c)) (put (λ (u : ℕ). gone (s.calls u)) t (gone c)) held locked) (sym (put_known (λ (u : ℕ). ahead (s.calls u)) t (ahead c) (ap ahead e ∙ sym (ap (λ p. p.0) same))))
-    (subst (λ (a : ℕ → ℕ → ℕ → Bool). GoesOn g s n t b c (λ u. ahead (s.calls u)) a (put (λ (u : ℕ). gone (s.calls u)) t (gone c)) held locked) (sym (put_known (λ (u : ℕ). passed (s.calls u)) t (passed c) (ap passed e ∙ sym (ap (λ p. p.1) same))))
-    (subst (λ (a : ℕ → ℕ → ℕ → Bool). GoesOn g s n t b c (λ u. ahead (s.calls u)) (λ u. passed (s.calls u)) a held locked) (sym (put_known (λ (u : ℕ). gone (s.calls u)) t (gone c) (ap gone e ∙ sym (ap (λ p. p.2) same)))) p)))
+    (subst (λ (a : ℕ → ℕ → ℕ → Bool). GoesOn g s n t b c a (put (λ (u : ℕ). passed (s.calls u)) t (passed c))
+    (put (λ (u : ℕ). gone (s.calls u)) t (gone c)) held locked)
+    (sym (put_known (λ (u : ℕ). ahead (s.calls u)) t (ahead c) (ap ahead e ∙ sym (ap (λ p. p.0) same))))
+    (subst (λ (a : ℕ → ℕ → ℕ → Bool). GoesOn g s n t b c (λ u. ahead (s.calls u)) a
+    (put (λ (u : ℕ). gone (s.calls u)) t (gone c)) held locked)
+    (sym (put_known (λ (u : ℕ). passed (s.calls u)) t (passed c) (ap passed e ∙ sym (ap (λ p. p.1) same))))
+    (subst (λ (a : ℕ → ℕ → ℕ → Bool). GoesOn g s n t b c (λ u. ahead (s.calls u)) (λ u. passed (s.calls u)) a held
+    locked) (sym (put_known (λ (u : ℕ). gone (s.calls u)) t (gone c) (ap gone e ∙ sym (ap (λ p. p.2) same)))) p)))
 
 -- and holds what it did
 abbrev pub Goes : Geometry → State → State → ℕ → Option Call → Option Call → Type 0
@@ -220,13 +246,19 @@ pub goes : (g : Geometry) (s n : State) (t : ℕ) (b c : Option Call) → Inv g 
     → sweeps c ≡ sweeps b → holds c ≡ holds b → Goes g s n t b c → Inv g (record n { calls = put s.calls t c })
 goes g s n t b c h l e same same_held p =
     goes_as g s n t b c h l e same
-    (subst (λ (a : ℕ → Option (ℕ × ℕ)). GoesAs g s n t b c a (put (λ (u : ℕ). locked_file (s.calls u)) t (locked_file c))) (sym (put_known (λ (u : ℕ). slot_held (s.calls u)) t (slot_held c) (ap slot_held e ∙ sym (ap (λ p. p.0) same_held))))
-    (subst (λ (a : ℕ → Option ℕ). GoesAs g s n t b c (λ u. slot_held (s.calls u)) a) (sym (put_known (λ (u : ℕ). locked_file (s.calls u)) t (locked_file c) (ap locked_file e ∙ sym (ap (λ p. p.1) same_held)))) p))
+    (subst (λ (a : ℕ → Option (ℕ × ℕ)). GoesAs g s n t b c a
+    (put (λ (u : ℕ). locked_file (s.calls u)) t (locked_file c)))
+    (sym (put_known (λ (u : ℕ). slot_held (s.calls u)) t (slot_held c) (ap slot_held e ∙ sym (ap (λ p. p.0) same_held))))
+    (subst (λ (a : ℕ → Option ℕ). GoesAs g s n t b c (λ u. slot_held (s.calls u)) a)
+    (sym (put_known (λ (u : ℕ). locked_file (s.calls u)) t (locked_file c)
+    (ap locked_file e ∙ sym (ap (λ p. p.1) same_held)))) p))
 
 -- the frames are where they were
 pub place_same : (g : Geometry) (s : State) (t : ℕ) (b c : Option Call) → Inv g s → s.calls t ≡ b → hand c ≡ hand b
     → Placing s.frames s.frame (put (λ (u : ℕ). hand (s.calls u)) t (hand c)) s.pages
-place_same g s t b c h e d = subst (λ (hs : ℕ → Option ℕ). Placing s.frames s.frame hs s.pages) (sym (put_known (λ (u : ℕ). hand (s.calls u)) t (hand c) (ap hand e ∙ sym d))) h.place
+place_same g s t b c h e d =
+    subst (λ (hs : ℕ → Option ℕ). Placing s.frames s.frame hs s.pages)
+    (sym (put_known (λ (u : ℕ). hand (s.calls u)) t (hand c) (ap hand e ∙ sym d))) h.place
 
 -- the changes open are the same
 pub same_opens : (pending : ℕ → ℕ) (b c : Option Call) → change_in c ≡ change_in b → (f : ℕ) → pending f + opens f b ≡ pending f + opens f c

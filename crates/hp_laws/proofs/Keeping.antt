@@ -29,7 +29,8 @@ use Rattle.hp_laws.proofs.Passing.{locks_file, same_holder}
 use Rattle.hp_laws.proofs.Shared.{stands_at}
 use Rattle.hp_laws.proofs.Runs.{Always}
 use Rattle.hp_laws.proofs.Reading.{begin_cases, step_cases, kill_cases, call_steps, same_state}
-use Rattle.hp_laws.proofs.Promising.{removes, removes_locked, removes_deleted, next_removes, size_set, KeptAt, Kept, never, clash, and_both, same_of}
+use Rattle.hp_laws.proofs.Promising.{removes, removes_locked, removes_deleted, next_removes, size_set, KeptAt, Kept, never, clash}
+use Rattle.hp_laws.proofs.Promising.{and_both, same_of}
 use Rattle.hp_laws.proofs.LastWords.{moment}
 use Rattle.hp_laws.proofs.Histories.{history_well}
 
@@ -89,11 +90,13 @@ kept_step s t grant c o pool next ms k j after h e row kept now = elim now [
   | inl m ↦ (let there : Some c ≡ s.calls m.0 = sym e ∙ ap s.calls (same_task m.3) in
       let p = promising c k j (ap (λ (d : Option Call). can_promise d k j) there ∙ m.5) in
       let leave = subst (λ (d : Call). CallRow (pool_of s) t (is_killed (s.life t)) grant d o pool next) p.1 row in
-      let x = mapped_call s t (is_killed (s.life t)) grant p.0 o pool next m.2 k j h.inv (e ∙ ap (λ (d : Call). Some d) p.1) leave m.4 p.2 p.3 in (
+      let x = mapped_call s t (is_killed (s.life t)) grant p.0 o pool next m.2 k j h.inv
+      (e ∙ ap (λ (d : Call). Some d) p.1) leave m.4 p.2 p.3 in (
         x.1,
         x.2,
         λ u. elim (same_or_other u t) [
-          | inl q ↦ ap (λ (d : ℕ). removes (put s.calls t next d) k j) q ∙ ap (λ (d : Option Call). removes d k j) (put_same s.calls t next ∙ x.0)
+          | inl q ↦ ap (λ (d : ℕ). removes (put s.calls t next d) k j) q
+              ∙ ap (λ (d : Option Call). removes d k j) (put_same s.calls t next ∙ x.0)
           | inr q ↦ ap (λ (d : Option Call). removes d k j) (put_other s.calls t next u q) ∙ x.3 u q
         ],
       ))
@@ -104,16 +107,21 @@ kept_step s t grant c o pool next ms k j after h e row kept now = elim now [
         | inl w ↦ subst (λ (n : State). KeptAt n k j) (sym (same_state s t c pool next e w.2 w.3)) x
         | inr w ↦ (
           (elim (w.keeps k j x.0) [ inl a ↦ a | inr a ↦ clash (removes (Some c) k j) (removes_deleted c k j a s t h.inv e) quiet ]),
-          (elim (w.grows k) [ inl a ↦ (let z = x.1 in omega arith) | inr a ↦ size_set s t (is_killed (s.life t)) grant c o pool next k j row a quiet ]),
+          (elim (w.grows k) [
+            | inl a ↦ (let z = x.1 in omega arith)
+            | inr a ↦
+                size_set s t (is_killed (s.life t)) grant c o pool next k j row a quiet
+          ]),
           λ u. elim (same_or_other u t) [
             | inr q ↦ ap (λ (d : Option Call). removes d k j) (put_other s.calls t next u q) ∙ x.2 u
-            | inl q ↦ ap (λ (d : ℕ). removes (put s.calls t next d) k j) q ∙ (ap (λ (d : Option Call). removes d k j) (put_same s.calls t next) ∙ elim (true_or (removes next k j)) [
-              | inr a ↦ a
-              | inl a ↦ elim (next_removes s t (is_killed (s.life t)) grant c o pool next k j row w.free a) [
-                | inl b ↦ clash (removes (Some c) k j) b quiet
-                | inr b ↦ absurd (still.0 (t, grant, b.0, refl, b.1, ap (λ (d : Option Call). can_take_back d k j) e ∙ b.2))
-              ]
-            ])
+            | inl q ↦ ap (λ (d : ℕ). removes (put s.calls t next d) k j) q
+                ∙ (ap (λ (d : Option Call). removes d k j) (put_same s.calls t next) ∙ elim (true_or (removes next k j)) [
+                  | inr a ↦ a
+                  | inl a ↦ elim (next_removes s t (is_killed (s.life t)) grant c o pool next k j row w.free a) [
+                    | inl b ↦ clash (removes (Some c) k j) b quiet
+                    | inr b ↦ absurd (still.0 (t, grant, b.0, refl, b.1, ap (λ (d : Option Call). can_take_back d k j) e ∙ b.2))
+                  ]
+                ])
           ],
         )
       ])
@@ -160,7 +168,8 @@ kept_row s (Begin t p) o n ms h kept row = begin_cases s t p o n (Kept n (moment
       x.0,
       x.1,
       λ u. elim (same_or_other u t) [
-        | inl q ↦ ap (λ (c : ℕ). removes (put s.calls t (Some (first p)) c) k j) q ∙ (ap (λ (c : Option Call). removes c k j) (put_same s.calls t (Some (first p))) ∙ begun_removes p k j)
+        | inl q ↦ ap (λ (c : ℕ). removes (put s.calls t (Some (first p)) c) k j) q
+            ∙ (ap (λ (c : Option Call). removes c k j) (put_same s.calls t (Some (first p))) ∙ begun_removes p k j)
         | inr q ↦ ap (λ (c : Option Call). removes c k j) (put_other s.calls t (Some (first p)) u q) ∙ x.2 u
       ],
     ))

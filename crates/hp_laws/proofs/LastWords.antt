@@ -79,9 +79,14 @@ places_tell s event o n new h pages frame quiet (f, i, x, new_pages, new_frame, 
       | inl q ↦ (let it : y ≡ x = same_frame (sym page ∙ q.2) in
           let zero : w ≡ 0 = same_word (sym word ∙ (ap (put s.frame x (state.Placed 0)) it ∙ put_same s.frame x (state.Placed 0))) in
           let none : s.pages k j ≡ None = ap (λ (m : ℕ). s.pages m j) q.0 ∙ (ap (s.pages f) q.1 ∙ bare) in
-          inl (inr ((none, λ z. none_some (n.pages k j) z a), zero), λ v sets. elim sets [ inl z ↦ absurd (quiet k j v z) | inr z ↦ z.1 ∙ sym zero ]))
+          inl (
+            inr ((none, λ z. none_some (n.pages k j) z a), zero),
+            λ v sets. elim sets [ inl z ↦ absurd (quiet k j v z) | inr z ↦ z.1 ∙ sym zero ],
+          ))
       | inr q ↦ (let there : s.pages k j ≡ Some y = sym q.1 ∙ page in
-          let other : y ≢ x = λ d. (let z = h.place.pages k j y there in let c : state.Hand ≡ state.Placed z.0 = sym held ∙ (ap s.frame (sym d) ∙ z.1) in absurd (cc)) in
+          let other : y ≢ x = λ d.
+          (let z = h.place.pages k j y there in
+          let c : state.Hand ≡ state.Placed z.0 = sym held ∙ (ap s.frame (sym d) ∙ z.1) in absurd (cc)) in
           inr (not_set s event o n k j y quiet there, there, sym (put_other s.frame x (state.Placed 0) y other) ∙ word))
     ]
 
@@ -97,12 +102,15 @@ stores_tell s event o n f i x old word h page was pages frame wrote only k j y w
       | inl d ↦ (let at = other_page s.frames s.frame _ s.pages f i k j x h.place page (there ∙ ap (λ (m : ℕ). Some m) d) in
           let is : w ≡ word = same_word (sym new ∙ (ap (put s.frame x (state.Placed word)) d ∙ put_same s.frame x (state.Placed word))) in
           inl (
-            subst (λ (m : ℕ). Sets k j (moment s event o n) m) (sym is) (subst (λ (m : ℕ). Sets m j (moment s event o n) word) (sym at.0) (subst (λ (m : ℕ). Sets f m (moment s event o n) word) (sym at.1) (inl wrote))),
+            subst (λ (m : ℕ). Sets k j (moment s event o n) m) (sym is)
+                (subst (λ (m : ℕ). Sets m j (moment s event o n) word) (sym at.0)
+                (subst (λ (m : ℕ). Sets f m (moment s event o n) word) (sym at.1) (inl wrote))),
             λ v sets. elim sets [ inl z ↦ (only k j v z).2 ∙ sym is | inr z ↦ none_some (s.pages k j) z.0.0 there ],
           ))
       | inr d ↦ inr (
         (λ v sets. elim sets [
-          | inl z ↦ (let at = only k j v z in d (same_frame (sym there ∙ (ap (λ (m : ℕ). s.pages m j) at.0 ∙ (ap (s.pages f) at.1 ∙ page)))))
+          | inl z ↦ (let at = only k j v z in
+              d (same_frame (sym there ∙ (ap (λ (m : ℕ). s.pages m j) at.0 ∙ (ap (s.pages f) at.1 ∙ page)))))
           | inr z ↦ none_some (s.pages k j) z.0.0 there
         ]),
         there,
@@ -119,12 +127,16 @@ some_call e = cc
 -- which call a store is written by
 stored_by : (s : State) (t : ℕ) (grant : Bool) (c : Call) (o : Outcome) (n : State) → s.calls t ≡ Some c → (P : Type 0)
     → (f i v : ℕ) → Wrote f i (moment s (Step t grant) o n) v
-    → ((p : Look) → c ≡ call.Touch (touch.Look p) → p.access ≡ Store v → find (s.areas t) p.vpn ≡ Some (f, i) → o ≡ outcome.Ended answer.Done → P)
-    → ((p : Found) → c ≡ call.Touch (touch.Found p) → p.touch.access ≡ Store v → p.touch.file ≡ f → p.touch.index ≡ i → n.calls t ≡ Some (call.Touch (touch.Leave (record { touch = p.touch; answer = answer.Done }))) → P)
+    → ((p : Look) → c ≡ call.Touch (touch.Look p) → p.access ≡ Store v → find (s.areas t) p.vpn ≡ Some (f, i)
+    → o ≡ outcome.Ended answer.Done → P)
+    → ((p : Found) → c ≡ call.Touch (touch.Found p) → p.touch.access ≡ Store v → p.touch.file ≡ f → p.touch.index ≡ i
+    → n.calls t ≡ Some (call.Touch (touch.Leave (record { touch = p.touch; answer = answer.Done }))) → P)
     → P
 stored_by s t grant c o n e P f i v wrote look found = elim wrote [
-  | inl w ↦ (let d : w.0 ≡ t = same_task w.3 in look w.2 (some_call (sym e ∙ (ap s.calls (sym d) ∙ w.4))) w.5 (ap (λ (m : ℕ). find (s.areas m) w.2.vpn) (sym d) ∙ w.6) w.7)
-  | inr w ↦ (let d : w.0 ≡ t = same_task w.3 in found w.2 (some_call (sym e ∙ (ap s.calls (sym d) ∙ w.4))) w.5 w.6 w.7 (ap n.calls (sym d) ∙ w.8))
+  | inl w ↦ (let d : w.0 ≡ t = same_task w.3 in
+      look w.2 (some_call (sym e ∙ (ap s.calls (sym d) ∙ w.4))) w.5 (ap (λ (m : ℕ). find (s.areas m) w.2.vpn) (sym d) ∙ w.6) w.7)
+  | inr w ↦ (let d : w.0 ≡ t = same_task w.3 in
+      found w.2 (some_call (sym e ∙ (ap s.calls (sym d) ∙ w.4))) w.5 w.6 w.7 (ap n.calls (sym d) ∙ w.8))
 ]
 
 quiet_call : (s : State) (t : ℕ) (grant : Bool) (c : Call) (o : Outcome) (n : State) → s.calls t ≡ Some c → reads c ≡ false
@@ -137,7 +149,9 @@ quiet_call s t grant c o n e quiet f i v wrote = stored_by s t grant c o n e ⊥
 quiet_refused : (s : State) (event : Event) (why : Refusal) (o : Outcome) (n : State) → o ≡ outcome.Refused why → n ≡ s → Silent s event o n
 quiet_refused s event why o n e d f i v wrote = elim wrote [
   | inl w ↦ (let z : outcome.Refused why ≡ outcome.Ended answer.Done = sym e ∙ w.7 in cc)
-  | inr w ↦ (let z : call.Touch (touch.Found w.2) ≡ call.Touch (touch.Leave (record { touch = w.2.touch; answer = answer.Done })) = some_call (sym w.4 ∙ (ap (λ (m : State). m.calls w.0) (sym d) ∙ w.8)) in cc)
+  | inr w ↦ (let z : call.Touch (touch.Found w.2) ≡ call.Touch
+      (touch.Leave (record { touch = w.2.touch; answer = answer.Done })) = some_call
+      (sym w.4 ∙ (ap (λ (m : State). m.calls w.0) (sym d) ∙ w.8)) in cc)
 ]
 
 self_tells : (s : State) (event : Event) (o : Outcome) (n : State) → n.pages ≡ s.pages → n.frame ≡ s.frame → Silent s event o n
@@ -151,9 +165,14 @@ look_tells : (s : State) (t : ℕ) (killed grant : Bool) (p : Look) (turn : Turn
     → n.pages ≡ pool.pages → n.frame ≡ pool.frame → Tells s (Step t grant) o n
 look_tells s t killed grant p turn pool o n h e row tells pages frame =
     by_option (find (s.areas t) p.vpn) row
-    (λ none r. self_tells s (Step t grant) o n (pages ∙ ap (λ (m : Pool). m.pages) r.1) (frame ∙ ap (λ (m : Pool). m.frame) r.1) (silent (λ d. (let z : outcome.Ended answer.Segv ≡ outcome.Ended answer.Done = sym (tells ∙ ap (told call.Touch) r.0) ∙ d in cc))))
+    (λ none r. self_tells s (Step t grant) o n (pages ∙ ap (λ (m : Pool). m.pages) r.1)
+    (frame ∙ ap (λ (m : Pool). m.frame) r.1)
+    (silent (λ d. (let z : outcome.Ended answer.Segv ≡ outcome.Ended answer.Done = sym
+    (tells ∙ ap (told call.Touch) r.0) ∙ d in cc))))
     (λ place there r. by_option (s.table t p.vpn) r
-    (λ none r. self_tells s (Step t grant) o n (pages ∙ ap (λ (m : Pool). m.pages) r.1) (frame ∙ ap (λ (m : Pool). m.frame) r.1) (silent (λ d. (let z = sym (tells ∙ ap (told call.Touch) r.0) ∙ d in moved_not_done z))))
+    (λ none r. self_tells s (Step t grant) o n (pages ∙ ap (λ (m : Pool). m.pages) r.1)
+    (frame ∙ ap (λ (m : Pool). m.frame) r.1)
+    (silent (λ d. (let z = sym (tells ∙ ap (told call.Touch) r.0) ∙ d in moved_not_done z))))
     (λ x entry r. reading x entry place there r.0 r.1 r.2 p.access refl))
   where
     moved_not_done : {q : _} → outcome.Moved q ≡ outcome.Ended answer.Done → ⊥
@@ -166,22 +185,37 @@ look_tells s t killed grant p turn pool o n h e row tells pages frame =
     not_found q d = cc
 
     silent : (o ≡ outcome.Ended answer.Done → ⊥) → Silent s (Step t grant) o n
-    silent other f i v wrote = stored_by s t grant (call.Touch (touch.Look p)) o n e ⊥ f i v wrote (λ q d a b k. other k) (λ q d a b k l. not_found q d)
+    silent other f i v wrote =
+        stored_by s t grant (call.Touch (touch.Look p)) o n e ⊥ f i v wrote (λ q d a b k. other k) (λ q d a b k l. not_found q d)
 
     reading : (x : ℕ) → s.table t p.vpn ≡ Some x → (place : ℕ × ℕ) → find (s.areas t) p.vpn ≡ Some place → (word : ℕ)
         → s.frame x ≡ state.Placed word
         → (turn ≡ Ended (answer_of p.access word)) × (pool ≡ record (pool_of s) { frame = frame_after p.access s.frame x })
         → (a : Access) → p.access ≡ a → Tells s (Step t grant) o n
     reading x entry place there word placed r Load is =
-        self_tells s (Step t grant) o n (pages ∙ ap (λ (m : Pool). m.pages) r.1) (frame ∙ (ap (λ (m : Pool). m.frame) r.1 ∙ ap (λ (a : Access). frame_after a s.frame x) is))
-        (silent (λ d. (let z : outcome.Ended (answer.Word word) ≡ outcome.Ended answer.Done = sym (tells ∙ (ap (told call.Touch) r.0 ∙ ap (λ (a : Access). outcome.Ended (answer_of a word)) is)) ∙ d in cc)))
+        self_tells s (Step t grant) o n (pages ∙ ap (λ (m : Pool). m.pages) r.1)
+        (frame ∙ (ap (λ (m : Pool). m.frame) r.1 ∙ ap (λ (a : Access). frame_after a s.frame x) is))
+        (silent (λ d. (let z : outcome.Ended (answer.Word word) ≡ outcome.Ended answer.Done = sym
+        (tells ∙ (ap (told call.Touch) r.0 ∙ ap (λ (a : Access). outcome.Ended (answer_of a word)) is)) ∙ d in cc)))
     reading x entry place there word placed r (Store new) is =
         let k = h.entries.agree t p.vpn x entry in
         let same : k.0 ≡ place = pair_of (sym k.1 ∙ there) in
-        stores_tell s (Step t grant) o n place.0 place.1 x word new h (ap (λ (m : ℕ × ℕ). s.pages m.0 m.1) (sym same) ∙ k.2) placed (pages ∙ ap (λ (m : Pool). m.pages) r.1) (frame ∙ (ap (λ (m : Pool). m.frame) r.1 ∙ ap (λ (a : Access). frame_after a s.frame x) is))
-        (inl (t, grant, p, refl, e, is, there, tells ∙ (ap (told call.Touch) r.0 ∙ ap (λ (a : Access). outcome.Ended (answer_of a word)) is)))
+        stores_tell s (Step t grant) o n place.0 place.1 x word new h
+        (ap (λ (m : ℕ × ℕ). s.pages m.0 m.1) (sym same) ∙ k.2) placed (pages ∙ ap (λ (m : Pool). m.pages) r.1)
+        (frame ∙ (ap (λ (m : Pool). m.frame) r.1 ∙ ap (λ (a : Access). frame_after a s.frame x) is))
+        (inl (
+          t,
+          grant,
+          p,
+          refl,
+          e,
+          is,
+          there,
+          tells ∙ (ap (told call.Touch) r.0 ∙ ap (λ (a : Access). outcome.Ended (answer_of a word)) is),
+        ))
         (λ f i v wrote. stored_by s t grant (call.Touch (touch.Look p)) o n e ((f ≡ place.0) × (i ≡ place.1) × (v ≡ new)) f i v wrote
-        (λ q d a b z. let same_p = same_look q d in let at : (f, i) ≡ place = pair_of (sym b ∙ (ap (λ (m : Look). find (s.areas t) m.vpn) (sym same_p) ∙ there)) in
+        (λ q d a b z. let same_p = same_look q d in
+        let at : (f, i) ≡ place = pair_of (sym b ∙ (ap (λ (m : Look). find (s.areas t) m.vpn) (sym same_p) ∙ there)) in
         (ap (λ (m : ℕ × ℕ). m.0) at, ap (λ (m : ℕ × ℕ). m.1) at, same_store (sym a ∙ (ap (λ (m : Look). m.access) (sym same_p) ∙ is))))
         (λ q d a b z l. absurd (not_found q d)))
       where
@@ -213,24 +247,52 @@ found_tells s t grant p turn pool o n h e row next pages frame =
 
     silent : (a : Answer) → n.calls t ≡ Some (call.Touch (touch.Leave (record { touch = p.touch; answer = a })))
         → (a ≡ answer.Done → ⊥) → Silent s (Step t grant) o n
-    silent a now other f i v wrote = stored_by s t grant (call.Touch (touch.Found p)) o n e ⊥ f i v wrote (λ q d b c k. not_look q d) (λ q d b c k l. other (ap (λ (m : Leave). m.answer) (same_leave (sym now ∙ l))))
+    silent a now other f i v wrote =
+        stored_by s t grant (call.Touch (touch.Found p)) o n e ⊥ f i v wrote (λ q d b c k. not_look q d)
+        (λ q d b c k l. other (ap (λ (m : Leave). m.answer) (same_leave (sym now ∙ l))))
 
     plain : (a : Answer) → (turn ≡ Moved (touch.Leave (record { touch = p.touch; answer = a }))) × (pool ≡ pool_of s)
         → (a ≡ answer.Done → ⊥) → Tells s (Step t grant) o n
-    plain a r other = self_tells s (Step t grant) o n (pages ∙ ap (λ (m : Pool). m.pages) r.1) (frame ∙ ap (λ (m : Pool). m.frame) r.1) (silent a (next ∙ ap (left call.Touch) r.0) other)
+    plain a r other =
+        self_tells s (Step t grant) o n (pages ∙ ap (λ (m : Pool). m.pages) r.1)
+        (frame ∙ ap (λ (m : Pool). m.frame) r.1) (silent a (next ∙ ap (left call.Touch) r.0) other)
 
     reading : (x word : ℕ) → s.pages p.touch.file p.touch.index ≡ Some x → s.frame x ≡ state.Placed word
-        → (turn ≡ Moved (touch.Leave (record { touch = p.touch; answer = answer_of p.touch.access word }))) × (pool ≡ record (pool_of s) { table = put2 s.table t p.touch.vpn (Some x); frame = frame_after p.touch.access s.frame x })
+        → (turn ≡ Moved (touch.Leave (record { touch = p.touch; answer = answer_of p.touch.access word })))
+        × (pool ≡ record (pool_of s) {
+          table = put2 s.table t p.touch.vpn (Some x);
+          frame = frame_after p.touch.access s.frame x;
+        })
         → (a : Access) → p.touch.access ≡ a → Tells s (Step t grant) o n
     reading x word page placed r Load is =
-        self_tells s (Step t grant) o n (pages ∙ ap (λ (m : Pool). m.pages) r.1) (frame ∙ (ap (λ (m : Pool). m.frame) r.1 ∙ ap (λ (a : Access). frame_after a s.frame x) is))
-        (silent (answer_of p.touch.access word) (next ∙ ap (left call.Touch) r.0) (λ d. (let z : answer.Word word ≡ answer.Done = sym (ap (λ (a : Access). answer_of a word) is) ∙ d in cc)))
+        self_tells s (Step t grant) o n (pages ∙ ap (λ (m : Pool). m.pages) r.1)
+        (frame ∙ (ap (λ (m : Pool). m.frame) r.1 ∙ ap (λ (a : Access). frame_after a s.frame x) is))
+        (silent (answer_of p.touch.access word) (next ∙ ap (left call.Touch) r.0)
+        (λ d. (let z : answer.Word word ≡ answer.Done = sym (ap (λ (a : Access). answer_of a word) is) ∙ d in cc)))
     reading x word page placed r (Store new) is =
-        stores_tell s (Step t grant) o n p.touch.file p.touch.index x word new h page placed (pages ∙ ap (λ (m : Pool). m.pages) r.1) (frame ∙ (ap (λ (m : Pool). m.frame) r.1 ∙ ap (λ (a : Access). frame_after a s.frame x) is))
-        (inr (t, grant, p, refl, e, is, refl, refl, next ∙ (ap (left call.Touch) r.0 ∙ ap (λ (a : Access). Some (call.Touch (touch.Leave (record { touch = p.touch; answer = answer_of a word })))) is)))
-        (λ f i v wrote. stored_by s t grant (call.Touch (touch.Found p)) o n e ((f ≡ p.touch.file) × (i ≡ p.touch.index) × (v ≡ new)) f i v wrote
+        stores_tell s (Step t grant) o n p.touch.file p.touch.index x word new h page placed
+        (pages ∙ ap (λ (m : Pool). m.pages) r.1)
+        (frame ∙ (ap (λ (m : Pool). m.frame) r.1 ∙ ap (λ (a : Access). frame_after a s.frame x) is))
+        (inr (
+          t,
+          grant,
+          p,
+          refl,
+          e,
+          is,
+          refl,
+          refl,
+          next ∙ (ap (left call.Touch) r.0
+              ∙ ap (λ (a : Access). Some (call.Touch (touch.Leave (record { touch = p.touch; answer = answer_of a word })))) is),
+        ))
+        (λ f i v wrote. stored_by s t grant (call.Touch (touch.Found p)) o n e
+        ((f ≡ p.touch.file) × (i ≡ p.touch.index) × (v ≡ new)) f i v wrote
         (λ q d a b z. absurd (not_look q d))
-        (λ q d a b c l. let same = same_found q d in (sym b ∙ ap (λ (m : Found). m.touch.file) (sym same), sym c ∙ ap (λ (m : Found). m.touch.index) (sym same), same_store (sym a ∙ (ap (λ (m : Found). m.touch.access) (sym same) ∙ is)))))
+        (λ q d a b c l. let same = same_found q d in (
+          sym b ∙ ap (λ (m : Found). m.touch.file) (sym same),
+          sym c ∙ ap (λ (m : Found). m.touch.index) (sym same),
+          same_store (sym a ∙ (ap (λ (m : Found). m.touch.access) (sym same) ∙ is)),
+        )))
       where
         same_store : {a b : ℕ} → Store a ≡ Store b → a ≡ b
         same_store z = cc
@@ -247,38 +309,62 @@ step_tells : (s : State) (t : ℕ) (killed grant : Bool) (c : Call) (o : Outcome
     → Inv s.geometry s → s.calls t ≡ Some c → CallRow (pool_of s) t killed grant c o pool next → n.calls t ≡ next
     → n.pages ≡ pool.pages → n.frame ≡ pool.frame → Tells s (Step t grant) o n
 unfolding CallRow
-step_tells s t killed grant (call.Touch (touch.Look p)) o pool next n h e (turn, row, tells, leaves) calls pages frame = look_tells s t killed grant p turn pool o n h e row tells pages frame
-step_tells s t killed grant (call.Touch (touch.Found p)) o pool next n h e (turn, row, tells, leaves) calls pages frame = found_tells s t grant p turn pool o n h e row (calls ∙ leaves) pages frame
-step_tells s t killed grant (call.Touch (touch.Want p)) o pool next n h e row calls pages frame = by_pages s t killed grant (call.Touch (touch.Want p)) o pool next n refl h e row pages frame
-step_tells s t killed grant (call.Touch (touch.Locked p)) o pool next n h e row calls pages frame = by_pages s t killed grant (call.Touch (touch.Locked p)) o pool next n refl h e row pages frame
-step_tells s t killed grant (call.Touch (touch.Missing p)) o pool next n h e row calls pages frame = by_pages s t killed grant (call.Touch (touch.Missing p)) o pool next n refl h e row pages frame
-step_tells s t killed grant (call.Touch (touch.Changed p)) o pool next n h e row calls pages frame = by_pages s t killed grant (call.Touch (touch.Changed p)) o pool next n refl h e row pages frame
-step_tells s t killed grant (call.Touch (touch.Abort p)) o pool next n h e row calls pages frame = by_pages s t killed grant (call.Touch (touch.Abort p)) o pool next n refl h e row pages frame
-step_tells s t killed grant (call.Touch (touch.Taken p)) o pool next n h e row calls pages frame = by_pages s t killed grant (call.Touch (touch.Taken p)) o pool next n refl h e row pages frame
-step_tells s t killed grant (call.Touch (touch.Settle p)) o pool next n h e row calls pages frame = by_pages s t killed grant (call.Touch (touch.Settle p)) o pool next n refl h e row pages frame
-step_tells s t killed grant (call.Touch (touch.Committed p)) o pool next n h e row calls pages frame = by_pages s t killed grant (call.Touch (touch.Committed p)) o pool next n refl h e row pages frame
-step_tells s t killed grant (call.Touch (touch.Restore p)) o pool next n h e row calls pages frame = by_pages s t killed grant (call.Touch (touch.Restore p)) o pool next n refl h e row pages frame
-step_tells s t killed grant (call.Touch (touch.Leave p)) o pool next n h e row calls pages frame = by_pages s t killed grant (call.Touch (touch.Leave p)) o pool next n refl h e row pages frame
-step_tells s t killed grant (call.Map p) o pool next n h e row calls pages frame = by_pages s t killed grant (call.Map p) o pool next n refl h e row pages frame
-step_tells s t killed grant (call.Alloc p) o pool next n h e row calls pages frame = by_pages s t killed grant (call.Alloc p) o pool next n refl h e row pages frame
-step_tells s t killed grant (call.Punch p) o pool next n h e row calls pages frame = by_pages s t killed grant (call.Punch p) o pool next n refl h e row pages frame
-step_tells s t killed grant (call.Truncate p) o pool next n h e row calls pages frame = by_pages s t killed grant (call.Truncate p) o pool next n refl h e row pages frame
-step_tells s t killed grant (call.Unmap p) o pool next n h e row calls pages frame = by_pages s t killed grant (call.Unmap p) o pool next n refl h e row pages frame
-step_tells s t killed grant (call.Exit p) o pool next n h e row calls pages frame = by_pages s t killed grant (call.Exit p) o pool next n refl h e row pages frame
+step_tells s t killed grant (call.Touch (touch.Look p)) o pool next n h e (turn, row, tells, leaves) calls pages frame =
+    look_tells s t killed grant p turn pool o n h e row tells pages frame
+step_tells s t killed grant (call.Touch (touch.Found p)) o pool next n h e (turn, row, tells, leaves) calls pages frame =
+    found_tells s t grant p turn pool o n h e row (calls ∙ leaves) pages frame
+step_tells s t killed grant (call.Touch (touch.Want p)) o pool next n h e row calls pages frame =
+    by_pages s t killed grant (call.Touch (touch.Want p)) o pool next n refl h e row pages frame
+step_tells s t killed grant (call.Touch (touch.Locked p)) o pool next n h e row calls pages frame =
+    by_pages s t killed grant (call.Touch (touch.Locked p)) o pool next n refl h e row pages frame
+step_tells s t killed grant (call.Touch (touch.Missing p)) o pool next n h e row calls pages frame =
+    by_pages s t killed grant (call.Touch (touch.Missing p)) o pool next n refl h e row pages frame
+step_tells s t killed grant (call.Touch (touch.Changed p)) o pool next n h e row calls pages frame =
+    by_pages s t killed grant (call.Touch (touch.Changed p)) o pool next n refl h e row pages frame
+step_tells s t killed grant (call.Touch (touch.Abort p)) o pool next n h e row calls pages frame =
+    by_pages s t killed grant (call.Touch (touch.Abort p)) o pool next n refl h e row pages frame
+step_tells s t killed grant (call.Touch (touch.Taken p)) o pool next n h e row calls pages frame =
+    by_pages s t killed grant (call.Touch (touch.Taken p)) o pool next n refl h e row pages frame
+step_tells s t killed grant (call.Touch (touch.Settle p)) o pool next n h e row calls pages frame =
+    by_pages s t killed grant (call.Touch (touch.Settle p)) o pool next n refl h e row pages frame
+step_tells s t killed grant (call.Touch (touch.Committed p)) o pool next n h e row calls pages frame =
+    by_pages s t killed grant (call.Touch (touch.Committed p)) o pool next n refl h e row pages frame
+step_tells s t killed grant (call.Touch (touch.Restore p)) o pool next n h e row calls pages frame =
+    by_pages s t killed grant (call.Touch (touch.Restore p)) o pool next n refl h e row pages frame
+step_tells s t killed grant (call.Touch (touch.Leave p)) o pool next n h e row calls pages frame =
+    by_pages s t killed grant (call.Touch (touch.Leave p)) o pool next n refl h e row pages frame
+step_tells s t killed grant (call.Map p) o pool next n h e row calls pages frame =
+    by_pages s t killed grant (call.Map p) o pool next n refl h e row pages frame
+step_tells s t killed grant (call.Alloc p) o pool next n h e row calls pages frame =
+    by_pages s t killed grant (call.Alloc p) o pool next n refl h e row pages frame
+step_tells s t killed grant (call.Punch p) o pool next n h e row calls pages frame =
+    by_pages s t killed grant (call.Punch p) o pool next n refl h e row pages frame
+step_tells s t killed grant (call.Truncate p) o pool next n h e row calls pages frame =
+    by_pages s t killed grant (call.Truncate p) o pool next n refl h e row pages frame
+step_tells s t killed grant (call.Unmap p) o pool next n h e row calls pages frame =
+    by_pages s t killed grant (call.Unmap p) o pool next n refl h e row pages frame
+step_tells s t killed grant (call.Exit p) o pool next n h e row calls pages frame =
+    by_pages s t killed grant (call.Exit p) o pool next n refl h e row pages frame
 
 pub row_tells : (s : State) (event : Event) (o : Outcome) (n : State) → Always s → Row s event o n → Tells s event o n
 row_tells s (Begin u p) o n h row = begin_cases s u p o n (Tells s (Begin u p) o n) row
-    (λ why e d. self_tells s (Begin u p) o n (ap (λ (m : State). m.pages) d) (ap (λ (m : State). m.frame) d) (quiet_refused s (Begin u p) why o n e d))
-    (λ lives none may e d. self_tells s (Begin u p) o n (ap (λ (m : State). m.pages) d) (ap (λ (m : State). m.frame) d) (λ f i v wrote. elim wrote [ inl w ↦ begin_step w.3 | inr w ↦ begin_step w.3 ]))
+    (λ why e d. self_tells s (Begin u p) o n (ap (λ (m : State). m.pages) d) (ap (λ (m : State). m.frame) d)
+    (quiet_refused s (Begin u p) why o n e d))
+    (λ lives none may e d. self_tells s (Begin u p) o n (ap (λ (m : State). m.pages) d)
+    (ap (λ (m : State). m.frame) d) (λ f i v wrote. elim wrote [ inl w ↦ begin_step w.3 | inr w ↦ begin_step w.3 ]))
   where
     begin_step : {t : ℕ} {g : Bool} → Begin u p ≡ Step t g → ⊥
     begin_step z = cc
 row_tells s (Kill u) o n h row = kill_cases s u o n (Tells s (Kill u) o n) row
-    (λ why e d. self_tells s (Kill u) o n (ap (λ (m : State). m.pages) d) (ap (λ (m : State). m.frame) d) (quiet_refused s (Kill u) why o n e d))
-    (λ alive e d. self_tells s (Kill u) o n (ap (λ (m : State). m.pages) d) (ap (λ (m : State). m.frame) d) (λ f i v wrote. elim wrote [ inl w ↦ kill_step w.3 | inr w ↦ kill_step w.3 ]))
+    (λ why e d. self_tells s (Kill u) o n (ap (λ (m : State). m.pages) d) (ap (λ (m : State). m.frame) d)
+    (quiet_refused s (Kill u) why o n e d))
+    (λ alive e d. self_tells s (Kill u) o n (ap (λ (m : State). m.pages) d) (ap (λ (m : State). m.frame) d)
+    (λ f i v wrote. elim wrote [ inl w ↦ kill_step w.3 | inr w ↦ kill_step w.3 ]))
   where
     kill_step : {t : ℕ} {g : Bool} → Kill u ≡ Step t g → ⊥
     kill_step z = cc
 row_tells s (Step t grant) o n h row = step_cases s t grant o n (Tells s (Step t grant) o n) row
-    (λ why e d. self_tells s (Step t grant) o n (ap (λ (m : State). m.pages) d) (ap (λ (m : State). m.frame) d) (quiet_refused s (Step t grant) why o n e d))
-    (λ c lives e pool next r d. step_tells s t (is_killed (s.life t)) grant c o pool next n h.inv e r (ap (λ (m : State). m.calls t) d ∙ put_same s.calls t next) (ap (λ (m : State). m.pages) d) (ap (λ (m : State). m.frame) d))
+    (λ why e d. self_tells s (Step t grant) o n (ap (λ (m : State). m.pages) d) (ap (λ (m : State). m.frame) d)
+    (quiet_refused s (Step t grant) why o n e d))
+    (λ c lives e pool next r d. step_tells s t (is_killed (s.life t)) grant c o pool next n h.inv e r
+    (ap (λ (m : State). m.calls t) d ∙ put_same s.calls t next) (ap (λ (m : State). m.pages) d) (ap (λ (m : State). m.frame) d))

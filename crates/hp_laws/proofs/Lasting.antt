@@ -61,14 +61,17 @@ none_missing m e d = absurd (never m e d)
 past_turn : (s : State) (t : ℕ) (killed grant : Bool) (i : ℕ) (phase : AllocPhase) (turn : Turn AllocPhase) (new : Pool)
     → Past i phase → AllocRow (pool_of s) t killed grant phase turn new → TurnWell AllocPhase (Past i) Any turn
 past_turn s t killed grant i (alloc.Start p) turn new h row = absurd h
-past_turn s t killed grant i (alloc.Head p) turn new h row = by_test killed row (λ _ r. at_leaf (Past i) Any _ turn r.0 tt) (λ _ r. at_leaf (Past i) Any _ turn r.0 h)
+past_turn s t killed grant i (alloc.Head p) turn new h row =
+    by_test killed row (λ _ r. at_leaf (Past i) Any _ turn r.0 tt) (λ _ r. at_leaf (Past i) Any _ turn r.0 h)
 past_turn s t killed grant i (alloc.Want p) turn new h row = by_test killed row
     (λ _ r. at_leaf (Past i) Any _ turn r.0 tt)
-    (λ _ r. by_option (s.slots (slot_of s.geometry p.allocation.file p.index)) r (λ _ r. at_leaf (Past i) Any _ turn r.0 h) (λ u _ r. at_leaf (Past i) Any (Blocked (alloc.Want p) u) turn r.0 h))
+    (λ _ r. by_option (s.slots (slot_of s.geometry p.allocation.file p.index)) r
+    (λ _ r. at_leaf (Past i) Any _ turn r.0 h) (λ u _ r. at_leaf (Past i) Any (Blocked (alloc.Want p) u) turn r.0 h))
 past_turn s t killed grant i (alloc.Locked p) turn new h row = by_test (is_some (s.pages p.allocation.file p.index)) row
     (λ _ r. at_leaf (Past i) Any _ turn r.0 (low i p.index h, λ e. beyond i p.index h e))
     (λ _ r. at_leaf (Past i) Any _ turn r.0 h)
-past_turn s t killed grant i (alloc.Missing p) turn new h row = by_test ((s.spare p.allocation.file == s.pending p.allocation.file) && not grant) row
+past_turn s t killed grant i (alloc.Missing p) turn new h row =
+    by_test ((s.spare p.allocation.file == s.pending p.allocation.file) && not grant) row
     (λ _ r. at_leaf (Past i) Any _ turn r.0 (low i p.index h, λ e. beyond i p.index h e))
     (λ _ r. at_leaf (Past i) Any _ turn r.0 (low i p.index h, λ e. beyond i p.index h e))
 past_turn s t killed grant i (alloc.Changed p) turn new h row = by_test killed row
@@ -79,7 +82,8 @@ past_turn s t killed grant i (alloc.Changed p) turn new h row = by_test killed r
     (λ _ r. at_leaf (Past i) Any _ turn r.0 (h.0, λ e. none_missing p.pending.missing (h.1 e) some))
     (λ _ r. at_leaf (Past i) Any _ turn r.2.0 h.0)))
 past_turn s t killed grant i (alloc.Abort p) turn new h row = at_leaf (Past i) Any _ turn row.0 (h.0, λ e z. h.1 e (same_answer z))
-past_turn s t killed grant i (alloc.Taken p) turn new h row = sure_commit (Past i) Any s p.allocation.file p.pending.from p.pending.to p.pending.missing _ _ turn new row h h
+past_turn s t killed grant i (alloc.Taken p) turn new h row =
+    sure_commit (Past i) Any s p.allocation.file p.pending.from p.pending.to p.pending.missing _ _ turn new row h h
 past_turn s t killed grant i (alloc.Settle p) turn new h (some, row) = at_leaf (Past i) Any _ turn row.0 h
 past_turn s t killed grant i (alloc.Committed p) turn new h row = by_test grant row
     (λ _ r. at_leaf (Past i) Any _ turn r.0 (h, λ e z. cc))
@@ -106,7 +110,8 @@ next_past i (Ended a) h = tt
 past_call : (s : State) (t : ℕ) (killed grant : Bool) (i : ℕ) (c : Call) (o : Outcome) (pool : Pool) (next : Option Call)
     → CallPast i (Some c) → CallRow (pool_of s) t killed grant c o pool next → CallPast i next
 unfolding CallRow
-past_call s t killed grant i (call.Alloc p) o pool next w (turn, row, tells, leaves) = subst (CallPast i) (sym leaves) (next_past i turn (past_turn s t killed grant i p turn pool w row))
+past_call s t killed grant i (call.Alloc p) o pool next w (turn, row, tells, leaves) =
+    subst (CallPast i) (sym leaves) (next_past i turn (past_turn s t killed grant i p turn pool w row))
 past_call s t killed grant i (call.Touch p) o pool next w row = absurd w
 past_call s t killed grant i (call.Map p) o pool next w row = absurd w
 past_call s t killed grant i (call.Punch p) o pool next w row = absurd w
@@ -124,7 +129,8 @@ past_row s t i event o n h quiet w row = own_or_same s t event o n (CallPast i (
 past_run : (t i : ℕ) (s : State) (es : List (Event × Outcome)) (n : State) → Run s es n → Always s → calls_begun t es ≡ 0
     → CallPast i (s.calls t) → CallPast i (n.calls t)
 past_run t i s [] n r h quiet w = subst (λ (m : State). CallPast i (m.calls t)) (sym r) w
-past_run t i s (e ∷ es) n r h quiet w = past_run t i r.0 es n r.2 (row_keeps s e.0 e.1 r.0 h r.1) (omega arith) (past_row s t i e.0 e.1 r.0 h (omega arith) w r.1)
+past_run t i s (e ∷ es) n r h quiet w =
+    past_run t i r.0 es n r.2 (row_keeps s e.0 e.1 r.0 h r.1) (omega arith) (past_row s t i e.0 e.1 r.0 h (omega arith) w r.1)
 
 -- an allocation whose change found nothing missing at an index doesn't leave that index for want of a frame
 pub alloc_never_lacks : (s : State) (t : ℕ) (p : Changed) (rest : List (Event × Outcome)) (n : State) (q : Unslot)
@@ -132,5 +138,6 @@ pub alloc_never_lacks : (s : State) (t : ℕ) (p : Changed) (rest : List (Event 
     → calls_begun t rest ≡ 0 → n.calls t ≡ Some (call.Alloc (alloc.Unslot q)) → q.index ≡ p.index → q.answer ≢ Some answer.NoFrame
 alloc_never_lacks s t p rest n q reached e none run quiet there same =
     let start : CallPast p.index (s.calls t) = subst (CallPast p.index) (sym e) (omega arith, λ z. none) in
-    let w : CallPast p.index (Some (call.Alloc (alloc.Unslot q))) = subst (CallPast p.index) there (past_run t p.index s rest n run (always s reached) quiet start) in
+    let w : CallPast p.index (Some (call.Alloc (alloc.Unslot q))) =
+    subst (CallPast p.index) there (past_run t p.index s rest n run (always s reached) quiet start) in
     w.1 same

@@ -41,7 +41,8 @@ use Rattle.hp_machine.specs.declared.call.Call.{Call}
 use Rattle.hp_machine.specs.declared.call.Call.TheVariants as call
 use Rattle.hp_machine.specs.declared.call.Turn.{Turn}
 use Rattle.hp_machine.specs.declared.call.Turn.TheVariants.{Moved, Blocked, Ended}
-use Rattle.hp_laws.proofs.Meets.{HasPage, TouchStands, MapStands, AllocStands, PunchStands, TruncateStands, touch_stands, map_stands, alloc_stands, punch_stands, truncate_stands, entry_placed, resv_covered, page_inside}
+use Rattle.hp_laws.proofs.Meets.{HasPage, TouchStands, MapStands, AllocStands, PunchStands, TruncateStands, touch_stands}
+use Rattle.hp_laws.proofs.Meets.{map_stands, alloc_stands, punch_stands, truncate_stands, entry_placed, resv_covered, page_inside}
 
 -- some turn and some state after it meet the row
 abbrev Leads : {P : Type 0} → (Turn P → Pool → Type 0) → Type 0
@@ -70,7 +71,10 @@ witness x q (turn, new, row) = (turn, new, (x, q, row))
 start : {P : Type 0} (s : Pool) (t : ℕ) (killed : Bool) (f : ℕ) (bad : Bool) (at_kill : Answer) (here next : P)
     → Leads (StartRow s t killed f bad at_kill here next)
 start s t killed f bad at_kill here next =
-    test (nat_le s.geometry.files f) (λ _. ends _ s) (λ _. test bad (λ _. ends _ s) (λ _. test killed (λ _. ends at_kill s) (λ _. option (s.locks f) (λ _. goes next _) (λ u _. (Blocked here u, s, (refl, refl))))))
+    test (nat_le s.geometry.files f) (λ _. ends _ s)
+    (λ _. test bad (λ _. ends _ s)
+    (λ _. test killed (λ _. ends at_kill s)
+    (λ _. option (s.locks f) (λ _. goes next _) (λ u _. (Blocked here u, s, (refl, refl))))))
 
 want : {P : Type 0} (s : Pool) (t f i : ℕ) (here next : P) → Leads (WantSlotRow s t f i here next)
 want s t f i here next = option (s.slots (slot_of s.geometry f i)) (λ _. goes next _) (λ u _. (Blocked here u, s, (refl, refl)))
@@ -99,8 +103,10 @@ take : {P : Type 0} (s : State) (m : ℕ) (no_frame : P) (taken : ℕ → P) →
     → (m ≡ 0 → 1 ≤ s.resv) → Leads (TakeRow (pool_of s) m no_frame taken)
 take s m no_frame taken covered reserved =
     test (m == 0)
-    (λ none. let low = reserved (is_nil m none) in let x = some_free s.frame s.frames (omega arith) in (Moved (taken x.0), _, (x.0, x.1, low, (refl, refl))))
-    (λ some. test (frees (pool_of s) == s.resv) (λ _. goes no_frame (pool_of s)) (λ left. let x = some_free s.frame s.frames (more _ _ left covered) in (Moved (taken x.0), _, (x.0, x.1, (refl, refl)))))
+    (λ none. let low = reserved (is_nil m none) in let x = some_free s.frame s.frames (omega arith) in
+    (Moved (taken x.0), _, (x.0, x.1, low, (refl, refl))))
+    (λ some. test (frees (pool_of s) == s.resv) (λ _. goes no_frame (pool_of s))
+    (λ left. let x = some_free s.frame s.frames (more _ _ left covered) in (Moved (taken x.0), _, (x.0, x.1, (refl, refl)))))
   where
     more : (a b : ℕ) → (a == b) ≡ false → b ≤ a → 1 ≤ a
     more a b e l = grind (arith, nat_tests)
@@ -127,17 +133,30 @@ some_end s f reached =
 
 touch_leads : (s : State) (t : ℕ) (killed grant : Bool) (phase : TouchPhase) → IsReached s → TouchStands s t phase
     → Leads (TouchRow (pool_of s) t killed grant phase)
-touch_leads s t killed grant (touch.Look p) reached y = option (find (s.areas t) p.vpn) (λ _. ends _ (pool_of s)) (λ place _. option (s.table t p.vpn) (λ _. goes _ (pool_of s)) (λ x entry. let o = entry_placed s t p.vpn x reached entry in (Ended _, _, (o.0, o.1, (refl, refl)))))
-touch_leads s t killed grant (touch.Want p) reached y = test killed (λ _. ends _ (pool_of s)) (λ _. want (pool_of s) t p.touch.file p.touch.index _ _)
-touch_leads s t killed grant (touch.Locked p) reached y = test (nat_le (s.size p.touch.file) p.touch.index) (λ _. goes _ (pool_of s)) (λ _. test (is_some (s.pages p.touch.file p.touch.index)) (λ _. goes _ (pool_of s)) (λ _. goes _ (pool_of s)))
-touch_leads s t killed grant (touch.Missing p) reached y = change (pool_of s) grant p.touch.file p.touch.index (p.touch.index + 1) _ (λ c. touch.Changed (record { touch = p.touch; pending = c }))
-touch_leads s t killed grant (touch.Changed p) reached y = test killed (λ _. goes _ (pool_of s)) (λ _. take s p.pending.missing _ _ (resv_covered s reached) y.enough)
+touch_leads s t killed grant (touch.Look p) reached y =
+    option (find (s.areas t) p.vpn) (λ _. ends _ (pool_of s))
+    (λ place _. option (s.table t p.vpn) (λ _. goes _ (pool_of s))
+    (λ x entry. let o = entry_placed s t p.vpn x reached entry in (Ended _, _, (o.0, o.1, (refl, refl)))))
+touch_leads s t killed grant (touch.Want p) reached y =
+    test killed (λ _. ends _ (pool_of s)) (λ _. want (pool_of s) t p.touch.file p.touch.index _ _)
+touch_leads s t killed grant (touch.Locked p) reached y =
+    test (nat_le (s.size p.touch.file) p.touch.index) (λ _. goes _ (pool_of s))
+    (λ _. test (is_some (s.pages p.touch.file p.touch.index)) (λ _. goes _ (pool_of s)) (λ _. goes _ (pool_of s)))
+touch_leads s t killed grant (touch.Missing p) reached y =
+    change (pool_of s) grant p.touch.file p.touch.index (p.touch.index + 1) _
+    (λ c. touch.Changed (record { touch = p.touch; pending = c }))
+touch_leads s t killed grant (touch.Changed p) reached y =
+    test killed (λ _. goes _ (pool_of s)) (λ _. take s p.pending.missing _ _ (resv_covered s reached) y.enough)
 touch_leads s t killed grant (touch.Abort p) reached y = goes _ _
 touch_leads s t killed grant (touch.Taken p) reached y = commit (pool_of s) p.touch.file p.pending _ _
 touch_leads s t killed grant (touch.Settle p) reached y = (Moved _, _, (y.enough, (refl, refl)))
-touch_leads s t killed grant (touch.Committed p) reached y = test (nat_le (s.size p.touch.file) p.touch.index) (λ _. goes _ (pool_of s)) (λ _. test grant (λ _. goes _ _) (λ _. goes _ (pool_of s)))
+touch_leads s t killed grant (touch.Committed p) reached y =
+    test (nat_le (s.size p.touch.file) p.touch.index) (λ _. goes _ (pool_of s))
+    (λ _. test grant (λ _. goes _ _) (λ _. goes _ (pool_of s)))
 touch_leads s t killed grant (touch.Restore p) reached y = goes _ _
-touch_leads s t killed grant (touch.Found p) reached y = test (nat_le (s.size p.touch.file) p.touch.index) (λ _. goes _ (pool_of s)) (λ _. test grant (λ _. let o = y.page in (Moved _, _, (o.0, o.1, o.2, o.3, (refl, refl)))) (λ _. goes _ (pool_of s)))
+touch_leads s t killed grant (touch.Found p) reached y =
+    test (nat_le (s.size p.touch.file) p.touch.index) (λ _. goes _ (pool_of s))
+    (λ _. test grant (λ _. let o = y.page in (Moved _, _, (o.0, o.1, o.2, o.3, (refl, refl)))) (λ _. goes _ (pool_of s)))
 touch_leads s t killed grant (touch.Leave p) reached y = ends _ _
 
 map_leads : (s : State) (t : ℕ) (killed grant : Bool) (phase : MapPhase) → IsReached s → MapStands s t phase
@@ -145,11 +164,17 @@ map_leads : (s : State) (t : ℕ) (killed grant : Bool) (phase : MapPhase) → I
 map_leads s t killed grant (map.Start p) reached y = start (pool_of s) t killed p.map.file _ _ _ _
 map_leads s t killed grant (map.Room p) reached y =
     let o = some_room s.geometry.space (s.areas t) p.map.len in
-    witness o.0 o.1 (option o.0 (λ _. goes _ (pool_of s)) (λ base _. test grant (λ _. test p.map.reserve (λ _. goes _ _) (λ _. goes _ _)) (λ _. goes _ (pool_of s))))
-map_leads s t killed grant (map.Missing p) reached y = change (pool_of s) grant p.map.file p.map.from (p.map.from + p.map.len) _ (λ c. map.Changed (record { map = p.map; base = p.base; pending = c }))
-map_leads s t killed grant (map.Changed p) reached y = test killed (λ _. goes _ (pool_of s)) (λ _. test (nat_lt (frees (pool_of s) - s.resv) p.pending.missing) (λ _. goes _ (pool_of s)) (λ _. goes _ _))
+    witness o.0 o.1 (option o.0 (λ _. goes _ (pool_of s))
+    (λ base _. test grant (λ _. test p.map.reserve (λ _. goes _ _) (λ _. goes _ _)) (λ _. goes _ (pool_of s))))
+map_leads s t killed grant (map.Missing p) reached y =
+    change (pool_of s) grant p.map.file p.map.from (p.map.from + p.map.len) _
+    (λ c. map.Changed (record { map = p.map; base = p.base; pending = c }))
+map_leads s t killed grant (map.Changed p) reached y =
+    test killed (λ _. goes _ (pool_of s))
+    (λ _. test (nat_lt (frees (pool_of s) - s.resv) p.pending.missing) (λ _. goes _ (pool_of s)) (λ _. goes _ _))
 map_leads s t killed grant (map.Abort p) reached y = goes _ _
-map_leads s t killed grant (map.Accounted p) reached y = test (nat_lt (missing (s.reserved p.map.file) p.pending.from p.pending.to) p.pending.missing) (λ _. goes _ _) (λ _. goes _ _)
+map_leads s t killed grant (map.Accounted p) reached y =
+    test (nat_lt (missing (s.reserved p.map.file) p.pending.from p.pending.to) p.pending.missing) (λ _. goes _ _) (λ _. goes _ _)
 map_leads s t killed grant (map.Settle p) reached y = (Moved _, _, (y.enough, (refl, refl)))
 map_leads s t killed grant (map.Enter p) reached y = goes _ _
 map_leads s t killed grant (map.Leave p) reached y = ends _ _
@@ -158,16 +183,23 @@ alloc_leads : (s : State) (t : ℕ) (killed grant : Bool) (phase : AllocPhase) �
     → Leads (AllocRow (pool_of s) t killed grant phase)
 alloc_leads s t killed grant (alloc.Start p) reached y = start (pool_of s) t killed p.allocation.file _ _ _ _
 alloc_leads s t killed grant (alloc.Head p) reached y = test killed (λ _. goes _ (pool_of s)) (λ _. goes _ (pool_of s))
-alloc_leads s t killed grant (alloc.Want p) reached y = test killed (λ _. goes _ (pool_of s)) (λ _. want (pool_of s) t p.allocation.file p.index _ _)
-alloc_leads s t killed grant (alloc.Locked p) reached y = test (is_some (s.pages p.allocation.file p.index)) (λ _. goes _ (pool_of s)) (λ _. goes _ (pool_of s))
-alloc_leads s t killed grant (alloc.Missing p) reached y = change (pool_of s) grant p.allocation.file p.index (p.index + 1) _ (λ c. alloc.Changed (record { allocation = p.allocation; index = p.index; pending = c }))
-alloc_leads s t killed grant (alloc.Changed p) reached y = test killed (λ _. goes _ (pool_of s)) (λ _. take s p.pending.missing _ _ (resv_covered s reached) y.enough)
+alloc_leads s t killed grant (alloc.Want p) reached y =
+    test killed (λ _. goes _ (pool_of s)) (λ _. want (pool_of s) t p.allocation.file p.index _ _)
+alloc_leads s t killed grant (alloc.Locked p) reached y =
+    test (is_some (s.pages p.allocation.file p.index)) (λ _. goes _ (pool_of s)) (λ _. goes _ (pool_of s))
+alloc_leads s t killed grant (alloc.Missing p) reached y =
+    change (pool_of s) grant p.allocation.file p.index (p.index + 1) _
+    (λ c. alloc.Changed (record { allocation = p.allocation; index = p.index; pending = c }))
+alloc_leads s t killed grant (alloc.Changed p) reached y =
+    test killed (λ _. goes _ (pool_of s)) (λ _. take s p.pending.missing _ _ (resv_covered s reached) y.enough)
 alloc_leads s t killed grant (alloc.Abort p) reached y = goes _ _
 alloc_leads s t killed grant (alloc.Taken p) reached y = commit (pool_of s) p.allocation.file p.pending _ _
 alloc_leads s t killed grant (alloc.Settle p) reached y = (Moved _, _, (y.enough, (refl, refl)))
 alloc_leads s t killed grant (alloc.Committed p) reached y = test grant (λ _. goes _ _) (λ _. goes _ (pool_of s))
 alloc_leads s t killed grant (alloc.Restore p) reached y = goes _ _
-alloc_leads s t killed grant (alloc.Unslot p) reached y = option p.answer (λ _. test (nat_lt (p.index + 1) (p.allocation.from + p.allocation.len)) (λ _. goes _ _) (λ _. test p.allocation.keep (λ _. goes _ _) (λ _. goes _ _))) (λ a _. goes _ _)
+alloc_leads s t killed grant (alloc.Unslot p) reached y =
+    option p.answer (λ _. test (nat_lt (p.index + 1) (p.allocation.from + p.allocation.len)) (λ _. goes _ _)
+    (λ _. test p.allocation.keep (λ _. goes _ _) (λ _. goes _ _))) (λ a _. goes _ _)
 alloc_leads s t killed grant (alloc.Extend p) reached y = goes _ _
 alloc_leads s t killed grant (alloc.Leave p) reached y = ends _ _
 
@@ -175,12 +207,16 @@ punch_leads : (s : State) (t : ℕ) (killed grant : Bool) (phase : PunchPhase) �
     → Leads (PunchRow (pool_of s) t killed grant phase)
 punch_leads s t killed grant (punch.Start p) reached y = start (pool_of s) t killed p.hole.file _ _ _ _
 punch_leads s t killed grant (punch.Want p) reached y = want (pool_of s) t p.hole.file p.index _ _
-punch_leads s t killed grant (punch.Locked p) reached y = test (is_some (s.pages p.hole.file p.index)) (λ _. goes _ (pool_of s)) (λ _. goes _ (pool_of s))
+punch_leads s t killed grant (punch.Locked p) reached y =
+    test (is_some (s.pages p.hole.file p.index)) (λ _. goes _ (pool_of s)) (λ _. goes _ (pool_of s))
 punch_leads s t killed grant (punch.Unmap p) reached y = unmap_index (pool_of s) p.task p.hole.file p.index _ _
 punch_leads s t killed grant (punch.Evict p) reached y = evict s p.hole.file p.index _ y.page
-punch_leads s t killed grant (punch.Delete p) reached y = test (splits (s.reserved p.hole.file) p.index && nat_le (s.spare p.hole.file) (s.pending p.hole.file) && not grant) (λ _. goes _ (pool_of s)) (λ _. goes _ _)
+punch_leads s t killed grant (punch.Delete p) reached y =
+    test (splits (s.reserved p.hole.file) p.index && nat_le (s.spare p.hole.file) (s.pending p.hole.file)
+    && not grant) (λ _. goes _ (pool_of s)) (λ _. goes _ _)
 punch_leads s t killed grant (punch.Free p) reached y = goes _ _
-punch_leads s t killed grant (punch.Unslot p) reached y = test (nat_lt (p.index + 1) (p.hole.from + p.hole.len)) (λ _. goes _ _) (λ _. goes _ _)
+punch_leads s t killed grant (punch.Unslot p) reached y =
+    test (nat_lt (p.index + 1) (p.hole.from + p.hole.len)) (λ _. goes _ _) (λ _. goes _ _)
 punch_leads s t killed grant (punch.Leave p) reached y = ends _ _
 
 truncate_leads : (s : State) (t : ℕ) (killed grant : Bool) (phase : TruncatePhase) → IsReached s → TruncateStands s t phase
@@ -190,7 +226,8 @@ truncate_leads s t killed grant (truncate.Size p) reached y =
     let o = some_end s p.truncation.file reached in
     witness o.0 o.1 (test (nat_lt p.truncation.new (max (s.size p.truncation.file) o.0)) (λ _. goes _ _) (λ _. goes _ _))
 truncate_leads s t killed grant (truncate.Want p) reached y = want (pool_of s) t p.truncation.file p.index _ _
-truncate_leads s t killed grant (truncate.Locked p) reached y = test (is_some (s.pages p.truncation.file p.index)) (λ _. goes _ (pool_of s)) (λ _. goes _ (pool_of s))
+truncate_leads s t killed grant (truncate.Locked p) reached y =
+    test (is_some (s.pages p.truncation.file p.index)) (λ _. goes _ (pool_of s)) (λ _. goes _ (pool_of s))
 truncate_leads s t killed grant (truncate.Unmap p) reached y = unmap_index (pool_of s) p.task p.truncation.file p.index _ _
 truncate_leads s t killed grant (truncate.Evict p) reached y = evict s p.truncation.file p.index _ y.page
 truncate_leads s t killed grant (truncate.Free p) reached y = goes _ _
@@ -248,6 +285,13 @@ by_call (Some x) a b = b x refl
 
 pub no_dead_ends : (s : State) (event : Event) → IsReached s → (o : Outcome) × (after : State) × Row s event o after
 unfolding BeginRow StepRow KillRow
-no_dead_ends s (Begin t p) reached = by_bool (is_dead (s.life t)) (λ _. (_, _, (refl, refl))) (λ _. by_call (s.calls t) (λ _. by_bool (is_killed (s.life t) && not (is_exit p)) (λ _. (_, _, (refl, refl))) (λ _. (_, _, (refl, refl)))) (λ c _. (_, _, (refl, refl))))
-no_dead_ends s (Step t grant) reached = by_bool (is_dead (s.life t)) (λ _. (_, _, (refl, refl))) (λ _. by_call (s.calls t) (λ _. (_, _, (refl, refl))) (λ c e. let r = call_leads s t (is_killed (s.life t)) grant c reached e in (r.0, _, (r.1, r.2, r.3, refl))))
+no_dead_ends s (Begin t p) reached =
+    by_bool (is_dead (s.life t)) (λ _. (_, _, (refl, refl)))
+    (λ _. by_call (s.calls t)
+    (λ _. by_bool (is_killed (s.life t) && not (is_exit p)) (λ _. (_, _, (refl, refl))) (λ _. (_, _, (refl, refl))))
+    (λ c _. (_, _, (refl, refl))))
+no_dead_ends s (Step t grant) reached =
+    by_bool (is_dead (s.life t)) (λ _. (_, _, (refl, refl)))
+    (λ _. by_call (s.calls t) (λ _. (_, _, (refl, refl)))
+    (λ c e. let r = call_leads s t (is_killed (s.life t)) grant c reached e in (r.0, _, (r.1, r.2, r.3, refl))))
 no_dead_ends s (Kill t) reached = by_bool (is_alive (s.life t)) (λ _. (_, _, (refl, refl))) (λ _. (_, _, (refl, refl)))

@@ -93,8 +93,10 @@ abbrev CountsOn : Option Call → (file index : ℕ) → Type 0
 CountsOn c f i = (works_at c ≡ Some (f, i)) ⊎ (locked_file c ≡ Some f)
 
 counts_works : (g : Geometry) (s : State) (u : ℕ) (c : Option Call) (f i : ℕ) → Stands g s u c → counts_on c f i ≡ true → CountsOn c f i
-counts_works g s u (Some (call.Touch (touch.Changed p))) f i h e = inl (one_covers p.pending p.touch.file p.touch.index f i false h.facts.one never e)
-counts_works g s u (Some (call.Touch (touch.Taken p))) f i h e = inl (one_covers p.pending p.touch.file p.touch.index f i _ h.facts.one (same_pair p.touch.file p.touch.index f i) e)
+counts_works g s u (Some (call.Touch (touch.Changed p))) f i h e =
+    inl (one_covers p.pending p.touch.file p.touch.index f i false h.facts.one never e)
+counts_works g s u (Some (call.Touch (touch.Taken p))) f i h e =
+    inl (one_covers p.pending p.touch.file p.touch.index f i _ h.facts.one (same_pair p.touch.file p.touch.index f i) e)
 counts_works g s u (Some (call.Touch (touch.Settle p))) f i h e = inl (pair_of p.touch.file p.touch.index f i e)
 counts_works g s u (Some (call.Touch (touch.Committed p))) f i h e = inl (pair_of p.touch.file p.touch.index f i e)
 counts_works g s u (Some (call.Touch (touch.Restore p))) f i h e = inl (pair_of p.touch.file p.touch.index f i e)
@@ -116,13 +118,20 @@ same_from a b f i e = grind (arith, nat_tests)
 
 -- who takes an index out of the reserve map
 abbrev Deletes : State → ℕ → Call → ℕ → ℕ → Type 0
-Deletes s t c f i = HasLock s t f × ((word_of c ≡ word.Delete) ⊎ (word_of c ≡ word.Tail)) × ((passed (Some c) f i ≡ true) ⊎ HasSlot s.geometry s t f i)
+Deletes s t c f i =
+    HasLock s t f × ((word_of c ≡ word.Delete) ⊎ (word_of c ≡ word.Tail))
+    × ((passed (Some c) f i ≡ true) ⊎ HasSlot s.geometry s t f i)
 
 deleter : (s : State) (t : ℕ) (c : Call) (f i : ℕ) → Stands s.geometry s t (Some c) → deletes (Some c) f i ≡ true → Deletes s t c f i
 deleter s t (call.Punch (punch.Delete p)) f i y e =
-    let o = same_pair p.hole.file p.index f i e in
-    (ap s.locks (sym o.0) ∙ y.lock, inl refl, inr (ap (λ (m : ℕ). s.slots (slot_of s.geometry m i)) (sym o.0) ∙ (ap (λ (m : ℕ). s.slots (slot_of s.geometry p.hole.file m)) (sym o.1) ∙ y.slot)))
-deleter s t (call.Truncate (truncate.Tail p)) f i y e = (ap s.locks (sym (same_from p.truncation.file p.truncation.new f i e)) ∙ y.lock, inr refl, inl e)
+    let o = same_pair p.hole.file p.index f i e in (
+      ap s.locks (sym o.0) ∙ y.lock,
+      inl refl,
+      inr (ap (λ (m : ℕ). s.slots (slot_of s.geometry m i)) (sym o.0)
+          ∙ (ap (λ (m : ℕ). s.slots (slot_of s.geometry p.hole.file m)) (sym o.1) ∙ y.slot)),
+    )
+deleter s t (call.Truncate (truncate.Tail p)) f i y e =
+    (ap s.locks (sym (same_from p.truncation.file p.truncation.new f i e)) ∙ y.lock, inr refl, inl e)
 deleter s t c f i y e = (let d : false ≡ true = e in absurd (cc))
 
 unless_counted : (b : Bool) → (b ≡ true → ⊥) → b ≡ false
@@ -158,14 +167,17 @@ goes_under s (Step t grant) o n f i h row a b = step_cases s t grant o n (GoesUn
           y.0,
           y.1,
           λ u apart. elim y.2 [
-            | inl p ↦ unless_counted (counts_on (s.calls u) f i) (λ counts. elim (counts_works s.geometry s u (s.calls u) f i (h.inv.stands u) counts) [
-              | inl at ↦ (passed_bare s h t f i (inl (ap (λ (m : Option Call). passed m f i) e ∙ p))).1 u apart at
-              | inr lock ↦ apart (same_holder u t (s.locks f) (locks_file s.geometry s u f h.inv lock) y.0)
-            ])
-            | inr p ↦ unless_counted (counts_on (s.calls u) f i) (λ counts. elim (counts_works s.geometry s u (s.calls u) f i (h.inv.stands u) counts) [
-              | inl at ↦ apart (same_holder u t (s.slots (slot_of s.geometry f i)) (holds_slot s.geometry s u (f, i) h.inv (works s.geometry s u (s.calls u) (f, i) (h.inv.stands u) at).0) p)
-              | inr lock ↦ apart (same_holder u t (s.locks f) (locks_file s.geometry s u f h.inv lock) y.0)
-            ])
+            | inl p ↦ unless_counted (counts_on (s.calls u) f i)
+                (λ counts. elim (counts_works s.geometry s u (s.calls u) f i (h.inv.stands u) counts) [
+                  | inl at ↦ (passed_bare s h t f i (inl (ap (λ (m : Option Call). passed m f i) e ∙ p))).1 u apart at
+                  | inr lock ↦ apart (same_holder u t (s.locks f) (locks_file s.geometry s u f h.inv lock) y.0)
+                ])
+            | inr p ↦ unless_counted (counts_on (s.calls u) f i)
+                (λ counts. elim (counts_works s.geometry s u (s.calls u) f i (h.inv.stands u) counts) [
+                  | inl at ↦ apart (same_holder u t (s.slots (slot_of s.geometry f i))
+                      (holds_slot s.geometry s u (f, i) h.inv (works s.geometry s u (s.calls u) (f, i) (h.inv.stands u) at).0) p)
+                  | inr lock ↦ apart (same_holder u t (s.locks f) (locks_file s.geometry s u f h.inv lock) y.0)
+                ])
           ],
         ))
       ]
@@ -199,13 +211,20 @@ done_row s t killed grant (truncate.Start p) turn new P row d f =
     (λ _ r. by_test killed r
     (λ _ r. not_done turn _ r.0 (λ z. cc) d)
     (λ _ r. by_option (s.locks p.truncation.file) r (λ _ r. not_moved turn _ _ r.0 d) (λ u _ r. not_blocked turn _ u _ r.0 d))))
-done_row s t killed grant (truncate.Size p) turn new P (end, is_end, row) d f = by_test (nat_lt p.truncation.new (max (s.size p.truncation.file) end)) row (λ _ r. not_moved turn _ _ r.0 d) (λ _ r. not_moved turn _ _ r.0 d)
-done_row s t killed grant (truncate.Want p) turn new P row d f = by_option (s.slots (slot_of s.geometry p.truncation.file p.index)) row (λ _ r. not_moved turn _ _ r.0 d) (λ u _ r. not_blocked turn _ u _ r.0 d)
-done_row s t killed grant (truncate.Locked p) turn new P row d f = by_test (is_some (s.pages p.truncation.file p.index)) row (λ _ r. not_moved turn _ _ r.0 d) (λ _ r. not_moved turn _ _ r.0 d)
-done_row s t killed grant (truncate.Unmap p) turn new P row d f = by_test (nat_lt p.task s.geometry.tasks) row (λ _ r. not_moved turn _ _ r.0 d) (λ _ r. not_moved turn _ _ r.0 d)
+done_row s t killed grant (truncate.Size p) turn new P (end, is_end, row) d f =
+    by_test (nat_lt p.truncation.new (max (s.size p.truncation.file) end)) row (λ _ r. not_moved turn _ _ r.0 d)
+    (λ _ r. not_moved turn _ _ r.0 d)
+done_row s t killed grant (truncate.Want p) turn new P row d f =
+    by_option (s.slots (slot_of s.geometry p.truncation.file p.index)) row (λ _ r. not_moved turn _ _ r.0 d)
+    (λ u _ r. not_blocked turn _ u _ r.0 d)
+done_row s t killed grant (truncate.Locked p) turn new P row d f =
+    by_test (is_some (s.pages p.truncation.file p.index)) row (λ _ r. not_moved turn _ _ r.0 d) (λ _ r. not_moved turn _ _ r.0 d)
+done_row s t killed grant (truncate.Unmap p) turn new P row d f =
+    by_test (nat_lt p.task s.geometry.tasks) row (λ _ r. not_moved turn _ _ r.0 d) (λ _ r. not_moved turn _ _ r.0 d)
 done_row s t killed grant (truncate.Evict p) turn new P (x, page, row) d f = not_moved turn _ _ row.0 d
 done_row s t killed grant (truncate.Free p) turn new P row d f = not_moved turn _ _ row.0 d
-done_row s t killed grant (truncate.Unslot p) turn new P row d f = by_test (nat_lt p.truncation.new p.index) row (λ _ r. not_moved turn _ _ r.0 d) (λ _ r. not_moved turn _ _ r.0 d)
+done_row s t killed grant (truncate.Unslot p) turn new P row d f =
+    by_test (nat_lt p.truncation.new p.index) row (λ _ r. not_moved turn _ _ r.0 d) (λ _ r. not_moved turn _ _ r.0 d)
 done_row s t killed grant (truncate.Tail p) turn new P row d f = not_moved turn _ _ row.0 d
 done_row s t killed grant (truncate.Settle p) turn new P (low, row) d f = not_moved turn _ _ row.0 d
 done_row s t killed grant (truncate.Leave p) turn new P row d f = f p refl row.1
@@ -224,7 +243,8 @@ cut_at s t p h e =
     record {
       translated = λ u v x j a q. elim (h.sweep.below u v x f j a q) [
         | inl l ↦ omega arith
-        | inr w ↦ (let z : w.0 ≡ t = same_holder w.0 t (s.locks f) (locks_file s.geometry s w.0 f h (ahead_locked (s.calls w.0) f j w.1)) y.lock in
+        | inr w ↦ (let z : w.0 ≡ t = same_holder w.0 t (s.locks f)
+            (locks_file s.geometry s w.0 f h (ahead_locked (s.calls w.0) f j w.1)) y.lock in
             let c : false ≡ true = sym (ap (λ (k : Option Call). ahead k f j) (ap s.calls z ∙ e)) ∙ w.1 in absurd (cc))
       ];
       cached = λ j l. (h.sweep.past t f j (ap (λ (k : Option Call). passed k f j) e ∙ from_on f new j l)).0;
@@ -247,7 +267,8 @@ unfolding CallRow
 done_call s t killed grant phase o pool next h e (turn, row, tells, leaves) is =
     done_row s t killed grant phase turn pool _ row (told_done turn (sym is ∙ tells)) (λ p q d.
     subst (λ (m : TruncatePhase). IsCut (with_pool s pool) (truncation_of m).file (truncation_of m).new) (sym q)
-    (subst (λ (m : Pool). IsCut (with_pool s m) p.truncation.file p.truncation.new) (sym d) (cut_at s t p h (e ∙ ap (λ (m : TruncatePhase). Some (call.Truncate m)) q))))
+    (subst (λ (m : Pool). IsCut (with_pool s m) p.truncation.file p.truncation.new) (sym d)
+    (cut_at s t p h (e ∙ ap (λ (m : TruncatePhase). Some (call.Truncate m)) q))))
 
 same_call : {a b : Call} → Some a ≡ Some b → a ≡ b
 same_call e = cc
@@ -255,8 +276,11 @@ same_call e = cc
 pub truncation_leaves_nothing : (s : State) (t : ℕ) (grant : Bool) (phase : TruncatePhase) (n : State) → IsReached s
     → s.calls t ≡ Some (call.Truncate phase) → Row s (Step t grant) (outcome.Ended answer.Done) n
     → IsCut n (truncation_of phase).file (truncation_of phase).new
-truncation_leaves_nothing s t grant phase n reached e row = step_cases s t grant (outcome.Ended answer.Done) n (IsCut n (truncation_of phase).file (truncation_of phase).new) row
+truncation_leaves_nothing s t grant phase n reached e row =
+    step_cases s t grant (outcome.Ended answer.Done) n (IsCut n (truncation_of phase).file (truncation_of phase).new) row
     (λ why z d. (let y : outcome.Ended answer.Done ≡ outcome.Refused why = z in absurd (cc)))
     (λ c lives some pool next r d.
     subst (λ (m : State). IsCut m (truncation_of phase).file (truncation_of phase).new) (sym d)
-    (done_call s t (is_killed (s.life t)) grant phase (outcome.Ended answer.Done) pool next (always s reached).inv e (subst (λ (m : Call). CallRow (pool_of s) t (is_killed (s.life t)) grant m (outcome.Ended answer.Done) pool next) (same_call (sym some ∙ e)) r) refl))
+    (done_call s t (is_killed (s.life t)) grant phase (outcome.Ended answer.Done) pool next (always s reached).inv e
+    (subst (λ (m : Call). CallRow (pool_of s) t (is_killed (s.life t)) grant m (outcome.Ended answer.Done) pool
+    next) (same_call (sym some ∙ e)) r) refl))

@@ -44,7 +44,8 @@ missing_few r from len = let a = count_within-missing r from (from + len) in ome
 now_filled : (s : State) (f from len : ℕ) (change : Change) → IsWhole change from len → IsFilled (committing s f change) f from len
 now_filled s f from len change whole j w =
     ap (λ (m : ℕ → Bool). m j) (put_same s.reserved f (add_range (s.reserved f) change.from change.to))
-    ∙ add_range_has (s.reserved f) change.from change.to j (ap (λ (m : ℕ). is_within m change.to j) whole.0 ∙ (ap (λ (m : ℕ). is_within from m j) whole.1 ∙ w))
+    ∙ add_range_has (s.reserved f) change.from change.to j
+    (ap (λ (m : ℕ). is_within m change.to j) whole.0 ∙ (ap (λ (m : ℕ). is_within from m j) whole.1 ∙ w))
 
 own_missing : (r : ℕ → Bool) (from len : ℕ) (change : Change) → IsWhole change from len
     → missing r change.from change.to ≡ missing r from (from + len)
@@ -60,7 +61,8 @@ le a b e = grind (arith, nat_tests)
 left_stands : (s : State) (t : ℕ) (map : MapRequest) (b : Answer) → HasLock s t map.file
     → IsRange s.geometry map.file map.from map.len → is_mapped b ≡ false
     → Stands s.geometry s t (Some (call.Map (at.Leave (record { map = map; answer = b }))))
-left_stands s t map b held range e = record { slot = tt; lock = held; facts = record { range = range; mapped = λ d. nothing (is_mapped b) e d } }
+left_stands s t map b held range e =
+    record { slot = tt; lock = held; facts = record { range = range; mapped = λ d. nothing (is_mapped b) e d } }
 
 map_room : (s : State) (t : ℕ) (grant : Bool) (p : Room) (turn : Turn MapPhase) (new : Pool) → Inv s.geometry s
     → t < s.geometry.tasks + 1 → s.calls t ≡ Some (call.Map (at.Room p)) → MapRoomRow (pool_of s) t grant p turn new
@@ -69,16 +71,30 @@ map_room s t grant p turn new h l e (found, room, row) =
     let y = stands_at s t _ h e in
     let leave : Answer → MapPhase = λ b. at.Leave (record { map = p.map; answer = b }) in
     by_option found row
-    (λ none r. so call.Map s t _ turn _ new r (stays s.geometry s t _ (Some (call.Map (leave answer.NoAddress))) h l e refl tt (left_stands s t p.map answer.NoAddress y.lock y.facts.range refl)))
+    (λ none r. so call.Map s t _ turn _ new r
+    (stays s.geometry s t _ (Some (call.Map (leave answer.NoAddress))) h l e refl tt
+    (left_stands s t p.map answer.NoAddress y.lock y.facts.range refl)))
     (λ base some r.
     let fit = (subst (IsRoom s.geometry.space (s.areas t) p.map.len) some room).0 in
     by_test grant r
     (λ granted r. by_test p.map.reserve r
-    (λ reserves r. so call.Map s t _ turn _ new r (prepares s.geometry s t _ (Some (call.Map (at.Missing (record { map = p.map; base = base })))) h l e refl tt
+    (λ reserves r. so call.Map s t _ turn _ new r
+    (prepares s.geometry s t _ (Some (call.Map (at.Missing (record { map = p.map; base = base })))) h l e refl tt
     (record { slot = tt; lock = y.lock; facts = record { range = y.facts.range; based = (put_same s.prepared t true, fit) } })))
-    (λ not r. so call.Map s t _ turn _ new r (prepares s.geometry s t _ (Some (call.Map (at.Enter (record { map = p.map; base = base })))) h l e refl tt
-    (record { slot = tt; lock = y.lock; facts = record { range = y.facts.range; based = (put_same s.prepared t true, fit); filled = λ d. nothing p.map.reserve not d } }))))
-    (λ denied r. so call.Map s t _ turn _ new r (stays s.geometry s t _ (Some (call.Map (leave answer.NoMemory))) h l e refl tt (left_stands s t p.map answer.NoMemory y.lock y.facts.range refl))))
+    (λ not r. so call.Map s t _ turn _ new r
+    (prepares s.geometry s t _ (Some (call.Map (at.Enter (record { map = p.map; base = base })))) h l e refl tt
+    (record {
+      slot = tt;
+      lock = y.lock;
+      facts = record {
+        range = y.facts.range;
+        based = (put_same s.prepared t true, fit);
+        filled = λ d. nothing p.map.reserve not d;
+      };
+    }))))
+    (λ denied r. so call.Map s t _ turn _ new r
+    (stays s.geometry s t _ (Some (call.Map (leave answer.NoMemory))) h l e refl tt
+    (left_stands s t p.map answer.NoMemory y.lock y.facts.range refl))))
 
 map_missing : (s : State) (t : ℕ) (grant : Bool) (p : Missing) (turn : Turn MapPhase) (new : Pool) → Inv s.geometry s
     → t < s.geometry.tasks + 1 → s.calls t ≡ Some (call.Map (at.Missing p)) → MapMissingRow (pool_of s) grant p turn new
@@ -87,14 +103,22 @@ map_missing s t grant p turn new h l e row =
     let y = stands_at s t _ h e in
     let r = s.reserved p.map.file in
     let few = missing_few r p.map.from p.map.len in
-    change_row call.Map s t grant p.map.file p.map.from (p.map.from + p.map.len) (at.Missing p) _ (λ change. at.Changed (record { map = p.map; base = p.base; pending = change })) turn new h l e row (record {
-      denied = stays s.geometry s t _ (Some (call.Map (at.Leave (record { map = p.map; answer = answer.NoMemory })))) h l e refl tt (left_stands s t p.map answer.NoMemory y.lock y.facts.range refl);
+    change_row call.Map s t grant p.map.file p.map.from (p.map.from + p.map.len) (at.Missing p) _
+    (λ change. at.Changed (record { map = p.map; base = p.base; pending = change })) turn new h l e row (record {
+      denied =
+          stays s.geometry s t _ (Some (call.Map (at.Leave (record { map = p.map; answer = answer.NoMemory })))) h l e
+          refl tt (left_stands s t p.map answer.NoMemory y.lock y.facts.range refl);
       same = refl;
       none = refl;
       some = refl;
       balance = refl;
       fill = tt;
-      own = record { slot = tt; lock = y.lock; facts = record { range = y.facts.range; based = y.facts.based; whole = (refl, refl, few); count = omega arith } };
+      own =
+          record {
+            slot = tt;
+            lock = y.lock;
+            facts = record { range = y.facts.range; based = y.facts.based; whole = (refl, refl, few); count = omega arith };
+          };
     })
 
 map_changed : (s : State) (t : ℕ) (killed : Bool) (p : Changed) (turn : Turn MapPhase) (new : Pool) → Inv s.geometry s
@@ -104,11 +128,18 @@ map_changed s t killed p turn new h l e row =
     let y = stands_at s t _ h e in
     let abort : Answer → MapPhase = λ b. at.Abort (record { map = p.map; pending = p.pending; answer = b }) in
     by_test killed row
-    (λ is r. so call.Map s t _ turn _ new r (stays s.geometry s t _ (Some (call.Map (abort answer.Killed))) h l e refl tt (record { slot = tt; lock = y.lock; facts = record { range = y.facts.range; unmapped = refl } })))
+    (λ is r. so call.Map s t _ turn _ new r
+    (stays s.geometry s t _ (Some (call.Map (abort answer.Killed))) h l e refl tt
+    (record { slot = tt; lock = y.lock; facts = record { range = y.facts.range; unmapped = refl } })))
     (λ alive r. by_test (nat_lt (frees (pool_of s) - s.resv) p.pending.missing) r
-    (λ short r. so call.Map s t _ turn _ new r (stays s.geometry s t _ (Some (call.Map (abort answer.NoFrame))) h l e refl tt (record { slot = tt; lock = y.lock; facts = record { range = y.facts.range; unmapped = refl } })))
+    (λ short r. so call.Map s t _ turn _ new r
+    (stays s.geometry s t _ (Some (call.Map (abort answer.NoFrame))) h l e refl tt
+    (record { slot = tt; lock = y.lock; facts = record { range = y.facts.range; unmapped = refl } })))
     (λ enough r. let few : p.pending.missing ≤ free_frames s.frame s.frames - s.resv = le _ _ enough in
-    so call.Map s t _ turn _ new r (rebalances s.geometry s t _ (Some (call.Map (at.Accounted (record { map = p.map; base = p.base; pending = p.pending })))) (s.resv + p.pending.missing) h l e refl refl refl refl (omega arith) (let z = h.enough in omega arith) tt
+    so call.Map s t _ turn _ new r
+    (rebalances s.geometry s t _
+    (Some (call.Map (at.Accounted (record { map = p.map; base = p.base; pending = p.pending }))))
+    (s.resv + p.pending.missing) h l e refl refl refl refl (omega arith) (let z = h.enough in omega arith) tt
     (record { slot = tt; lock = y.lock; facts = y.facts }))))
 
 map_accounted : (s : State) (t : ℕ) (p : Accounted) (turn : Turn MapPhase) (new : Pool) → Inv s.geometry s
@@ -119,14 +150,25 @@ map_accounted s t p turn new h l e row =
     let f = p.map.file in
     let own = own_missing (s.reserved f) p.map.from p.map.len p.pending y.facts.whole in
     let low : p.pending.to ≤ s.geometry.limit = (let a = y.facts.whole.1 in let b = y.facts.range.2 in omega arith) in
-    let nobody : (u j : ℕ) → passed (s.calls u) f j ≡ true → is_within p.pending.from p.pending.to j ≡ true → ⊥ = λ u j a w. no_passer s.geometry s t f h y.lock (λ i. ap (λ c. passed c f i) e) u j a in
+    let nobody : (u j : ℕ) → passed (s.calls u) f j ≡ true → is_within p.pending.from p.pending.to j ≡ true → ⊥ =
+    λ u j a w. no_passer s.geometry s t f h y.lock (λ i. ap (λ c. passed c f i) e) u j a in
     let filled = now_filled s f p.map.from p.map.len p.pending y.facts.whole in
     by_test (nat_lt (missing (s.reserved f) p.pending.from p.pending.to) p.pending.missing) row
     (λ fewer r. let less_so = lt _ _ fewer in
-    so call.Map s t _ turn _ new r (commits s.geometry s t _ (Some (call.Map (at.Settle (record { map = p.map; base = p.base; surplus = p.pending.missing - missing (s.reserved f) p.pending.from p.pending.to })))) f p.pending h l e y.facts.range.0 low refl refl refl refl refl nobody (omega arith) tt
+    so call.Map s t _ turn _ new r
+    (commits s.geometry s t _
+    (Some (call.Map (at.Settle
+    (record {
+      map = p.map;
+      base = p.base;
+      surplus = p.pending.missing - missing (s.reserved f) p.pending.from p.pending.to;
+    })))) f p.pending h l e
+    y.facts.range.0 low refl refl refl refl refl nobody (omega arith) tt
     (record { slot = tt; lock = y.lock; facts = record { range = y.facts.range; based = y.facts.based; filled = filled } })))
     (λ all r. let enough = le _ _ all in let few = y.facts.count in
-    so call.Map s t _ turn _ new r (commits s.geometry s t _ (Some (call.Map (at.Enter (record { map = p.map; base = p.base })))) f p.pending h l e y.facts.range.0 low refl refl refl refl refl nobody (omega arith) tt
+    so call.Map s t _ turn _ new r
+    (commits s.geometry s t _ (Some (call.Map (at.Enter (record { map = p.map; base = p.base })))) f p.pending h l e
+    y.facts.range.0 low refl refl refl refl refl nobody (omega arith) tt
     (record { slot = tt; lock = y.lock; facts = record { range = y.facts.range; based = y.facts.based; filled = λ d. filled } })))
 
 map_settle : (s : State) (t : ℕ) (p : Settle) (turn : Turn MapPhase) (new : Pool) → Inv s.geometry s → t < s.geometry.tasks + 1
@@ -134,7 +176,9 @@ map_settle : (s : State) (t : ℕ) (p : Settle) (turn : Turn MapPhase) (new : Po
     → Inv s.geometry (after call.Map s t turn new)
 map_settle s t p turn new h l e (low, row) =
     let y = stands_at s t _ h e in
-    so call.Map s t _ turn _ new row (rebalances s.geometry s t _ (Some (call.Map (at.Enter (record { map = p.map; base = p.base })))) (s.resv - p.surplus) h l e refl refl refl refl (omega arith) (let z = h.enough in omega arith) tt
+    so call.Map s t _ turn _ new row
+    (rebalances s.geometry s t _ (Some (call.Map (at.Enter (record { map = p.map; base = p.base }))))
+    (s.resv - p.surplus) h l e refl refl refl refl (omega arith) (let z = h.enough in omega arith) tt
     (record { slot = tt; lock = y.lock; facts = record { range = y.facts.range; based = y.facts.based; filled = λ d. y.facts.filled } }))
 
 map_enter : (s : State) (t : ℕ) (p : Enter) (turn : Turn MapPhase) (new : Pool) → Inv s.geometry s → t < s.geometry.tasks + 1
@@ -143,9 +187,17 @@ map_enter : (s : State) (t : ℕ) (p : Enter) (turn : Turn MapPhase) (new : Pool
 map_enter s t p turn new h l e row =
     let y = stands_at s t _ h e in
     let f = p.map.file in
-    so call.Map s t _ turn _ new row (enters_area s.geometry s t _ (Some (call.Map (at.Leave (record { map = p.map; answer = answer.Mapped p.base })))) (record { base = p.base; file = f; from = p.map.from; len = p.map.len }) h l e refl
-    y.facts.range.0 y.facts.range.1 y.facts.range.2 y.facts.based.1 y.lock (no_passer s.geometry s t f h y.lock (λ i. ap (λ c. passed c f i) e)) tt
-    (record { slot = tt; lock = y.lock; facts = record { range = y.facts.range; mapped = λ d. (y.facts.filled, grown s.size f (p.map.from + p.map.len)) } }))
+    so call.Map s t _ turn _ new row
+    (enters_area s.geometry s t _
+    (Some (call.Map (at.Leave (record { map = p.map; answer = answer.Mapped p.base }))))
+    (record { base = p.base; file = f; from = p.map.from; len = p.map.len }) h l e refl
+    y.facts.range.0 y.facts.range.1 y.facts.range.2 y.facts.based.1 y.lock
+    (no_passer s.geometry s t f h y.lock (λ i. ap (λ c. passed c f i) e)) tt
+    (record {
+      slot = tt;
+      lock = y.lock;
+      facts = record { range = y.facts.range; mapped = λ d. (y.facts.filled, grown s.size f (p.map.from + p.map.len)) };
+    }))
   where
     grown : (size : ℕ → ℕ) (f m : ℕ) → m ≤ put size f (max (size f) m) f
     grown size f m = let a : put size f (max (size f) m) f ≡ max (size f) m = put_same size f (max (size f) m) in omega arith
@@ -154,16 +206,21 @@ pub map_row : (s : State) (t : ℕ) (killed grant : Bool) (phase : MapPhase) (tu
     → t < s.geometry.tasks + 1 → s.calls t ≡ Some (call.Map phase) → MapRow (pool_of s) t killed grant phase turn new
     → Inv s.geometry (after call.Map s t turn new)
 map_row s t killed grant (at.Start p) turn new h l e row =
-    start_row call.Map s t killed p.map.file _ answer.Killed (at.Start p) (at.Room (record { map = p.map })) turn new h l e row refl refl refl refl refl refl
-    (λ in_files good. let o = good_range s p.map.from p.map.len good in record { slot = tt; lock = put_same s.locks p.map.file (Some t); facts = record { range = (in_files, o.0, o.1) } })
+    start_row call.Map s t killed p.map.file _ answer.Killed (at.Start p) (at.Room (record { map = p.map })) turn new
+    h l e row refl refl refl refl refl refl
+    (λ in_files good. let o = good_range s p.map.from p.map.len good in
+    record { slot = tt; lock = put_same s.locks p.map.file (Some t); facts = record { range = (in_files, o.0, o.1) } })
 map_row s t killed grant (at.Room p) turn new h l e row = map_room s t grant p turn new h l e row
 map_row s t killed grant (at.Missing p) turn new h l e row = map_missing s t grant p turn new h l e row
 map_row s t killed grant (at.Changed p) turn new h l e row = map_changed s t killed p turn new h l e row
 map_row s t killed grant (at.Abort p) turn new h l e row =
     let y = stands_at s t _ h e in
-    so call.Map s t _ turn _ new row (closed s.geometry s t _ (Some (call.Map (at.Leave (record { map = p.map; answer = p.answer })))) p.map.file h l e refl refl refl refl refl refl tt (left_stands s t p.map p.answer y.lock y.facts.range y.facts.unmapped))
+    so call.Map s t _ turn _ new row
+    (closed s.geometry s t _ (Some (call.Map (at.Leave (record { map = p.map; answer = p.answer })))) p.map.file h l
+    e refl refl refl refl refl refl tt (left_stands s t p.map p.answer y.lock y.facts.range y.facts.unmapped))
 map_row s t killed grant (at.Accounted p) turn new h l e row = map_accounted s t p turn new h l e row
 map_row s t killed grant (at.Settle p) turn new h l e row = map_settle s t p turn new h l e row
 map_row s t killed grant (at.Enter p) turn new h l e row = map_enter s t p turn new h l e row
 map_row s t killed grant (at.Leave p) turn new h l e row =
-    so call.Map s t _ turn _ new row (leaves_lock s.geometry s t _ p.map.file h l e refl refl refl refl refl refl (stands_at s t _ h e).lock (λ k j. refl))
+    so call.Map s t _ turn _ new row
+    (leaves_lock s.geometry s t _ p.map.file h l e refl refl refl refl refl refl (stands_at s t _ h e).lock (λ k j. refl))

@@ -95,16 +95,107 @@ resv_covered s reached = (always s reached).inv.enough
 
 abbrev pub TouchStands : State → (task : ℕ) → TouchPhase → Type 0
 TouchStands s t (touch.Look p) = Unit {0}
-TouchStands s t (touch.Want p) = record { file : p.touch.file < s.geometry.files; index : p.touch.index < s.geometry.limit; found : find (s.areas t) p.touch.vpn ≡ Some (p.touch.file, p.touch.index); untranslated : s.table t p.touch.vpn ≡ None }
-TouchStands s t (touch.Locked p) = record { file : p.touch.file < s.geometry.files; index : p.touch.index < s.geometry.limit; found : find (s.areas t) p.touch.vpn ≡ Some (p.touch.file, p.touch.index); untranslated : s.table t p.touch.vpn ≡ None; slot : s.slots (slot_of s.geometry p.touch.file p.touch.index) ≡ Some t }
-TouchStands s t (touch.Missing p) = record { file : p.touch.file < s.geometry.files; index : p.touch.index < s.geometry.limit; found : find (s.areas t) p.touch.vpn ≡ Some (p.touch.file, p.touch.index); untranslated : s.table t p.touch.vpn ≡ None; slot : s.slots (slot_of s.geometry p.touch.file p.touch.index) ≡ Some t; bare : s.pages p.touch.file p.touch.index ≡ None }
-TouchStands s t (touch.Changed p) = record { file : p.touch.file < s.geometry.files; index : p.touch.index < s.geometry.limit; found : find (s.areas t) p.touch.vpn ≡ Some (p.touch.file, p.touch.index); untranslated : s.table t p.touch.vpn ≡ None; slot : s.slots (slot_of s.geometry p.touch.file p.touch.index) ≡ Some t; bare : s.pages p.touch.file p.touch.index ≡ None; pending : 1 ≤ s.pending p.touch.file; change : (p.pending.from ≡ p.touch.index) × (p.pending.to ≡ p.touch.index + 1) × (p.pending.missing ≤ 1); enough : p.pending.missing ≡ 0 → 1 ≤ s.resv }
-TouchStands s t (touch.Abort p) = record { file : p.touch.file < s.geometry.files; index : p.touch.index < s.geometry.limit; found : find (s.areas t) p.touch.vpn ≡ Some (p.touch.file, p.touch.index); untranslated : s.table t p.touch.vpn ≡ None; slot : s.slots (slot_of s.geometry p.touch.file p.touch.index) ≡ Some t; pending : 1 ≤ s.pending p.touch.file }
-TouchStands s t (touch.Taken p) = record { file : p.touch.file < s.geometry.files; index : p.touch.index < s.geometry.limit; found : find (s.areas t) p.touch.vpn ≡ Some (p.touch.file, p.touch.index); untranslated : s.table t p.touch.vpn ≡ None; slot : s.slots (slot_of s.geometry p.touch.file p.touch.index) ≡ Some t; bare : s.pages p.touch.file p.touch.index ≡ None; pending : 1 ≤ s.pending p.touch.file; change : (p.pending.from ≡ p.touch.index) × (p.pending.to ≡ p.touch.index + 1) × (p.pending.missing ≤ 1); marked : p.pending.missing ≡ 0 → s.reserved p.touch.file p.touch.index ≡ true; hand : (s.frame p.held ≡ state.Hand) × (p.held < s.frames) }
-TouchStands s t (touch.Settle p) = record { file : p.touch.file < s.geometry.files; index : p.touch.index < s.geometry.limit; found : find (s.areas t) p.touch.vpn ≡ Some (p.touch.file, p.touch.index); untranslated : s.table t p.touch.vpn ≡ None; slot : s.slots (slot_of s.geometry p.touch.file p.touch.index) ≡ Some t; bare : s.pages p.touch.file p.touch.index ≡ None; marked : s.reserved p.touch.file p.touch.index ≡ true; hand : (s.frame p.held ≡ state.Hand) × (p.held < s.frames); enough : 1 ≤ s.resv }
-TouchStands s t (touch.Committed p) = record { file : p.touch.file < s.geometry.files; index : p.touch.index < s.geometry.limit; found : find (s.areas t) p.touch.vpn ≡ Some (p.touch.file, p.touch.index); untranslated : s.table t p.touch.vpn ≡ None; slot : s.slots (slot_of s.geometry p.touch.file p.touch.index) ≡ Some t; bare : s.pages p.touch.file p.touch.index ≡ None; marked : s.reserved p.touch.file p.touch.index ≡ true; hand : (s.frame p.held ≡ state.Hand) × (p.held < s.frames) }
-TouchStands s t (touch.Restore p) = record { file : p.touch.file < s.geometry.files; index : p.touch.index < s.geometry.limit; found : find (s.areas t) p.touch.vpn ≡ Some (p.touch.file, p.touch.index); untranslated : s.table t p.touch.vpn ≡ None; slot : s.slots (slot_of s.geometry p.touch.file p.touch.index) ≡ Some t; bare : s.pages p.touch.file p.touch.index ≡ None; marked : s.reserved p.touch.file p.touch.index ≡ true; hand : (s.frame p.held ≡ state.Hand) × (p.held < s.frames) }
-TouchStands s t (touch.Found p) = record { file : p.touch.file < s.geometry.files; index : p.touch.index < s.geometry.limit; found : find (s.areas t) p.touch.vpn ≡ Some (p.touch.file, p.touch.index); untranslated : s.table t p.touch.vpn ≡ None; slot : s.slots (slot_of s.geometry p.touch.file p.touch.index) ≡ Some t; page : HasPage s p.touch.file p.touch.index }
+TouchStands s t (touch.Want p) =
+    record {
+      file : p.touch.file < s.geometry.files;
+      index : p.touch.index < s.geometry.limit;
+      found : find (s.areas t) p.touch.vpn ≡ Some (p.touch.file, p.touch.index);
+      untranslated : s.table t p.touch.vpn ≡ None;
+    }
+TouchStands s t (touch.Locked p) =
+    record {
+      file : p.touch.file < s.geometry.files;
+      index : p.touch.index < s.geometry.limit;
+      found : find (s.areas t) p.touch.vpn ≡ Some (p.touch.file, p.touch.index);
+      untranslated : s.table t p.touch.vpn ≡ None;
+      slot : s.slots (slot_of s.geometry p.touch.file p.touch.index) ≡ Some t;
+    }
+TouchStands s t (touch.Missing p) =
+    record {
+      file : p.touch.file < s.geometry.files;
+      index : p.touch.index < s.geometry.limit;
+      found : find (s.areas t) p.touch.vpn ≡ Some (p.touch.file, p.touch.index);
+      untranslated : s.table t p.touch.vpn ≡ None;
+      slot : s.slots (slot_of s.geometry p.touch.file p.touch.index) ≡ Some t;
+      bare : s.pages p.touch.file p.touch.index ≡ None;
+    }
+TouchStands s t (touch.Changed p) =
+    record {
+      file : p.touch.file < s.geometry.files;
+      index : p.touch.index < s.geometry.limit;
+      found : find (s.areas t) p.touch.vpn ≡ Some (p.touch.file, p.touch.index);
+      untranslated : s.table t p.touch.vpn ≡ None;
+      slot : s.slots (slot_of s.geometry p.touch.file p.touch.index) ≡ Some t;
+      bare : s.pages p.touch.file p.touch.index ≡ None;
+      pending : 1 ≤ s.pending p.touch.file;
+      change : (p.pending.from ≡ p.touch.index) × (p.pending.to ≡ p.touch.index + 1) × (p.pending.missing ≤ 1);
+      enough : p.pending.missing ≡ 0 → 1 ≤ s.resv;
+    }
+TouchStands s t (touch.Abort p) =
+    record {
+      file : p.touch.file < s.geometry.files;
+      index : p.touch.index < s.geometry.limit;
+      found : find (s.areas t) p.touch.vpn ≡ Some (p.touch.file, p.touch.index);
+      untranslated : s.table t p.touch.vpn ≡ None;
+      slot : s.slots (slot_of s.geometry p.touch.file p.touch.index) ≡ Some t;
+      pending : 1 ≤ s.pending p.touch.file;
+    }
+TouchStands s t (touch.Taken p) =
+    record {
+      file : p.touch.file < s.geometry.files;
+      index : p.touch.index < s.geometry.limit;
+      found : find (s.areas t) p.touch.vpn ≡ Some (p.touch.file, p.touch.index);
+      untranslated : s.table t p.touch.vpn ≡ None;
+      slot : s.slots (slot_of s.geometry p.touch.file p.touch.index) ≡ Some t;
+      bare : s.pages p.touch.file p.touch.index ≡ None;
+      pending : 1 ≤ s.pending p.touch.file;
+      change : (p.pending.from ≡ p.touch.index) × (p.pending.to ≡ p.touch.index + 1) × (p.pending.missing ≤ 1);
+      marked : p.pending.missing ≡ 0 → s.reserved p.touch.file p.touch.index ≡ true;
+      hand : (s.frame p.held ≡ state.Hand) × (p.held < s.frames);
+    }
+TouchStands s t (touch.Settle p) =
+    record {
+      file : p.touch.file < s.geometry.files;
+      index : p.touch.index < s.geometry.limit;
+      found : find (s.areas t) p.touch.vpn ≡ Some (p.touch.file, p.touch.index);
+      untranslated : s.table t p.touch.vpn ≡ None;
+      slot : s.slots (slot_of s.geometry p.touch.file p.touch.index) ≡ Some t;
+      bare : s.pages p.touch.file p.touch.index ≡ None;
+      marked : s.reserved p.touch.file p.touch.index ≡ true;
+      hand : (s.frame p.held ≡ state.Hand) × (p.held < s.frames);
+      enough : 1 ≤ s.resv;
+    }
+TouchStands s t (touch.Committed p) =
+    record {
+      file : p.touch.file < s.geometry.files;
+      index : p.touch.index < s.geometry.limit;
+      found : find (s.areas t) p.touch.vpn ≡ Some (p.touch.file, p.touch.index);
+      untranslated : s.table t p.touch.vpn ≡ None;
+      slot : s.slots (slot_of s.geometry p.touch.file p.touch.index) ≡ Some t;
+      bare : s.pages p.touch.file p.touch.index ≡ None;
+      marked : s.reserved p.touch.file p.touch.index ≡ true;
+      hand : (s.frame p.held ≡ state.Hand) × (p.held < s.frames);
+    }
+TouchStands s t (touch.Restore p) =
+    record {
+      file : p.touch.file < s.geometry.files;
+      index : p.touch.index < s.geometry.limit;
+      found : find (s.areas t) p.touch.vpn ≡ Some (p.touch.file, p.touch.index);
+      untranslated : s.table t p.touch.vpn ≡ None;
+      slot : s.slots (slot_of s.geometry p.touch.file p.touch.index) ≡ Some t;
+      bare : s.pages p.touch.file p.touch.index ≡ None;
+      marked : s.reserved p.touch.file p.touch.index ≡ true;
+      hand : (s.frame p.held ≡ state.Hand) × (p.held < s.frames);
+    }
+TouchStands s t (touch.Found p) =
+    record {
+      file : p.touch.file < s.geometry.files;
+      index : p.touch.index < s.geometry.limit;
+      found : find (s.areas t) p.touch.vpn ≡ Some (p.touch.file, p.touch.index);
+      untranslated : s.table t p.touch.vpn ≡ None;
+      slot : s.slots (slot_of s.geometry p.touch.file p.touch.index) ≡ Some t;
+      page : HasPage s p.touch.file p.touch.index;
+    }
 TouchStands s t (touch.Leave p) = record { slot : s.slots (slot_of s.geometry p.touch.file p.touch.index) ≡ Some t }
 
 touch_facts : (s : State) (t : ℕ) (phase : TouchPhase) → Inv s.geometry s → t < s.geometry.tasks + 1
@@ -118,28 +209,98 @@ touch_facts s t (touch.Locked p) h l e =
     record { file = y.facts.aim.1; index = y.facts.aim.2; found = y.facts.aim.0; untranslated = y.facts.aim.3; slot = y.slot }
 touch_facts s t (touch.Missing p) h l e =
     let y = stands_at s t _ h e in
-    record { file = y.facts.aim.1; index = y.facts.aim.2; found = y.facts.aim.0; untranslated = y.facts.aim.3; slot = y.slot; bare = y.facts.bare }
+    record {
+      file = y.facts.aim.1;
+      index = y.facts.aim.2;
+      found = y.facts.aim.0;
+      untranslated = y.facts.aim.3;
+      slot = y.slot;
+      bare = y.facts.bare;
+    }
 touch_facts s t (touch.Changed p) h l e =
     let y = stands_at s t _ h e in
-    record { file = y.facts.aim.1; index = y.facts.aim.2; found = y.facts.aim.0; untranslated = y.facts.aim.3; slot = y.slot; bare = y.facts.bare; pending = has_pending s.geometry s t _ p.touch.file h l e refl; change = y.facts.one; enough = settles s t _ h l e y }
+    record {
+      file = y.facts.aim.1;
+      index = y.facts.aim.2;
+      found = y.facts.aim.0;
+      untranslated = y.facts.aim.3;
+      slot = y.slot;
+      bare = y.facts.bare;
+      pending = has_pending s.geometry s t _ p.touch.file h l e refl;
+      change = y.facts.one;
+      enough = settles s t _ h l e y;
+    }
 touch_facts s t (touch.Abort p) h l e =
     let y = stands_at s t _ h e in
-    record { file = y.facts.aim.1; index = y.facts.aim.2; found = y.facts.aim.0; untranslated = y.facts.aim.3; slot = y.slot; pending = has_pending s.geometry s t _ p.touch.file h l e refl }
+    record {
+      file = y.facts.aim.1;
+      index = y.facts.aim.2;
+      found = y.facts.aim.0;
+      untranslated = y.facts.aim.3;
+      slot = y.slot;
+      pending = has_pending s.geometry s t _ p.touch.file h l e refl;
+    }
 touch_facts s t (touch.Taken p) h l e =
     let y = stands_at s t _ h e in
-    record { file = y.facts.aim.1; index = y.facts.aim.2; found = y.facts.aim.0; untranslated = y.facts.aim.3; slot = y.slot; bare = y.facts.bare; pending = has_pending s.geometry s t _ p.touch.file h l e refl; change = y.facts.one; marked = λ z. y.facts.marked (is_zero p.pending.missing z); hand = in_hand s t _ p.held h e refl }
+    record {
+      file = y.facts.aim.1;
+      index = y.facts.aim.2;
+      found = y.facts.aim.0;
+      untranslated = y.facts.aim.3;
+      slot = y.slot;
+      bare = y.facts.bare;
+      pending = has_pending s.geometry s t _ p.touch.file h l e refl;
+      change = y.facts.one;
+      marked = λ z. y.facts.marked (is_zero p.pending.missing z);
+      hand = in_hand s t _ p.held h e refl;
+    }
 touch_facts s t (touch.Settle p) h l e =
     let y = stands_at s t _ h e in
-    record { file = y.facts.aim.1; index = y.facts.aim.2; found = y.facts.aim.0; untranslated = y.facts.aim.3; slot = y.slot; bare = y.facts.bare; marked = y.facts.marked; hand = in_hand s t _ p.held h e refl; enough = settles s t _ h l e y }
+    record {
+      file = y.facts.aim.1;
+      index = y.facts.aim.2;
+      found = y.facts.aim.0;
+      untranslated = y.facts.aim.3;
+      slot = y.slot;
+      bare = y.facts.bare;
+      marked = y.facts.marked;
+      hand = in_hand s t _ p.held h e refl;
+      enough = settles s t _ h l e y;
+    }
 touch_facts s t (touch.Committed p) h l e =
     let y = stands_at s t _ h e in
-    record { file = y.facts.aim.1; index = y.facts.aim.2; found = y.facts.aim.0; untranslated = y.facts.aim.3; slot = y.slot; bare = y.facts.bare; marked = y.facts.marked; hand = in_hand s t _ p.held h e refl }
+    record {
+      file = y.facts.aim.1;
+      index = y.facts.aim.2;
+      found = y.facts.aim.0;
+      untranslated = y.facts.aim.3;
+      slot = y.slot;
+      bare = y.facts.bare;
+      marked = y.facts.marked;
+      hand = in_hand s t _ p.held h e refl;
+    }
 touch_facts s t (touch.Restore p) h l e =
     let y = stands_at s t _ h e in
-    record { file = y.facts.aim.1; index = y.facts.aim.2; found = y.facts.aim.0; untranslated = y.facts.aim.3; slot = y.slot; bare = y.facts.bare; marked = y.facts.marked; hand = in_hand s t _ p.held h e refl }
+    record {
+      file = y.facts.aim.1;
+      index = y.facts.aim.2;
+      found = y.facts.aim.0;
+      untranslated = y.facts.aim.3;
+      slot = y.slot;
+      bare = y.facts.bare;
+      marked = y.facts.marked;
+      hand = in_hand s t _ p.held h e refl;
+    }
 touch_facts s t (touch.Found p) h l e =
     let y = stands_at s t _ h e in
-    record { file = y.facts.aim.1; index = y.facts.aim.2; found = y.facts.aim.0; untranslated = y.facts.aim.3; slot = y.slot; page = has_page s _ _ h y.facts.cached }
+    record {
+      file = y.facts.aim.1;
+      index = y.facts.aim.2;
+      found = y.facts.aim.0;
+      untranslated = y.facts.aim.3;
+      slot = y.slot;
+      page = has_page s _ _ h y.facts.cached;
+    }
 touch_facts s t (touch.Leave p) h l e = let y = stands_at s t _ h e in record { slot = y.slot }
 
 pub touch_stands : (s : State) (t : ℕ) (phase : TouchPhase) → IsReached s → s.calls t ≡ Some (call.Touch phase) → TouchStands s t phase
@@ -150,14 +311,78 @@ touch_stands s t phase reached e =
 
 abbrev pub MapStands : State → (task : ℕ) → MapPhase → Type 0
 MapStands s t (map.Start p) = Unit {0}
-MapStands s t (map.Room p) = record { file : p.map.file < s.geometry.files; some : 1 ≤ p.map.len; range : p.map.from + p.map.len ≤ s.geometry.limit; lock : s.locks p.map.file ≡ Some t }
-MapStands s t (map.Missing p) = record { file : p.map.file < s.geometry.files; some : 1 ≤ p.map.len; range : p.map.from + p.map.len ≤ s.geometry.limit; lock : s.locks p.map.file ≡ Some t; prepared : s.prepared t ≡ true; fits : fits s.geometry.space (s.areas t) p.base p.map.len ≡ true }
-MapStands s t (map.Changed p) = record { file : p.map.file < s.geometry.files; some : 1 ≤ p.map.len; range : p.map.from + p.map.len ≤ s.geometry.limit; lock : s.locks p.map.file ≡ Some t; prepared : s.prepared t ≡ true; fits : fits s.geometry.space (s.areas t) p.base p.map.len ≡ true; pending : 1 ≤ s.pending p.map.file; change : (p.pending.from ≡ p.map.from) × (p.pending.to ≡ p.map.from + p.map.len) × (p.pending.missing ≤ p.map.len) }
-MapStands s t (map.Abort p) = record { file : p.map.file < s.geometry.files; some : 1 ≤ p.map.len; range : p.map.from + p.map.len ≤ s.geometry.limit; lock : s.locks p.map.file ≡ Some t; pending : 1 ≤ s.pending p.map.file }
-MapStands s t (map.Accounted p) = record { file : p.map.file < s.geometry.files; some : 1 ≤ p.map.len; range : p.map.from + p.map.len ≤ s.geometry.limit; lock : s.locks p.map.file ≡ Some t; prepared : s.prepared t ≡ true; fits : fits s.geometry.space (s.areas t) p.base p.map.len ≡ true; pending : 1 ≤ s.pending p.map.file; change : (p.pending.from ≡ p.map.from) × (p.pending.to ≡ p.map.from + p.map.len) × (p.pending.missing ≤ p.map.len) }
-MapStands s t (map.Settle p) = record { file : p.map.file < s.geometry.files; some : 1 ≤ p.map.len; range : p.map.from + p.map.len ≤ s.geometry.limit; lock : s.locks p.map.file ≡ Some t; prepared : s.prepared t ≡ true; fits : fits s.geometry.space (s.areas t) p.base p.map.len ≡ true; enough : p.surplus ≤ s.resv }
-MapStands s t (map.Enter p) = record { file : p.map.file < s.geometry.files; some : 1 ≤ p.map.len; range : p.map.from + p.map.len ≤ s.geometry.limit; lock : s.locks p.map.file ≡ Some t; prepared : s.prepared t ≡ true; fits : fits s.geometry.space (s.areas t) p.base p.map.len ≡ true }
-MapStands s t (map.Leave p) = record { file : p.map.file < s.geometry.files; some : 1 ≤ p.map.len; range : p.map.from + p.map.len ≤ s.geometry.limit; lock : s.locks p.map.file ≡ Some t }
+MapStands s t (map.Room p) =
+    record {
+      file : p.map.file < s.geometry.files;
+      some : 1 ≤ p.map.len;
+      range : p.map.from + p.map.len ≤ s.geometry.limit;
+      lock : s.locks p.map.file ≡ Some t;
+    }
+MapStands s t (map.Missing p) =
+    record {
+      file : p.map.file < s.geometry.files;
+      some : 1 ≤ p.map.len;
+      range : p.map.from + p.map.len ≤ s.geometry.limit;
+      lock : s.locks p.map.file ≡ Some t;
+      prepared : s.prepared t ≡ true;
+      fits : fits s.geometry.space (s.areas t) p.base p.map.len ≡ true;
+    }
+MapStands s t (map.Changed p) =
+    record {
+      file : p.map.file < s.geometry.files;
+      some : 1 ≤ p.map.len;
+      range : p.map.from + p.map.len ≤ s.geometry.limit;
+      lock : s.locks p.map.file ≡ Some t;
+      prepared : s.prepared t ≡ true;
+      fits : fits s.geometry.space (s.areas t) p.base p.map.len ≡ true;
+      pending : 1 ≤ s.pending p.map.file;
+      change : (p.pending.from ≡ p.map.from) × (p.pending.to ≡ p.map.from + p.map.len) × (p.pending.missing ≤ p.map.len);
+    }
+MapStands s t (map.Abort p) =
+    record {
+      file : p.map.file < s.geometry.files;
+      some : 1 ≤ p.map.len;
+      range : p.map.from + p.map.len ≤ s.geometry.limit;
+      lock : s.locks p.map.file ≡ Some t;
+      pending : 1 ≤ s.pending p.map.file;
+    }
+MapStands s t (map.Accounted p) =
+    record {
+      file : p.map.file < s.geometry.files;
+      some : 1 ≤ p.map.len;
+      range : p.map.from + p.map.len ≤ s.geometry.limit;
+      lock : s.locks p.map.file ≡ Some t;
+      prepared : s.prepared t ≡ true;
+      fits : fits s.geometry.space (s.areas t) p.base p.map.len ≡ true;
+      pending : 1 ≤ s.pending p.map.file;
+      change : (p.pending.from ≡ p.map.from) × (p.pending.to ≡ p.map.from + p.map.len) × (p.pending.missing ≤ p.map.len);
+    }
+MapStands s t (map.Settle p) =
+    record {
+      file : p.map.file < s.geometry.files;
+      some : 1 ≤ p.map.len;
+      range : p.map.from + p.map.len ≤ s.geometry.limit;
+      lock : s.locks p.map.file ≡ Some t;
+      prepared : s.prepared t ≡ true;
+      fits : fits s.geometry.space (s.areas t) p.base p.map.len ≡ true;
+      enough : p.surplus ≤ s.resv;
+    }
+MapStands s t (map.Enter p) =
+    record {
+      file : p.map.file < s.geometry.files;
+      some : 1 ≤ p.map.len;
+      range : p.map.from + p.map.len ≤ s.geometry.limit;
+      lock : s.locks p.map.file ≡ Some t;
+      prepared : s.prepared t ≡ true;
+      fits : fits s.geometry.space (s.areas t) p.base p.map.len ≡ true;
+    }
+MapStands s t (map.Leave p) =
+    record {
+      file : p.map.file < s.geometry.files;
+      some : 1 ≤ p.map.len;
+      range : p.map.from + p.map.len ≤ s.geometry.limit;
+      lock : s.locks p.map.file ≡ Some t;
+    }
 
 map_facts : (s : State) (t : ℕ) (phase : MapPhase) → Inv s.geometry s → t < s.geometry.tasks + 1
     → s.calls t ≡ Some (call.Map phase) → MapStands s t phase
@@ -167,22 +392,68 @@ map_facts s t (map.Room p) h l e =
     record { file = y.facts.range.0; some = y.facts.range.1; range = y.facts.range.2; lock = y.lock }
 map_facts s t (map.Missing p) h l e =
     let y = stands_at s t _ h e in
-    record { file = y.facts.range.0; some = y.facts.range.1; range = y.facts.range.2; lock = y.lock; prepared = y.facts.based.0; fits = y.facts.based.1 }
+    record {
+      file = y.facts.range.0;
+      some = y.facts.range.1;
+      range = y.facts.range.2;
+      lock = y.lock;
+      prepared = y.facts.based.0;
+      fits = y.facts.based.1;
+    }
 map_facts s t (map.Changed p) h l e =
     let y = stands_at s t _ h e in
-    record { file = y.facts.range.0; some = y.facts.range.1; range = y.facts.range.2; lock = y.lock; prepared = y.facts.based.0; fits = y.facts.based.1; pending = has_pending s.geometry s t _ p.map.file h l e refl; change = y.facts.whole }
+    record {
+      file = y.facts.range.0;
+      some = y.facts.range.1;
+      range = y.facts.range.2;
+      lock = y.lock;
+      prepared = y.facts.based.0;
+      fits = y.facts.based.1;
+      pending = has_pending s.geometry s t _ p.map.file h l e refl;
+      change = y.facts.whole;
+    }
 map_facts s t (map.Abort p) h l e =
     let y = stands_at s t _ h e in
-    record { file = y.facts.range.0; some = y.facts.range.1; range = y.facts.range.2; lock = y.lock; pending = has_pending s.geometry s t _ p.map.file h l e refl }
+    record {
+      file = y.facts.range.0;
+      some = y.facts.range.1;
+      range = y.facts.range.2;
+      lock = y.lock;
+      pending = has_pending s.geometry s t _ p.map.file h l e refl;
+    }
 map_facts s t (map.Accounted p) h l e =
     let y = stands_at s t _ h e in
-    record { file = y.facts.range.0; some = y.facts.range.1; range = y.facts.range.2; lock = y.lock; prepared = y.facts.based.0; fits = y.facts.based.1; pending = has_pending s.geometry s t _ p.map.file h l e refl; change = y.facts.whole }
+    record {
+      file = y.facts.range.0;
+      some = y.facts.range.1;
+      range = y.facts.range.2;
+      lock = y.lock;
+      prepared = y.facts.based.0;
+      fits = y.facts.based.1;
+      pending = has_pending s.geometry s t _ p.map.file h l e refl;
+      change = y.facts.whole;
+    }
 map_facts s t (map.Settle p) h l e =
     let y = stands_at s t _ h e in
-    record { file = y.facts.range.0; some = y.facts.range.1; range = y.facts.range.2; lock = y.lock; prepared = y.facts.based.0; fits = y.facts.based.1; enough = settles s t _ h l e y }
+    record {
+      file = y.facts.range.0;
+      some = y.facts.range.1;
+      range = y.facts.range.2;
+      lock = y.lock;
+      prepared = y.facts.based.0;
+      fits = y.facts.based.1;
+      enough = settles s t _ h l e y;
+    }
 map_facts s t (map.Enter p) h l e =
     let y = stands_at s t _ h e in
-    record { file = y.facts.range.0; some = y.facts.range.1; range = y.facts.range.2; lock = y.lock; prepared = y.facts.based.0; fits = y.facts.based.1 }
+    record {
+      file = y.facts.range.0;
+      some = y.facts.range.1;
+      range = y.facts.range.2;
+      lock = y.lock;
+      prepared = y.facts.based.0;
+      fits = y.facts.based.1;
+    }
 map_facts s t (map.Leave p) h l e =
     let y = stands_at s t _ h e in
     record { file = y.facts.range.0; some = y.facts.range.1; range = y.facts.range.2; lock = y.lock }
@@ -195,18 +466,132 @@ map_stands s t phase reached e =
 
 abbrev pub AllocStands : State → (task : ℕ) → AllocPhase → Type 0
 AllocStands s t (alloc.Start p) = Unit {0}
-AllocStands s t (alloc.Head p) = record { file : p.allocation.file < s.geometry.files; index : p.index < s.geometry.limit; inside : (p.allocation.from ≤ p.index) × (p.index < p.allocation.from + p.allocation.len); range : p.allocation.from + p.allocation.len ≤ s.geometry.limit; lock : s.locks p.allocation.file ≡ Some t }
-AllocStands s t (alloc.Want p) = record { file : p.allocation.file < s.geometry.files; index : p.index < s.geometry.limit; inside : (p.allocation.from ≤ p.index) × (p.index < p.allocation.from + p.allocation.len); range : p.allocation.from + p.allocation.len ≤ s.geometry.limit; lock : s.locks p.allocation.file ≡ Some t }
-AllocStands s t (alloc.Locked p) = record { file : p.allocation.file < s.geometry.files; index : p.index < s.geometry.limit; inside : (p.allocation.from ≤ p.index) × (p.index < p.allocation.from + p.allocation.len); range : p.allocation.from + p.allocation.len ≤ s.geometry.limit; lock : s.locks p.allocation.file ≡ Some t; slot : s.slots (slot_of s.geometry p.allocation.file p.index) ≡ Some t }
-AllocStands s t (alloc.Missing p) = record { file : p.allocation.file < s.geometry.files; index : p.index < s.geometry.limit; inside : (p.allocation.from ≤ p.index) × (p.index < p.allocation.from + p.allocation.len); range : p.allocation.from + p.allocation.len ≤ s.geometry.limit; lock : s.locks p.allocation.file ≡ Some t; slot : s.slots (slot_of s.geometry p.allocation.file p.index) ≡ Some t; bare : s.pages p.allocation.file p.index ≡ None }
-AllocStands s t (alloc.Changed p) = record { file : p.allocation.file < s.geometry.files; index : p.index < s.geometry.limit; inside : (p.allocation.from ≤ p.index) × (p.index < p.allocation.from + p.allocation.len); range : p.allocation.from + p.allocation.len ≤ s.geometry.limit; lock : s.locks p.allocation.file ≡ Some t; slot : s.slots (slot_of s.geometry p.allocation.file p.index) ≡ Some t; bare : s.pages p.allocation.file p.index ≡ None; pending : 1 ≤ s.pending p.allocation.file; change : (p.pending.from ≡ p.index) × (p.pending.to ≡ p.index + 1) × (p.pending.missing ≤ 1); enough : p.pending.missing ≡ 0 → 1 ≤ s.resv }
-AllocStands s t (alloc.Abort p) = record { file : p.allocation.file < s.geometry.files; index : p.index < s.geometry.limit; inside : (p.allocation.from ≤ p.index) × (p.index < p.allocation.from + p.allocation.len); range : p.allocation.from + p.allocation.len ≤ s.geometry.limit; lock : s.locks p.allocation.file ≡ Some t; slot : s.slots (slot_of s.geometry p.allocation.file p.index) ≡ Some t; bare : s.pages p.allocation.file p.index ≡ None; pending : 1 ≤ s.pending p.allocation.file }
-AllocStands s t (alloc.Taken p) = record { file : p.allocation.file < s.geometry.files; index : p.index < s.geometry.limit; inside : (p.allocation.from ≤ p.index) × (p.index < p.allocation.from + p.allocation.len); range : p.allocation.from + p.allocation.len ≤ s.geometry.limit; lock : s.locks p.allocation.file ≡ Some t; slot : s.slots (slot_of s.geometry p.allocation.file p.index) ≡ Some t; bare : s.pages p.allocation.file p.index ≡ None; pending : 1 ≤ s.pending p.allocation.file; change : (p.pending.from ≡ p.index) × (p.pending.to ≡ p.index + 1) × (p.pending.missing ≤ 1); marked : p.pending.missing ≡ 0 → s.reserved p.allocation.file p.index ≡ true; hand : (s.frame p.held ≡ state.Hand) × (p.held < s.frames) }
-AllocStands s t (alloc.Settle p) = record { file : p.allocation.file < s.geometry.files; index : p.index < s.geometry.limit; inside : (p.allocation.from ≤ p.index) × (p.index < p.allocation.from + p.allocation.len); range : p.allocation.from + p.allocation.len ≤ s.geometry.limit; lock : s.locks p.allocation.file ≡ Some t; slot : s.slots (slot_of s.geometry p.allocation.file p.index) ≡ Some t; bare : s.pages p.allocation.file p.index ≡ None; marked : s.reserved p.allocation.file p.index ≡ true; hand : (s.frame p.held ≡ state.Hand) × (p.held < s.frames); enough : 1 ≤ s.resv }
-AllocStands s t (alloc.Committed p) = record { file : p.allocation.file < s.geometry.files; index : p.index < s.geometry.limit; inside : (p.allocation.from ≤ p.index) × (p.index < p.allocation.from + p.allocation.len); range : p.allocation.from + p.allocation.len ≤ s.geometry.limit; lock : s.locks p.allocation.file ≡ Some t; slot : s.slots (slot_of s.geometry p.allocation.file p.index) ≡ Some t; bare : s.pages p.allocation.file p.index ≡ None; marked : s.reserved p.allocation.file p.index ≡ true; hand : (s.frame p.held ≡ state.Hand) × (p.held < s.frames) }
-AllocStands s t (alloc.Restore p) = record { file : p.allocation.file < s.geometry.files; index : p.index < s.geometry.limit; inside : (p.allocation.from ≤ p.index) × (p.index < p.allocation.from + p.allocation.len); range : p.allocation.from + p.allocation.len ≤ s.geometry.limit; lock : s.locks p.allocation.file ≡ Some t; slot : s.slots (slot_of s.geometry p.allocation.file p.index) ≡ Some t; bare : s.pages p.allocation.file p.index ≡ None; marked : s.reserved p.allocation.file p.index ≡ true; hand : (s.frame p.held ≡ state.Hand) × (p.held < s.frames) }
-AllocStands s t (alloc.Unslot p) = record { file : p.allocation.file < s.geometry.files; index : p.index < s.geometry.limit; inside : (p.allocation.from ≤ p.index) × (p.index < p.allocation.from + p.allocation.len); range : p.allocation.from + p.allocation.len ≤ s.geometry.limit; lock : s.locks p.allocation.file ≡ Some t; slot : s.slots (slot_of s.geometry p.allocation.file p.index) ≡ Some t }
-AllocStands s t (alloc.Extend p) = record { file : p.allocation.file < s.geometry.files; some : 1 ≤ p.allocation.len; range : p.allocation.from + p.allocation.len ≤ s.geometry.limit; lock : s.locks p.allocation.file ≡ Some t }
+AllocStands s t (alloc.Head p) =
+    record {
+      file : p.allocation.file < s.geometry.files;
+      index : p.index < s.geometry.limit;
+      inside : (p.allocation.from ≤ p.index) × (p.index < p.allocation.from + p.allocation.len);
+      range : p.allocation.from + p.allocation.len ≤ s.geometry.limit;
+      lock : s.locks p.allocation.file ≡ Some t;
+    }
+AllocStands s t (alloc.Want p) =
+    record {
+      file : p.allocation.file < s.geometry.files;
+      index : p.index < s.geometry.limit;
+      inside : (p.allocation.from ≤ p.index) × (p.index < p.allocation.from + p.allocation.len);
+      range : p.allocation.from + p.allocation.len ≤ s.geometry.limit;
+      lock : s.locks p.allocation.file ≡ Some t;
+    }
+AllocStands s t (alloc.Locked p) =
+    record {
+      file : p.allocation.file < s.geometry.files;
+      index : p.index < s.geometry.limit;
+      inside : (p.allocation.from ≤ p.index) × (p.index < p.allocation.from + p.allocation.len);
+      range : p.allocation.from + p.allocation.len ≤ s.geometry.limit;
+      lock : s.locks p.allocation.file ≡ Some t;
+      slot : s.slots (slot_of s.geometry p.allocation.file p.index) ≡ Some t;
+    }
+AllocStands s t (alloc.Missing p) =
+    record {
+      file : p.allocation.file < s.geometry.files;
+      index : p.index < s.geometry.limit;
+      inside : (p.allocation.from ≤ p.index) × (p.index < p.allocation.from + p.allocation.len);
+      range : p.allocation.from + p.allocation.len ≤ s.geometry.limit;
+      lock : s.locks p.allocation.file ≡ Some t;
+      slot : s.slots (slot_of s.geometry p.allocation.file p.index) ≡ Some t;
+      bare : s.pages p.allocation.file p.index ≡ None;
+    }
+AllocStands s t (alloc.Changed p) =
+    record {
+      file : p.allocation.file < s.geometry.files;
+      index : p.index < s.geometry.limit;
+      inside : (p.allocation.from ≤ p.index) × (p.index < p.allocation.from + p.allocation.len);
+      range : p.allocation.from + p.allocation.len ≤ s.geometry.limit;
+      lock : s.locks p.allocation.file ≡ Some t;
+      slot : s.slots (slot_of s.geometry p.allocation.file p.index) ≡ Some t;
+      bare : s.pages p.allocation.file p.index ≡ None;
+      pending : 1 ≤ s.pending p.allocation.file;
+      change : (p.pending.from ≡ p.index) × (p.pending.to ≡ p.index + 1) × (p.pending.missing ≤ 1);
+      enough : p.pending.missing ≡ 0 → 1 ≤ s.resv;
+    }
+AllocStands s t (alloc.Abort p) =
+    record {
+      file : p.allocation.file < s.geometry.files;
+      index : p.index < s.geometry.limit;
+      inside : (p.allocation.from ≤ p.index) × (p.index < p.allocation.from + p.allocation.len);
+      range : p.allocation.from + p.allocation.len ≤ s.geometry.limit;
+      lock : s.locks p.allocation.file ≡ Some t;
+      slot : s.slots (slot_of s.geometry p.allocation.file p.index) ≡ Some t;
+      bare : s.pages p.allocation.file p.index ≡ None;
+      pending : 1 ≤ s.pending p.allocation.file;
+    }
+AllocStands s t (alloc.Taken p) =
+    record {
+      file : p.allocation.file < s.geometry.files;
+      index : p.index < s.geometry.limit;
+      inside : (p.allocation.from ≤ p.index) × (p.index < p.allocation.from + p.allocation.len);
+      range : p.allocation.from + p.allocation.len ≤ s.geometry.limit;
+      lock : s.locks p.allocation.file ≡ Some t;
+      slot : s.slots (slot_of s.geometry p.allocation.file p.index) ≡ Some t;
+      bare : s.pages p.allocation.file p.index ≡ None;
+      pending : 1 ≤ s.pending p.allocation.file;
+      change : (p.pending.from ≡ p.index) × (p.pending.to ≡ p.index + 1) × (p.pending.missing ≤ 1);
+      marked : p.pending.missing ≡ 0 → s.reserved p.allocation.file p.index ≡ true;
+      hand : (s.frame p.held ≡ state.Hand) × (p.held < s.frames);
+    }
+AllocStands s t (alloc.Settle p) =
+    record {
+      file : p.allocation.file < s.geometry.files;
+      index : p.index < s.geometry.limit;
+      inside : (p.allocation.from ≤ p.index) × (p.index < p.allocation.from + p.allocation.len);
+      range : p.allocation.from + p.allocation.len ≤ s.geometry.limit;
+      lock : s.locks p.allocation.file ≡ Some t;
+      slot : s.slots (slot_of s.geometry p.allocation.file p.index) ≡ Some t;
+      bare : s.pages p.allocation.file p.index ≡ None;
+      marked : s.reserved p.allocation.file p.index ≡ true;
+      hand : (s.frame p.held ≡ state.Hand) × (p.held < s.frames);
+      enough : 1 ≤ s.resv;
+    }
+AllocStands s t (alloc.Committed p) =
+    record {
+      file : p.allocation.file < s.geometry.files;
+      index : p.index < s.geometry.limit;
+      inside : (p.allocation.from ≤ p.index) × (p.index < p.allocation.from + p.allocation.len);
+      range : p.allocation.from + p.allocation.len ≤ s.geometry.limit;
+      lock : s.locks p.allocation.file ≡ Some t;
+      slot : s.slots (slot_of s.geometry p.allocation.file p.index) ≡ Some t;
+      bare : s.pages p.allocation.file p.index ≡ None;
+      marked : s.reserved p.allocation.file p.index ≡ true;
+      hand : (s.frame p.held ≡ state.Hand) × (p.held < s.frames);
+    }
+AllocStands s t (alloc.Restore p) =
+    record {
+      file : p.allocation.file < s.geometry.files;
+      index : p.index < s.geometry.limit;
+      inside : (p.allocation.from ≤ p.index) × (p.index < p.allocation.from + p.allocation.len);
+      range : p.allocation.from + p.allocation.len ≤ s.geometry.limit;
+      lock : s.locks p.allocation.file ≡ Some t;
+      slot : s.slots (slot_of s.geometry p.allocation.file p.index) ≡ Some t;
+      bare : s.pages p.allocation.file p.index ≡ None;
+      marked : s.reserved p.allocation.file p.index ≡ true;
+      hand : (s.frame p.held ≡ state.Hand) × (p.held < s.frames);
+    }
+AllocStands s t (alloc.Unslot p) =
+    record {
+      file : p.allocation.file < s.geometry.files;
+      index : p.index < s.geometry.limit;
+      inside : (p.allocation.from ≤ p.index) × (p.index < p.allocation.from + p.allocation.len);
+      range : p.allocation.from + p.allocation.len ≤ s.geometry.limit;
+      lock : s.locks p.allocation.file ≡ Some t;
+      slot : s.slots (slot_of s.geometry p.allocation.file p.index) ≡ Some t;
+    }
+AllocStands s t (alloc.Extend p) =
+    record {
+      file : p.allocation.file < s.geometry.files;
+      some : 1 ≤ p.allocation.len;
+      range : p.allocation.from + p.allocation.len ≤ s.geometry.limit;
+      lock : s.locks p.allocation.file ≡ Some t;
+    }
 AllocStands s t (alloc.Leave p) = record { file : p.allocation.file < s.geometry.files; lock : s.locks p.allocation.file ≡ Some t }
 
 alloc_facts : (s : State) (t : ℕ) (phase : AllocPhase) → Inv s.geometry s → t < s.geometry.tasks + 1
@@ -214,37 +599,134 @@ alloc_facts : (s : State) (t : ℕ) (phase : AllocPhase) → Inv s.geometry s �
 alloc_facts s t (alloc.Start p) h l e = tt
 alloc_facts s t (alloc.Head p) h l e =
     let y = stands_at s t _ h e in
-    record { file = y.facts.range.0; index = (let a = y.facts.range.2 in let b = y.facts.range.3 in omega arith); inside = (y.facts.range.1, y.facts.range.2); range = y.facts.range.3; lock = y.lock }
+    record {
+      file = y.facts.range.0;
+      index = (let a = y.facts.range.2 in let b = y.facts.range.3 in omega arith);
+      inside = (y.facts.range.1, y.facts.range.2);
+      range = y.facts.range.3;
+      lock = y.lock;
+    }
 alloc_facts s t (alloc.Want p) h l e =
     let y = stands_at s t _ h e in
-    record { file = y.facts.range.0; index = (let a = y.facts.range.2 in let b = y.facts.range.3 in omega arith); inside = (y.facts.range.1, y.facts.range.2); range = y.facts.range.3; lock = y.lock }
+    record {
+      file = y.facts.range.0;
+      index = (let a = y.facts.range.2 in let b = y.facts.range.3 in omega arith);
+      inside = (y.facts.range.1, y.facts.range.2);
+      range = y.facts.range.3;
+      lock = y.lock;
+    }
 alloc_facts s t (alloc.Locked p) h l e =
     let y = stands_at s t _ h e in
-    record { file = y.facts.range.0; index = (let a = y.facts.range.2 in let b = y.facts.range.3 in omega arith); inside = (y.facts.range.1, y.facts.range.2); range = y.facts.range.3; lock = y.lock; slot = y.slot }
+    record {
+      file = y.facts.range.0;
+      index = (let a = y.facts.range.2 in let b = y.facts.range.3 in omega arith);
+      inside = (y.facts.range.1, y.facts.range.2);
+      range = y.facts.range.3;
+      lock = y.lock;
+      slot = y.slot;
+    }
 alloc_facts s t (alloc.Missing p) h l e =
     let y = stands_at s t _ h e in
-    record { file = y.facts.range.0; index = (let a = y.facts.range.2 in let b = y.facts.range.3 in omega arith); inside = (y.facts.range.1, y.facts.range.2); range = y.facts.range.3; lock = y.lock; slot = y.slot; bare = y.facts.bare }
+    record {
+      file = y.facts.range.0;
+      index = (let a = y.facts.range.2 in let b = y.facts.range.3 in omega arith);
+      inside = (y.facts.range.1, y.facts.range.2);
+      range = y.facts.range.3;
+      lock = y.lock;
+      slot = y.slot;
+      bare = y.facts.bare;
+    }
 alloc_facts s t (alloc.Changed p) h l e =
     let y = stands_at s t _ h e in
-    record { file = y.facts.range.0; index = (let a = y.facts.range.2 in let b = y.facts.range.3 in omega arith); inside = (y.facts.range.1, y.facts.range.2); range = y.facts.range.3; lock = y.lock; slot = y.slot; bare = y.facts.bare; pending = has_pending s.geometry s t _ p.allocation.file h l e refl; change = y.facts.one; enough = settles s t _ h l e y }
+    record {
+      file = y.facts.range.0;
+      index = (let a = y.facts.range.2 in let b = y.facts.range.3 in omega arith);
+      inside = (y.facts.range.1, y.facts.range.2);
+      range = y.facts.range.3;
+      lock = y.lock;
+      slot = y.slot;
+      bare = y.facts.bare;
+      pending = has_pending s.geometry s t _ p.allocation.file h l e refl;
+      change = y.facts.one;
+      enough = settles s t _ h l e y;
+    }
 alloc_facts s t (alloc.Abort p) h l e =
     let y = stands_at s t _ h e in
-    record { file = y.facts.range.0; index = (let a = y.facts.range.2 in let b = y.facts.range.3 in omega arith); inside = (y.facts.range.1, y.facts.range.2); range = y.facts.range.3; lock = y.lock; slot = y.slot; bare = y.facts.bare; pending = has_pending s.geometry s t _ p.allocation.file h l e refl }
+    record {
+      file = y.facts.range.0;
+      index = (let a = y.facts.range.2 in let b = y.facts.range.3 in omega arith);
+      inside = (y.facts.range.1, y.facts.range.2);
+      range = y.facts.range.3;
+      lock = y.lock;
+      slot = y.slot;
+      bare = y.facts.bare;
+      pending = has_pending s.geometry s t _ p.allocation.file h l e refl;
+    }
 alloc_facts s t (alloc.Taken p) h l e =
     let y = stands_at s t _ h e in
-    record { file = y.facts.range.0; index = (let a = y.facts.range.2 in let b = y.facts.range.3 in omega arith); inside = (y.facts.range.1, y.facts.range.2); range = y.facts.range.3; lock = y.lock; slot = y.slot; bare = y.facts.bare; pending = has_pending s.geometry s t _ p.allocation.file h l e refl; change = y.facts.one; marked = λ z. y.facts.marked (is_zero p.pending.missing z); hand = in_hand s t _ p.held h e refl }
+    record {
+      file = y.facts.range.0;
+      index = (let a = y.facts.range.2 in let b = y.facts.range.3 in omega arith);
+      inside = (y.facts.range.1, y.facts.range.2);
+      range = y.facts.range.3;
+      lock = y.lock;
+      slot = y.slot;
+      bare = y.facts.bare;
+      pending = has_pending s.geometry s t _ p.allocation.file h l e refl;
+      change = y.facts.one;
+      marked = λ z. y.facts.marked (is_zero p.pending.missing z);
+      hand = in_hand s t _ p.held h e refl;
+    }
 alloc_facts s t (alloc.Settle p) h l e =
     let y = stands_at s t _ h e in
-    record { file = y.facts.range.0; index = (let a = y.facts.range.2 in let b = y.facts.range.3 in omega arith); inside = (y.facts.range.1, y.facts.range.2); range = y.facts.range.3; lock = y.lock; slot = y.slot; bare = y.facts.bare; marked = y.facts.marked; hand = in_hand s t _ p.held h e refl; enough = settles s t _ h l e y }
+    record {
+      file = y.facts.range.0;
+      index = (let a = y.facts.range.2 in let b = y.facts.range.3 in omega arith);
+      inside = (y.facts.range.1, y.facts.range.2);
+      range = y.facts.range.3;
+      lock = y.lock;
+      slot = y.slot;
+      bare = y.facts.bare;
+      marked = y.facts.marked;
+      hand = in_hand s t _ p.held h e refl;
+      enough = settles s t _ h l e y;
+    }
 alloc_facts s t (alloc.Committed p) h l e =
     let y = stands_at s t _ h e in
-    record { file = y.facts.range.0; index = (let a = y.facts.range.2 in let b = y.facts.range.3 in omega arith); inside = (y.facts.range.1, y.facts.range.2); range = y.facts.range.3; lock = y.lock; slot = y.slot; bare = y.facts.bare; marked = y.facts.marked; hand = in_hand s t _ p.held h e refl }
+    record {
+      file = y.facts.range.0;
+      index = (let a = y.facts.range.2 in let b = y.facts.range.3 in omega arith);
+      inside = (y.facts.range.1, y.facts.range.2);
+      range = y.facts.range.3;
+      lock = y.lock;
+      slot = y.slot;
+      bare = y.facts.bare;
+      marked = y.facts.marked;
+      hand = in_hand s t _ p.held h e refl;
+    }
 alloc_facts s t (alloc.Restore p) h l e =
     let y = stands_at s t _ h e in
-    record { file = y.facts.range.0; index = (let a = y.facts.range.2 in let b = y.facts.range.3 in omega arith); inside = (y.facts.range.1, y.facts.range.2); range = y.facts.range.3; lock = y.lock; slot = y.slot; bare = y.facts.bare; marked = y.facts.marked; hand = in_hand s t _ p.held h e refl }
+    record {
+      file = y.facts.range.0;
+      index = (let a = y.facts.range.2 in let b = y.facts.range.3 in omega arith);
+      inside = (y.facts.range.1, y.facts.range.2);
+      range = y.facts.range.3;
+      lock = y.lock;
+      slot = y.slot;
+      bare = y.facts.bare;
+      marked = y.facts.marked;
+      hand = in_hand s t _ p.held h e refl;
+    }
 alloc_facts s t (alloc.Unslot p) h l e =
     let y = stands_at s t _ h e in
-    record { file = y.facts.range.0; index = (let a = y.facts.range.2 in let b = y.facts.range.3 in omega arith); inside = (y.facts.range.1, y.facts.range.2); range = y.facts.range.3; lock = y.lock; slot = y.slot }
+    record {
+      file = y.facts.range.0;
+      index = (let a = y.facts.range.2 in let b = y.facts.range.3 in omega arith);
+      inside = (y.facts.range.1, y.facts.range.2);
+      range = y.facts.range.3;
+      lock = y.lock;
+      slot = y.slot;
+    }
 alloc_facts s t (alloc.Extend p) h l e =
     let y = stands_at s t _ h e in
     record { file = y.facts.range.0; some = y.facts.range.1; range = y.facts.range.2; lock = y.lock }
@@ -258,13 +740,76 @@ alloc_stands s t phase reached e =
 
 abbrev pub PunchStands : State → (task : ℕ) → PunchPhase → Type 0
 PunchStands s t (punch.Start p) = Unit {0}
-PunchStands s t (punch.Want p) = record { file : p.hole.file < s.geometry.files; index : p.index < s.geometry.limit; inside : (p.hole.from ≤ p.index) × (p.index < p.hole.from + p.hole.len); range : p.hole.from + p.hole.len ≤ s.geometry.limit; lock : s.locks p.hole.file ≡ Some t }
-PunchStands s t (punch.Locked p) = record { file : p.hole.file < s.geometry.files; index : p.index < s.geometry.limit; inside : (p.hole.from ≤ p.index) × (p.index < p.hole.from + p.hole.len); range : p.hole.from + p.hole.len ≤ s.geometry.limit; lock : s.locks p.hole.file ≡ Some t; slot : s.slots (slot_of s.geometry p.hole.file p.index) ≡ Some t }
-PunchStands s t (punch.Unmap p) = record { file : p.hole.file < s.geometry.files; index : p.index < s.geometry.limit; inside : (p.hole.from ≤ p.index) × (p.index < p.hole.from + p.hole.len); range : p.hole.from + p.hole.len ≤ s.geometry.limit; lock : s.locks p.hole.file ≡ Some t; slot : s.slots (slot_of s.geometry p.hole.file p.index) ≡ Some t; page : HasPage s p.hole.file p.index; task : (1 ≤ p.task) × (p.task ≤ s.geometry.tasks) }
-PunchStands s t (punch.Evict p) = record { file : p.hole.file < s.geometry.files; index : p.index < s.geometry.limit; inside : (p.hole.from ≤ p.index) × (p.index < p.hole.from + p.hole.len); range : p.hole.from + p.hole.len ≤ s.geometry.limit; lock : s.locks p.hole.file ≡ Some t; slot : s.slots (slot_of s.geometry p.hole.file p.index) ≡ Some t; page : HasPage s p.hole.file p.index }
-PunchStands s t (punch.Delete p) = record { file : p.hole.file < s.geometry.files; index : p.index < s.geometry.limit; inside : (p.hole.from ≤ p.index) × (p.index < p.hole.from + p.hole.len); range : p.hole.from + p.hole.len ≤ s.geometry.limit; lock : s.locks p.hole.file ≡ Some t; slot : s.slots (slot_of s.geometry p.hole.file p.index) ≡ Some t; bare : s.pages p.hole.file p.index ≡ None; marked : s.reserved p.hole.file p.index ≡ true; hand : (s.frame p.held ≡ state.Hand) × (p.held < s.frames) }
-PunchStands s t (punch.Free p) = record { file : p.hole.file < s.geometry.files; index : p.index < s.geometry.limit; inside : (p.hole.from ≤ p.index) × (p.index < p.hole.from + p.hole.len); range : p.hole.from + p.hole.len ≤ s.geometry.limit; lock : s.locks p.hole.file ≡ Some t; slot : s.slots (slot_of s.geometry p.hole.file p.index) ≡ Some t; bare : s.pages p.hole.file p.index ≡ None; hand : (s.frame p.held ≡ state.Hand) × (p.held < s.frames) }
-PunchStands s t (punch.Unslot p) = record { file : p.hole.file < s.geometry.files; index : p.index < s.geometry.limit; inside : (p.hole.from ≤ p.index) × (p.index < p.hole.from + p.hole.len); range : p.hole.from + p.hole.len ≤ s.geometry.limit; lock : s.locks p.hole.file ≡ Some t; slot : s.slots (slot_of s.geometry p.hole.file p.index) ≡ Some t }
+PunchStands s t (punch.Want p) =
+    record {
+      file : p.hole.file < s.geometry.files;
+      index : p.index < s.geometry.limit;
+      inside : (p.hole.from ≤ p.index) × (p.index < p.hole.from + p.hole.len);
+      range : p.hole.from + p.hole.len ≤ s.geometry.limit;
+      lock : s.locks p.hole.file ≡ Some t;
+    }
+PunchStands s t (punch.Locked p) =
+    record {
+      file : p.hole.file < s.geometry.files;
+      index : p.index < s.geometry.limit;
+      inside : (p.hole.from ≤ p.index) × (p.index < p.hole.from + p.hole.len);
+      range : p.hole.from + p.hole.len ≤ s.geometry.limit;
+      lock : s.locks p.hole.file ≡ Some t;
+      slot : s.slots (slot_of s.geometry p.hole.file p.index) ≡ Some t;
+    }
+PunchStands s t (punch.Unmap p) =
+    record {
+      file : p.hole.file < s.geometry.files;
+      index : p.index < s.geometry.limit;
+      inside : (p.hole.from ≤ p.index) × (p.index < p.hole.from + p.hole.len);
+      range : p.hole.from + p.hole.len ≤ s.geometry.limit;
+      lock : s.locks p.hole.file ≡ Some t;
+      slot : s.slots (slot_of s.geometry p.hole.file p.index) ≡ Some t;
+      page : HasPage s p.hole.file p.index;
+      task : (1 ≤ p.task) × (p.task ≤ s.geometry.tasks);
+    }
+PunchStands s t (punch.Evict p) =
+    record {
+      file : p.hole.file < s.geometry.files;
+      index : p.index < s.geometry.limit;
+      inside : (p.hole.from ≤ p.index) × (p.index < p.hole.from + p.hole.len);
+      range : p.hole.from + p.hole.len ≤ s.geometry.limit;
+      lock : s.locks p.hole.file ≡ Some t;
+      slot : s.slots (slot_of s.geometry p.hole.file p.index) ≡ Some t;
+      page : HasPage s p.hole.file p.index;
+    }
+PunchStands s t (punch.Delete p) =
+    record {
+      file : p.hole.file < s.geometry.files;
+      index : p.index < s.geometry.limit;
+      inside : (p.hole.from ≤ p.index) × (p.index < p.hole.from + p.hole.len);
+      range : p.hole.from + p.hole.len ≤ s.geometry.limit;
+      lock : s.locks p.hole.file ≡ Some t;
+      slot : s.slots (slot_of s.geometry p.hole.file p.index) ≡ Some t;
+      bare : s.pages p.hole.file p.index ≡ None;
+      marked : s.reserved p.hole.file p.index ≡ true;
+      hand : (s.frame p.held ≡ state.Hand) × (p.held < s.frames);
+    }
+PunchStands s t (punch.Free p) =
+    record {
+      file : p.hole.file < s.geometry.files;
+      index : p.index < s.geometry.limit;
+      inside : (p.hole.from ≤ p.index) × (p.index < p.hole.from + p.hole.len);
+      range : p.hole.from + p.hole.len ≤ s.geometry.limit;
+      lock : s.locks p.hole.file ≡ Some t;
+      slot : s.slots (slot_of s.geometry p.hole.file p.index) ≡ Some t;
+      bare : s.pages p.hole.file p.index ≡ None;
+      hand : (s.frame p.held ≡ state.Hand) × (p.held < s.frames);
+    }
+PunchStands s t (punch.Unslot p) =
+    record {
+      file : p.hole.file < s.geometry.files;
+      index : p.index < s.geometry.limit;
+      inside : (p.hole.from ≤ p.index) × (p.index < p.hole.from + p.hole.len);
+      range : p.hole.from + p.hole.len ≤ s.geometry.limit;
+      lock : s.locks p.hole.file ≡ Some t;
+      slot : s.slots (slot_of s.geometry p.hole.file p.index) ≡ Some t;
+    }
 PunchStands s t (punch.Leave p) = record { file : p.hole.file < s.geometry.files; lock : s.locks p.hole.file ≡ Some t }
 
 punch_facts : (s : State) (t : ℕ) (phase : PunchPhase) → Inv s.geometry s → t < s.geometry.tasks + 1
@@ -272,25 +817,81 @@ punch_facts : (s : State) (t : ℕ) (phase : PunchPhase) → Inv s.geometry s �
 punch_facts s t (punch.Start p) h l e = tt
 punch_facts s t (punch.Want p) h l e =
     let y = stands_at s t _ h e in
-    record { file = y.facts.range.0; index = (let a = y.facts.range.2 in let b = y.facts.range.3 in omega arith); inside = (y.facts.range.1, y.facts.range.2); range = y.facts.range.3; lock = y.lock }
+    record {
+      file = y.facts.range.0;
+      index = (let a = y.facts.range.2 in let b = y.facts.range.3 in omega arith);
+      inside = (y.facts.range.1, y.facts.range.2);
+      range = y.facts.range.3;
+      lock = y.lock;
+    }
 punch_facts s t (punch.Locked p) h l e =
     let y = stands_at s t _ h e in
-    record { file = y.facts.range.0; index = (let a = y.facts.range.2 in let b = y.facts.range.3 in omega arith); inside = (y.facts.range.1, y.facts.range.2); range = y.facts.range.3; lock = y.lock; slot = y.slot }
+    record {
+      file = y.facts.range.0;
+      index = (let a = y.facts.range.2 in let b = y.facts.range.3 in omega arith);
+      inside = (y.facts.range.1, y.facts.range.2);
+      range = y.facts.range.3;
+      lock = y.lock;
+      slot = y.slot;
+    }
 punch_facts s t (punch.Unmap p) h l e =
     let y = stands_at s t _ h e in
-    record { file = y.facts.range.0; index = (let a = y.facts.range.2 in let b = y.facts.range.3 in omega arith); inside = (y.facts.range.1, y.facts.range.2); range = y.facts.range.3; lock = y.lock; slot = y.slot; page = has_page s _ _ h y.facts.cached; task = y.facts.task }
+    record {
+      file = y.facts.range.0;
+      index = (let a = y.facts.range.2 in let b = y.facts.range.3 in omega arith);
+      inside = (y.facts.range.1, y.facts.range.2);
+      range = y.facts.range.3;
+      lock = y.lock;
+      slot = y.slot;
+      page = has_page s _ _ h y.facts.cached;
+      task = y.facts.task;
+    }
 punch_facts s t (punch.Evict p) h l e =
     let y = stands_at s t _ h e in
-    record { file = y.facts.range.0; index = (let a = y.facts.range.2 in let b = y.facts.range.3 in omega arith); inside = (y.facts.range.1, y.facts.range.2); range = y.facts.range.3; lock = y.lock; slot = y.slot; page = has_page s _ _ h y.facts.cached }
+    record {
+      file = y.facts.range.0;
+      index = (let a = y.facts.range.2 in let b = y.facts.range.3 in omega arith);
+      inside = (y.facts.range.1, y.facts.range.2);
+      range = y.facts.range.3;
+      lock = y.lock;
+      slot = y.slot;
+      page = has_page s _ _ h y.facts.cached;
+    }
 punch_facts s t (punch.Delete p) h l e =
     let y = stands_at s t _ h e in
-    record { file = y.facts.range.0; index = (let a = y.facts.range.2 in let b = y.facts.range.3 in omega arith); inside = (y.facts.range.1, y.facts.range.2); range = y.facts.range.3; lock = y.lock; slot = y.slot; bare = y.facts.bare; marked = y.facts.marked; hand = in_hand s t _ p.held h e refl }
+    record {
+      file = y.facts.range.0;
+      index = (let a = y.facts.range.2 in let b = y.facts.range.3 in omega arith);
+      inside = (y.facts.range.1, y.facts.range.2);
+      range = y.facts.range.3;
+      lock = y.lock;
+      slot = y.slot;
+      bare = y.facts.bare;
+      marked = y.facts.marked;
+      hand = in_hand s t _ p.held h e refl;
+    }
 punch_facts s t (punch.Free p) h l e =
     let y = stands_at s t _ h e in
-    record { file = y.facts.range.0; index = (let a = y.facts.range.2 in let b = y.facts.range.3 in omega arith); inside = (y.facts.range.1, y.facts.range.2); range = y.facts.range.3; lock = y.lock; slot = y.slot; bare = y.facts.bare; hand = in_hand s t _ p.held h e refl }
+    record {
+      file = y.facts.range.0;
+      index = (let a = y.facts.range.2 in let b = y.facts.range.3 in omega arith);
+      inside = (y.facts.range.1, y.facts.range.2);
+      range = y.facts.range.3;
+      lock = y.lock;
+      slot = y.slot;
+      bare = y.facts.bare;
+      hand = in_hand s t _ p.held h e refl;
+    }
 punch_facts s t (punch.Unslot p) h l e =
     let y = stands_at s t _ h e in
-    record { file = y.facts.range.0; index = (let a = y.facts.range.2 in let b = y.facts.range.3 in omega arith); inside = (y.facts.range.1, y.facts.range.2); range = y.facts.range.3; lock = y.lock; slot = y.slot }
+    record {
+      file = y.facts.range.0;
+      index = (let a = y.facts.range.2 in let b = y.facts.range.3 in omega arith);
+      inside = (y.facts.range.1, y.facts.range.2);
+      range = y.facts.range.3;
+      lock = y.lock;
+      slot = y.slot;
+    }
 punch_facts s t (punch.Leave p) h l e = let y = stands_at s t _ h e in record { file = y.facts.file; lock = y.lock }
 
 pub punch_stands : (s : State) (t : ℕ) (phase : PunchPhase) → IsReached s → s.calls t ≡ Some (call.Punch phase) → PunchStands s t phase
@@ -301,16 +902,98 @@ punch_stands s t phase reached e =
 
 abbrev pub TruncateStands : State → (task : ℕ) → TruncatePhase → Type 0
 TruncateStands s t (truncate.Start p) = Unit {0}
-TruncateStands s t (truncate.Size p) = record { file : p.truncation.file < s.geometry.files; new : p.truncation.new ≤ s.geometry.limit; lock : s.locks p.truncation.file ≡ Some t }
-TruncateStands s t (truncate.Want p) = record { file : p.truncation.file < s.geometry.files; new : p.truncation.new ≤ s.geometry.limit; index : (p.truncation.new ≤ p.index) × (p.index < s.geometry.limit); sized : s.size p.truncation.file ≡ p.truncation.new; lock : s.locks p.truncation.file ≡ Some t; evicted : p.evicted ≤ count_within (s.reserved p.truncation.file) (p.index + 1) s.geometry.limit }
-TruncateStands s t (truncate.Locked p) = record { file : p.truncation.file < s.geometry.files; new : p.truncation.new ≤ s.geometry.limit; index : (p.truncation.new ≤ p.index) × (p.index < s.geometry.limit); sized : s.size p.truncation.file ≡ p.truncation.new; lock : s.locks p.truncation.file ≡ Some t; evicted : p.evicted ≤ count_within (s.reserved p.truncation.file) (p.index + 1) s.geometry.limit; slot : s.slots (slot_of s.geometry p.truncation.file p.index) ≡ Some t }
-TruncateStands s t (truncate.Unmap p) = record { file : p.truncation.file < s.geometry.files; new : p.truncation.new ≤ s.geometry.limit; index : (p.truncation.new ≤ p.index) × (p.index < s.geometry.limit); sized : s.size p.truncation.file ≡ p.truncation.new; lock : s.locks p.truncation.file ≡ Some t; evicted : p.evicted ≤ count_within (s.reserved p.truncation.file) (p.index + 1) s.geometry.limit; slot : s.slots (slot_of s.geometry p.truncation.file p.index) ≡ Some t; page : HasPage s p.truncation.file p.index; task : (1 ≤ p.task) × (p.task ≤ s.geometry.tasks) }
-TruncateStands s t (truncate.Evict p) = record { file : p.truncation.file < s.geometry.files; new : p.truncation.new ≤ s.geometry.limit; index : (p.truncation.new ≤ p.index) × (p.index < s.geometry.limit); sized : s.size p.truncation.file ≡ p.truncation.new; lock : s.locks p.truncation.file ≡ Some t; evicted : p.evicted ≤ count_within (s.reserved p.truncation.file) (p.index + 1) s.geometry.limit; slot : s.slots (slot_of s.geometry p.truncation.file p.index) ≡ Some t; page : HasPage s p.truncation.file p.index }
-TruncateStands s t (truncate.Free p) = record { file : p.truncation.file < s.geometry.files; new : p.truncation.new ≤ s.geometry.limit; index : (p.truncation.new ≤ p.index) × (p.index < s.geometry.limit); sized : s.size p.truncation.file ≡ p.truncation.new; lock : s.locks p.truncation.file ≡ Some t; evicted : p.evicted ≤ count_within (s.reserved p.truncation.file) p.index s.geometry.limit; slot : s.slots (slot_of s.geometry p.truncation.file p.index) ≡ Some t; bare : s.pages p.truncation.file p.index ≡ None; hand : (s.frame p.held ≡ state.Hand) × (p.held < s.frames) }
-TruncateStands s t (truncate.Unslot p) = record { file : p.truncation.file < s.geometry.files; new : p.truncation.new ≤ s.geometry.limit; index : (p.truncation.new ≤ p.index) × (p.index < s.geometry.limit); sized : s.size p.truncation.file ≡ p.truncation.new; lock : s.locks p.truncation.file ≡ Some t; evicted : p.evicted ≤ count_within (s.reserved p.truncation.file) p.index s.geometry.limit; slot : s.slots (slot_of s.geometry p.truncation.file p.index) ≡ Some t; bare : s.pages p.truncation.file p.index ≡ None }
-TruncateStands s t (truncate.Tail p) = record { file : p.truncation.file < s.geometry.files; new : p.truncation.new ≤ s.geometry.limit; sized : s.size p.truncation.file ≡ p.truncation.new; lock : s.locks p.truncation.file ≡ Some t; evicted : p.evicted ≤ count_within (s.reserved p.truncation.file) p.truncation.new s.geometry.limit }
-TruncateStands s t (truncate.Settle p) = record { file : p.truncation.file < s.geometry.files; sized : s.size p.truncation.file ≡ p.truncation.new; lock : s.locks p.truncation.file ≡ Some t; enough : p.surplus ≤ s.resv }
-TruncateStands s t (truncate.Leave p) = record { file : p.truncation.file < s.geometry.files; sized : s.size p.truncation.file ≡ p.truncation.new; lock : s.locks p.truncation.file ≡ Some t }
+TruncateStands s t (truncate.Size p) =
+    record {
+      file : p.truncation.file < s.geometry.files;
+      new : p.truncation.new ≤ s.geometry.limit;
+      lock : s.locks p.truncation.file ≡ Some t;
+    }
+TruncateStands s t (truncate.Want p) =
+    record {
+      file : p.truncation.file < s.geometry.files;
+      new : p.truncation.new ≤ s.geometry.limit;
+      index : (p.truncation.new ≤ p.index) × (p.index < s.geometry.limit);
+      sized : s.size p.truncation.file ≡ p.truncation.new;
+      lock : s.locks p.truncation.file ≡ Some t;
+      evicted : p.evicted ≤ count_within (s.reserved p.truncation.file) (p.index + 1) s.geometry.limit;
+    }
+TruncateStands s t (truncate.Locked p) =
+    record {
+      file : p.truncation.file < s.geometry.files;
+      new : p.truncation.new ≤ s.geometry.limit;
+      index : (p.truncation.new ≤ p.index) × (p.index < s.geometry.limit);
+      sized : s.size p.truncation.file ≡ p.truncation.new;
+      lock : s.locks p.truncation.file ≡ Some t;
+      evicted : p.evicted ≤ count_within (s.reserved p.truncation.file) (p.index + 1) s.geometry.limit;
+      slot : s.slots (slot_of s.geometry p.truncation.file p.index) ≡ Some t;
+    }
+TruncateStands s t (truncate.Unmap p) =
+    record {
+      file : p.truncation.file < s.geometry.files;
+      new : p.truncation.new ≤ s.geometry.limit;
+      index : (p.truncation.new ≤ p.index) × (p.index < s.geometry.limit);
+      sized : s.size p.truncation.file ≡ p.truncation.new;
+      lock : s.locks p.truncation.file ≡ Some t;
+      evicted : p.evicted ≤ count_within (s.reserved p.truncation.file) (p.index + 1) s.geometry.limit;
+      slot : s.slots (slot_of s.geometry p.truncation.file p.index) ≡ Some t;
+      page : HasPage s p.truncation.file p.index;
+      task : (1 ≤ p.task) × (p.task ≤ s.geometry.tasks);
+    }
+TruncateStands s t (truncate.Evict p) =
+    record {
+      file : p.truncation.file < s.geometry.files;
+      new : p.truncation.new ≤ s.geometry.limit;
+      index : (p.truncation.new ≤ p.index) × (p.index < s.geometry.limit);
+      sized : s.size p.truncation.file ≡ p.truncation.new;
+      lock : s.locks p.truncation.file ≡ Some t;
+      evicted : p.evicted ≤ count_within (s.reserved p.truncation.file) (p.index + 1) s.geometry.limit;
+      slot : s.slots (slot_of s.geometry p.truncation.file p.index) ≡ Some t;
+      page : HasPage s p.truncation.file p.index;
+    }
+TruncateStands s t (truncate.Free p) =
+    record {
+      file : p.truncation.file < s.geometry.files;
+      new : p.truncation.new ≤ s.geometry.limit;
+      index : (p.truncation.new ≤ p.index) × (p.index < s.geometry.limit);
+      sized : s.size p.truncation.file ≡ p.truncation.new;
+      lock : s.locks p.truncation.file ≡ Some t;
+      evicted : p.evicted ≤ count_within (s.reserved p.truncation.file) p.index s.geometry.limit;
+      slot : s.slots (slot_of s.geometry p.truncation.file p.index) ≡ Some t;
+      bare : s.pages p.truncation.file p.index ≡ None;
+      hand : (s.frame p.held ≡ state.Hand) × (p.held < s.frames);
+    }
+TruncateStands s t (truncate.Unslot p) =
+    record {
+      file : p.truncation.file < s.geometry.files;
+      new : p.truncation.new ≤ s.geometry.limit;
+      index : (p.truncation.new ≤ p.index) × (p.index < s.geometry.limit);
+      sized : s.size p.truncation.file ≡ p.truncation.new;
+      lock : s.locks p.truncation.file ≡ Some t;
+      evicted : p.evicted ≤ count_within (s.reserved p.truncation.file) p.index s.geometry.limit;
+      slot : s.slots (slot_of s.geometry p.truncation.file p.index) ≡ Some t;
+      bare : s.pages p.truncation.file p.index ≡ None;
+    }
+TruncateStands s t (truncate.Tail p) =
+    record {
+      file : p.truncation.file < s.geometry.files;
+      new : p.truncation.new ≤ s.geometry.limit;
+      sized : s.size p.truncation.file ≡ p.truncation.new;
+      lock : s.locks p.truncation.file ≡ Some t;
+      evicted : p.evicted ≤ count_within (s.reserved p.truncation.file) p.truncation.new s.geometry.limit;
+    }
+TruncateStands s t (truncate.Settle p) =
+    record {
+      file : p.truncation.file < s.geometry.files;
+      sized : s.size p.truncation.file ≡ p.truncation.new;
+      lock : s.locks p.truncation.file ≡ Some t;
+      enough : p.surplus ≤ s.resv;
+    }
+TruncateStands s t (truncate.Leave p) =
+    record {
+      file : p.truncation.file < s.geometry.files;
+      sized : s.size p.truncation.file ≡ p.truncation.new;
+      lock : s.locks p.truncation.file ≡ Some t;
+    }
 
 truncate_facts : (s : State) (t : ℕ) (phase : TruncatePhase) → Inv s.geometry s → t < s.geometry.tasks + 1
     → s.calls t ≡ Some (call.Truncate phase) → TruncateStands s t phase
@@ -321,19 +1004,65 @@ truncate_facts s t (truncate.Want p) h l e =
     record { file = y.facts.file; new = y.facts.new; index = y.facts.index; sized = y.facts.sized; lock = y.lock; evicted = y.facts.lost }
 truncate_facts s t (truncate.Locked p) h l e =
     let y = stands_at s t _ h e in
-    record { file = y.facts.file; new = y.facts.new; index = y.facts.index; sized = y.facts.sized; lock = y.lock; evicted = y.facts.lost; slot = y.slot }
+    record {
+      file = y.facts.file;
+      new = y.facts.new;
+      index = y.facts.index;
+      sized = y.facts.sized;
+      lock = y.lock;
+      evicted = y.facts.lost;
+      slot = y.slot;
+    }
 truncate_facts s t (truncate.Unmap p) h l e =
     let y = stands_at s t _ h e in
-    record { file = y.facts.file; new = y.facts.new; index = y.facts.index; sized = y.facts.sized; lock = y.lock; evicted = y.facts.lost; slot = y.slot; page = has_page s _ _ h y.facts.cached; task = y.facts.task }
+    record {
+      file = y.facts.file;
+      new = y.facts.new;
+      index = y.facts.index;
+      sized = y.facts.sized;
+      lock = y.lock;
+      evicted = y.facts.lost;
+      slot = y.slot;
+      page = has_page s _ _ h y.facts.cached;
+      task = y.facts.task;
+    }
 truncate_facts s t (truncate.Evict p) h l e =
     let y = stands_at s t _ h e in
-    record { file = y.facts.file; new = y.facts.new; index = y.facts.index; sized = y.facts.sized; lock = y.lock; evicted = y.facts.lost; slot = y.slot; page = has_page s _ _ h y.facts.cached }
+    record {
+      file = y.facts.file;
+      new = y.facts.new;
+      index = y.facts.index;
+      sized = y.facts.sized;
+      lock = y.lock;
+      evicted = y.facts.lost;
+      slot = y.slot;
+      page = has_page s _ _ h y.facts.cached;
+    }
 truncate_facts s t (truncate.Free p) h l e =
     let y = stands_at s t _ h e in
-    record { file = y.facts.file; new = y.facts.new; index = y.facts.index; sized = y.facts.sized; lock = y.lock; evicted = y.facts.lost; slot = y.slot; bare = y.facts.bare; hand = in_hand s t _ p.held h e refl }
+    record {
+      file = y.facts.file;
+      new = y.facts.new;
+      index = y.facts.index;
+      sized = y.facts.sized;
+      lock = y.lock;
+      evicted = y.facts.lost;
+      slot = y.slot;
+      bare = y.facts.bare;
+      hand = in_hand s t _ p.held h e refl;
+    }
 truncate_facts s t (truncate.Unslot p) h l e =
     let y = stands_at s t _ h e in
-    record { file = y.facts.file; new = y.facts.new; index = y.facts.index; sized = y.facts.sized; lock = y.lock; evicted = y.facts.lost; slot = y.slot; bare = y.facts.bare }
+    record {
+      file = y.facts.file;
+      new = y.facts.new;
+      index = y.facts.index;
+      sized = y.facts.sized;
+      lock = y.lock;
+      evicted = y.facts.lost;
+      slot = y.slot;
+      bare = y.facts.bare;
+    }
 truncate_facts s t (truncate.Tail p) h l e =
     let y = stands_at s t _ h e in
     record { file = y.facts.file; new = y.facts.new; sized = y.facts.sized; lock = y.lock; evicted = y.facts.lost }
@@ -354,7 +1083,11 @@ truncate_stands s t phase reached e =
 abbrev pub UnmapStands : State → (task : ℕ) → UnmapPhase → Type 0
 UnmapStands s t (unmap.Start p) = Unit {0}
 UnmapStands s t (unmap.Clear p) = record { base : is_base (s.areas t) p.base ≡ true }
-UnmapStands s t (unmap.Drop p) = record { base : is_base (s.areas t) p.base ≡ true; empty : (v x : ℕ) → s.table t v ≡ Some x → in_mapping (s.areas t) p.base v ≡ false }
+UnmapStands s t (unmap.Drop p) =
+    record {
+      base : is_base (s.areas t) p.base ≡ true;
+      empty : (v x : ℕ) → s.table t v ≡ Some x → in_mapping (s.areas t) p.base v ≡ false;
+    }
 
 unmap_facts : (s : State) (t : ℕ) (phase : UnmapPhase) → Inv s.geometry s → t < s.geometry.tasks + 1
     → s.calls t ≡ Some (call.Unmap phase) → UnmapStands s t phase
@@ -371,7 +1104,11 @@ unmap_stands s t phase reached e =
 abbrev pub ExitStands : State → (task : ℕ) → ExitPhase → Type 0
 ExitStands s t exit.Start = Unit {0}
 ExitStands s t (exit.Clear p) = record { base : is_base (s.areas t) p.base ≡ true }
-ExitStands s t (exit.Drop p) = record { base : is_base (s.areas t) p.base ≡ true; empty : (v x : ℕ) → s.table t v ≡ Some x → in_mapping (s.areas t) p.base v ≡ false }
+ExitStands s t (exit.Drop p) =
+    record {
+      base : is_base (s.areas t) p.base ≡ true;
+      empty : (v x : ℕ) → s.table t v ≡ Some x → in_mapping (s.areas t) p.base v ≡ false;
+    }
 ExitStands s t exit.Leave = Unit {0}
 
 exit_facts : (s : State) (t : ℕ) (phase : ExitPhase) → Inv s.geometry s → t < s.geometry.tasks + 1

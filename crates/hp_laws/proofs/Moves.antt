@@ -8,7 +8,8 @@ use Rattle.hp_frames.specs.declared.frame.FrameState.TheVariants as state
 use Rattle.hp_machine.specs.Headline.{Place, Free, Hand, Page, IsAt, OnePlace}
 
 -- frame x goes from p to q, and no other frame goes anywhere
-pub frame_moves : (n : ℕ) (states states' : ℕ → FrameState) (hands hands' : ℕ → Option ℕ) (pages pages' : ℕ → ℕ → Option ℕ) (x : ℕ) (p q : Place)
+pub frame_moves : (n : ℕ) (states states' : ℕ → FrameState) (hands hands' : ℕ → Option ℕ)
+    (pages pages' : ℕ → ℕ → Option ℕ) (x : ℕ) (p q : Place)
     → OnePlace n states hands pages → IsAt states hands pages x p → IsAt states' hands' pages' x q
     → ((r : Place) → IsAt states' hands' pages' x r → r ≡ q)
     → ((y : ℕ) (r : Place) → y ≢ x → IsAt states' hands' pages' y r → IsAt states hands pages y r)
@@ -16,7 +17,8 @@ pub frame_moves : (n : ℕ) (states states' : ℕ → FrameState) (hands hands' 
     → OnePlace n states' hands' pages'
 frame_moves n states states' hands hands' pages pages' x p q h a b only back on = record {
   one = λ y l. elim (same_or_other y x) [
-    | inl e ↦ subst (λ (w : ℕ). (r : Place) × IsAt states' hands' pages' w r × ((s : Place) → IsAt states' hands' pages' w s → s ≡ r)) (sym e) (q, b, only)
+    | inl e ↦ subst (λ (w : ℕ). (r : Place) × IsAt states' hands' pages' w r
+        × ((s : Place) → IsAt states' hands' pages' w s → s ≡ r)) (sym e) (q, b, only)
     | inr e ↦ (let o = h.one y l in (o.0, on y o.0 e o.1, λ s i. o.2 s (back y s e i)))
   ];
   real = λ y r i. elim (same_or_other y x) [
@@ -84,7 +86,8 @@ pub placed : (n : ℕ) (states : ℕ → FrameState) (hands : ℕ → Option ℕ
     → OnePlace n states hands pages → hands t ≡ Some x → pages f i ≡ None
     → OnePlace n (put states x (state.Placed 0)) (put hands t None) (put2 pages f i (Some x))
 placed n states hands pages t f i x h e d =
-    frame_moves n states (put states x (state.Placed 0)) hands (put hands t None) pages (put2 pages f i (Some x)) x (Hand t) (Page f i) h e (put2_same pages f i (Some x))
+    frame_moves n states (put states x (state.Placed 0)) hands (put hands t None) pages (put2 pages f i (Some x)) x
+    (Hand t) (Page f i) h e (put2_same pages f i (Some x))
     (place_only states hands pages t f i x (λ q a. same_place n states hands pages h x q (Hand t) a e))
     (λ y r b a. place_back states hands pages t f i x y r b a)
     (λ y r b a. place_on states hands pages t f i x y r e d b a)
@@ -140,7 +143,8 @@ pub evicted : (n : ℕ) (states : ℕ → FrameState) (hands : ℕ → Option �
     → OnePlace n states hands pages → hands t ≡ None → pages f i ≡ Some x
     → OnePlace n (put states x state.Hand) (put hands t (Some x)) (put2 pages f i None)
 evicted n states hands pages t f i x h e d =
-    frame_moves n states (put states x state.Hand) hands (put hands t (Some x)) pages (put2 pages f i None) x (Page f i) (Hand t) h d (put_same hands t (Some x))
+    frame_moves n states (put states x state.Hand) hands (put hands t (Some x)) pages (put2 pages f i None) x
+    (Page f i) (Hand t) h d (put_same hands t (Some x))
     (evict_only states hands pages t f i x (λ q a. same_place n states hands pages h x q (Page f i) a d))
     (λ y r b a. evict_back states hands pages t f i x y r b a)
     (λ y r b a. evict_on states hands pages t f i x y r e d b a)
@@ -202,7 +206,8 @@ places_frame n states hands pages t f i x h e d = record {
     in_hand u y q = elim (put_tells hands t None u) [
       | inl z ↦ (let w : ◌≡◌ {A = Option ℕ} None (Some y) = sym z.1 ∙ q in absurd (cc))
       | inr z ↦ (let a : hands u ≡ Some y = sym z.1 ∙ q in
-          put_other states x (state.Placed 0) y (λ o. z.0 (other_hand n states hands pages t u x h e (a ∙ ap (λ (m : ℕ). Some m) o))) ∙ h.hands u y a)
+          put_other states x (state.Placed 0) y
+          (λ o. z.0 (other_hand n states hands pages t u x h e (a ∙ ap (λ (m : ℕ). Some m) o))) ∙ h.hands u y a)
     ]
 
     on_page : (k j y : ℕ) → put2 pages f i (Some x) k j ≡ Some y → (word : ℕ) × (put states x (state.Placed 0) y ≡ state.Placed word)
@@ -222,14 +227,20 @@ pub gives_frame : (n : ℕ) (states : ℕ → FrameState) (hands : ℕ → Optio
 gives_frame n states hands pages t x h e = record {
   one = given n states hands pages t x h.one e;
   hands = λ u y q. in_hand u y q;
-  pages = λ f i y q. let o = h.pages f i y q in (o.0, put_other states x state.Free y (λ z. (let a : states x ≡ state.Placed o.0 = ap states (sym z) ∙ o.1 in let b = h.hands t x e in absurd (cc))) ∙ o.1);
+  pages =
+      λ f i y q. let o = h.pages f i y q in (
+        o.0,
+        put_other states x state.Free y
+            (λ z. (let a : states x ≡ state.Placed o.0 = ap states (sym z) ∙ o.1 in let b = h.hands t x e in absurd (cc))) ∙ o.1,
+      );
 }
   where
     in_hand : (u y : ℕ) → put hands t None u ≡ Some y → put states x state.Free y ≡ state.Hand
     in_hand u y q = elim (put_tells hands t None u) [
       | inl z ↦ (let w : ◌≡◌ {A = Option ℕ} None (Some y) = sym z.1 ∙ q in absurd (cc))
       | inr z ↦ (let a : hands u ≡ Some y = sym z.1 ∙ q in
-          put_other states x state.Free y (λ o. z.0 (other_hand n states hands pages t u x h e (a ∙ ap (λ (m : ℕ). Some m) o))) ∙ h.hands u y a)
+          put_other states x state.Free y
+          (λ o. z.0 (other_hand n states hands pages t u x h e (a ∙ ap (λ (m : ℕ). Some m) o))) ∙ h.hands u y a)
     ]
 
 pub evicts_frame : (n : ℕ) (states : ℕ → FrameState) (hands : ℕ → Option ℕ) (pages : ℕ → ℕ → Option ℕ) (t f i x : ℕ)
@@ -250,8 +261,11 @@ evicts_frame n states hands pages t f i x h e d = record {
     on_page : (k j y : ℕ) → put2 pages f i None k j ≡ Some y → (word : ℕ) × (put states x state.Hand y ≡ state.Placed word)
     on_page k j y q = elim (put2_tells pages f i None k j) [
       | inl z ↦ (let w : ◌≡◌ {A = Option ℕ} None (Some y) = sym z.2 ∙ q in absurd (cc))
-      | inr z ↦ (let a : pages k j ≡ Some y = sym z.1 ∙ q in let o = h.pages k j y a in
-          (o.0, put_other states x state.Hand y (λ b. (let c = other_page n states hands pages f i k j x h d (a ∙ ap (λ (m : ℕ). Some m) b) in z.0 c.0 c.1)) ∙ o.1))
+      | inr z ↦ (let a : pages k j ≡ Some y = sym z.1 ∙ q in let o = h.pages k j y a in (
+        o.0,
+        put_other states x state.Hand y
+            (λ b. (let c = other_page n states hands pages f i k j x h d (a ∙ ap (λ (m : ℕ). Some m) b) in z.0 c.0 c.1)) ∙ o.1,
+      ))
     ]
 
 -- a page's word is written
@@ -262,7 +276,9 @@ writes_frame n states hands pages x old new h e = record {
     one = λ y l. let o = h.one.one y l in (o.0, on y o.0 o.1, λ q a. o.2 q (back y q a));
     real = λ y q a. h.one.real y q (back y q a);
   };
-  hands = λ t y d. put_other states x (state.Placed new) y (λ z. (let a : states x ≡ state.Hand = ap states (sym z) ∙ h.hands t y d in absurd (cc))) ∙ h.hands t y d;
+  hands =
+      λ t y d. put_other states x (state.Placed new) y
+      (λ z. (let a : states x ≡ state.Hand = ap states (sym z) ∙ h.hands t y d in absurd (cc))) ∙ h.hands t y d;
   pages = λ f i y d. elim (same_or_other y x) [
     | inl q ↦ (new, ap (put states x (state.Placed new)) q ∙ put_same states x (state.Placed new))
     | inr q ↦ (let o = h.pages f i y d in (o.0, put_other states x (state.Placed new) y q ∙ o.1))

@@ -43,27 +43,35 @@ use Rattle.hp_laws.proofs.Shared.{by_test, by_option, stands_at}
 
 -- each page was there, with its word
 abbrev pub Shrinks : State → Pool → Type 0
-Shrinks s new = (f i x w : ℕ) → new.pages f i ≡ Some x → new.frame x ≡ state.Placed w → (s.pages f i ≡ Some x) × (s.frame x ≡ state.Placed w)
+Shrinks s new =
+    (f i x w : ℕ) → new.pages f i ≡ Some x → new.frame x ≡ state.Placed w → (s.pages f i ≡ Some x) × (s.frame x ≡ state.Placed w)
 
 -- or one page more, with word 0
 abbrev pub PlacesOne : State → Pool → Type 0
-PlacesOne s new = (f i x : ℕ) × (new.pages ≡ put2 s.pages f i (Some x)) × (new.frame ≡ put s.frame x (state.Placed 0)) × (s.pages f i ≡ None) × (s.frame x ≡ state.Hand)
+PlacesOne s new =
+    (f i x : ℕ) × (new.pages ≡ put2 s.pages f i (Some x)) × (new.frame ≡ put s.frame x (state.Placed 0))
+    × (s.pages f i ≡ None) × (s.frame x ≡ state.Hand)
 
 abbrev pub Pages : State → Pool → Type 0
 Pages s new = Shrinks s new ⊎ PlacesOne s new
 
 same : (s : State) (there new : Pool) → new ≡ there → there.pages ≡ s.pages → there.frame ≡ s.frame → Pages s new
-same s there new e pages frame = inl (λ f i x w a b. (sym (ap (λ (m : Pool). m.pages f i) e ∙ ap (λ (m : ℕ → ℕ → Option ℕ). m f i) pages) ∙ a, sym (ap (λ (m : Pool). m.frame x) e ∙ ap (λ (m : ℕ → FrameState). m x) frame) ∙ b))
+same s there new e pages frame =
+    inl (λ f i x w a b. (
+      sym (ap (λ (m : Pool). m.pages f i) e ∙ ap (λ (m : ℕ → ℕ → Option ℕ). m f i) pages) ∙ a,
+      sym (ap (λ (m : Pool). m.frame x) e ∙ ap (λ (m : ℕ → FrameState). m x) frame) ∙ b,
+    ))
 
 -- a frame that isn't a page then changes hands
 moves : (s : State) (there new : Pool) (x : ℕ) (v : FrameState) → new ≡ there → there.pages ≡ s.pages
     → there.frame ≡ put s.frame x v → ((w : ℕ) → v ≡ state.Placed w → ⊥) → Pages s new
 moves s there new x v e pages frame not_placed = inl (λ f i y w a b. (
   sym (ap (λ (m : Pool). m.pages f i) e ∙ ap (λ (m : ℕ → ℕ → Option ℕ). m f i) pages) ∙ a,
-  (let c : put s.frame x v y ≡ state.Placed w = sym (ap (λ (m : Pool). m.frame y) e ∙ ap (λ (m : ℕ → FrameState). m y) frame) ∙ b in elim (put_tells s.frame x v y) [
-    | inl q ↦ absurd (not_placed w (sym q.1 ∙ c))
-    | inr q ↦ sym q.1 ∙ c
-  ]),
+  (let c : put s.frame x v y ≡ state.Placed w = sym
+      (ap (λ (m : Pool). m.frame y) e ∙ ap (λ (m : ℕ → FrameState). m y) frame) ∙ b in elim (put_tells s.frame x v y) [
+        | inl q ↦ absurd (not_placed w (sym q.1 ∙ c))
+        | inr q ↦ sym q.1 ∙ c
+      ]),
 ))
 
 hand_not_placed : (w : ℕ) → state.Hand ≡ state.Placed w → ⊥
@@ -72,42 +80,60 @@ hand_not_placed w e = cc
 free_not_placed : (w : ℕ) → state.Free ≡ state.Placed w → ⊥
 free_not_placed w e = cc
 
-start_pages : {P : Type 0} (s : State) (t : ℕ) (killed : Bool) (f : ℕ) (bad : Bool) (at_kill : Answer) (here next : P) (turn : Turn P) (new : Pool)
+start_pages : {P : Type 0} (s : State) (t : ℕ) (killed : Bool) (f : ℕ) (bad : Bool) (at_kill : Answer) (here next : P)
+    (turn : Turn P) (new : Pool)
     → StartRow (pool_of s) t killed f bad at_kill here next turn new → Pages s new
-start_pages s t killed f bad at_kill here next turn new row = by_test (nat_le s.geometry.files f) row (λ _ r. same s _ new r.1 refl refl) (λ _ r. by_test bad r (λ _ r. same s _ new r.1 refl refl) (λ _ r. by_test killed r (λ _ r. same s _ new r.1 refl refl) (λ _ r. by_option (s.locks f) r (λ _ r. same s _ new r.1 refl refl) (λ u _ r. same s _ new r.1 refl refl))))
+start_pages s t killed f bad at_kill here next turn new row =
+    by_test (nat_le s.geometry.files f) row (λ _ r. same s _ new r.1 refl refl)
+    (λ _ r. by_test bad r (λ _ r. same s _ new r.1 refl refl)
+    (λ _ r. by_test killed r (λ _ r. same s _ new r.1 refl refl)
+    (λ _ r. by_option (s.locks f) r (λ _ r. same s _ new r.1 refl refl) (λ u _ r. same s _ new r.1 refl refl))))
 
 want_pages : {P : Type 0} (s : State) (t f i : ℕ) (here next : P) (turn : Turn P) (new : Pool)
     → WantSlotRow (pool_of s) t f i here next turn new → Pages s new
-want_pages s t f i here next turn new row = by_option (s.slots (slot_of s.geometry f i)) row (λ _ r. same s _ new r.1 refl refl) (λ u _ r. same s _ new r.1 refl refl)
+want_pages s t f i here next turn new row =
+    by_option (s.slots (slot_of s.geometry f i)) row (λ _ r. same s _ new r.1 refl refl) (λ u _ r. same s _ new r.1 refl refl)
 
 change_pages : {P : Type 0} (s : State) (grant : Bool) (f from to : ℕ) (denied : P) (changed : Change → P) (turn : Turn P) (new : Pool)
     → ChangeRow (pool_of s) grant f from to denied changed turn new → Pages s new
-change_pages s grant f from to denied changed turn new row = by_test ((s.spare f == s.pending f) && not grant) row (λ _ r. same s _ new r.1 refl refl) (λ _ r. same s _ new r.1 refl refl)
+change_pages s grant f from to denied changed turn new row =
+    by_test ((s.spare f == s.pending f) && not grant) row (λ _ r. same s _ new r.1 refl refl) (λ _ r. same s _ new r.1 refl refl)
 
 take_pages : {P : Type 0} (s : State) (m : ℕ) (no_frame : P) (taken : ℕ → P) (turn : Turn P) (new : Pool)
     → TakeRow (pool_of s) m no_frame taken turn new → Pages s new
-take_pages s m no_frame taken turn new row = by_test (m == 0) row (λ _ r. moves s _ new r.0 state.Hand r.3.1 refl refl hand_not_placed) (λ _ r. by_test (frees (pool_of s) == s.resv) r (λ _ r. same s _ new r.1 refl refl) (λ _ r. moves s _ new r.0 state.Hand r.2.1 refl refl hand_not_placed))
+take_pages s m no_frame taken turn new row =
+    by_test (m == 0) row (λ _ r. moves s _ new r.0 state.Hand r.3.1 refl refl hand_not_placed)
+    (λ _ r. by_test (frees (pool_of s) == s.resv) r (λ _ r. same s _ new r.1 refl refl)
+    (λ _ r. moves s _ new r.0 state.Hand r.2.1 refl refl hand_not_placed))
 
 commit_pages : {P : Type 0} (s : State) (f : ℕ) (c : Change) (settle next : P) (turn : Turn P) (new : Pool)
     → CommitRow (pool_of s) f c settle next turn new → Pages s new
-commit_pages s f c settle next turn new row = by_test (nat_lt (missing (s.reserved f) c.from c.to) c.missing) row (λ _ r. same s _ new r.1 refl refl) (λ _ r. same s _ new r.1 refl refl)
+commit_pages s f c settle next turn new row =
+    by_test (nat_lt (missing (s.reserved f) c.from c.to) c.missing) row (λ _ r. same s _ new r.1 refl refl)
+    (λ _ r. same s _ new r.1 refl refl)
 
 unmap_index_pages : {P : Type 0} (s : State) (k f i : ℕ) (more last : P) (turn : Turn P) (new : Pool)
     → UnmapIndexRow (pool_of s) k f i more last turn new → Pages s new
-unmap_index_pages s k f i more last turn new row = by_test (nat_lt k s.geometry.tasks) row (λ _ r. same s _ new r.1 refl refl) (λ _ r. same s _ new r.1 refl refl)
+unmap_index_pages s k f i more last turn new row =
+    by_test (nat_lt k s.geometry.tasks) row (λ _ r. same s _ new r.1 refl refl) (λ _ r. same s _ new r.1 refl refl)
 
 evict_pages : {P : Type 0} (s : State) (f i : ℕ) (next : ℕ → P) (turn : Turn P) (new : Pool)
     → EvictRow (pool_of s) f i next turn new → Pages s new
 evict_pages s f i next turn new (x, page, row) = inl (λ k j y w a b.
     let c : put2 s.pages f i None k j ≡ Some y = sym (ap (λ (m : Pool). m.pages k j) row.1) ∙ a in
     let d : put s.frame x state.Hand y ≡ state.Placed w = sym (ap (λ (m : Pool). m.frame y) row.1) ∙ b in (
-      (elim (put2_tells s.pages f i None k j) [ inl q ↦ (let z : ◌≡◌ {A = Option ℕ} None (Some y) = sym q.2 ∙ c in absurd (cc)) | inr q ↦ sym q.1 ∙ c ]),
+      (elim (put2_tells s.pages f i None k j) [
+        | inl q ↦
+            (let z : ◌≡◌ {A = Option ℕ} None (Some y) = sym q.2 ∙ c in absurd (cc))
+        | inr q ↦ sym q.1 ∙ c
+      ]),
       (elim (put_tells s.frame x state.Hand y) [ inl q ↦ absurd (hand_not_placed w (sym q.1 ∙ d)) | inr q ↦ sym q.1 ∙ d ]),
     ))
 
 places : (s : State) (t f i x : ℕ) (new there : Pool) → new ≡ there → there.pages ≡ put2 s.pages f i (Some x)
     → there.frame ≡ put s.frame x (state.Placed 0) → s.pages f i ≡ None → s.frame x ≡ state.Hand → Pages s new
-places s t f i x new there e pages frame bare hand = inr (f, i, x, ap (λ (m : Pool). m.pages) e ∙ pages, ap (λ (m : Pool). m.frame) e ∙ frame, bare, hand)
+places s t f i x new there e pages frame bare hand =
+    inr (f, i, x, ap (λ (m : Pool). m.pages) e ∙ pages, ap (λ (m : Pool). m.frame) e ∙ frame, bare, hand)
 
 -- a touch that neither looks nor found its page
 abbrev pub is_reader : TouchPhase → Bool
@@ -119,14 +145,27 @@ pub touch_pages : (s : State) (t : ℕ) (killed grant : Bool) (phase : TouchPhas
     → is_reader phase ≡ false → Inv s.geometry s → s.calls t ≡ Some (call.Touch phase)
     → TouchRow (pool_of s) t killed grant phase turn new → Pages s new
 touch_pages s t killed grant (touch.Look p) turn new reads h e row = (let d : true ≡ false = reads in absurd (cc))
-touch_pages s t killed grant (touch.Want p) turn new reads h e row = by_test killed row (λ _ r. same s _ new r.1 refl refl) (λ _ r. want_pages s t p.touch.file p.touch.index _ _ turn new r)
-touch_pages s t killed grant (touch.Locked p) turn new reads h e row = by_test (nat_le (s.size p.touch.file) p.touch.index) row (λ _ r. same s _ new r.1 refl refl) (λ _ r. by_test (is_some (s.pages p.touch.file p.touch.index)) r (λ _ r. same s _ new r.1 refl refl) (λ _ r. same s _ new r.1 refl refl))
-touch_pages s t killed grant (touch.Missing p) turn new reads h e row = change_pages s grant p.touch.file p.touch.index (p.touch.index + 1) _ (λ k. touch.Changed (record { touch = p.touch; pending = k })) turn new row
-touch_pages s t killed grant (touch.Changed p) turn new reads h e row = by_test killed row (λ _ r. same s _ new r.1 refl refl) (λ _ r. take_pages s p.pending.missing _ (λ x. touch.Taken (record { touch = p.touch; pending = p.pending; held = x })) turn new r)
+touch_pages s t killed grant (touch.Want p) turn new reads h e row =
+    by_test killed row (λ _ r. same s _ new r.1 refl refl) (λ _ r. want_pages s t p.touch.file p.touch.index _ _ turn new r)
+touch_pages s t killed grant (touch.Locked p) turn new reads h e row =
+    by_test (nat_le (s.size p.touch.file) p.touch.index) row (λ _ r. same s _ new r.1 refl refl)
+    (λ _ r. by_test (is_some (s.pages p.touch.file p.touch.index)) r (λ _ r. same s _ new r.1 refl refl)
+    (λ _ r. same s _ new r.1 refl refl))
+touch_pages s t killed grant (touch.Missing p) turn new reads h e row =
+    change_pages s grant p.touch.file p.touch.index (p.touch.index + 1) _
+    (λ k. touch.Changed (record { touch = p.touch; pending = k })) turn new row
+touch_pages s t killed grant (touch.Changed p) turn new reads h e row =
+    by_test killed row (λ _ r. same s _ new r.1 refl refl)
+    (λ _ r. take_pages s p.pending.missing _
+    (λ x. touch.Taken (record { touch = p.touch; pending = p.pending; held = x })) turn new r)
 touch_pages s t killed grant (touch.Abort p) turn new reads h e row = same s _ new row.1 refl refl
 touch_pages s t killed grant (touch.Taken p) turn new reads h e row = commit_pages s p.touch.file p.pending _ _ turn new row
 touch_pages s t killed grant (touch.Settle p) turn new reads h e (low, row) = same s _ new row.1 refl refl
-touch_pages s t killed grant (touch.Committed p) turn new reads h e row = by_test (nat_le (s.size p.touch.file) p.touch.index) row (λ _ r. same s _ new r.1 refl refl) (λ _ r. by_test grant r (λ _ r. places s t p.touch.file p.touch.index p.held new _ r.1 refl refl (stands_at s t _ h e).facts.bare (h.place.hands t p.held (ap hand e))) (λ _ r. same s _ new r.1 refl refl))
+touch_pages s t killed grant (touch.Committed p) turn new reads h e row =
+    by_test (nat_le (s.size p.touch.file) p.touch.index) row (λ _ r. same s _ new r.1 refl refl)
+    (λ _ r. by_test grant r
+    (λ _ r. places s t p.touch.file p.touch.index p.held new _ r.1 refl refl (stands_at s t _ h e).facts.bare
+    (h.place.hands t p.held (ap hand e))) (λ _ r. same s _ new r.1 refl refl))
 touch_pages s t killed grant (touch.Restore p) turn new reads h e row = moves s _ new p.held state.Free row.1 refl refl free_not_placed
 touch_pages s t killed grant (touch.Found p) turn new reads h e row = (let d : true ≡ false = reads in absurd (cc))
 touch_pages s t killed grant (touch.Leave p) turn new reads h e row = same s _ new row.1 refl refl
@@ -134,11 +173,22 @@ touch_pages s t killed grant (touch.Leave p) turn new reads h e row = same s _ n
 map_pages : (s : State) (t : ℕ) (killed grant : Bool) (phase : MapPhase) (turn : Turn MapPhase) (new : Pool) → Inv s.geometry s
     → s.calls t ≡ Some (call.Map phase) → MapRow (pool_of s) t killed grant phase turn new → Pages s new
 map_pages s t killed grant (map.Start p) turn new h e row = start_pages s t killed p.map.file _ _ _ _ turn new row
-map_pages s t killed grant (map.Room p) turn new h e (found, room, row) = by_option found row (λ _ r. same s _ new r.1 refl refl) (λ base _ r. by_test grant r (λ _ r. by_test p.map.reserve r (λ _ r. same s _ new r.1 refl refl) (λ _ r. same s _ new r.1 refl refl)) (λ _ r. same s _ new r.1 refl refl))
-map_pages s t killed grant (map.Missing p) turn new h e row = change_pages s grant p.map.file p.map.from (p.map.from + p.map.len) _ (λ k. map.Changed (record { map = p.map; base = p.base; pending = k })) turn new row
-map_pages s t killed grant (map.Changed p) turn new h e row = by_test killed row (λ _ r. same s _ new r.1 refl refl) (λ _ r. by_test (nat_lt (frees (pool_of s) - s.resv) p.pending.missing) r (λ _ r. same s _ new r.1 refl refl) (λ _ r. same s _ new r.1 refl refl))
+map_pages s t killed grant (map.Room p) turn new h e (found, room, row) =
+    by_option found row (λ _ r. same s _ new r.1 refl refl)
+    (λ base _ r. by_test grant r
+    (λ _ r. by_test p.map.reserve r (λ _ r. same s _ new r.1 refl refl) (λ _ r. same s _ new r.1 refl refl))
+    (λ _ r. same s _ new r.1 refl refl))
+map_pages s t killed grant (map.Missing p) turn new h e row =
+    change_pages s grant p.map.file p.map.from (p.map.from + p.map.len) _
+    (λ k. map.Changed (record { map = p.map; base = p.base; pending = k })) turn new row
+map_pages s t killed grant (map.Changed p) turn new h e row =
+    by_test killed row (λ _ r. same s _ new r.1 refl refl)
+    (λ _ r. by_test (nat_lt (frees (pool_of s) - s.resv) p.pending.missing) r (λ _ r. same s _ new r.1 refl refl)
+    (λ _ r. same s _ new r.1 refl refl))
 map_pages s t killed grant (map.Abort p) turn new h e row = same s _ new row.1 refl refl
-map_pages s t killed grant (map.Accounted p) turn new h e row = by_test (nat_lt (missing (s.reserved p.map.file) p.pending.from p.pending.to) p.pending.missing) row (λ _ r. same s _ new r.1 refl refl) (λ _ r. same s _ new r.1 refl refl)
+map_pages s t killed grant (map.Accounted p) turn new h e row =
+    by_test (nat_lt (missing (s.reserved p.map.file) p.pending.from p.pending.to) p.pending.missing) row
+    (λ _ r. same s _ new r.1 refl refl) (λ _ r. same s _ new r.1 refl refl)
 map_pages s t killed grant (map.Settle p) turn new h e (low, row) = same s _ new row.1 refl refl
 map_pages s t killed grant (map.Enter p) turn new h e row = same s _ new row.1 refl refl
 map_pages s t killed grant (map.Leave p) turn new h e row = same s _ new row.1 refl refl
@@ -146,17 +196,33 @@ map_pages s t killed grant (map.Leave p) turn new h e row = same s _ new row.1 r
 alloc_pages : (s : State) (t : ℕ) (killed grant : Bool) (phase : AllocPhase) (turn : Turn AllocPhase) (new : Pool)
     → Inv s.geometry s → s.calls t ≡ Some (call.Alloc phase) → AllocRow (pool_of s) t killed grant phase turn new → Pages s new
 alloc_pages s t killed grant (alloc.Start p) turn new h e row = start_pages s t killed p.allocation.file _ _ _ _ turn new row
-alloc_pages s t killed grant (alloc.Head p) turn new h e row = by_test killed row (λ _ r. same s _ new r.1 refl refl) (λ _ r. same s _ new r.1 refl refl)
-alloc_pages s t killed grant (alloc.Want p) turn new h e row = by_test killed row (λ _ r. same s _ new r.1 refl refl) (λ _ r. want_pages s t p.allocation.file p.index _ _ turn new r)
-alloc_pages s t killed grant (alloc.Locked p) turn new h e row = by_test (is_some (s.pages p.allocation.file p.index)) row (λ _ r. same s _ new r.1 refl refl) (λ _ r. same s _ new r.1 refl refl)
-alloc_pages s t killed grant (alloc.Missing p) turn new h e row = change_pages s grant p.allocation.file p.index (p.index + 1) _ (λ k. alloc.Changed (record { allocation = p.allocation; index = p.index; pending = k })) turn new row
-alloc_pages s t killed grant (alloc.Changed p) turn new h e row = by_test killed row (λ _ r. same s _ new r.1 refl refl) (λ _ r. take_pages s p.pending.missing _ (λ x. alloc.Taken (record { allocation = p.allocation; index = p.index; pending = p.pending; held = x })) turn new r)
+alloc_pages s t killed grant (alloc.Head p) turn new h e row =
+    by_test killed row (λ _ r. same s _ new r.1 refl refl) (λ _ r. same s _ new r.1 refl refl)
+alloc_pages s t killed grant (alloc.Want p) turn new h e row =
+    by_test killed row (λ _ r. same s _ new r.1 refl refl) (λ _ r. want_pages s t p.allocation.file p.index _ _ turn new r)
+alloc_pages s t killed grant (alloc.Locked p) turn new h e row =
+    by_test (is_some (s.pages p.allocation.file p.index)) row (λ _ r. same s _ new r.1 refl refl)
+    (λ _ r. same s _ new r.1 refl refl)
+alloc_pages s t killed grant (alloc.Missing p) turn new h e row =
+    change_pages s grant p.allocation.file p.index (p.index + 1) _
+    (λ k. alloc.Changed (record { allocation = p.allocation; index = p.index; pending = k })) turn new row
+alloc_pages s t killed grant (alloc.Changed p) turn new h e row =
+    by_test killed row (λ _ r. same s _ new r.1 refl refl)
+    (λ _ r. take_pages s p.pending.missing _
+    (λ x. alloc.Taken (record { allocation = p.allocation; index = p.index; pending = p.pending; held = x })) turn new r)
 alloc_pages s t killed grant (alloc.Abort p) turn new h e row = same s _ new row.1 refl refl
 alloc_pages s t killed grant (alloc.Taken p) turn new h e row = commit_pages s p.allocation.file p.pending _ _ turn new row
 alloc_pages s t killed grant (alloc.Settle p) turn new h e (low, row) = same s _ new row.1 refl refl
-alloc_pages s t killed grant (alloc.Committed p) turn new h e row = by_test grant row (λ _ r. places s t p.allocation.file p.index p.held new _ r.1 refl refl (stands_at s t _ h e).facts.bare (h.place.hands t p.held (ap hand e))) (λ _ r. same s _ new r.1 refl refl)
+alloc_pages s t killed grant (alloc.Committed p) turn new h e row =
+    by_test grant row (λ _ r. places s t p.allocation.file p.index p.held new _ r.1 refl refl
+    (stands_at s t _ h e).facts.bare (h.place.hands t p.held (ap hand e))) (λ _ r. same s _ new r.1 refl refl)
 alloc_pages s t killed grant (alloc.Restore p) turn new h e row = moves s _ new p.held state.Free row.1 refl refl free_not_placed
-alloc_pages s t killed grant (alloc.Unslot p) turn new h e row = by_option p.answer row (λ _ r. by_test (nat_lt (p.index + 1) (p.allocation.from + p.allocation.len)) r (λ _ r. same s _ new r.1 refl refl) (λ _ r. by_test p.allocation.keep r (λ _ r. same s _ new r.1 refl refl) (λ _ r. same s _ new r.1 refl refl))) (λ a _ r. same s _ new r.1 refl refl)
+alloc_pages s t killed grant (alloc.Unslot p) turn new h e row =
+    by_option p.answer row
+    (λ _ r. by_test (nat_lt (p.index + 1) (p.allocation.from + p.allocation.len)) r
+    (λ _ r. same s _ new r.1 refl refl)
+    (λ _ r. by_test p.allocation.keep r (λ _ r. same s _ new r.1 refl refl) (λ _ r. same s _ new r.1 refl refl)))
+    (λ a _ r. same s _ new r.1 refl refl)
 alloc_pages s t killed grant (alloc.Extend p) turn new h e row = same s _ new row.1 refl refl
 alloc_pages s t killed grant (alloc.Leave p) turn new h e row = same s _ new row.1 refl refl
 
@@ -164,40 +230,57 @@ punch_pages : (s : State) (t : ℕ) (killed grant : Bool) (phase : PunchPhase) (
     → Inv s.geometry s → s.calls t ≡ Some (call.Punch phase) → PunchRow (pool_of s) t killed grant phase turn new → Pages s new
 punch_pages s t killed grant (punch.Start p) turn new h e row = start_pages s t killed p.hole.file _ _ _ _ turn new row
 punch_pages s t killed grant (punch.Want p) turn new h e row = want_pages s t p.hole.file p.index _ _ turn new row
-punch_pages s t killed grant (punch.Locked p) turn new h e row = by_test (is_some (s.pages p.hole.file p.index)) row (λ _ r. same s _ new r.1 refl refl) (λ _ r. same s _ new r.1 refl refl)
+punch_pages s t killed grant (punch.Locked p) turn new h e row =
+    by_test (is_some (s.pages p.hole.file p.index)) row (λ _ r. same s _ new r.1 refl refl) (λ _ r. same s _ new r.1 refl refl)
 punch_pages s t killed grant (punch.Unmap p) turn new h e row = unmap_index_pages s p.task p.hole.file p.index _ _ turn new row
-punch_pages s t killed grant (punch.Evict p) turn new h e row = evict_pages s p.hole.file p.index (λ x. punch.Delete (record { hole = p.hole; index = p.index; held = x })) turn new row
-punch_pages s t killed grant (punch.Delete p) turn new h e row = by_test (splits (s.reserved p.hole.file) p.index && nat_le (s.spare p.hole.file) (s.pending p.hole.file) && not grant) row (λ _ r. same s _ new r.1 refl refl) (λ _ r. same s _ new r.1 refl refl)
+punch_pages s t killed grant (punch.Evict p) turn new h e row =
+    evict_pages s p.hole.file p.index (λ x. punch.Delete (record { hole = p.hole; index = p.index; held = x })) turn new row
+punch_pages s t killed grant (punch.Delete p) turn new h e row =
+    by_test (splits (s.reserved p.hole.file) p.index && nat_le (s.spare p.hole.file) (s.pending p.hole.file)
+    && not grant) row (λ _ r. same s _ new r.1 refl refl) (λ _ r. same s _ new r.1 refl refl)
 punch_pages s t killed grant (punch.Free p) turn new h e row = moves s _ new p.held state.Free row.1 refl refl free_not_placed
-punch_pages s t killed grant (punch.Unslot p) turn new h e row = by_test (nat_lt (p.index + 1) (p.hole.from + p.hole.len)) row (λ _ r. same s _ new r.1 refl refl) (λ _ r. same s _ new r.1 refl refl)
+punch_pages s t killed grant (punch.Unslot p) turn new h e row =
+    by_test (nat_lt (p.index + 1) (p.hole.from + p.hole.len)) row (λ _ r. same s _ new r.1 refl refl)
+    (λ _ r. same s _ new r.1 refl refl)
 punch_pages s t killed grant (punch.Leave p) turn new h e row = same s _ new row.1 refl refl
 
 truncate_pages : (s : State) (t : ℕ) (killed grant : Bool) (phase : TruncatePhase) (turn : Turn TruncatePhase) (new : Pool)
     → Inv s.geometry s → s.calls t ≡ Some (call.Truncate phase) → TruncateRow (pool_of s) t killed grant phase turn new
     → Pages s new
 truncate_pages s t killed grant (truncate.Start p) turn new h e row = start_pages s t killed p.truncation.file _ _ _ _ turn new row
-truncate_pages s t killed grant (truncate.Size p) turn new h e (end, is_end, row) = by_test (nat_lt p.truncation.new (max (s.size p.truncation.file) end)) row (λ _ r. same s _ new r.1 refl refl) (λ _ r. same s _ new r.1 refl refl)
+truncate_pages s t killed grant (truncate.Size p) turn new h e (end, is_end, row) =
+    by_test (nat_lt p.truncation.new (max (s.size p.truncation.file) end)) row (λ _ r. same s _ new r.1 refl refl)
+    (λ _ r. same s _ new r.1 refl refl)
 truncate_pages s t killed grant (truncate.Want p) turn new h e row = want_pages s t p.truncation.file p.index _ _ turn new row
-truncate_pages s t killed grant (truncate.Locked p) turn new h e row = by_test (is_some (s.pages p.truncation.file p.index)) row (λ _ r. same s _ new r.1 refl refl) (λ _ r. same s _ new r.1 refl refl)
+truncate_pages s t killed grant (truncate.Locked p) turn new h e row =
+    by_test (is_some (s.pages p.truncation.file p.index)) row (λ _ r. same s _ new r.1 refl refl)
+    (λ _ r. same s _ new r.1 refl refl)
 truncate_pages s t killed grant (truncate.Unmap p) turn new h e row = unmap_index_pages s p.task p.truncation.file p.index _ _ turn new row
-truncate_pages s t killed grant (truncate.Evict p) turn new h e row = evict_pages s p.truncation.file p.index (λ x. truncate.Free (record { truncation = p.truncation; index = p.index; evicted = p.evicted + 1; held = x })) turn new row
+truncate_pages s t killed grant (truncate.Evict p) turn new h e row =
+    evict_pages s p.truncation.file p.index
+    (λ x. truncate.Free (record { truncation = p.truncation; index = p.index; evicted = p.evicted + 1; held = x })) turn new row
 truncate_pages s t killed grant (truncate.Free p) turn new h e row = moves s _ new p.held state.Free row.1 refl refl free_not_placed
-truncate_pages s t killed grant (truncate.Unslot p) turn new h e row = by_test (nat_lt p.truncation.new p.index) row (λ _ r. same s _ new r.1 refl refl) (λ _ r. same s _ new r.1 refl refl)
+truncate_pages s t killed grant (truncate.Unslot p) turn new h e row =
+    by_test (nat_lt p.truncation.new p.index) row (λ _ r. same s _ new r.1 refl refl) (λ _ r. same s _ new r.1 refl refl)
 truncate_pages s t killed grant (truncate.Tail p) turn new h e row = same s _ new row.1 refl refl
 truncate_pages s t killed grant (truncate.Settle p) turn new h e (low, row) = same s _ new row.1 refl refl
 truncate_pages s t killed grant (truncate.Leave p) turn new h e row = same s _ new row.1 refl refl
 
 unmap_pages : (s : State) (t : ℕ) (killed grant : Bool) (phase : UnmapPhase) (turn : Turn UnmapPhase) (new : Pool)
     → Inv s.geometry s → s.calls t ≡ Some (call.Unmap phase) → UnmapRow (pool_of s) t killed grant phase turn new → Pages s new
-unmap_pages s t killed grant (unmap.Start p) turn new h e row = by_test (is_base (s.areas t) p.base) row (λ _ r. same s _ new r.1 refl refl) (λ _ r. same s _ new r.1 refl refl)
+unmap_pages s t killed grant (unmap.Start p) turn new h e row =
+    by_test (is_base (s.areas t) p.base) row (λ _ r. same s _ new r.1 refl refl) (λ _ r. same s _ new r.1 refl refl)
 unmap_pages s t killed grant (unmap.Clear p) turn new h e row = same s _ new row.1 refl refl
 unmap_pages s t killed grant (unmap.Drop p) turn new h e row = same s _ new row.1 refl refl
 
 exit_pages : (s : State) (t : ℕ) (killed grant : Bool) (phase : ExitPhase) (turn : Turn ExitPhase) (new : Pool) → Inv s.geometry s
     → s.calls t ≡ Some (call.Exit phase) → ExitRow (pool_of s) t killed grant phase turn new → Pages s new
-exit_pages s t killed grant exit.Start turn new h e row = by_option (first_base (s.areas t)) row (λ _ r. same s _ new r.1 refl refl) (λ base _ r. same s _ new r.1 refl refl)
+exit_pages s t killed grant exit.Start turn new h e row =
+    by_option (first_base (s.areas t)) row (λ _ r. same s _ new r.1 refl refl) (λ base _ r. same s _ new r.1 refl refl)
 exit_pages s t killed grant (exit.Clear p) turn new h e row = same s _ new row.1 refl refl
-exit_pages s t killed grant (exit.Drop p) turn new h e row = by_option (first_base (without (s.areas t) p.base)) row (λ _ r. same s _ new r.1 refl refl) (λ base _ r. same s _ new r.1 refl refl)
+exit_pages s t killed grant (exit.Drop p) turn new h e row =
+    by_option (first_base (without (s.areas t) p.base)) row (λ _ r. same s _ new r.1 refl refl)
+    (λ base _ r. same s _ new r.1 refl refl)
 exit_pages s t killed grant exit.Leave turn new h e row = same s _ new row.1 refl refl
 
 -- a call that isn't a touch which looks or found its page
@@ -208,10 +291,12 @@ reads other = false
 pub call_pages : (s : State) (t : ℕ) (killed grant : Bool) (c : Call) (o : Outcome) (new : Pool) (next : Option Call)
     → reads c ≡ false → Inv s.geometry s → s.calls t ≡ Some c → CallRow (pool_of s) t killed grant c o new next → Pages s new
 unfolding CallRow
-call_pages s t killed grant (call.Touch p) o new next reads h e (turn, row, tells, leaves) = touch_pages s t killed grant p turn new reads h e row
+call_pages s t killed grant (call.Touch p) o new next reads h e (turn, row, tells, leaves) =
+    touch_pages s t killed grant p turn new reads h e row
 call_pages s t killed grant (call.Map p) o new next reads h e (turn, row, tells, leaves) = map_pages s t killed grant p turn new h e row
 call_pages s t killed grant (call.Alloc p) o new next reads h e (turn, row, tells, leaves) = alloc_pages s t killed grant p turn new h e row
 call_pages s t killed grant (call.Punch p) o new next reads h e (turn, row, tells, leaves) = punch_pages s t killed grant p turn new h e row
-call_pages s t killed grant (call.Truncate p) o new next reads h e (turn, row, tells, leaves) = truncate_pages s t killed grant p turn new h e row
+call_pages s t killed grant (call.Truncate p) o new next reads h e (turn, row, tells, leaves) =
+    truncate_pages s t killed grant p turn new h e row
 call_pages s t killed grant (call.Unmap p) o new next reads h e (turn, row, tells, leaves) = unmap_pages s t killed grant p turn new h e row
 call_pages s t killed grant (call.Exit p) o new next reads h e (turn, row, tells, leaves) = exit_pages s t killed grant p turn new h e row

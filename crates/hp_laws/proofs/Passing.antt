@@ -111,6 +111,7 @@ pub reached_not_passed : (g : Geometry) (s : State) (f i : ℕ) → Inv g s → 
     → passed (s.calls u) f i ≡ true → ⊥
 reached_not_passed g s f i h r u e = elim r [
   | inl l ↦ (let p = h.sweep.past u f i e in let q : s.size f ≤ i = p.1 in absurd (omega arith))
-  | inr a ↦ (let d : a.0 ≡ u = same_holder a.0 u (s.locks f) (locks_file g s a.0 f h (ahead_locked (s.calls a.0) f i a.1)) (locks_file g s u f h (passed_locked (s.calls u) f i e)) in
+  | inr a ↦ (let d : a.0 ≡ u = same_holder a.0 u (s.locks f)
+      (locks_file g s a.0 f h (ahead_locked (s.calls a.0) f i a.1)) (locks_file g s u f h (passed_locked (s.calls u) f i e)) in
       ahead_or_passed (s.calls u) f i (ap (λ (w : ℕ). ahead (s.calls w) f i) (sym d) ∙ a.1) e)
 ]

@@ -123,7 +123,8 @@ removes_deleted (call.Punch (punch.Delete p)) k j e s t h d =
     let y = stands_at s t _ h d in
     let o = and_both (p.hole.file == k) _ e in
     let same : p.index ≡ j = same_of p.index j o.1 in
-    here p.hole.file p.hole.from p.hole.len k j (same_of p.hole.file k o.0) (let a = y.facts.range.1 in omega arith) (let a = y.facts.range.2 in omega arith)
+    here p.hole.file p.hole.from p.hole.len k j (same_of p.hole.file k o.0) (let a = y.facts.range.1 in omega arith)
+    (let a = y.facts.range.2 in omega arith)
   where
     here : (f from len k j : ℕ) → f ≡ k → from ≤ j → j < from + len → ((f == k) && is_within from (from + len) j) ≡ true
     here f from len k j a b c = grind (arith, nat_tests)
@@ -142,27 +143,54 @@ not_blocked {P} {p = p} {q = q} {u = u} e d = (let z : ◌≡◌ {A = Turn P} (M
 -- a punch that moves works at the same hole
 punch_hole : (s : State) (t : ℕ) (killed grant : Bool) (phase q : PunchPhase) (turn : Turn PunchPhase) (new : Pool)
     → PunchRow (pool_of s) t killed grant phase turn new → turn ≡ Moved q → hole_of q ≡ hole_of phase
-punch_hole s t killed grant (punch.Start p) q turn new row d = by_test (nat_le s.geometry.files p.hole.file) row (λ _ r. not_ended r.0 d) (λ _ r. by_test ((p.hole.len == 0) || nat_lt s.geometry.limit (p.hole.from + p.hole.len)) r (λ _ r. not_ended r.0 d) (λ _ r. by_test killed r (λ _ r. not_ended r.0 d) (λ _ r. by_option (s.locks p.hole.file) r (λ _ r. ap hole_of (moved_is r.0 d)) (λ u _ r. not_blocked r.0 d))))
-punch_hole s t killed grant (punch.Want p) q turn new row d = by_option (s.slots (slot_of s.geometry p.hole.file p.index)) row (λ _ r. ap hole_of (moved_is r.0 d)) (λ u _ r. not_blocked r.0 d)
-punch_hole s t killed grant (punch.Locked p) q turn new row d = by_test (is_some (s.pages p.hole.file p.index)) row (λ _ r. ap hole_of (moved_is r.0 d)) (λ _ r. ap hole_of (moved_is r.0 d))
-punch_hole s t killed grant (punch.Unmap p) q turn new row d = by_test (nat_lt p.task s.geometry.tasks) row (λ _ r. ap hole_of (moved_is r.0 d)) (λ _ r. ap hole_of (moved_is r.0 d))
+punch_hole s t killed grant (punch.Start p) q turn new row d =
+    by_test (nat_le s.geometry.files p.hole.file) row (λ _ r. not_ended r.0 d)
+    (λ _ r. by_test ((p.hole.len == 0) || nat_lt s.geometry.limit (p.hole.from + p.hole.len)) r
+    (λ _ r. not_ended r.0 d)
+    (λ _ r. by_test killed r (λ _ r. not_ended r.0 d)
+    (λ _ r. by_option (s.locks p.hole.file) r (λ _ r. ap hole_of (moved_is r.0 d)) (λ u _ r. not_blocked r.0 d))))
+punch_hole s t killed grant (punch.Want p) q turn new row d =
+    by_option (s.slots (slot_of s.geometry p.hole.file p.index)) row (λ _ r. ap hole_of (moved_is r.0 d))
+    (λ u _ r. not_blocked r.0 d)
+punch_hole s t killed grant (punch.Locked p) q turn new row d =
+    by_test (is_some (s.pages p.hole.file p.index)) row (λ _ r. ap hole_of (moved_is r.0 d)) (λ _ r. ap hole_of (moved_is r.0 d))
+punch_hole s t killed grant (punch.Unmap p) q turn new row d =
+    by_test (nat_lt p.task s.geometry.tasks) row (λ _ r. ap hole_of (moved_is r.0 d)) (λ _ r. ap hole_of (moved_is r.0 d))
 punch_hole s t killed grant (punch.Evict p) q turn new (x, page, row) d = ap hole_of (moved_is row.0 d)
-punch_hole s t killed grant (punch.Delete p) q turn new row d = by_test (splits (s.reserved p.hole.file) p.index && nat_le (s.spare p.hole.file) (s.pending p.hole.file) && not grant) row (λ _ r. ap hole_of (moved_is r.0 d)) (λ _ r. ap hole_of (moved_is r.0 d))
+punch_hole s t killed grant (punch.Delete p) q turn new row d =
+    by_test (splits (s.reserved p.hole.file) p.index && nat_le (s.spare p.hole.file) (s.pending p.hole.file)
+    && not grant) row (λ _ r. ap hole_of (moved_is r.0 d)) (λ _ r. ap hole_of (moved_is r.0 d))
 punch_hole s t killed grant (punch.Free p) q turn new row d = ap hole_of (moved_is row.0 d)
-punch_hole s t killed grant (punch.Unslot p) q turn new row d = by_test (nat_lt (p.index + 1) (p.hole.from + p.hole.len)) row (λ _ r. ap hole_of (moved_is r.0 d)) (λ _ r. ap hole_of (moved_is r.0 d))
+punch_hole s t killed grant (punch.Unslot p) q turn new row d =
+    by_test (nat_lt (p.index + 1) (p.hole.from + p.hole.len)) row (λ _ r. ap hole_of (moved_is r.0 d))
+    (λ _ r. ap hole_of (moved_is r.0 d))
 punch_hole s t killed grant (punch.Leave p) q turn new row d = not_ended row.0 d
 
 -- a truncation that moves cuts at the same size
 truncate_cut : (s : State) (t : ℕ) (killed grant : Bool) (phase q : TruncatePhase) (turn : Turn TruncatePhase) (new : Pool)
     → TruncateRow (pool_of s) t killed grant phase turn new → turn ≡ Moved q → truncation_of q ≡ truncation_of phase
-truncate_cut s t killed grant (truncate.Start p) q turn new row d = by_test (nat_le s.geometry.files p.truncation.file) row (λ _ r. not_ended r.0 d) (λ _ r. by_test (nat_lt s.geometry.limit p.truncation.new) r (λ _ r. not_ended r.0 d) (λ _ r. by_test killed r (λ _ r. not_ended r.0 d) (λ _ r. by_option (s.locks p.truncation.file) r (λ _ r. ap truncation_of (moved_is r.0 d)) (λ u _ r. not_blocked r.0 d))))
-truncate_cut s t killed grant (truncate.Size p) q turn new (end, is_end, row) d = by_test (nat_lt p.truncation.new (max (s.size p.truncation.file) end)) row (λ _ r. ap truncation_of (moved_is r.0 d)) (λ _ r. ap truncation_of (moved_is r.0 d))
-truncate_cut s t killed grant (truncate.Want p) q turn new row d = by_option (s.slots (slot_of s.geometry p.truncation.file p.index)) row (λ _ r. ap truncation_of (moved_is r.0 d)) (λ u _ r. not_blocked r.0 d)
-truncate_cut s t killed grant (truncate.Locked p) q turn new row d = by_test (is_some (s.pages p.truncation.file p.index)) row (λ _ r. ap truncation_of (moved_is r.0 d)) (λ _ r. ap truncation_of (moved_is r.0 d))
-truncate_cut s t killed grant (truncate.Unmap p) q turn new row d = by_test (nat_lt p.task s.geometry.tasks) row (λ _ r. ap truncation_of (moved_is r.0 d)) (λ _ r. ap truncation_of (moved_is r.0 d))
+truncate_cut s t killed grant (truncate.Start p) q turn new row d =
+    by_test (nat_le s.geometry.files p.truncation.file) row (λ _ r. not_ended r.0 d)
+    (λ _ r. by_test (nat_lt s.geometry.limit p.truncation.new) r (λ _ r. not_ended r.0 d)
+    (λ _ r. by_test killed r (λ _ r. not_ended r.0 d)
+    (λ _ r. by_option (s.locks p.truncation.file) r (λ _ r. ap truncation_of (moved_is r.0 d)) (λ u _ r. not_blocked r.0 d))))
+truncate_cut s t killed grant (truncate.Size p) q turn new (end, is_end, row) d =
+    by_test (nat_lt p.truncation.new (max (s.size p.truncation.file) end)) row
+    (λ _ r. ap truncation_of (moved_is r.0 d)) (λ _ r. ap truncation_of (moved_is r.0 d))
+truncate_cut s t killed grant (truncate.Want p) q turn new row d =
+    by_option (s.slots (slot_of s.geometry p.truncation.file p.index)) row (λ _ r. ap truncation_of (moved_is r.0 d))
+    (λ u _ r. not_blocked r.0 d)
+truncate_cut s t killed grant (truncate.Locked p) q turn new row d =
+    by_test (is_some (s.pages p.truncation.file p.index)) row (λ _ r. ap truncation_of (moved_is r.0 d))
+    (λ _ r. ap truncation_of (moved_is r.0 d))
+truncate_cut s t killed grant (truncate.Unmap p) q turn new row d =
+    by_test (nat_lt p.task s.geometry.tasks) row (λ _ r. ap truncation_of (moved_is r.0 d))
+    (λ _ r. ap truncation_of (moved_is r.0 d))
 truncate_cut s t killed grant (truncate.Evict p) q turn new (x, page, row) d = ap truncation_of (moved_is row.0 d)
 truncate_cut s t killed grant (truncate.Free p) q turn new row d = ap truncation_of (moved_is row.0 d)
-truncate_cut s t killed grant (truncate.Unslot p) q turn new row d = by_test (nat_lt p.truncation.new p.index) row (λ _ r. ap truncation_of (moved_is r.0 d)) (λ _ r. ap truncation_of (moved_is r.0 d))
+truncate_cut s t killed grant (truncate.Unslot p) q turn new row d =
+    by_test (nat_lt p.truncation.new p.index) row (λ _ r. ap truncation_of (moved_is r.0 d))
+    (λ _ r. ap truncation_of (moved_is r.0 d))
 truncate_cut s t killed grant (truncate.Tail p) q turn new row d = ap truncation_of (moved_is row.0 d)
 truncate_cut s t killed grant (truncate.Settle p) q turn new (low, row) d = ap truncation_of (moved_is row.0 d)
 truncate_cut s t killed grant (truncate.Leave p) q turn new row d = not_ended row.0 d
@@ -188,28 +216,40 @@ truncate_removes : (phase q : TruncatePhase) (k j : ℕ) → truncation_of q ≡
     → removes (Some (call.Truncate q)) k j ≡ true → Removes (call.Truncate phase) (outcome.Moved (word_of (call.Truncate q))) k j
 truncate_removes (truncate.Start p) q k j same e =
     inr (word_of (call.Truncate q), refl, ap (λ (m : Truncation). is_cut m k j) (sym same) ∙ (and_both (past_truncate q) _ e).1)
-truncate_removes (truncate.Size p) q k j same e = inl (ap (λ (m : Truncation). is_cut m k j) (sym same) ∙ (and_both (past_truncate q) _ e).1)
-truncate_removes (truncate.Want p) q k j same e = inl (ap (λ (m : Truncation). is_cut m k j) (sym same) ∙ (and_both (past_truncate q) _ e).1)
-truncate_removes (truncate.Locked p) q k j same e = inl (ap (λ (m : Truncation). is_cut m k j) (sym same) ∙ (and_both (past_truncate q) _ e).1)
-truncate_removes (truncate.Unmap p) q k j same e = inl (ap (λ (m : Truncation). is_cut m k j) (sym same) ∙ (and_both (past_truncate q) _ e).1)
-truncate_removes (truncate.Evict p) q k j same e = inl (ap (λ (m : Truncation). is_cut m k j) (sym same) ∙ (and_both (past_truncate q) _ e).1)
-truncate_removes (truncate.Free p) q k j same e = inl (ap (λ (m : Truncation). is_cut m k j) (sym same) ∙ (and_both (past_truncate q) _ e).1)
-truncate_removes (truncate.Unslot p) q k j same e = inl (ap (λ (m : Truncation). is_cut m k j) (sym same) ∙ (and_both (past_truncate q) _ e).1)
-truncate_removes (truncate.Tail p) q k j same e = inl (ap (λ (m : Truncation). is_cut m k j) (sym same) ∙ (and_both (past_truncate q) _ e).1)
-truncate_removes (truncate.Settle p) q k j same e = inl (ap (λ (m : Truncation). is_cut m k j) (sym same) ∙ (and_both (past_truncate q) _ e).1)
-truncate_removes (truncate.Leave p) q k j same e = inl (ap (λ (m : Truncation). is_cut m k j) (sym same) ∙ (and_both (past_truncate q) _ e).1)
+truncate_removes (truncate.Size p) q k j same e =
+    inl (ap (λ (m : Truncation). is_cut m k j) (sym same) ∙ (and_both (past_truncate q) _ e).1)
+truncate_removes (truncate.Want p) q k j same e =
+    inl (ap (λ (m : Truncation). is_cut m k j) (sym same) ∙ (and_both (past_truncate q) _ e).1)
+truncate_removes (truncate.Locked p) q k j same e =
+    inl (ap (λ (m : Truncation). is_cut m k j) (sym same) ∙ (and_both (past_truncate q) _ e).1)
+truncate_removes (truncate.Unmap p) q k j same e =
+    inl (ap (λ (m : Truncation). is_cut m k j) (sym same) ∙ (and_both (past_truncate q) _ e).1)
+truncate_removes (truncate.Evict p) q k j same e =
+    inl (ap (λ (m : Truncation). is_cut m k j) (sym same) ∙ (and_both (past_truncate q) _ e).1)
+truncate_removes (truncate.Free p) q k j same e =
+    inl (ap (λ (m : Truncation). is_cut m k j) (sym same) ∙ (and_both (past_truncate q) _ e).1)
+truncate_removes (truncate.Unslot p) q k j same e =
+    inl (ap (λ (m : Truncation). is_cut m k j) (sym same) ∙ (and_both (past_truncate q) _ e).1)
+truncate_removes (truncate.Tail p) q k j same e =
+    inl (ap (λ (m : Truncation). is_cut m k j) (sym same) ∙ (and_both (past_truncate q) _ e).1)
+truncate_removes (truncate.Settle p) q k j same e =
+    inl (ap (λ (m : Truncation). is_cut m k j) (sym same) ∙ (and_both (past_truncate q) _ e).1)
+truncate_removes (truncate.Leave p) q k j same e =
+    inl (ap (λ (m : Truncation). is_cut m k j) (sym same) ∙ (and_both (past_truncate q) _ e).1)
 
 punch_next : (s : State) (t : ℕ) (killed grant : Bool) (phase : PunchPhase) (turn : Turn PunchPhase) (new : Pool) (k j : ℕ)
     → PunchRow (pool_of s) t killed grant phase turn new → ((u : ℕ) → told call.Punch turn ≡ outcome.Blocked u → ⊥)
     → removes (left call.Punch turn) k j ≡ true → Removes (call.Punch phase) (told call.Punch turn) k j
-punch_next s t killed grant phase (Moved q) new k j row free e = punch_removes phase q k j (punch_hole s t killed grant phase q (Moved q) new row refl) e
+punch_next s t killed grant phase (Moved q) new k j row free e =
+    punch_removes phase q k j (punch_hole s t killed grant phase q (Moved q) new row refl) e
 punch_next s t killed grant phase (Blocked q u) new k j row free e = absurd (free u refl)
 punch_next s t killed grant phase (Ended a) new k j row free e = never e
 
 truncate_next : (s : State) (t : ℕ) (killed grant : Bool) (phase : TruncatePhase) (turn : Turn TruncatePhase) (new : Pool) (k j : ℕ)
     → TruncateRow (pool_of s) t killed grant phase turn new → ((u : ℕ) → told call.Truncate turn ≡ outcome.Blocked u → ⊥)
     → removes (left call.Truncate turn) k j ≡ true → Removes (call.Truncate phase) (told call.Truncate turn) k j
-truncate_next s t killed grant phase (Moved q) new k j row free e = truncate_removes phase q k j (truncate_cut s t killed grant phase q (Moved q) new row refl) e
+truncate_next s t killed grant phase (Moved q) new k j row free e =
+    truncate_removes phase q k j (truncate_cut s t killed grant phase q (Moved q) new row refl) e
 truncate_next s t killed grant phase (Blocked q u) new k j row free e = absurd (free u refl)
 truncate_next s t killed grant phase (Ended a) new k j row free e = never e
 
@@ -225,14 +265,23 @@ pub next_removes : (s : State) (t : ℕ) (killed grant : Bool) (c : Call) (o : O
     → Removes c o k j
 unfolding CallRow
 next_removes s t killed grant (call.Punch p) o new next k j (turn, row, tells, leaves) free e =
-    subst (λ (m : Outcome). Removes (call.Punch p) m k j) (sym tells) (punch_next s t killed grant p turn new k j row (λ u d. free u (tells ∙ d)) (ap (λ (m : Option Call). removes m k j) (sym leaves) ∙ e))
+    subst (λ (m : Outcome). Removes (call.Punch p) m k j) (sym tells)
+    (punch_next s t killed grant p turn new k j row (λ u d. free u (tells ∙ d))
+    (ap (λ (m : Option Call). removes m k j) (sym leaves) ∙ e))
 next_removes s t killed grant (call.Truncate p) o new next k j (turn, row, tells, leaves) free e =
-    subst (λ (m : Outcome). Removes (call.Truncate p) m k j) (sym tells) (truncate_next s t killed grant p turn new k j row (λ u d. free u (tells ∙ d)) (ap (λ (m : Option Call). removes m k j) (sym leaves) ∙ e))
-next_removes s t killed grant (call.Touch p) o new next k j (turn, row, tells, leaves) free e = clash (removes next k j) e (ap (λ (m : Option Call). removes m k j) leaves ∙ quiet_next call.Touch turn k j (λ q. refl))
-next_removes s t killed grant (call.Map p) o new next k j (turn, row, tells, leaves) free e = clash (removes next k j) e (ap (λ (m : Option Call). removes m k j) leaves ∙ quiet_next call.Map turn k j (λ q. refl))
-next_removes s t killed grant (call.Alloc p) o new next k j (turn, row, tells, leaves) free e = clash (removes next k j) e (ap (λ (m : Option Call). removes m k j) leaves ∙ quiet_next call.Alloc turn k j (λ q. refl))
-next_removes s t killed grant (call.Unmap p) o new next k j (turn, row, tells, leaves) free e = clash (removes next k j) e (ap (λ (m : Option Call). removes m k j) leaves ∙ quiet_next call.Unmap turn k j (λ q. refl))
-next_removes s t killed grant (call.Exit p) o new next k j (turn, row, tells, leaves) free e = clash (removes next k j) e (ap (λ (m : Option Call). removes m k j) leaves ∙ quiet_next call.Exit turn k j (λ q. refl))
+    subst (λ (m : Outcome). Removes (call.Truncate p) m k j) (sym tells)
+    (truncate_next s t killed grant p turn new k j row (λ u d. free u (tells ∙ d))
+    (ap (λ (m : Option Call). removes m k j) (sym leaves) ∙ e))
+next_removes s t killed grant (call.Touch p) o new next k j (turn, row, tells, leaves) free e =
+    clash (removes next k j) e (ap (λ (m : Option Call). removes m k j) leaves ∙ quiet_next call.Touch turn k j (λ q. refl))
+next_removes s t killed grant (call.Map p) o new next k j (turn, row, tells, leaves) free e =
+    clash (removes next k j) e (ap (λ (m : Option Call). removes m k j) leaves ∙ quiet_next call.Map turn k j (λ q. refl))
+next_removes s t killed grant (call.Alloc p) o new next k j (turn, row, tells, leaves) free e =
+    clash (removes next k j) e (ap (λ (m : Option Call). removes m k j) leaves ∙ quiet_next call.Alloc turn k j (λ q. refl))
+next_removes s t killed grant (call.Unmap p) o new next k j (turn, row, tells, leaves) free e =
+    clash (removes next k j) e (ap (λ (m : Option Call). removes m k j) leaves ∙ quiet_next call.Unmap turn k j (λ q. refl))
+next_removes s t killed grant (call.Exit p) o new next k j (turn, row, tells, leaves) free e =
+    clash (removes next k j) e (ap (λ (m : Option Call). removes m k j) leaves ∙ quiet_next call.Exit turn k j (λ q. refl))
 
 -- where a call sets a size, what it doesn't remove stays below it
 pub size_set : (s : State) (t : ℕ) (killed grant : Bool) (c : Call) (o : Outcome) (new : Pool) (next : Option Call) (k j : ℕ)
@@ -248,6 +297,9 @@ size_set s t killed grant (call.Truncate (truncate.Size p)) o new next k j (turn
     below f k new j a b = grind (arith, nat_tests)
 
     low : new ≡ record (pool_of s) { size = put s.size p.truncation.file p.truncation.new } → j < new.size k
-    low d = let z : new.size k ≡ p.truncation.new = ap (λ (m : Pool). m.size k) d ∙ (ap (put s.size p.truncation.file p.truncation.new) (sym (same e)) ∙ put_same s.size p.truncation.file p.truncation.new) in
+    low d =
+        let z : new.size k ≡ p.truncation.new = ap (λ (m : Pool). m.size k) d
+        ∙ (ap (put s.size p.truncation.file p.truncation.new) (sym (same e))
+        ∙ put_same s.size p.truncation.file p.truncation.new) in
         let y = below p.truncation.file k p.truncation.new j (same e) quiet in omega arith
 size_set s t killed grant c o new next k j row e quiet = (let d : ◌≡◌ {A = Option ℕ} None (Some k) = e in absurd (cc))

@@ -48,9 +48,21 @@ punch_locked : (s : State) (t : ℕ) (p : Locked) (turn : Turn PunchPhase) (new 
 punch_locked s t p turn new h one l e row =
     let y = stands_at s t _ h e in
     by_test (is_some (s.pages p.hole.file p.index)) row
-    (λ page r. so call.Punch s t _ turn _ new r (stays s.geometry s t _ (Some (call.Punch (at.Unmap (record { hole = p.hole; index = p.index; task = 1 })))) h l e refl tt
-    (record { slot = y.slot; lock = y.lock; facts = record { range = y.facts.range; cached = some_page _ page; task = (omega arith, omega arith); cleared = λ w v x a b c d. absurd (omega arith) } })))
-    (λ none r. so call.Punch s t _ turn _ new r (stays s.geometry s t _ (Some (call.Punch (at.Unslot (record { hole = p.hole; index = p.index })))) h l e refl tt (record { slot = y.slot; lock = y.lock; facts = y.facts })))
+    (λ page r. so call.Punch s t _ turn _ new r
+    (stays s.geometry s t _ (Some (call.Punch (at.Unmap (record { hole = p.hole; index = p.index; task = 1 })))) h l e refl tt
+    (record {
+      slot = y.slot;
+      lock = y.lock;
+      facts = record {
+        range = y.facts.range;
+        cached = some_page _ page;
+        task = (omega arith, omega arith);
+        cleared = λ w v x a b c d. absurd (omega arith);
+      };
+    })))
+    (λ none r. so call.Punch s t _ turn _ new r
+    (stays s.geometry s t _ (Some (call.Punch (at.Unslot (record { hole = p.hole; index = p.index })))) h l e refl
+    tt (record { slot = y.slot; lock = y.lock; facts = y.facts })))
 
 punch_unmap : (s : State) (t : ℕ) (p : Unmap) (turn : Turn PunchPhase) (new : Pool) → Inv s.geometry s → t < s.geometry.tasks + 1
     → s.calls t ≡ Some (call.Punch (at.Unmap p)) → PunchUnmapRow (pool_of s) p turn new
@@ -58,12 +70,39 @@ punch_unmap : (s : State) (t : ℕ) (p : Unmap) (turn : Turn PunchPhase) (new : 
 punch_unmap s t p turn new h l e row =
     let y = stands_at s t _ h e in
     let f = p.hole.file in
-    let n : State = record s { pool = record s.pool { table = put s.table p.task (without_index (s.areas p.task) (s.table p.task) f p.index) } } in
+    let n : State = record s {
+      pool = record s.pool {
+        table = put s.table p.task
+            (without_index (s.areas p.task) (s.table p.task) f p.index);
+      };
+    } in
     by_test (nat_lt p.task s.geometry.tasks) row
-    (λ more r. so call.Punch s t _ turn _ new r (stays s.geometry n t _ (Some (call.Punch (at.Unmap (record { hole = p.hole; index = p.index; task = p.task + 1 })))) (clears s.geometry s p.task f p.index h) l e refl tt
-    (record { slot = y.slot; lock = y.lock; facts = record { range = y.facts.range; cached = y.facts.cached; task = (omega arith, (let a = lt _ _ more in omega arith)); cleared = cleared_next s p.task f p.index y.facts.cleared } })))
-    (λ last r. so call.Punch s t _ turn _ new r (stays s.geometry n t _ (Some (call.Punch (at.Evict (record { hole = p.hole; index = p.index })))) (clears s.geometry s p.task f p.index h) l e refl tt
-    (record { slot = y.slot; lock = y.lock; facts = record { range = y.facts.range; cached = y.facts.cached; cleared = λ w v x a b. cleared_next s p.task f p.index y.facts.cleared w v x a (let c = le _ _ last in omega arith) } })))
+    (λ more r. so call.Punch s t _ turn _ new r
+    (stays s.geometry n t _
+    (Some (call.Punch (at.Unmap (record { hole = p.hole; index = p.index; task = p.task + 1 }))))
+    (clears s.geometry s p.task f p.index h) l e refl tt
+    (record {
+      slot = y.slot;
+      lock = y.lock;
+      facts = record {
+        range = y.facts.range;
+        cached = y.facts.cached;
+        task = (omega arith, (let a = lt _ _ more in omega arith));
+        cleared = cleared_next s p.task f p.index y.facts.cleared;
+      };
+    })))
+    (λ last r. so call.Punch s t _ turn _ new r
+    (stays s.geometry n t _ (Some (call.Punch (at.Evict (record { hole = p.hole; index = p.index }))))
+    (clears s.geometry s p.task f p.index h) l e refl tt
+    (record {
+      slot = y.slot;
+      lock = y.lock;
+      facts = record {
+        range = y.facts.range;
+        cached = y.facts.cached;
+        cleared = λ w v x a b. cleared_next s p.task f p.index y.facts.cleared w v x a (let c = le _ _ last in omega arith);
+      };
+    })))
 
 punch_evict : (s : State) (t : ℕ) (p : Evict) (turn : Turn PunchPhase) (new : Pool) → Inv s.geometry s → t < s.geometry.tasks + 1
     → s.calls t ≡ Some (call.Punch (at.Evict p)) → PunchEvictRow (pool_of s) p turn new
@@ -72,9 +111,19 @@ punch_evict s t p turn new h l e row =
     let y = stands_at s t _ h e in
     let c = y.facts.cleared in
     let x = row.0 in
-    so call.Punch s t _ turn _ new row.2 (evicts s.geometry s t _ (Some (call.Punch (at.Delete (record { hole = p.hole; index = p.index; held = x })))) p.hole.file p.index x h l e y.facts.range.0 refl refl refl refl refl refl row.1 y.slot
+    so call.Punch s t _ turn _ new row.2
+    (evicts s.geometry s t _ (Some (call.Punch (at.Delete (record { hole = p.hole; index = p.index; held = x }))))
+    p.hole.file p.index x h l e y.facts.range.0 refl refl refl refl refl refl row.1 y.slot
     (λ w v z a d. let o = h.entries.owners w v z a in c w v z o.0 (let b = o.1 in omega arith) a d) tt
-    (record { slot = y.slot; lock = y.lock; facts = record { range = y.facts.range; bare = put2_same s.pages p.hole.file p.index None; marked = page_marked s.geometry s p.hole.file p.index x h row.1 } }))
+    (record {
+      slot = y.slot;
+      lock = y.lock;
+      facts = record {
+        range = y.facts.range;
+        bare = put2_same s.pages p.hole.file p.index None;
+        marked = page_marked s.geometry s p.hole.file p.index x h row.1;
+      };
+    }))
 
 punch_delete : (s : State) (t : ℕ) (grant : Bool) (p : Delete) (turn : Turn PunchPhase) (new : Pool) → Inv s.geometry s
     → t < s.geometry.tasks + 1 → s.calls t ≡ Some (call.Punch (at.Delete p)) → PunchDeleteRow (pool_of s) grant p turn new
@@ -83,18 +132,29 @@ punch_delete s t grant p turn new h l e row =
     let y = stands_at s t _ h e in
     let f = p.hole.file in
     by_test (splits (s.reserved f) p.index && nat_le (s.spare f) (s.pending f) && not grant) row
-    (λ denied r. so call.Punch s t _ turn _ new r (stays s.geometry s t _ (Some (call.Punch (at.Free (record { hole = p.hole; index = p.index; held = p.held; denied = true })))) h l e refl tt
+    (λ denied r. so call.Punch s t _ turn _ new r
+    (stays s.geometry s t _
+    (Some (call.Punch (at.Free (record { hole = p.hole; index = p.index; held = p.held; denied = true })))) h l e refl tt
     (record { slot = y.slot; lock = y.lock; facts = record { range = y.facts.range; bare = y.facts.bare; marked = λ d. y.facts.marked } })))
-    (λ done r. so call.Punch s t _ turn _ new r (deletes s.geometry s t _ (Some (call.Punch (at.Free (record { hole = p.hole; index = p.index; held = p.held; denied = false })))) f p.index _ h l e y.facts.range.0 (let a = y.facts.range.2 in let b = y.facts.range.3 in omega arith) refl refl refl refl refl
+    (λ done r. so call.Punch s t _ turn _ new r
+    (deletes s.geometry s t _
+    (Some (call.Punch (at.Free (record { hole = p.hole; index = p.index; held = p.held; denied = false })))) f
+    p.index _ h l e y.facts.range.0 (let a = y.facts.range.2 in let b = y.facts.range.3 in omega arith) refl refl refl refl refl
     (spare_left (splits (s.reserved f) p.index) (s.pending f) (s.spare f) (h.spares f)) y.facts.marked y.facts.bare y.slot y.lock tt
-    (record { slot = y.slot; lock = y.lock; facts = record { range = y.facts.range; bare = y.facts.bare; marked = λ d. (let z : false ≡ true = d in absurd (cc)) } })))
+    (record {
+      slot = y.slot;
+      lock = y.lock;
+      facts = record { range = y.facts.range; bare = y.facts.bare; marked = λ d. (let z : false ≡ true = d in absurd (cc)) };
+    })))
 
 punch_free : (s : State) (t : ℕ) (p : Free) (turn : Turn PunchPhase) (new : Pool) → Inv s.geometry s → t < s.geometry.tasks + 1
     → s.calls t ≡ Some (call.Punch (at.Free p)) → PunchFreeRow (pool_of s) p turn new
     → Inv s.geometry (after call.Punch s t turn new)
 punch_free s t p turn new h l e row =
     let y = stands_at s t _ h e in
-    so call.Punch s t _ turn _ new row (gives s.geometry s t _ (Some (call.Punch (at.Unslot (record { hole = p.hole; index = p.index })))) p.held (if p.denied then s.resv + 1 else s.resv) h l e refl refl refl refl refl (balance p.denied s.resv) (few p.denied s.resv) tt
+    so call.Punch s t _ turn _ new row
+    (gives s.geometry s t _ (Some (call.Punch (at.Unslot (record { hole = p.hole; index = p.index })))) p.held
+    (if p.denied then s.resv + 1 else s.resv) h l e refl refl refl refl refl (balance p.denied s.resv) (few p.denied s.resv) tt
     (record { slot = y.slot; lock = y.lock; facts = record { range = y.facts.range } }))
   where
     balance : (b : Bool) (r : ℕ) → ((if b then r + 1 else r) + 0) + 0 ≡ (r + bit b) + 0
@@ -111,19 +171,34 @@ punch_unslot : (s : State) (t : ℕ) (p : Unslot) (turn : Turn PunchPhase) (new 
 punch_unslot s t p turn new h l e row =
     let y = stands_at s t _ h e in
     by_test (nat_lt (p.index + 1) (p.hole.from + p.hole.len)) row
-    (λ more r. so call.Punch s t _ turn _ new r (leaves_slot s.geometry s t _ (Some (call.Punch (at.Want (record { hole = p.hole; index = p.index + 1 })))) p.hole.file p.index h l e refl refl refl refl y.slot tt
-    (record { slot = tt; lock = y.lock; facts = record { range = (y.facts.range.0, (let a = y.facts.range.1 in omega arith), lt _ _ more, y.facts.range.3) } })))
-    (λ last r. so call.Punch s t _ turn _ new r (leaves_slot s.geometry s t _ (Some (call.Punch (at.Leave (record { hole = p.hole })))) p.hole.file p.index h l e refl refl refl refl y.slot tt (record { slot = tt; lock = y.lock; facts = record { file = y.facts.range.0 } })))
+    (λ more r. so call.Punch s t _ turn _ new r
+    (leaves_slot s.geometry s t _ (Some (call.Punch (at.Want (record { hole = p.hole; index = p.index + 1 }))))
+    p.hole.file p.index h l e refl refl refl refl y.slot tt
+    (record {
+      slot = tt;
+      lock = y.lock;
+      facts = record { range = (y.facts.range.0, (let a = y.facts.range.1 in omega arith), lt _ _ more, y.facts.range.3) };
+    })))
+    (λ last r. so call.Punch s t _ turn _ new r
+    (leaves_slot s.geometry s t _ (Some (call.Punch (at.Leave (record { hole = p.hole })))) p.hole.file p.index h l
+    e refl refl refl refl y.slot tt (record { slot = tt; lock = y.lock; facts = record { file = y.facts.range.0 } })))
 
 pub punch_row : (s : State) (t : ℕ) (killed grant : Bool) (phase : PunchPhase) (turn : Turn PunchPhase) (new : Pool)
     → Inv s.geometry s → 1 ≤ t → t < s.geometry.tasks + 1 → s.calls t ≡ Some (call.Punch phase)
     → PunchRow (pool_of s) t killed grant phase turn new → Inv s.geometry (after call.Punch s t turn new)
 punch_row s t killed grant (at.Start p) turn new h one l e row =
-    start_row call.Punch s t killed p.hole.file _ answer.Killed (at.Start p) (at.Want (record { hole = p.hole; index = p.hole.from })) turn new h l e row refl refl refl refl refl refl
-    (λ in_files good. let o = good_range s p.hole.from p.hole.len good in record { slot = tt; lock = put_same s.locks p.hole.file (Some t); facts = record { range = (in_files, omega arith, (let a = o.0 in omega arith), o.1) } })
+    start_row call.Punch s t killed p.hole.file _ answer.Killed (at.Start p)
+    (at.Want (record { hole = p.hole; index = p.hole.from })) turn new h l e row refl refl refl refl refl refl
+    (λ in_files good. let o = good_range s p.hole.from p.hole.len good in
+    record {
+      slot = tt;
+      lock = put_same s.locks p.hole.file (Some t);
+      facts = record { range = (in_files, omega arith, (let a = o.0 in omega arith), o.1) };
+    })
 punch_row s t killed grant (at.Want p) turn new h one l e row =
     let y = stands_at s t _ h e in
-    want_row call.Punch s t p.hole.file p.index (at.Want p) (at.Locked (record { hole = p.hole; index = p.index })) turn new h l e row refl refl refl refl refl
+    want_row call.Punch s t p.hole.file p.index (at.Want p) (at.Locked (record { hole = p.hole; index = p.index }))
+    turn new h l e row refl refl refl refl refl
     (record { slot = put_same s.slots (slot_of s.geometry p.hole.file p.index) (Some t); lock = y.lock; facts = y.facts })
 punch_row s t killed grant (at.Locked p) turn new h one l e row = punch_locked s t p turn new h one l e row
 punch_row s t killed grant (at.Unmap p) turn new h one l e row = punch_unmap s t p turn new h l e row
@@ -132,4 +207,5 @@ punch_row s t killed grant (at.Delete p) turn new h one l e row = punch_delete s
 punch_row s t killed grant (at.Free p) turn new h one l e row = punch_free s t p turn new h l e row
 punch_row s t killed grant (at.Unslot p) turn new h one l e row = punch_unslot s t p turn new h l e row
 punch_row s t killed grant (at.Leave p) turn new h one l e row =
-    so call.Punch s t _ turn _ new row (leaves_lock s.geometry s t _ p.hole.file h l e refl refl refl refl refl refl (stands_at s t _ h e).lock (λ k j. refl))
+    so call.Punch s t _ turn _ new row
+    (leaves_lock s.geometry s t _ p.hole.file h l e refl refl refl refl refl refl (stands_at s t _ h e).lock (λ k j. refl))

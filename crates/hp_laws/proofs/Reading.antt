@@ -24,7 +24,8 @@ use Rattle.hp_laws.proofs.Turns.{is_blocked, Turned, touch_turn, map_turn, alloc
 -- a Begin is refused and changes nothing, or its call is in flight
 pub begin_cases : (s : State) (t : ℕ) (p : Op) (o : Outcome) (n : State) (P : Type 0) → BeginRow s t p o n
     → ((why : Refusal) → o ≡ outcome.Refused why → n ≡ s → P)
-    → (is_dead (s.life t) ≡ false → s.calls t ≡ None → (is_killed (s.life t) && not (is_exit p)) ≡ false → o ≡ outcome.Begun → n ≡ record s { calls = put s.calls t (Some (first p)) } → P)
+    → (is_dead (s.life t) ≡ false → s.calls t ≡ None → (is_killed (s.life t) && not (is_exit p)) ≡ false
+    → o ≡ outcome.Begun → n ≡ record s { calls = put s.calls t (Some (first p)) } → P)
     → P
 unfolding BeginRow
 begin_cases s t p o n P row refused begun =
@@ -39,7 +40,8 @@ begin_cases s t p o n P row refused begun =
 -- a Step is refused and changes nothing, or it is one of its call
 pub step_cases : (s : State) (t : ℕ) (grant : Bool) (o : Outcome) (n : State) (P : Type 0) → StepRow s t grant o n
     → ((why : Refusal) → o ≡ outcome.Refused why → n ≡ s → P)
-    → ((c : Call) → is_dead (s.life t) ≡ false → s.calls t ≡ Some c → (pool : Pool) (next : Option Call) → CallRow (pool_of s) t (is_killed (s.life t)) grant c o pool next
+    → ((c : Call) → is_dead (s.life t) ≡ false → s.calls t ≡ Some c → (pool : Pool) (next : Option Call)
+    → CallRow (pool_of s) t (is_killed (s.life t)) grant c o pool next
     → n ≡ record (with_pool s pool) { life = lives_after s.life t c next; calls = put s.calls t next } → P) → P
 unfolding StepRow
 step_cases s t grant o n P row refused steps =
@@ -52,14 +54,18 @@ step_cases s t grant o n P row refused steps =
 -- a Step of a living task's call is one of it
 pub step_of : (s : State) (t : ℕ) (grant : Bool) (c : Call) (o : Outcome) (n : State) → StepRow s t grant o n
     → is_dead (s.life t) ≡ false → s.calls t ≡ Some c
-    → (pool : Pool) × (next : Option Call) × CallRow (pool_of s) t (is_killed (s.life t)) grant c o pool next × (n ≡ record (with_pool s pool) { life = lives_after s.life t c next; calls = put s.calls t next })
+    → (pool : Pool) × (next : Option Call) × CallRow (pool_of s) t (is_killed (s.life t)) grant c o pool next
+    × (n ≡ record (with_pool s pool) { life = lives_after s.life t c next; calls = put s.calls t next })
 unfolding StepRow
 step_of s t grant c o n row lives some =
     by_test (is_dead (s.life t)) row
     (λ dead r. (let z : true ≡ false = sym dead ∙ lives in absurd (cc)))
     (λ _ r. by_option (s.calls t) r
     (λ none r. (let z : ◌≡◌ {A = Option Call} None (Some c) = sym none ∙ some in absurd (cc)))
-    (λ d is r. subst (λ (m : Call). (pool : Pool) × (next : Option Call) × CallRow (pool_of s) t (is_killed (s.life t)) grant m o pool next × (n ≡ record (with_pool s pool) { life = lives_after s.life t m next; calls = put s.calls t next })) (same (sym is ∙ some)) r))
+    (λ d is r. subst (λ (m : Call). (pool : Pool) × (next : Option Call)
+    × CallRow (pool_of s) t (is_killed (s.life t)) grant m o pool next
+    × (n ≡ record (with_pool s pool) { life = lives_after s.life t m next; calls = put s.calls t next }))
+    (same (sym is ∙ some)) r))
   where
     same : {a b : Call} → Some a ≡ Some b → a ≡ b
     same z = cc
@@ -86,7 +92,8 @@ pub record Gone (s : State) (t top : ℕ) (c : Call) (o : Outcome) (new : Pool) 
 
 -- or it waits
 abbrev pub Steps : State → (t top : ℕ) → Call → Outcome → Pool → Option Call → Type 0
-Steps s t top c o new next = ((u : ℕ) × (o ≡ outcome.Blocked u) × (new ≡ pool_of s) × (next ≡ Some c) × WaitsFor s (Some c) u) ⊎ Gone s t top c o new next
+Steps s t top c o new next =
+    ((u : ℕ) × (o ≡ outcome.Blocked u) × (new ≡ pool_of s) × (next ≡ Some c) × WaitsFor s (Some c) u) ⊎ Gone s t top c o new next
 
 unblocked : {P : Type 0} (call : P → Call) (turn : Turn P) (o : Outcome) → o ≡ told call turn → is_blocked turn ≡ false → (u : ℕ)
     → o ≡ outcome.Blocked u → ⊥
@@ -113,7 +120,9 @@ of_turn call s t top here turn o new next h e l = elim h [
     areas = w.areas;
     keeps = w.keeps;
     grows = w.grows;
-    nearer = λ z. subst (λ (m : Option Call). steps_left s.geometry (length (new.areas t)) top m + 1 ≤ steps_left s.geometry (length (s.areas t)) top (Some (call here))) (sym l) (w.nearer z);
+    nearer =
+        λ z. subst (λ (m : Option Call). steps_left s.geometry (length (new.areas t)) top m + 1 ≤ steps_left
+        s.geometry (length (s.areas t)) top (Some (call here))) (sym l) (w.nearer z);
   })
 ]
 
@@ -121,13 +130,20 @@ pub call_steps : (s : State) (t top : ℕ) (killed grant : Bool) (c : Call) (o :
     → Inv s.geometry s → 1 ≤ t → t < s.geometry.tasks + 1 → s.calls t ≡ Some c → CallRow (pool_of s) t killed grant c o new next
     → Steps s t top c o new next
 unfolding CallRow
-call_steps s t top killed grant (call.Touch p) o new next h one l e (turn, row, tells, leaves) = of_turn call.Touch s t top p turn o new next (touch_turn s t top killed grant p turn new h e row) tells leaves
-call_steps s t top killed grant (call.Map p) o new next h one l e (turn, row, tells, leaves) = of_turn call.Map s t top p turn o new next (map_turn s t top killed grant p turn new h e row) tells leaves
-call_steps s t top killed grant (call.Alloc p) o new next h one l e (turn, row, tells, leaves) = of_turn call.Alloc s t top p turn o new next (alloc_turn s t top killed grant p turn new h e row) tells leaves
-call_steps s t top killed grant (call.Punch p) o new next h one l e (turn, row, tells, leaves) = of_turn call.Punch s t top p turn o new next (punch_turn s t top killed grant p turn new h one l e row) tells leaves
-call_steps s t top killed grant (call.Truncate p) o new next h one l e (turn, row, tells, leaves) = of_turn call.Truncate s t top p turn o new next (truncate_turn s t top killed grant p turn new h one l e row) tells leaves
-call_steps s t top killed grant (call.Unmap p) o new next h one l e (turn, row, tells, leaves) = of_turn call.Unmap s t top p turn o new next (unmap_turn s t top killed grant p turn new row) tells leaves
-call_steps s t top killed grant (call.Exit p) o new next h one l e (turn, row, tells, leaves) = of_turn call.Exit s t top p turn o new next (exit_turn s t top killed grant p turn new h e row) tells leaves
+call_steps s t top killed grant (call.Touch p) o new next h one l e (turn, row, tells, leaves) =
+    of_turn call.Touch s t top p turn o new next (touch_turn s t top killed grant p turn new h e row) tells leaves
+call_steps s t top killed grant (call.Map p) o new next h one l e (turn, row, tells, leaves) =
+    of_turn call.Map s t top p turn o new next (map_turn s t top killed grant p turn new h e row) tells leaves
+call_steps s t top killed grant (call.Alloc p) o new next h one l e (turn, row, tells, leaves) =
+    of_turn call.Alloc s t top p turn o new next (alloc_turn s t top killed grant p turn new h e row) tells leaves
+call_steps s t top killed grant (call.Punch p) o new next h one l e (turn, row, tells, leaves) =
+    of_turn call.Punch s t top p turn o new next (punch_turn s t top killed grant p turn new h one l e row) tells leaves
+call_steps s t top killed grant (call.Truncate p) o new next h one l e (turn, row, tells, leaves) =
+    of_turn call.Truncate s t top p turn o new next (truncate_turn s t top killed grant p turn new h one l e row) tells leaves
+call_steps s t top killed grant (call.Unmap p) o new next h one l e (turn, row, tells, leaves) =
+    of_turn call.Unmap s t top p turn o new next (unmap_turn s t top killed grant p turn new row) tells leaves
+call_steps s t top killed grant (call.Exit p) o new next h one l e (turn, row, tells, leaves) =
+    of_turn call.Exit s t top p turn o new next (exit_turn s t top killed grant p turn new h e row) tells leaves
 
 pub lives_some : (lives : ℕ → Life) (t : ℕ) (c d : Call) → lives_after lives t c (Some d) ≡ lives
 lives_some lives t (call.Touch p) d = refl

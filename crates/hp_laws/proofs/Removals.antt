@@ -36,28 +36,57 @@ pub evicts : (g : Geometry) (s : State) (t : ℕ) (b c : Option Call) (f i x : �
     → IfSome (fills c) (λ k. Reached s.size (λ u. ahead (s.calls u)) k.0 k.1)
     → Stands g (record s { pool = record s.pool { pages = put2 s.pages f i None; frame = put s.frame x state.Hand } }) t c
     → Inv g (to (record s { pool = record s.pool { pages = put2 s.pages f i None; frame = put s.frame x state.Hand } }) t c)
-evicts g s t b c f i x h l e in_files same same_held none some same_change balance page held cleared fill own = goes g s n t b c h l e same same_held (record {
-  geometry = h.geometry;
-  ranges = h.ranges;
-  spread = h.spread;
-  reach = h.reach;
-  fill = fill;
-  sizes = h.sizes;
-  spares = h.spares;
-  holders = h.holders;
-  count = (let v : vacant_of g s.reserved n.pages ≡ vacant_of g s.reserved s.pages + 1 = evicted_vacant in omega arith);
-  enough = (let o = h.place.pages f i x page in let a : free_frames (put s.frame x state.Hand) s.frames ≡ free_frames s.frame s.frames = free_same s.frame x s.frames state.Hand (ap is_free (sym o.1)) in let z = h.enough in omega arith);
-  place = subst (λ (o : Option ℕ). Placing s.frames n.frame (put (λ (u : ℕ). hand (s.calls u)) t o) n.pages) (sym some) (evicts_frame s.frames s.frame (λ u. hand (s.calls u)) s.pages t f i x h.place (ap hand e ∙ none) page);
-  entries = record { owners = h.entries.owners; agree = λ w v y a. let o = h.entries.agree w v y a in (o.0, o.1, still w v y o.0 a o.1 o.2) };
-  inside = record {
-    bare = λ k j a. bare_still k j (h.inside.bare k j a);
-    within = h.inside.within;
-  };
-  sweep = record { below = h.sweep.below; gone = h.sweep.gone; past = λ u k j a. let o = h.sweep.past u k j a in (bare_still k j o.0, o.1) };
-  changes = same_opens s.pending b c same_change;
-  others = λ u d. stands_after g s n u (s.calls u) (record { slot = λ k a. a; page = λ k j a. other u d k j a; mark = λ k j a w r. r; entries = λ k j a w v y p q. (y, p, q); lock = λ k a. (a, refl, λ j r. r); areas = refl; prepared = refl; table = λ v y p. (y, p) }) (h.stands u);
-  own = own;
-})
+evicts g s t b c f i x h l e in_files same same_held none some same_change balance page held cleared fill own =
+    goes g s n t b c h l e same same_held (record {
+      geometry = h.geometry;
+      ranges = h.ranges;
+      spread = h.spread;
+      reach = h.reach;
+      fill = fill;
+      sizes = h.sizes;
+      spares = h.spares;
+      holders = h.holders;
+      count = (let v : vacant_of g s.reserved n.pages ≡ vacant_of g s.reserved s.pages + 1 = evicted_vacant in omega arith);
+      enough =
+          (let o = h.place.pages f i x page in
+          let a : free_frames (put s.frame x state.Hand) s.frames ≡ free_frames s.frame s.frames = free_same s.frame x
+          s.frames state.Hand (ap is_free (sym o.1)) in
+          let z = h.enough in omega arith);
+      place =
+          subst (λ (o : Option ℕ). Placing s.frames n.frame (put (λ (u : ℕ). hand (s.calls u)) t o) n.pages) (sym some)
+          (evicts_frame s.frames s.frame (λ u. hand (s.calls u)) s.pages t f i x h.place (ap hand e ∙ none) page);
+      entries =
+          record {
+            owners = h.entries.owners;
+            agree = λ w v y a. let o = h.entries.agree w v y a in
+                (o.0, o.1, still w v y o.0 a o.1 o.2);
+          };
+      inside = record {
+        bare = λ k j a. bare_still k j (h.inside.bare k j a);
+        within = h.inside.within;
+      };
+      sweep =
+          record {
+            below = h.sweep.below;
+            gone = h.sweep.gone;
+            past = λ u k j a. let o = h.sweep.past u k j a in
+                (bare_still k j o.0, o.1);
+          };
+      changes = same_opens s.pending b c same_change;
+      others =
+          λ u d. stands_after g s n u (s.calls u)
+          (record {
+            slot = λ k a. a;
+            page = λ k j a. other u d k j a;
+            mark = λ k j a w r. r;
+            entries = λ k j a w v y p q. (y, p, q);
+            lock = λ k a. (a, refl, λ j r. r);
+            areas = refl;
+            prepared = refl;
+            table = λ v y p. (y, p);
+          }) (h.stands u);
+      own = own;
+    })
   where
     n : State
     n = record s { pool = record s.pool { pages = put2 s.pages f i None; frame = put s.frame x state.Hand } }
@@ -77,16 +106,24 @@ evicts g s t b c f i x h l e in_files same same_held none some same_change balan
 
     other : (u : ℕ) → u ≢ t → (k j : ℕ) → s.slots (slot_of g k j) ≡ Some u → put2 s.pages f i None k j ≡ s.pages k j
     other u d k j a = elim (put2_tells s.pages f i None k j) [
-      | inl q ↦ (let z : s.slots (slot_of g f i) ≡ Some u = ap (λ (m : ℕ). s.slots (slot_of g m i)) (sym q.0) ∙ (ap (λ (m : ℕ). s.slots (slot_of g k m)) (sym q.1) ∙ a) in absurd (d (some_same (sym z ∙ held))))
+      | inl q ↦ (let z : s.slots (slot_of g f i) ≡ Some u = ap (λ (m : ℕ). s.slots (slot_of g m i)) (sym q.0)
+          ∙ (ap (λ (m : ℕ). s.slots (slot_of g k m)) (sym q.1) ∙ a) in absurd (d (some_same (sym z ∙ held))))
       | inr q ↦ q.1
     ]
 
     evicted_vacant : vacant_of g s.reserved n.pages ≡ vacant_of g s.reserved s.pages + 1
     evicted_vacant =
-        let a : vacant_of g s.reserved n.pages + vacant g.limit (s.reserved f) (s.pages f) ≡ vacant_of g s.reserved s.pages + vacant g.limit (s.reserved f) (put2 s.pages f i None f)
-        = total_change g.files f (λ k. vacant g.limit (s.reserved k) (s.pages k)) (λ k. vacant g.limit (s.reserved k) (put2 s.pages f i None k)) in_files (λ k d. ap (vacant g.limit (s.reserved k)) (put_other s.pages f (put (s.pages f) i None) k d)) in
+        let a : vacant_of g s.reserved n.pages + vacant g.limit (s.reserved f) (s.pages f) ≡ vacant_of g s.reserved
+        s.pages + vacant g.limit (s.reserved f) (put2 s.pages f i None f)
+        =
+        total_change g.files f (λ k. vacant g.limit (s.reserved k) (s.pages k))
+        (λ k. vacant g.limit (s.reserved k) (put2 s.pages f i None k)) in_files
+        (λ k d. ap (vacant g.limit (s.reserved k)) (put_other s.pages f (put (s.pages f) i None) k d)) in
         let z : vacant g.limit (s.reserved f) (put2 s.pages f i None f) ≡ vacant g.limit (s.reserved f) (s.pages f) + 1
-        = ap (λ (m : ℕ → Option ℕ). vacant g.limit (s.reserved f) m) (put_same s.pages f (put (s.pages f) i None)) ∙ vacant_evict g.limit (s.reserved f) (s.pages f) i x (page_within f i x h.inside page).1 (page_marked g s f i x h page) page in
+        =
+        ap (λ (m : ℕ → Option ℕ). vacant g.limit (s.reserved f) m) (put_same s.pages f (put (s.pages f) i None))
+        ∙ vacant_evict g.limit (s.reserved f) (s.pages f) i x (page_within f i x h.inside page).1
+        (page_marked g s f i x h page) page in
         omega arith
 
 -- an index with no page is no longer reserved
@@ -98,47 +135,66 @@ pub deletes : (g : Geometry) (s : State) (t : ℕ) (b c : Option Call) (f i spar
     → IfSome (fills c) (λ k. Reached s.size (λ u. ahead (s.calls u)) k.0 k.1)
     → Stands g (record s { pool = record s.pool { reserved = put2 s.reserved f i false; spare = put s.spare f spare } }) t c
     → Inv g (to (record s { pool = record s.pool { reserved = put2 s.reserved f i false; spare = put s.spare f spare } }) t c)
-deletes g s t b c f i spare h l e in_files in_limit same same_held same_hand same_change balance spares marked bare held locked fill own = goes g s n t b c h l e same same_held (record {
-  geometry = h.geometry;
-  entries = h.entries;
-  ranges = h.ranges;
-  spread = h.spread;
-  reach = h.reach;
-  fill = fill;
-  sizes = h.sizes;
-  holders = h.holders;
-  enough = h.enough;
-  count = (let v : vacant_of g n.reserved s.pages + 1 ≡ vacant_of g s.reserved s.pages = fewer in omega arith);
-  place = place_same g s t b c h e same_hand;
-  inside = record {
-    within = λ k j a. elim (put2_tells s.reserved f i false k j) [
-      | inl q ↦ (let d : false ≡ true = sym q.2 ∙ a in absurd (cc))
-      | inr q ↦ h.inside.within k j (sym q.1 ∙ a)
-    ];
-    bare = λ k j a. elim (put2_tells s.reserved f i false k j) [
-      | inl q ↦ ap (λ (m : ℕ). s.pages m j) q.0 ∙ (ap (s.pages f) q.1 ∙ bare)
-      | inr q ↦ h.inside.bare k j (sym q.1 ∙ a)
-    ];
-  };
-  sweep = record { below = h.sweep.below; past = h.sweep.past; gone = λ u k j a. elim (put2_tells s.reserved f i false k j) [ inl q ↦ q.2 | inr q ↦ q.1 ∙ h.sweep.gone u k j a ] };
-  spares = spare_after;
-  changes = same_opens s.pending b c same_change;
-  others = λ u d. stands_after g s n u (s.calls u) (record { slot = λ k a. a; page = λ k j a. refl; mark = λ k j a w z. other_slot u d k j a ∙ z; entries = λ k j a w v y p q. (y, p, q); lock = λ k a. (a, refl, λ j z. other_lock u d k j a ∙ z); areas = refl; prepared = refl; table = λ v y p. (y, p) }) (h.stands u);
-  own = own;
-})
+deletes g s t b c f i spare h l e in_files in_limit same same_held same_hand same_change balance spares marked bare
+    held locked fill own = goes g s n t b c h l e same same_held (record {
+      geometry = h.geometry;
+      entries = h.entries;
+      ranges = h.ranges;
+      spread = h.spread;
+      reach = h.reach;
+      fill = fill;
+      sizes = h.sizes;
+      holders = h.holders;
+      enough = h.enough;
+      count = (let v : vacant_of g n.reserved s.pages + 1 ≡ vacant_of g s.reserved s.pages = fewer in omega arith);
+      place = place_same g s t b c h e same_hand;
+      inside = record {
+        within = λ k j a. elim (put2_tells s.reserved f i false k j) [
+          | inl q ↦ (let d : false ≡ true = sym q.2 ∙ a in absurd (cc))
+          | inr q ↦ h.inside.within k j (sym q.1 ∙ a)
+        ];
+        bare = λ k j a. elim (put2_tells s.reserved f i false k j) [
+          | inl q ↦ ap (λ (m : ℕ). s.pages m j) q.0 ∙ (ap (s.pages f) q.1 ∙ bare)
+          | inr q ↦ h.inside.bare k j (sym q.1 ∙ a)
+        ];
+      };
+      sweep =
+          record {
+            below = h.sweep.below;
+            past = h.sweep.past;
+            gone = λ u k j a. elim (put2_tells s.reserved f i false k j) [ inl q ↦ q.2 | inr q ↦ q.1 ∙ h.sweep.gone u k j a ];
+          };
+      spares = spare_after;
+      changes = same_opens s.pending b c same_change;
+      others =
+          λ u d. stands_after g s n u (s.calls u)
+          (record {
+            slot = λ k a. a;
+            page = λ k j a. refl;
+            mark = λ k j a w z. other_slot u d k j a ∙ z;
+            entries = λ k j a w v y p q. (y, p, q);
+            lock = λ k a. (a, refl, λ j z. other_lock u d k j a ∙ z);
+            areas = refl;
+            prepared = refl;
+            table = λ v y p. (y, p);
+          }) (h.stands u);
+      own = own;
+    })
   where
     n : State
     n = record s { pool = record s.pool { reserved = put2 s.reserved f i false; spare = put s.spare f spare } }
 
     spare_after : (k : ℕ) → s.pending k ≤ put s.spare f spare k
     spare_after k = elim (same_or_other k f) [
-      | inl d ↦ (let a : put s.spare f spare k ≡ spare = ap (put s.spare f spare) d ∙ put_same s.spare f spare in let w : s.pending k ≡ s.pending f = ap s.pending d in omega arith)
+      | inl d ↦ (let a : put s.spare f spare k ≡ spare = ap (put s.spare f spare) d ∙ put_same s.spare f spare in
+          let w : s.pending k ≡ s.pending f = ap s.pending d in omega arith)
       | inr d ↦ (let a : put s.spare f spare k ≡ s.spare k = put_other s.spare f spare k d in let z = h.spares k in omega arith)
     ]
 
     other_slot : (u : ℕ) → u ≢ t → (k j : ℕ) → s.slots (slot_of g k j) ≡ Some u → put2 s.reserved f i false k j ≡ s.reserved k j
     other_slot u d k j a = elim (put2_tells s.reserved f i false k j) [
-      | inl q ↦ (let z : s.slots (slot_of g f i) ≡ Some u = ap (λ (m : ℕ). s.slots (slot_of g m i)) (sym q.0) ∙ (ap (λ (m : ℕ). s.slots (slot_of g k m)) (sym q.1) ∙ a) in absurd (d (some_same (sym z ∙ held))))
+      | inl q ↦ (let z : s.slots (slot_of g f i) ≡ Some u = ap (λ (m : ℕ). s.slots (slot_of g m i)) (sym q.0)
+          ∙ (ap (λ (m : ℕ). s.slots (slot_of g k m)) (sym q.1) ∙ a) in absurd (d (some_same (sym z ∙ held))))
       | inr q ↦ q.1
     ]
 
@@ -150,8 +206,16 @@ deletes g s t b c f i spare h l e in_files in_limit same same_held same_hand sam
 
     fewer : vacant_of g n.reserved s.pages + 1 ≡ vacant_of g s.reserved s.pages
     fewer =
-        let a : vacant_of g n.reserved s.pages + vacant g.limit (s.reserved f) (s.pages f) ≡ vacant_of g s.reserved s.pages + vacant g.limit (put2 s.reserved f i false f) (s.pages f)
-        = total_change g.files f (λ k. vacant g.limit (s.reserved k) (s.pages k)) (λ k. vacant g.limit (put2 s.reserved f i false k) (s.pages k)) in_files (λ k d. ap (λ (m : ℕ → Bool). vacant g.limit m (s.pages k)) (put_other s.reserved f (put (s.reserved f) i false) k d)) in
+        let a : vacant_of g n.reserved s.pages + vacant g.limit (s.reserved f) (s.pages f) ≡ vacant_of g s.reserved
+        s.pages + vacant g.limit (put2 s.reserved f i false f) (s.pages f)
+        =
+        total_change g.files f (λ k. vacant g.limit (s.reserved k) (s.pages k))
+        (λ k. vacant g.limit (put2 s.reserved f i false k) (s.pages k)) in_files
+        (λ k d. ap (λ (m : ℕ → Bool). vacant g.limit m (s.pages k))
+        (put_other s.reserved f (put (s.reserved f) i false) k d)) in
         let z : vacant g.limit (put2 s.reserved f i false f) (s.pages f) + 1 ≡ vacant g.limit (s.reserved f) (s.pages f)
-        = ap (λ (m : ℕ → Bool). vacant g.limit m (s.pages f) + 1) (put_same s.reserved f (put (s.reserved f) i false)) ∙ vacant_drop g.limit (s.reserved f) (s.pages f) i in_limit marked bare in
+        =
+        ap (λ (m : ℕ → Bool). vacant g.limit m (s.pages f) + 1)
+        (put_same s.reserved f (put (s.reserved f) i false))
+        ∙ vacant_drop g.limit (s.reserved f) (s.pages f) i in_limit marked bare in
         omega arith

@@ -46,7 +46,24 @@ pub record Always (s : State) : Type 0 where
 
 -- life stands for itself
 life_set : (g : Geometry) (s : State) (lives : ℕ → Life) → Inv g s → Inv g (record s { life = lives })
-life_set g s lives h = record { geometry = h.geometry; count = h.count; enough = h.enough; place = h.place; entries = h.entries; ranges = h.ranges; spread = h.spread; inside = h.inside; sweep = h.sweep; reach = h.reach; sizes = h.sizes; changes = h.changes; spares = h.spares; holders = h.holders; stands = h.stands }
+life_set g s lives h =
+    record {
+      geometry = h.geometry;
+      count = h.count;
+      enough = h.enough;
+      place = h.place;
+      entries = h.entries;
+      ranges = h.ranges;
+      spread = h.spread;
+      inside = h.inside;
+      sweep = h.sweep;
+      reach = h.reach;
+      sizes = h.sizes;
+      changes = h.changes;
+      spares = h.spares;
+      holders = h.holders;
+      stands = h.stands;
+    }
 
 first_keeps : (s : State) (t : ℕ) (o : Op) → Inv s.geometry s → t < s.geometry.tasks + 1 → s.calls t ≡ None
     → Inv s.geometry (Invariant.to s t (Some (first o)))
@@ -64,20 +81,28 @@ first_keeps s t op.Exit h l e = stays s.geometry s t None _ h l e refl tt (recor
 told_state : {P : Type 0} (call : P → Call) (s : State) (t : ℕ) (turn : Turn P) (new : Pool) (next : Option Call)
     → next ≡ left call turn → Inv s.geometry (after call s t turn new)
     → Inv s.geometry (record (with_pool s new) { calls = put s.calls t next })
-told_state call s t turn new next e h = subst (λ (n : Option Call). Inv s.geometry (record (with_pool s new) { calls = put s.calls t n })) (sym e) h
+told_state call s t turn new next e h =
+    subst (λ (n : Option Call). Inv s.geometry (record (with_pool s new) { calls = put s.calls t n })) (sym e) h
 
 -- one step of a call keeps the invariant
 pub call_keeps : (s : State) (t : ℕ) (killed grant : Bool) (c : Call) (o : Outcome) (new : Pool) (next : Option Call)
     → Inv s.geometry s → 1 ≤ t → t < s.geometry.tasks + 1 → s.calls t ≡ Some c → CallRow (pool_of s) t killed grant c o new next
     → Inv s.geometry (record (with_pool s new) { calls = put s.calls t next })
 unfolding CallRow
-call_keeps s t killed grant (call.Touch p) o new next h one l e (turn, row, tells, leaves) = told_state call.Touch s t turn new next leaves (touch_row s t killed grant p turn new h one l e row)
-call_keeps s t killed grant (call.Map p) o new next h one l e (turn, row, tells, leaves) = told_state call.Map s t turn new next leaves (map_row s t killed grant p turn new h l e row)
-call_keeps s t killed grant (call.Alloc p) o new next h one l e (turn, row, tells, leaves) = told_state call.Alloc s t turn new next leaves (alloc_row s t killed grant p turn new h l e row)
-call_keeps s t killed grant (call.Punch p) o new next h one l e (turn, row, tells, leaves) = told_state call.Punch s t turn new next leaves (punch_row s t killed grant p turn new h one l e row)
-call_keeps s t killed grant (call.Truncate p) o new next h one l e (turn, row, tells, leaves) = told_state call.Truncate s t turn new next leaves (truncate_row s t killed grant p turn new h one l e row)
-call_keeps s t killed grant (call.Unmap p) o new next h one l e (turn, row, tells, leaves) = told_state call.Unmap s t turn new next leaves (unmap_row s t killed grant p turn new h l e row)
-call_keeps s t killed grant (call.Exit p) o new next h one l e (turn, row, tells, leaves) = told_state call.Exit s t turn new next leaves (exit_row s t killed grant p turn new h l e row)
+call_keeps s t killed grant (call.Touch p) o new next h one l e (turn, row, tells, leaves) =
+    told_state call.Touch s t turn new next leaves (touch_row s t killed grant p turn new h one l e row)
+call_keeps s t killed grant (call.Map p) o new next h one l e (turn, row, tells, leaves) =
+    told_state call.Map s t turn new next leaves (map_row s t killed grant p turn new h l e row)
+call_keeps s t killed grant (call.Alloc p) o new next h one l e (turn, row, tells, leaves) =
+    told_state call.Alloc s t turn new next leaves (alloc_row s t killed grant p turn new h l e row)
+call_keeps s t killed grant (call.Punch p) o new next h one l e (turn, row, tells, leaves) =
+    told_state call.Punch s t turn new next leaves (punch_row s t killed grant p turn new h one l e row)
+call_keeps s t killed grant (call.Truncate p) o new next h one l e (turn, row, tells, leaves) =
+    told_state call.Truncate s t turn new next leaves (truncate_row s t killed grant p turn new h one l e row)
+call_keeps s t killed grant (call.Unmap p) o new next h one l e (turn, row, tells, leaves) =
+    told_state call.Unmap s t turn new next leaves (unmap_row s t killed grant p turn new h l e row)
+call_keeps s t killed grant (call.Exit p) o new next h one l e (turn, row, tells, leaves) =
+    told_state call.Exit s t turn new next leaves (exit_row s t killed grant p turn new h l e row)
 
 -- a task dies only where no call is left
 lives_on : (tasks : ℕ) (lives : ℕ → Life) (calls : ℕ → Option Call) (t : ℕ) (c : Call) (next : Option Call)
@@ -100,7 +125,8 @@ lives_on tasks lives calls t c next h e = here c next refl
         | inr q ↦ h.there u (sym (ap is_dead q.1) ∙ a)
       ];
       busy = λ u d a. elim (same_or_other u t) [
-        | inl q ↦ (let z : ◌≡◌ {A = Option Call} None (Some d) = sym none ∙ (sym (put_same calls t next) ∙ (ap (put calls t next) (sym q) ∙ a)) in absurd (cc))
+        | inl q ↦ (let z : ◌≡◌ {A = Option Call} None (Some d) = sym none
+            ∙ (sym (put_same calls t next) ∙ (ap (put calls t next) (sym q) ∙ a)) in absurd (cc))
         | inr q ↦ ap is_dead (put_other lives t life.Dead u q) ∙ h.busy u d (sym (put_other calls t next u q) ∙ a)
       ];
     }
@@ -146,12 +172,18 @@ row_keeps s (Step t grant) o n h row =
     (λ c some r. let is = h.lives.there t lives in
     let k = call_keeps s t (is_killed (s.life t)) grant c o r.0 r.1 h.inv is.0 (let a = is.1 in omega arith) some r.2 in
     in_state (record (with_pool s r.0) { life = lives_after s.life t c r.1; calls = put s.calls t r.1 }) n r.3
-    (record { inv = moved s t r.0 r.1 (lives_after s.life t c r.1) k; lives = subst (λ (g : Geometry). Lives g.tasks (lives_after s.life t c r.1) (put s.calls t r.1)) (sym k.geometry) (lives_on s.geometry.tasks s.life s.calls t c r.1 h.lives some) })))
+    (record {
+      inv = moved s t r.0 r.1 (lives_after s.life t c r.1) k;
+      lives = subst (λ (g : Geometry). Lives g.tasks (lives_after s.life t c r.1) (put s.calls t r.1))
+          (sym k.geometry) (lives_on s.geometry.tasks s.life s.calls t c r.1 h.lives some);
+    })))
   where
     moved : (s : State) (t : ℕ) (pool : Pool) (next : Option Call) (lives : ℕ → Life)
         → Inv s.geometry (record (with_pool s pool) { calls = put s.calls t next })
         → Inv pool.geometry (record (with_pool s pool) { life = lives; calls = put s.calls t next })
-    moved s t pool next lives k = subst (λ (g : Geometry). Inv g (record (with_pool s pool) { life = lives; calls = put s.calls t next })) (sym k.geometry) (life_set s.geometry (record (with_pool s pool) { calls = put s.calls t next }) lives k)
+    moved s t pool next lives k =
+        subst (λ (g : Geometry). Inv g (record (with_pool s pool) { life = lives; calls = put s.calls t next }))
+        (sym k.geometry) (life_set s.geometry (record (with_pool s pool) { calls = put s.calls t next }) lives k)
 row_keeps s (Kill t) o n h row =
     by_test (is_alive (s.life t)) row
     (λ alive r. in_state (record s { life = put s.life t life.Killed }) n r.1 (record {
@@ -224,7 +256,8 @@ opens_well g frames = record {
     geometry = refl;
     count = (
         let a : total (g.tasks + 1) (λ _. 0) ≡ 0 = total_none (g.tasks + 1) in
-        let c : total g.files (λ f. vacant g.limit (λ _. false) (λ _. None)) ≡ 0 = total_same g.files (λ _. 0) _ (λ j l. nothing_vacant g.limit) ∙ total_none g.files in
+        let c : total g.files (λ f. vacant g.limit (λ _. false) (λ _. None)) ≡ 0 =
+        total_same g.files (λ _. 0) _ (λ j l. nothing_vacant g.limit) ∙ total_none g.files in
         omega arith);
     enough = omega arith;
     place = record { one = opening_place frames; hands = λ t x d. no_value d; pages = λ f i x d. no_value d };
@@ -260,13 +293,16 @@ headline s reached =
       place = h.place.one;
       below = λ t v x f i d e unlocked. elim (h.sweep.below t v x f i d e) [
         | inl l ↦ l
-        | inr a ↦ (let y : s.locks f ≡ Some a.0 = locks_file s.geometry s a.0 f h (ahead_locked (s.calls a.0) f i a.1) in no_value (sym unlocked ∙ y))
+        | inr a ↦ (let y : s.locks f ≡ Some a.0 = locks_file s.geometry s a.0 f h
+            (ahead_locked (s.calls a.0) f i a.1) in no_value (sym unlocked ∙ y))
       ];
       count = h.count;
       enough = h.enough;
       settled = λ none.
-          let a : total (s.geometry.tasks + 1) (λ u. less (s.calls u)) ≡ 0 = total_same (s.geometry.tasks + 1) (λ _. 0) _ (λ j l. (none j).0) ∙ total_none (s.geometry.tasks + 1) in
-          let b : total (s.geometry.tasks + 1) (λ u. more (s.calls u)) ≡ 0 = total_same (s.geometry.tasks + 1) (λ _. 0) _ (λ j l. (none j).1) ∙ total_none (s.geometry.tasks + 1) in
+          let a : total (s.geometry.tasks + 1) (λ u. less (s.calls u)) ≡ 0 =
+          total_same (s.geometry.tasks + 1) (λ _. 0) _ (λ j l. (none j).0) ∙ total_none (s.geometry.tasks + 1) in
+          let b : total (s.geometry.tasks + 1) (λ u. more (s.calls u)) ≡ 0 =
+          total_same (s.geometry.tasks + 1) (λ _. 0) _ (λ j l. (none j).1) ∙ total_none (s.geometry.tasks + 1) in
           let c = h.count in
           omega arith;
     }

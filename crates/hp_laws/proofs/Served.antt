@@ -44,7 +44,8 @@ use Rattle.hp_laws.proofs.Runs.{Always, always, row_keeps}
 use Rattle.hp_laws.proofs.Reading.{begin_cases, step_cases, step_of}
 use Rattle.hp_laws.proofs.Histories.{begun_more, history_well, later_run}
 use Rattle.hp_laws.proofs.Keeping.{promised_kept}
-use Rattle.hp_laws.proofs.Serving.{TurnWell, at_leaf, takes, Sure, Isnt, sure_turn, sure_missing, missing_none, sure_commit, CallWell, touch_call, own_or_same}
+use Rattle.hp_laws.proofs.Serving.{TurnWell, at_leaf, takes, Sure, Isnt, sure_turn, sure_missing, missing_none, sure_commit}
+use Rattle.hp_laws.proofs.Serving.{CallWell, touch_call, own_or_same}
 
 same_touch : {a b : TouchPhase} → call.Touch a ≡ call.Touch b → a ≡ b
 same_touch e = cc
@@ -54,13 +55,16 @@ sure_row : (s : State) (t : ℕ) (event : Event) (o : Outcome) (n : State) → A
     → CallWell Sure (s.calls t) → Row s event o n → CallWell Sure (n.calls t)
 sure_row s t event o n h quiet w row = own_or_same s t event o n (CallWell Sure (n.calls t)) h quiet row
     (λ calls areas lives no_end. subst (CallWell Sure) (sym calls) w)
-    (λ grant c pool next is e r d. subst (λ (m : State). CallWell Sure (m.calls t)) (sym d) (subst (CallWell Sure) (sym (put_same s.calls t next))
-    (touch_call s t (is_killed (s.life t)) grant Sure Sure Isnt c o pool next (λ phase turn q k r. sure_turn s t (is_killed (s.life t)) grant phase turn pool k r) (subst (CallWell Sure) e w) r).0))
+    (λ grant c pool next is e r d. subst (λ (m : State). CallWell Sure (m.calls t)) (sym d)
+    (subst (CallWell Sure) (sym (put_same s.calls t next))
+    (touch_call s t (is_killed (s.life t)) grant Sure Sure Isnt c o pool next
+    (λ phase turn q k r. sure_turn s t (is_killed (s.life t)) grant phase turn pool k r) (subst (CallWell Sure) e w) r).0))
 
 sure_run : (t : ℕ) (s : State) (es : List (Event × Outcome)) (n : State) → Run s es n → Always s → calls_begun t es ≡ 0
     → CallWell Sure (s.calls t) → CallWell Sure (n.calls t) × Always n
 sure_run t s [] n r h quiet w = (subst (λ (m : State). CallWell Sure (m.calls t)) (sym r) w, subst Always (sym r) h)
-sure_run t s (e ∷ es) n r h quiet w = sure_run t r.0 es n r.2 (row_keeps s e.0 e.1 r.0 h r.1) (omega arith) (sure_row s t e.0 e.1 r.0 h (omega arith) w r.1)
+sure_run t s (e ∷ es) n r h quiet w =
+    sure_run t r.0 es n r.2 (row_keeps s e.0 e.1 r.0 h r.1) (omega arith) (sure_row s t e.0 e.1 r.0 h (omega arith) w r.1)
 
 ends_not_refused : {P : Type 0} (b : Answer) (why : Refusal) → outcome.Ended b ≡ outcome.Refused why → P
 ends_not_refused b why e = absurd (cc)
@@ -69,7 +73,9 @@ sure_end : (s : State) (t : ℕ) (grant : Bool) (b : Answer) (n : State) → Cal
     → Row s (Step t grant) (outcome.Ended b) n → b ≢ answer.NoFrame
 sure_end s t grant b n w row = step_cases s t grant (outcome.Ended b) n (b ≢ answer.NoFrame) row
     (λ why e d. ends_not_refused b why e)
-    (λ c lives e pool next r d. (touch_call s t (is_killed (s.life t)) grant Sure Sure Isnt c (outcome.Ended b) pool next (λ phase turn q k r. sure_turn s t (is_killed (s.life t)) grant phase turn pool k r) (subst (CallWell Sure) e w) r).1 b refl)
+    (λ c lives e pool next r d.
+    (touch_call s t (is_killed (s.life t)) grant Sure Sure Isnt c (outcome.Ended b) pool next
+    (λ phase turn q k r. sure_turn s t (is_killed (s.life t)) grant phase turn pool k r) (subst (CallWell Sure) e w) r).1 b refl)
 
 -- the row of a moment that ends a call
 end_row : (m : Moment) (t : ℕ) (grant : Bool) (b : Answer) → m.event ≡ Step t grant → m.outcome ≡ outcome.Ended b
@@ -78,7 +84,8 @@ end_row m t grant b own ended row =
     subst (λ (o : Outcome). Row m.before (Step t grant) o m.after) ended (subst (λ (e : Event). Row m.before e m.outcome m.after) own row)
 
 -- a touch whose change found nothing missing never answers that there is no frame
-pub touch_never_lacks : (s : State) (t : ℕ) (p : Changed.Changed) (rest : List (Event × Outcome)) (n : State) (last : Bool) (b : Answer) (after : State)
+pub touch_never_lacks : (s : State) (t : ℕ) (p : Changed.Changed) (rest : List (Event × Outcome)) (n : State)
+    (last : Bool) (b : Answer) (after : State)
     → IsReached s → s.calls t ≡ Some (call.Touch (touch.Changed p)) → p.pending.missing ≡ 0 → Run s rest n
     → calls_begun t rest ≡ 0 → Row n (Step t last) (outcome.Ended b) after → b ≢ answer.NoFrame
 touch_never_lacks s t p rest n last b after reached e none run quiet ended =
@@ -92,7 +99,8 @@ missing_sure s t grant p o n h e marked row =
     let killed : Bool = is_killed (s.life t) in
     let step = step_of s t grant (call.Touch (touch.Missing p)) o n row (h.lives.busy t (call.Touch (touch.Missing p)) e) e in
     let now = touch_call s t killed grant Sure (λ (q : TouchPhase). q ≡ touch.Missing p) Isnt (call.Touch (touch.Missing p)) o step.0 step.1
-    (λ phase turn q k r. sure_missing s t killed grant p turn step.0 marked (subst (λ (m : TouchPhase). TouchRow (pool_of s) t killed grant m turn step.0) k r))
+    (λ phase turn q k r. sure_missing s t killed grant p turn step.0 marked
+    (subst (λ (m : TouchPhase). TouchRow (pool_of s) t killed grant m turn step.0) k r))
     refl step.2 in
     subst (λ (m : State). CallWell Sure (m.calls t)) (sym step.3) (subst (CallWell Sure) (sym (put_same s.calls t step.1)) now.0)
 
@@ -165,18 +173,28 @@ touch_well s t killed ms f i (touch.Look p) turn new alive marked low w row = by
     (λ x _ r. at_leaf (Well ms f i) IsServed _ turn r.2.0 (served p.access r.0)))
 touch_well s t killed ms f i (touch.Want p) turn new alive marked low w row = by_test killed row
     (λ is r. clash killed is alive)
-    (λ _ r. by_option (s.slots (slot_of s.geometry p.touch.file p.touch.index)) r (λ _ r. at_leaf (Well ms f i) IsServed _ turn r.0 w) (λ u _ r. at_leaf (Well ms f i) IsServed (Blocked (touch.Want p) u) turn r.0 w))
+    (λ _ r. by_option (s.slots (slot_of s.geometry p.touch.file p.touch.index)) r
+    (λ _ r. at_leaf (Well ms f i) IsServed _ turn r.0 w)
+    (λ u _ r. at_leaf (Well ms f i) IsServed (Blocked (touch.Want p) u) turn r.0 w))
 touch_well s t killed ms f i (touch.Locked p) turn new alive marked low w row = by_test (nat_le (s.size p.touch.file) p.touch.index) row
     (λ beyond r. not_beyond s p.touch f i w low beyond)
-    (λ _ r. by_test (is_some (s.pages p.touch.file p.touch.index)) r (λ _ r. at_leaf (Well ms f i) IsServed _ turn r.0 w) (λ _ r. at_leaf (Well ms f i) IsServed _ turn r.0 w))
-touch_well s t killed ms f i (touch.Missing p) turn new alive marked low w row = by_test ((s.spare p.touch.file == s.pending p.touch.file) && not true) row
+    (λ _ r. by_test (is_some (s.pages p.touch.file p.touch.index)) r
+    (λ _ r. at_leaf (Well ms f i) IsServed _ turn r.0 w) (λ _ r. at_leaf (Well ms f i) IsServed _ turn r.0 w))
+touch_well s t killed ms f i (touch.Missing p) turn new alive marked low w row =
+    by_test ((s.spare p.touch.file == s.pending p.touch.file) && not true) row
     (λ denied r. absurd (not_denied _ denied))
-    (λ _ r. at_leaf (Well ms f i) IsServed _ turn r.0 (w, missing_none (s.reserved p.touch.file) p.touch.index (ap (λ (m : ℕ). s.reserved m p.touch.index) w.0 ∙ (ap (s.reserved f) w.1 ∙ marked))))
+    (λ _ r. at_leaf (Well ms f i) IsServed _ turn r.0 (
+      w,
+      missing_none (s.reserved p.touch.file) p.touch.index
+          (ap (λ (m : ℕ). s.reserved m p.touch.index) w.0 ∙ (ap (s.reserved f) w.1 ∙ marked)),
+    ))
 touch_well s t killed ms f i (touch.Changed p) turn new alive marked low w row = by_test killed row
     (λ is r. clash killed is alive)
-    (λ _ r. takes (Well ms f i) IsServed s p.pending.missing _ (λ x. touch.Taken (record { touch = p.touch; pending = p.pending; held = x })) turn new w.1 r (λ x d. w.0))
+    (λ _ r. takes (Well ms f i) IsServed s p.pending.missing _
+    (λ x. touch.Taken (record { touch = p.touch; pending = p.pending; held = x })) turn new w.1 r (λ x d. w.0))
 touch_well s t killed ms f i (touch.Abort p) turn new alive marked low w row = absurd w
-touch_well s t killed ms f i (touch.Taken p) turn new alive marked low w row = sure_commit (Well ms f i) IsServed s p.touch.file p.pending.from p.pending.to p.pending.missing _ _ turn new row w w
+touch_well s t killed ms f i (touch.Taken p) turn new alive marked low w row =
+    sure_commit (Well ms f i) IsServed s p.touch.file p.pending.from p.pending.to p.pending.missing _ _ turn new row w w
 touch_well s t killed ms f i (touch.Settle p) turn new alive marked low w (some, row) = at_leaf (Well ms f i) IsServed _ turn row.0 w
 touch_well s t killed ms f i (touch.Committed p) turn new alive marked low w row = by_test (nat_le (s.size p.touch.file) p.touch.index) row
     (λ beyond r. not_beyond s p.touch f i w low beyond)
@@ -207,7 +225,11 @@ Goes s t f i = CallWell (Well (s.areas t) f i) (s.calls t) × (s.life t ≡ life
 well_row : (s : State) (t f i : ℕ) (event : Event) (o : Outcome) (n : State) → Always s → is_begun t event o ≡ 0
     → event ≢ Step t false → event ≢ Kill t → s.reserved f i ≡ true → i < s.size f → Goes s t f i → Row s event o n → Goes n t f i
 well_row s t f i event o n h quiet grants lives marked low w row = own_or_same s t event o n (Goes n t f i) h quiet row
-    (λ calls areas same no_end. (subst (CallWell (Well (n.areas t) f i)) (sym calls) (subst (λ (m : List Mapping). CallWell (Well m f i) (s.calls t)) (sym areas) w.0), elim same [ inl e ↦ e ∙ w.1 | inr e ↦ absurd (lives e) ]))
+    (λ calls areas same no_end. (
+      subst (CallWell (Well (n.areas t) f i)) (sym calls)
+          (subst (λ (m : List Mapping). CallWell (Well m f i) (s.calls t)) (sym areas) w.0),
+      elim same [ inl e ↦ e ∙ w.1 | inr e ↦ absurd (lives e) ],
+    ))
     (λ grant c pool next is e r d. own grant c pool next is e r d)
   where
     own : (grant : Bool) (c : Call) (pool : Pool) (next : Option Call) → event ≡ Step t grant → s.calls t ≡ Some c
@@ -216,7 +238,9 @@ well_row s t f i event o n h quiet grants lives marked low w row = own_or_same s
     own false c pool next is e r d = absurd (grants is)
     own true c pool next is e r d =
         let there = subst (CallWell (Well (s.areas t) f i)) e w.0 in
-        let now = touch_call s t (is_killed (s.life t)) true (Well (n.areas t) f i) (Well (s.areas t) f i) IsServed c o pool next (λ phase turn q k r. touch_well s t (is_killed (s.life t)) (n.areas t) f i phase turn pool (alive_unkilled (s.life t) w.1) marked low k r) there r in (
+        let now = touch_call s t (is_killed (s.life t)) true (Well (n.areas t) f i) (Well (s.areas t) f i) IsServed c
+        o pool next (λ phase turn q k r. touch_well s t (is_killed (s.life t)) (n.areas t) f i phase turn pool
+        (alive_unkilled (s.life t) w.1) marked low k r) there r in (
           subst (CallWell (Well (n.areas t) f i)) (sym (ap (λ (m : State). m.calls t) d ∙ put_same s.calls t next)) now.0,
           ap (λ (m : State). m.life t) d ∙ (ap (λ (m : ℕ → Life). m t) (touch_lives (Well (s.areas t) f i) s.life t c next there) ∙ w.1),
         )
@@ -235,13 +259,18 @@ well_later g frames t f i past (m ∷ later) s h start quiet calm =
     let more = begun_more t (in_order later) m.event m.outcome in
     let k = promised_kept g frames (later ++ past) m.before h.2 f i (promised_now t f i later past calm.3) in
     let w = well_later g frames t f i past later m.before h.2 start (omega arith) calm.3 in
-    subst (λ (n : State). Goes n t f i) h.0 (well_row m.before t f i m.event m.outcome m.after (history_well g frames (later ++ past) m.before h.2) (omega arith) calm.1 calm.2 k.0 k.1 w h.1)
+    subst (λ (n : State). Goes n t f i) h.0
+    (well_row m.before t f i m.event m.outcome m.after (history_well g frames (later ++ past) m.before h.2)
+    (omega arith) calm.1 calm.2 k.0 k.1 w h.1)
 
 well_end : (s : State) (t f i : ℕ) (b : Answer) (n : State) → Goes s t f i → s.reserved f i ≡ true → i < s.size f
     → Row s (Step t true) (outcome.Ended b) n → IsServed b
 well_end s t f i b n w marked low row = step_cases s t true (outcome.Ended b) n (IsServed b) row
     (λ why e d. ends_not_refused b why e)
-    (λ c lives e pool next r d. (touch_call s t (is_killed (s.life t)) true (Well [] f i) (Well (s.areas t) f i) IsServed c (outcome.Ended b) pool next (λ phase turn q k r. touch_well s t (is_killed (s.life t)) [] f i phase turn pool (alive_unkilled (s.life t) w.1) marked low k r) (subst (CallWell (Well (s.areas t) f i)) e w.0) r).1 b refl)
+    (λ c lives e pool next r d.
+    (touch_call s t (is_killed (s.life t)) true (Well [] f i) (Well (s.areas t) f i) IsServed c (outcome.Ended b)
+    pool next (λ phase turn q k r. touch_well s t (is_killed (s.life t)) [] f i phase turn pool
+    (alive_unkilled (s.life t) w.1) marked low k r) (subst (CallWell (Well (s.areas t) f i)) e w.0) r).1 b refl)
 
 -- a touch of a mapped page goes well where it begins
 starts_well : (s : State) (t : ℕ) (p : Op) (look : Look) (f i : ℕ) (o : Outcome) (n : State)
@@ -250,7 +279,8 @@ starts_well : (s : State) (t : ℕ) (p : Op) (look : Look) (f i : ℕ) (o : Outc
 starts_well s t p look f i o n e there alive begun row = begin_cases s t p o n (Goes n t f i) row
     (λ why z d. absurd (not_refused why (sym begun ∙ z)))
     (λ lives none may z d. (
-      subst (λ (m : State). CallWell (Well (m.areas t) f i) (m.calls t)) (sym d) (subst (CallWell (Well (s.areas t) f i)) (sym (put_same s.calls t (Some (first p)) ∙ ap (λ (c : Call). Some c) e)) there),
+      subst (λ (m : State). CallWell (Well (m.areas t) f i) (m.calls t)) (sym d)
+          (subst (CallWell (Well (s.areas t) f i)) (sym (put_same s.calls t (Some (first p)) ∙ ap (λ (c : Call). Some c) e)) there),
       ap (λ (m : State). m.life t) d ∙ alive,
     ))
   where
@@ -286,7 +316,8 @@ not_some m e d = absurd (never m e d)
 
 touch_call_takes : (s : State) (t : ℕ) (killed grant : Bool) (p : Changed.Changed) (o : Outcome) (pool : Pool) (next : Option Call)
     → killed ≡ false → p.pending.missing ≡ 0 → CallRow (pool_of s) t killed grant (call.Touch (touch.Changed p)) o pool next
-    → (x : ℕ) × (s.frame x ≡ state.Free) × (o ≡ outcome.Moved word.Taken) × (next ≡ Some (call.Touch (touch.Taken (record { touch = p.touch; pending = p.pending; held = x }))))
+    → (x : ℕ) × (s.frame x ≡ state.Free) × (o ≡ outcome.Moved word.Taken)
+    × (next ≡ Some (call.Touch (touch.Taken (record { touch = p.touch; pending = p.pending; held = x }))))
 unfolding CallRow
 touch_call_takes s t killed grant p o pool next alive none (turn, row, tells, leaves) = by_test killed row
     (λ is r. clash killed is alive)
@@ -297,15 +328,19 @@ touch_call_takes s t killed grant p o pool next alive none (turn, row, tells, le
 pub touch_takes : (s : State) (t : ℕ) (grant : Bool) (p : Changed.Changed) (o : Outcome) (n : State) → IsReached s
     → s.calls t ≡ Some (call.Touch (touch.Changed p)) → p.pending.missing ≡ 0 → is_killed (s.life t) ≡ false
     → Row s (Step t grant) o n
-    → (x : ℕ) × (s.frame x ≡ state.Free) × (o ≡ outcome.Moved word.Taken) × (n.calls t ≡ Some (call.Touch (touch.Taken (record { touch = p.touch; pending = p.pending; held = x }))))
+    → (x : ℕ) × (s.frame x ≡ state.Free) × (o ≡ outcome.Moved word.Taken)
+    × (n.calls t ≡ Some (call.Touch (touch.Taken (record { touch = p.touch; pending = p.pending; held = x }))))
 touch_takes s t grant p o n reached e none alive row =
-    let step = step_of s t grant (call.Touch (touch.Changed p)) o n row ((always s reached).lives.busy t (call.Touch (touch.Changed p)) e) e in
+    let step = step_of s t grant (call.Touch (touch.Changed p)) o n row
+    ((always s reached).lives.busy t (call.Touch (touch.Changed p)) e) e in
     let x = touch_call_takes s t (is_killed (s.life t)) grant p o step.0 step.1 alive none step.2 in
     (x.0, x.1, x.2, ap (λ (m : State). m.calls t) step.3 ∙ (put_same s.calls t step.1 ∙ x.3))
 
 alloc_call_takes : (s : State) (t : ℕ) (killed grant : Bool) (p : alloc_changed.Changed) (o : Outcome) (pool : Pool) (next : Option Call)
     → killed ≡ false → p.pending.missing ≡ 0 → CallRow (pool_of s) t killed grant (call.Alloc (alloc.Changed p)) o pool next
-    → (x : ℕ) × (s.frame x ≡ state.Free) × (o ≡ outcome.Moved word.Taken) × (next ≡ Some (call.Alloc (alloc.Taken (record { allocation = p.allocation; index = p.index; pending = p.pending; held = x }))))
+    → (x : ℕ) × (s.frame x ≡ state.Free) × (o ≡ outcome.Moved word.Taken)
+    × (next ≡ Some (call.Alloc
+    (alloc.Taken (record { allocation = p.allocation; index = p.index; pending = p.pending; held = x }))))
 unfolding CallRow
 alloc_call_takes s t killed grant p o pool next alive none (turn, row, tells, leaves) = by_test killed row
     (λ is r. clash killed is alive)
@@ -316,8 +351,11 @@ alloc_call_takes s t killed grant p o pool next alive none (turn, row, tells, le
 pub alloc_takes : (s : State) (t : ℕ) (grant : Bool) (p : alloc_changed.Changed) (o : Outcome) (n : State) → IsReached s
     → s.calls t ≡ Some (call.Alloc (alloc.Changed p)) → p.pending.missing ≡ 0 → is_killed (s.life t) ≡ false
     → Row s (Step t grant) o n
-    → (x : ℕ) × (s.frame x ≡ state.Free) × (o ≡ outcome.Moved word.Taken) × (n.calls t ≡ Some (call.Alloc (alloc.Taken (record { allocation = p.allocation; index = p.index; pending = p.pending; held = x }))))
+    → (x : ℕ) × (s.frame x ≡ state.Free) × (o ≡ outcome.Moved word.Taken)
+    × (n.calls t ≡ Some (call.Alloc
+    (alloc.Taken (record { allocation = p.allocation; index = p.index; pending = p.pending; held = x }))))
 alloc_takes s t grant p o n reached e none alive row =
-    let step = step_of s t grant (call.Alloc (alloc.Changed p)) o n row ((always s reached).lives.busy t (call.Alloc (alloc.Changed p)) e) e in
+    let step = step_of s t grant (call.Alloc (alloc.Changed p)) o n row
+    ((always s reached).lives.busy t (call.Alloc (alloc.Changed p)) e) e in
     let x = alloc_call_takes s t (is_killed (s.life t)) grant p o step.0 step.1 alive none step.2 in
     (x.0, x.1, x.2, ap (λ (m : State). m.calls t) step.3 ∙ (put_same s.calls t step.1 ∙ x.3))

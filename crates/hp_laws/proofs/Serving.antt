@@ -49,7 +49,8 @@ pub at_leaf : {P : Type 0} (on : P → Type 0) (ends : Answer → Type 0) (wante
 at_leaf {P} on ends wanted turn e h = subst (TurnWell P on ends) (sym e) h
 
 -- where nothing was missing a frame is taken
-pub takes : {P : Type 0} (on : P → Type 0) (ends : Answer → Type 0) (s : State) (m : ℕ) (no_frame : P) (taken : ℕ → P) (turn : Turn P) (new : Pool)
+pub takes : {P : Type 0} (on : P → Type 0) (ends : Answer → Type 0) (s : State) (m : ℕ) (no_frame : P) (taken : ℕ → P)
+    (turn : Turn P) (new : Pool)
     → m ≡ 0 → TakeRow (pool_of s) m no_frame taken turn new → ((x : ℕ) → s.frame x ≡ state.Free → on (taken x))
     → TurnWell P on ends turn
 takes on ends s m no_frame taken turn new none row h =
@@ -82,10 +83,13 @@ pub answers : (a : Access) (w : ℕ) → answer_of a w ≢ answer.NoFrame
 answers Load w = λ e. cc
 answers (Store n) w = λ e. cc
 
-pub sure_commit : {P : Type 0} (on : P → Type 0) (ends : Answer → Type 0) (s : State) (f from to m : ℕ) (settle next : P) (turn : Turn P) (new : Pool)
+pub sure_commit : {P : Type 0} (on : P → Type 0) (ends : Answer → Type 0) (s : State) (f from to m : ℕ)
+    (settle next : P) (turn : Turn P) (new : Pool)
     → CommitRow (pool_of s) f (record { from = from; to = to; missing = m }) settle next turn new → on settle → on next
     → TurnWell P on ends turn
-sure_commit on ends s f from to m settle next turn new row a b = by_test (nat_lt (missing (s.reserved f) from to) m) row (λ _ r. at_leaf on ends _ turn r.0 a) (λ _ r. at_leaf on ends _ turn r.0 b)
+sure_commit on ends s f from to m settle next turn new row a b =
+    by_test (nat_lt (missing (s.reserved f) from to) m) row (λ _ r. at_leaf on ends _ turn r.0 a)
+    (λ _ r. at_leaf on ends _ turn r.0 b)
 
 pub sure_turn : (s : State) (t : ℕ) (killed grant : Bool) (phase : TouchPhase) (turn : Turn TouchPhase) (new : Pool) → Sure phase
     → TouchRow (pool_of s) t killed grant phase turn new → TurnWell TouchPhase Sure Isnt turn
@@ -93,13 +97,22 @@ sure_turn s t killed grant (touch.Look p) turn new h row = absurd h
 sure_turn s t killed grant (touch.Want p) turn new h row = absurd h
 sure_turn s t killed grant (touch.Locked p) turn new h row = absurd h
 sure_turn s t killed grant (touch.Missing p) turn new h row = absurd h
-sure_turn s t killed grant (touch.Changed p) turn new h row = by_test killed row (λ _ r. at_leaf Sure Isnt _ turn r.0 (λ e. cc)) (λ _ r. takes Sure Isnt s p.pending.missing _ (λ x. touch.Taken (record { touch = p.touch; pending = p.pending; held = x })) turn new h r (λ x d. tt))
+sure_turn s t killed grant (touch.Changed p) turn new h row =
+    by_test killed row (λ _ r. at_leaf Sure Isnt _ turn r.0 (λ e. cc))
+    (λ _ r. takes Sure Isnt s p.pending.missing _
+    (λ x. touch.Taken (record { touch = p.touch; pending = p.pending; held = x })) turn new h r (λ x d. tt))
 sure_turn s t killed grant (touch.Abort p) turn new h row = at_leaf Sure Isnt _ turn row.0 h
-sure_turn s t killed grant (touch.Taken p) turn new h row = sure_commit Sure Isnt s p.touch.file p.pending.from p.pending.to p.pending.missing _ _ turn new row tt tt
+sure_turn s t killed grant (touch.Taken p) turn new h row =
+    sure_commit Sure Isnt s p.touch.file p.pending.from p.pending.to p.pending.missing _ _ turn new row tt tt
 sure_turn s t killed grant (touch.Settle p) turn new h (low, row) = at_leaf Sure Isnt _ turn row.0 tt
-sure_turn s t killed grant (touch.Committed p) turn new h row = by_test (nat_le (s.size p.touch.file) p.touch.index) row (λ _ r. at_leaf Sure Isnt _ turn r.0 (λ e. cc)) (λ _ r. by_test grant r (λ _ r. at_leaf Sure Isnt _ turn r.0 tt) (λ _ r. at_leaf Sure Isnt _ turn r.0 (λ e. cc)))
+sure_turn s t killed grant (touch.Committed p) turn new h row =
+    by_test (nat_le (s.size p.touch.file) p.touch.index) row (λ _ r. at_leaf Sure Isnt _ turn r.0 (λ e. cc))
+    (λ _ r. by_test grant r (λ _ r. at_leaf Sure Isnt _ turn r.0 tt) (λ _ r. at_leaf Sure Isnt _ turn r.0 (λ e. cc)))
 sure_turn s t killed grant (touch.Restore p) turn new h row = at_leaf Sure Isnt _ turn row.0 h
-sure_turn s t killed grant (touch.Found p) turn new h row = by_test (nat_le (s.size p.touch.file) p.touch.index) row (λ _ r. at_leaf Sure Isnt _ turn r.0 (λ e. cc)) (λ _ r. by_test grant r (λ _ r. at_leaf Sure Isnt _ turn r.4.0 (answers p.touch.access r.1)) (λ _ r. at_leaf Sure Isnt _ turn r.0 (λ e. cc)))
+sure_turn s t killed grant (touch.Found p) turn new h row =
+    by_test (nat_le (s.size p.touch.file) p.touch.index) row (λ _ r. at_leaf Sure Isnt _ turn r.0 (λ e. cc))
+    (λ _ r. by_test grant r (λ _ r. at_leaf Sure Isnt _ turn r.4.0 (answers p.touch.access r.1))
+    (λ _ r. at_leaf Sure Isnt _ turn r.0 (λ e. cc)))
 sure_turn s t killed grant (touch.Leave p) turn new h row = at_leaf Sure Isnt _ turn row.0 h
 
 -- nothing of a reserved index is missing
@@ -135,8 +148,10 @@ end_well on ends (Ended a) b h e = subst ends (same (sym e)) h
     same z = cc
 
 -- a step of a touch, by its rows
-pub touch_call : (s : State) (t : ℕ) (killed grant : Bool) (on from : TouchPhase → Type 0) (ends : Answer → Type 0) (c : Call) (o : Outcome) (pool : Pool) (next : Option Call)
-    → ((phase : TouchPhase) (turn : Turn TouchPhase) → c ≡ call.Touch phase → from phase → TouchRow (pool_of s) t killed grant phase turn pool → TurnWell TouchPhase on ends turn)
+pub touch_call : (s : State) (t : ℕ) (killed grant : Bool) (on from : TouchPhase → Type 0) (ends : Answer → Type 0)
+    (c : Call) (o : Outcome) (pool : Pool) (next : Option Call)
+    → ((phase : TouchPhase) (turn : Turn TouchPhase) → c ≡ call.Touch phase → from phase
+    → TouchRow (pool_of s) t killed grant phase turn pool → TurnWell TouchPhase on ends turn)
     → CallWell from (Some c) → CallRow (pool_of s) t killed grant c o pool next
     → CallWell on next × ((b : Answer) → o ≡ outcome.Ended b → ends b)
 unfolding CallRow
@@ -151,7 +166,9 @@ touch_call s t killed grant on from ends (call.Unmap p) o pool next h w row = ab
 touch_call s t killed grant on from ends (call.Exit p) o pool next h w row = absurd w
 
 not_begun : {P : Type 0} (t u : ℕ) (p : Op) (o : Outcome) → is_begun t (Begin u p) o ≡ 0 → o ≡ outcome.Begun → u ≡ t → P
-not_begun t u p o quiet e d = (let a : is_begun t (Begin u p) o ≡ 1 = ap (is_begun t (Begin u p)) e ∙ (ap (λ (m : ℕ). bit (m == t)) d ∙ one t) in absurd (omega arith))
+not_begun t u p o quiet e d =
+    (let a : is_begun t (Begin u p) o ≡ 1 = ap (is_begun t (Begin u p)) e
+    ∙ (ap (λ (m : ℕ). bit (m == t)) d ∙ one t) in absurd (omega arith))
   where
     one : (k : ℕ) → bit (k == k) ≡ 1
     one k = ap bit (same k)
@@ -162,20 +179,25 @@ not_begun t u p o quiet e d = (let a : is_begun t (Begin u p) o ≡ 1 = ap (is_b
 -- what task t's call is seen as, after an event that isn't a begin of it: it is as it was, or made a step
 pub own_or_same : (s : State) (t : ℕ) (event : Event) (o : Outcome) (n : State) (P : Type 0) → Always s → is_begun t event o ≡ 0
     → Row s event o n
-    → (n.calls t ≡ s.calls t → n.areas t ≡ s.areas t → ((n.life t ≡ s.life t) ⊎ (event ≡ Kill t)) → ((grant : Bool) (a : Answer) → event ≡ Step t grant → o ≡ outcome.Ended a → ⊥) → P)
-    → ((grant : Bool) (c : Call) (pool : Pool) (next : Option Call) → event ≡ Step t grant → s.calls t ≡ Some c → CallRow (pool_of s) t (is_killed (s.life t)) grant c o pool next
+    → (n.calls t ≡ s.calls t → n.areas t ≡ s.areas t → ((n.life t ≡ s.life t) ⊎ (event ≡ Kill t))
+    → ((grant : Bool) (a : Answer) → event ≡ Step t grant → o ≡ outcome.Ended a → ⊥) → P)
+    → ((grant : Bool) (c : Call) (pool : Pool) (next : Option Call) → event ≡ Step t grant → s.calls t ≡ Some c
+    → CallRow (pool_of s) t (is_killed (s.life t)) grant c o pool next
     → n ≡ record (with_pool s pool) { life = lives_after s.life t c next; calls = put s.calls t next } → P) → P
 own_or_same s t (Begin u p) o n P h quiet row same own = begin_cases s u p o n P row
-    (λ why e d. same (ap (λ (m : State). m.calls t) d) (ap (λ (m : State). m.areas t) d) (inl (ap (λ (m : State). m.life t) d)) (λ grant a z. absurd (begin_step z)))
+    (λ why e d. same (ap (λ (m : State). m.calls t) d) (ap (λ (m : State). m.areas t) d)
+    (inl (ap (λ (m : State). m.life t) d)) (λ grant a z. absurd (begin_step z)))
     (λ lives none may e d. elim (same_or_other u t) [
       | inl q ↦ not_begun t u p o quiet e q
-      | inr q ↦ same (ap (λ (m : State). m.calls t) d ∙ put_other s.calls u (Some (first p)) t (λ z. q (sym z))) (ap (λ (m : State). m.areas t) d) (inl (ap (λ (m : State). m.life t) d)) (λ grant a z. absurd (begin_step z))
+      | inr q ↦ same (ap (λ (m : State). m.calls t) d ∙ put_other s.calls u (Some (first p)) t (λ z. q (sym z)))
+          (ap (λ (m : State). m.areas t) d) (inl (ap (λ (m : State). m.life t) d)) (λ grant a z. absurd (begin_step z))
     ])
   where
     begin_step : {grant : Bool} → Begin u p ≡ Step t grant → ⊥
     begin_step z = cc
 own_or_same s t (Kill u) o n P h quiet row same own = kill_cases s u o n P row
-    (λ why e d. same (ap (λ (m : State). m.calls t) d) (ap (λ (m : State). m.areas t) d) (inl (ap (λ (m : State). m.life t) d)) (λ grant a z. absurd (kill_step z)))
+    (λ why e d. same (ap (λ (m : State). m.calls t) d) (ap (λ (m : State). m.areas t) d)
+    (inl (ap (λ (m : State). m.life t) d)) (λ grant a z. absurd (kill_step z)))
     (λ alive e d. same (ap (λ (m : State). m.calls t) d) (ap (λ (m : State). m.areas t) d) (elim (same_or_other u t) [
       | inl q ↦ inr (ap (λ (m : ℕ). Kill m) q)
       | inr q ↦ inl (ap (λ (m : State). m.life t) d ∙ put_other s.life u life.Killed t (λ z. q (sym z)))
@@ -184,12 +206,15 @@ own_or_same s t (Kill u) o n P h quiet row same own = kill_cases s u o n P row
     kill_step : {grant : Bool} → Kill u ≡ Step t grant → ⊥
     kill_step z = cc
 own_or_same s t (Step u grant) o n P h quiet row same own = step_cases s u grant o n P row
-    (λ why e d. same (ap (λ (m : State). m.calls t) d) (ap (λ (m : State). m.areas t) d) (inl (ap (λ (m : State). m.life t) d)) (λ g a z y. refused_end why a (sym e ∙ y)))
+    (λ why e d. same (ap (λ (m : State). m.calls t) d) (ap (λ (m : State). m.areas t) d)
+    (inl (ap (λ (m : State). m.life t) d)) (λ g a z y. refused_end why a (sym e ∙ y)))
     (λ c lives e pool next r d. elim (same_or_other u t) [
       | inl q ↦ at_own c pool next q e r d
       | inr q ↦ (let is = h.lives.there u lives in same
           (ap (λ (m : State). m.calls t) d ∙ put_other s.calls u next t (λ z. q (sym z)))
-          (ap (λ (m : State). m.areas t) d ∙ elim (call_steps s u 0 (is_killed (s.life u)) grant c o pool next h.inv is.0 (let z = is.1 in omega arith) e r) [ inl w ↦ ap (λ (m : Pool). m.areas t) w.2 | inr w ↦ w.areas t (λ z. q (sym z)) ])
+          (ap (λ (m : State). m.areas t) d
+          ∙ elim (call_steps s u 0 (is_killed (s.life u)) grant c o pool next h.inv is.0
+          (let z = is.1 in omega arith) e r) [ inl w ↦ ap (λ (m : Pool). m.areas t) w.2 | inr w ↦ w.areas t (λ z. q (sym z)) ])
           (inl (ap (λ (m : State). m.life t) d ∙ other_life s.life u c next t (λ z. q (sym z))))
           (λ g a z. absurd (q (same_task z))))
     ])
@@ -203,7 +228,10 @@ own_or_same s t (Step u grant) o n P h quiet row same own = step_cases s u grant
     at_own : (c : Call) (pool : Pool) (next : Option Call) → u ≡ t → s.calls u ≡ Some c
         → CallRow (pool_of s) u (is_killed (s.life u)) grant c o pool next
         → n ≡ record (with_pool s pool) { life = lives_after s.life u c next; calls = put s.calls u next } → P
-    at_own c pool next q e r d = own grant c pool next (ap (λ (m : ℕ). Step m grant) q) (ap s.calls (sym q) ∙ e) (subst (λ (m : ℕ). CallRow (pool_of s) m (is_killed (s.life m)) grant c o pool next) q r) (d ∙ ap (λ (m : ℕ). record (with_pool s pool) { life = lives_after s.life m c next; calls = put s.calls m next }) q)
+    at_own c pool next q e r d =
+        own grant c pool next (ap (λ (m : ℕ). Step m grant) q) (ap s.calls (sym q) ∙ e)
+        (subst (λ (m : ℕ). CallRow (pool_of s) m (is_killed (s.life m)) grant c o pool next) q r)
+        (d ∙ ap (λ (m : ℕ). record (with_pool s pool) { life = lives_after s.life m c next; calls = put s.calls m next }) q)
 
     other_life : (lives : ℕ → Life) (u : ℕ) (c : Call) (next : Option Call) (t : ℕ) → t ≢ u → lives_after lives u c next t ≡ lives t
     other_life lives u (call.Exit p) None t d = put_other lives u life.Dead t d

@@ -61,13 +61,15 @@ waits s t c h l e = stays s.geometry s t c c h l e refl (reach_at s t c h e) (st
 no_fill : (s : State) (c : Option Call) → fills c ≡ None → IfSome (fills c) (λ k. Reached s.size (λ u. ahead (s.calls u)) k.0 k.1)
 no_fill s c e = subst (λ (o : Option (ℕ × ℕ)). IfSome o (λ k. Reached s.size (λ u. ahead (s.calls u)) k.0 k.1)) (sym e) tt
 
-pub start_row : {P : Type 0} (call : P → Call) (s : State) (t : ℕ) (killed : Bool) (f : ℕ) (bad : Bool) (at_kill : Answer) (here next : P) (turn : Turn P) (new : Pool)
+pub start_row : {P : Type 0} (call : P → Call) (s : State) (t : ℕ) (killed : Bool) (f : ℕ) (bad : Bool)
+    (at_kill : Answer) (here next : P) (turn : Turn P) (new : Pool)
     → Inv s.geometry s → t < s.geometry.tasks + 1 → s.calls t ≡ Some (call here)
     → StartRow (pool_of s) t killed f bad at_kill here next turn new
     → seen None ≡ seen (Some (call here)) → shown (Some (call next)) ≡ shown (Some (call here))
     → slot_held (Some (call next)) ≡ slot_held (Some (call here))
     → locked_file (Some (call here)) ≡ None → locked_file (Some (call next)) ≡ Some f → fills (Some (call next)) ≡ None
-    → (f < s.geometry.files → bad ≡ false → Stands s.geometry (record s { pool = record s.pool { locks = put s.locks f (Some t) } }) t (Some (call next)))
+    → (f < s.geometry.files → bad ≡ false
+    → Stands s.geometry (record s { pool = record s.pool { locks = put s.locks f (Some t) } }) t (Some (call next)))
     → Inv s.geometry (after call s t turn new)
 start_row call s t killed f bad at_kill here next turn new h l e row none same same_slot no_lock lock no_filling own =
     let ends = stays s.geometry s t (Some (call here)) None h l e none tt (idle s.geometry s t) in
@@ -78,7 +80,9 @@ start_row call s t killed f bad at_kill here next turn new h l e row none same s
     (λ good r. by_test killed r
     (λ is r. so call s t _ turn _ new r ends)
     (λ alive r. by_option (s.locks f) r
-    (λ free r. so call s t _ turn _ new r (takes_lock s.geometry s t (Some (call here)) (Some (call next)) f h l e free same same_slot no_lock lock no_filling (own (below f s.geometry.files within) good)))
+    (λ free r. so call s t _ turn _ new r
+    (takes_lock s.geometry s t (Some (call here)) (Some (call next)) f h l e free same same_slot no_lock lock
+    no_filling (own (below f s.geometry.files within) good)))
     (λ holder held r. so call s t _ turn _ new r (waits s t (Some (call here)) h l e)))))
   where
     below : (f n : ℕ) → nat_le n f ≡ false → f < n
@@ -95,7 +99,9 @@ pub want_row : {P : Type 0} (call : P → Call) (s : State) (t f i : ℕ) (here 
     → Inv s.geometry (after call s t turn new)
 want_row call s t f i here next turn new h l e row same same_lock no_slot slot no_filling own =
     by_option (s.slots (slot_of s.geometry f i)) row
-    (λ free r. so call s t _ turn _ new r (takes_slot s.geometry s t (Some (call here)) (Some (call next)) f i h l e free same same_lock no_slot slot (no_fill s (Some (call next)) no_filling) own))
+    (λ free r. so call s t _ turn _ new r
+    (takes_slot s.geometry s t (Some (call here)) (Some (call next)) f i h l e free same same_lock no_slot slot
+    (no_fill s (Some (call next)) no_filling) own))
     (λ holder held r. so call s t _ turn _ new r (waits s t (Some (call here)) h l e))
 
 -- what of a call stays through a change
@@ -107,7 +113,8 @@ abbrev pub unhanded : Option Call → ((ℕ → ℕ → Bool) × (ℕ → ℕ �
 unhanded c = (sweeps c, holds c, change_in c, more c)
 
 -- a change is begun, or denied
-pub change_row : {P : Type 0} (call : P → Call) (s : State) (t : ℕ) (grant : Bool) (f from to : ℕ) (here denied : P) (changed : Change → P) (turn : Turn P) (new : Pool)
+pub change_row : {P : Type 0} (call : P → Call) (s : State) (t : ℕ) (grant : Bool) (f from to : ℕ) (here denied : P)
+    (changed : Change → P) (turn : Turn P) (new : Pool)
     → Inv s.geometry s → t < s.geometry.tasks + 1 → s.calls t ≡ Some (call here)
     → ChangeRow (pool_of s) grant f from to denied changed turn new
     → (let change : Change = record { from = from; to = to; missing = missing (s.reserved f) from to } in record {
@@ -115,7 +122,8 @@ pub change_row : {P : Type 0} (call : P → Call) (s : State) (t : ℕ) (grant :
       same : steady (Some (call (changed change))) ≡ steady (Some (call here));
       none : change_in (Some (call here)) ≡ None;
       some : change_in (Some (call (changed change))) ≡ Some f;
-      balance : less (Some (call (changed change))) + more (Some (call here)) ≡ less (Some (call here)) + more (Some (call (changed change)));
+      balance : less (Some (call (changed change))) + more (Some (call here)) ≡ less (Some (call here)) + more
+          (Some (call (changed change)));
       fill : IfSome (fills (Some (call (changed change)))) (λ k. Reached s.size (λ u. ahead (s.calls u)) k.0 k.1);
       own : Stands s.geometry s t (Some (call (changed change)));
     })
@@ -123,7 +131,9 @@ pub change_row : {P : Type 0} (call : P → Call) (s : State) (t : ℕ) (grant :
 change_row call s t grant f from to here denied changed turn new h l e row y =
     by_test ((s.spare f == s.pending f) && not grant) row
     (λ is r. so call s t _ turn _ new r y.denied)
-    (λ isnt r. so call s t _ turn _ new r (opened s.geometry s t (Some (call here)) _ f h l e (ap (λ p. p.0) y.same) (ap (λ p. p.1) y.same) (ap (λ p. p.2) y.same) y.none y.some y.balance y.fill y.own))
+    (λ isnt r. so call s t _ turn _ new r
+    (opened s.geometry s t (Some (call here)) _ f h l e (ap (λ p. p.0) y.same) (ap (λ p. p.1) y.same)
+    (ap (λ p. p.2) y.same) y.none y.some y.balance y.fill y.own))
 
 pub is_nil : (m : ℕ) → (m == 0) ≡ true → m ≡ 0
 is_nil m e = grind (arith, nat_tests)
@@ -153,19 +163,27 @@ pub take_row : {P : Type 0} (call : P → Call) (s : State) (t m : ℕ) (here no
     → Inv s.geometry (after call s t turn new)
 take_row call s t m here no_frame taken turn new h l e row y =
     by_test (m == 0) row
-    (λ none r. so call s t _ turn _ new r.3 (takes s.geometry s t (Some (call here)) (Some (call (taken r.0))) r.0 (s.resv - 1) h l e r.1 (ap (λ p. p.0) (y.same r.0)) (ap (λ p. p.1) (y.same r.0)) y.empty (y.full r.0) (ap (λ p. p.2) (y.same r.0))
-    (let low : 1 ≤ s.resv = r.2 in let a : less (Some (call (taken r.0))) ≡ 1 = y.owes r.0 ∙ ap bit none in let b = y.free in let c : more (Some (call (taken r.0))) ≡ more (Some (call here)) = ap (λ p. p.3) (y.same r.0) in omega arith)
+    (λ none r. so call s t _ turn _ new r.3
+    (takes s.geometry s t (Some (call here)) (Some (call (taken r.0))) r.0 (s.resv - 1) h l e r.1
+    (ap (λ p. p.0) (y.same r.0)) (ap (λ p. p.1) (y.same r.0)) y.empty (y.full r.0) (ap (λ p. p.2) (y.same r.0))
+    (let low : 1 ≤ s.resv = r.2 in let a : less (Some (call (taken r.0))) ≡ 1 = y.owes r.0 ∙ ap bit none in
+    let b = y.free in
+    let c : more (Some (call (taken r.0))) ≡ more (Some (call here)) = ap (λ p. p.3) (y.same r.0) in omega arith)
     (let low : 1 ≤ s.resv = r.2 in let z = h.enough in omega arith) (y.fill r.0) (y.own r.0)))
     (λ some r. by_test (frees (pool_of s) == s.resv) r
     (λ full r. so call s t _ turn _ new r y.lacks)
-    (λ left r. so call s t _ turn _ new r.2 (takes s.geometry s t (Some (call here)) (Some (call (taken r.0))) r.0 s.resv h l e r.1 (ap (λ p. p.0) (y.same r.0)) (ap (λ p. p.1) (y.same r.0)) y.empty (y.full r.0) (ap (λ p. p.2) (y.same r.0))
-    (let a : less (Some (call (taken r.0))) ≡ 0 = y.owes r.0 ∙ ap bit some in let b = y.free in let c : more (Some (call (taken r.0))) ≡ more (Some (call here)) = ap (λ p. p.3) (y.same r.0) in omega arith)
+    (λ left r. so call s t _ turn _ new r.2
+    (takes s.geometry s t (Some (call here)) (Some (call (taken r.0))) r.0 s.resv h l e r.1
+    (ap (λ p. p.0) (y.same r.0)) (ap (λ p. p.1) (y.same r.0)) y.empty (y.full r.0) (ap (λ p. p.2) (y.same r.0))
+    (let a : less (Some (call (taken r.0))) ≡ 0 = y.owes r.0 ∙ ap bit some in let b = y.free in
+    let c : more (Some (call (taken r.0))) ≡ more (Some (call here)) = ap (λ p. p.3) (y.same r.0) in omega arith)
     (free_left s h left) (y.fill r.0) (y.own r.0))))
 
 -- the index that a change adds is reserved then
 pub own_reserved : (s : State) (f i : ℕ) (change : Change) → IsOne change i → (committing s f change).reserved f i ≡ true
 own_reserved s f i change one =
-    ap (λ (m : ℕ → Bool). m i) (put_same s.reserved f (add_range (s.reserved f) change.from change.to)) ∙ add_range_has (s.reserved f) change.from change.to i (inside change.from change.to i one.0 one.1)
+    ap (λ (m : ℕ → Bool). m i) (put_same s.reserved f (add_range (s.reserved f) change.from change.to))
+    ∙ add_range_has (s.reserved f) change.from change.to i (inside change.from change.to i one.0 one.1)
   where
     inside : (from to i : ℕ) → from ≡ i → to ≡ i + 1 → is_within from to i ≡ true
     inside from to i a b = grind (arith, nat_tests)
@@ -187,7 +205,8 @@ one_change r i = let lacks = missing_one r i in ((refl, refl, few (r i) _ lacks)
     has false m e z = (let d : 1 ≡ 0 = sym e ∙ z in absurd (omega arith))
 
 -- a change of one index is committed
-pub commit_row : {P : Type 0} (call : P → Call) (s : State) (t f i : ℕ) (change : Change) (here settle next : P) (turn : Turn P) (new : Pool)
+pub commit_row : {P : Type 0} (call : P → Call) (s : State) (t f i : ℕ) (change : Change) (here settle next : P)
+    (turn : Turn P) (new : Pool)
     → Inv s.geometry s → t < s.geometry.tasks + 1 → s.calls t ≡ Some (call here) → CommitRow (pool_of s) f change settle next turn new
     → record {
       file : f < s.geometry.files;
@@ -216,13 +235,23 @@ commit_row call s t f i change here settle next turn new h l e row y =
     let lacks = own_missing (s.reserved f) change i y.one in
     let few = y.one.2 in
     let low : change.to ≤ s.geometry.limit = (let a = y.one.1 in let b = y.index in omega arith) in
-    let clear : (u j : ℕ) → passed (s.calls u) f j ≡ true → is_within change.from change.to j ≡ true → ⊥ = λ u j a w. y.nobody u (ap (passed (s.calls u) f) (alone change.from change.to j y.one.0 y.one.1 w) ∙ a) in
+    let clear : (u j : ℕ) → passed (s.calls u) f j ≡ true → is_within change.from change.to j ≡ true → ⊥ =
+    λ u j a w. y.nobody u (ap (passed (s.calls u) f) (alone change.from change.to j y.one.0 y.one.1 w) ∙ a) in
     by_test (nat_lt (missing (s.reserved f) change.from change.to) change.missing) row
-    (λ fewer r. so call s t _ turn _ new r (commits s.geometry s t (Some (call here)) (Some (call settle)) f change h l e y.file low (ap (λ p. p.0) y.settles) (ap (λ p. p.1) y.settles) (ap (λ p. p.2) y.settles) y.opened y.settle_none clear
-    (let a = lt _ _ fewer in let b : less (Some (call here)) ≡ 0 = y.owes ∙ some change.missing a in let c : more (Some (call here)) ≡ 0 = y.awaits in let d : less (Some (call settle)) ≡ 0 = y.settle_less in let x : more (Some (call settle)) ≡ 0 = y.settle_more in omega arith)
+    (λ fewer r. so call s t _ turn _ new r
+    (commits s.geometry s t (Some (call here)) (Some (call settle)) f change h l e y.file low
+    (ap (λ p. p.0) y.settles) (ap (λ p. p.1) y.settles) (ap (λ p. p.2) y.settles) y.opened y.settle_none clear
+    (let a = lt _ _ fewer in let b : less (Some (call here)) ≡ 0 = y.owes ∙ some change.missing a in
+    let c : more (Some (call here)) ≡ 0 = y.awaits in
+    let d : less (Some (call settle)) ≡ 0 = y.settle_less in let x : more (Some (call settle)) ≡ 0 = y.settle_more in omega arith)
     y.fill_settle y.own_settle))
-    (λ all r. so call s t _ turn _ new r (commits s.geometry s t (Some (call here)) (Some (call next)) f change h l e y.file low (ap (λ p. p.0) y.nexts) (ap (λ p. p.1) y.nexts) (ap (λ p. p.2) y.nexts) y.opened y.next_none clear
-    (let a = pays change.missing (missing (s.reserved f) change.from change.to) (s.reserved f i) (change.missing == 0) refl y.marked lacks (le _ _ all) in let b : less (Some (call here)) ≡ bit (change.missing == 0) = y.owes in let c : more (Some (call here)) ≡ 0 = y.awaits in let d : less (Some (call next)) ≡ 1 = y.next_less in let x : more (Some (call next)) ≡ 0 = y.next_more in omega arith)
+    (λ all r. so call s t _ turn _ new r
+    (commits s.geometry s t (Some (call here)) (Some (call next)) f change h l e y.file low (ap (λ p. p.0) y.nexts)
+    (ap (λ p. p.1) y.nexts) (ap (λ p. p.2) y.nexts) y.opened y.next_none clear
+    (let a = pays change.missing (missing (s.reserved f) change.from change.to) (s.reserved f i) (change.missing == 0)
+    refl y.marked lacks (le _ _ all) in let b : less (Some (call here)) ≡ bit (change.missing == 0) = y.owes in
+    let c : more (Some (call here)) ≡ 0 = y.awaits in
+    let d : less (Some (call next)) ≡ 1 = y.next_less in let x : more (Some (call next)) ≡ 0 = y.next_more in omega arith)
     y.fill_next y.own_next))
   where
     alone : (from to j : ℕ) → from ≡ i → to ≡ i + 1 → is_within from to j ≡ true → i ≡ j

@@ -27,7 +27,9 @@ HasLock s u f = s.locks f ≡ Some u
 
 -- the touch's virtual page stands for its index and has no entry
 abbrev pub Aimed : Geometry → State → (task : ℕ) → Touch → Type 0
-Aimed g s u touch = (find (s.areas u) touch.vpn ≡ Some (touch.file, touch.index)) × (touch.file < g.files) × (touch.index < g.limit) × (s.table u touch.vpn ≡ None)
+Aimed g s u touch =
+    (find (s.areas u) touch.vpn ≡ Some (touch.file, touch.index)) × (touch.file < g.files) × (touch.index < g.limit)
+    × (s.table u touch.vpn ≡ None)
 
 -- the change is of that one index
 abbrev pub IsOne : Change → (index : ℕ) → Type 0
@@ -66,56 +68,233 @@ abbrev pub Facts : Geometry → State → (task : ℕ) → Option Call → Type 
 Facts g s u (Some (call.Touch (touch.Want p))) = record { aim : Aimed g s u p.touch }
 Facts g s u (Some (call.Touch (touch.Locked p))) = record { aim : Aimed g s u p.touch }
 Facts g s u (Some (call.Touch (touch.Missing p))) = record { aim : Aimed g s u p.touch; bare : s.pages p.touch.file p.touch.index ≡ None }
-Facts g s u (Some (call.Touch (touch.Changed p))) = record { aim : Aimed g s u p.touch; bare : s.pages p.touch.file p.touch.index ≡ None; one : IsOne p.pending p.touch.index; marked : (p.pending.missing == 0) ≡ true → s.reserved p.touch.file p.touch.index ≡ true }
+Facts g s u (Some (call.Touch (touch.Changed p))) =
+    record {
+      aim : Aimed g s u p.touch;
+      bare : s.pages p.touch.file p.touch.index ≡ None;
+      one : IsOne p.pending p.touch.index;
+      marked : (p.pending.missing == 0) ≡ true → s.reserved p.touch.file p.touch.index ≡ true;
+    }
 Facts g s u (Some (call.Touch (touch.Abort p))) = record { aim : Aimed g s u p.touch; bare : s.pages p.touch.file p.touch.index ≡ None }
-Facts g s u (Some (call.Touch (touch.Taken p))) = record { aim : Aimed g s u p.touch; bare : s.pages p.touch.file p.touch.index ≡ None; one : IsOne p.pending p.touch.index; marked : (p.pending.missing == 0) ≡ true → s.reserved p.touch.file p.touch.index ≡ true }
-Facts g s u (Some (call.Touch (touch.Settle p))) = record { aim : Aimed g s u p.touch; bare : s.pages p.touch.file p.touch.index ≡ None; marked : s.reserved p.touch.file p.touch.index ≡ true }
-Facts g s u (Some (call.Touch (touch.Committed p))) = record { aim : Aimed g s u p.touch; bare : s.pages p.touch.file p.touch.index ≡ None; marked : s.reserved p.touch.file p.touch.index ≡ true }
-Facts g s u (Some (call.Touch (touch.Restore p))) = record { aim : Aimed g s u p.touch; bare : s.pages p.touch.file p.touch.index ≡ None; marked : s.reserved p.touch.file p.touch.index ≡ true }
+Facts g s u (Some (call.Touch (touch.Taken p))) =
+    record {
+      aim : Aimed g s u p.touch;
+      bare : s.pages p.touch.file p.touch.index ≡ None;
+      one : IsOne p.pending p.touch.index;
+      marked : (p.pending.missing == 0) ≡ true → s.reserved p.touch.file p.touch.index ≡ true;
+    }
+Facts g s u (Some (call.Touch (touch.Settle p))) =
+    record {
+      aim : Aimed g s u p.touch;
+      bare : s.pages p.touch.file p.touch.index ≡ None;
+      marked : s.reserved p.touch.file p.touch.index ≡ true;
+    }
+Facts g s u (Some (call.Touch (touch.Committed p))) =
+    record {
+      aim : Aimed g s u p.touch;
+      bare : s.pages p.touch.file p.touch.index ≡ None;
+      marked : s.reserved p.touch.file p.touch.index ≡ true;
+    }
+Facts g s u (Some (call.Touch (touch.Restore p))) =
+    record {
+      aim : Aimed g s u p.touch;
+      bare : s.pages p.touch.file p.touch.index ≡ None;
+      marked : s.reserved p.touch.file p.touch.index ≡ true;
+    }
 Facts g s u (Some (call.Touch (touch.Found p))) = record { aim : Aimed g s u p.touch; cached : s.pages p.touch.file p.touch.index ≢ None }
 Facts g s u (Some (call.Map (map.Room p))) = record { range : IsRange g p.map.file p.map.from p.map.len }
-Facts g s u (Some (call.Map (map.Missing p))) = record { range : IsRange g p.map.file p.map.from p.map.len; based : IsBased g s u p.base p.map.len }
-Facts g s u (Some (call.Map (map.Changed p))) = record { range : IsRange g p.map.file p.map.from p.map.len; based : IsBased g s u p.base p.map.len; whole : IsWhole p.pending p.map.from p.map.len; count : missing (s.reserved p.map.file) p.map.from (p.map.from + p.map.len) ≤ p.pending.missing }
-Facts g s u (Some (call.Map (map.Abort p))) = record { range : IsRange g p.map.file p.map.from p.map.len; unmapped : is_mapped p.answer ≡ false }
-Facts g s u (Some (call.Map (map.Accounted p))) = record { range : IsRange g p.map.file p.map.from p.map.len; based : IsBased g s u p.base p.map.len; whole : IsWhole p.pending p.map.from p.map.len; count : missing (s.reserved p.map.file) p.map.from (p.map.from + p.map.len) ≤ p.pending.missing }
-Facts g s u (Some (call.Map (map.Settle p))) = record { range : IsRange g p.map.file p.map.from p.map.len; based : IsBased g s u p.base p.map.len; filled : IsFilled s p.map.file p.map.from p.map.len }
-Facts g s u (Some (call.Map (map.Enter p))) = record { range : IsRange g p.map.file p.map.from p.map.len; based : IsBased g s u p.base p.map.len; filled : p.map.reserve ≡ true → IsFilled s p.map.file p.map.from p.map.len }
-Facts g s u (Some (call.Map (map.Leave p))) = record { range : IsRange g p.map.file p.map.from p.map.len; mapped : is_mapped p.answer ≡ true → (p.map.reserve ≡ true → IsFilled s p.map.file p.map.from p.map.len) × (p.map.from + p.map.len ≤ s.size p.map.file) }
+Facts g s u (Some (call.Map (map.Missing p))) =
+    record { range : IsRange g p.map.file p.map.from p.map.len; based : IsBased g s u p.base p.map.len }
+Facts g s u (Some (call.Map (map.Changed p))) =
+    record {
+      range : IsRange g p.map.file p.map.from p.map.len;
+      based : IsBased g s u p.base p.map.len;
+      whole : IsWhole p.pending p.map.from p.map.len;
+      count : missing (s.reserved p.map.file) p.map.from (p.map.from + p.map.len) ≤ p.pending.missing;
+    }
+Facts g s u (Some (call.Map (map.Abort p))) =
+    record { range : IsRange g p.map.file p.map.from p.map.len; unmapped : is_mapped p.answer ≡ false }
+Facts g s u (Some (call.Map (map.Accounted p))) =
+    record {
+      range : IsRange g p.map.file p.map.from p.map.len;
+      based : IsBased g s u p.base p.map.len;
+      whole : IsWhole p.pending p.map.from p.map.len;
+      count : missing (s.reserved p.map.file) p.map.from (p.map.from + p.map.len) ≤ p.pending.missing;
+    }
+Facts g s u (Some (call.Map (map.Settle p))) =
+    record {
+      range : IsRange g p.map.file p.map.from p.map.len;
+      based : IsBased g s u p.base p.map.len;
+      filled : IsFilled s p.map.file p.map.from p.map.len;
+    }
+Facts g s u (Some (call.Map (map.Enter p))) =
+    record {
+      range : IsRange g p.map.file p.map.from p.map.len;
+      based : IsBased g s u p.base p.map.len;
+      filled : p.map.reserve ≡ true → IsFilled s p.map.file p.map.from p.map.len;
+    }
+Facts g s u (Some (call.Map (map.Leave p))) =
+    record {
+      range : IsRange g p.map.file p.map.from p.map.len;
+      mapped : is_mapped p.answer ≡ true
+          → (p.map.reserve ≡ true → IsFilled s p.map.file p.map.from p.map.len) × (p.map.from + p.map.len ≤ s.size p.map.file);
+    }
 Facts g s u (Some (call.Alloc (alloc.Head p))) = record { range : InRange g p.allocation.file p.allocation.from p.allocation.len p.index }
 Facts g s u (Some (call.Alloc (alloc.Want p))) = record { range : InRange g p.allocation.file p.allocation.from p.allocation.len p.index }
 Facts g s u (Some (call.Alloc (alloc.Locked p))) = record { range : InRange g p.allocation.file p.allocation.from p.allocation.len p.index }
-Facts g s u (Some (call.Alloc (alloc.Missing p))) = record { range : InRange g p.allocation.file p.allocation.from p.allocation.len p.index; bare : s.pages p.allocation.file p.index ≡ None }
-Facts g s u (Some (call.Alloc (alloc.Changed p))) = record { range : InRange g p.allocation.file p.allocation.from p.allocation.len p.index; bare : s.pages p.allocation.file p.index ≡ None; one : IsOne p.pending p.index; marked : (p.pending.missing == 0) ≡ true → s.reserved p.allocation.file p.index ≡ true }
-Facts g s u (Some (call.Alloc (alloc.Abort p))) = record { range : InRange g p.allocation.file p.allocation.from p.allocation.len p.index; bare : s.pages p.allocation.file p.index ≡ None }
-Facts g s u (Some (call.Alloc (alloc.Taken p))) = record { range : InRange g p.allocation.file p.allocation.from p.allocation.len p.index; bare : s.pages p.allocation.file p.index ≡ None; one : IsOne p.pending p.index; marked : (p.pending.missing == 0) ≡ true → s.reserved p.allocation.file p.index ≡ true }
-Facts g s u (Some (call.Alloc (alloc.Settle p))) = record { range : InRange g p.allocation.file p.allocation.from p.allocation.len p.index; bare : s.pages p.allocation.file p.index ≡ None; marked : s.reserved p.allocation.file p.index ≡ true }
-Facts g s u (Some (call.Alloc (alloc.Committed p))) = record { range : InRange g p.allocation.file p.allocation.from p.allocation.len p.index; bare : s.pages p.allocation.file p.index ≡ None; marked : s.reserved p.allocation.file p.index ≡ true }
-Facts g s u (Some (call.Alloc (alloc.Restore p))) = record { range : InRange g p.allocation.file p.allocation.from p.allocation.len p.index; bare : s.pages p.allocation.file p.index ≡ None; marked : s.reserved p.allocation.file p.index ≡ true }
+Facts g s u (Some (call.Alloc (alloc.Missing p))) =
+    record {
+      range : InRange g p.allocation.file p.allocation.from p.allocation.len p.index;
+      bare : s.pages p.allocation.file p.index ≡ None;
+    }
+Facts g s u (Some (call.Alloc (alloc.Changed p))) =
+    record {
+      range : InRange g p.allocation.file p.allocation.from p.allocation.len p.index;
+      bare : s.pages p.allocation.file p.index ≡ None;
+      one : IsOne p.pending p.index;
+      marked : (p.pending.missing == 0) ≡ true → s.reserved p.allocation.file p.index ≡ true;
+    }
+Facts g s u (Some (call.Alloc (alloc.Abort p))) =
+    record {
+      range : InRange g p.allocation.file p.allocation.from p.allocation.len p.index;
+      bare : s.pages p.allocation.file p.index ≡ None;
+    }
+Facts g s u (Some (call.Alloc (alloc.Taken p))) =
+    record {
+      range : InRange g p.allocation.file p.allocation.from p.allocation.len p.index;
+      bare : s.pages p.allocation.file p.index ≡ None;
+      one : IsOne p.pending p.index;
+      marked : (p.pending.missing == 0) ≡ true → s.reserved p.allocation.file p.index ≡ true;
+    }
+Facts g s u (Some (call.Alloc (alloc.Settle p))) =
+    record {
+      range : InRange g p.allocation.file p.allocation.from p.allocation.len p.index;
+      bare : s.pages p.allocation.file p.index ≡ None;
+      marked : s.reserved p.allocation.file p.index ≡ true;
+    }
+Facts g s u (Some (call.Alloc (alloc.Committed p))) =
+    record {
+      range : InRange g p.allocation.file p.allocation.from p.allocation.len p.index;
+      bare : s.pages p.allocation.file p.index ≡ None;
+      marked : s.reserved p.allocation.file p.index ≡ true;
+    }
+Facts g s u (Some (call.Alloc (alloc.Restore p))) =
+    record {
+      range : InRange g p.allocation.file p.allocation.from p.allocation.len p.index;
+      bare : s.pages p.allocation.file p.index ≡ None;
+      marked : s.reserved p.allocation.file p.index ≡ true;
+    }
 Facts g s u (Some (call.Alloc (alloc.Unslot p))) = record { range : InRange g p.allocation.file p.allocation.from p.allocation.len p.index }
 Facts g s u (Some (call.Alloc (alloc.Extend p))) = record { range : IsRange g p.allocation.file p.allocation.from p.allocation.len }
 Facts g s u (Some (call.Alloc (alloc.Leave p))) = record { file : p.allocation.file < g.files }
 Facts g s u (Some (call.Punch (punch.Want p))) = record { range : InRange g p.hole.file p.hole.from p.hole.len p.index }
 Facts g s u (Some (call.Punch (punch.Locked p))) = record { range : InRange g p.hole.file p.hole.from p.hole.len p.index }
-Facts g s u (Some (call.Punch (punch.Unmap p))) = record { range : InRange g p.hole.file p.hole.from p.hole.len p.index; cached : s.pages p.hole.file p.index ≢ None; task : (1 ≤ p.task) × (p.task ≤ g.tasks); cleared : ClearedBelow s p.task p.hole.file p.index }
-Facts g s u (Some (call.Punch (punch.Evict p))) = record { range : InRange g p.hole.file p.hole.from p.hole.len p.index; cached : s.pages p.hole.file p.index ≢ None; cleared : ClearedBelow s (g.tasks + 1) p.hole.file p.index }
-Facts g s u (Some (call.Punch (punch.Delete p))) = record { range : InRange g p.hole.file p.hole.from p.hole.len p.index; bare : s.pages p.hole.file p.index ≡ None; marked : s.reserved p.hole.file p.index ≡ true }
-Facts g s u (Some (call.Punch (punch.Free p))) = record { range : InRange g p.hole.file p.hole.from p.hole.len p.index; bare : s.pages p.hole.file p.index ≡ None; marked : p.denied ≡ true → s.reserved p.hole.file p.index ≡ true }
+Facts g s u (Some (call.Punch (punch.Unmap p))) =
+    record {
+      range : InRange g p.hole.file p.hole.from p.hole.len p.index;
+      cached : s.pages p.hole.file p.index ≢ None;
+      task : (1 ≤ p.task) × (p.task ≤ g.tasks);
+      cleared : ClearedBelow s p.task p.hole.file p.index;
+    }
+Facts g s u (Some (call.Punch (punch.Evict p))) =
+    record {
+      range : InRange g p.hole.file p.hole.from p.hole.len p.index;
+      cached : s.pages p.hole.file p.index ≢ None;
+      cleared : ClearedBelow s (g.tasks + 1) p.hole.file p.index;
+    }
+Facts g s u (Some (call.Punch (punch.Delete p))) =
+    record {
+      range : InRange g p.hole.file p.hole.from p.hole.len p.index;
+      bare : s.pages p.hole.file p.index ≡ None;
+      marked : s.reserved p.hole.file p.index ≡ true;
+    }
+Facts g s u (Some (call.Punch (punch.Free p))) =
+    record {
+      range : InRange g p.hole.file p.hole.from p.hole.len p.index;
+      bare : s.pages p.hole.file p.index ≡ None;
+      marked : p.denied ≡ true → s.reserved p.hole.file p.index ≡ true;
+    }
 Facts g s u (Some (call.Punch (punch.Unslot p))) = record { range : InRange g p.hole.file p.hole.from p.hole.len p.index }
 Facts g s u (Some (call.Punch (punch.Leave p))) = record { file : p.hole.file < g.files }
 Facts g s u (Some (call.Truncate (truncate.Size p))) = record { file : p.truncation.file < g.files; new : p.truncation.new ≤ g.limit }
-Facts g s u (Some (call.Truncate (truncate.Want p))) = record { file : p.truncation.file < g.files; new : p.truncation.new ≤ g.limit; index : (p.truncation.new ≤ p.index) × (p.index < g.limit); sized : s.size p.truncation.file ≡ p.truncation.new; lost : p.evicted ≤ count_within (s.reserved p.truncation.file) (p.index + 1) g.limit }
-Facts g s u (Some (call.Truncate (truncate.Locked p))) = record { file : p.truncation.file < g.files; new : p.truncation.new ≤ g.limit; index : (p.truncation.new ≤ p.index) × (p.index < g.limit); sized : s.size p.truncation.file ≡ p.truncation.new; lost : p.evicted ≤ count_within (s.reserved p.truncation.file) (p.index + 1) g.limit }
-Facts g s u (Some (call.Truncate (truncate.Unmap p))) = record { file : p.truncation.file < g.files; new : p.truncation.new ≤ g.limit; index : (p.truncation.new ≤ p.index) × (p.index < g.limit); sized : s.size p.truncation.file ≡ p.truncation.new; lost : p.evicted ≤ count_within (s.reserved p.truncation.file) (p.index + 1) g.limit; cached : s.pages p.truncation.file p.index ≢ None; task : (1 ≤ p.task) × (p.task ≤ g.tasks); cleared : ClearedBelow s p.task p.truncation.file p.index }
-Facts g s u (Some (call.Truncate (truncate.Evict p))) = record { file : p.truncation.file < g.files; new : p.truncation.new ≤ g.limit; index : (p.truncation.new ≤ p.index) × (p.index < g.limit); sized : s.size p.truncation.file ≡ p.truncation.new; lost : p.evicted ≤ count_within (s.reserved p.truncation.file) (p.index + 1) g.limit; cached : s.pages p.truncation.file p.index ≢ None; cleared : ClearedBelow s (g.tasks + 1) p.truncation.file p.index }
-Facts g s u (Some (call.Truncate (truncate.Free p))) = record { file : p.truncation.file < g.files; new : p.truncation.new ≤ g.limit; index : (p.truncation.new ≤ p.index) × (p.index < g.limit); sized : s.size p.truncation.file ≡ p.truncation.new; lost : p.evicted ≤ count_within (s.reserved p.truncation.file) p.index g.limit; bare : s.pages p.truncation.file p.index ≡ None }
-Facts g s u (Some (call.Truncate (truncate.Unslot p))) = record { file : p.truncation.file < g.files; new : p.truncation.new ≤ g.limit; index : (p.truncation.new ≤ p.index) × (p.index < g.limit); sized : s.size p.truncation.file ≡ p.truncation.new; lost : p.evicted ≤ count_within (s.reserved p.truncation.file) p.index g.limit; bare : s.pages p.truncation.file p.index ≡ None }
-Facts g s u (Some (call.Truncate (truncate.Tail p))) = record { file : p.truncation.file < g.files; new : p.truncation.new ≤ g.limit; sized : s.size p.truncation.file ≡ p.truncation.new; lost : p.evicted ≤ count_within (s.reserved p.truncation.file) p.truncation.new g.limit }
-Facts g s u (Some (call.Truncate (truncate.Settle p))) = record { file : p.truncation.file < g.files; sized : s.size p.truncation.file ≡ p.truncation.new }
-Facts g s u (Some (call.Truncate (truncate.Leave p))) = record { file : p.truncation.file < g.files; sized : s.size p.truncation.file ≡ p.truncation.new }
+Facts g s u (Some (call.Truncate (truncate.Want p))) =
+    record {
+      file : p.truncation.file < g.files;
+      new : p.truncation.new ≤ g.limit;
+      index : (p.truncation.new ≤ p.index) × (p.index < g.limit);
+      sized : s.size p.truncation.file ≡ p.truncation.new;
+      lost : p.evicted ≤ count_within (s.reserved p.truncation.file) (p.index + 1) g.limit;
+    }
+Facts g s u (Some (call.Truncate (truncate.Locked p))) =
+    record {
+      file : p.truncation.file < g.files;
+      new : p.truncation.new ≤ g.limit;
+      index : (p.truncation.new ≤ p.index) × (p.index < g.limit);
+      sized : s.size p.truncation.file ≡ p.truncation.new;
+      lost : p.evicted ≤ count_within (s.reserved p.truncation.file) (p.index + 1) g.limit;
+    }
+Facts g s u (Some (call.Truncate (truncate.Unmap p))) =
+    record {
+      file : p.truncation.file < g.files;
+      new : p.truncation.new ≤ g.limit;
+      index : (p.truncation.new ≤ p.index) × (p.index < g.limit);
+      sized : s.size p.truncation.file ≡ p.truncation.new;
+      lost : p.evicted ≤ count_within (s.reserved p.truncation.file) (p.index + 1) g.limit;
+      cached : s.pages p.truncation.file p.index ≢ None;
+      task : (1 ≤ p.task) × (p.task ≤ g.tasks);
+      cleared : ClearedBelow s p.task p.truncation.file p.index;
+    }
+Facts g s u (Some (call.Truncate (truncate.Evict p))) =
+    record {
+      file : p.truncation.file < g.files;
+      new : p.truncation.new ≤ g.limit;
+      index : (p.truncation.new ≤ p.index) × (p.index < g.limit);
+      sized : s.size p.truncation.file ≡ p.truncation.new;
+      lost : p.evicted ≤ count_within (s.reserved p.truncation.file) (p.index + 1) g.limit;
+      cached : s.pages p.truncation.file p.index ≢ None;
+      cleared : ClearedBelow s (g.tasks + 1) p.truncation.file p.index;
+    }
+Facts g s u (Some (call.Truncate (truncate.Free p))) =
+    record {
+      file : p.truncation.file < g.files;
+      new : p.truncation.new ≤ g.limit;
+      index : (p.truncation.new ≤ p.index) × (p.index < g.limit);
+      sized : s.size p.truncation.file ≡ p.truncation.new;
+      lost : p.evicted ≤ count_within (s.reserved p.truncation.file) p.index g.limit;
+      bare : s.pages p.truncation.file p.index ≡ None;
+    }
+Facts g s u (Some (call.Truncate (truncate.Unslot p))) =
+    record {
+      file : p.truncation.file < g.files;
+      new : p.truncation.new ≤ g.limit;
+      index : (p.truncation.new ≤ p.index) × (p.index < g.limit);
+      sized : s.size p.truncation.file ≡ p.truncation.new;
+      lost : p.evicted ≤ count_within (s.reserved p.truncation.file) p.index g.limit;
+      bare : s.pages p.truncation.file p.index ≡ None;
+    }
+Facts g s u (Some (call.Truncate (truncate.Tail p))) =
+    record {
+      file : p.truncation.file < g.files;
+      new : p.truncation.new ≤ g.limit;
+      sized : s.size p.truncation.file ≡ p.truncation.new;
+      lost : p.evicted ≤ count_within (s.reserved p.truncation.file) p.truncation.new g.limit;
+    }
+Facts g s u (Some (call.Truncate (truncate.Settle p))) =
+    record { file : p.truncation.file < g.files; sized : s.size p.truncation.file ≡ p.truncation.new }
+Facts g s u (Some (call.Truncate (truncate.Leave p))) =
+    record { file : p.truncation.file < g.files; sized : s.size p.truncation.file ≡ p.truncation.new }
 Facts g s u (Some (call.Unmap (unmap.Clear p))) = record { base : is_base (s.areas u) p.base ≡ true }
-Facts g s u (Some (call.Unmap (unmap.Drop p))) = record { base : is_base (s.areas u) p.base ≡ true; empty : (v x : ℕ) → s.table u v ≡ Some x → in_mapping (s.areas u) p.base v ≡ false }
+Facts g s u (Some (call.Unmap (unmap.Drop p))) =
+    record {
+      base : is_base (s.areas u) p.base ≡ true;
+      empty : (v x : ℕ) → s.table u v ≡ Some x → in_mapping (s.areas u) p.base v ≡ false;
+    }
 Facts g s u (Some (call.Exit (exit.Clear p))) = record { base : is_base (s.areas u) p.base ≡ true }
-Facts g s u (Some (call.Exit (exit.Drop p))) = record { base : is_base (s.areas u) p.base ≡ true; empty : (v x : ℕ) → s.table u v ≡ Some x → in_mapping (s.areas u) p.base v ≡ false }
+Facts g s u (Some (call.Exit (exit.Drop p))) =
+    record {
+      base : is_base (s.areas u) p.base ≡ true;
+      empty : (v x : ℕ) → s.table u v ≡ Some x → in_mapping (s.areas u) p.base v ≡ false;
+    }
 Facts g s u other = Unit {0}
 
 -- what holds of the call of task u

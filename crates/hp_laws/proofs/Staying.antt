@@ -38,7 +38,12 @@ none_still a (Some x) f e = let o = f x refl in let d : ◌≡◌ {A = Option �
 
 aimed_after : (g : Geometry) (s n : State) (u : ℕ) (touch : Touch) {c : Option Call} → Keeps g s n u c → Aimed g s u touch
     → Aimed g n u touch
-aimed_after g s n u touch k h = (ap (λ (m : List Mapping). find m touch.vpn) k.areas ∙ h.0, h.1, h.2, none_still (s.table u touch.vpn) (n.table u touch.vpn) (λ x d. k.table touch.vpn x d) h.3)
+aimed_after g s n u touch k h = (
+  ap (λ (m : List Mapping). find m touch.vpn) k.areas ∙ h.0,
+  h.1,
+  h.2,
+  none_still (s.table u touch.vpn) (n.table u touch.vpn) (λ x d. k.table touch.vpn x d) h.3,
+)
 
 based_after : (g : Geometry) (s n : State) (u base len : ℕ) {c : Option Call} → Keeps g s n u c → IsBased g s u base len
     → IsBased g n u base len
@@ -51,64 +56,418 @@ cleared_after g s n u m f i k held h t v x a b d e = let o = k.entries f i held 
 pub stands_after : (g : Geometry) (s n : State) (u : ℕ) (c : Option Call) → Keeps g s n u c → Stands g s u c → Stands g n u c
 stands_after g s n u None k h = record { slot = tt; lock = tt; facts = tt }
 stands_after g s n u (Some (call.Touch (touch.Look p))) k h = record { slot = tt; lock = tt; facts = tt }
-stands_after g s n u (Some (call.Touch (touch.Want p))) k h = record { slot = tt; lock = tt; facts = record { aim = aimed_after g s n u p.touch k h.facts.aim } }
-stands_after g s n u (Some (call.Touch (touch.Locked p))) k h = record { slot = k.slot _ h.slot; lock = tt; facts = record { aim = aimed_after g s n u p.touch k h.facts.aim } }
-stands_after g s n u (Some (call.Touch (touch.Missing p))) k h = record { slot = k.slot _ h.slot; lock = tt; facts = record { aim = aimed_after g s n u p.touch k h.facts.aim; bare = k.page p.touch.file p.touch.index h.slot ∙ h.facts.bare } }
-stands_after g s n u (Some (call.Touch (touch.Changed p))) k h = record { slot = k.slot _ h.slot; lock = tt; facts = record { aim = aimed_after g s n u p.touch k h.facts.aim; bare = k.page p.touch.file p.touch.index h.slot ∙ h.facts.bare; one = h.facts.one; marked = λ d. k.mark p.touch.file p.touch.index h.slot (inl refl) (h.facts.marked d) } }
-stands_after g s n u (Some (call.Touch (touch.Abort p))) k h = record { slot = k.slot _ h.slot; lock = tt; facts = record { aim = aimed_after g s n u p.touch k h.facts.aim; bare = k.page p.touch.file p.touch.index h.slot ∙ h.facts.bare } }
-stands_after g s n u (Some (call.Touch (touch.Taken p))) k h = record { slot = k.slot _ h.slot; lock = tt; facts = record { aim = aimed_after g s n u p.touch k h.facts.aim; bare = k.page p.touch.file p.touch.index h.slot ∙ h.facts.bare; one = h.facts.one; marked = λ d. k.mark p.touch.file p.touch.index h.slot (inl refl) (h.facts.marked d) } }
-stands_after g s n u (Some (call.Touch (touch.Settle p))) k h = record { slot = k.slot _ h.slot; lock = tt; facts = record { aim = aimed_after g s n u p.touch k h.facts.aim; bare = k.page p.touch.file p.touch.index h.slot ∙ h.facts.bare; marked = k.mark p.touch.file p.touch.index h.slot (inl refl) h.facts.marked } }
-stands_after g s n u (Some (call.Touch (touch.Committed p))) k h = record { slot = k.slot _ h.slot; lock = tt; facts = record { aim = aimed_after g s n u p.touch k h.facts.aim; bare = k.page p.touch.file p.touch.index h.slot ∙ h.facts.bare; marked = k.mark p.touch.file p.touch.index h.slot (inl refl) h.facts.marked } }
-stands_after g s n u (Some (call.Touch (touch.Restore p))) k h = record { slot = k.slot _ h.slot; lock = tt; facts = record { aim = aimed_after g s n u p.touch k h.facts.aim; bare = k.page p.touch.file p.touch.index h.slot ∙ h.facts.bare; marked = k.mark p.touch.file p.touch.index h.slot (inl refl) h.facts.marked } }
-stands_after g s n u (Some (call.Touch (touch.Found p))) k h = record { slot = k.slot _ h.slot; lock = tt; facts = record { aim = aimed_after g s n u p.touch k h.facts.aim; cached = λ d. h.facts.cached (sym (k.page p.touch.file p.touch.index h.slot) ∙ d) } }
+stands_after g s n u (Some (call.Touch (touch.Want p))) k h =
+    record { slot = tt; lock = tt; facts = record { aim = aimed_after g s n u p.touch k h.facts.aim } }
+stands_after g s n u (Some (call.Touch (touch.Locked p))) k h =
+    record { slot = k.slot _ h.slot; lock = tt; facts = record { aim = aimed_after g s n u p.touch k h.facts.aim } }
+stands_after g s n u (Some (call.Touch (touch.Missing p))) k h =
+    record {
+      slot = k.slot _ h.slot;
+      lock = tt;
+      facts = record {
+        aim = aimed_after g s n u p.touch k h.facts.aim;
+        bare = k.page p.touch.file p.touch.index h.slot ∙ h.facts.bare;
+      };
+    }
+stands_after g s n u (Some (call.Touch (touch.Changed p))) k h =
+    record {
+      slot = k.slot _ h.slot;
+      lock = tt;
+      facts = record {
+        aim = aimed_after g s n u p.touch k h.facts.aim;
+        bare = k.page p.touch.file p.touch.index h.slot ∙ h.facts.bare;
+        one = h.facts.one;
+        marked = λ d. k.mark p.touch.file p.touch.index h.slot (inl refl) (h.facts.marked d);
+      };
+    }
+stands_after g s n u (Some (call.Touch (touch.Abort p))) k h =
+    record {
+      slot = k.slot _ h.slot;
+      lock = tt;
+      facts = record {
+        aim = aimed_after g s n u p.touch k h.facts.aim;
+        bare = k.page p.touch.file p.touch.index h.slot ∙ h.facts.bare;
+      };
+    }
+stands_after g s n u (Some (call.Touch (touch.Taken p))) k h =
+    record {
+      slot = k.slot _ h.slot;
+      lock = tt;
+      facts = record {
+        aim = aimed_after g s n u p.touch k h.facts.aim;
+        bare = k.page p.touch.file p.touch.index h.slot ∙ h.facts.bare;
+        one = h.facts.one;
+        marked = λ d. k.mark p.touch.file p.touch.index h.slot (inl refl) (h.facts.marked d);
+      };
+    }
+stands_after g s n u (Some (call.Touch (touch.Settle p))) k h =
+    record {
+      slot = k.slot _ h.slot;
+      lock = tt;
+      facts = record {
+        aim = aimed_after g s n u p.touch k h.facts.aim;
+        bare = k.page p.touch.file p.touch.index h.slot ∙ h.facts.bare;
+        marked = k.mark p.touch.file p.touch.index h.slot (inl refl) h.facts.marked;
+      };
+    }
+stands_after g s n u (Some (call.Touch (touch.Committed p))) k h =
+    record {
+      slot = k.slot _ h.slot;
+      lock = tt;
+      facts = record {
+        aim = aimed_after g s n u p.touch k h.facts.aim;
+        bare = k.page p.touch.file p.touch.index h.slot ∙ h.facts.bare;
+        marked = k.mark p.touch.file p.touch.index h.slot (inl refl) h.facts.marked;
+      };
+    }
+stands_after g s n u (Some (call.Touch (touch.Restore p))) k h =
+    record {
+      slot = k.slot _ h.slot;
+      lock = tt;
+      facts = record {
+        aim = aimed_after g s n u p.touch k h.facts.aim;
+        bare = k.page p.touch.file p.touch.index h.slot ∙ h.facts.bare;
+        marked = k.mark p.touch.file p.touch.index h.slot (inl refl) h.facts.marked;
+      };
+    }
+stands_after g s n u (Some (call.Touch (touch.Found p))) k h =
+    record {
+      slot = k.slot _ h.slot;
+      lock = tt;
+      facts = record {
+        aim = aimed_after g s n u p.touch k h.facts.aim;
+        cached = λ d. h.facts.cached (sym (k.page p.touch.file p.touch.index h.slot) ∙ d);
+      };
+    }
 stands_after g s n u (Some (call.Touch (touch.Leave p))) k h = record { slot = k.slot _ h.slot; lock = tt; facts = tt }
 stands_after g s n u (Some (call.Map (map.Start p))) k h = record { slot = tt; lock = tt; facts = tt }
-stands_after g s n u (Some (call.Map (map.Room p))) k h = record { slot = tt; lock = (k.lock _ h.lock).0; facts = record { range = h.facts.range } }
-stands_after g s n u (Some (call.Map (map.Missing p))) k h = record { slot = tt; lock = (k.lock _ h.lock).0; facts = record { range = h.facts.range; based = based_after g s n u p.base p.map.len k h.facts.based } }
-stands_after g s n u (Some (call.Map (map.Changed p))) k h = record { slot = tt; lock = (k.lock _ h.lock).0; facts = record { range = h.facts.range; based = based_after g s n u p.base p.map.len k h.facts.based; whole = h.facts.whole; count = (let m = missing_fewer (s.reserved p.map.file) (n.reserved p.map.file) p.map.from (p.map.from + p.map.len) (k.lock p.map.file h.lock).2 in let z = h.facts.count in omega arith) } }
-stands_after g s n u (Some (call.Map (map.Abort p))) k h = record { slot = tt; lock = (k.lock _ h.lock).0; facts = record { range = h.facts.range; unmapped = h.facts.unmapped } }
-stands_after g s n u (Some (call.Map (map.Accounted p))) k h = record { slot = tt; lock = (k.lock _ h.lock).0; facts = record { range = h.facts.range; based = based_after g s n u p.base p.map.len k h.facts.based; whole = h.facts.whole; count = (let m = missing_fewer (s.reserved p.map.file) (n.reserved p.map.file) p.map.from (p.map.from + p.map.len) (k.lock p.map.file h.lock).2 in let z = h.facts.count in omega arith) } }
-stands_after g s n u (Some (call.Map (map.Settle p))) k h = record { slot = tt; lock = (k.lock _ h.lock).0; facts = record { range = h.facts.range; based = based_after g s n u p.base p.map.len k h.facts.based; filled = λ j w. (k.lock p.map.file h.lock).2 j (h.facts.filled j w) } }
-stands_after g s n u (Some (call.Map (map.Enter p))) k h = record { slot = tt; lock = (k.lock _ h.lock).0; facts = record { range = h.facts.range; based = based_after g s n u p.base p.map.len k h.facts.based; filled = λ r j w. (k.lock p.map.file h.lock).2 j (h.facts.filled r j w) } }
-stands_after g s n u (Some (call.Map (map.Leave p))) k h = record { slot = tt; lock = (k.lock _ h.lock).0; facts = record { range = h.facts.range; mapped = λ d. (λ r j w. (k.lock p.map.file h.lock).2 j ((h.facts.mapped d).0 r j w), (let a = (h.facts.mapped d).1 in let z = (k.lock p.map.file h.lock).1 in omega arith)) } }
+stands_after g s n u (Some (call.Map (map.Room p))) k h =
+    record { slot = tt; lock = (k.lock _ h.lock).0; facts = record { range = h.facts.range } }
+stands_after g s n u (Some (call.Map (map.Missing p))) k h =
+    record {
+      slot = tt;
+      lock = (k.lock _ h.lock).0;
+      facts = record { range = h.facts.range; based = based_after g s n u p.base p.map.len k h.facts.based };
+    }
+stands_after g s n u (Some (call.Map (map.Changed p))) k h =
+    record {
+      slot = tt;
+      lock = (k.lock _ h.lock).0;
+      facts = record {
+        range = h.facts.range;
+        based = based_after g s n u p.base p.map.len k h.facts.based;
+        whole = h.facts.whole;
+        count = (let m = missing_fewer (s.reserved p.map.file) (n.reserved p.map.file) p.map.from (p.map.from + p.map.len)
+            (k.lock p.map.file h.lock).2 in let z = h.facts.count in omega arith);
+      };
+    }
+stands_after g s n u (Some (call.Map (map.Abort p))) k h =
+    record { slot = tt; lock = (k.lock _ h.lock).0; facts = record { range = h.facts.range; unmapped = h.facts.unmapped } }
+stands_after g s n u (Some (call.Map (map.Accounted p))) k h =
+    record {
+      slot = tt;
+      lock = (k.lock _ h.lock).0;
+      facts = record {
+        range = h.facts.range;
+        based = based_after g s n u p.base p.map.len k h.facts.based;
+        whole = h.facts.whole;
+        count = (let m = missing_fewer (s.reserved p.map.file) (n.reserved p.map.file) p.map.from (p.map.from + p.map.len)
+            (k.lock p.map.file h.lock).2 in let z = h.facts.count in omega arith);
+      };
+    }
+stands_after g s n u (Some (call.Map (map.Settle p))) k h =
+    record {
+      slot = tt;
+      lock = (k.lock _ h.lock).0;
+      facts = record {
+        range = h.facts.range;
+        based = based_after g s n u p.base p.map.len k h.facts.based;
+        filled = λ j w. (k.lock p.map.file h.lock).2 j (h.facts.filled j w);
+      };
+    }
+stands_after g s n u (Some (call.Map (map.Enter p))) k h =
+    record {
+      slot = tt;
+      lock = (k.lock _ h.lock).0;
+      facts = record {
+        range = h.facts.range;
+        based = based_after g s n u p.base p.map.len k h.facts.based;
+        filled = λ r j w. (k.lock p.map.file h.lock).2 j (h.facts.filled r j w);
+      };
+    }
+stands_after g s n u (Some (call.Map (map.Leave p))) k h =
+    record {
+      slot = tt;
+      lock = (k.lock _ h.lock).0;
+      facts = record {
+        range = h.facts.range;
+        mapped = λ d. (
+          λ r j w. (k.lock p.map.file h.lock).2 j ((h.facts.mapped d).0 r j w),
+          (let a = (h.facts.mapped d).1 in let z = (k.lock p.map.file h.lock).1 in omega arith),
+        );
+      };
+    }
 stands_after g s n u (Some (call.Alloc (alloc.Start p))) k h = record { slot = tt; lock = tt; facts = tt }
-stands_after g s n u (Some (call.Alloc (alloc.Head p))) k h = record { slot = tt; lock = (k.lock _ h.lock).0; facts = record { range = h.facts.range } }
-stands_after g s n u (Some (call.Alloc (alloc.Want p))) k h = record { slot = tt; lock = (k.lock _ h.lock).0; facts = record { range = h.facts.range } }
-stands_after g s n u (Some (call.Alloc (alloc.Locked p))) k h = record { slot = k.slot _ h.slot; lock = (k.lock _ h.lock).0; facts = record { range = h.facts.range } }
-stands_after g s n u (Some (call.Alloc (alloc.Missing p))) k h = record { slot = k.slot _ h.slot; lock = (k.lock _ h.lock).0; facts = record { range = h.facts.range; bare = k.page p.allocation.file p.index h.slot ∙ h.facts.bare } }
-stands_after g s n u (Some (call.Alloc (alloc.Changed p))) k h = record { slot = k.slot _ h.slot; lock = (k.lock _ h.lock).0; facts = record { range = h.facts.range; bare = k.page p.allocation.file p.index h.slot ∙ h.facts.bare; one = h.facts.one; marked = λ d. k.mark p.allocation.file p.index h.slot (inr refl) (h.facts.marked d) } }
-stands_after g s n u (Some (call.Alloc (alloc.Abort p))) k h = record { slot = k.slot _ h.slot; lock = (k.lock _ h.lock).0; facts = record { range = h.facts.range; bare = k.page p.allocation.file p.index h.slot ∙ h.facts.bare } }
-stands_after g s n u (Some (call.Alloc (alloc.Taken p))) k h = record { slot = k.slot _ h.slot; lock = (k.lock _ h.lock).0; facts = record { range = h.facts.range; bare = k.page p.allocation.file p.index h.slot ∙ h.facts.bare; one = h.facts.one; marked = λ d. k.mark p.allocation.file p.index h.slot (inr refl) (h.facts.marked d) } }
-stands_after g s n u (Some (call.Alloc (alloc.Settle p))) k h = record { slot = k.slot _ h.slot; lock = (k.lock _ h.lock).0; facts = record { range = h.facts.range; bare = k.page p.allocation.file p.index h.slot ∙ h.facts.bare; marked = k.mark p.allocation.file p.index h.slot (inr refl) h.facts.marked } }
-stands_after g s n u (Some (call.Alloc (alloc.Committed p))) k h = record { slot = k.slot _ h.slot; lock = (k.lock _ h.lock).0; facts = record { range = h.facts.range; bare = k.page p.allocation.file p.index h.slot ∙ h.facts.bare; marked = k.mark p.allocation.file p.index h.slot (inr refl) h.facts.marked } }
-stands_after g s n u (Some (call.Alloc (alloc.Restore p))) k h = record { slot = k.slot _ h.slot; lock = (k.lock _ h.lock).0; facts = record { range = h.facts.range; bare = k.page p.allocation.file p.index h.slot ∙ h.facts.bare; marked = k.mark p.allocation.file p.index h.slot (inr refl) h.facts.marked } }
-stands_after g s n u (Some (call.Alloc (alloc.Unslot p))) k h = record { slot = k.slot _ h.slot; lock = (k.lock _ h.lock).0; facts = record { range = h.facts.range } }
-stands_after g s n u (Some (call.Alloc (alloc.Extend p))) k h = record { slot = tt; lock = (k.lock _ h.lock).0; facts = record { range = h.facts.range } }
-stands_after g s n u (Some (call.Alloc (alloc.Leave p))) k h = record { slot = tt; lock = (k.lock _ h.lock).0; facts = record { file = h.facts.file } }
+stands_after g s n u (Some (call.Alloc (alloc.Head p))) k h =
+    record { slot = tt; lock = (k.lock _ h.lock).0; facts = record { range = h.facts.range } }
+stands_after g s n u (Some (call.Alloc (alloc.Want p))) k h =
+    record { slot = tt; lock = (k.lock _ h.lock).0; facts = record { range = h.facts.range } }
+stands_after g s n u (Some (call.Alloc (alloc.Locked p))) k h =
+    record { slot = k.slot _ h.slot; lock = (k.lock _ h.lock).0; facts = record { range = h.facts.range } }
+stands_after g s n u (Some (call.Alloc (alloc.Missing p))) k h =
+    record {
+      slot = k.slot _ h.slot;
+      lock = (k.lock _ h.lock).0;
+      facts = record { range = h.facts.range; bare = k.page p.allocation.file p.index h.slot ∙ h.facts.bare };
+    }
+stands_after g s n u (Some (call.Alloc (alloc.Changed p))) k h =
+    record {
+      slot = k.slot _ h.slot;
+      lock = (k.lock _ h.lock).0;
+      facts = record {
+        range = h.facts.range;
+        bare = k.page p.allocation.file p.index h.slot ∙ h.facts.bare;
+        one = h.facts.one;
+        marked = λ d. k.mark p.allocation.file p.index h.slot (inr refl) (h.facts.marked d);
+      };
+    }
+stands_after g s n u (Some (call.Alloc (alloc.Abort p))) k h =
+    record {
+      slot = k.slot _ h.slot;
+      lock = (k.lock _ h.lock).0;
+      facts = record { range = h.facts.range; bare = k.page p.allocation.file p.index h.slot ∙ h.facts.bare };
+    }
+stands_after g s n u (Some (call.Alloc (alloc.Taken p))) k h =
+    record {
+      slot = k.slot _ h.slot;
+      lock = (k.lock _ h.lock).0;
+      facts = record {
+        range = h.facts.range;
+        bare = k.page p.allocation.file p.index h.slot ∙ h.facts.bare;
+        one = h.facts.one;
+        marked = λ d. k.mark p.allocation.file p.index h.slot (inr refl) (h.facts.marked d);
+      };
+    }
+stands_after g s n u (Some (call.Alloc (alloc.Settle p))) k h =
+    record {
+      slot = k.slot _ h.slot;
+      lock = (k.lock _ h.lock).0;
+      facts = record {
+        range = h.facts.range;
+        bare = k.page p.allocation.file p.index h.slot ∙ h.facts.bare;
+        marked = k.mark p.allocation.file p.index h.slot (inr refl) h.facts.marked;
+      };
+    }
+stands_after g s n u (Some (call.Alloc (alloc.Committed p))) k h =
+    record {
+      slot = k.slot _ h.slot;
+      lock = (k.lock _ h.lock).0;
+      facts = record {
+        range = h.facts.range;
+        bare = k.page p.allocation.file p.index h.slot ∙ h.facts.bare;
+        marked = k.mark p.allocation.file p.index h.slot (inr refl) h.facts.marked;
+      };
+    }
+stands_after g s n u (Some (call.Alloc (alloc.Restore p))) k h =
+    record {
+      slot = k.slot _ h.slot;
+      lock = (k.lock _ h.lock).0;
+      facts = record {
+        range = h.facts.range;
+        bare = k.page p.allocation.file p.index h.slot ∙ h.facts.bare;
+        marked = k.mark p.allocation.file p.index h.slot (inr refl) h.facts.marked;
+      };
+    }
+stands_after g s n u (Some (call.Alloc (alloc.Unslot p))) k h =
+    record { slot = k.slot _ h.slot; lock = (k.lock _ h.lock).0; facts = record { range = h.facts.range } }
+stands_after g s n u (Some (call.Alloc (alloc.Extend p))) k h =
+    record { slot = tt; lock = (k.lock _ h.lock).0; facts = record { range = h.facts.range } }
+stands_after g s n u (Some (call.Alloc (alloc.Leave p))) k h =
+    record { slot = tt; lock = (k.lock _ h.lock).0; facts = record { file = h.facts.file } }
 stands_after g s n u (Some (call.Punch (punch.Start p))) k h = record { slot = tt; lock = tt; facts = tt }
-stands_after g s n u (Some (call.Punch (punch.Want p))) k h = record { slot = tt; lock = (k.lock _ h.lock).0; facts = record { range = h.facts.range } }
-stands_after g s n u (Some (call.Punch (punch.Locked p))) k h = record { slot = k.slot _ h.slot; lock = (k.lock _ h.lock).0; facts = record { range = h.facts.range } }
-stands_after g s n u (Some (call.Punch (punch.Unmap p))) k h = record { slot = k.slot _ h.slot; lock = (k.lock _ h.lock).0; facts = record { range = h.facts.range; cached = λ d. h.facts.cached (sym (k.page p.hole.file p.index h.slot) ∙ d); task = h.facts.task; cleared = cleared_after g s n u p.task p.hole.file p.index k h.slot h.facts.cleared } }
-stands_after g s n u (Some (call.Punch (punch.Evict p))) k h = record { slot = k.slot _ h.slot; lock = (k.lock _ h.lock).0; facts = record { range = h.facts.range; cached = λ d. h.facts.cached (sym (k.page p.hole.file p.index h.slot) ∙ d); cleared = cleared_after g s n u (g.tasks + 1) p.hole.file p.index k h.slot h.facts.cleared } }
-stands_after g s n u (Some (call.Punch (punch.Delete p))) k h = record { slot = k.slot _ h.slot; lock = (k.lock _ h.lock).0; facts = record { range = h.facts.range; bare = k.page p.hole.file p.index h.slot ∙ h.facts.bare; marked = k.mark p.hole.file p.index h.slot (inr refl) h.facts.marked } }
-stands_after g s n u (Some (call.Punch (punch.Free p))) k h = record { slot = k.slot _ h.slot; lock = (k.lock _ h.lock).0; facts = record { range = h.facts.range; bare = k.page p.hole.file p.index h.slot ∙ h.facts.bare; marked = λ d. k.mark p.hole.file p.index h.slot (inr refl) (h.facts.marked d) } }
-stands_after g s n u (Some (call.Punch (punch.Unslot p))) k h = record { slot = k.slot _ h.slot; lock = (k.lock _ h.lock).0; facts = record { range = h.facts.range } }
-stands_after g s n u (Some (call.Punch (punch.Leave p))) k h = record { slot = tt; lock = (k.lock _ h.lock).0; facts = record { file = h.facts.file } }
+stands_after g s n u (Some (call.Punch (punch.Want p))) k h =
+    record { slot = tt; lock = (k.lock _ h.lock).0; facts = record { range = h.facts.range } }
+stands_after g s n u (Some (call.Punch (punch.Locked p))) k h =
+    record { slot = k.slot _ h.slot; lock = (k.lock _ h.lock).0; facts = record { range = h.facts.range } }
+stands_after g s n u (Some (call.Punch (punch.Unmap p))) k h =
+    record {
+      slot = k.slot _ h.slot;
+      lock = (k.lock _ h.lock).0;
+      facts = record {
+        range = h.facts.range;
+        cached = λ d. h.facts.cached (sym (k.page p.hole.file p.index h.slot) ∙ d);
+        task = h.facts.task;
+        cleared = cleared_after g s n u p.task p.hole.file p.index k h.slot h.facts.cleared;
+      };
+    }
+stands_after g s n u (Some (call.Punch (punch.Evict p))) k h =
+    record {
+      slot = k.slot _ h.slot;
+      lock = (k.lock _ h.lock).0;
+      facts = record {
+        range = h.facts.range;
+        cached = λ d. h.facts.cached (sym (k.page p.hole.file p.index h.slot) ∙ d);
+        cleared = cleared_after g s n u (g.tasks + 1) p.hole.file p.index k h.slot h.facts.cleared;
+      };
+    }
+stands_after g s n u (Some (call.Punch (punch.Delete p))) k h =
+    record {
+      slot = k.slot _ h.slot;
+      lock = (k.lock _ h.lock).0;
+      facts = record {
+        range = h.facts.range;
+        bare = k.page p.hole.file p.index h.slot ∙ h.facts.bare;
+        marked = k.mark p.hole.file p.index h.slot (inr refl) h.facts.marked;
+      };
+    }
+stands_after g s n u (Some (call.Punch (punch.Free p))) k h =
+    record {
+      slot = k.slot _ h.slot;
+      lock = (k.lock _ h.lock).0;
+      facts = record {
+        range = h.facts.range;
+        bare = k.page p.hole.file p.index h.slot ∙ h.facts.bare;
+        marked = λ d. k.mark p.hole.file p.index h.slot (inr refl) (h.facts.marked d);
+      };
+    }
+stands_after g s n u (Some (call.Punch (punch.Unslot p))) k h =
+    record { slot = k.slot _ h.slot; lock = (k.lock _ h.lock).0; facts = record { range = h.facts.range } }
+stands_after g s n u (Some (call.Punch (punch.Leave p))) k h =
+    record { slot = tt; lock = (k.lock _ h.lock).0; facts = record { file = h.facts.file } }
 stands_after g s n u (Some (call.Truncate (truncate.Start p))) k h = record { slot = tt; lock = tt; facts = tt }
-stands_after g s n u (Some (call.Truncate (truncate.Size p))) k h = record { slot = tt; lock = (k.lock _ h.lock).0; facts = record { file = h.facts.file; new = h.facts.new } }
-stands_after g s n u (Some (call.Truncate (truncate.Want p))) k h = record { slot = tt; lock = (k.lock _ h.lock).0; facts = record { file = h.facts.file; new = h.facts.new; index = h.facts.index; sized = (k.lock p.truncation.file h.lock).1 ∙ h.facts.sized; lost = (let w = tail_more g.limit (p.index + 1) (s.reserved p.truncation.file) (n.reserved p.truncation.file) (k.lock p.truncation.file h.lock).2 in let z = h.facts.lost in omega arith) } }
-stands_after g s n u (Some (call.Truncate (truncate.Locked p))) k h = record { slot = k.slot _ h.slot; lock = (k.lock _ h.lock).0; facts = record { file = h.facts.file; new = h.facts.new; index = h.facts.index; sized = (k.lock p.truncation.file h.lock).1 ∙ h.facts.sized; lost = (let w = tail_more g.limit (p.index + 1) (s.reserved p.truncation.file) (n.reserved p.truncation.file) (k.lock p.truncation.file h.lock).2 in let z = h.facts.lost in omega arith) } }
-stands_after g s n u (Some (call.Truncate (truncate.Unmap p))) k h = record { slot = k.slot _ h.slot; lock = (k.lock _ h.lock).0; facts = record { file = h.facts.file; new = h.facts.new; index = h.facts.index; sized = (k.lock p.truncation.file h.lock).1 ∙ h.facts.sized; lost = (let w = tail_more g.limit (p.index + 1) (s.reserved p.truncation.file) (n.reserved p.truncation.file) (k.lock p.truncation.file h.lock).2 in let z = h.facts.lost in omega arith); cached = λ d. h.facts.cached (sym (k.page p.truncation.file p.index h.slot) ∙ d); task = h.facts.task; cleared = cleared_after g s n u p.task p.truncation.file p.index k h.slot h.facts.cleared } }
-stands_after g s n u (Some (call.Truncate (truncate.Evict p))) k h = record { slot = k.slot _ h.slot; lock = (k.lock _ h.lock).0; facts = record { file = h.facts.file; new = h.facts.new; index = h.facts.index; sized = (k.lock p.truncation.file h.lock).1 ∙ h.facts.sized; lost = (let w = tail_more g.limit (p.index + 1) (s.reserved p.truncation.file) (n.reserved p.truncation.file) (k.lock p.truncation.file h.lock).2 in let z = h.facts.lost in omega arith); cached = λ d. h.facts.cached (sym (k.page p.truncation.file p.index h.slot) ∙ d); cleared = cleared_after g s n u (g.tasks + 1) p.truncation.file p.index k h.slot h.facts.cleared } }
-stands_after g s n u (Some (call.Truncate (truncate.Free p))) k h = record { slot = k.slot _ h.slot; lock = (k.lock _ h.lock).0; facts = record { file = h.facts.file; new = h.facts.new; index = h.facts.index; sized = (k.lock p.truncation.file h.lock).1 ∙ h.facts.sized; lost = (let w = tail_more g.limit p.index (s.reserved p.truncation.file) (n.reserved p.truncation.file) (k.lock p.truncation.file h.lock).2 in let z = h.facts.lost in omega arith); bare = k.page p.truncation.file p.index h.slot ∙ h.facts.bare } }
-stands_after g s n u (Some (call.Truncate (truncate.Unslot p))) k h = record { slot = k.slot _ h.slot; lock = (k.lock _ h.lock).0; facts = record { file = h.facts.file; new = h.facts.new; index = h.facts.index; sized = (k.lock p.truncation.file h.lock).1 ∙ h.facts.sized; lost = (let w = tail_more g.limit p.index (s.reserved p.truncation.file) (n.reserved p.truncation.file) (k.lock p.truncation.file h.lock).2 in let z = h.facts.lost in omega arith); bare = k.page p.truncation.file p.index h.slot ∙ h.facts.bare } }
-stands_after g s n u (Some (call.Truncate (truncate.Tail p))) k h = record { slot = tt; lock = (k.lock _ h.lock).0; facts = record { file = h.facts.file; new = h.facts.new; sized = (k.lock p.truncation.file h.lock).1 ∙ h.facts.sized; lost = (let w = tail_more g.limit p.truncation.new (s.reserved p.truncation.file) (n.reserved p.truncation.file) (k.lock p.truncation.file h.lock).2 in let z = h.facts.lost in omega arith) } }
-stands_after g s n u (Some (call.Truncate (truncate.Settle p))) k h = record { slot = tt; lock = (k.lock _ h.lock).0; facts = record { file = h.facts.file; sized = (k.lock p.truncation.file h.lock).1 ∙ h.facts.sized } }
-stands_after g s n u (Some (call.Truncate (truncate.Leave p))) k h = record { slot = tt; lock = (k.lock _ h.lock).0; facts = record { file = h.facts.file; sized = (k.lock p.truncation.file h.lock).1 ∙ h.facts.sized } }
+stands_after g s n u (Some (call.Truncate (truncate.Size p))) k h =
+    record { slot = tt; lock = (k.lock _ h.lock).0; facts = record { file = h.facts.file; new = h.facts.new } }
+stands_after g s n u (Some (call.Truncate (truncate.Want p))) k h =
+    record {
+      slot = tt;
+      lock = (k.lock _ h.lock).0;
+      facts = record {
+        file = h.facts.file;
+        new = h.facts.new;
+        index = h.facts.index;
+        sized = (k.lock p.truncation.file h.lock).1 ∙ h.facts.sized;
+        lost = (let w = tail_more g.limit (p.index + 1) (s.reserved p.truncation.file) (n.reserved p.truncation.file)
+            (k.lock p.truncation.file h.lock).2 in let z = h.facts.lost in omega arith);
+      };
+    }
+stands_after g s n u (Some (call.Truncate (truncate.Locked p))) k h =
+    record {
+      slot = k.slot _ h.slot;
+      lock = (k.lock _ h.lock).0;
+      facts = record {
+        file = h.facts.file;
+        new = h.facts.new;
+        index = h.facts.index;
+        sized = (k.lock p.truncation.file h.lock).1 ∙ h.facts.sized;
+        lost = (let w = tail_more g.limit (p.index + 1) (s.reserved p.truncation.file) (n.reserved p.truncation.file)
+            (k.lock p.truncation.file h.lock).2 in let z = h.facts.lost in omega arith);
+      };
+    }
+stands_after g s n u (Some (call.Truncate (truncate.Unmap p))) k h =
+    record {
+      slot = k.slot _ h.slot;
+      lock = (k.lock _ h.lock).0;
+      facts = record {
+        file = h.facts.file;
+        new = h.facts.new;
+        index = h.facts.index;
+        sized = (k.lock p.truncation.file h.lock).1 ∙ h.facts.sized;
+        lost = (let w = tail_more g.limit (p.index + 1) (s.reserved p.truncation.file) (n.reserved p.truncation.file)
+            (k.lock p.truncation.file h.lock).2 in let z = h.facts.lost in omega arith);
+        cached = λ d. h.facts.cached (sym (k.page p.truncation.file p.index h.slot) ∙ d);
+        task = h.facts.task;
+        cleared = cleared_after g s n u p.task p.truncation.file p.index k h.slot h.facts.cleared;
+      };
+    }
+stands_after g s n u (Some (call.Truncate (truncate.Evict p))) k h =
+    record {
+      slot = k.slot _ h.slot;
+      lock = (k.lock _ h.lock).0;
+      facts = record {
+        file = h.facts.file;
+        new = h.facts.new;
+        index = h.facts.index;
+        sized = (k.lock p.truncation.file h.lock).1 ∙ h.facts.sized;
+        lost = (let w = tail_more g.limit (p.index + 1) (s.reserved p.truncation.file) (n.reserved p.truncation.file)
+            (k.lock p.truncation.file h.lock).2 in let z = h.facts.lost in omega arith);
+        cached = λ d. h.facts.cached (sym (k.page p.truncation.file p.index h.slot) ∙ d);
+        cleared = cleared_after g s n u (g.tasks + 1) p.truncation.file p.index k h.slot h.facts.cleared;
+      };
+    }
+stands_after g s n u (Some (call.Truncate (truncate.Free p))) k h =
+    record {
+      slot = k.slot _ h.slot;
+      lock = (k.lock _ h.lock).0;
+      facts = record {
+        file = h.facts.file;
+        new = h.facts.new;
+        index = h.facts.index;
+        sized = (k.lock p.truncation.file h.lock).1 ∙ h.facts.sized;
+        lost = (let w = tail_more g.limit p.index (s.reserved p.truncation.file) (n.reserved p.truncation.file)
+            (k.lock p.truncation.file h.lock).2 in let z = h.facts.lost in omega arith);
+        bare = k.page p.truncation.file p.index h.slot ∙ h.facts.bare;
+      };
+    }
+stands_after g s n u (Some (call.Truncate (truncate.Unslot p))) k h =
+    record {
+      slot = k.slot _ h.slot;
+      lock = (k.lock _ h.lock).0;
+      facts = record {
+        file = h.facts.file;
+        new = h.facts.new;
+        index = h.facts.index;
+        sized = (k.lock p.truncation.file h.lock).1 ∙ h.facts.sized;
+        lost = (let w = tail_more g.limit p.index (s.reserved p.truncation.file) (n.reserved p.truncation.file)
+            (k.lock p.truncation.file h.lock).2 in let z = h.facts.lost in omega arith);
+        bare = k.page p.truncation.file p.index h.slot ∙ h.facts.bare;
+      };
+    }
+stands_after g s n u (Some (call.Truncate (truncate.Tail p))) k h =
+    record {
+      slot = tt;
+      lock = (k.lock _ h.lock).0;
+      facts = record {
+        file = h.facts.file;
+        new = h.facts.new;
+        sized = (k.lock p.truncation.file h.lock).1 ∙ h.facts.sized;
+        lost = (let w = tail_more g.limit p.truncation.new (s.reserved p.truncation.file) (n.reserved p.truncation.file)
+            (k.lock p.truncation.file h.lock).2 in let z = h.facts.lost in omega arith);
+      };
+    }
+stands_after g s n u (Some (call.Truncate (truncate.Settle p))) k h =
+    record {
+      slot = tt;
+      lock = (k.lock _ h.lock).0;
+      facts = record { file = h.facts.file; sized = (k.lock p.truncation.file h.lock).1 ∙ h.facts.sized };
+    }
+stands_after g s n u (Some (call.Truncate (truncate.Leave p))) k h =
+    record {
+      slot = tt;
+      lock = (k.lock _ h.lock).0;
+      facts = record { file = h.facts.file; sized = (k.lock p.truncation.file h.lock).1 ∙ h.facts.sized };
+    }
 stands_after g s n u (Some (call.Unmap (unmap.Start p))) k h = record { slot = tt; lock = tt; facts = tt }
-stands_after g s n u (Some (call.Unmap (unmap.Clear p))) k h = record { slot = tt; lock = tt; facts = record { base = ap (λ (m : List Mapping). is_base m p.base) k.areas ∙ h.facts.base } }
-stands_after g s n u (Some (call.Unmap (unmap.Drop p))) k h = record { slot = tt; lock = tt; facts = record { base = ap (λ (m : List Mapping). is_base m p.base) k.areas ∙ h.facts.base; empty = λ v x d. let o = k.table v x d in ap (λ (m : List Mapping). in_mapping m p.base v) k.areas ∙ h.facts.empty v o.0 o.1 } }
+stands_after g s n u (Some (call.Unmap (unmap.Clear p))) k h =
+    record { slot = tt; lock = tt; facts = record { base = ap (λ (m : List Mapping). is_base m p.base) k.areas ∙ h.facts.base } }
+stands_after g s n u (Some (call.Unmap (unmap.Drop p))) k h =
+    record {
+      slot = tt;
+      lock = tt;
+      facts = record {
+        base = ap (λ (m : List Mapping). is_base m p.base) k.areas ∙ h.facts.base;
+        empty = λ v x d. let o = k.table v x d in ap (λ (m : List Mapping). in_mapping m p.base v) k.areas ∙ h.facts.empty v o.0 o.1;
+      };
+    }
 stands_after g s n u (Some (call.Exit exit.Start)) k h = record { slot = tt; lock = tt; facts = tt }
-stands_after g s n u (Some (call.Exit (exit.Clear p))) k h = record { slot = tt; lock = tt; facts = record { base = ap (λ (m : List Mapping). is_base m p.base) k.areas ∙ h.facts.base } }
-stands_after g s n u (Some (call.Exit (exit.Drop p))) k h = record { slot = tt; lock = tt; facts = record { base = ap (λ (m : List Mapping). is_base m p.base) k.areas ∙ h.facts.base; empty = λ v x d. let o = k.table v x d in ap (λ (m : List Mapping). in_mapping m p.base v) k.areas ∙ h.facts.empty v o.0 o.1 } }
+stands_after g s n u (Some (call.Exit (exit.Clear p))) k h =
+    record { slot = tt; lock = tt; facts = record { base = ap (λ (m : List Mapping). is_base m p.base) k.areas ∙ h.facts.base } }
+stands_after g s n u (Some (call.Exit (exit.Drop p))) k h =
+    record {
+      slot = tt;
+      lock = tt;
+      facts = record {
+        base = ap (λ (m : List Mapping). is_base m p.base) k.areas ∙ h.facts.base;
+        empty = λ v x d. let o = k.table v x d in ap (λ (m : List Mapping). in_mapping m p.base v) k.areas ∙ h.facts.empty v o.0 o.1;
+      };
+    }
 stands_after g s n u (Some (call.Exit exit.Leave)) k h = record { slot = tt; lock = tt; facts = tt }

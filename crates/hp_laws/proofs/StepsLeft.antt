@@ -51,13 +51,15 @@ steps_left g m top (Some (call.Alloc (alloc.Settle p))) = times (p.allocation.fr
 steps_left g m top (Some (call.Alloc (alloc.Committed p))) = times (p.allocation.from + p.allocation.len - (p.index + 1)) 9 + 4
 steps_left g m top (Some (call.Alloc (alloc.Abort p))) = 3
 steps_left g m top (Some (call.Alloc (alloc.Restore p))) = 3
-steps_left g m top (Some (call.Alloc (alloc.Unslot p))) = unslot_left p.answer (times (p.allocation.from + p.allocation.len - (p.index + 1)) 9 + 3)
+steps_left g m top (Some (call.Alloc (alloc.Unslot p))) =
+    unslot_left p.answer (times (p.allocation.from + p.allocation.len - (p.index + 1)) 9 + 3)
 steps_left g m top (Some (call.Alloc (alloc.Extend p))) = 2
 steps_left g m top (Some (call.Alloc (alloc.Leave p))) = 1
 steps_left g m top (Some (call.Punch (punch.Start p))) = times p.hole.len (6 + g.tasks) + 2
 steps_left g m top (Some (call.Punch (punch.Want p))) = times (p.hole.from + p.hole.len - (p.index + 1)) (6 + g.tasks) + 7 + g.tasks
 steps_left g m top (Some (call.Punch (punch.Locked p))) = times (p.hole.from + p.hole.len - (p.index + 1)) (6 + g.tasks) + 6 + g.tasks
-steps_left g m top (Some (call.Punch (punch.Unmap p))) = times (p.hole.from + p.hole.len - (p.index + 1)) (6 + g.tasks) + 6 + (g.tasks - p.task)
+steps_left g m top (Some (call.Punch (punch.Unmap p))) =
+    times (p.hole.from + p.hole.len - (p.index + 1)) (6 + g.tasks) + 6 + (g.tasks - p.task)
 steps_left g m top (Some (call.Punch (punch.Evict p))) = times (p.hole.from + p.hole.len - (p.index + 1)) (6 + g.tasks) + 5
 steps_left g m top (Some (call.Punch (punch.Delete p))) = times (p.hole.from + p.hole.len - (p.index + 1)) (6 + g.tasks) + 4
 steps_left g m top (Some (call.Punch (punch.Free p))) = times (p.hole.from + p.hole.len - (p.index + 1)) (6 + g.tasks) + 3

@@ -3,7 +3,8 @@ use Rattle.std.proofs.Common.{◌≡◌, ◌≢◌, ℕ, ◌+◌, ◌-◌, ◌<�
 use Rattle.std.specs.Prelude.{Bool, true, false, max, Option, Some, None, IfSome, ◌==◌, ◌&&◌, List, [], ◌∷◌, if◌then◌else◌, nat_lt}
 use Rattle.std.proofs.lemmas.Bool.Decides.{nat_tests}
 use Rattle.hp_base.specs.Numbers.{put, put2}
-use Rattle.hp_base.specs.Mappings.{covers, find, fits, is_clear, entered, in_mapping, without, IsSpread, is_there, without_index, without_mapping}
+use Rattle.hp_base.specs.Mappings.{covers, find, fits, is_clear, entered, in_mapping, without, IsSpread, is_there, without_index}
+use Rattle.hp_base.specs.Mappings.{without_mapping}
 use Rattle.hp_base.specs.declared.mapping.Mapping.{Mapping}
 use Rattle.hp_base.proofs.Puts.{put_same, put_other, same_or_other, put_tells, put2_tells}
 use Rattle.hp_base.proofs.Spaces.{fits_clear, entered_find, entered_spread, without_find, without_spread}
@@ -62,53 +63,55 @@ pub enters_table : (g : Geometry) (s : State) (t : ℕ) (b c : Option Call) (v f
     → IfSome (fills c) (λ k. Reached s.size (λ u. ahead (s.calls u)) k.0 k.1)
     → Stands g (record s { pool = record s.pool { table = put2 s.table t v (Some x) } }) t c
     → Inv g (to (record s { pool = record s.pool { table = put2 s.table t v (Some x) } }) t c)
-enters_table g s t b c v f i x h one l e same there page low held fill own = goes g s n t b c h l e (ap (λ p. p.4) same) (ap (λ p. p.5) same) (record {
-  geometry = h.geometry;
-  ranges = h.ranges;
-  spread = h.spread;
-  inside = h.inside;
-  reach = h.reach;
-  fill = fill;
-  sizes = h.sizes;
-  spares = h.spares;
-  holders = h.holders;
-  enough = h.enough;
-  count = (let y : less c ≡ less b = ap (λ p. p.0) same in let z : more c ≡ more b = ap (λ p. p.1) same in omega arith);
-  place = place_same g s t b c h e (ap (λ p. p.2) same);
-  entries = record {
-    agree = λ w z y a. elim (put2_tells s.table t v (Some x) w z) [
-      | inl q ↦ ((f, i), ap (λ (m : ℕ). find (s.areas m) z) q.0 ∙ (ap (find (s.areas t)) q.1 ∙ there), page ∙ (sym q.2 ∙ a))
-      | inr q ↦ h.entries.agree w z y (sym q.1 ∙ a)
-    ];
-    owners = λ w z y a. elim (put2_tells s.table t v (Some x) w z) [
-      | inl q ↦ (let d : w ≡ t = q.0 in (omega arith, omega arith))
-      | inr q ↦ h.entries.owners w z y (sym q.1 ∙ a)
-    ];
-  };
-  sweep = record {
-    past = h.sweep.past;
-    gone = h.sweep.gone;
-    below = λ w z y k j a d. elim (put2_tells s.table t v (Some x) w z) [
-      | inl q ↦ inl (low_there k j (sym d ∙ (ap (λ (m : ℕ). find (s.areas m) z) q.0 ∙ (ap (find (s.areas t)) q.1 ∙ there))))
-      | inr q ↦ h.sweep.below w z y k j (sym q.1 ∙ a) d
-    ];
-  };
-  changes = same_opens s.pending b c (ap (λ p. p.3) same);
-  others = λ u d. stands_after g s n u (s.calls u) (record {
-    slot = λ k a. a;
-    page = λ k j a. refl;
-    mark = λ k j a w r. r;
-    entries = λ k j a w z m p q. elim (put2_tells s.table t v (Some x) w z) [
-      | inl o ↦ absurd (d (slot_there u (k, j) (sym q ∙ (ap (λ (r : ℕ). find (s.areas r) z) o.0 ∙ (ap (find (s.areas t)) o.1 ∙ there))) a))
-      | inr o ↦ (m, sym o.1 ∙ p, q)
-    ];
-    lock = λ k a. (a, refl, λ j r. r);
-    areas = refl;
-    prepared = refl;
-    table = λ w m a. (m, sym (ap (λ (r : ℕ → Option ℕ). r w) (put_other s.table t (put (s.table t) v (Some x)) u d)) ∙ a);
-  }) (h.stands u);
-  own = own;
-})
+enters_table g s t b c v f i x h one l e same there page low held fill own =
+    goes g s n t b c h l e (ap (λ p. p.4) same) (ap (λ p. p.5) same) (record {
+      geometry = h.geometry;
+      ranges = h.ranges;
+      spread = h.spread;
+      inside = h.inside;
+      reach = h.reach;
+      fill = fill;
+      sizes = h.sizes;
+      spares = h.spares;
+      holders = h.holders;
+      enough = h.enough;
+      count = (let y : less c ≡ less b = ap (λ p. p.0) same in let z : more c ≡ more b = ap (λ p. p.1) same in omega arith);
+      place = place_same g s t b c h e (ap (λ p. p.2) same);
+      entries = record {
+        agree = λ w z y a. elim (put2_tells s.table t v (Some x) w z) [
+          | inl q ↦ ((f, i), ap (λ (m : ℕ). find (s.areas m) z) q.0 ∙ (ap (find (s.areas t)) q.1 ∙ there), page ∙ (sym q.2 ∙ a))
+          | inr q ↦ h.entries.agree w z y (sym q.1 ∙ a)
+        ];
+        owners = λ w z y a. elim (put2_tells s.table t v (Some x) w z) [
+          | inl q ↦ (let d : w ≡ t = q.0 in (omega arith, omega arith))
+          | inr q ↦ h.entries.owners w z y (sym q.1 ∙ a)
+        ];
+      };
+      sweep = record {
+        past = h.sweep.past;
+        gone = h.sweep.gone;
+        below = λ w z y k j a d. elim (put2_tells s.table t v (Some x) w z) [
+          | inl q ↦ inl (low_there k j (sym d ∙ (ap (λ (m : ℕ). find (s.areas m) z) q.0 ∙ (ap (find (s.areas t)) q.1 ∙ there))))
+          | inr q ↦ h.sweep.below w z y k j (sym q.1 ∙ a) d
+        ];
+      };
+      changes = same_opens s.pending b c (ap (λ p. p.3) same);
+      others = λ u d. stands_after g s n u (s.calls u) (record {
+        slot = λ k a. a;
+        page = λ k j a. refl;
+        mark = λ k j a w r. r;
+        entries = λ k j a w z m p q. elim (put2_tells s.table t v (Some x) w z) [
+          | inl o ↦ absurd (d (slot_there u (k, j)
+              (sym q ∙ (ap (λ (r : ℕ). find (s.areas r) z) o.0 ∙ (ap (find (s.areas t)) o.1 ∙ there))) a))
+          | inr o ↦ (m, sym o.1 ∙ p, q)
+        ];
+        lock = λ k a. (a, refl, λ j r. r);
+        areas = refl;
+        prepared = refl;
+        table = λ w m a. (m, sym (ap (λ (r : ℕ → Option ℕ). r w) (put_other s.table t (put (s.table t) v (Some x)) u d)) ∙ a);
+      }) (h.stands u);
+      own = own;
+    })
   where
     n : State
     n = record s { pool = record s.pool { table = put2 s.table t v (Some x) } }
@@ -124,25 +127,38 @@ pub prepares : (g : Geometry) (s : State) (t : ℕ) (b c : Option Call) → Inv 
     → IfSome (fills c) (λ k. Reached s.size (λ u. ahead (s.calls u)) k.0 k.1)
     → Stands g (record s { pool = record s.pool { prepared = put s.prepared t true } }) t c
     → Inv g (to (record s { pool = record s.pool { prepared = put s.prepared t true } }) t c)
-prepares g s t b c h l e same fill own = goes g s (record s { pool = record s.pool { prepared = put s.prepared t true } }) t b c h l e (ap (λ p. p.4) same) (ap (λ p. p.5) same) (record {
-  geometry = h.geometry;
-  entries = h.entries;
-  ranges = h.ranges;
-  spread = h.spread;
-  inside = h.inside;
-  sweep = h.sweep;
-  reach = h.reach;
-  fill = fill;
-  sizes = h.sizes;
-  spares = h.spares;
-  holders = h.holders;
-  enough = h.enough;
-  count = (let y : less c ≡ less b = ap (λ p. p.0) same in let z : more c ≡ more b = ap (λ p. p.1) same in omega arith);
-  place = place_same g s t b c h e (ap (λ p. p.2) same);
-  changes = same_opens s.pending b c (ap (λ p. p.3) same);
-  others = λ u d. stands_after g s (record s { pool = record s.pool { prepared = put s.prepared t true } }) u (s.calls u) (record { slot = λ k a. a; page = λ k j a. refl; mark = λ k j a w r. r; entries = λ k j a w v y p q. (y, p, q); lock = λ k a. (a, refl, λ j r. r); areas = refl; prepared = put_other s.prepared t true u d; table = λ v y p. (y, p) }) (h.stands u);
-  own = own;
-})
+prepares g s t b c h l e same fill own =
+    goes g s (record s { pool = record s.pool { prepared = put s.prepared t true } }) t b c h l e (ap (λ p. p.4) same)
+    (ap (λ p. p.5) same) (record {
+      geometry = h.geometry;
+      entries = h.entries;
+      ranges = h.ranges;
+      spread = h.spread;
+      inside = h.inside;
+      sweep = h.sweep;
+      reach = h.reach;
+      fill = fill;
+      sizes = h.sizes;
+      spares = h.spares;
+      holders = h.holders;
+      enough = h.enough;
+      count = (let y : less c ≡ less b = ap (λ p. p.0) same in let z : more c ≡ more b = ap (λ p. p.1) same in omega arith);
+      place = place_same g s t b c h e (ap (λ p. p.2) same);
+      changes = same_opens s.pending b c (ap (λ p. p.3) same);
+      others =
+          λ u d. stands_after g s (record s { pool = record s.pool { prepared = put s.prepared t true } }) u (s.calls u)
+          (record {
+            slot = λ k a. a;
+            page = λ k j a. refl;
+            mark = λ k j a w r. r;
+            entries = λ k j a w v y p q. (y, p, q);
+            lock = λ k a. (a, refl, λ j r. r);
+            areas = refl;
+            prepared = put_other s.prepared t true u d;
+            table = λ v y p. (y, p);
+          }) (h.stands u);
+      own = own;
+    })
 
 -- a file that nobody cuts grows, or stays
 pub grown_size : (size : ℕ → ℕ) (f new k : ℕ) → size f ≤ new → size k ≤ put size f new k
@@ -167,35 +183,53 @@ pub extends : (g : Geometry) (s : State) (t : ℕ) (b c : Option Call) (f new : 
     → IfSome (fills c) (λ k. Reached s.size (λ u. ahead (s.calls u)) k.0 k.1)
     → Stands g (record s { pool = record s.pool { size = put s.size f new } }) t c
     → Inv g (to (record s { pool = record s.pool { size = put s.size f new } }) t c)
-extends g s t b c f new h l e same held grows low nobody fill own = goes g s n t b c h l e (ap (λ p. p.4) same) (ap (λ p. p.5) same) (record {
-  geometry = h.geometry;
-  entries = h.entries;
-  ranges = h.ranges;
-  spread = h.spread;
-  inside = h.inside;
-  spares = h.spares;
-  holders = h.holders;
-  enough = h.enough;
-  count = (let y : less c ≡ less b = ap (λ p. p.0) same in let z : more c ≡ more b = ap (λ p. p.1) same in omega arith);
-  place = place_same g s t b c h e (ap (λ p. p.2) same);
-  sweep = record {
-    below = λ w v x k i d y. reached_more s.size n.size (λ u. ahead (s.calls u)) k i (grown_size s.size f new k grows) (h.sweep.below w v x k i d y);
-    past = λ u k j d. let o = h.sweep.past u k j d in (
-      o.0,
-      elim (put_tells s.size f new k) [
-        | inl q ↦ absurd (nobody u j (ap (λ (m : ℕ). passed (s.calls u) m j) (sym q.0) ∙ d))
-        | inr q ↦ (let z : s.size k ≤ j = o.1 in let y : n.size k ≡ s.size k = q.1 in omega arith)
-      ],
-    );
-    gone = h.sweep.gone;
-  };
-  reach = λ w. if_weaker (fills (s.calls w)) (λ k d r. reached_more s.size n.size (λ u. ahead (s.calls u)) k.0 k.1 (grown_size s.size f new k.0 grows) r) (h.reach w);
-  fill = if_weaker (fills c) (λ k d r. reached_more s.size n.size (λ u. ahead (s.calls u)) k.0 k.1 (grown_size s.size f new k.0 grows) r) fill;
-  sizes = λ k. low_size s.size f new g.limit k low (h.sizes k);
-  changes = same_opens s.pending b c (ap (λ p. p.3) same);
-  others = λ u d. stands_after g s n u (s.calls u) (record { slot = λ k a. a; page = λ k j a. refl; mark = λ k j a w r. r; entries = λ k j a w v y p q. (y, p, q); lock = λ k a. (a, other_size s t u f k new d held a, λ j r. r); areas = refl; prepared = refl; table = λ v y p. (y, p) }) (h.stands u);
-  own = own;
-})
+extends g s t b c f new h l e same held grows low nobody fill own =
+    goes g s n t b c h l e (ap (λ p. p.4) same) (ap (λ p. p.5) same) (record {
+      geometry = h.geometry;
+      entries = h.entries;
+      ranges = h.ranges;
+      spread = h.spread;
+      inside = h.inside;
+      spares = h.spares;
+      holders = h.holders;
+      enough = h.enough;
+      count = (let y : less c ≡ less b = ap (λ p. p.0) same in let z : more c ≡ more b = ap (λ p. p.1) same in omega arith);
+      place = place_same g s t b c h e (ap (λ p. p.2) same);
+      sweep = record {
+        below =
+            λ w v x k i d y. reached_more s.size n.size (λ u. ahead (s.calls u)) k i (grown_size s.size f new k grows)
+            (h.sweep.below w v x k i d y);
+        past = λ u k j d. let o = h.sweep.past u k j d in (
+          o.0,
+          elim (put_tells s.size f new k) [
+            | inl q ↦ absurd (nobody u j (ap (λ (m : ℕ). passed (s.calls u) m j) (sym q.0) ∙ d))
+            | inr q ↦ (let z : s.size k ≤ j = o.1 in let y : n.size k ≡ s.size k = q.1 in omega arith)
+          ],
+        );
+        gone = h.sweep.gone;
+      };
+      reach =
+          λ w. if_weaker (fills (s.calls w))
+          (λ k d r. reached_more s.size n.size (λ u. ahead (s.calls u)) k.0 k.1 (grown_size s.size f new k.0 grows) r) (h.reach w);
+      fill =
+          if_weaker (fills c) (λ k d r. reached_more s.size n.size (λ u. ahead (s.calls u)) k.0 k.1
+          (grown_size s.size f new k.0 grows) r) fill;
+      sizes = λ k. low_size s.size f new g.limit k low (h.sizes k);
+      changes = same_opens s.pending b c (ap (λ p. p.3) same);
+      others =
+          λ u d. stands_after g s n u (s.calls u)
+          (record {
+            slot = λ k a. a;
+            page = λ k j a. refl;
+            mark = λ k j a w r. r;
+            entries = λ k j a w v y p q. (y, p, q);
+            lock = λ k a. (a, other_size s t u f k new d held a, λ j r. r);
+            areas = refl;
+            prepared = refl;
+            table = λ v y p. (y, p);
+          }) (h.stands u);
+      own = own;
+    })
   where
     n : State
     n = record s { pool = record s.pool { size = put s.size f new } }
@@ -217,51 +251,59 @@ pub enters_area : (g : Geometry) (s : State) (t : ℕ) (b c : Option Call) (a : 
     → ((u j : ℕ) → passed (s.calls u) a.file j ≡ true → ⊥)
     → IfSome (fills c) (λ k. Reached s.size (λ u. ahead (s.calls u)) k.0 k.1)
     → Stands g (entering s t a) t c → Inv g (to (entering s t a) t c)
-enters_area g s t b c a h l e same in_files some in_limit clear held nobody fill own = goes g s n t b c h l e (ap (λ p. p.4) same) (ap (λ p. p.5) same) (record {
-  geometry = h.geometry;
-  inside = h.inside;
-  spares = h.spares;
-  holders = h.holders;
-  enough = h.enough;
-  count = (let y : less c ≡ less b = ap (λ p. p.0) same in let z : more c ≡ more b = ap (λ p. p.1) same in omega arith);
-  place = place_same g s t b c h e (ap (λ p. p.2) same);
-  entries = record { owners = h.entries.owners; agree = λ w v x d. let o = h.entries.agree w v x d in (o.0, kept w v o.0 o.1, o.2) };
-  ranges = λ w. elim (same_or_other w t) [
-    | inl q ↦ subst (AllWithin g) (sym (ap n.areas q ∙ put_same s.areas t (entered (s.areas t) a))) (within_entered g (s.areas t) a in_files in_limit (h.ranges t))
-    | inr q ↦ subst (AllWithin g) (sym (put_other s.areas t (entered (s.areas t) a) w q)) (h.ranges w)
-  ];
-  spread = λ w. elim (same_or_other w t) [
-    | inl q ↦ subst (IsSpread g.space 0) (sym (ap n.areas q ∙ put_same s.areas t (entered (s.areas t) a))) (entered_spread g.space 0 (s.areas t) a (h.spread t) apart.1 (omega arith) some apart.0)
-    | inr q ↦ subst (IsSpread g.space 0) (sym (put_other s.areas t (entered (s.areas t) a) w q)) (h.spread w)
-  ];
-  sweep = record {
-    below = λ w v x f i d y. let o = h.entries.agree w v x d in
-        reached_more s.size n.size (λ u. ahead (s.calls u)) f i (larger f) (h.sweep.below w v x f i d (o.1 ∙ (sym (kept w v o.0 o.1) ∙ y)));
-    past = λ u f j d. let o = h.sweep.past u f j d in (
-      o.0,
-      elim (put_tells s.size a.file (max (s.size a.file) (a.from + a.len)) f) [
-        | inl q ↦ absurd (nobody u j (ap (λ (m : ℕ). passed (s.calls u) m j) (sym q.0) ∙ d))
-        | inr q ↦ (let z : s.size f ≤ j = o.1 in let y : n.size f ≡ s.size f = q.1 in omega arith)
-      ],
-    );
-    gone = h.sweep.gone;
-  };
-  reach = λ w. if_weaker (fills (s.calls w)) (λ k d r. reached_more s.size n.size (λ u. ahead (s.calls u)) k.0 k.1 (larger k.0) r) (h.reach w);
-  fill = if_weaker (fills c) (λ k d r. reached_more s.size n.size (λ u. ahead (s.calls u)) k.0 k.1 (larger k.0) r) fill;
-  sizes = λ k. low_size s.size a.file (max (s.size a.file) (a.from + a.len)) g.limit k (let z = h.sizes a.file in omega arith) (h.sizes k);
-  changes = same_opens s.pending b c (ap (λ p. p.3) same);
-  others = λ u d. stands_after g s n u (s.calls u) (record {
-    slot = λ k x. x;
-    page = λ k j x. refl;
-    mark = λ k j x w r. r;
-    entries = λ k j x w v z p q. let o = h.entries.agree w v z p in (z, p, o.1 ∙ (sym (kept w v o.0 o.1) ∙ q));
-    lock = λ f y. (y, other_size s t u a.file f (max (s.size a.file) (a.from + a.len)) d held y, λ j r. r);
-    areas = put_other s.areas t (entered (s.areas t) a) u d;
-    prepared = put_other s.prepared t false u d;
-    table = λ v y p. (y, p);
-  }) (h.stands u);
-  own = own;
-})
+enters_area g s t b c a h l e same in_files some in_limit clear held nobody fill own =
+    goes g s n t b c h l e (ap (λ p. p.4) same) (ap (λ p. p.5) same) (record {
+      geometry = h.geometry;
+      inside = h.inside;
+      spares = h.spares;
+      holders = h.holders;
+      enough = h.enough;
+      count = (let y : less c ≡ less b = ap (λ p. p.0) same in let z : more c ≡ more b = ap (λ p. p.1) same in omega arith);
+      place = place_same g s t b c h e (ap (λ p. p.2) same);
+      entries = record { owners = h.entries.owners; agree = λ w v x d. let o = h.entries.agree w v x d in (o.0, kept w v o.0 o.1, o.2) };
+      ranges = λ w. elim (same_or_other w t) [
+        | inl q ↦ subst (AllWithin g) (sym (ap n.areas q ∙ put_same s.areas t (entered (s.areas t) a)))
+            (within_entered g (s.areas t) a in_files in_limit (h.ranges t))
+        | inr q ↦ subst (AllWithin g) (sym (put_other s.areas t (entered (s.areas t) a) w q)) (h.ranges w)
+      ];
+      spread = λ w. elim (same_or_other w t) [
+        | inl q ↦ subst (IsSpread g.space 0) (sym (ap n.areas q ∙ put_same s.areas t (entered (s.areas t) a)))
+            (entered_spread g.space 0 (s.areas t) a (h.spread t) apart.1 (omega arith) some apart.0)
+        | inr q ↦ subst (IsSpread g.space 0) (sym (put_other s.areas t (entered (s.areas t) a) w q)) (h.spread w)
+      ];
+      sweep = record {
+        below = λ w v x f i d y. let o = h.entries.agree w v x d in
+            reached_more s.size n.size (λ u. ahead (s.calls u)) f i (larger f)
+            (h.sweep.below w v x f i d (o.1 ∙ (sym (kept w v o.0 o.1) ∙ y)));
+        past = λ u f j d. let o = h.sweep.past u f j d in (
+          o.0,
+          elim (put_tells s.size a.file (max (s.size a.file) (a.from + a.len)) f) [
+            | inl q ↦ absurd (nobody u j (ap (λ (m : ℕ). passed (s.calls u) m j) (sym q.0) ∙ d))
+            | inr q ↦ (let z : s.size f ≤ j = o.1 in let y : n.size f ≡ s.size f = q.1 in omega arith)
+          ],
+        );
+        gone = h.sweep.gone;
+      };
+      reach =
+          λ w. if_weaker (fills (s.calls w))
+          (λ k d r. reached_more s.size n.size (λ u. ahead (s.calls u)) k.0 k.1 (larger k.0) r) (h.reach w);
+      fill = if_weaker (fills c) (λ k d r. reached_more s.size n.size (λ u. ahead (s.calls u)) k.0 k.1 (larger k.0) r) fill;
+      sizes =
+          λ k. low_size s.size a.file (max (s.size a.file) (a.from + a.len)) g.limit k
+          (let z = h.sizes a.file in omega arith) (h.sizes k);
+      changes = same_opens s.pending b c (ap (λ p. p.3) same);
+      others = λ u d. stands_after g s n u (s.calls u) (record {
+        slot = λ k x. x;
+        page = λ k j x. refl;
+        mark = λ k j x w r. r;
+        entries = λ k j x w v z p q. let o = h.entries.agree w v z p in (z, p, o.1 ∙ (sym (kept w v o.0 o.1) ∙ q));
+        lock = λ f y. (y, other_size s t u a.file f (max (s.size a.file) (a.from + a.len)) d held y, λ j r. r);
+        areas = put_other s.areas t (entered (s.areas t) a) u d;
+        prepared = put_other s.prepared t false u d;
+        table = λ v y p. (y, p);
+      }) (h.stands u);
+      own = own;
+    })
   where
     n : State
     n = entering s t a
@@ -271,7 +313,9 @@ enters_area g s t b c a h l e same in_files some in_limit clear held nobody fill
 
     kept : (w v : ℕ) (k : ℕ × ℕ) → find (s.areas w) v ≡ Some k → find (put s.areas t (entered (s.areas t) a) w) v ≡ Some k
     kept w v k d = elim (same_or_other w t) [
-      | inl q ↦ ap (λ (m : List Mapping). find m v) (ap (put s.areas t (entered (s.areas t) a)) q ∙ put_same s.areas t (entered (s.areas t) a)) ∙ entered_find (s.areas t) a v k apart.1 (ap (λ (m : ℕ). find (s.areas m) v) (sym q) ∙ d)
+      | inl q ↦ ap (λ (m : List Mapping). find m v)
+          (ap (put s.areas t (entered (s.areas t) a)) q ∙ put_same s.areas t (entered (s.areas t) a))
+          ∙ entered_find (s.areas t) a v k apart.1 (ap (λ (m : ℕ). find (s.areas m) v) (sym q) ∙ d)
       | inr q ↦ ap (λ (m : List Mapping). find m v) (put_other s.areas t (entered (s.areas t) a) w q) ∙ d
     ]
 
@@ -296,7 +340,18 @@ entries_go g s table h kept = record {
   holders = h.holders;
   entries = record { agree = λ w v x e. h.entries.agree w v x (kept w v x e); owners = λ w v x e. h.entries.owners w v x (kept w v x e) };
   sweep = record { below = λ w v x j m e. h.sweep.below w v x j m (kept w v x e); past = h.sweep.past; gone = h.sweep.gone };
-  stands = λ u. stands_after g s (record s { pool = record s.pool { table = table } }) u (s.calls u) (record { slot = λ k a. a; page = λ k j a. refl; mark = λ k j a w r. r; entries = λ k j a w v x p q. (x, kept w v x p, q); lock = λ k a. (a, refl, λ j r. r); areas = refl; prepared = refl; table = λ v x p. (x, kept u v x p) }) (h.stands u);
+  stands =
+      λ u. stands_after g s (record s { pool = record s.pool { table = table } }) u (s.calls u)
+      (record {
+        slot = λ k a. a;
+        page = λ k j a. refl;
+        mark = λ k j a w r. r;
+        entries = λ k j a w v x p q. (x, kept w v x p, q);
+        lock = λ k a. (a, refl, λ j r. r);
+        areas = refl;
+        prepared = refl;
+        table = λ v x p. (x, kept u v x p);
+      }) (h.stands u);
 }
 
 cond_kept : (b : Bool) (o : Option ℕ) (x : ℕ) → (if b then None else o) ≡ Some x → (b ≡ false) × (o ≡ Some x)
@@ -308,7 +363,9 @@ filtered : (table : ℕ → ℕ → Option ℕ) (k : ℕ) (out : ℕ → Bool) (
     → ((z : ℕ) → row z ≡ (if out z then None else table k z)) → put table k row w v ≡ Some x
     → (table w v ≡ Some x) × (w ≡ k → out v ≡ false)
 filtered table k out row w v x each e = elim (same_or_other w k) [
-  | inl d ↦ (let o = cond_kept (out v) (table k v) x (sym (each v) ∙ (sym (ap (λ (m : ℕ → Option ℕ). m v) (ap (put table k row) d ∙ put_same table k row)) ∙ e)) in (ap (λ (m : ℕ). table m v) d ∙ o.1, λ _. o.0))
+  | inl d ↦ (let o = cond_kept (out v) (table k v) x
+      (sym (each v) ∙ (sym (ap (λ (m : ℕ → Option ℕ). m v) (ap (put table k row) d ∙ put_same table k row)) ∙ e)) in
+      (ap (λ (m : ℕ). table m v) d ∙ o.1, λ _. o.0))
   | inr d ↦ (sym (ap (λ (m : ℕ → Option ℕ). m v) (put_other table k row w d)) ∙ e, λ q. absurd (d q))
 ]
 
@@ -324,7 +381,9 @@ mapping_each ms row base z = refl
 
 pub clear_kept : (s : State) (k f i w v x : ℕ) → put s.table k (without_index (s.areas k) (s.table k) f i) w v ≡ Some x
     → (s.table w v ≡ Some x) × (w ≡ k → is_there (find (s.areas k) v) f i ≡ false)
-clear_kept s k f i w v x e = filtered s.table k (λ z. is_there (find (s.areas k) z) f i) (without_index (s.areas k) (s.table k) f i) w v x (index_each (s.areas k) (s.table k) f i) e
+clear_kept s k f i w v x e =
+    filtered s.table k (λ z. is_there (find (s.areas k) z) f i) (without_index (s.areas k) (s.table k) f i) w v x
+    (index_each (s.areas k) (s.table k) f i) e
 
 there_same : (f i : ℕ) (o : Option (ℕ × ℕ)) → o ≡ Some (f, i) → is_there o f i ≡ true
 there_same f i o e = ap (λ (q : Option (ℕ × ℕ)). is_there q f i) e ∙ both f i
@@ -335,24 +394,30 @@ there_same f i o e = ap (λ (q : Option (ℕ × ℕ)). is_there q f i) e ∙ bot
 -- one task's entries of an index are cleared
 pub clears : (g : Geometry) (s : State) (k f i : ℕ) → Inv g s
     → Inv g (record s { pool = record s.pool { table = put s.table k (without_index (s.areas k) (s.table k) f i) } })
-clears g s k f i h = entries_go g s (put s.table k (without_index (s.areas k) (s.table k) f i)) h (λ w v x e. (clear_kept s k f i w v x e).0)
+clears g s k f i h =
+    entries_go g s (put s.table k (without_index (s.areas k) (s.table k) f i)) h (λ w v x e. (clear_kept s k f i w v x e).0)
 
 -- after task k's entries are cleared, those of all tasks up to k are
 pub cleared_next : (s : State) (k f i : ℕ) → ClearedBelow s k f i
     → ClearedBelow (record s { pool = record s.pool { table = put s.table k (without_index (s.areas k) (s.table k) f i) } }) (k + 1) f i
 cleared_next s k f i h w v x z l p q = elim (same_or_other w k) [
-  | inl d ↦ (let a : is_there (find (s.areas k) v) f i ≡ false = (clear_kept s k f i w v x p).1 d in let b : is_there (find (s.areas k) v) f i ≡ true = there_same f i _ (ap (λ (m : ℕ). find (s.areas m) v) (sym d) ∙ q) in absurd (cc))
+  | inl d ↦ (let a : is_there (find (s.areas k) v) f i ≡ false = (clear_kept s k f i w v x p).1 d in
+      let b : is_there (find (s.areas k) v) f i ≡ true = there_same f i _ (ap (λ (m : ℕ). find (s.areas m) v) (sym d) ∙ q) in
+      absurd (cc))
   | inr d ↦ h w v x z (omega arith) (clear_kept s k f i w v x p).0 q
 ]
 
 -- a mapping's entries are cleared
 pub emptied : (s : State) (t base w v x : ℕ) → put s.table t (without_mapping (s.areas t) (s.table t) base) w v ≡ Some x
     → (s.table w v ≡ Some x) × (w ≡ t → in_mapping (s.areas t) base v ≡ false)
-emptied s t base w v x e = filtered s.table t (λ z. in_mapping (s.areas t) base z) (without_mapping (s.areas t) (s.table t) base) w v x (mapping_each (s.areas t) (s.table t) base) e
+emptied s t base w v x e =
+    filtered s.table t (λ z. in_mapping (s.areas t) base z) (without_mapping (s.areas t) (s.table t) base) w v x
+    (mapping_each (s.areas t) (s.table t) base) e
 
 pub empties : (g : Geometry) (s : State) (t base : ℕ) → Inv g s
     → Inv g (record s { pool = record s.pool { table = put s.table t (without_mapping (s.areas t) (s.table t) base) } })
-empties g s t base h = entries_go g s (put s.table t (without_mapping (s.areas t) (s.table t) base)) h (λ w v x e. (emptied s t base w v x e).0)
+empties g s t base h =
+    entries_go g s (put s.table t (without_mapping (s.areas t) (s.table t) base)) h (λ w v x e. (emptied s t base w v x e).0)
 
 -- a mapping without entries goes
 pub drops : (g : Geometry) (s : State) (t : ℕ) (b c : Option Call) (base : ℕ) → Inv g s → t < g.tasks + 1 → s.calls t ≡ b → seen c ≡ seen b
@@ -373,14 +438,21 @@ drops g s t b c base h l e same clear fill own = goes g s n t b c h l e (ap (λ 
   place = place_same g s t b c h e (ap (λ p. p.2) same);
   entries = record { owners = h.entries.owners; agree = λ w v x d. let o = h.entries.agree w v x d in (o.0, same_find w v x d ∙ o.1, o.2) };
   ranges = λ w. elim (same_or_other w t) [
-    | inl q ↦ subst (AllWithin g) (sym (ap n.areas q ∙ put_same s.areas t (without (s.areas t) base))) (within_without g (s.areas t) base (h.ranges t))
+    | inl q ↦ subst (AllWithin g) (sym (ap n.areas q ∙ put_same s.areas t (without (s.areas t) base)))
+        (within_without g (s.areas t) base (h.ranges t))
     | inr q ↦ subst (AllWithin g) (sym (put_other s.areas t (without (s.areas t) base) w q)) (h.ranges w)
   ];
   spread = λ w. elim (same_or_other w t) [
-    | inl q ↦ subst (IsSpread g.space 0) (sym (ap n.areas q ∙ put_same s.areas t (without (s.areas t) base))) (without_spread g.space 0 (s.areas t) base (h.spread t))
+    | inl q ↦ subst (IsSpread g.space 0) (sym (ap n.areas q ∙ put_same s.areas t (without (s.areas t) base)))
+        (without_spread g.space 0 (s.areas t) base (h.spread t))
     | inr q ↦ subst (IsSpread g.space 0) (sym (put_other s.areas t (without (s.areas t) base) w q)) (h.spread w)
   ];
-  sweep = record { below = λ w v x f i d y. h.sweep.below w v x f i d (sym (same_find w v x d) ∙ y); past = h.sweep.past; gone = h.sweep.gone };
+  sweep =
+      record {
+        below = λ w v x f i d y. h.sweep.below w v x f i d (sym (same_find w v x d) ∙ y);
+        past = h.sweep.past;
+        gone = h.sweep.gone;
+      };
   changes = same_opens s.pending b c (ap (λ p. p.3) same);
   others = λ u d. stands_after g s n u (s.calls u) (record {
     slot = λ k a. a;
@@ -400,6 +472,9 @@ drops g s t b c base h l e same clear fill own = goes g s n t b c h l e (ap (λ 
 
     same_find : (w v x : ℕ) → s.table w v ≡ Some x → find (put s.areas t (without (s.areas t) base) w) v ≡ find (s.areas w) v
     same_find w v x a = elim (same_or_other w t) [
-      | inl q ↦ ap (λ (m : List Mapping). find m v) (ap (put s.areas t (without (s.areas t) base)) q ∙ put_same s.areas t (without (s.areas t) base)) ∙ (without_find (s.areas t) base v (clear v x (ap (λ (m : ℕ). s.table m v) (sym q) ∙ a)) ∙ ap (λ (m : ℕ). find (s.areas m) v) (sym q))
+      | inl q ↦ ap (λ (m : List Mapping). find m v)
+          (ap (put s.areas t (without (s.areas t) base)) q ∙ put_same s.areas t (without (s.areas t) base))
+          ∙ (without_find (s.areas t) base v (clear v x (ap (λ (m : ℕ). s.table m v) (sym q) ∙ a))
+          ∙ ap (λ (m : ℕ). find (s.areas m) v) (sym q))
       | inr q ↦ ap (λ (m : List Mapping). find m v) (put_other s.areas t (without (s.areas t) base) w q)
     ]

@@ -1,6 +1,7 @@
 -- What each row does to the call that it carries on, to sizes and to the reserved indices.
 use Rattle.std.proofs.Common.{◌≡◌, ◌≢◌, ℕ, ◌+◌, ◌-◌, ◌*◌, ◌<◌, ◌≤◌, refl, ap, sym, ◌∙◌, subst, arith, inl, inr, ◌⊎◌, length}
-use Rattle.std.specs.Prelude.{Bool, true, false, not, ◌&&◌, ◌||◌, ◌==◌, nat_le, nat_lt, max, is_some, Option, Some, None, IfSome, List, [], ◌∷◌, if◌then◌else◌}
+use Rattle.std.specs.Prelude.{Bool, true, false, not, ◌&&◌, ◌||◌, ◌==◌, nat_le, nat_lt, max, is_some, Option, Some, None, IfSome}
+use Rattle.std.specs.Prelude.{List, [], ◌∷◌, if◌then◌else◌}
 use Rattle.std.proofs.lemmas.Bool.Decides.{nat_tests}
 use Rattle.hp_base.specs.Numbers.{put}
 use Rattle.hp_base.specs.Indices.{missing, splits, add_range, cut_tail}
@@ -60,17 +61,21 @@ Went call s t top here turn new = record {
   areas : (u : ℕ) → u ≢ t → new.areas u ≡ s.areas u;
   keeps : (f i : ℕ) → s.reserved f i ≡ true → (new.reserved f i ≡ true) ⊎ (deletes (Some (call here)) f i ≡ true);
   grows : (f : ℕ) → (s.size f ≤ new.size f) ⊎ (sizes (Some (call here)) ≡ Some f);
-  nearer : IfSome (sizes (Some (call here))) (λ f. IsTop s f top) → steps_left s.geometry (length (new.areas t)) top (left call turn) + 1 ≤ steps_left s.geometry (length (s.areas t)) top (Some (call here));
+  nearer : IfSome (sizes (Some (call here))) (λ f. IsTop s f top)
+      → steps_left s.geometry (length (new.areas t)) top (left call turn) + 1 ≤ steps_left s.geometry
+      (length (s.areas t)) top (Some (call here));
 }
 
 -- or it waits
 abbrev pub Turned : {P : Type 0} → (P → Call) → State → ℕ → ℕ → P → Turn P → Pool → Type 0
-Turned call s t top here turn new = ((u : ℕ) × (turn ≡ Blocked here u) × (new ≡ pool_of s) × WaitsFor s (Some (call here)) u) ⊎ Went call s t top here turn new
+Turned call s t top here turn new =
+    ((u : ℕ) × (turn ≡ Blocked here u) × (new ≡ pool_of s) × WaitsFor s (Some (call here)) u) ⊎ Went call s t top here turn new
 
 -- a leaf's equations put in
 turned : {P : Type 0} (call : P → Call) (s : State) (t top : ℕ) (here : P) (wanted turn : Turn P) (there new : Pool)
     → (turn ≡ wanted) × (new ≡ there) → Went call s t top here wanted there → Turned call s t top here turn new
-turned {P} call s t top here wanted turn there new e h = inr (subst (λ (p : Turn P × Pool). Went call s t top here p.0 p.1) (sym (pair e.0 e.1)) h)
+turned {P} call s t top here wanted turn there new e h =
+    inr (subst (λ (p : Turn P × Pool). Went call s t top here p.0 p.1) (sym (pair e.0 e.1)) h)
   where
     pair : turn ≡ wanted → new ≡ there → ◌≡◌ {A = Turn P × Pool} (turn, new) (wanted, there)
     pair a b = cc
@@ -86,7 +91,10 @@ plain call s t top here wanted turn there new e goes areas reserved size nearer 
   areas = λ u d. ap (λ (m : ℕ → List Mapping). m u) areas;
   keeps = λ f i a. inl (ap (λ (m : ℕ → ℕ → Bool). m f i) reserved ∙ a);
   grows = λ f. inl (let z : there.size f ≡ s.size f = ap (λ (m : ℕ → ℕ). m f) size in omega arith);
-  nearer = λ _. subst (λ (m : ℕ). steps_left s.geometry m top (left call wanted) + 1 ≤ steps_left s.geometry (length (s.areas t)) top (Some (call here))) (ap (λ (m : ℕ → List Mapping). length (m t)) (sym areas)) (nearer (length (s.areas t)));
+  nearer =
+      λ _. subst (λ (m : ℕ). steps_left s.geometry m top (left call wanted) + 1 ≤ steps_left s.geometry
+      (length (s.areas t)) top (Some (call here))) (ap (λ (m : ℕ → List Mapping). length (m t)) (sym areas))
+      (nearer (length (s.areas t)));
 })
 
 abbrev Nearer : {P : Type 0} → (P → Call) → State → ℕ → P → Turn P → Type 0
@@ -96,12 +104,14 @@ waiting : {P : Type 0} (call : P → Call) (s : State) (t top : ℕ) (here : P) 
     → (turn ≡ Blocked here u) × (new ≡ pool_of s) → WaitsFor s (Some (call here)) u → Turned call s t top here turn new
 waiting call s t top here turn new u e w = inl (u, e.0, e.1, w)
 
-start_turn : {P : Type 0} (call : P → Call) (s : State) (t top : ℕ) (killed : Bool) (f : ℕ) (bad : Bool) (at_kill : Answer) (here next : P) (turn : Turn P) (new : Pool)
+start_turn : {P : Type 0} (call : P → Call) (s : State) (t top : ℕ) (killed : Bool) (f : ℕ) (bad : Bool)
+    (at_kill : Answer) (here next : P) (turn : Turn P) (new : Pool)
     → StartRow (pool_of s) t killed f bad at_kill here next turn new
     → wants_lock (Some (call here)) ≡ Some f → (bad ≡ false → Nearer call s top here (Moved next))
     → ((m : ℕ) → 1 ≤ steps_left s.geometry m top (Some (call here))) → Turned call s t top here turn new
 start_turn {P} call s t top killed f bad at_kill here next turn new row wants nearer some =
-    let ends : (a : Answer) → (turn ≡ Ended a) × (new ≡ pool_of s) → Turned call s t top here turn new = λ a r. plain call s t top here (Ended a) turn _ new r refl refl refl refl (λ m. some m) in
+    let ends : (a : Answer) → (turn ≡ Ended a) × (new ≡ pool_of s) → Turned call s t top here turn new =
+    λ a r. plain call s t top here (Ended a) turn _ new r refl refl refl refl (λ m. some m) in
     by_test (nat_le s.geometry.files f) row
     (λ _ r. ends _ r)
     (λ _ r. by_test bad r
@@ -120,7 +130,8 @@ want_turn call s t top f i here next turn new row wants nearer =
     (λ _ r. plain call s t top here _ turn _ new r refl refl refl refl nearer)
     (λ u held r. waiting call s t top here turn new u r (inl ((f, i), wants, held)))
 
-change_turn : {P : Type 0} (call : P → Call) (s : State) (t top : ℕ) (grant : Bool) (f from to : ℕ) (here denied : P) (changed : Change → P) (turn : Turn P) (new : Pool)
+change_turn : {P : Type 0} (call : P → Call) (s : State) (t top : ℕ) (grant : Bool) (f from to : ℕ) (here denied : P)
+    (changed : Change → P) (turn : Turn P) (new : Pool)
     → ChangeRow (pool_of s) grant f from to denied changed turn new
     → Nearer call s top here (Moved denied) → ((k : Change) → Nearer call s top here (Moved (changed k)))
     → Turned call s t top here turn new
@@ -145,13 +156,17 @@ adds : {P : Type 0} (call : P → Call) (s : State) (t top f : ℕ) (c : Change)
     → is_blocked wanted ≡ false → there.areas ≡ s.areas → there.reserved ≡ put s.reserved f (add_range (s.reserved f) c.from c.to)
     → there.size ≡ s.size
     → Nearer call s top here wanted → Turned call s t top here turn new
-adds call s t top f c here wanted turn there new e goes areas reserved size nearer = turned call s t top here wanted turn there new e (record {
-  goes = goes;
-  areas = λ u d. ap (λ (m : ℕ → List Mapping). m u) areas;
-  keeps = λ k i a. inl (ap (λ (m : ℕ → ℕ → Bool). m k i) reserved ∙ grown_keeps s.reserved f c.from c.to k i a);
-  grows = λ k. inl (let z : there.size k ≡ s.size k = ap (λ (m : ℕ → ℕ). m k) size in omega arith);
-  nearer = λ _. subst (λ (m : ℕ). steps_left s.geometry m top (left call wanted) + 1 ≤ steps_left s.geometry (length (s.areas t)) top (Some (call here))) (ap (λ (m : ℕ → List Mapping). length (m t)) (sym areas)) (nearer (length (s.areas t)));
-})
+adds call s t top f c here wanted turn there new e goes areas reserved size nearer =
+    turned call s t top here wanted turn there new e (record {
+      goes = goes;
+      areas = λ u d. ap (λ (m : ℕ → List Mapping). m u) areas;
+      keeps = λ k i a. inl (ap (λ (m : ℕ → ℕ → Bool). m k i) reserved ∙ grown_keeps s.reserved f c.from c.to k i a);
+      grows = λ k. inl (let z : there.size k ≡ s.size k = ap (λ (m : ℕ → ℕ). m k) size in omega arith);
+      nearer =
+          λ _. subst (λ (m : ℕ). steps_left s.geometry m top (left call wanted) + 1 ≤ steps_left s.geometry
+          (length (s.areas t)) top (Some (call here))) (ap (λ (m : ℕ → List Mapping). length (m t)) (sym areas))
+          (nearer (length (s.areas t)));
+    })
 
 commit_turn : {P : Type 0} (call : P → Call) (s : State) (t top f : ℕ) (c : Change) (here settle next : P) (turn : Turn P) (new : Pool)
     → CommitRow (pool_of s) f c settle next turn new
@@ -166,21 +181,25 @@ sized : {P : Type 0} (call : P → Call) (s : State) (t top f new_size : ℕ) (h
     → (turn ≡ wanted) × (new ≡ there)
     → is_blocked wanted ≡ false → ((u : ℕ) → u ≢ t → there.areas u ≡ s.areas u) → there.reserved ≡ s.reserved
     → there.size ≡ put s.size f new_size → (s.size f ≤ new_size) ⊎ (sizes (Some (call here)) ≡ Some f)
-    → (IfSome (sizes (Some (call here))) (λ f. IsTop s f top) → steps_left s.geometry (length (there.areas t)) top (left call wanted) + 1 ≤ steps_left s.geometry (length (s.areas t)) top (Some (call here)))
+    → (IfSome (sizes (Some (call here))) (λ f. IsTop s f top)
+    → steps_left s.geometry (length (there.areas t)) top (left call wanted) + 1 ≤ steps_left s.geometry
+    (length (s.areas t)) top (Some (call here)))
     → Turned call s t top here turn new
-sized call s t top f new_size here wanted turn there new e goes areas reserved size low nearer = turned call s t top here wanted turn there new e (record {
-  goes = goes;
-  areas = areas;
-  keeps = λ k i a. inl (ap (λ (m : ℕ → ℕ → Bool). m k i) reserved ∙ a);
-  grows = λ k. elim low [
-    | inl l ↦ inl (let z : there.size k ≡ put s.size f new_size k = ap (λ (m : ℕ → ℕ). m k) size in let y = grown_size s.size f new_size k l in omega arith)
-    | inr l ↦ elim (same_or_other k f) [
-      | inl q ↦ inr (l ∙ ap (λ (m : ℕ). Some m) (sym q))
-      | inr q ↦ inl (let z : there.size k ≡ s.size k = ap (λ (m : ℕ → ℕ). m k) size ∙ put_other s.size f new_size k q in omega arith)
-    ]
-  ];
-  nearer = nearer;
-})
+sized call s t top f new_size here wanted turn there new e goes areas reserved size low nearer =
+    turned call s t top here wanted turn there new e (record {
+      goes = goes;
+      areas = areas;
+      keeps = λ k i a. inl (ap (λ (m : ℕ → ℕ → Bool). m k i) reserved ∙ a);
+      grows = λ k. elim low [
+        | inl l ↦ inl (let z : there.size k ≡ put s.size f new_size k = ap (λ (m : ℕ → ℕ). m k) size in
+            let y = grown_size s.size f new_size k l in omega arith)
+        | inr l ↦ elim (same_or_other k f) [
+          | inl q ↦ inr (l ∙ ap (λ (m : ℕ). Some m) (sym q))
+          | inr q ↦ inl (let z : there.size k ≡ s.size k = ap (λ (m : ℕ → ℕ). m k) size ∙ put_other s.size f new_size k q in omega arith)
+        ]
+      ];
+      nearer = nearer;
+    })
 
 lt : (a b : ℕ) → nat_lt a b ≡ true → a < b
 lt a b e = grind (arith, nat_tests)
@@ -208,31 +227,87 @@ here_on a b c d e f = grind (arith, nat_tests)
 pub touch_turn : (s : State) (t top : ℕ) (killed grant : Bool) (phase : TouchPhase) (turn : Turn TouchPhase) (new : Pool)
     → Inv s.geometry s → s.calls t ≡ Some (call.Touch phase) → TouchRow (pool_of s) t killed grant phase turn new
     → Turned call.Touch s t top phase turn new
-touch_turn s t top killed grant (touch.Look p) turn new h e row = by_option (find (s.areas t) p.vpn) row (λ _ r. plain call.Touch s t top (touch.Look p) _ turn _ new r refl refl refl refl (λ m. omega arith)) (λ place _ r. by_option (s.table t p.vpn) r (λ _ r. plain call.Touch s t top (touch.Look p) _ turn _ new r refl refl refl refl (λ m. omega arith)) (λ x _ r. plain call.Touch s t top (touch.Look p) _ turn _ new r.2 refl refl refl refl (λ m. omega arith)))
-touch_turn s t top killed grant (touch.Want p) turn new h e row = by_test killed row (λ _ r. plain call.Touch s t top (touch.Want p) _ turn _ new r refl refl refl refl (λ m. omega arith)) (λ _ r. want_turn call.Touch s t top p.touch.file p.touch.index (touch.Want p) _ turn new r refl (λ m. omega arith))
-touch_turn s t top killed grant (touch.Locked p) turn new h e row = by_test (nat_le (s.size p.touch.file) p.touch.index) row (λ _ r. plain call.Touch s t top (touch.Locked p) _ turn _ new r refl refl refl refl (λ m. omega arith)) (λ _ r. by_test (is_some (s.pages p.touch.file p.touch.index)) r (λ _ r. plain call.Touch s t top (touch.Locked p) _ turn _ new r refl refl refl refl (λ m. omega arith)) (λ _ r. plain call.Touch s t top (touch.Locked p) _ turn _ new r refl refl refl refl (λ m. omega arith)))
-touch_turn s t top killed grant (touch.Missing p) turn new h e row = change_turn call.Touch s t top grant p.touch.file p.touch.index (p.touch.index + 1) (touch.Missing p) _ (λ k. touch.Changed (record { touch = p.touch; pending = k })) turn new row (λ m. omega arith) (λ k m. omega arith)
-touch_turn s t top killed grant (touch.Changed p) turn new h e row = by_test killed row (λ _ r. plain call.Touch s t top (touch.Changed p) _ turn _ new r refl refl refl refl (λ m. omega arith)) (λ _ r. take_turn call.Touch s t top p.pending.missing (touch.Changed p) _ (λ x. touch.Taken (record { touch = p.touch; pending = p.pending; held = x })) turn new r (λ m. omega arith) (λ x m. omega arith))
-touch_turn s t top killed grant (touch.Abort p) turn new h e row = plain call.Touch s t top (touch.Abort p) _ turn _ new row refl refl refl refl (λ m. omega arith)
-touch_turn s t top killed grant (touch.Taken p) turn new h e row = commit_turn call.Touch s t top p.touch.file p.pending (touch.Taken p) _ _ turn new row (λ m. omega arith) (λ m. omega arith)
-touch_turn s t top killed grant (touch.Settle p) turn new h e (low, row) = plain call.Touch s t top (touch.Settle p) _ turn _ new row refl refl refl refl (λ m. omega arith)
-touch_turn s t top killed grant (touch.Committed p) turn new h e row = by_test (nat_le (s.size p.touch.file) p.touch.index) row (λ _ r. plain call.Touch s t top (touch.Committed p) _ turn _ new r refl refl refl refl (λ m. omega arith)) (λ _ r. by_test grant r (λ _ r. plain call.Touch s t top (touch.Committed p) _ turn _ new r refl refl refl refl (λ m. omega arith)) (λ _ r. plain call.Touch s t top (touch.Committed p) _ turn _ new r refl refl refl refl (λ m. omega arith)))
-touch_turn s t top killed grant (touch.Restore p) turn new h e row = plain call.Touch s t top (touch.Restore p) _ turn _ new row refl refl refl refl (λ m. omega arith)
-touch_turn s t top killed grant (touch.Found p) turn new h e row = by_test (nat_le (s.size p.touch.file) p.touch.index) row (λ _ r. plain call.Touch s t top (touch.Found p) _ turn _ new r refl refl refl refl (λ m. omega arith)) (λ _ r. by_test grant r (λ _ r. plain call.Touch s t top (touch.Found p) _ turn _ new r.4 refl refl refl refl (λ m. omega arith)) (λ _ r. plain call.Touch s t top (touch.Found p) _ turn _ new r refl refl refl refl (λ m. omega arith)))
-touch_turn s t top killed grant (touch.Leave p) turn new h e row = plain call.Touch s t top (touch.Leave p) _ turn _ new row refl refl refl refl (λ m. omega arith)
+touch_turn s t top killed grant (touch.Look p) turn new h e row =
+    by_option (find (s.areas t) p.vpn) row
+    (λ _ r. plain call.Touch s t top (touch.Look p) _ turn _ new r refl refl refl refl (λ m. omega arith))
+    (λ place _ r. by_option (s.table t p.vpn) r
+    (λ _ r. plain call.Touch s t top (touch.Look p) _ turn _ new r refl refl refl refl (λ m. omega arith))
+    (λ x _ r. plain call.Touch s t top (touch.Look p) _ turn _ new r.2 refl refl refl refl (λ m. omega arith)))
+touch_turn s t top killed grant (touch.Want p) turn new h e row =
+    by_test killed row (λ _ r. plain call.Touch s t top (touch.Want p) _ turn _ new r refl refl refl refl
+    (λ m. omega arith)) (λ _ r. want_turn call.Touch s t top p.touch.file p.touch.index (touch.Want p) _ turn new r
+    refl (λ m. omega arith))
+touch_turn s t top killed grant (touch.Locked p) turn new h e row =
+    by_test (nat_le (s.size p.touch.file) p.touch.index) row
+    (λ _ r. plain call.Touch s t top (touch.Locked p) _ turn _ new r refl refl refl refl (λ m. omega arith))
+    (λ _ r. by_test (is_some (s.pages p.touch.file p.touch.index)) r
+    (λ _ r. plain call.Touch s t top (touch.Locked p) _ turn _ new r refl refl refl refl (λ m. omega arith))
+    (λ _ r. plain call.Touch s t top (touch.Locked p) _ turn _ new r refl refl refl refl (λ m. omega arith)))
+touch_turn s t top killed grant (touch.Missing p) turn new h e row =
+    change_turn call.Touch s t top grant p.touch.file p.touch.index (p.touch.index + 1) (touch.Missing p) _
+    (λ k. touch.Changed (record { touch = p.touch; pending = k })) turn new row (λ m. omega arith) (λ k m. omega arith)
+touch_turn s t top killed grant (touch.Changed p) turn new h e row =
+    by_test killed row (λ _ r. plain call.Touch s t top (touch.Changed p) _ turn _ new r refl refl refl refl
+    (λ m. omega arith)) (λ _ r. take_turn call.Touch s t top p.pending.missing (touch.Changed p) _
+    (λ x. touch.Taken (record { touch = p.touch; pending = p.pending; held = x })) turn new r (λ m. omega arith)
+    (λ x m. omega arith))
+touch_turn s t top killed grant (touch.Abort p) turn new h e row =
+    plain call.Touch s t top (touch.Abort p) _ turn _ new row refl refl refl refl (λ m. omega arith)
+touch_turn s t top killed grant (touch.Taken p) turn new h e row =
+    commit_turn call.Touch s t top p.touch.file p.pending (touch.Taken p) _ _ turn new row (λ m. omega arith) (λ m. omega arith)
+touch_turn s t top killed grant (touch.Settle p) turn new h e (low, row) =
+    plain call.Touch s t top (touch.Settle p) _ turn _ new row refl refl refl refl (λ m. omega arith)
+touch_turn s t top killed grant (touch.Committed p) turn new h e row =
+    by_test (nat_le (s.size p.touch.file) p.touch.index) row
+    (λ _ r. plain call.Touch s t top (touch.Committed p) _ turn _ new r refl refl refl refl (λ m. omega arith))
+    (λ _ r. by_test grant r
+    (λ _ r. plain call.Touch s t top (touch.Committed p) _ turn _ new r refl refl refl refl (λ m. omega arith))
+    (λ _ r. plain call.Touch s t top (touch.Committed p) _ turn _ new r refl refl refl refl (λ m. omega arith)))
+touch_turn s t top killed grant (touch.Restore p) turn new h e row =
+    plain call.Touch s t top (touch.Restore p) _ turn _ new row refl refl refl refl (λ m. omega arith)
+touch_turn s t top killed grant (touch.Found p) turn new h e row =
+    by_test (nat_le (s.size p.touch.file) p.touch.index) row
+    (λ _ r. plain call.Touch s t top (touch.Found p) _ turn _ new r refl refl refl refl (λ m. omega arith))
+    (λ _ r. by_test grant r
+    (λ _ r. plain call.Touch s t top (touch.Found p) _ turn _ new r.4 refl refl refl refl (λ m. omega arith))
+    (λ _ r. plain call.Touch s t top (touch.Found p) _ turn _ new r refl refl refl refl (λ m. omega arith)))
+touch_turn s t top killed grant (touch.Leave p) turn new h e row =
+    plain call.Touch s t top (touch.Leave p) _ turn _ new row refl refl refl refl (λ m. omega arith)
 
 pub map_turn : (s : State) (t top : ℕ) (killed grant : Bool) (phase : MapPhase) (turn : Turn MapPhase) (new : Pool)
     → Inv s.geometry s → s.calls t ≡ Some (call.Map phase) → MapRow (pool_of s) t killed grant phase turn new
     → Turned call.Map s t top phase turn new
-map_turn s t top killed grant (map.Start p) turn new h e row = start_turn call.Map s t top killed p.map.file _ _ (map.Start p) _ turn new row refl (λ _ m. omega arith) (λ m. omega arith)
-map_turn s t top killed grant (map.Room p) turn new h e (found, room, row) = by_option found row (λ _ r. plain call.Map s t top (map.Room p) _ turn _ new r refl refl refl refl (λ m. omega arith)) (λ base _ r. by_test grant r (λ _ r. by_test p.map.reserve r (λ _ r. plain call.Map s t top (map.Room p) _ turn _ new r refl refl refl refl (λ m. omega arith)) (λ _ r. plain call.Map s t top (map.Room p) _ turn _ new r refl refl refl refl (λ m. omega arith))) (λ _ r. plain call.Map s t top (map.Room p) _ turn _ new r refl refl refl refl (λ m. omega arith)))
-map_turn s t top killed grant (map.Missing p) turn new h e row = change_turn call.Map s t top grant p.map.file p.map.from (p.map.from + p.map.len) (map.Missing p) _ (λ k. map.Changed (record { map = p.map; base = p.base; pending = k })) turn new row (λ m. omega arith) (λ k m. omega arith)
-map_turn s t top killed grant (map.Changed p) turn new h e row = by_test killed row (λ _ r. plain call.Map s t top (map.Changed p) _ turn _ new r refl refl refl refl (λ m. omega arith)) (λ _ r. by_test (nat_lt (frees (pool_of s) - s.resv) p.pending.missing) r (λ _ r. plain call.Map s t top (map.Changed p) _ turn _ new r refl refl refl refl (λ m. omega arith)) (λ _ r. plain call.Map s t top (map.Changed p) _ turn _ new r refl refl refl refl (λ m. omega arith)))
-map_turn s t top killed grant (map.Abort p) turn new h e row = plain call.Map s t top (map.Abort p) _ turn _ new row refl refl refl refl (λ m. omega arith)
-map_turn s t top killed grant (map.Accounted p) turn new h e row = by_test (nat_lt (missing (s.reserved p.map.file) p.pending.from p.pending.to) p.pending.missing) row (λ _ r. adds call.Map s t top p.map.file p.pending (map.Accounted p) _ turn _ new r refl refl refl refl (λ m. omega arith)) (λ _ r. adds call.Map s t top p.map.file p.pending (map.Accounted p) _ turn _ new r refl refl refl refl (λ m. omega arith))
-map_turn s t top killed grant (map.Settle p) turn new h e (low, row) = plain call.Map s t top (map.Settle p) _ turn _ new row refl refl refl refl (λ m. omega arith)
-map_turn s t top killed grant (map.Enter p) turn new h e row = sized call.Map s t top p.map.file (max (s.size p.map.file) (p.map.from + p.map.len)) (map.Enter p) _ turn _ new row refl (λ u d. put_other s.areas t _ u d) refl refl (inl (omega arith)) (λ _. omega arith)
-map_turn s t top killed grant (map.Leave p) turn new h e row = plain call.Map s t top (map.Leave p) _ turn _ new row refl refl refl refl (λ m. omega arith)
+map_turn s t top killed grant (map.Start p) turn new h e row =
+    start_turn call.Map s t top killed p.map.file _ _ (map.Start p) _ turn new row refl (λ _ m. omega arith) (λ m. omega arith)
+map_turn s t top killed grant (map.Room p) turn new h e (found, room, row) =
+    by_option found row (λ _ r. plain call.Map s t top (map.Room p) _ turn _ new r refl refl refl refl
+    (λ m. omega arith)) (λ base _ r. by_test grant r
+    (λ _ r. by_test p.map.reserve r
+    (λ _ r. plain call.Map s t top (map.Room p) _ turn _ new r refl refl refl refl (λ m. omega arith))
+    (λ _ r. plain call.Map s t top (map.Room p) _ turn _ new r refl refl refl refl (λ m. omega arith)))
+    (λ _ r. plain call.Map s t top (map.Room p) _ turn _ new r refl refl refl refl (λ m. omega arith)))
+map_turn s t top killed grant (map.Missing p) turn new h e row =
+    change_turn call.Map s t top grant p.map.file p.map.from (p.map.from + p.map.len) (map.Missing p) _
+    (λ k. map.Changed (record { map = p.map; base = p.base; pending = k })) turn new row (λ m. omega arith) (λ k m. omega arith)
+map_turn s t top killed grant (map.Changed p) turn new h e row =
+    by_test killed row (λ _ r. plain call.Map s t top (map.Changed p) _ turn _ new r refl refl refl refl
+    (λ m. omega arith)) (λ _ r. by_test (nat_lt (frees (pool_of s) - s.resv) p.pending.missing) r
+    (λ _ r. plain call.Map s t top (map.Changed p) _ turn _ new r refl refl refl refl (λ m. omega arith))
+    (λ _ r. plain call.Map s t top (map.Changed p) _ turn _ new r refl refl refl refl (λ m. omega arith)))
+map_turn s t top killed grant (map.Abort p) turn new h e row =
+    plain call.Map s t top (map.Abort p) _ turn _ new row refl refl refl refl (λ m. omega arith)
+map_turn s t top killed grant (map.Accounted p) turn new h e row =
+    by_test (nat_lt (missing (s.reserved p.map.file) p.pending.from p.pending.to) p.pending.missing) row
+    (λ _ r. adds call.Map s t top p.map.file p.pending (map.Accounted p) _ turn _ new r refl refl refl refl
+    (λ m. omega arith)) (λ _ r. adds call.Map s t top p.map.file p.pending (map.Accounted p) _ turn _ new r refl refl
+    refl refl (λ m. omega arith))
+map_turn s t top killed grant (map.Settle p) turn new h e (low, row) =
+    plain call.Map s t top (map.Settle p) _ turn _ new row refl refl refl refl (λ m. omega arith)
+map_turn s t top killed grant (map.Enter p) turn new h e row =
+    sized call.Map s t top p.map.file (max (s.size p.map.file) (p.map.from + p.map.len)) (map.Enter p) _ turn _ new
+    row refl (λ u d. put_other s.areas t _ u d) refl refl (inl (omega arith)) (λ _. omega arith)
+map_turn s t top killed grant (map.Leave p) turn new h e row =
+    plain call.Map s t top (map.Leave p) _ turn _ new row refl refl refl refl (λ m. omega arith)
 
 left_none : {A : Type 0} (o : Option A) (n k : ℕ) → o ≡ None → k ≤ n → k ≤ unslot_left o n
 left_none o n k e l = subst (λ (m : Option _). k ≤ unslot_left m n) (sym e) l
@@ -248,47 +323,110 @@ alloc_unslot s t top p turn new h e row =
     let left : ℕ = times (p.allocation.from + p.allocation.len - (p.index + 1)) 9 in
     by_option p.answer row
     (λ none r. by_test (nat_lt (p.index + 1) (p.allocation.from + p.allocation.len)) r
-    (λ more r. let l = lt _ _ more in let z = times_next (p.allocation.from + p.allocation.len - (p.index + 1)) (p.allocation.from + p.allocation.len - (p.index + 1 + 1)) 9 (omega arith) in
+    (λ more r. let l = lt _ _ more in
+    let z = times_next (p.allocation.from + p.allocation.len - (p.index + 1))
+    (p.allocation.from + p.allocation.len - (p.index + 1 + 1)) 9 (omega arith) in
     plain call.Alloc s t top (alloc.Unslot p) _ turn _ new r refl refl refl refl (λ m. left_none p.answer (left + 3) _ none (omega arith)))
     (λ last r. by_test p.allocation.keep r
-    (λ _ r. plain call.Alloc s t top (alloc.Unslot p) _ turn _ new r refl refl refl refl (λ m. left_none p.answer (left + 3) _ none (omega arith)))
-    (λ _ r. plain call.Alloc s t top (alloc.Unslot p) _ turn _ new r refl refl refl refl (λ m. left_none p.answer (left + 3) _ none (omega arith)))))
+    (λ _ r. plain call.Alloc s t top (alloc.Unslot p) _ turn _ new r refl refl refl refl
+    (λ m. left_none p.answer (left + 3) _ none (omega arith)))
+    (λ _ r. plain call.Alloc s t top (alloc.Unslot p) _ turn _ new r refl refl refl refl
+    (λ m. left_none p.answer (left + 3) _ none (omega arith)))))
     (λ a some r. plain call.Alloc s t top (alloc.Unslot p) _ turn _ new r refl refl refl refl (λ m. left_some p.answer a (left + 3) some))
 
 pub alloc_turn : (s : State) (t top : ℕ) (killed grant : Bool) (phase : AllocPhase) (turn : Turn AllocPhase) (new : Pool)
     → Inv s.geometry s → s.calls t ≡ Some (call.Alloc phase) → AllocRow (pool_of s) t killed grant phase turn new
     → Turned call.Alloc s t top phase turn new
-alloc_turn s t top killed grant (alloc.Start p) turn new h e row = start_turn call.Alloc s t top killed p.allocation.file _ _ (alloc.Start p) _ turn new row refl (λ good m. let z = first_left p.allocation.from p.allocation.len 9 (good_range s p.allocation.from p.allocation.len good).0 in omega arith) (λ m. omega arith)
-alloc_turn s t top killed grant (alloc.Head p) turn new h e row = by_test killed row (λ _ r. plain call.Alloc s t top (alloc.Head p) _ turn _ new r refl refl refl refl (λ m. omega arith)) (λ _ r. plain call.Alloc s t top (alloc.Head p) _ turn _ new r refl refl refl refl (λ m. omega arith))
-alloc_turn s t top killed grant (alloc.Want p) turn new h e row = by_test killed row (λ _ r. plain call.Alloc s t top (alloc.Want p) _ turn _ new r refl refl refl refl (λ m. omega arith)) (λ _ r. want_turn call.Alloc s t top p.allocation.file p.index (alloc.Want p) _ turn new r refl (λ m. omega arith))
-alloc_turn s t top killed grant (alloc.Locked p) turn new h e row = by_test (is_some (s.pages p.allocation.file p.index)) row (λ _ r. plain call.Alloc s t top (alloc.Locked p) _ turn _ new r refl refl refl refl (λ m. omega arith)) (λ _ r. plain call.Alloc s t top (alloc.Locked p) _ turn _ new r refl refl refl refl (λ m. omega arith))
-alloc_turn s t top killed grant (alloc.Missing p) turn new h e row = change_turn call.Alloc s t top grant p.allocation.file p.index (p.index + 1) (alloc.Missing p) _ (λ k. alloc.Changed (record { allocation = p.allocation; index = p.index; pending = k })) turn new row (λ m. omega arith) (λ k m. omega arith)
-alloc_turn s t top killed grant (alloc.Changed p) turn new h e row = by_test killed row (λ _ r. plain call.Alloc s t top (alloc.Changed p) _ turn _ new r refl refl refl refl (λ m. omega arith)) (λ _ r. take_turn call.Alloc s t top p.pending.missing (alloc.Changed p) _ (λ x. alloc.Taken (record { allocation = p.allocation; index = p.index; pending = p.pending; held = x })) turn new r (λ m. omega arith) (λ x m. omega arith))
-alloc_turn s t top killed grant (alloc.Abort p) turn new h e row = plain call.Alloc s t top (alloc.Abort p) _ turn _ new row refl refl refl refl (λ m. omega arith)
-alloc_turn s t top killed grant (alloc.Taken p) turn new h e row = commit_turn call.Alloc s t top p.allocation.file p.pending (alloc.Taken p) _ _ turn new row (λ m. omega arith) (λ m. omega arith)
-alloc_turn s t top killed grant (alloc.Settle p) turn new h e (low, row) = plain call.Alloc s t top (alloc.Settle p) _ turn _ new row refl refl refl refl (λ m. omega arith)
-alloc_turn s t top killed grant (alloc.Committed p) turn new h e row = by_test grant row (λ _ r. plain call.Alloc s t top (alloc.Committed p) _ turn _ new r refl refl refl refl (λ m. omega arith)) (λ _ r. plain call.Alloc s t top (alloc.Committed p) _ turn _ new r refl refl refl refl (λ m. omega arith))
-alloc_turn s t top killed grant (alloc.Restore p) turn new h e row = plain call.Alloc s t top (alloc.Restore p) _ turn _ new row refl refl refl refl (λ m. omega arith)
+alloc_turn s t top killed grant (alloc.Start p) turn new h e row =
+    start_turn call.Alloc s t top killed p.allocation.file _ _ (alloc.Start p) _ turn new row refl
+    (λ good m. let z = first_left p.allocation.from p.allocation.len 9
+    (good_range s p.allocation.from p.allocation.len good).0 in omega arith) (λ m. omega arith)
+alloc_turn s t top killed grant (alloc.Head p) turn new h e row =
+    by_test killed row (λ _ r. plain call.Alloc s t top (alloc.Head p) _ turn _ new r refl refl refl refl
+    (λ m. omega arith)) (λ _ r. plain call.Alloc s t top (alloc.Head p) _ turn _ new r refl refl refl refl (λ m. omega arith))
+alloc_turn s t top killed grant (alloc.Want p) turn new h e row =
+    by_test killed row (λ _ r. plain call.Alloc s t top (alloc.Want p) _ turn _ new r refl refl refl refl
+    (λ m. omega arith)) (λ _ r. want_turn call.Alloc s t top p.allocation.file p.index (alloc.Want p) _ turn new r
+    refl (λ m. omega arith))
+alloc_turn s t top killed grant (alloc.Locked p) turn new h e row =
+    by_test (is_some (s.pages p.allocation.file p.index)) row
+    (λ _ r. plain call.Alloc s t top (alloc.Locked p) _ turn _ new r refl refl refl refl (λ m. omega arith))
+    (λ _ r. plain call.Alloc s t top (alloc.Locked p) _ turn _ new r refl refl refl refl (λ m. omega arith))
+alloc_turn s t top killed grant (alloc.Missing p) turn new h e row =
+    change_turn call.Alloc s t top grant p.allocation.file p.index (p.index + 1) (alloc.Missing p) _
+    (λ k. alloc.Changed (record { allocation = p.allocation; index = p.index; pending = k })) turn new row
+    (λ m. omega arith) (λ k m. omega arith)
+alloc_turn s t top killed grant (alloc.Changed p) turn new h e row =
+    by_test killed row (λ _ r. plain call.Alloc s t top (alloc.Changed p) _ turn _ new r refl refl refl refl
+    (λ m. omega arith)) (λ _ r. take_turn call.Alloc s t top p.pending.missing (alloc.Changed p) _
+    (λ x. alloc.Taken (record { allocation = p.allocation; index = p.index; pending = p.pending; held = x })) turn new
+    r (λ m. omega arith) (λ x m. omega arith))
+alloc_turn s t top killed grant (alloc.Abort p) turn new h e row =
+    plain call.Alloc s t top (alloc.Abort p) _ turn _ new row refl refl refl refl (λ m. omega arith)
+alloc_turn s t top killed grant (alloc.Taken p) turn new h e row =
+    commit_turn call.Alloc s t top p.allocation.file p.pending (alloc.Taken p) _ _ turn new row (λ m. omega arith)
+    (λ m. omega arith)
+alloc_turn s t top killed grant (alloc.Settle p) turn new h e (low, row) =
+    plain call.Alloc s t top (alloc.Settle p) _ turn _ new row refl refl refl refl (λ m. omega arith)
+alloc_turn s t top killed grant (alloc.Committed p) turn new h e row =
+    by_test grant row (λ _ r. plain call.Alloc s t top (alloc.Committed p) _ turn _ new r refl refl refl refl
+    (λ m. omega arith)) (λ _ r. plain call.Alloc s t top (alloc.Committed p) _ turn _ new r refl refl refl refl (λ m. omega arith))
+alloc_turn s t top killed grant (alloc.Restore p) turn new h e row =
+    plain call.Alloc s t top (alloc.Restore p) _ turn _ new row refl refl refl refl (λ m. omega arith)
 alloc_turn s t top killed grant (alloc.Unslot p) turn new h e row = alloc_unslot s t top p turn new h e row
-alloc_turn s t top killed grant (alloc.Extend p) turn new h e row = sized call.Alloc s t top p.allocation.file (max (s.size p.allocation.file) (p.allocation.from + p.allocation.len)) (alloc.Extend p) _ turn _ new row refl (λ u d. refl) refl refl (inl (omega arith)) (λ _. omega arith)
-alloc_turn s t top killed grant (alloc.Leave p) turn new h e row = plain call.Alloc s t top (alloc.Leave p) _ turn _ new row refl refl refl refl (λ m. omega arith)
+alloc_turn s t top killed grant (alloc.Extend p) turn new h e row =
+    sized call.Alloc s t top p.allocation.file (max (s.size p.allocation.file) (p.allocation.from + p.allocation.len))
+    (alloc.Extend p) _ turn _ new row refl (λ u d. refl) refl refl (inl (omega arith)) (λ _. omega arith)
+alloc_turn s t top killed grant (alloc.Leave p) turn new h e row =
+    plain call.Alloc s t top (alloc.Leave p) _ turn _ new row refl refl refl refl (λ m. omega arith)
 
 pub punch_turn : (s : State) (t top : ℕ) (killed grant : Bool) (phase : PunchPhase) (turn : Turn PunchPhase) (new : Pool)
     → Inv s.geometry s → 1 ≤ t → t < s.geometry.tasks + 1 → s.calls t ≡ Some (call.Punch phase)
     → PunchRow (pool_of s) t killed grant phase turn new → Turned call.Punch s t top phase turn new
-punch_turn s t top killed grant (punch.Start p) turn new h one l e row = start_turn call.Punch s t top killed p.hole.file _ _ (punch.Start p) _ turn new row refl (λ good m. let z = first_left p.hole.from p.hole.len (6 + s.geometry.tasks) (good_range s p.hole.from p.hole.len good).0 in omega arith) (λ m. omega arith)
-punch_turn s t top killed grant (punch.Want p) turn new h one l e row = want_turn call.Punch s t top p.hole.file p.index (punch.Want p) _ turn new row refl (λ m. omega arith)
-punch_turn s t top killed grant (punch.Locked p) turn new h one l e row = by_test (is_some (s.pages p.hole.file p.index)) row (λ _ r. plain call.Punch s t top (punch.Locked p) _ turn _ new r refl refl refl refl (λ m. omega arith)) (λ _ r. plain call.Punch s t top (punch.Locked p) _ turn _ new r refl refl refl refl (λ m. omega arith))
-punch_turn s t top killed grant (punch.Unmap p) turn new h one l e row = by_test (nat_lt p.task s.geometry.tasks) row (λ more r. let z = lt _ _ more in plain call.Punch s t top (punch.Unmap p) _ turn _ new r refl refl refl refl (λ m. omega arith)) (λ _ r. plain call.Punch s t top (punch.Unmap p) _ turn _ new r refl refl refl refl (λ m. omega arith))
-punch_turn s t top killed grant (punch.Evict p) turn new h one l e (x, page, row) = plain call.Punch s t top (punch.Evict p) _ turn _ new row refl refl refl refl (λ m. omega arith)
-punch_turn s t top killed grant (punch.Delete p) turn new h one l e row = by_test (splits (s.reserved p.hole.file) p.index && nat_le (s.spare p.hole.file) (s.pending p.hole.file) && not grant) row (λ _ r. plain call.Punch s t top (punch.Delete p) _ turn _ new r refl refl refl refl (λ m. omega arith)) (λ _ r. turned call.Punch s t top (punch.Delete p) _ turn _ new r (record { goes = refl; areas = λ u d. refl; keeps = λ f i a. elim (put2_tells s.reserved p.hole.file p.index false f i) [ inl z ↦ inr (both p.hole.file p.index f i (sym z.0) (sym z.1)) | inr z ↦ inl (z.1 ∙ a) ]; grows = λ f. inl (omega arith); nearer = λ _. omega arith }))
-punch_turn s t top killed grant (punch.Free p) turn new h one l e row = plain call.Punch s t top (punch.Free p) _ turn _ new row refl refl refl refl (λ m. omega arith)
+punch_turn s t top killed grant (punch.Start p) turn new h one l e row =
+    start_turn call.Punch s t top killed p.hole.file _ _ (punch.Start p) _ turn new row refl
+    (λ good m. let z = first_left p.hole.from p.hole.len (6 + s.geometry.tasks)
+    (good_range s p.hole.from p.hole.len good).0 in omega arith) (λ m. omega arith)
+punch_turn s t top killed grant (punch.Want p) turn new h one l e row =
+    want_turn call.Punch s t top p.hole.file p.index (punch.Want p) _ turn new row refl (λ m. omega arith)
+punch_turn s t top killed grant (punch.Locked p) turn new h one l e row =
+    by_test (is_some (s.pages p.hole.file p.index)) row
+    (λ _ r. plain call.Punch s t top (punch.Locked p) _ turn _ new r refl refl refl refl (λ m. omega arith))
+    (λ _ r. plain call.Punch s t top (punch.Locked p) _ turn _ new r refl refl refl refl (λ m. omega arith))
+punch_turn s t top killed grant (punch.Unmap p) turn new h one l e row =
+    by_test (nat_lt p.task s.geometry.tasks) row
+    (λ more r. let z = lt _ _ more in
+    plain call.Punch s t top (punch.Unmap p) _ turn _ new r refl refl refl refl (λ m. omega arith))
+    (λ _ r. plain call.Punch s t top (punch.Unmap p) _ turn _ new r refl refl refl refl (λ m. omega arith))
+punch_turn s t top killed grant (punch.Evict p) turn new h one l e (x, page, row) =
+    plain call.Punch s t top (punch.Evict p) _ turn _ new row refl refl refl refl (λ m. omega arith)
+punch_turn s t top killed grant (punch.Delete p) turn new h one l e row =
+    by_test (splits (s.reserved p.hole.file) p.index && nat_le (s.spare p.hole.file) (s.pending p.hole.file)
+    && not grant) row (λ _ r. plain call.Punch s t top (punch.Delete p) _ turn _ new r refl refl refl refl
+    (λ m. omega arith)) (λ _ r. turned call.Punch s t top (punch.Delete p) _ turn _ new r
+    (record {
+      goes = refl;
+      areas = λ u d. refl;
+      keeps = λ f i a. elim (put2_tells s.reserved p.hole.file p.index false f i) [
+        | inl z ↦
+            inr (both p.hole.file p.index f i (sym z.0) (sym z.1))
+        | inr z ↦ inl (z.1 ∙ a)
+      ];
+      grows = λ f. inl (omega arith);
+      nearer = λ _. omega arith;
+    }))
+punch_turn s t top killed grant (punch.Free p) turn new h one l e row =
+    plain call.Punch s t top (punch.Free p) _ turn _ new row refl refl refl refl (λ m. omega arith)
 punch_turn s t top killed grant (punch.Unslot p) turn new h one l e row =
     let y = stands_at s t _ h e in
     by_test (nat_lt (p.index + 1) (p.hole.from + p.hole.len)) row
-    (λ more r. let k = lt _ _ more in let z = times_next (p.hole.from + p.hole.len - (p.index + 1)) (p.hole.from + p.hole.len - (p.index + 1 + 1)) (6 + s.geometry.tasks) (omega arith) in plain call.Punch s t top (punch.Unslot p) _ turn _ new r refl refl refl refl (λ m. omega arith))
+    (λ more r. let k = lt _ _ more in
+    let z = times_next (p.hole.from + p.hole.len - (p.index + 1)) (p.hole.from + p.hole.len - (p.index + 1 + 1))
+    (6 + s.geometry.tasks) (omega arith) in
+    plain call.Punch s t top (punch.Unslot p) _ turn _ new r refl refl refl refl (λ m. omega arith))
     (λ last r. plain call.Punch s t top (punch.Unslot p) _ turn _ new r refl refl refl refl (λ m. omega arith))
-punch_turn s t top killed grant (punch.Leave p) turn new h one l e row = plain call.Punch s t top (punch.Leave p) _ turn _ new row refl refl refl refl (λ m. omega arith)
+punch_turn s t top killed grant (punch.Leave p) turn new h one l e row =
+    plain call.Punch s t top (punch.Leave p) _ turn _ new row refl refl refl refl (λ m. omega arith)
 
 -- the end of the pages is one
 same_end : (pages : ℕ → Option ℕ) (a b : ℕ) → IsPagesEnd pages a → IsPagesEnd pages b → a ≡ b
@@ -297,21 +435,40 @@ same_end pages a b p q = let x : a ≤ b = p.1 b q.0 in let y : b ≤ a = q.1 a 
 pub truncate_turn : (s : State) (t top : ℕ) (killed grant : Bool) (phase : TruncatePhase) (turn : Turn TruncatePhase) (new : Pool)
     → Inv s.geometry s → 1 ≤ t → t < s.geometry.tasks + 1 → s.calls t ≡ Some (call.Truncate phase)
     → TruncateRow (pool_of s) t killed grant phase turn new → Turned call.Truncate s t top phase turn new
-truncate_turn s t top killed grant (truncate.Start p) turn new h one l e row = start_turn call.Truncate s t top killed p.truncation.file _ _ (truncate.Start p) _ turn new row refl (λ _ m. omega arith) (λ m. omega arith)
+truncate_turn s t top killed grant (truncate.Start p) turn new h one l e row =
+    start_turn call.Truncate s t top killed p.truncation.file _ _ (truncate.Start p) _ turn new row refl
+    (λ _ m. omega arith) (λ m. omega arith)
 truncate_turn s t top killed grant (truncate.Size p) turn new h one l e (end, is_end, row) =
     let f = p.truncation.file in
     by_test (nat_lt p.truncation.new (max (s.size f) end)) row
     (λ more r. sized call.Truncate s t top f p.truncation.new (truncate.Size p) _ turn _ new r refl (λ u d. refl) refl refl (inr refl)
-    (λ o. let same : end ≡ o.0 = same_end (s.pages f) end o.0 is_end o.1 in let is : top ≡ max (s.size f) o.0 = o.2 in let k = lt _ _ more in let z = times_next (top - p.truncation.new) (max (s.size f) end - 1 - p.truncation.new) (5 + s.geometry.tasks) (omega arith) in omega arith))
-    (λ none r. sized call.Truncate s t top f p.truncation.new (truncate.Size p) _ turn _ new r refl (λ u d. refl) refl refl (inr refl) (λ o. omega arith))
-truncate_turn s t top killed grant (truncate.Want p) turn new h one l e row = want_turn call.Truncate s t top p.truncation.file p.index (truncate.Want p) _ turn new row refl (λ m. omega arith)
-truncate_turn s t top killed grant (truncate.Locked p) turn new h one l e row = by_test (is_some (s.pages p.truncation.file p.index)) row (λ _ r. plain call.Truncate s t top (truncate.Locked p) _ turn _ new r refl refl refl refl (λ m. omega arith)) (λ _ r. plain call.Truncate s t top (truncate.Locked p) _ turn _ new r refl refl refl refl (λ m. omega arith))
-truncate_turn s t top killed grant (truncate.Unmap p) turn new h one l e row = by_test (nat_lt p.task s.geometry.tasks) row (λ more r. let z = lt _ _ more in plain call.Truncate s t top (truncate.Unmap p) _ turn _ new r refl refl refl refl (λ m. omega arith)) (λ _ r. plain call.Truncate s t top (truncate.Unmap p) _ turn _ new r refl refl refl refl (λ m. omega arith))
-truncate_turn s t top killed grant (truncate.Evict p) turn new h one l e (x, page, row) = plain call.Truncate s t top (truncate.Evict p) _ turn _ new row refl refl refl refl (λ m. omega arith)
-truncate_turn s t top killed grant (truncate.Free p) turn new h one l e row = plain call.Truncate s t top (truncate.Free p) _ turn _ new row refl refl refl refl (λ m. omega arith)
+    (λ o. let same : end ≡ o.0 = same_end (s.pages f) end o.0 is_end o.1 in let is : top ≡ max (s.size f) o.0 = o.2 in
+    let k = lt _ _ more in
+    let z = times_next (top - p.truncation.new) (max (s.size f) end - 1 - p.truncation.new) (5 + s.geometry.tasks)
+    (omega arith) in
+    omega arith))
+    (λ none r. sized call.Truncate s t top f p.truncation.new (truncate.Size p) _ turn _ new r refl (λ u d. refl) refl
+    refl (inr refl) (λ o. omega arith))
+truncate_turn s t top killed grant (truncate.Want p) turn new h one l e row =
+    want_turn call.Truncate s t top p.truncation.file p.index (truncate.Want p) _ turn new row refl (λ m. omega arith)
+truncate_turn s t top killed grant (truncate.Locked p) turn new h one l e row =
+    by_test (is_some (s.pages p.truncation.file p.index)) row
+    (λ _ r. plain call.Truncate s t top (truncate.Locked p) _ turn _ new r refl refl refl refl (λ m. omega arith))
+    (λ _ r. plain call.Truncate s t top (truncate.Locked p) _ turn _ new r refl refl refl refl (λ m. omega arith))
+truncate_turn s t top killed grant (truncate.Unmap p) turn new h one l e row =
+    by_test (nat_lt p.task s.geometry.tasks) row
+    (λ more r. let z = lt _ _ more in
+    plain call.Truncate s t top (truncate.Unmap p) _ turn _ new r refl refl refl refl (λ m. omega arith))
+    (λ _ r. plain call.Truncate s t top (truncate.Unmap p) _ turn _ new r refl refl refl refl (λ m. omega arith))
+truncate_turn s t top killed grant (truncate.Evict p) turn new h one l e (x, page, row) =
+    plain call.Truncate s t top (truncate.Evict p) _ turn _ new row refl refl refl refl (λ m. omega arith)
+truncate_turn s t top killed grant (truncate.Free p) turn new h one l e row =
+    plain call.Truncate s t top (truncate.Free p) _ turn _ new row refl refl refl refl (λ m. omega arith)
 truncate_turn s t top killed grant (truncate.Unslot p) turn new h one l e row =
     by_test (nat_lt p.truncation.new p.index) row
-    (λ more r. let k = lt _ _ more in let z = times_next (p.index - p.truncation.new) (p.index - 1 - p.truncation.new) (5 + s.geometry.tasks) (omega arith) in plain call.Truncate s t top (truncate.Unslot p) _ turn _ new r refl refl refl refl (λ m. omega arith))
+    (λ more r. let k = lt _ _ more in
+    let z = times_next (p.index - p.truncation.new) (p.index - 1 - p.truncation.new) (5 + s.geometry.tasks) (omega arith) in
+    plain call.Truncate s t top (truncate.Unslot p) _ turn _ new r refl refl refl refl (λ m. omega arith))
     (λ last r. plain call.Truncate s t top (truncate.Unslot p) _ turn _ new r refl refl refl refl (λ m. omega arith))
 truncate_turn s t top killed grant (truncate.Tail p) turn new h one l e row =
     let f = p.truncation.file in
@@ -327,17 +484,37 @@ truncate_turn s t top killed grant (truncate.Tail p) turn new h one l e row =
     })
   where
     by_side : (k i : ℕ) → k ≡ p.truncation.file → s.reserved k i ≡ true → (b : Bool) → nat_lt i p.truncation.new ≡ b
-        → (put s.reserved p.truncation.file (cut_tail (s.reserved p.truncation.file) p.truncation.new) k i ≡ true) ⊎ (((p.truncation.file == k) && nat_le p.truncation.new i) ≡ true)
-    by_side k i d a true z = inl (ap (λ (m : ℕ → Bool). m i) (ap (put s.reserved p.truncation.file (cut_tail (s.reserved p.truncation.file) p.truncation.new)) d ∙ put_same s.reserved p.truncation.file (cut_tail (s.reserved p.truncation.file) p.truncation.new)) ∙ cut_below (s.reserved p.truncation.file) p.truncation.new i (lt i p.truncation.new z) (ap (λ (m : ℕ). s.reserved m i) (sym d) ∙ a))
+        → (put s.reserved p.truncation.file (cut_tail (s.reserved p.truncation.file) p.truncation.new) k i ≡ true)
+        ⊎ (((p.truncation.file == k) && nat_le p.truncation.new i) ≡ true)
+    by_side k i d a true z =
+        inl (ap (λ (m : ℕ → Bool). m i)
+        (ap (put s.reserved p.truncation.file (cut_tail (s.reserved p.truncation.file) p.truncation.new)) d
+        ∙ put_same s.reserved p.truncation.file (cut_tail (s.reserved p.truncation.file) p.truncation.new))
+        ∙ cut_below (s.reserved p.truncation.file) p.truncation.new i (lt i p.truncation.new z)
+        (ap (λ (m : ℕ). s.reserved m i) (sym d) ∙ a))
     by_side k i d a false z = inr (here_on p.truncation.file p.truncation.new k i (sym d) (le i p.truncation.new z))
-truncate_turn s t top killed grant (truncate.Settle p) turn new h one l e (low, row) = plain call.Truncate s t top (truncate.Settle p) _ turn _ new row refl refl refl refl (λ m. omega arith)
-truncate_turn s t top killed grant (truncate.Leave p) turn new h one l e row = plain call.Truncate s t top (truncate.Leave p) _ turn _ new row refl refl refl refl (λ m. omega arith)
+truncate_turn s t top killed grant (truncate.Settle p) turn new h one l e (low, row) =
+    plain call.Truncate s t top (truncate.Settle p) _ turn _ new row refl refl refl refl (λ m. omega arith)
+truncate_turn s t top killed grant (truncate.Leave p) turn new h one l e row =
+    plain call.Truncate s t top (truncate.Leave p) _ turn _ new row refl refl refl refl (λ m. omega arith)
 
 pub unmap_turn : (s : State) (t top : ℕ) (killed grant : Bool) (phase : UnmapPhase) (turn : Turn UnmapPhase) (new : Pool)
     → UnmapRow (pool_of s) t killed grant phase turn new → Turned call.Unmap s t top phase turn new
-unmap_turn s t top killed grant (unmap.Start p) turn new row = by_test (is_base (s.areas t) p.base) row (λ _ r. plain call.Unmap s t top (unmap.Start p) _ turn _ new r refl refl refl refl (λ m. omega arith)) (λ _ r. plain call.Unmap s t top (unmap.Start p) _ turn _ new r refl refl refl refl (λ m. omega arith))
-unmap_turn s t top killed grant (unmap.Clear p) turn new row = plain call.Unmap s t top (unmap.Clear p) _ turn _ new row refl refl refl refl (λ m. omega arith)
-unmap_turn s t top killed grant (unmap.Drop p) turn new row = turned call.Unmap s t top (unmap.Drop p) _ turn _ new row (record { goes = refl; areas = λ u d. put_other s.areas t _ u d; keeps = λ f i a. inl a; grows = λ f. inl (omega arith); nearer = λ _. omega arith })
+unmap_turn s t top killed grant (unmap.Start p) turn new row =
+    by_test (is_base (s.areas t) p.base) row
+    (λ _ r. plain call.Unmap s t top (unmap.Start p) _ turn _ new r refl refl refl refl (λ m. omega arith))
+    (λ _ r. plain call.Unmap s t top (unmap.Start p) _ turn _ new r refl refl refl refl (λ m. omega arith))
+unmap_turn s t top killed grant (unmap.Clear p) turn new row =
+    plain call.Unmap s t top (unmap.Clear p) _ turn _ new row refl refl refl refl (λ m. omega arith)
+unmap_turn s t top killed grant (unmap.Drop p) turn new row =
+    turned call.Unmap s t top (unmap.Drop p) _ turn _ new row
+    (record {
+      goes = refl;
+      areas = λ u d. put_other s.areas t _ u d;
+      keeps = λ f i a. inl a;
+      grows = λ f. inl (omega arith);
+      nearer = λ _. omega arith;
+    })
 
 -- a mapping fewer
 fewer : (ms : List Mapping) (base : ℕ) → is_base ms base ≡ true → length (without ms base) + 1 ≡ length ms
@@ -356,11 +533,30 @@ fewer_at s t base e = ap (λ (m : List Mapping). length m + 1) (put_same s.areas
 pub exit_turn : (s : State) (t top : ℕ) (killed grant : Bool) (phase : ExitPhase) (turn : Turn ExitPhase) (new : Pool)
     → Inv s.geometry s → s.calls t ≡ Some (call.Exit phase) → ExitRow (pool_of s) t killed grant phase turn new
     → Turned call.Exit s t top phase turn new
-exit_turn s t top killed grant exit.Start turn new h e row = by_option (first_base (s.areas t)) row (λ _ r. plain call.Exit s t top exit.Start _ turn _ new r refl refl refl refl (λ m. omega arith)) (λ base _ r. plain call.Exit s t top exit.Start _ turn _ new r refl refl refl refl (λ m. omega arith))
-exit_turn s t top killed grant (exit.Clear p) turn new h e row = plain call.Exit s t top (exit.Clear p) _ turn _ new row refl refl refl refl (λ m. omega arith)
+exit_turn s t top killed grant exit.Start turn new h e row =
+    by_option (first_base (s.areas t)) row
+    (λ _ r. plain call.Exit s t top exit.Start _ turn _ new r refl refl refl refl (λ m. omega arith))
+    (λ base _ r. plain call.Exit s t top exit.Start _ turn _ new r refl refl refl refl (λ m. omega arith))
+exit_turn s t top killed grant (exit.Clear p) turn new h e row =
+    plain call.Exit s t top (exit.Clear p) _ turn _ new row refl refl refl refl (λ m. omega arith)
 exit_turn s t top killed grant (exit.Drop p) turn new h e row =
     let z = fewer_at s t p.base (stands_at s t _ h e).facts.base in
     by_option (first_base (without (s.areas t) p.base)) row
-    (λ _ r. turned call.Exit s t top (exit.Drop p) _ turn _ new r (record { goes = refl; areas = λ u d. put_other s.areas t _ u d; keeps = λ f i a. inl a; grows = λ f. inl (omega arith); nearer = λ _. omega arith }))
-    (λ base _ r. turned call.Exit s t top (exit.Drop p) _ turn _ new r (record { goes = refl; areas = λ u d. put_other s.areas t _ u d; keeps = λ f i a. inl a; grows = λ f. inl (omega arith); nearer = λ _. omega arith }))
-exit_turn s t top killed grant exit.Leave turn new h e row = plain call.Exit s t top exit.Leave _ turn _ new row refl refl refl refl (λ m. omega arith)
+    (λ _ r. turned call.Exit s t top (exit.Drop p) _ turn _ new r
+    (record {
+      goes = refl;
+      areas = λ u d. put_other s.areas t _ u d;
+      keeps = λ f i a. inl a;
+      grows = λ f. inl (omega arith);
+      nearer = λ _. omega arith;
+    }))
+    (λ base _ r. turned call.Exit s t top (exit.Drop p) _ turn _ new r
+    (record {
+      goes = refl;
+      areas = λ u d. put_other s.areas t _ u d;
+      keeps = λ f i a. inl a;
+      grows = λ f. inl (omega arith);
+      nearer = λ _. omega arith;
+    }))
+exit_turn s t top killed grant exit.Leave turn new h e row =
+    plain call.Exit s t top exit.Leave _ turn _ new row refl refl refl refl (λ m. omega arith)

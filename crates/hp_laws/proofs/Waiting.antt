@@ -25,7 +25,8 @@ use Rattle.hp_machine.specs.declared.unmap.UnmapPhase.TheVariants as unmap
 use Rattle.hp_machine.specs.declared.exit.ExitPhase.TheVariants as exit
 use Rattle.hp_machine.specs.declared.call.Call.{Call}
 use Rattle.hp_machine.specs.declared.call.Call.TheVariants as call
-use Rattle.hp_laws.specs.Bounds.{most_steps, is_own, own_steps, is_begun, calls_begun, sizes, IsTop, SetsSize, SweepsFrom, WaitsFor, HoldsUp, IsUnblocked}
+use Rattle.hp_laws.specs.Bounds.{most_steps, is_own, own_steps, is_begun, calls_begun, sizes, IsTop, SetsSize, SweepsFrom}
+use Rattle.hp_laws.specs.Bounds.{WaitsFor, HoldsUp, IsUnblocked}
 use Rattle.hp_laws.specs.Histories.{Moment, History, in_order}
 use Rattle.hp_laws.proofs.StepsLeft.{steps_left}
 use Rattle.hp_laws.proofs.Holding.{some_same}
@@ -79,7 +80,10 @@ waits : (s : State) (t : ℕ) (grant : Bool) (u : ℕ) (n : State) → IsReached
 waits s t grant u n reached row = step_cases s t grant (outcome.Blocked u) n ((n ≡ s) × WaitsFor s (s.calls t) u) row
     (λ why e d. refused_blocks (outcome.Blocked u) why u e refl)
     (λ c lives e pool next r d. elim (stepped s t 0 grant c (outcome.Blocked u) pool next (always s reached) lives e r) [
-      | inl w ↦ (d ∙ same_state s t c pool next e w.2 w.3, subst (WaitsFor s (s.calls t)) (sym (same_holder w.1)) (subst (λ (m : Option Call). WaitsFor s m w.0) (sym e) w.4))
+      | inl w ↦ (
+        d ∙ same_state s t c pool next e w.2 w.3,
+        subst (WaitsFor s (s.calls t)) (sym (same_holder w.1)) (subst (λ (m : Option Call). WaitsFor s m w.0) (sym e) w.4),
+      )
       | inr w ↦ absurd (w.free u refl)
     ])
 
@@ -91,8 +95,10 @@ holds_up s t u reached w = let h = (always s reached).inv.holders in elim w [
 
 other_holder : (s : State) (t u : ℕ) → HoldsUp s u t → u ≢ t
 other_holder s t u w d = elim w [
-  | inl k ↦ none_some (slot_held (s.calls t)) k.1 (wants_no_slot (s.calls t) k.0 k.2).0 (ap (λ (m : ℕ). slot_held (s.calls m)) (sym d) ∙ k.3)
-  | inr f ↦ none_some (locked_file (s.calls t)) f.0 (wants_nothing (s.calls t) f.0 f.1).1 (ap (λ (m : ℕ). locked_file (s.calls m)) (sym d) ∙ f.2)
+  | inl k ↦ none_some (slot_held (s.calls t)) k.1 (wants_no_slot (s.calls t) k.0 k.2).0
+      (ap (λ (m : ℕ). slot_held (s.calls m)) (sym d) ∙ k.3)
+  | inr f ↦ none_some (locked_file (s.calls t)) f.0 (wants_nothing (s.calls t) f.0 f.1).1
+      (ap (λ (m : ℕ). locked_file (s.calls m)) (sym d) ∙ f.2)
 ]
 
 pub blocked_by_holder : (s : State) (t : ℕ) (grant : Bool) (u : ℕ) (n : State) → IsReached s
@@ -117,13 +123,20 @@ lock_holder_waits s t f grant u n reached e row = elim (blocked_by_holder s t gr
 
 -- free, or behind the holder of a slot, or waiting for a lock behind its holder
 abbrev Stuck : State → ℕ → Type 0
-Stuck s t = IsUnblocked s t ⊎ (((u : ℕ) × (k : ℕ × ℕ) × (slot_held (s.calls u) ≡ Some k)) ⊎ ((u f : ℕ) × (wants_lock (s.calls t) ≡ Some f) × (locked_file (s.calls u) ≡ Some f)))
+Stuck s t =
+    IsUnblocked s t ⊎ (((u : ℕ) × (k : ℕ × ℕ) × (slot_held (s.calls u) ≡ Some k))
+    ⊎ ((u f : ℕ) × (wants_lock (s.calls t) ≡ Some f) × (locked_file (s.calls u) ≡ Some f)))
 
 free_or_behind : (s : State) (t : ℕ) → IsReached s → Stuck s t
 free_or_behind s t reached = slot (wants_slot (s.calls t)) refl
   where
     lock : wants_slot (s.calls t) ≡ None → (o : Option ℕ) → wants_lock (s.calls t) ≡ o → Stuck s t
-    lock none None e = inl (λ grant u n w. elim (waits s t grant u n reached w).1 [ inl o ↦ none_some (wants_slot (s.calls t)) o.0 none o.1 | inr o ↦ none_some (wants_lock (s.calls t)) o.0 e o.1 ])
+    lock none None e =
+        inl (λ grant u n w. elim (waits s t grant u n reached w).1 [
+          | inl o ↦
+              none_some (wants_slot (s.calls t)) o.0 none o.1
+          | inr o ↦ none_some (wants_lock (s.calls t)) o.0 e o.1
+        ])
     lock none (Some f) e = holder (s.locks f) refl
       where
         holder : (o : Option ℕ) → s.locks f ≡ o → Stuck s t
@@ -139,7 +152,8 @@ free_or_behind s t reached = slot (wants_slot (s.calls t)) refl
       where
         holder : (o : Option ℕ) → s.slots (slot_of s.geometry k.0 k.1) ≡ o → Stuck s t
         holder None d = inl (λ grant u n w. elim (waits s t grant u n reached w).1 [
-          | inl o ↦ none_some (s.slots (slot_of s.geometry k.0 k.1)) u d (ap (λ (m : ℕ × ℕ). s.slots (slot_of s.geometry m.0 m.1)) (some_same (sym e ∙ o.1)) ∙ o.2)
+          | inl o ↦ none_some (s.slots (slot_of s.geometry k.0 k.1)) u d
+              (ap (λ (m : ℕ × ℕ). s.slots (slot_of s.geometry m.0 m.1)) (some_same (sym e ∙ o.1)) ∙ o.2)
           | inr o ↦ none_some (wants_lock (s.calls t)) o.0 (wants_no_slot (s.calls t) k e).1 o.1
         ])
         holder (Some u) d = (let o = (always s reached).inv.holders.slot (slot_of s.geometry k.0 k.1) u d in inr (inl (u, o.0, o.1)))
@@ -248,8 +262,11 @@ row_counts : (s : State) (t top : ℕ) (event : Event) (o : Outcome) (n : State)
 row_counts s t top (Begin u p) o n h quiet is_top row = begin_cases s u p o n (Counts t top s (Begin u p) o n) row
     (λ why e d. same_counts t top s n (Begin u p) o refl d)
     (λ lives none may e d. elim (same_or_other u t) [
-      | inl q ↦ (let a : is_begun t (Begin u p) o ≡ 1 = ap (is_begun t (Begin u p)) e ∙ (ap (λ (m : ℕ). bit (m == t)) q ∙ bit_same t) in absurd (omega arith))
-      | inr q ↦ (let b : left t top n ≡ left t top s = ap (left t top) d ∙ ap (steps_left s.geometry (length (s.areas t)) top) (put_other s.calls u (Some (first p)) t (λ z. q (sym z))) in omega arith)
+      | inl q ↦ (let a : is_begun t (Begin u p) o ≡ 1 = ap (is_begun t (Begin u p)) e
+          ∙ (ap (λ (m : ℕ). bit (m == t)) q ∙ bit_same t) in absurd (omega arith))
+      | inr q ↦ (let b : left t top n ≡ left t top s = ap (left t top) d
+          ∙ ap (steps_left s.geometry (length (s.areas t)) top)
+          (put_other s.calls u (Some (first p)) t (λ z. q (sym z))) in omega arith)
     ])
 row_counts s t top (Kill u) o n h quiet is_top row = kill_cases s u o n (Counts t top s (Kill u) o n) row
     (λ why e d. same_counts t top s n (Kill u) o refl d)
@@ -260,13 +277,17 @@ row_counts s t top (Step u grant) o n h quiet is_top row = step_cases s u grant 
       | inl w ↦ same_counts t top s n (Step u grant) o (ap (is_own t (Step u grant)) w.1) (d ∙ same_state s u c pool next e w.2 w.3)
       | inr w ↦ elim (same_or_other u t) [
         | inl q ↦ (let a : is_own t (Step u grant) o ≤ 1 = one_own t u grant o in
-            let b = mine c pool next e w (left_after s u u top grant c o pool next n h lives e r d) (λ z. is_top grant (ap (λ (m : ℕ). Step m grant) z)) q in
+            let b = mine c pool next e w (left_after s u u top grant c o pool next n h lives e r d)
+            (λ z. is_top grant (ap (λ (m : ℕ). Step m grant) z)) q in
             let x : left t top n + 1 ≤ left t top s = subst (λ (m : ℕ). left m top n + 1 ≤ left m top s) q b in
             omega arith)
         | inr q ↦ (let a : is_own t (Step u grant) o ≡ 0 = none_own t u grant o q in
             let x = left_after s t u top grant c o pool next n h lives e r d in
             let z : steps_left s.geometry (length (pool.areas t)) top (put s.calls u next t) ≡ left t top s
-            = ap (λ (m : List Mapping). steps_left s.geometry (length m) top (put s.calls u next t)) (w.areas t (λ z. q (sym z))) ∙ ap (steps_left s.geometry (length (s.areas t)) top) (put_other s.calls u next t (λ z. q (sym z))) in
+            =
+            ap (λ (m : List Mapping). steps_left s.geometry (length m) top (put s.calls u next t))
+            (w.areas t (λ z. q (sym z)))
+            ∙ ap (steps_left s.geometry (length (s.areas t)) top) (put_other s.calls u next t (λ z. q (sym z))) in
             omega arith)
       ]
     ])
@@ -275,10 +296,13 @@ row_counts s t top (Step u grant) o n h quiet is_top row = step_cases s u grant 
         → left u top n ≡ steps_left s.geometry (length (pool.areas u)) top (put s.calls u next u)
         → (u ≡ t → IfSome (sizes (s.calls t)) (λ f. IsTop s f top)) → u ≡ t → left u top n + 1 ≤ left u top s
     mine c pool next e w after tops q =
-        let there : IfSome (sizes (Some c)) (λ f. IsTop s f top) = subst (λ (m : Option Call). IfSome (sizes m) (λ f. IsTop s f top)) (ap s.calls (sym q) ∙ e) (tops q) in
+        let there : IfSome (sizes (Some c)) (λ f. IsTop s f top) =
+        subst (λ (m : Option Call). IfSome (sizes m) (λ f. IsTop s f top)) (ap s.calls (sym q) ∙ e) (tops q) in
         let near = w.nearer there in
-        let a : steps_left s.geometry (length (pool.areas u)) top (put s.calls u next u) ≡ steps_left s.geometry (length (pool.areas u)) top next = ap (steps_left s.geometry (length (pool.areas u)) top) (put_same s.calls u next) in
-        let b : left u top s ≡ steps_left s.geometry (length (s.areas u)) top (Some c) = ap (steps_left s.geometry (length (s.areas u)) top) e in
+        let a : steps_left s.geometry (length (pool.areas u)) top (put s.calls u next u) ≡ steps_left s.geometry
+        (length (pool.areas u)) top next = ap (steps_left s.geometry (length (pool.areas u)) top) (put_same s.calls u next) in
+        let b : left u top s ≡ steps_left s.geometry (length (s.areas u)) top (Some c) =
+        ap (steps_left s.geometry (length (s.areas u)) top) e in
         omega arith
 
 -- the top is that of the file whose size the call sets

@@ -72,11 +72,15 @@ SweepsFrom t top (m ∷ ms) = ((f : ℕ) → SetsSize t f m → IsTop m.before f
 
 -- the call's next step waits for the task that holds the slot or the lock which it takes next
 abbrev pub WaitsFor : State → Option Call → (holder : ℕ) → Type 0
-WaitsFor s c u = ((k : ℕ × ℕ) × (wants_slot c ≡ Some k) × (s.slots (slot_of s.geometry k.0 k.1) ≡ Some u)) ⊎ ((f : ℕ) × (wants_lock c ≡ Some f) × (s.locks f ≡ Some u))
+WaitsFor s c u =
+    ((k : ℕ × ℕ) × (wants_slot c ≡ Some k) × (s.slots (slot_of s.geometry k.0 k.1) ≡ Some u))
+    ⊎ ((f : ℕ) × (wants_lock c ≡ Some f) × (s.locks f ≡ Some u))
 
 -- task u's call in flight holds the slot or the lock that task t's call takes next
 abbrev pub HoldsUp : State → (u t : ℕ) → Type 0
-HoldsUp s u t = ((k j : ℕ × ℕ) × (wants_slot (s.calls t) ≡ Some k) × (slot_held (s.calls u) ≡ Some j) × (slot_of s.geometry j.0 j.1 ≡ slot_of s.geometry k.0 k.1))
+HoldsUp s u t =
+    ((k j : ℕ × ℕ) × (wants_slot (s.calls t) ≡ Some k) × (slot_held (s.calls u) ≡ Some j)
+    × (slot_of s.geometry j.0 j.1 ≡ slot_of s.geometry k.0 k.1))
     ⊎ ((f : ℕ) × (wants_lock (s.calls t) ≡ Some f) × (locked_file (s.calls u) ≡ Some f))
 
 -- no step of the task is blocked

@@ -22,26 +22,35 @@ use Rattle.hp_laws.specs.Words.{LastWord, Read, ReadTheLastWord}
 abbrev pub HasHistory : State → Type 0
 HasHistory s = (moments : List Moment) × History s.geometry s.frames moments s
 
--- of one call, from its begin on, the steps that moved or ended it are at most so many; of a truncation that has set the size the top counts, where its sweep began
+-- of one call, from its begin on, the steps that moved or ended it are at most so many; of a truncation that has set
+-- the size the top counts, where its sweep began
 abbrev pub FewOwnSteps : State → Type 0
 FewOwnSteps s = (g : Geometry) (frames : ℕ) (later : List Moment) (begins : Moment) (past : List Moment) (t top : ℕ) (op : Op)
-    → History g frames (later ++ (begins ∷ past)) s → begins.event ≡ Begin t op → begins.outcome ≡ Begun → calls_begun t (in_order later) ≡ 0 → SweepsFrom t top later
+    → History g frames (later ++ (begins ∷ past)) s → begins.event ≡ Begin t op → begins.outcome ≡ Begun
+    → calls_begun t (in_order later) ≡ 0 → SweepsFrom t top later
     → own_steps t (in_order later) ≤ most_steps begins.before.geometry op (length (begins.before.areas t)) top
 
 -- what a map has promised is reserved and below the size, until a punch or a truncation takes it back
 abbrev pub KeepsPromises : State → Type 0
-KeepsPromises s = (g : Geometry) (frames : ℕ) (moments : List Moment) (f i : ℕ) → History g frames moments s → IsPromised f i moments → (s.reserved f i ≡ true) × (i < s.size f)
+KeepsPromises s =
+    (g : Geometry) (frames : ℕ) (moments : List Moment) (f i : ℕ) → History g frames moments s
+    → IsPromised f i moments → (s.reserved f i ≡ true) × (i < s.size f)
 
 -- a touch whose index is promised where it asks what is missing never answers that there is no frame
 abbrev pub PromisedNeverLacks : State → Type 0
-PromisedNeverLacks s = (g : Geometry) (frames : ℕ) (ends : Moment) (later : List Moment) (asks : Moment) (past : List Moment) (t : ℕ) (grant last : Bool) (p : Missing) (answer : Answer)
+PromisedNeverLacks s =
+    (g : Geometry) (frames : ℕ) (ends : Moment) (later : List Moment) (asks : Moment) (past : List Moment) (t : ℕ)
+    (grant last : Bool) (p : Missing) (answer : Answer)
     → History g frames (ends ∷ (later ++ (asks ∷ past))) s → calls_begun t (in_order later) ≡ 0
     → asks.event ≡ Step t grant → asks.before.calls t ≡ Some (call.Touch (touch.Missing p)) → IsPromised p.touch.file p.touch.index past
     → ends.event ≡ Step t last → ends.outcome ≡ Ended answer → answer ≢ NoFrame
 
--- a load or store of a mapped page, whose index is promised from its begin to its end, with no step denied and its task not killed, answers with the word or done
+-- a load or store of a mapped page, whose index is promised from its begin to its end, with no step denied and its task
+-- not killed, answers with the word or done
 abbrev pub PromisedIsServed : State → Type 0
-PromisedIsServed s = (g : Geometry) (frames : ℕ) (ends : Moment) (later : List Moment) (begins : Moment) (past : List Moment) (t : ℕ) (op : Op) (look : Look) (f i : ℕ) (answer : Answer)
+PromisedIsServed s =
+    (g : Geometry) (frames : ℕ) (ends : Moment) (later : List Moment) (begins : Moment) (past : List Moment) (t : ℕ)
+    (op : Op) (look : Look) (f i : ℕ) (answer : Answer)
     → History g frames (ends ∷ (later ++ (begins ∷ past))) s → calls_begun t (in_order later) ≡ 0
     → begins.event ≡ Begin t op → begins.outcome ≡ Begun → first op ≡ call.Touch (touch.Look look)
     → find (begins.before.areas t) look.vpn ≡ Some (f, i) → begins.before.life t ≡ Alive → IsUndisturbed t f i later (begins ∷ past)

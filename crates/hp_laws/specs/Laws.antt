@@ -39,29 +39,39 @@ HasNoDeadEnd s = (event : Event) → (outcome : Outcome) × (after : State) × R
 
 -- a reserved index goes only at a delete or a tail, under the file lock, and never one on which another call counts
 abbrev pub LosesUnderLock : State → Type 0
-LosesUnderLock s = (event : Event) (outcome : Outcome) (after : State) (f i : ℕ) → Row s event outcome after → s.reserved f i ≡ true → after.reserved f i ≡ false → GoesUnderLock s event f i
+LosesUnderLock s =
+    (event : Event) (outcome : Outcome) (after : State) (f i : ℕ) → Row s event outcome after → s.reserved f i ≡ true
+    → after.reserved f i ≡ false → GoesUnderLock s event f i
 
 -- an outcome that moved a call tells the word of the phase at which the call stands then
 abbrev pub MovesTellPhases : State → Type 0
-MovesTellPhases s = (t : ℕ) (grant : Bool) (phase : Phase) (after : State) → Row s (Step t grant) (Moved phase) after → (c : Call) × (after.calls t ≡ Some c) × (word_of c ≡ phase)
+MovesTellPhases s =
+    (t : ℕ) (grant : Bool) (phase : Phase) (after : State) → Row s (Step t grant) (Moved phase) after
+    → (c : Call) × (after.calls t ≡ Some c) × (word_of c ≡ phase)
 
 -- a touch whose change found nothing missing takes a free frame, unless a kill is noticed there
 abbrev pub TouchTakes : State → Type 0
 TouchTakes s = (t : ℕ) (grant : Bool) (p : touch_changed.Changed) (outcome : Outcome) (after : State)
-    → s.calls t ≡ Some (call.Touch (touch.Changed p)) → p.pending.missing ≡ 0 → is_killed (s.life t) ≡ false → Row s (Step t grant) outcome after
-    → (x : ℕ) × (s.frame x ≡ Free) × (outcome ≡ Moved word.Taken) × (after.calls t ≡ Some (call.Touch (touch.Taken (record { touch = p.touch; pending = p.pending; held = x }))))
+    → s.calls t ≡ Some (call.Touch (touch.Changed p)) → p.pending.missing ≡ 0 → is_killed (s.life t) ≡ false
+    → Row s (Step t grant) outcome after
+    → (x : ℕ) × (s.frame x ≡ Free) × (outcome ≡ Moved word.Taken)
+    × (after.calls t ≡ Some (call.Touch (touch.Taken (record { touch = p.touch; pending = p.pending; held = x }))))
 
 -- so does an allocation
 abbrev pub AllocTakes : State → Type 0
 AllocTakes s = (t : ℕ) (grant : Bool) (p : alloc_changed.Changed) (outcome : Outcome) (after : State)
-    → s.calls t ≡ Some (call.Alloc (alloc.Changed p)) → p.pending.missing ≡ 0 → is_killed (s.life t) ≡ false → Row s (Step t grant) outcome after
+    → s.calls t ≡ Some (call.Alloc (alloc.Changed p)) → p.pending.missing ≡ 0 → is_killed (s.life t) ≡ false
+    → Row s (Step t grant) outcome after
     → (x : ℕ) × (s.frame x ≡ Free) × (outcome ≡ Moved word.Taken)
-    × (after.calls t ≡ Some (call.Alloc (alloc.Taken (record { allocation = p.allocation; index = p.index; pending = p.pending; held = x }))))
+    × (after.calls t ≡ Some
+    (call.Alloc (alloc.Taken (record { allocation = p.allocation; index = p.index; pending = p.pending; held = x }))))
 
 -- a touch whose change found nothing missing never answers that there is no frame, whatever comes between
 abbrev pub TouchNeverLacks : State → Type 0
-TouchNeverLacks s = (t : ℕ) (p : touch_changed.Changed) (rest : List (Event × Outcome)) (n : State) (last : Bool) (answer : Answer) (after : State)
-    → s.calls t ≡ Some (call.Touch (touch.Changed p)) → p.pending.missing ≡ 0 → Run s rest n → calls_begun t rest ≡ 0 → Row n (Step t last) (Ended answer) after → answer ≢ NoFrame
+TouchNeverLacks s =
+    (t : ℕ) (p : touch_changed.Changed) (rest : List (Event × Outcome)) (n : State) (last : Bool) (answer : Answer) (after : State)
+    → s.calls t ≡ Some (call.Touch (touch.Changed p)) → p.pending.missing ≡ 0 → Run s rest n → calls_begun t rest ≡ 0
+    → Row n (Step t last) (Ended answer) after → answer ≢ NoFrame
 
 -- an allocation whose change found nothing missing at an index doesn't leave that index for want of a frame, whatever comes between
 abbrev pub AllocNeverLacks : State → Type 0
@@ -72,7 +82,8 @@ AllocNeverLacks s = (t : ℕ) (p : alloc_changed.Changed) (rest : List (Event ×
 -- where a truncation ends here with Done, nothing of its file at or above the new size is translated, cached or reserved
 abbrev pub TruncationCuts : State → Type 0
 TruncationCuts s = (t : ℕ) (grant : Bool) (phase : TruncatePhase) (after : State)
-    → s.calls t ≡ Some (call.Truncate phase) → Row s (Step t grant) (Ended Done) after → IsCut after (truncation_of phase).file (truncation_of phase).new
+    → s.calls t ≡ Some (call.Truncate phase) → Row s (Step t grant) (Ended Done) after
+    → IsCut after (truncation_of phase).file (truncation_of phase).new
 
 -- an index from which a truncation takes the page here stays reserved until the truncation takes its tail out
 abbrev pub EvictedStays : State → Type 0
@@ -82,11 +93,14 @@ EvictedStays s = (t : ℕ) (p : Evict) (rest : List (Event × Outcome)) (n : Sta
 
 -- a truncation evicted no more pages than its tail takes indices out
 abbrev pub EvictsFew : State → Type 0
-EvictsFew s = (t : ℕ) (p : Tail) → s.calls t ≡ Some (call.Truncate (truncate.Tail p)) → p.evicted ≤ count_within (s.reserved p.truncation.file) p.truncation.new s.geometry.limit
+EvictsFew s =
+    (t : ℕ) (p : Tail) → s.calls t ≡ Some (call.Truncate (truncate.Tail p))
+    → p.evicted ≤ count_within (s.reserved p.truncation.file) p.truncation.new s.geometry.limit
 
 -- a step is blocked only by another task, whose call in flight holds what the step would take, and it changes nothing
 abbrev pub BlockedByHolders : State → Type 0
-BlockedByHolders s = (t : ℕ) (grant : Bool) (u : ℕ) (after : State) → Row s (Step t grant) (Blocked u) after → (after ≡ s) × (u ≢ t) × HoldsUp s u t
+BlockedByHolders s =
+    (t : ℕ) (grant : Bool) (u : ℕ) (after : State) → Row s (Step t grant) (Blocked u) after → (after ≡ s) × (u ≢ t) × HoldsUp s u t
 
 -- a call that holds a slot is never blocked
 abbrev pub SlotHoldersGoOn : State → Type 0
@@ -99,4 +113,6 @@ LockHoldersWaitForSlots s = (t f : ℕ) (grant : Bool) (u : ℕ) (after : State)
 
 -- where calls are in flight, the next step of one of them isn't blocked, and its task isn't dead
 abbrev pub SomeCallGoesOn : State → Type 0
-SomeCallGoesOn s = (t : ℕ) (c : Call) → s.calls t ≡ Some c → (u : ℕ) × (d : Call) × (s.calls u ≡ Some d) × (is_dead (s.life u) ≡ false) × IsUnblocked s u
+SomeCallGoesOn s =
+    (t : ℕ) (c : Call) → s.calls t ≡ Some c
+    → (u : ℕ) × (d : Call) × (s.calls u ≡ Some d) × (is_dead (s.life u) ≡ false) × IsUnblocked s u

@@ -48,7 +48,9 @@ is_bare c = is_bare_at (standing_of c).work
 
 -- two calls that hold a frame stand at different indices
 abbrev pub HandsApart : State → Type 0
-HandsApart s = (t u x y : ℕ) → t ≢ u → hand (s.calls t) ≡ Some x → hand (s.calls u) ≡ Some y → (k j : ℕ × ℕ) × (slot_held (s.calls t) ≡ Some k) × (slot_held (s.calls u) ≡ Some j) × (k ≢ j)
+HandsApart s =
+    (t u x y : ℕ) → t ≢ u → hand (s.calls t) ≡ Some x → hand (s.calls u) ≡ Some y
+    → (k j : ℕ × ℕ) × (slot_held (s.calls t) ≡ Some k) × (slot_held (s.calls u) ≡ Some j) × (k ≢ j)
 
 -- and where a call makes a page there is none
 abbrev pub BareWhereMade : State → Type 0
@@ -67,7 +69,9 @@ is_frame_for (Some x) place f i = is_there place f i
 
 -- a call counts on an index where it has a change in progress that covers it, or a frame in its hand for its page
 abbrev pub counts_on : Option Call → (file index : ℕ) → Bool
-counts_on c f i = is_covered (standing_of c).change f i || is_frame_for (standing_of c).hand (made_at (standing_of c).work (standing_of c).slot) f i
+counts_on c f i =
+    is_covered (standing_of c).change f i
+    || is_frame_for (standing_of c).hand (made_at (standing_of c).work (standing_of c).slot) f i
 
 -- a reserved index goes only at a delete or a tail, under the file lock, and no other call counts on it
 abbrev pub GoesUnderLock : State → Event → (file index : ℕ) → Type 0

@@ -14,13 +14,18 @@ use Rattle.hp_laws.specs.Histories.{Moment, in_order}
 
 -- a store found its page translated, and wrote that word at the file's index
 abbrev pub StoredAtLook : (file index : ℕ) → Moment → (word : ℕ) → Type 0
-StoredAtLook f i m w = (t : ℕ) × (grant : Bool) × (p : Look) × (m.event ≡ Step t grant) × (m.before.calls t ≡ Some (call.Touch (touch.Look p))) × (p.access ≡ Store w)
+StoredAtLook f i m w =
+    (t : ℕ) × (grant : Bool) × (p : Look) × (m.event ≡ Step t grant)
+    × (m.before.calls t ≡ Some (call.Touch (touch.Look p))) × (p.access ≡ Store w)
     × (find (m.before.areas t) p.vpn ≡ Some (f, i)) × (m.outcome ≡ outcome.Ended answer.Done)
 
 -- or found its page, translated it and wrote
 abbrev pub StoredAtFound : (file index : ℕ) → Moment → (word : ℕ) → Type 0
-StoredAtFound f i m w = (t : ℕ) × (grant : Bool) × (p : Found) × (m.event ≡ Step t grant) × (m.before.calls t ≡ Some (call.Touch (touch.Found p))) × (p.touch.access ≡ Store w)
-    × (p.touch.file ≡ f) × (p.touch.index ≡ i) × (m.after.calls t ≡ Some (call.Touch (touch.Leave (record { touch = p.touch; answer = answer.Done }))))
+StoredAtFound f i m w =
+    (t : ℕ) × (grant : Bool) × (p : Found) × (m.event ≡ Step t grant)
+    × (m.before.calls t ≡ Some (call.Touch (touch.Found p))) × (p.touch.access ≡ Store w)
+    × (p.touch.file ≡ f) × (p.touch.index ≡ i)
+    × (m.after.calls t ≡ Some (call.Touch (touch.Leave (record { touch = p.touch; answer = answer.Done }))))
 
 abbrev pub Wrote : (file index : ℕ) → Moment → (word : ℕ) → Type 0
 Wrote f i m w = StoredAtLook f i m w ⊎ StoredAtFound f i m w
@@ -40,12 +45,17 @@ LastWord f i (m ∷ ms) w = Sets f i m w ⊎ (((v : ℕ) → Sets f i m v → �
 
 -- a load told that word of the file's index
 abbrev pub ReadAtLook : (file index : ℕ) → Moment → (word : ℕ) → Type 0
-ReadAtLook f i m w = (t : ℕ) × (grant : Bool) × (p : Look) × (m.event ≡ Step t grant) × (m.before.calls t ≡ Some (call.Touch (touch.Look p))) × (p.access ≡ Load)
+ReadAtLook f i m w =
+    (t : ℕ) × (grant : Bool) × (p : Look) × (m.event ≡ Step t grant)
+    × (m.before.calls t ≡ Some (call.Touch (touch.Look p))) × (p.access ≡ Load)
     × (find (m.before.areas t) p.vpn ≡ Some (f, i)) × (m.outcome ≡ outcome.Ended (answer.Word w))
 
 abbrev pub ReadAtFound : (file index : ℕ) → Moment → (word : ℕ) → Type 0
-ReadAtFound f i m w = (t : ℕ) × (grant : Bool) × (p : Found) × (m.event ≡ Step t grant) × (m.before.calls t ≡ Some (call.Touch (touch.Found p))) × (p.touch.access ≡ Load)
-    × (p.touch.file ≡ f) × (p.touch.index ≡ i) × (m.after.calls t ≡ Some (call.Touch (touch.Leave (record { touch = p.touch; answer = answer.Word w }))))
+ReadAtFound f i m w =
+    (t : ℕ) × (grant : Bool) × (p : Found) × (m.event ≡ Step t grant)
+    × (m.before.calls t ≡ Some (call.Touch (touch.Found p))) × (p.touch.access ≡ Load)
+    × (p.touch.file ≡ f) × (p.touch.index ≡ i)
+    × (m.after.calls t ≡ Some (call.Touch (touch.Leave (record { touch = p.touch; answer = answer.Word w }))))
 
 abbrev pub Read : (file index : ℕ) → Moment → (word : ℕ) → Type 0
 Read f i m w = ReadAtLook f i m w ⊎ ReadAtFound f i m w

@@ -39,10 +39,14 @@ ghost use Rattle.hp_machine.specs.declared.truncate.Evict.{Evict};
 ghost use Rattle.hp_machine.specs.declared.truncate.Tail.{Tail};
 ghost use Rattle.hp_laws.specs.Sweep.{gone};
 ghost use Rattle.hp_base.specs.Indices.{count_within};
-ghost use Rattle.hp_laws.specs.HistoryLaws.{HasHistory, FewOwnSteps, KeepsPromises, PromisedNeverLacks, PromisedIsServed, LoadsTellLastWords, LoadsEndWithLastWords};
-ghost use Rattle.hp_laws.specs.Laws.{NeverShort, HasNoDeadEnd, LosesUnderLock, MovesTellPhases, TouchTakes, AllocTakes, TouchNeverLacks, AllocNeverLacks, TruncationCuts, EvictedStays, EvictsFew, BlockedByHolders, SlotHoldersGoOn, LockHoldersWaitForSlots, SomeCallGoesOn};
+ghost use Rattle.hp_laws.specs.HistoryLaws.{HasHistory, FewOwnSteps, KeepsPromises, PromisedNeverLacks, PromisedIsServed};
+ghost use Rattle.hp_laws.specs.HistoryLaws.{LoadsTellLastWords, LoadsEndWithLastWords};
+ghost use Rattle.hp_laws.specs.Laws.{NeverShort, HasNoDeadEnd, LosesUnderLock, MovesTellPhases, TouchTakes, AllocTakes};
+ghost use Rattle.hp_laws.specs.Laws.{TouchNeverLacks, AllocNeverLacks, TruncationCuts, EvictedStays, EvictsFew, BlockedByHolders};
+ghost use Rattle.hp_laws.specs.Laws.{SlotHoldersGoOn, LockHoldersWaitForSlots, SomeCallGoesOn};
 ghost use Rattle.hp_laws.specs.Histories.{Moment, History, in_order};
-ghost use Rattle.hp_laws.specs.Protocol.{ChangesAreCalls, SparesSuffice, PagesAreReserved, LiesWithin, HandsApart, BareWhereMade, GoesUnderLock, PassedIsBare, truncation_of, IsCut};
+ghost use Rattle.hp_laws.specs.Protocol.{ChangesAreCalls, SparesSuffice, PagesAreReserved, LiesWithin, HandsApart, BareWhereMade};
+ghost use Rattle.hp_laws.specs.Protocol.{GoesUnderLock, PassedIsBare, truncation_of, IsCut};
 
 /// After every list of events by any number of tasks, with kills and refused memory anywhere:
 /// translations of one file index name one frame, no frame is free and in use or in two places, no
@@ -128,7 +132,8 @@ pub fn a_blocked_step_waits_for_a_holder()
 pub fn a_denial_shows_where_growth_is_wanted()
     ensures unwanted { (s : State) (t : ℕ) (c : Call) (o : Outcome) (after : State) → s.calls t ≡ Some c → ¬ Wants (pool_of s) t c
         → Row s (Step t false) o after ↔ Row s (Step t true) o after }
-    ensures wanted { (s : State) (t : ℕ) (c : Call) (denied granted : Outcome) (after other : State) → s.calls t ≡ Some c → is_dead (s.life t) ≡ false → Wants (pool_of s) t c
+    ensures wanted { (s : State) (t : ℕ) (c : Call) (denied granted : Outcome) (after other : State)
+        → s.calls t ≡ Some c → is_dead (s.life t) ≡ false → Wants (pool_of s) t c
         → Row s (Step t false) denied after → Row s (Step t true) granted other → after.calls t ≢ other.calls t }
 {}
 
@@ -208,7 +213,8 @@ pub fn a_promised_touch_is_served()
 
 /// Each run has its history: its events with the states around them.
 pub fn a_run_has_its_history()
-    ensures { (g : Geometry) (frames : ℕ) (events : List (Event × Outcome)) (s : State) → Run (opening g frames) events s → (moments : List Moment) × History g frames moments s × (in_order moments ≡ events) }
+    ensures { (g : Geometry) (frames : ℕ) (events : List (Event × Outcome)) (s : State)
+        → Run (opening g frames) events s → (moments : List Moment) × History g frames moments s × (in_order moments ≡ events) }
 {}
 
 /// So each reached state has a history.

@@ -3,7 +3,8 @@ use Rattle.std.specs.Prelude.{ℕ, ◌+◌, Bool, Some, None, MatchBool, MatchOp
 use Rattle.hp_base.specs.Numbers.{put}
 use Rattle.hp_base.specs.declared.answer.Answer.TheVariants as answer
 use Rattle.hp_machine.specs.State.{Pool}
-use Rattle.hp_machine.specs.Parts.{Goes, Ends, StartRow, is_bad_range, unlocked, WantSlotRow, unslotted, ChangeRow, aborted, CommitRow, TakeRow, SettleOneRow, placed, restored}
+use Rattle.hp_machine.specs.Parts.{Goes, Ends, StartRow, is_bad_range, unlocked, WantSlotRow, unslotted, ChangeRow, aborted}
+use Rattle.hp_machine.specs.Parts.{CommitRow, TakeRow, SettleOneRow, placed, restored}
 use Rattle.hp_machine.specs.declared.alloc.Start.{Start}
 use Rattle.hp_machine.specs.declared.alloc.Head.{Head}
 use Rattle.hp_machine.specs.declared.alloc.Want.{Want}
@@ -25,7 +26,8 @@ use Rattle.hp_machine.specs.declared.call.Turn.{Turn}
 -- range check. Killed: Interrupted. File lock held: blocked. Else it is taken, to head with the first index
 abbrev pub AllocStartRow : Pool → (task : ℕ) → (killed : Bool) → Start → Turn AllocPhase → Pool → Type 0
 AllocStartRow s t killed p turn new =
-    StartRow s t killed p.allocation.file (is_bad_range s p.allocation.from p.allocation.len) answer.Interrupted (at.Start p) (at.Head (record { allocation = p.allocation; index = p.allocation.from })) turn new
+    StartRow s t killed p.allocation.file (is_bad_range s p.allocation.from p.allocation.len) answer.Interrupted
+    (at.Start p) (at.Head (record { allocation = p.allocation; index = p.allocation.from })) turn new
 
 -- killed: to leave (Interrupted). Else to want
 abbrev pub AllocHeadRow : Pool → (killed : Bool) → Head → Turn AllocPhase → Pool → Type 0
@@ -51,22 +53,31 @@ AllocLockedRow s p turn new =
 -- change of the index denied: to unslot (NoMemory). Else to changed
 abbrev pub AllocMissingRow : Pool → (grant : Bool) → Missing → Turn AllocPhase → Pool → Type 0
 AllocMissingRow s grant p turn new =
-    ChangeRow s grant p.allocation.file p.index (p.index + 1) (at.Unslot (record { allocation = p.allocation; index = p.index; answer = Some answer.NoMemory })) (λ change. at.Changed (record { allocation = p.allocation; index = p.index; pending = change })) turn new
+    ChangeRow s grant p.allocation.file p.index (p.index + 1)
+    (at.Unslot (record { allocation = p.allocation; index = p.index; answer = Some answer.NoMemory }))
+    (λ change. at.Changed (record { allocation = p.allocation; index = p.index; pending = change })) turn new
 
 -- killed: to abort (Interrupted). Else a frame is taken, to taken, or to abort (NoFrame)
 abbrev pub AllocChangedRow : Pool → (killed : Bool) → Changed → Turn AllocPhase → Pool → Type 0
 AllocChangedRow s killed p turn new =
     MatchBool killed
     (Goes (at.Abort (record { allocation = p.allocation; index = p.index; pending = p.pending; answer = answer.Interrupted })) s turn new)
-    (TakeRow s p.pending.missing (at.Abort (record { allocation = p.allocation; index = p.index; pending = p.pending; answer = answer.NoFrame })) (λ x. at.Taken (record { allocation = p.allocation; index = p.index; pending = p.pending; held = x })) turn new)
+    (TakeRow s p.pending.missing
+    (at.Abort (record { allocation = p.allocation; index = p.index; pending = p.pending; answer = answer.NoFrame }))
+    (λ x. at.Taken (record { allocation = p.allocation; index = p.index; pending = p.pending; held = x })) turn new)
 
 -- the change is aborted, to unslot
 abbrev pub AllocAbortRow : Pool → Abort → Turn AllocPhase → Pool → Type 0
-AllocAbortRow s p turn new = Goes (at.Unslot (record { allocation = p.allocation; index = p.index; answer = Some p.answer })) (aborted s p.allocation.file) turn new
+AllocAbortRow s p turn new =
+    Goes (at.Unslot (record { allocation = p.allocation; index = p.index; answer = Some p.answer }))
+    (aborted s p.allocation.file) turn new
 
 -- commit; added less than missing: to settle. Else to committed
 abbrev pub AllocTakenRow : Pool → Taken → Turn AllocPhase → Pool → Type 0
-AllocTakenRow s p turn new = CommitRow s p.allocation.file p.pending (at.Settle (record { allocation = p.allocation; index = p.index; held = p.held })) (at.Committed (record { allocation = p.allocation; index = p.index; held = p.held })) turn new
+AllocTakenRow s p turn new =
+    CommitRow s p.allocation.file p.pending
+    (at.Settle (record { allocation = p.allocation; index = p.index; held = p.held }))
+    (at.Committed (record { allocation = p.allocation; index = p.index; held = p.held })) turn new
 
 -- resv minus 1, to committed
 abbrev pub AllocSettleRow : Pool → Settle → Turn AllocPhase → Pool → Type 0
@@ -76,12 +87,14 @@ AllocSettleRow s p turn new = SettleOneRow s (at.Committed (record { allocation 
 abbrev pub AllocCommittedRow : Pool → (grant : Bool) → Committed → Turn AllocPhase → Pool → Type 0
 AllocCommittedRow s grant p turn new =
     MatchBool grant
-    (Goes (at.Unslot (record { allocation = p.allocation; index = p.index; answer = None })) (placed s p.allocation.file p.index p.held) turn new)
+    (Goes (at.Unslot (record { allocation = p.allocation; index = p.index; answer = None }))
+    (placed s p.allocation.file p.index p.held) turn new)
     (Goes (at.Restore (record { allocation = p.allocation; index = p.index; held = p.held; answer = answer.NoMemory })) s turn new)
 
 -- the frame is freed, resv plus 1, the map's entry stays, to unslot
 abbrev pub AllocRestoreRow : Pool → Restore → Turn AllocPhase → Pool → Type 0
-AllocRestoreRow s p turn new = Goes (at.Unslot (record { allocation = p.allocation; index = p.index; answer = Some p.answer })) (restored s p.held) turn new
+AllocRestoreRow s p turn new =
+    Goes (at.Unslot (record { allocation = p.allocation; index = p.index; answer = Some p.answer })) (restored s p.held) turn new
 
 -- the slot is left. An answer is carried: to leave. More indices: to head with the next. Else to leave (Done)
 -- where the size is kept, to extend where not

@@ -1,5 +1,6 @@
 -- The machine: what each event may do, and what a list of events leads to.
-use Rattle.std.specs.Prelude.{◌≡◌, ℕ, ◌&&◌, Bool, true, false, not, Option, Some, None, List, [], ◌∷◌, MatchBool, MatchOption, nat_le, nat_lt, if◌then◌else◌}
+use Rattle.std.specs.Prelude.{◌≡◌, ℕ, ◌&&◌, Bool, true, false, not, Option, Some, None, List, [], ◌∷◌, MatchBool, MatchOption}
+use Rattle.std.specs.Prelude.{nat_le, nat_lt, if◌then◌else◌}
 use Rattle.hp_base.specs.Numbers.{put}
 use Rattle.hp_base.specs.declared.event.Op.{Op}
 use Rattle.hp_base.specs.declared.event.Op.TheVariants as op
@@ -38,11 +39,13 @@ use Rattle.hp_machine.specs.declared.call.Turn.TheVariants.{Moved, Blocked, Ende
 -- where a call of the operation begins
 abbrev pub first : Op → Call
 first (op.Map file from len) = call.Map (map.Start (record { map = record { reserve = true; file = file; from = from; len = len } }))
-first (op.MapNoReserve file from len) = call.Map (map.Start (record { map = record { reserve = false; file = file; from = from; len = len } }))
+first (op.MapNoReserve file from len) =
+    call.Map (map.Start (record { map = record { reserve = false; file = file; from = from; len = len } }))
 first (op.Unmap base) = call.Unmap (unmap.Start (record { base = base }))
 first (op.Load vpn) = call.Touch (touch.Look (record { vpn = vpn; access = access.Load }))
 first (op.Store vpn new) = call.Touch (touch.Look (record { vpn = vpn; access = access.Store new }))
-first (op.Alloc file from len keep) = call.Alloc (alloc.Start (record { allocation = record { file = file; from = from; len = len; keep = keep } }))
+first (op.Alloc file from len keep) =
+    call.Alloc (alloc.Start (record { allocation = record { file = file; from = from; len = len; keep = keep } }))
 first (op.Punch file from len) = call.Punch (punch.Start (record { hole = record { file = file; from = from; len = len } }))
 first (op.Truncate file new) = call.Truncate (truncate.Start (record { truncation = record { file = file; new = new } }))
 first op.Exit = call.Exit exit.Start

@@ -22,7 +22,8 @@ use Rattle.hp_machine.specs.declared.call.Turn.{Turn}
 -- range check. Killed: Killed. File lock held: blocked. Else it is taken, to room
 abbrev pub MapStartRow : Pool → (task : ℕ) → (killed : Bool) → Start → Turn MapPhase → Pool → Type 0
 MapStartRow s t killed p turn new =
-    StartRow s t killed p.map.file (is_bad_range s p.map.from p.map.len) answer.Killed (at.Start p) (at.Room (record { map = p.map })) turn new
+    StartRow s t killed p.map.file (is_bad_range s p.map.from p.map.len) answer.Killed (at.Start p)
+    (at.Room (record { map = p.map })) turn new
 
 -- no base: to leave (NoAddress). Denied: to leave (NoMemory). Else to missing, or to enter where nothing is reserved
 abbrev pub MapRoomRow : Pool → (task : ℕ) → (grant : Bool) → Room → Turn MapPhase → Pool → Type 0
@@ -39,7 +40,9 @@ MapRoomRow s t grant p turn new =
 -- change of the whole range denied: to leave (NoMemory). Else to changed
 abbrev pub MapMissingRow : Pool → (grant : Bool) → Missing → Turn MapPhase → Pool → Type 0
 MapMissingRow s grant p turn new =
-    ChangeRow s grant p.map.file p.map.from (p.map.from + p.map.len) (at.Leave (record { map = p.map; answer = answer.NoMemory })) (λ change. at.Changed (record { map = p.map; base = p.base; pending = change })) turn new
+    ChangeRow s grant p.map.file p.map.from (p.map.from + p.map.len)
+    (at.Leave (record { map = p.map; answer = answer.NoMemory }))
+    (λ change. at.Changed (record { map = p.map; base = p.base; pending = change })) turn new
 
 -- killed: to abort (Killed). Fewer free frames than resv and what is missing: to abort (NoFrame). Else resv
 -- grows by what is missing, to accounted
@@ -49,7 +52,8 @@ MapChangedRow s killed p turn new =
     (Goes (at.Abort (record { map = p.map; pending = p.pending; answer = answer.Killed })) s turn new)
     (MatchBool (nat_lt (frees s - s.resv) p.pending.missing)
     (Goes (at.Abort (record { map = p.map; pending = p.pending; answer = answer.NoFrame })) s turn new)
-    (Goes (at.Accounted (record { map = p.map; base = p.base; pending = p.pending })) (record s { resv = s.resv + p.pending.missing }) turn new))
+    (Goes (at.Accounted (record { map = p.map; base = p.base; pending = p.pending }))
+    (record s { resv = s.resv + p.pending.missing }) turn new))
 
 -- the change is aborted, to leave
 abbrev pub MapAbortRow : Pool → Abort → Turn MapPhase → Pool → Type 0
@@ -60,12 +64,14 @@ abbrev pub MapAccountedRow : Pool → Accounted → Turn MapPhase → Pool → T
 MapAccountedRow s p turn new =
     let added = missing (s.reserved p.map.file) p.pending.from p.pending.to in
     MatchBool (nat_lt added p.pending.missing)
-    (Goes (at.Settle (record { map = p.map; base = p.base; surplus = p.pending.missing - added })) (committed s p.map.file p.pending) turn new)
+    (Goes (at.Settle (record { map = p.map; base = p.base; surplus = p.pending.missing - added }))
+    (committed s p.map.file p.pending) turn new)
     (Goes (at.Enter (record { map = p.map; base = p.base })) (committed s p.map.file p.pending) turn new)
 
 -- resv minus what was accounted for and not added, to enter
 abbrev pub MapSettleRow : Pool → Settle → Turn MapPhase → Pool → Type 0
-MapSettleRow s p turn new = (p.surplus ≤ s.resv) × Goes (at.Enter (record { map = p.map; base = p.base })) (record s { resv = s.resv - p.surplus }) turn new
+MapSettleRow s p turn new =
+    (p.surplus ≤ s.resv) × Goes (at.Enter (record { map = p.map; base = p.base })) (record s { resv = s.resv - p.surplus }) turn new
 
 -- the mapping is entered, size becomes the larger of size and from + len, to leave (Mapped)
 abbrev pub MapEnterRow : Pool → (task : ℕ) → Enter → Turn MapPhase → Pool → Type 0

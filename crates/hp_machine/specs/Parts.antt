@@ -1,6 +1,7 @@
 -- What rows of more than one operation say: outcomes, locks and slots, takes, changes, and the pages and
 -- entries that go.
-use Rattle.std.specs.Prelude.{◌≡◌, ℕ, ◌+◌, ◌-◌, ◌≤◌, ◌&&◌, ◌||◌, ◌==◌, Bool, not, Option, Some, None, max, nat_le, nat_lt, MatchBool, MatchOption, if◌then◌else◌}
+use Rattle.std.specs.Prelude.{◌≡◌, ℕ, ◌+◌, ◌-◌, ◌≤◌, ◌&&◌, ◌||◌, ◌==◌, Bool, not, Option, Some, None, max, nat_le, nat_lt}
+use Rattle.std.specs.Prelude.{MatchBool, MatchOption, if◌then◌else◌}
 use Rattle.hp_base.specs.Numbers.{put, put2}
 use Rattle.hp_base.specs.Indices.{missing, add_range, touches}
 use Rattle.hp_base.specs.Mappings.{without_index, without_mapping}
@@ -32,7 +33,8 @@ abbrev pub Waits : {P : Type 0} → P → (holder : ℕ) → Pool → Turn P →
 Waits phase holder s turn new = (turn ≡ Blocked phase holder) × (new ≡ s)
 
 -- the start of a call on a file: the range check, a kill, and the file's lock
-abbrev pub StartRow : {P : Type 0} → Pool → (task : ℕ) → (killed : Bool) → (file : ℕ) → (out_of_range : Bool) → (at_kill : Answer) → (here next : P) → Turn P → Pool → Type 0
+abbrev pub StartRow : {P : Type 0} → Pool → (task : ℕ) → (killed : Bool) → (file : ℕ) → (out_of_range : Bool)
+    → (at_kill : Answer) → (here next : P) → Turn P → Pool → Type 0
 StartRow s t killed f out_of_range at_kill here next turn new =
     MatchBool (nat_le s.geometry.files f)
     (Ends answer.BadFile s turn new)
@@ -63,11 +65,16 @@ abbrev pub unslotted : Pool → (file index : ℕ) → Pool
 unslotted s f i = record s { slots = put s.slots (slot_of s.geometry f i) None }
 
 -- a change of the range is begun, or denied where it wants growth that isn't granted (Linux: `region_chg`)
-abbrev pub ChangeRow : {P : Type 0} → Pool → (grant : Bool) → (file from to : ℕ) → (denied : P) → (changed : Change → P) → Turn P → Pool → Type 0
+abbrev pub ChangeRow : {P : Type 0} → Pool → (grant : Bool) → (file from to : ℕ) → (denied : P)
+    → (changed : Change → P) → Turn P → Pool → Type 0
 ChangeRow s grant f from to denied changed turn new =
     MatchBool ((s.spare f == s.pending f) && not grant)
     (Goes denied s turn new)
-    (Goes (changed (record { from = from; to = to; missing = missing (s.reserved f) from to })) (record s { pending = put s.pending f (s.pending f + 1); spare = put s.spare f (max (s.spare f) (s.pending f + 1)) }) turn new)
+    (Goes (changed (record { from = from; to = to; missing = missing (s.reserved f) from to }))
+    (record s {
+      pending = put s.pending f (s.pending f + 1);
+      spare = put s.spare f (max (s.spare f) (s.pending f + 1));
+    }) turn new)
 
 -- a change is taken back (Linux: `region_abort`)
 abbrev pub aborted : Pool → (file : ℕ) → Pool

@@ -22,11 +22,13 @@ use Rattle.hp_machine.specs.declared.call.Turn.{Turn}
 -- range check. Killed: Killed. File lock held: blocked. Else it is taken, to want with the first index
 abbrev pub PunchStartRow : Pool → (task : ℕ) → (killed : Bool) → Start → Turn PunchPhase → Pool → Type 0
 PunchStartRow s t killed p turn new =
-    StartRow s t killed p.hole.file (is_bad_range s p.hole.from p.hole.len) answer.Killed (at.Start p) (at.Want (record { hole = p.hole; index = p.hole.from })) turn new
+    StartRow s t killed p.hole.file (is_bad_range s p.hole.from p.hole.len) answer.Killed (at.Start p)
+    (at.Want (record { hole = p.hole; index = p.hole.from })) turn new
 
 -- slot held: blocked. Else it is taken, to locked
 abbrev pub PunchWantRow : Pool → (task : ℕ) → Want → Turn PunchPhase → Pool → Type 0
-PunchWantRow s t p turn new = WantSlotRow s t p.hole.file p.index (at.Want p) (at.Locked (record { hole = p.hole; index = p.index })) turn new
+PunchWantRow s t p turn new =
+    WantSlotRow s t p.hole.file p.index (at.Want p) (at.Locked (record { hole = p.hole; index = p.index })) turn new
 
 -- no page cached: to unslot. Else to unmap, at task 1
 abbrev pub PunchLockedRow : Pool → Locked → Turn PunchPhase → Pool → Type 0
@@ -37,7 +39,10 @@ PunchLockedRow s p turn new =
 
 -- one task's entries of the index are cleared; more tasks: to unmap at the next. Else to evict
 abbrev pub PunchUnmapRow : Pool → Unmap → Turn PunchPhase → Pool → Type 0
-PunchUnmapRow s p turn new = UnmapIndexRow s p.task p.hole.file p.index (at.Unmap (record { hole = p.hole; index = p.index; task = p.task + 1 })) (at.Evict (record { hole = p.hole; index = p.index })) turn new
+PunchUnmapRow s p turn new =
+    UnmapIndexRow s p.task p.hole.file p.index
+    (at.Unmap (record { hole = p.hole; index = p.index; task = p.task + 1 }))
+    (at.Evict (record { hole = p.hole; index = p.index })) turn new
 
 -- the page leaves the cache into the call's hand, to delete
 abbrev pub PunchEvictRow : Pool → Evict → Turn PunchPhase → Pool → Type 0
@@ -53,7 +58,10 @@ PunchDeleteRow s grant p turn new =
     MatchBool (is_split && nat_le (s.spare f) (s.pending f) && not grant)
     (Goes (at.Free (record { hole = p.hole; index = p.index; held = p.held; denied = true })) s turn new)
     (Goes (at.Free (record { hole = p.hole; index = p.index; held = p.held; denied = false }))
-    (record s { reserved = put2 s.reserved f p.index false; spare = put s.spare f (if is_split && nat_lt (s.pending f) (s.spare f) then s.spare f - 1 else s.spare f) }) turn new)
+    (record s {
+      reserved = put2 s.reserved f p.index false;
+      spare = put s.spare f (if is_split && nat_lt (s.pending f) (s.spare f) then s.spare f - 1 else s.spare f);
+    }) turn new)
 
 -- the frame is freed; resv plus 1 where the delete was denied, for the index is still reserved; to unslot
 abbrev pub PunchFreeRow : Pool → Free → Turn PunchPhase → Pool → Type 0

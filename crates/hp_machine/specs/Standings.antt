@@ -61,7 +61,18 @@ pub record Standing : Type 0 where
 
 -- a call that owes, holds and wants nothing; the lines below name what differs
 abbrev pub apart : Standing
-apart = record { less = 0; more = 0; hand = None; change = NoChange; lock = None; slot = None; wants = Nothing; work = NoWork; sweep = NoSweep }
+apart =
+    record {
+      less = 0;
+      more = 0;
+      hand = None;
+      change = NoChange;
+      lock = None;
+      slot = None;
+      wants = Nothing;
+      work = NoWork;
+      sweep = NoSweep;
+    }
 
 -- it holds the slot of its index, the lock of its file, or both
 abbrev pub in_touch : Touch → Standing
@@ -99,7 +110,13 @@ standing (call.Touch (touch.Locked p)) = in_touch p.touch
 standing (call.Touch (touch.Missing p)) = record (in_touch p.touch) { work = Makes }
 standing (call.Touch (touch.Changed p)) = record (in_touch p.touch) { work = Makes; change = Counts p.touch.file p.pending }
 standing (call.Touch (touch.Abort p)) = record (in_touch p.touch) { work = Makes; change = GivesUp p.touch.file }
-standing (call.Touch (touch.Taken p)) = record (in_touch p.touch) { work = Makes; change = Counts p.touch.file p.pending; hand = Some p.held; less = bit (p.pending.missing == 0) }
+standing (call.Touch (touch.Taken p)) =
+    record (in_touch p.touch) {
+      work = Makes;
+      change = Counts p.touch.file p.pending;
+      hand = Some p.held;
+      less = bit (p.pending.missing == 0);
+    }
 standing (call.Touch (touch.Settle p)) = record (in_touch p.touch) { work = Makes; hand = Some p.held }
 standing (call.Touch (touch.Committed p)) = record (in_touch p.touch) { work = Makes; hand = Some p.held; less = 1 }
 standing (call.Touch (touch.Restore p)) = record (in_touch p.touch) { work = Makes; hand = Some p.held; less = 1 }
@@ -119,9 +136,16 @@ standing (call.Alloc (alloc.Head p)) = in_alloc p.allocation
 standing (call.Alloc (alloc.Want p)) = record (in_alloc p.allocation) { wants = Slot p.allocation.file p.index }
 standing (call.Alloc (alloc.Locked p)) = in_alloc_at p.allocation p.index
 standing (call.Alloc (alloc.Missing p)) = record (in_alloc_at p.allocation p.index) { work = Makes }
-standing (call.Alloc (alloc.Changed p)) = record (in_alloc_at p.allocation p.index) { work = Makes; change = Counts p.allocation.file p.pending }
+standing (call.Alloc (alloc.Changed p)) =
+    record (in_alloc_at p.allocation p.index) { work = Makes; change = Counts p.allocation.file p.pending }
 standing (call.Alloc (alloc.Abort p)) = record (in_alloc_at p.allocation p.index) { work = Makes; change = GivesUp p.allocation.file }
-standing (call.Alloc (alloc.Taken p)) = record (in_alloc_at p.allocation p.index) { work = Makes; change = Counts p.allocation.file p.pending; hand = Some p.held; less = bit (p.pending.missing == 0) }
+standing (call.Alloc (alloc.Taken p)) =
+    record (in_alloc_at p.allocation p.index) {
+      work = Makes;
+      change = Counts p.allocation.file p.pending;
+      hand = Some p.held;
+      less = bit (p.pending.missing == 0);
+    }
 standing (call.Alloc (alloc.Settle p)) = record (in_alloc_at p.allocation p.index) { work = Makes; hand = Some p.held }
 standing (call.Alloc (alloc.Committed p)) = record (in_alloc_at p.allocation p.index) { work = Makes; hand = Some p.held; less = 1 }
 standing (call.Alloc (alloc.Restore p)) = record (in_alloc_at p.allocation p.index) { work = Makes; hand = Some p.held; less = 1 }
@@ -145,8 +169,10 @@ standing (call.Truncate (truncate.Unmap p)) = record (in_sweep_at p.truncation p
 standing (call.Truncate (truncate.Evict p)) = record (in_sweep_at p.truncation p.index p.evicted) { work = Removes }
 standing (call.Truncate (truncate.Free p)) = record (in_sweep_at p.truncation p.index p.evicted) { work = Removed; hand = Some p.held }
 standing (call.Truncate (truncate.Unslot p)) = record (in_sweep_at p.truncation p.index p.evicted) { work = Removed }
-standing (call.Truncate (truncate.Tail p)) = record (in_truncate p.truncation) { less = p.evicted; sweep = Past p.truncation.file p.truncation.new }
-standing (call.Truncate (truncate.Settle p)) = record (in_truncate p.truncation) { more = p.surplus; sweep = Gone p.truncation.file p.truncation.new }
+standing (call.Truncate (truncate.Tail p)) =
+    record (in_truncate p.truncation) { less = p.evicted; sweep = Past p.truncation.file p.truncation.new }
+standing (call.Truncate (truncate.Settle p)) =
+    record (in_truncate p.truncation) { more = p.surplus; sweep = Gone p.truncation.file p.truncation.new }
 standing (call.Truncate (truncate.Leave p)) = record (in_truncate p.truncation) { sweep = Gone p.truncation.file p.truncation.new }
 standing (call.Unmap (unmap.Start p)) = apart
 standing (call.Unmap (unmap.Clear p)) = apart

@@ -6,7 +6,8 @@ use Rattle.hp_base.specs.Mappings.{find}
 use Rattle.hp_base.specs.declared.answer.Answer.TheVariants as answer
 use Rattle.hp_frames.specs.declared.frame.FrameState.TheVariants.{Placed}
 use Rattle.hp_machine.specs.State.{Pool}
-use Rattle.hp_machine.specs.Parts.{Goes, Ends, WantSlotRow, unslotted, ChangeRow, aborted, CommitRow, TakeRow, SettleOneRow, placed, restored, answer_of, frame_after}
+use Rattle.hp_machine.specs.Parts.{Goes, Ends, WantSlotRow, unslotted, ChangeRow, aborted, CommitRow, TakeRow, SettleOneRow}
+use Rattle.hp_machine.specs.Parts.{placed, restored, answer_of, frame_after}
 use Rattle.hp_machine.specs.declared.touch.Look.{Look}
 use Rattle.hp_machine.specs.declared.touch.Want.{Want}
 use Rattle.hp_machine.specs.declared.touch.Locked.{Locked}
@@ -30,7 +31,8 @@ TouchLookRow s t p turn new =
     (Ends answer.Segv s turn new)
     (λ place. MatchOption (s.table t p.vpn)
     (Goes (at.Want (record { touch = record { vpn = p.vpn; access = p.access; file = place.0; index = place.1 } })) s turn new)
-    (λ x. (word : ℕ) × (s.frame x ≡ Placed word) × Ends (answer_of p.access word) (record s { frame = frame_after p.access s.frame x }) turn new))
+    (λ x. (word : ℕ) × (s.frame x ≡ Placed word)
+    × Ends (answer_of p.access word) (record s { frame = frame_after p.access s.frame x }) turn new))
 
 -- killed: Killed. Slot held: blocked. Else the slot is taken, to locked
 abbrev pub TouchWantRow : Pool → (task : ℕ) → (killed : Bool) → Want → Turn TouchPhase → Pool → Type 0
@@ -51,14 +53,17 @@ TouchLockedRow s p turn new =
 -- change of the index denied: to leave (NoMemory). Else to changed
 abbrev pub TouchMissingRow : Pool → (grant : Bool) → Missing → Turn TouchPhase → Pool → Type 0
 TouchMissingRow s grant p turn new =
-    ChangeRow s grant p.touch.file p.touch.index (p.touch.index + 1) (at.Leave (record { touch = p.touch; answer = answer.NoMemory })) (λ change. at.Changed (record { touch = p.touch; pending = change })) turn new
+    ChangeRow s grant p.touch.file p.touch.index (p.touch.index + 1)
+    (at.Leave (record { touch = p.touch; answer = answer.NoMemory }))
+    (λ change. at.Changed (record { touch = p.touch; pending = change })) turn new
 
 -- killed: to abort (Killed). Else a frame is taken, to taken, or to abort (NoFrame)
 abbrev pub TouchChangedRow : Pool → (killed : Bool) → Changed → Turn TouchPhase → Pool → Type 0
 TouchChangedRow s killed p turn new =
     MatchBool killed
     (Goes (at.Abort (record { touch = p.touch; pending = p.pending; answer = answer.Killed })) s turn new)
-    (TakeRow s p.pending.missing (at.Abort (record { touch = p.touch; pending = p.pending; answer = answer.NoFrame })) (λ x. at.Taken (record { touch = p.touch; pending = p.pending; held = x })) turn new)
+    (TakeRow s p.pending.missing (at.Abort (record { touch = p.touch; pending = p.pending; answer = answer.NoFrame }))
+    (λ x. at.Taken (record { touch = p.touch; pending = p.pending; held = x })) turn new)
 
 -- the change is aborted, to leave
 abbrev pub TouchAbortRow : Pool → Abort → Turn TouchPhase → Pool → Type 0
@@ -66,7 +71,9 @@ TouchAbortRow s p turn new = Goes (at.Leave (record { touch = p.touch; answer = 
 
 -- commit; added less than missing: to settle. Else to committed
 abbrev pub TouchTakenRow : Pool → Taken → Turn TouchPhase → Pool → Type 0
-TouchTakenRow s p turn new = CommitRow s p.touch.file p.pending (at.Settle (record { touch = p.touch; held = p.held })) (at.Committed (record { touch = p.touch; held = p.held })) turn new
+TouchTakenRow s p turn new =
+    CommitRow s p.touch.file p.pending (at.Settle (record { touch = p.touch; held = p.held }))
+    (at.Committed (record { touch = p.touch; held = p.held })) turn new
 
 -- resv minus 1, to committed
 abbrev pub TouchSettleRow : Pool → Settle → Turn TouchPhase → Pool → Type 0
@@ -93,7 +100,8 @@ TouchFoundRow s t grant p turn new =
     (Goes (at.Leave (record { touch = p.touch; answer = answer.Beyond })) s turn new)
     (MatchBool grant
     ((x : ℕ) × (word : ℕ) × (s.pages p.touch.file p.touch.index ≡ Some x) × (s.frame x ≡ Placed word)
-    × Goes (at.Leave (record { touch = p.touch; answer = answer_of p.touch.access word })) (record s { table = put2 s.table t p.touch.vpn (Some x); frame = frame_after p.touch.access s.frame x }) turn new)
+    × Goes (at.Leave (record { touch = p.touch; answer = answer_of p.touch.access word }))
+    (record s { table = put2 s.table t p.touch.vpn (Some x); frame = frame_after p.touch.access s.frame x }) turn new)
     (Goes (at.Leave (record { touch = p.touch; answer = answer.NoMemory })) s turn new))
 
 -- the slot is left

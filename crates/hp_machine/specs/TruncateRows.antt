@@ -25,7 +25,8 @@ use Rattle.hp_machine.specs.declared.call.Turn.{Turn}
 -- range check. Killed: Killed. File lock held: blocked. Else it is taken, to size
 abbrev pub TruncateStartRow : Pool → (task : ℕ) → (killed : Bool) → Start → Turn TruncatePhase → Pool → Type 0
 TruncateStartRow s t killed p turn new =
-    StartRow s t killed p.truncation.file (nat_lt s.geometry.limit p.truncation.new) answer.Killed (at.Start p) (at.Size (record { truncation = p.truncation })) turn new
+    StartRow s t killed p.truncation.file (nat_lt s.geometry.limit p.truncation.new) answer.Killed (at.Start p)
+    (at.Size (record { truncation = p.truncation })) turn new
 
 -- the top is the larger of size and the end of the pages; size becomes new. Top above new: to want with the
 -- index below the top. Else to tail
@@ -40,7 +41,9 @@ TruncateSizeRow s p turn new =
 
 -- slot held: blocked. Else it is taken, to locked
 abbrev pub TruncateWantRow : Pool → (task : ℕ) → Want → Turn TruncatePhase → Pool → Type 0
-TruncateWantRow s t p turn new = WantSlotRow s t p.truncation.file p.index (at.Want p) (at.Locked (record { truncation = p.truncation; index = p.index; evicted = p.evicted })) turn new
+TruncateWantRow s t p turn new =
+    WantSlotRow s t p.truncation.file p.index (at.Want p)
+    (at.Locked (record { truncation = p.truncation; index = p.index; evicted = p.evicted })) turn new
 
 -- no page cached: to unslot. Else to unmap, at task 1
 abbrev pub TruncateLockedRow : Pool → Locked → Turn TruncatePhase → Pool → Type 0
@@ -51,16 +54,22 @@ TruncateLockedRow s p turn new =
 
 -- one task's entries of the index are cleared; more tasks: to unmap at the next. Else to evict
 abbrev pub TruncateUnmapRow : Pool → Unmap → Turn TruncatePhase → Pool → Type 0
-TruncateUnmapRow s p turn new = UnmapIndexRow s p.task p.truncation.file p.index (at.Unmap (record { truncation = p.truncation; index = p.index; evicted = p.evicted; task = p.task + 1 })) (at.Evict (record { truncation = p.truncation; index = p.index; evicted = p.evicted })) turn new
+TruncateUnmapRow s p turn new =
+    UnmapIndexRow s p.task p.truncation.file p.index
+    (at.Unmap (record { truncation = p.truncation; index = p.index; evicted = p.evicted; task = p.task + 1 }))
+    (at.Evict (record { truncation = p.truncation; index = p.index; evicted = p.evicted })) turn new
 
 -- the page leaves the cache into the call's hand, to free
 abbrev pub TruncateEvictRow : Pool → Evict → Turn TruncatePhase → Pool → Type 0
-TruncateEvictRow s p turn new = EvictRow s p.truncation.file p.index (λ x. at.Free (record { truncation = p.truncation; index = p.index; evicted = p.evicted + 1; held = x })) turn new
+TruncateEvictRow s p turn new =
+    EvictRow s p.truncation.file p.index
+    (λ x. at.Free (record { truncation = p.truncation; index = p.index; evicted = p.evicted + 1; held = x })) turn new
 
 -- the frame is freed, to unslot
 abbrev pub TruncateFreeRow : Pool → Free → Turn TruncatePhase → Pool → Type 0
 TruncateFreeRow s p turn new =
-    Goes (at.Unslot (record { truncation = p.truncation; index = p.index; evicted = p.evicted })) (record s { frame = put s.frame p.held frame.Free }) turn new
+    Goes (at.Unslot (record { truncation = p.truncation; index = p.index; evicted = p.evicted }))
+    (record s { frame = put s.frame p.held frame.Free }) turn new
 
 -- the slot is left. Index above new: to want with the index below. Else to tail
 abbrev pub TruncateUnslotRow : Pool → Unslot → Turn TruncatePhase → Pool → Type 0
@@ -74,12 +83,16 @@ TruncateUnslotRow s p turn new =
 abbrev pub TruncateTailRow : Pool → Tail → Turn TruncatePhase → Pool → Type 0
 TruncateTailRow s p turn new =
     let f = p.truncation.file in
-    Goes (at.Settle (record { truncation = p.truncation; surplus = count_within (s.reserved f) p.truncation.new s.geometry.limit - p.evicted }))
+    Goes (at.Settle (record {
+      truncation = p.truncation;
+      surplus = count_within (s.reserved f) p.truncation.new s.geometry.limit - p.evicted;
+    }))
     (record s { reserved = put s.reserved f (cut_tail (s.reserved f) p.truncation.new) }) turn new
 
 -- resv minus the indices that went and had no page, to leave
 abbrev pub TruncateSettleRow : Pool → Settle → Turn TruncatePhase → Pool → Type 0
-TruncateSettleRow s p turn new = (p.surplus ≤ s.resv) × Goes (at.Leave (record { truncation = p.truncation })) (record s { resv = s.resv - p.surplus }) turn new
+TruncateSettleRow s p turn new =
+    (p.surplus ≤ s.resv) × Goes (at.Leave (record { truncation = p.truncation })) (record s { resv = s.resv - p.surplus }) turn new
 
 -- the file lock is left: Done
 abbrev pub TruncateLeaveRow : Pool → Leave → Turn TruncatePhase → Pool → Type 0

@@ -23,8 +23,11 @@ use Rattle.hp_laws.proofs.Invariant.{Inv}
 use Rattle.hp_laws.proofs.Shared.{by_test}
 use Rattle.hp_meaning.specs.Meaning.{IsReady, Looks, Checked, is_bad_range, available, Filled, AllocMeans}
 use Rattle.hp_meaning.proofs.Alone.{if_true, if_false, if_none, Leads, next, moves, goes_on, ends_so, from_pool, put_put, Comes}
-use Rattle.hp_meaning.proofs.Idle.{so_true, so_false, finish, idle_again, free_slot, free_lock, put_back, pending_back, not_below_itself, and_false, checked}
-use Rattle.hp_meaning.proofs.Filling.{count_next, missing_next, count_empty, missing_empty, missing_longer, bare_parts, range_more, range_same, range_empty, range_past, range_gains, none_filled, fills_same, fills_more}
+use Rattle.hp_meaning.proofs.Idle.{so_true, so_false, finish, idle_again, free_slot, free_lock, put_back, pending_back}
+use Rattle.hp_meaning.proofs.Idle.{not_below_itself, and_false, checked}
+use Rattle.hp_meaning.proofs.Filling.{count_next, missing_next, count_empty, missing_empty, missing_longer, bare_parts}
+use Rattle.hp_meaning.proofs.Filling.{range_more, range_same, range_empty, range_past, range_gains, none_filled, fills_same}
+use Rattle.hp_meaning.proofs.Filling.{fills_more}
 
 -- granted steps of a task that isn't killed
 abbrev pub AllocSteps : (task : ℕ) → Pool → AllocPhase → Turn AllocPhase → Pool → Type 0
@@ -66,36 +69,64 @@ record OneMore (s : State) (t : ℕ) (a : Allocation) (i : ℕ) (b : Answer) (en
   resv : ℕ
   spare : ℕ → ℕ
   upto : Upto s a.file a.from (i + 1) pages frame resv
-  leads : Leads (AllocSteps t) b end (record (paged s t a.file a.from (i + 1) pages frame resv spare) { slots = put s.slots (slot_of s.geometry a.file i) (Some t) }) (at.Unslot (record { allocation = a; index = i; answer = None }))
+  leads : Leads (AllocSteps t) b end
+      (record (paged s t a.file a.from (i + 1) pages frame resv spare) {
+        slots = put s.slots
+            (slot_of s.geometry a.file i) (Some t);
+      }) (at.Unslot (record { allocation = a; index = i; answer = None }))
 
 -- or it lacks a frame
-record Short (s : State) (t : ℕ) (a : Allocation) (i : ℕ) (pages : ℕ → Option ℕ) (frame : ℕ → FrameState) (resv : ℕ) (b : Answer) (end : Pool) : Type 0 where
+record Short (s : State) (t : ℕ) (a : Allocation) (i : ℕ) (pages : ℕ → Option ℕ) (frame : ℕ → FrameState) (resv : ℕ)
+    (b : Answer) (end : Pool) : Type 0 where
   spare : ℕ → ℕ
   lacks : s.reserved a.file i ≡ false
   all : missing (s.reserved a.file) a.from i ≡ available s
-  leads : Leads (AllocSteps t) b end (record (paged s t a.file a.from i pages frame resv spare) { slots = put s.slots (slot_of s.geometry a.file i) (Some t) }) (at.Unslot (record { allocation = a; index = i; answer = Some NoFrame }))
+  leads : Leads (AllocSteps t) b end
+      (record (paged s t a.file a.from i pages frame resv spare) {
+        slots = put s.slots (slot_of s.geometry a.file i)
+            (Some t);
+      }) (at.Unslot (record { allocation = a; index = i; answer = Some NoFrame }))
 
 -- an index with a page
-cached_index : (s : State) (t : ℕ) (a : Allocation) (i x : ℕ) (pages : ℕ → Option ℕ) (frame : ℕ → FrameState) (resv : ℕ) (spare : ℕ → ℕ) (b : Answer) (end : Pool)
+cached_index : (s : State) (t : ℕ) (a : Allocation) (i x : ℕ) (pages : ℕ → Option ℕ) (frame : ℕ → FrameState)
+    (resv : ℕ) (spare : ℕ → ℕ) (b : Answer) (end : Pool)
     → Ready s a.file → a.from ≤ i → Upto s a.file a.from i pages frame resv
     → s.pages a.file i ≡ Some x
-    → Leads (AllocSteps t) b end (record (paged s t a.file a.from i pages frame resv spare) { slots = put s.slots (slot_of s.geometry a.file i) (Some t) }) (at.Locked (record { allocation = a; index = i }))
+    → Leads (AllocSteps t) b end
+    (record (paged s t a.file a.from i pages frame resv spare) {
+      slots = put s.slots (slot_of s.geometry a.file i)
+          (Some t);
+    }) (at.Locked (record { allocation = a; index = i }))
     → OneMore s t a i b end
 cached_index s t a i x pages frame resv spare b end h low u e k =
     let f = a.file in
     let here : put s.pages f pages f i ≡ Some x = ap (λ (row : ℕ → Option ℕ). row i) (put_same s.pages f pages) ∙ u.filled.kept i x e in
     let k1 = goes_on k (λ turn m r. if_true _ _ (ap is_some here) r) in
     let same = range_same (s.reserved f) a.from i low reserved in
-    let missed : missing (s.reserved f) a.from (i + 1) ≡ missing (s.reserved f) a.from i + 0 = missing_next (s.reserved f) a.from i low ∙ ap (λ (c : Bool). missing (s.reserved f) a.from i + cond (not c) 1 0) reserved in
-    let waits : (s.reserved f i && is_none (s.pages f i)) ≡ false = ap (λ (o : Option ℕ). s.reserved f i && is_none o) e ∙ and_false (s.reserved f i) in
-    let counted : promised s f a.from (i + 1) ≡ promised s f a.from i + 0 = count_next (λ j. s.reserved f j && is_none (s.pages f j)) a.from i low ∙ ap (λ (c : Bool). promised s f a.from i + cond c 1 0) waits in
+    let missed : missing (s.reserved f) a.from (i + 1) ≡ missing (s.reserved f) a.from i + 0 =
+    missing_next (s.reserved f) a.from i low ∙ ap (λ (c : Bool). missing (s.reserved f) a.from i + cond (not c) 1 0) reserved in
+    let waits : (s.reserved f i && is_none (s.pages f i)) ≡ false =
+    ap (λ (o : Option ℕ). s.reserved f i && is_none o) e ∙ and_false (s.reserved f i) in
+    let counted : promised s f a.from (i + 1) ≡ promised s f a.from i + 0 =
+    count_next (λ j. s.reserved f j && is_none (s.pages f j)) a.from i low
+    ∙ ap (λ (c : Bool). promised s f a.from i + cond c 1 0) waits in
     record {
       pages = pages;
       frame = frame;
       resv = resv;
       spare = spare;
-      upto = record { filled = fills_same s.frames (s.pages f) s.frame a.from i x pages frame low e u.filled; count = (let z = u.count in omega arith); within = (let z = u.within in omega arith) };
-      leads = from_pool (λ j. record (paged s t f a.from i pages frame resv spare) { slots = put s.slots (slot_of s.geometry f i) (Some t); reserved = put s.reserved f (same j) }) k1;
+      upto =
+          record {
+            filled = fills_same s.frames (s.pages f) s.frame a.from i x pages frame low e u.filled;
+            count = (let z = u.count in omega arith);
+            within = (let z = u.within in omega arith);
+          };
+      leads =
+          from_pool (λ j. record (paged s t f a.from i pages frame resv spare) {
+            slots = put s.slots
+                (slot_of s.geometry f i) (Some t);
+            reserved = put s.reserved f (same j);
+          }) k1;
     }
   where
     by_bit : (c : Bool) → s.reserved a.file i ≡ c → s.reserved a.file i ≡ true
@@ -125,27 +156,39 @@ abbrev change_of : State → Allocation → (i : ℕ) → Change
 change_of s a i = record { from = i; to = i + 1; missing = missing (reserved_at s a.file a.from i) i (i + 1) }
 
 -- a frame is taken for an index without a page
-taken_index : (s : State) (t : ℕ) (a : Allocation) (i x : ℕ) (pages : ℕ → Option ℕ) (frame : ℕ → FrameState) (resv resv' : ℕ) (spare : ℕ → ℕ) (b : Answer) (end : Pool)
+taken_index : (s : State) (t : ℕ) (a : Allocation) (i x : ℕ) (pages : ℕ → Option ℕ) (frame : ℕ → FrameState)
+    (resv resv' : ℕ) (spare : ℕ → ℕ) (b : Answer) (end : Pool)
     → Ready s a.file → a.from ≤ i → Upto s a.file a.from i pages frame resv
     → s.pages a.file i ≡ None → frame x ≡ Free → resv' + promised s a.file a.from (i + 1) ≡ s.resv
     → missing (s.reserved a.file) a.from (i + 1) ≤ available s
-    → Leads (AllocSteps t) b end (changing s t a i pages (put frame x Hand) resv' spare) (at.Taken (record { allocation = a; index = i; pending = change_of s a i; held = x }))
+    → Leads (AllocSteps t) b end (changing s t a i pages (put frame x Hand) resv' spare)
+    (at.Taken (record { allocation = a; index = i; pending = change_of s a i; held = x }))
     → OneMore s t a i b end
 taken_index s t a i x pages frame resv resv' spare b end h low u bare free count within k =
     let f = a.file in
     let k1 = goes_on k (λ turn m r. if_false _ _ (not_below_itself (missing (reserved_at s a.file a.from i) i (i + 1))) r) in
     let k2 = goes_on k1 (λ turn m r. r) in
     let reserved = put_put s.reserved f (add_range (s.reserved f) a.from i) (add_range (reserved_at s f a.from i) i (i + 1))
-    ∙ ap (put s.reserved f) (ap (λ (r : ℕ → Bool). add_range r i (i + 1)) (put_same s.reserved f (add_range (s.reserved f) a.from i)) ∙ range_more (s.reserved f) a.from i low) in
-    let paged' = put_put s.pages f pages (put (put s.pages f pages f) i (Some x)) ∙ ap (λ (row : ℕ → Option ℕ). put s.pages f (put row i (Some x))) (put_same s.pages f pages) in
+    ∙ ap (put s.reserved f)
+    (ap (λ (r : ℕ → Bool). add_range r i (i + 1)) (put_same s.reserved f (add_range (s.reserved f) a.from i))
+    ∙ range_more (s.reserved f) a.from i low) in
+    let paged' = put_put s.pages f pages (put (put s.pages f pages f) i (Some x))
+    ∙ ap (λ (row : ℕ → Option ℕ). put s.pages f (put row i (Some x))) (put_same s.pages f pages) in
     let pending = pending_back s.pending f in
-    let spare' = put (spared s f spare) f (if touches (reserved_at s f a.from i) i (i + 1) then spared s f spare f else spared s f spare f - 1) in
+    let spare' = put (spared s f spare) f
+    (if touches (reserved_at s f a.from i) i (i + 1) then spared s f spare f else spared s f spare f - 1) in
     record {
       pages = put pages i (Some x);
       frame = put (put frame x Hand) x (Placed 0);
       resv = resv';
       spare = spare';
-      upto = record { filled = fills_more s.frames (s.pages f) s.frame a.from i x pages frame low bare free h.real u.filled; count = count; within = within };
+      upto =
+          record {
+            filled = fills_more s.frames (s.pages f) s.frame a.from i x pages frame low bare free h.real
+                u.filled;
+            count = count;
+            within = within;
+          };
       leads = from_pool (λ j. record (pool_of s) {
         locks = put s.locks f (Some t);
         slots = put s.slots (slot_of s.geometry f i) (Some t);
@@ -159,10 +202,15 @@ taken_index s t a i x pages frame resv resv' spare b end h low u bare free count
     }
 
 -- an index without a page
-bare_index : (s : State) (t : ℕ) (a : Allocation) (i : ℕ) (pages : ℕ → Option ℕ) (frame : ℕ → FrameState) (resv : ℕ) (spare : ℕ → ℕ) (b : Answer) (end : Pool)
+bare_index : (s : State) (t : ℕ) (a : Allocation) (i : ℕ) (pages : ℕ → Option ℕ) (frame : ℕ → FrameState) (resv : ℕ)
+    (spare : ℕ → ℕ) (b : Answer) (end : Pool)
     → Ready s a.file → a.from ≤ i → Upto s a.file a.from i pages frame resv
     → s.pages a.file i ≡ None
-    → Leads (AllocSteps t) b end (record (paged s t a.file a.from i pages frame resv spare) { slots = put s.slots (slot_of s.geometry a.file i) (Some t) }) (at.Locked (record { allocation = a; index = i }))
+    → Leads (AllocSteps t) b end
+    (record (paged s t a.file a.from i pages frame resv spare) {
+      slots = put s.slots (slot_of s.geometry a.file i)
+          (Some t);
+    }) (at.Locked (record { allocation = a; index = i }))
     → OneMore s t a i b end ⊎ Short s t a i pages frame resv b end
 bare_index s t a i pages frame resv spare b end h low u bare k = by_reserved (s.reserved a.file i) refl
   where
@@ -171,22 +219,31 @@ bare_index s t a i pages frame resv spare b end h low u bare k = by_reserved (s.
         let out : is_within a.from i i ≡ false = grind (arith, nat_tests) in
         ap (λ (row : ℕ → Option ℕ). row i) (put_same s.pages a.file pages) ∙ (u.filled.elsewhere i out ∙ bare)
 
-    k2 : Leads (AllocSteps t) b end (changing s t a i pages frame resv spare) (at.Changed (record { allocation = a; index = i; pending = change_of s a i }))
-    k2 = goes_on (goes_on k (λ turn m r. if_false _ _ (ap is_some here) r)) (λ turn m r. if_false _ _ (and_false (spare a.file == s.pending a.file)) r)
+    k2 : Leads (AllocSteps t) b end (changing s t a i pages frame resv spare)
+        (at.Changed (record { allocation = a; index = i; pending = change_of s a i }))
+    k2 =
+        goes_on (goes_on k (λ turn m r. if_false _ _ (ap is_some here) r))
+        (λ turn m r. if_false _ _ (and_false (spare a.file == s.pending a.file)) r)
 
     one : missing (reserved_at s a.file a.from i) i (i + 1) ≡ bit (not (s.reserved a.file i))
-    one = missing_one (reserved_at s a.file a.from i) i ∙ ap (λ (c : Bool). bit (not c)) (ap (λ (r : ℕ → Bool). r i) (put_same s.reserved a.file (add_range (s.reserved a.file) a.from i)) ∙ range_past (s.reserved a.file) a.from i)
+    one =
+        missing_one (reserved_at s a.file a.from i) i
+        ∙ ap (λ (c : Bool). bit (not c))
+        (ap (λ (r : ℕ → Bool). r i) (put_same s.reserved a.file (add_range (s.reserved a.file) a.from i))
+        ∙ range_past (s.reserved a.file) a.from i)
 
     is_zero : (m v : ℕ) → m ≡ v → (m == 0) ≡ (v == 0)
     is_zero m v e = ap (λ (k : ℕ). k == 0) e
 
     missed : (c : Bool) → s.reserved a.file i ≡ c
         → missing (s.reserved a.file) a.from (i + 1) ≡ missing (s.reserved a.file) a.from i + cond (not c) 1 0
-    missed c e = missing_next (s.reserved a.file) a.from i low ∙ ap (λ (d : Bool). missing (s.reserved a.file) a.from i + cond (not d) 1 0) e
+    missed c e =
+        missing_next (s.reserved a.file) a.from i low ∙ ap (λ (d : Bool). missing (s.reserved a.file) a.from i + cond (not d) 1 0) e
 
     counted : (c : Bool) → s.reserved a.file i ≡ c → promised s a.file a.from (i + 1) ≡ promised s a.file a.from i + cond (c && true) 1 0
     counted c e = count_next (λ j. s.reserved a.file j && is_none (s.pages a.file j)) a.from i low
-        ∙ (ap (λ (d : Bool). promised s a.file a.from i + cond (d && is_none (s.pages a.file i)) 1 0) e ∙ ap (λ (o : Option ℕ). promised s a.file a.from i + cond (c && is_none o) 1 0) bare)
+        ∙ (ap (λ (d : Bool). promised s a.file a.from i + cond (d && is_none (s.pages a.file i)) 1 0) e
+        ∙ ap (λ (o : Option ℕ). promised s a.file a.from i + cond (c && is_none o) 1 0) bare)
 
     parts : count_within (λ j. is_none (s.pages a.file j)) a.from i ≡ promised s a.file a.from i + missing (s.reserved a.file) a.from i
     parts = bare_parts (s.reserved a.file) (s.pages a.file) a.from i h.bare
@@ -197,7 +254,8 @@ bare_index s t a i pages frame resv spare b end h low u bare k = by_reserved (s.
         let r = if_true _ _ (is_zero (missing (reserved_at s a.file a.from i) i (i + 1)) 0 (one ∙ ap (λ (c : Bool). bit (not c)) e)) z.2 in
         let m : missing (s.reserved a.file) a.from (i + 1) ≡ missing (s.reserved a.file) a.from i + 0 = missed true e in
         let p : promised s a.file a.from (i + 1) ≡ promised s a.file a.from i + 1 = counted true e in
-        inl (taken_index s t a i r.0 pages frame resv (resv - 1) spare b end h low u bare r.1 (let y = u.count in let l = r.2 in omega arith) (let y = u.within in omega arith) (moves z.3 r.3))
+        inl (taken_index s t a i r.0 pages frame resv (resv - 1) spare b end h low u bare r.1
+        (let y = u.count in let l = r.2 in omega arith) (let y = u.within in omega arith) (moves z.3 r.3))
     by_reserved false e =
         let z = next k2 in
         let r = if_false _ _ (is_zero (missing (reserved_at s a.file a.from i) i (i + 1)) 1 (one ∙ ap (λ (c : Bool). bit (not c)) e)) z.2 in
@@ -216,20 +274,32 @@ bare_index s t a i pages frame resv spare b end h low u bare k = by_reserved (s.
           spare = spared s a.file spare;
           lacks = e;
           all = omega arith;
-          leads = from_pool (λ j. record (paged s t a.file a.from i pages frame resv (spared s a.file spare)) { slots = put s.slots (slot_of s.geometry a.file i) (Some t); pending = pending j }) (goes_on (moves z.3 r) (λ turn m r. r));
+          leads =
+              from_pool (λ j. record (paged s t a.file a.from i pages frame resv
+              (spared s a.file spare)) {
+                slots = put s.slots (slot_of s.geometry a.file i) (Some t);
+                pending = pending j;
+              }) (goes_on (moves z.3 r) (λ turn m r. r));
         }))
         (λ some r.
-        let other : free_frames frame s.frames ≢ resv = λ d. (let y : (free_frames frame s.frames == resv) ≡ true = grind (arith, nat_tests) in let x : true ≡ false = sym y ∙ some in absurd (cc)) in
+        let other : free_frames frame s.frames ≢ resv =
+        λ d. (let y : (free_frames frame s.frames == resv) ≡ true = grind (arith, nat_tests) in
+        let x : true ≡ false = sym y ∙ some in absurd (cc)) in
         inl (taken_index s t a i r.0 pages frame resv resv spare b end h low u bare r.1 (omega arith) (omega arith) (moves z.3 r.2)))
 
 -- one index from its head on
-one_index : (s : State) (t : ℕ) (a : Allocation) (i : ℕ) (pages : ℕ → Option ℕ) (frame : ℕ → FrameState) (resv : ℕ) (spare : ℕ → ℕ) (b : Answer) (end : Pool)
+one_index : (s : State) (t : ℕ) (a : Allocation) (i : ℕ) (pages : ℕ → Option ℕ) (frame : ℕ → FrameState) (resv : ℕ)
+    (spare : ℕ → ℕ) (b : Answer) (end : Pool)
     → Ready s a.file → a.from ≤ i → Upto s a.file a.from i pages frame resv
     → Leads (AllocSteps t) b end (paged s t a.file a.from i pages frame resv spare) (at.Head (record { allocation = a; index = i }))
     → OneMore s t a i b end ⊎ Short s t a i pages frame resv b end
 one_index s t a i pages frame resv spare b end h low u k = by_page (s.pages a.file i) refl
   where
-    k2 : Leads (AllocSteps t) b end (record (paged s t a.file a.from i pages frame resv spare) { slots = put s.slots (slot_of s.geometry a.file i) (Some t) }) (at.Locked (record { allocation = a; index = i }))
+    k2 : Leads (AllocSteps t) b end
+        (record (paged s t a.file a.from i pages frame resv spare) {
+          slots = put s.slots (slot_of s.geometry a.file i)
+              (Some t);
+        }) (at.Locked (record { allocation = a; index = i }))
     k2 = goes_on (goes_on k (λ turn m r. r)) (λ turn m r. if_none _ _ (h.slots (slot_of s.geometry a.file i)) r)
 
     by_page : (o : Option ℕ) → s.pages a.file i ≡ o → OneMore s t a i b end ⊎ Short s t a i pages frame resv b end
@@ -275,7 +345,15 @@ stops_at s t a i pages frame resv b end h low high u o =
       lacks = o.lacks;
       all = o.all;
       none = z.0;
-      to = record { pages = pages; frame = frame; resv = resv; spare = o.spare; upto = u; ends = z.1 ∙ (λ j. record (paged s t a.file a.from i pages frame resv o.spare) { slots = slots j; locks = locks j }) };
+      to =
+          record {
+            pages = pages;
+            frame = frame;
+            resv = resv;
+            spare = o.spare;
+            upto = u;
+            ends = z.1 ∙ (λ j. record (paged s t a.file a.from i pages frame resv o.spare) { slots = slots j; locks = locks j });
+          };
     }
 
 ends_at : (s : State) (t : ℕ) (a : Allocation) (i : ℕ) (b : Answer) (end : Pool) → Ready s a.file → i + 1 ≡ a.from + a.len
@@ -285,22 +363,49 @@ ends_at s t a i b end h e o =
     let last : nat_lt (i + 1) (a.from + a.len) ≡ false = grind (arith, nat_tests) in
     let slots = put_back s.slots (slot_of s.geometry a.file i) (Some t) None (h.slots (slot_of s.geometry a.file i)) in
     let locks = put_back s.locks a.file (Some t) None h.unlocked in
-    let whole : (size : ℕ → ℕ) → size ≡ size_after s a → end ≡ record (paged s t a.file a.from (i + 1) o.pages o.frame o.resv o.spare) { locks = s.locks; size = size } → PagedTo s t a.file a.from (a.from + a.len) (size_after s a) end =
+    let whole : (size : ℕ → ℕ) → size ≡ size_after s a
+    → end ≡ record (paged s t a.file a.from (i + 1) o.pages o.frame o.resv o.spare) { locks = s.locks; size = size }
+    → PagedTo s t a.file a.from (a.from + a.len) (size_after s a) end =
     λ size sized ends. subst (λ (to : ℕ). PagedTo s t a.file a.from to (size_after s a) end) e
-    (record { pages = o.pages; frame = o.frame; resv = o.resv; spare = o.spare; upto = o.upto; ends = ends ∙ (λ j. record (paged s t a.file a.from (i + 1) o.pages o.frame o.resv o.spare) { locks = s.locks; size = sized j }) }) in
+    (record {
+      pages = o.pages;
+      frame = o.frame;
+      resv = o.resv;
+      spare = o.spare;
+      upto = o.upto;
+      ends = ends ∙ (λ j. record (paged s t a.file a.from (i + 1) o.pages o.frame o.resv o.spare) {
+        locks = s.locks;
+        size = sized j;
+      });
+    }) in
     by_test a.keep (if_false _ _ last z.2)
     (λ keep r.
     let y = ends_so (moves z.3 r) (λ turn m r. r) in
-    let sized : s.size ≡ size_after s a = sym (ap (λ (c : Bool). if c then s.size else put s.size a.file (max (s.size a.file) (a.from + a.len))) keep) in
-    record { done = y.0; to = whole s.size sized (y.1 ∙ (λ j. record (paged s t a.file a.from (i + 1) o.pages o.frame o.resv o.spare) { slots = slots j; locks = locks j })) })
+    let sized : s.size ≡ size_after s a =
+    sym (ap (λ (c : Bool). if c then s.size else put s.size a.file (max (s.size a.file) (a.from + a.len))) keep) in
+    record {
+      done = y.0;
+      to = whole s.size sized
+          (y.1 ∙ (λ j. record (paged s t a.file a.from (i + 1) o.pages o.frame o.resv o.spare) { slots = slots j; locks = locks j }));
+    })
     (λ grow r.
     let y = ends_so (goes_on (moves z.3 r) (λ turn m r. r)) (λ turn m r. r) in
     let size = put s.size a.file (max (s.size a.file) (a.from + a.len)) in
-    let sized : put s.size a.file (max (s.size a.file) (a.from + a.len)) ≡ size_after s a = sym (ap (λ (c : Bool). if c then s.size else put s.size a.file (max (s.size a.file) (a.from + a.len))) grow) in
-    record { done = y.0; to = whole size sized (y.1 ∙ (λ j. record (paged s t a.file a.from (i + 1) o.pages o.frame o.resv o.spare) { slots = slots j; locks = locks j; size = size })) })
+    let sized : put s.size a.file (max (s.size a.file) (a.from + a.len)) ≡ size_after s a =
+    sym (ap (λ (c : Bool). if c then s.size else put s.size a.file (max (s.size a.file) (a.from + a.len))) grow) in
+    record {
+      done = y.0;
+      to = whole size sized
+          (y.1 ∙ (λ j. record (paged s t a.file a.from (i + 1) o.pages o.frame o.resv o.spare) {
+            slots = slots j;
+            locks = locks j;
+            size = size;
+          }));
+    })
 
 -- the indices from i on
-indices : (s : State) (t : ℕ) (a : Allocation) (d i : ℕ) (pages : ℕ → Option ℕ) (frame : ℕ → FrameState) (resv : ℕ) (spare : ℕ → ℕ) (b : Answer) (end : Pool)
+indices : (s : State) (t : ℕ) (a : Allocation) (d i : ℕ) (pages : ℕ → Option ℕ) (frame : ℕ → FrameState) (resv : ℕ)
+    (spare : ℕ → ℕ) (b : Answer) (end : Pool)
     → Ready s a.file → a.from ≤ i → i + d + 1 ≡ a.from + a.len → Upto s a.file a.from i pages frame resv
     → Leads (AllocSteps t) b end (paged s t a.file a.from i pages frame resv spare) (at.Head (record { allocation = a; index = i }))
     → All s t a b end ⊎ Stopped s t a b end
@@ -312,7 +417,9 @@ indices s t a (suc d) i pages frame resv spare b end h low e u k = elim (one_ind
   | inl o ↦ (
       let more : nat_lt (i + 1) (a.from + a.len) ≡ true = grind (arith, nat_tests) in
       let slots = put_back s.slots (slot_of s.geometry a.file i) (Some t) None (h.slots (slot_of s.geometry a.file i)) in
-      let k1 = from_pool (λ j. record (paged s t a.file a.from (i + 1) o.pages o.frame o.resv o.spare) { slots = slots j }) (goes_on o.leads (λ turn m r. if_true _ _ more r)) in
+      let k1 = from_pool (λ j.
+      record (paged s t a.file a.from (i + 1) o.pages o.frame o.resv o.spare) { slots = slots j })
+      (goes_on o.leads (λ turn m r. if_true _ _ more r)) in
       indices s t a d (i + 1) o.pages o.frame o.resv o.spare b end h (omega arith) (omega arith) o.upto k1)
   | inr o ↦ inr (stops_at s t a i pages frame resv b end h low (omega arith) u o)
 ]
@@ -324,10 +431,13 @@ range_paged s t f from to size end z = let c = z.upto.count in (omega arith, ome
 
 -- an allocation from its first phase on
 pub alloc_means : (s : State) (t f from len : ℕ) (keep : Bool) (b : Answer) (n : State) → Inv s.geometry s → IsReady s t
-    → Comes call.Alloc (AllocSteps t) s t b n (pool_of s) (at.Start (record { allocation = record { file = f; from = from; len = len; keep = keep } }))
+    → Comes call.Alloc (AllocSteps t) s t b n (pool_of s)
+    (at.Start (record { allocation = record { file = f; from = from; len = len; keep = keep } }))
     → (m : State) × Checked s f (is_bad_range s from len) b m (AllocMeans s f from len keep b m) × Looks m n
 alloc_means s t f from len keep b n h ready (end, last, k, is) =
-    checked call.Alloc (AllocSteps t) s t f (is_bad_range s from len) b n end last _ (at.Head (record { allocation = a; index = from })) Interrupted (AllocMeans s f from len keep) (free_lock s h ready.0 f) (ready.0 t) refl (λ turn m r. r) k is
+    checked call.Alloc (AllocSteps t) s t f (is_bad_range s from len) b n end last _
+    (at.Head (record { allocation = a; index = from })) Interrupted (AllocMeans s f from len keep)
+    (free_lock s h ready.0 f) (ready.0 t) refl (λ turn m r. r) k is
     (λ _ good k.
     let pages = put_self s.pages f in
     let reserved = ap (put s.reserved f) (range_empty (s.reserved f) from) ∙ put_self s.reserved f in
@@ -335,7 +445,8 @@ alloc_means s t f from len keep b n h ready (end, last, k, is) =
     let p = predecessor len good in
     let counted = count_empty (λ j. s.reserved f j && is_none (s.pages f j)) from in
     let missed = missing_empty (s.reserved f) from in
-    let u : Upto s f from from (s.pages f) s.frame s.resv = record { filled = none_filled s.frames (s.pages f) s.frame from; count = omega arith; within = omega arith } in
+    let u : Upto s f from from (s.pages f) s.frame s.resv =
+    record { filled = none_filled s.frames (s.pages f) s.frame from; count = omega arith; within = omega arith } in
     elim (indices s t a p.0 from (s.pages f) s.frame s.resv s.spare b end there (omega arith) (let e = p.1 in omega arith) u k1) [
       | inl z ↦ (
           let within = z.to.upto.within in
@@ -343,7 +454,8 @@ alloc_means s t f from len keep b n h ready (end, last, k, is) =
           let r = range_paged s t f from (from + len) (size_after s a) end z.to in
           let gains = range_gains (s.reserved f) (s.pages f) from (from + len) (h.inside.bare f) in
           let resv = r.1 in
-          finish call.Alloc s t last (AllocMeans s f from len keep) _ (z.done, z.to.ends) is (so_true _ _ enough (refl, (z.to.pages, z.to.frame, z.to.upto.filled, r.0, refl)))
+          finish call.Alloc s t last (AllocMeans s f from len keep) _ (z.done, z.to.ends) is
+          (so_true _ _ enough (refl, (z.to.pages, z.to.frame, z.to.upto.filled, r.0, refl)))
           (λ j. record s {
             pool = record s.pool {
               frame = z.to.frame;
@@ -358,14 +470,17 @@ alloc_means s t f from len keep b n h ready (end, last, k, is) =
       | inr z ↦ (
           let l = z.there in
           let in_range : is_within from (from + len) z.x ≡ true = grind (arith, nat_tests) in
-          let one : missing (s.reserved f) from (z.x + 1) ≡ missing (s.reserved f) from z.x + 1 = missing_next (s.reserved f) from z.x l.0 ∙ ap (λ (c : Bool). missing (s.reserved f) from z.x + cond (not c) 1 0) z.lacks in
+          let one : missing (s.reserved f) from (z.x + 1) ≡ missing (s.reserved f) from z.x + 1 =
+          missing_next (s.reserved f) from z.x l.0
+          ∙ ap (λ (c : Bool). missing (s.reserved f) from z.x + cond (not c) 1 0) z.lacks in
           let longer = missing_longer (s.reserved f) from (z.x + 1) (from + len) (omega arith) in
           let all = z.all in
           let short : nat_le (missing (s.reserved f) from (from + len)) (available s) ≡ false = grind (arith, nat_tests) in
           let r = range_paged s t f from z.x s.size end z.to in
           let gains = range_gains (s.reserved f) (s.pages f) from z.x (h.inside.bare f) in
           let resv = r.1 in
-          finish call.Alloc s t last (AllocMeans s f from len keep) _ (z.none, z.to.ends) is (so_false _ _ short (z.x, in_range, z.lacks, z.all, refl, (z.to.pages, z.to.frame, z.to.upto.filled, r.0, refl)))
+          finish call.Alloc s t last (AllocMeans s f from len keep) _ (z.none, z.to.ends) is
+          (so_false _ _ short (z.x, in_range, z.lacks, z.all, refl, (z.to.pages, z.to.frame, z.to.upto.filled, r.0, refl)))
           (λ j. record s {
             pool = record s.pool {
               frame = z.to.frame;
@@ -385,7 +500,14 @@ alloc_means s t f from len keep b n h ready (end, last, k, is) =
     calls = idle_again s t (ready.0 t)
 
     there : Ready s f
-    there = record { slots = free_slot s h ready.0; unlocked = free_lock s h ready.0 f; bare = h.inside.bare f; enough = h.enough; real = λ x e. h.place.one.real x headline.Free e }
+    there =
+        record {
+          slots = free_slot s h ready.0;
+          unlocked = free_lock s h ready.0 f;
+          bare = h.inside.bare f;
+          enough = h.enough;
+          real = λ x e. h.place.one.real x headline.Free e;
+        }
 
     predecessor : (l : ℕ) → is_bad_range s from l ≡ false → (d : ℕ) × (l ≡ d + 1)
     predecessor zero e = absurd (cc)

@@ -118,16 +118,23 @@ not_over t b o wanted es e moved (inl u) = absurd (moved b (sym e ∙ u.0))
 not_over t b o wanted es e moved (inr u) = u.1
 
 -- one row of the call, and what its rest comes to
-by_turn : {P : Type 0} (call : P → Call) (R : Pool → P → Turn P → Pool → Type 0) (s : State) (t : ℕ) (b : Answer) (n : State) (pool new : Pool) (phase : P) (o : Outcome) (next_call : Option Call) (m : State) (es : List (Event × Outcome)) (turn : Turn P)
+by_turn : {P : Type 0} (call : P → Call) (R : Pool → P → Turn P → Pool → Type 0) (s : State) (t : ℕ) (b : Answer)
+    (n : State) (pool new : Pool) (phase : P) (o : Outcome) (next_call : Option Call) (m : State)
+    (es : List (Event × Outcome)) (turn : Turn P)
     → R pool phase turn new → o ≡ told call turn → next_call ≡ left call turn
-    → m ≡ record (with_pool s new) { life = lives_after s.life t (call phase) next_call; calls = put (put s.calls t (Some (call phase))) t next_call }
+    → m ≡ record (with_pool s new) {
+      life = lives_after s.life t (call phase) next_call;
+      calls = put (put s.calls t (Some (call phase))) t next_call;
+    }
     → GoesOn t b o es → Run m es n
     → ((q : P) → AreSteps t b es → Run (in_call s t new (call q)) es n → Comes call R s t b n new q) → Comes call R s t b n pool phase
 by_turn call R s t b n pool new phase o next_call m es (Moved q) row tells leaves is how run rest =
-    let k = rest q (not_over t b o _ es tells (λ a e. cc) how) (subst (λ (x : State). Run x es n) (goes_in_call s t new (call phase) (call q) next_call m leaves is) run) in
+    let k = rest q (not_over t b o _ es tells (λ a e. cc) how)
+    (subst (λ (x : State). Run x es n) (goes_in_call s t new (call phase) (call q) next_call m leaves is) run) in
     (k.0, k.1, Leads.goes row k.2, k.3)
 by_turn call R s t b n pool new phase o next_call m es (Blocked q holder) row tells leaves is how run rest =
-    let k = rest q (not_over t b o _ es tells (λ a e. cc) how) (subst (λ (x : State). Run x es n) (goes_in_call s t new (call phase) (call q) next_call m leaves is) run) in
+    let k = rest q (not_over t b o _ es tells (λ a e. cc) how)
+    (subst (λ (x : State). Run x es n) (goes_in_call s t new (call phase) (call q) next_call m leaves is) run) in
     (k.0, k.1, Leads.waits holder row k.2, k.3)
 by_turn call R s t b n pool new phase o next_call m es (Ended a) row tells leaves is (inr u) run rest = absurd (u.0 a tells)
 by_turn {P} call R s t b n pool new phase o next_call m es (Ended a) row tells leaves is (inl u) run rest =
@@ -135,15 +142,20 @@ by_turn {P} call R s t b n pool new phase o next_call m es (Ended a) row tells l
     let same : a ≡ b = (cc) in
     let last : Run m [] n = subst (λ (fs : List (Event × Outcome)). Run m fs n) u.1 run in
     let calls = put_put s.calls t (Some (call phase)) next_call ∙ ap (put s.calls t) leaves in
-    let lives = ap (lives_after s.life t (call phase)) leaves in
-    (new, phase, Leads.ends (subst (λ (c : Answer). R pool phase (Ended c) new) same row), last ∙ (is ∙ (λ i. record (with_pool s new) { life = lives i; calls = calls i })))
+    let lives = ap (lives_after s.life t (call phase)) leaves in (
+      new,
+      phase,
+      Leads.ends (subst (λ (c : Answer). R pool phase (Ended c) new) same row),
+      last ∙ (is ∙ (λ i. record (with_pool s new) { life = lives i; calls = calls i })),
+    )
 
 lives_not_dead : (l : Life) → l ≡ Alive → (is_dead l ≡ false) × (is_killed l ≡ false)
 lives_not_dead l e = (ap is_dead e, ap is_killed e)
 
 -- granted steps of an alive task alone are steps by its operation's rows
 pub comes : {P : Type 0} (call : P → Call) (R : Pool → P → Turn P → Pool → Type 0) (s : State) (t : ℕ) (b : Answer) (n : State)
-    → ((pool new : Pool) (phase : P) (o : Outcome) (next_call : Option Call) → CallRow pool t false true (call phase) o new next_call → TurnRow call (R pool phase) o new next_call)
+    → ((pool new : Pool) (phase : P) (o : Outcome) (next_call : Option Call)
+    → CallRow pool t false true (call phase) o new next_call → TurnRow call (R pool phase) o new next_call)
     → s.life t ≡ Alive → (es : List (Event × Outcome)) (pool : Pool) (phase : P) → AreSteps t b es
     → Run (in_call s t pool (call phase)) es n → Comes call R s t b n pool phase
 comes call R s t b n rows alive [] pool phase steps run = absurd steps
@@ -153,7 +165,8 @@ comes call R s t b n rows alive (e ∷ es) pool phase steps run =
     let l = lives_not_dead (s.life t) alive in
     let z = step_of here t true (call phase) e.1 run.0 row l.0 (put_same s.calls t (Some (call phase))) in
     let r = rows pool z.0 phase e.1 z.1 (subst (λ (killed : Bool). CallRow pool t killed true (call phase) e.1 z.0 z.1) l.1 z.2) in
-    by_turn call R s t b n pool z.0 phase e.1 z.1 run.0 es r.0 r.1 r.2 r.3 z.3 steps.1 run.2 (λ q steps run. comes call R s t b n rows alive es z.0 q steps run)
+    by_turn call R s t b n pool z.0 phase e.1 z.1 run.0 es r.0 r.1 r.2 r.3 z.3 steps.1 run.2
+    (λ q steps run. comes call R s t b n rows alive es z.0 q steps run)
 
 begins : (s : State) (t : ℕ) (p : Op) (o : Outcome) (m : State) → IsReady s t → BeginRow s t p o m → m ≡ in_call s t (pool_of s) (first p)
 unfolding BeginRow
@@ -162,8 +175,10 @@ begins s t p o m ready row =
     (if_false _ _ (ap (λ (k : Bool). k && not (is_exit p)) l.1) (if_none _ _ (ready.0 t) (if_false _ _ l.0 row))).1
 
 -- a call that runs alone: the steps that its first phase leads to
-pub call_comes : {P : Type 0} (call : P → Call) (R : Pool → P → Turn P → Pool → Type 0) (s : State) (t : ℕ) (p : Op) (b : Answer) (n : State) (events : List (Event × Outcome)) (start : P)
-    → ((pool new : Pool) (phase : P) (o : Outcome) (next_call : Option Call) → CallRow pool t false true (call phase) o new next_call → TurnRow call (R pool phase) o new next_call)
+pub call_comes : {P : Type 0} (call : P → Call) (R : Pool → P → Turn P → Pool → Type 0) (s : State) (t : ℕ) (p : Op)
+    (b : Answer) (n : State) (events : List (Event × Outcome)) (start : P)
+    → ((pool new : Pool) (phase : P) (o : Outcome) (next_call : Option Call)
+    → CallRow pool t false true (call phase) o new next_call → TurnRow call (R pool phase) o new next_call)
     → first p ≡ call start → IsReady s t → IsCall t p b events → Run s events n → Comes call R s t b n (pool_of s) start
 call_comes call R s t p b n [] start rows is ready steps run = absurd steps
 call_comes call R s t p b n (e ∷ es) start rows is ready steps run =

@@ -38,21 +38,33 @@ word_renamed to c = refl
 pub call_agrees : (p q : ℕ → ℕ) (c : Option Call) → ((x : ℕ) → hand c ≡ Some x → q x ≡ p x)
     → option_map (call_renamed q) c ≡ option_map (call_renamed p) c
 call_agrees p q None h = refl
-call_agrees p q (Some (call.Touch (touch.Taken c))) h = ap (λ (x : ℕ). Some (call.Touch (touch.Taken (record c { held = x })))) (h c.held refl)
-call_agrees p q (Some (call.Touch (touch.Settle c))) h = ap (λ (x : ℕ). Some (call.Touch (touch.Settle (record c { held = x })))) (h c.held refl)
-call_agrees p q (Some (call.Touch (touch.Committed c))) h = ap (λ (x : ℕ). Some (call.Touch (touch.Committed (record c { held = x })))) (h c.held refl)
-call_agrees p q (Some (call.Touch (touch.Restore c))) h = ap (λ (x : ℕ). Some (call.Touch (touch.Restore (record c { held = x })))) (h c.held refl)
-call_agrees p q (Some (call.Alloc (alloc.Taken c))) h = ap (λ (x : ℕ). Some (call.Alloc (alloc.Taken (record c { held = x })))) (h c.held refl)
-call_agrees p q (Some (call.Alloc (alloc.Settle c))) h = ap (λ (x : ℕ). Some (call.Alloc (alloc.Settle (record c { held = x })))) (h c.held refl)
-call_agrees p q (Some (call.Alloc (alloc.Committed c))) h = ap (λ (x : ℕ). Some (call.Alloc (alloc.Committed (record c { held = x })))) (h c.held refl)
-call_agrees p q (Some (call.Alloc (alloc.Restore c))) h = ap (λ (x : ℕ). Some (call.Alloc (alloc.Restore (record c { held = x })))) (h c.held refl)
-call_agrees p q (Some (call.Punch (punch.Delete c))) h = ap (λ (x : ℕ). Some (call.Punch (punch.Delete (record c { held = x })))) (h c.held refl)
-call_agrees p q (Some (call.Punch (punch.Free c))) h = ap (λ (x : ℕ). Some (call.Punch (punch.Free (record c { held = x })))) (h c.held refl)
-call_agrees p q (Some (call.Truncate (truncate.Free c))) h = ap (λ (x : ℕ). Some (call.Truncate (truncate.Free (record c { held = x })))) (h c.held refl)
+call_agrees p q (Some (call.Touch (touch.Taken c))) h =
+    ap (λ (x : ℕ). Some (call.Touch (touch.Taken (record c { held = x })))) (h c.held refl)
+call_agrees p q (Some (call.Touch (touch.Settle c))) h =
+    ap (λ (x : ℕ). Some (call.Touch (touch.Settle (record c { held = x })))) (h c.held refl)
+call_agrees p q (Some (call.Touch (touch.Committed c))) h =
+    ap (λ (x : ℕ). Some (call.Touch (touch.Committed (record c { held = x })))) (h c.held refl)
+call_agrees p q (Some (call.Touch (touch.Restore c))) h =
+    ap (λ (x : ℕ). Some (call.Touch (touch.Restore (record c { held = x })))) (h c.held refl)
+call_agrees p q (Some (call.Alloc (alloc.Taken c))) h =
+    ap (λ (x : ℕ). Some (call.Alloc (alloc.Taken (record c { held = x })))) (h c.held refl)
+call_agrees p q (Some (call.Alloc (alloc.Settle c))) h =
+    ap (λ (x : ℕ). Some (call.Alloc (alloc.Settle (record c { held = x })))) (h c.held refl)
+call_agrees p q (Some (call.Alloc (alloc.Committed c))) h =
+    ap (λ (x : ℕ). Some (call.Alloc (alloc.Committed (record c { held = x })))) (h c.held refl)
+call_agrees p q (Some (call.Alloc (alloc.Restore c))) h =
+    ap (λ (x : ℕ). Some (call.Alloc (alloc.Restore (record c { held = x })))) (h c.held refl)
+call_agrees p q (Some (call.Punch (punch.Delete c))) h =
+    ap (λ (x : ℕ). Some (call.Punch (punch.Delete (record c { held = x })))) (h c.held refl)
+call_agrees p q (Some (call.Punch (punch.Free c))) h =
+    ap (λ (x : ℕ). Some (call.Punch (punch.Free (record c { held = x })))) (h c.held refl)
+call_agrees p q (Some (call.Truncate (truncate.Free c))) h =
+    ap (λ (x : ℕ). Some (call.Truncate (truncate.Free (record c { held = x })))) (h c.held refl)
 call_agrees p q (Some c) h = refl
 
 -- one step of a call, and of that call with its frame renamed
-pub record CallFollows (frames : ℕ) (s : Pool) (r : Renaming frames) (o : Outcome) (new : Pool) (next : Option Call) (o' : Outcome) (new' : Pool) (next' : Option Call) : Type 0 where
+pub record CallFollows (frames : ℕ) (s : Pool) (r : Renaming frames) (o : Outcome) (new : Pool) (next : Option Call)
+    (o' : Outcome) (new' : Pool) (next' : Option Call) : Type 0 where
   pub names : Renaming frames
   pub keeps : (x : ℕ) → s.frame x ≢ Free → names.to x ≡ r.to x
   pub tells : o' ≡ o
@@ -60,7 +72,8 @@ pub record CallFollows (frames : ℕ) (s : Pool) (r : Renaming frames) (o : Outc
   pub pools : new' ≡ pool_renamed names new
   pub count : new.frames ≡ s.frames
 
-of_turns : {P : Type 0} {frames : ℕ} {s : Pool} {r : Renaming frames} {turn turn' : Turn P} {o o' : Outcome} {new new' : Pool} {next next' : Option Call} (call : P → Call) (rename : (ℕ → ℕ) → P → P)
+of_turns : {P : Type 0} {frames : ℕ} {s : Pool} {r : Renaming frames} {turn turn' : Turn P} {o o' : Outcome}
+    {new new' : Pool} {next next' : Option Call} (call : P → Call) (rename : (ℕ → ℕ) → P → P)
     → ((to : ℕ → ℕ) (p : P) → call (rename to p) ≡ call_renamed to (call p)) → Follows P rename frames s r turn new turn' new'
     → (o ≡ told call turn) × (next ≡ left call turn) → (o' ≡ told call turn') × (next' ≡ left call turn')
     → CallFollows frames s r o new next o' new' next'
@@ -83,15 +96,23 @@ of_turns {P} {turn = turn} call rename same h e d = record {
     left_same (Blocked p holder) = ap (λ (c : Call). Some c) (same h.names.to p)
     left_same (Ended a) = refl
 
-pub call_row : {frames : ℕ} {s : Pool} {r : Renaming frames} {o o' : Outcome} {new new' : Pool} {next next' : Option Call} (t : ℕ) (killed grant : Bool) (c : Call)
+pub call_row : {frames : ℕ} {s : Pool} {r : Renaming frames} {o o' : Outcome} {new new' : Pool}
+    {next next' : Option Call} (t : ℕ) (killed grant : Bool) (c : Call)
     → Used frames s → CallRow s t killed grant c o new next
     → CallRow (pool_renamed r s) t killed grant (call_renamed r.to c) o' new' next'
     → CallFollows frames s r o new next o' new' next'
 unfolding CallRow
-call_row t killed grant (call.Touch p) h a b = of_turns call.Touch touch_renamed (λ to p. refl) (touch_row t killed grant p h a.1 b.1) (a.2, a.3) (b.2, b.3)
-call_row t killed grant (call.Map p) h a b = of_turns call.Map unnamed (λ to p. refl) (map_row t killed grant p h a.1 b.1) (a.2, a.3) (b.2, b.3)
-call_row t killed grant (call.Alloc p) h a b = of_turns call.Alloc alloc_renamed (λ to p. refl) (alloc_row t killed grant p h a.1 b.1) (a.2, a.3) (b.2, b.3)
-call_row t killed grant (call.Punch p) h a b = of_turns call.Punch punch_renamed (λ to p. refl) (punch_row t killed grant p a.1 b.1) (a.2, a.3) (b.2, b.3)
-call_row t killed grant (call.Truncate p) h a b = of_turns call.Truncate truncate_renamed (λ to p. refl) (truncate_row t killed grant p a.1 b.1) (a.2, a.3) (b.2, b.3)
-call_row t killed grant (call.Unmap p) h a b = of_turns call.Unmap unnamed (λ to p. refl) (unmap_row t killed grant p a.1 b.1) (a.2, a.3) (b.2, b.3)
-call_row t killed grant (call.Exit p) h a b = of_turns call.Exit unnamed (λ to p. refl) (exit_row t killed grant p a.1 b.1) (a.2, a.3) (b.2, b.3)
+call_row t killed grant (call.Touch p) h a b =
+    of_turns call.Touch touch_renamed (λ to p. refl) (touch_row t killed grant p h a.1 b.1) (a.2, a.3) (b.2, b.3)
+call_row t killed grant (call.Map p) h a b =
+    of_turns call.Map unnamed (λ to p. refl) (map_row t killed grant p h a.1 b.1) (a.2, a.3) (b.2, b.3)
+call_row t killed grant (call.Alloc p) h a b =
+    of_turns call.Alloc alloc_renamed (λ to p. refl) (alloc_row t killed grant p h a.1 b.1) (a.2, a.3) (b.2, b.3)
+call_row t killed grant (call.Punch p) h a b =
+    of_turns call.Punch punch_renamed (λ to p. refl) (punch_row t killed grant p a.1 b.1) (a.2, a.3) (b.2, b.3)
+call_row t killed grant (call.Truncate p) h a b =
+    of_turns call.Truncate truncate_renamed (λ to p. refl) (truncate_row t killed grant p a.1 b.1) (a.2, a.3) (b.2, b.3)
+call_row t killed grant (call.Unmap p) h a b =
+    of_turns call.Unmap unnamed (λ to p. refl) (unmap_row t killed grant p a.1 b.1) (a.2, a.3) (b.2, b.3)
+call_row t killed grant (call.Exit p) h a b =
+    of_turns call.Exit unnamed (λ to p. refl) (exit_row t killed grant p a.1 b.1) (a.2, a.3) (b.2, b.3)

@@ -32,17 +32,22 @@ unreserved reserved gone = λ j. reserved j && not (gone j)
 pub page_kept : (pages : ℕ → ℕ → Option ℕ) (f i : ℕ) (gone : ℕ → Bool) → gone i ≡ false
     → put pages f (without_pages (pages f) gone) f i ≡ pages f i
 unfolding without_pages
-page_kept pages f i gone e = ap (λ (row : ℕ → Option ℕ). row i) (put_same pages f (without_pages (pages f) gone)) ∙ ap (λ (c : Bool). if c then None else pages f i) e
+page_kept pages f i gone e =
+    ap (λ (row : ℕ → Option ℕ). row i) (put_same pages f (without_pages (pages f) gone))
+    ∙ ap (λ (c : Bool). if c then None else pages f i) e
 
 -- where nothing goes nothing changes
 pub pages_none : (pages : ℕ → ℕ → Option ℕ) (f : ℕ) (gone : ℕ → Bool) → ((j : ℕ) → gone j ≡ false)
     → put pages f (without_pages (pages f) gone) ≡ pages
 unfolding without_pages
-pages_none pages f gone e = put_known pages f (without_pages (pages f) gone) (fun_ext (λ j. ap (λ (c : Bool). if c then None else pages f j) (sym (e j))))
+pages_none pages f gone e =
+    put_known pages f (without_pages (pages f) gone) (fun_ext (λ j. ap (λ (c : Bool). if c then None else pages f j) (sym (e j))))
 
 pub reserved_none : (reserved : ℕ → ℕ → Bool) (f : ℕ) (gone : ℕ → Bool) → ((j : ℕ) → gone j ≡ false)
     → put reserved f (unreserved (reserved f) gone) ≡ reserved
-reserved_none reserved f gone e = put_known reserved f (unreserved (reserved f) gone) (fun_ext (λ j. sym (ap (λ (c : Bool). reserved f j && not c) (e j) ∙ and_true (reserved f j))))
+reserved_none reserved f gone e =
+    put_known reserved f (unreserved (reserved f) gone)
+    (fun_ext (λ j. sym (ap (λ (c : Bool). reserved f j && not c) (e j) ∙ and_true (reserved f j))))
 
 gone_none : (f : ℕ) (gone : ℕ → Bool) → ((j : ℕ) → gone j ≡ false) → (found : Option (ℕ × ℕ)) → is_gone f gone found ≡ false
 gone_none f gone e None = refl
@@ -51,7 +56,8 @@ gone_none f gone e (Some place) = ap (λ (c : Bool). (place.0 == f) && c) (e pla
 pub entries_none : (areas : ℕ → List Mapping) (table : ℕ → ℕ → Option ℕ) (f : ℕ) (gone : ℕ → Bool) → ((j : ℕ) → gone j ≡ false)
     → without_entries areas table f gone ≡ table
 unfolding without_entries
-entries_none areas table f gone e = fun_ext (λ u. fun_ext (λ v. ap (λ (c : Bool). if c then None else table u v) (gone_none f gone e (find (areas u) v))))
+entries_none areas table f gone e =
+    fun_ext (λ u. fun_ext (λ v. ap (λ (c : Bool). if c then None else table u v) (gone_none f gone e (find (areas u) v))))
 
 -- an entry that is left was there
 pub entry_kept : (areas : ℕ → List Mapping) (table : ℕ → ℕ → Option ℕ) (f : ℕ) (gone : ℕ → Bool) (u v x : ℕ)
@@ -95,25 +101,31 @@ reserved_more reserved f i gone more h =
 
 -- what is found is the index, or one that went, or none of them
 gone_more : (f i : ℕ) (gone more : ℕ → Bool) → Adds gone i more → (found : Option (ℕ × ℕ)) (entry : Option ℕ)
-    → ◌≡◌ {A = Option ℕ} (if is_there found f i then None else (if is_gone f gone found then None else entry)) (if is_gone f more found then None else entry)
+    → ◌≡◌ {A = Option ℕ} (if is_there found f i then None else (if is_gone f gone found then None else entry))
+    (if is_gone f more found then None else entry)
 gone_more f i gone more h None entry = refl
 gone_more f i gone more h (Some place) entry = elim (same_or_other place.1 i) [
-  | inl e ↦ (let a : (place.1 == i) ≡ true = grind (arith, nat_tests) in let b : more place.1 ≡ true = ap more e ∙ h.this in here (place.0 == f) (place.1 == i) (gone place.1) (more place.1) a b)
-  | inr e ↦ (let a : (place.1 == i) ≡ false = grind (arith, nat_tests) in there (place.0 == f) (place.1 == i) (gone place.1) (more place.1) a (h.others place.1 e))
+  | inl e ↦ (let a : (place.1 == i) ≡ true = grind (arith, nat_tests) in
+      let b : more place.1 ≡ true = ap more e ∙ h.this in here (place.0 == f) (place.1 == i) (gone place.1) (more place.1) a b)
+  | inr e ↦ (let a : (place.1 == i) ≡ false = grind (arith, nat_tests) in
+      there (place.0 == f) (place.1 == i) (gone place.1) (more place.1) a (h.others place.1 e))
 ]
   where
     here : (a b c d : Bool) → b ≡ true → d ≡ true
         → ◌≡◌ {A = Option ℕ} (if a && b then None else (if a && c then None else entry)) (if a && d then None else entry)
-    here true b c d e k = ap (λ (m : Bool). if m then None else (if c then None else entry)) e ∙ ap (λ (m : Bool). if m then None else entry) (sym k)
+    here true b c d e k =
+        ap (λ (m : Bool). if m then None else (if c then None else entry)) e ∙ ap (λ (m : Bool). if m then None else entry) (sym k)
     here false b c d e k = refl
 
     there : (a b c d : Bool) → b ≡ false → d ≡ c
         → ◌≡◌ {A = Option ℕ} (if a && b then None else (if a && c then None else entry)) (if a && d then None else entry)
-    there true b c d e k = ap (λ (m : Bool). if m then None else (if c then None else entry)) e ∙ ap (λ (m : Bool). if m then None else entry) (sym k)
+    there true b c d e k =
+        ap (λ (m : Bool). if m then None else (if c then None else entry)) e ∙ ap (λ (m : Bool). if m then None else entry) (sym k)
     there false b c d e k = refl
 
 pub entries_more : (areas : ℕ → List Mapping) (table : ℕ → ℕ → Option ℕ) (f i : ℕ) (gone more : ℕ → Bool) → Adds gone i more
-    → ◌≡◌ {A = ℕ → ℕ → Option ℕ} (λ u. without_index (areas u) (without_entries areas table f gone u) f i) (without_entries areas table f more)
+    → ◌≡◌ {A = ℕ → ℕ → Option ℕ} (λ u. without_index (areas u) (without_entries areas table f gone u) f i)
+    (without_entries areas table f more)
 unfolding without_entries without_index
 entries_more areas table f i gone more h = fun_ext (λ u. fun_ext (λ v. gone_more f i gone more h (find (areas u) v) (table u v)))
 
@@ -152,18 +164,21 @@ no_entries areas entries f i none = fun_ext (λ v. here v (is_there (find areas 
     here v false o e = refl
 
 clears_one : (areas : ℕ → List Mapping) (table : ℕ → ℕ → Option ℕ) (f i k : ℕ)
-    → put (cleared_below areas table f i k) k (without_index (areas k) (cleared_below areas table f i k k) f i) ≡ cleared_below areas table f i (k + 1)
+    → put (cleared_below areas table f i k) k
+    (without_index (areas k) (cleared_below areas table f i k k) f i) ≡ cleared_below areas table f i (k + 1)
 unfolding cleared_below
 clears_one areas table f i k = fun_ext each
   where
     each : (u : ℕ)
-        → put (cleared_below areas table f i k) k (without_index (areas k) (cleared_below areas table f i k k) f i) u ≡ cleared_below areas table f i (k + 1) u
+        → put (cleared_below areas table f i k) k (without_index (areas k) (cleared_below areas table f i k k) f i)
+        u ≡ cleared_below areas table f i (k + 1) u
     each u = elim (put_tells (cleared_below areas table f i k) k (without_index (areas k) (cleared_below areas table f i k k) f i) u) [
       | inl a ↦ (
           let b : nat_lt k k ≡ false = grind (arith, nat_tests) in
           let c : nat_lt k (k + 1) ≡ true = grind (arith, nat_tests) in
           a.1 ∙ (ap (λ (m : Bool). without_index (areas k) (if m then without_index (areas k) (table k) f i else table k) f i) b
-          ∙ (ap (λ (m : Bool). if m then without_index (areas k) (table k) f i else table k) (sym c) ∙ ap (cleared_below areas table f i (k + 1)) (sym a.0))))
+          ∙ (ap (λ (m : Bool). if m then without_index (areas k) (table k) f i else table k) (sym c)
+          ∙ ap (cleared_below areas table f i (k + 1)) (sym a.0))))
       | inr a ↦ (
           let d = a.0 in
           let b : nat_lt u k ≡ nat_lt u (k + 1) = grind (arith, nat_tests) in
@@ -180,7 +195,10 @@ unfolding cleared_below
 clears_none tasks areas table f i owned = fun_ext (λ u. each u (nat_lt u 1) refl)
   where
     each : (u : ℕ) (c : Bool) → nat_lt u 1 ≡ c → table u ≡ cleared_below areas table f i 1 u
-    each u true e = sym (ap (λ (m : Bool). if m then without_index (areas u) (table u) f i else table u) e ∙ no_entries (areas u) (table u) f i (λ v x p. (let z = (owned u v x p).0 in let l : u < 1 = grind (arith, nat_tests) in omega arith)))
+    each u true e =
+        sym (ap (λ (m : Bool). if m then without_index (areas u) (table u) f i else table u) e
+        ∙ no_entries (areas u) (table u) f i
+        (λ v x p. (let z = (owned u v x p).0 in let l : u < 1 = grind (arith, nat_tests) in omega arith)))
     each u false e = sym (ap (λ (m : Bool). if m then without_index (areas u) (table u) f i else table u) e)
 
 clears_all : (tasks : ℕ) (areas : ℕ → List Mapping) (table : ℕ → ℕ → Option ℕ) (f i : ℕ) → Owned tasks table
@@ -191,7 +209,10 @@ clears_all tasks areas table f i owned = fun_ext (λ u. each u (nat_lt u (tasks 
     each : (u : ℕ) (c : Bool) → nat_lt u (tasks + 1) ≡ c
         → cleared_below areas table f i (tasks + 1) u ≡ without_index (areas u) (table u) f i
     each u true e = ap (λ (m : Bool). if m then without_index (areas u) (table u) f i else table u) e
-    each u false e = ap (λ (m : Bool). if m then without_index (areas u) (table u) f i else table u) e ∙ sym (no_entries (areas u) (table u) f i (λ v x p. (let z = (owned u v x p).1 in let l : tasks + 1 ≤ u = grind (arith, nat_tests) in omega arith)))
+    each u false e =
+        ap (λ (m : Bool). if m then without_index (areas u) (table u) f i else table u) e
+        ∙ sym (no_entries (areas u) (table u) f i
+        (λ v x p. (let z = (owned u v x p).1 in let l : tasks + 1 ≤ u = grind (arith, nat_tests) in omega arith)))
 
 -- the entries of one task after the other are cleared
 unmaps_from : {P : Type 0} (R : Pool → P → Turn P → Pool → Type 0) (b : Answer) (n s : Pool) (f i : ℕ) (more : ℕ → P) (last : P)
@@ -203,7 +224,8 @@ unmaps_from R b n s f i more last rows zero k e go =
     let end : nat_lt k s.geometry.tasks ≡ false = grind (arith, nat_tests) in
     let k1 = goes_on go (λ turn m r. if_false _ _ end (rows _ k turn m r)) in
     let one = clears_one s.areas s.table f i k in
-    let z : Leads R b n (record s { table = cleared_below s.areas s.table f i (k + 1) }) last = from_pool (λ j. record s { table = one j }) k1 in
+    let z : Leads R b n (record s { table = cleared_below s.areas s.table f i (k + 1) }) last =
+    from_pool (λ j. record s { table = one j }) k1 in
     let same : k ≡ s.geometry.tasks = omega arith in
     subst (λ (m : ℕ). Leads R b n (record s { table = cleared_below s.areas s.table f i (m + 1) }) last) same z
 unmaps_from R b n s f i more last rows (suc d) k e go =
@@ -220,7 +242,8 @@ unmaps R b n s f i more last rows some owned go =
     let none = clears_none s.geometry.tasks s.areas s.table f i owned in
     let all = clears_all s.geometry.tasks s.areas s.table f i owned in
     let d = less_one s.geometry.tasks some in
-    from_pool (λ j. record s { table = all j }) (unmaps_from R b n s f i more last rows d.0 1 d.1 (from_pool (λ j. record s { table = none j }) go))
+    from_pool (λ j. record s { table = all j })
+    (unmaps_from R b n s f i more last rows d.0 1 d.1 (from_pool (λ j. record s { table = none j }) go))
   where
     less_one : (a : ℕ) → 1 ≤ a → (d : ℕ) × (1 + d ≡ a)
     less_one zero p = absurd (omega arith)

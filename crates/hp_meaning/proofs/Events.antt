@@ -57,16 +57,24 @@ under r a b e = record {
 }
 
 -- after a step of a call
-after_call : {frames : ℕ} (s : State) (r : Renaming frames) (t : ℕ) (c : Call) (o o' : Outcome) (pool pool' : Pool) (next next' : Option Call) (after after' : State)
+after_call : {frames : ℕ} (s : State) (r : Renaming frames) (t : ℕ) (c : Call) (o o' : Outcome) (pool pool' : Pool)
+    (next next' : Option Call) (after after' : State)
     → InUse frames s → CallFollows frames (pool_of s) r o pool next o' pool' next'
     → after ≡ record (with_pool s pool) { life = lives_after s.life t c next; calls = put s.calls t next }
-    → after' ≡ record (with_pool (renamed r s) pool') { life = lives_after s.life t (call_renamed r.to c) next'; calls = put (λ u. option_map (call_renamed r.to) (s.calls u)) t next' }
+    → after' ≡ record (with_pool (renamed r s) pool') {
+      life = lives_after s.life t (call_renamed r.to c) next';
+      calls = put (λ u. option_map (call_renamed r.to) (s.calls u)) t next';
+    }
     → EventFollows frames s o after o' after'
 after_call s r t c o o' pool pool' next next' after after' h k e d =
     let names = k.names in
-    let agrees : ◌≡◌ {A = ℕ → Option Call} (λ u. option_map (call_renamed r.to) (s.calls u)) (λ u. option_map (call_renamed names.to) (s.calls u)) = fun_ext (λ u. sym (call_agrees r.to names.to (s.calls u) (λ x q. k.keeps x (h.hands u x q)))) in
+    let agrees : ◌≡◌ {A = ℕ → Option Call} (λ u. option_map (call_renamed r.to) (s.calls u))
+    (λ u. option_map (call_renamed names.to) (s.calls u)) = fun_ext
+    (λ u. sym (call_agrees r.to names.to (s.calls u) (λ x q. k.keeps x (h.hands u x q)))) in
     let lives = ap (lives_after s.life t (call_renamed r.to c)) k.calls ∙ lives_renamed r.to names.to s.life t c next in
-    let calls = ap (put (λ u. option_map (call_renamed r.to) (s.calls u)) t) k.calls ∙ (ap (λ (m : ℕ → Option Call). put m t (option_map (call_renamed names.to) next)) agrees ∙ put_map (option_map (call_renamed names.to)) s.calls t next) in
+    let calls = ap (put (λ u. option_map (call_renamed r.to) (s.calls u)) t) k.calls
+    ∙ (ap (λ (m : ℕ → Option Call). put m t (option_map (call_renamed names.to) next)) agrees
+    ∙ put_map (option_map (call_renamed names.to)) s.calls t next) in
     record {
       names = names;
       tells = k.tells;
@@ -84,7 +92,8 @@ event_row s r (Begin t p) o o' after after' h a b =
     (λ _ a b. by_tests (is_killed (s.life t) && not (is_exit p)) a b
     (λ _ a b. under r a b refl)
     (λ _ a b.
-    let calls = ap (λ (c : Call). put (λ u. option_map (call_renamed r.to) (s.calls u)) t (Some c)) (sym (first_renamed r.to p)) ∙ put_map (option_map (call_renamed r.to)) s.calls t (Some (first p)) in
+    let calls = ap (λ (c : Call). put (λ u. option_map (call_renamed r.to) (s.calls u)) t (Some c))
+    (sym (first_renamed r.to p)) ∙ put_map (option_map (call_renamed r.to)) s.calls t (Some (first p)) in
     under r a (b.0, b.1 ∙ (λ i. record (renamed r s) { calls = calls i })) refl))
     (λ c _ a b. under r a b refl))
 event_row s r (Step t grant) o o' after after' h a b =

@@ -30,11 +30,15 @@ missing_next set from i l =
 
 pub count_empty : (set : ℕ → Bool) (from : ℕ) → count_within set from from ≡ 0
 unfolding count_within
-count_empty set from = count_below_none (λ k. nat_le from k && set k) from (λ k l. (let a : nat_le from k ≡ false = grind (arith, nat_tests) in ap (λ (c : Bool). c && set k) a))
+count_empty set from =
+    count_below_none (λ k. nat_le from k && set k) from
+    (λ k l. (let a : nat_le from k ≡ false = grind (arith, nat_tests) in ap (λ (c : Bool). c && set k) a))
 
 pub missing_empty : (set : ℕ → Bool) (from : ℕ) → missing set from from ≡ 0
 unfolding missing
-missing_empty set from = count_below_none (λ k. nat_le from k && not (set k)) from (λ k l. (let a : nat_le from k ≡ false = grind (arith, nat_tests) in ap (λ (c : Bool). c && not (set k)) a))
+missing_empty set from =
+    count_below_none (λ k. nat_le from k && not (set k)) from
+    (λ k l. (let a : nat_le from k ≡ false = grind (arith, nat_tests) in ap (λ (c : Bool). c && not (set k)) a))
 
 count_below_longer : (set : ℕ → Bool) (m n : ℕ) → m ≤ n → count_below set m ≤ count_below set n
 unfolding count_below
@@ -54,7 +58,8 @@ pub bare_parts : (reserved : ℕ → Bool) (pages : ℕ → Option ℕ) (from to
     → count_within (λ j. is_none (pages j)) from to ≡ count_within (λ j. reserved j && is_none (pages j)) from to + missing reserved from to
 unfolding count_within missing
 bare_parts reserved pages from to bare =
-    count_below-sum (λ k. nat_le from k && (reserved k && is_none (pages k))) (λ k. nat_le from k && not (reserved k)) (λ k. nat_le from k && is_none (pages k)) to (λ k l. parts (nat_le from k) (reserved k) (pages k) (bare k))
+    count_below-sum (λ k. nat_le from k && (reserved k && is_none (pages k))) (λ k. nat_le from k && not (reserved k))
+    (λ k. nat_le from k && is_none (pages k)) to (λ k l. parts (nat_le from k) (reserved k) (pages k) (bare k))
   where
     parts : (a r : Bool) (o : Option ℕ) → (r ≡ false → o ≡ None)
         → cond (a && is_none o) 1 0 ≡ cond (a && (r && is_none o)) 1 0 + cond (a && not r) 1 0
@@ -68,7 +73,9 @@ bare_parts reserved pages from to bare =
 pub range_more : (reserved : ℕ → Bool) (from i : ℕ) → from ≤ i
     → add_range (add_range reserved from i) i (i + 1) ≡ add_range reserved from (i + 1)
 unfolding add_range
-range_more reserved from i l = fun_ext (λ j. each j (is_within i (i + 1) j) (is_within from i j) (is_within from (i + 1) j) (reserved j) (grind (arith, nat_tests)))
+range_more reserved from i l =
+    fun_ext (λ j. each j (is_within i (i + 1) j) (is_within from i j) (is_within from (i + 1) j) (reserved j)
+    (grind (arith, nat_tests)))
   where
     each : (j : ℕ) (a b c r : Bool) → (a || b) ≡ c → (a || (b || r)) ≡ (c || r)
     each j true b c r e = ap (λ (m : Bool). m || r) e
@@ -90,7 +97,8 @@ range_same reserved from i l e = fun_ext (λ j. elim (same_or_other j i) [
 
 pub range_empty : (reserved : ℕ → Bool) (from : ℕ) → add_range reserved from from ≡ reserved
 unfolding add_range
-range_empty reserved from = fun_ext (λ j. (let a : is_within from from j ≡ false = grind (arith, nat_tests) in ap (λ (c : Bool). c || reserved j) a))
+range_empty reserved from =
+    fun_ext (λ j. (let a : is_within from from j ≡ false = grind (arith, nat_tests) in ap (λ (c : Bool). c || reserved j) a))
 
 pub range_past : (reserved : ℕ → Bool) (from i : ℕ) → add_range reserved from i i ≡ reserved i
 unfolding add_range
@@ -122,11 +130,13 @@ none_filled frames pages frame from = record {
 wider : (from i j : ℕ) → is_within from (i + 1) j ≡ false → from ≤ i → (is_within from i j ≡ false) × (j ≢ i)
 wider from i j e l = (
   grind (arith, nat_tests),
-  λ d. (let a : is_within from (i + 1) i ≡ true = grind (arith, nat_tests) in let z : true ≡ false = sym a ∙ (ap (is_within from (i + 1)) (sym d) ∙ e) in absurd (cc)),
+  λ d. (let a : is_within from (i + 1) i ≡ true = grind (arith, nat_tests) in
+      let z : true ≡ false = sym a ∙ (ap (is_within from (i + 1)) (sym d) ∙ e) in absurd (cc)),
 )
 
 -- an index that has a page is passed
-pub fills_same : (frames : ℕ) (pages : ℕ → Option ℕ) (before : ℕ → FrameState) (from i x : ℕ) (after : ℕ → Option ℕ) (frame : ℕ → FrameState)
+pub fills_same : (frames : ℕ) (pages : ℕ → Option ℕ) (before : ℕ → FrameState) (from i x : ℕ) (after : ℕ → Option ℕ)
+    (frame : ℕ → FrameState)
     → from ≤ i → pages i ≡ Some x
     → Filled frames pages before from i after frame → Filled frames pages before from (i + 1) after frame
 fills_same frames pages before from i x after frame l e h = record {
@@ -137,7 +147,11 @@ fills_same frames pages before from i x after frame l e h = record {
   kept = h.kept;
   elsewhere = λ j d. h.elsewhere j (wider from i j d l).0;
   others = h.others;
-  count = (let z : count_within (λ j. is_none (pages j)) from (i + 1) ≡ count_within (λ j. is_none (pages j)) from i + 0 = count_next (λ j. is_none (pages j)) from i l ∙ ap (λ (o : Option ℕ). count_within (λ j. is_none (pages j)) from i + cond (is_none o) 1 0) e in let y = h.count in omega arith);
+  count =
+      (let z : count_within (λ j. is_none (pages j)) from (i + 1) ≡ count_within (λ j. is_none (pages j)) from
+      i + 0 = count_next (λ j. is_none (pages j)) from i l
+      ∙ ap (λ (o : Option ℕ). count_within (λ j. is_none (pages j)) from i + cond (is_none o) 1 0) e in
+      let y = h.count in omega arith);
 }
 
 -- a free frame is no new page's, and was free before
@@ -159,7 +173,8 @@ free_before frames pages before from i x after frame h free = sym (h.others x no
             absurd (cc)
 
 -- an index gets a page
-pub fills_more : (frames : ℕ) (pages : ℕ → Option ℕ) (before : ℕ → FrameState) (from i x : ℕ) (after : ℕ → Option ℕ) (frame : ℕ → FrameState)
+pub fills_more : (frames : ℕ) (pages : ℕ → Option ℕ) (before : ℕ → FrameState) (from i x : ℕ) (after : ℕ → Option ℕ)
+    (frame : ℕ → FrameState)
     → from ≤ i → pages i ≡ None → frame x ≡ Free → ((y : ℕ) → before y ≡ Free → y < frames)
     → Filled frames pages before from i after frame
     → Filled frames pages before from (i + 1) (put after i (Some x)) (put (put frame x Hand) x (Placed 0))
@@ -168,19 +183,26 @@ fills_more frames pages before from i x after frame l bare free real h = record 
     | inl d ↦ (x, ap (put after i (Some x)) d ∙ put_same after i (Some x), was, put_same (put frame x Hand) x (Placed 0))
     | inr d ↦ (let y = h.fresh j m (omega arith) none in (y.0, put_other after i (Some x) j d ∙ y.1, y.2, placed_still y.0 y.3))
   ];
-  kept = λ j y e. put_other after i (Some x) j (λ d. (let z : None ≡ Some y = sym bare ∙ (ap pages (sym d) ∙ e) in absurd (cc))) ∙ h.kept j y e;
+  kept =
+      λ j y e. put_other after i (Some x) j
+      (λ d. (let z : None ≡ Some y = sym bare ∙ (ap pages (sym d) ∙ e) in absurd (cc))) ∙ h.kept j y e;
   elsewhere = λ j d. let z = wider from i j d l in put_other after i (Some x) j z.1 ∙ h.elsewhere j z.0;
   others = λ y none.
       let other : y ≢ x = λ d. none i bare (put_same after i (Some x) ∙ ap (λ (w : ℕ). Some w) (sym d)) in
       put_other (put frame x Hand) x (Placed 0) y other ∙ (put_other frame x Hand y other ∙ h.others y (λ j e is. elim (same_or_other j i) [
-        | inl d ↦ (let out : is_within from i i ≡ false = grind (arith, nat_tests) in let z : None ≡ Some y = sym bare ∙ (sym (h.elsewhere i out) ∙ (ap after (sym d) ∙ is)) in absurd (cc))
+        | inl d ↦ (let out : is_within from i i ≡ false = grind (arith, nat_tests) in
+            let z : None ≡ Some y = sym bare ∙ (sym (h.elsewhere i out) ∙ (ap after (sym d) ∙ is)) in absurd (cc))
         | inr d ↦ none j e (put_other after i (Some x) j d ∙ is)
       ]));
   count = (
-      let a : free_frames (put frame x (Placed 0)) frames + bit (is_free (frame x)) ≡ free_frames frame frames + 0 = free_change frame x frames (Placed 0) (real x was) in
+      let a : free_frames (put frame x (Placed 0)) frames + bit (is_free (frame x)) ≡ free_frames frame frames + 0 =
+      free_change frame x frames (Placed 0) (real x was) in
       let c : bit (is_free (frame x)) ≡ 1 = ap (λ (v : FrameState). bit (is_free v)) free in
-      let d : free_frames (put (put frame x Hand) x (Placed 0)) frames ≡ free_frames (put frame x (Placed 0)) frames = ap (λ (g : ℕ → FrameState). free_frames g frames) (put_put frame x Hand (Placed 0)) in
-      let z : count_within (λ j. is_none (pages j)) from (i + 1) ≡ count_within (λ j. is_none (pages j)) from i + 1 = count_next (λ j. is_none (pages j)) from i l ∙ ap (λ (o : Option ℕ). count_within (λ j. is_none (pages j)) from i + cond (is_none o) 1 0) bare in
+      let d : free_frames (put (put frame x Hand) x (Placed 0)) frames ≡ free_frames (put frame x (Placed 0)) frames =
+      ap (λ (g : ℕ → FrameState). free_frames g frames) (put_put frame x Hand (Placed 0)) in
+      let z : count_within (λ j. is_none (pages j)) from (i + 1) ≡ count_within (λ j. is_none (pages j)) from i + 1 =
+      count_next (λ j. is_none (pages j)) from i l
+      ∙ ap (λ (o : Option ℕ). count_within (λ j. is_none (pages j)) from i + cond (is_none o) 1 0) bare in
       let y = h.count in
       omega arith
       );

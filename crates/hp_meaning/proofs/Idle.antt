@@ -33,10 +33,14 @@ pub so_some : {T : Type 0} (A : Type 0) (B : T → Type 0) {o : Option T} (x : T
 so_some {T} A B x e a = subst (λ (p : Option T). MatchOption p A B) (sym e) a
 
 -- the call is over: its answer, and the state after it
-pub finish : {P : Type 0} (call : P → Call) (s : State) (t : ℕ) (last : P) {b a : Answer} {n : State} {end x : Pool} (M : Answer → State → Type 0) (m : State)
+pub finish : {P : Type 0} (call : P → Call) (s : State) (t : ℕ) (last : P) {b a : Answer} {n : State} {end x : Pool}
+    (M : Answer → State → Type 0) (m : State)
     → (b ≡ a) × (end ≡ x) → n ≡ over call s t end last → M a m → Looks m (over call s t x last) → (m : State) × M b m × Looks m n
-finish call s t last {n = n} M m e is h l =
-    (m, subst (λ (c : Answer). M c m) (sym e.0) h, subst (λ (y : State). Looks m y) (sym (is ∙ ap (λ (p : Pool). over call s t p last) e.1)) l)
+finish call s t last {n = n} M m e is h l = (
+  m,
+  subst (λ (c : Answer). M c m) (sym e.0) h,
+  subst (λ (y : State). Looks m y) (sym (is ∙ ap (λ (p : Pool). over call s t p last) e.1)) l,
+)
 
 pub idle_again : (s : State) (t : ℕ) → s.calls t ≡ None → put s.calls t None ≡ s.calls
 idle_again s t e = put_known s.calls t None e
@@ -69,7 +73,8 @@ pub put_back : {A : Type 0} (f : ℕ → A) (k : ℕ) (v w : A) → f k ≡ w �
 put_back f k v w e = put_put f k v w ∙ put_known f k w e
 
 pub pending_back : (f : ℕ → ℕ) (k : ℕ) → put (put f k (f k + 1)) k (put f k (f k + 1) k - 1) ≡ f
-pending_back f k = put_back f k (f k + 1) (put f k (f k + 1) k - 1) (let e : put f k (f k + 1) k ≡ f k + 1 = put_same f k (f k + 1) in omega arith)
+pending_back f k =
+    put_back f k (f k + 1) (put f k (f k + 1) k - 1) (let e : put f k (f k + 1) k ≡ f k + 1 = put_same f k (f k + 1) in omega arith)
 
 pub put2_self : {A : Type 0} (p : ℕ → ℕ → A) (f i : ℕ) (v : A) → p f i ≡ v → put2 p f i v ≡ p
 put2_self p f i v e = ap (put p f) (put_known (p f) i v e) ∙ put_self p f
@@ -91,11 +96,13 @@ and_false true = refl
 and_false false = refl
 
 -- a call that begins with the range check: an answer of the check, or what comes once the file's lock is taken
-pub checked : {P : Type 0} (call : P → Call) (R : Pool → P → Turn P → Pool → Type 0) (s : State) (t f : ℕ) (bad : Bool) (b : Answer) (n : State) (end : Pool) (last here next : P) (at_kill : Answer) (Meant : Answer → State → Type 0)
+pub checked : {P : Type 0} (call : P → Call) (R : Pool → P → Turn P → Pool → Type 0) (s : State) (t f : ℕ)
+    (bad : Bool) (b : Answer) (n : State) (end : Pool) (last here next : P) (at_kill : Answer) (Meant : Answer → State → Type 0)
     → s.locks f ≡ None → s.calls t ≡ None → lives_after s.life t (call last) None ≡ s.life
     → ((turn : Turn P) (m : Pool) → R (pool_of s) here turn m → StartRow (pool_of s) t false f bad at_kill here next turn m)
     → Leads R b end (pool_of s) here → n ≡ over call s t end last
-    → (nat_le s.geometry.files f ≡ false → bad ≡ false → Leads R b end (record (pool_of s) { locks = put s.locks f (Some t) }) next → (m : State) × Meant b m × Looks m n)
+    → (nat_le s.geometry.files f ≡ false → bad ≡ false
+    → Leads R b end (record (pool_of s) { locks = put s.locks f (Some t) }) next → (m : State) × Meant b m × Looks m n)
     → (m : State) × Checked s f bad b m (Meant b m) × Looks m n
 checked call R s t f bad b n end last here next at_kill Meant unlocked idle living rows k is rest = by_file (nat_le s.geometry.files f) refl
   where
@@ -104,11 +111,15 @@ checked call R s t f bad b n end last here next at_kill Meant unlocked idle livi
 
     by_range : (c : Bool) → bad ≡ c → nat_le s.geometry.files f ≡ false → (m : State) × Checked s f bad b m (Meant b m) × Looks m n
     by_range true e d =
-        finish call s t last (λ a m. Checked s f bad a m (Meant a m)) s (ends_so k (λ turn m r. if_true _ _ e (if_false _ _ d (rows turn m r)))) is (so_false _ _ d (so_true _ _ e (refl, refl))) same
+        finish call s t last (λ a m. Checked s f bad a m (Meant a m)) s
+        (ends_so k (λ turn m r. if_true _ _ e (if_false _ _ d (rows turn m r)))) is
+        (so_false _ _ d (so_true _ _ e (refl, refl))) same
     by_range false e d =
         let z = rest d e (goes_on k (λ turn m r. if_none _ _ unlocked (if_false _ _ e (if_false _ _ d (rows turn m r))))) in
         (z.0, so_false _ _ d (so_false _ _ e z.1), z.2)
 
     by_file : (c : Bool) → nat_le s.geometry.files f ≡ c → (m : State) × Checked s f bad b m (Meant b m) × Looks m n
-    by_file true e = finish call s t last (λ a m. Checked s f bad a m (Meant a m)) s (ends_so k (λ turn m r. if_true _ _ e (rows turn m r))) is (so_true _ _ e (refl, refl)) same
+    by_file true e =
+        finish call s t last (λ a m. Checked s f bad a m (Meant a m)) s
+        (ends_so k (λ turn m r. if_true _ _ e (rows turn m r))) is (so_true _ _ e (refl, refl)) same
     by_file false e = by_range bad refl e

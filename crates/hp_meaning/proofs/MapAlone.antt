@@ -17,7 +17,8 @@ use Rattle.hp_laws.proofs.Invariant.{Inv}
 use Rattle.hp_laws.proofs.Shared.{by_test, by_option}
 use Rattle.hp_meaning.specs.Meaning.{IsReady, Looks, Checked, is_bad_range, MapMeans, MapNoReserveMeans}
 use Rattle.hp_meaning.proofs.Alone.{if_false, Leads, next, moves, goes_on, ends_so, over, Comes}
-use Rattle.hp_meaning.proofs.Idle.{so_true, so_false, so_none, so_some, finish, idle_again, free_lock, put_back, pending_back, not_below_itself, and_false, checked}
+use Rattle.hp_meaning.proofs.Idle.{so_true, so_false, so_none, so_some, finish, idle_again, free_lock, put_back, pending_back}
+use Rattle.hp_meaning.proofs.Idle.{not_below_itself, and_false, checked}
 
 -- granted steps of a task that isn't killed
 abbrev pub MapSteps : (task : ℕ) → Pool → MapPhase → Turn MapPhase → Pool → Type 0
@@ -33,12 +34,22 @@ locked s t f = record (pool_of s) { locks = put s.locks f (Some t) }
 
 -- the change of the range is begun, under the lock
 abbrev changing : State → (task file : ℕ) → Pool
-changing s t f = record (locked s t f) { prepared = put s.prepared t true; pending = put s.pending f (s.pending f + 1); spare = put s.spare f (max (s.spare f) (s.pending f + 1)) }
+changing s t f =
+    record (locked s t f) {
+      prepared = put s.prepared t true;
+      pending = put s.pending f (s.pending f + 1);
+      spare = put s.spare f (max (s.spare f) (s.pending f + 1));
+    }
 
 -- the frames are counted
 change_maps : (s : State) (t f from len base : ℕ) (b : Answer) (n : State) (end : Pool) (last : MapPhase) → s.locks f ≡ None
     → s.calls t ≡ None → IsRoom s.geometry.space (s.areas t) len (Some base)
-    → Leads (MapSteps t) b end (changing s t f) (at.Changed (record { map = asked true f from len; base = base; pending = record { from = from; to = from + len; missing = missing (s.reserved f) from (from + len) } }))
+    → Leads (MapSteps t) b end (changing s t f)
+    (at.Changed (record {
+      map = asked true f from len;
+      base = base;
+      pending = record { from = from; to = from + len; missing = missing (s.reserved f) from (from + len) };
+    }))
     → n ≡ over call.Map s t end last
     → (m : State) × MapMeans s t f from len b m × Looks m n
 change_maps s t f from len base b n end last unlocked idle room k is =
@@ -51,7 +62,15 @@ change_maps s t f from len base b n end last unlocked idle room k is =
     let k1 = goes_on (moves z.3 r) (λ turn m r. r) in
     let x = ends_so k1 (λ turn m r. r) in
     finish call.Map s t last (MapMeans s t f from len) s x is (Some base, room, so_true _ _ short (refl, refl))
-    (λ j. record s { pool = record s.pool { locks = locks j; pending = pending j; spare = put s.spare f (max (s.spare f) (s.pending f + 1)); prepared = put s.prepared t true }; calls = calls j }))
+    (λ j. record s {
+      pool = record s.pool {
+        locks = locks j;
+        pending = pending j;
+        spare = put s.spare f (max (s.spare f) (s.pending f + 1));
+        prepared = put s.prepared t true;
+      };
+      calls = calls j;
+    }))
     (λ enough r.
     let k1 = goes_on (moves z.3 r) (λ turn m r. if_false _ _ (not_below_itself (missing (s.reserved f) from (from + len))) r) in
     let k2 = goes_on k1 (λ turn m r. r) in
@@ -83,7 +102,8 @@ room_maps s t f from len b n end last unlocked idle k is =
     by_option z.2.0 z.2.2
     (λ none r.
     let y = ends_so (moves z.3 r) (λ turn m r. r) in
-    finish call.Map s t last (MapMeans s t f from len) s y is (z.2.0, z.2.1, so_none _ _ none (refl, refl)) (λ j. record s { pool = record s.pool { locks = locks j }; calls = calls j }))
+    finish call.Map s t last (MapMeans s t f from len) s y is (z.2.0, z.2.1, so_none _ _ none (refl, refl))
+    (λ j. record s { pool = record s.pool { locks = locks j }; calls = calls j }))
     (λ base some r.
     let k1 = goes_on (moves z.3 r) (λ turn m r. if_false _ _ (and_false (s.spare f == s.pending f)) r) in
     change_maps s t f from len base b n end last unlocked idle (subst (IsRoom s.geometry.space (s.areas t) len) some z.2.1) k1 is)
@@ -99,7 +119,8 @@ room_enters s t f from len b n end last unlocked idle k is =
     by_option z.2.0 z.2.2
     (λ none r.
     let y = ends_so (moves z.3 r) (λ turn m r. r) in
-    finish call.Map s t last (MapNoReserveMeans s t f from len) s y is (z.2.0, z.2.1, so_none _ _ none (refl, refl)) (λ j. record s { pool = record s.pool { locks = locks j }; calls = calls j }))
+    finish call.Map s t last (MapNoReserveMeans s t f from len) s y is (z.2.0, z.2.1, so_none _ _ none (refl, refl))
+    (λ j. record s { pool = record s.pool { locks = locks j }; calls = calls j }))
     (λ base some r.
     let k1 = goes_on (moves z.3 r) (λ turn m r. r) in
     let x = ends_so k1 (λ turn m r. r) in
@@ -119,12 +140,16 @@ pub map_means : (s : State) (t f from len : ℕ) (b : Answer) (n : State) → In
     → Comes call.Map (MapSteps t) s t b n (pool_of s) (at.Start (record { map = asked true f from len }))
     → (m : State) × Checked s f (is_bad_range s from len) b m (MapMeans s t f from len b m) × Looks m n
 map_means s t f from len b n h ready (end, last, k, is) =
-    checked call.Map (MapSteps t) s t f (is_bad_range s from len) b n end last _ (at.Room (record { map = asked true f from len })) Killed (MapMeans s t f from len) (free_lock s h ready.0 f) (ready.0 t) refl (λ turn m r. r) k is
+    checked call.Map (MapSteps t) s t f (is_bad_range s from len) b n end last _
+    (at.Room (record { map = asked true f from len })) Killed (MapMeans s t f from len) (free_lock s h ready.0 f)
+    (ready.0 t) refl (λ turn m r. r) k is
     (λ _ _ k. room_maps s t f from len b n end last (free_lock s h ready.0 f) (ready.0 t) k is)
 
 pub map_no_reserve_means : (s : State) (t f from len : ℕ) (b : Answer) (n : State) → Inv s.geometry s → IsReady s t
     → Comes call.Map (MapSteps t) s t b n (pool_of s) (at.Start (record { map = asked false f from len }))
     → (m : State) × Checked s f (is_bad_range s from len) b m (MapNoReserveMeans s t f from len b m) × Looks m n
 map_no_reserve_means s t f from len b n h ready (end, last, k, is) =
-    checked call.Map (MapSteps t) s t f (is_bad_range s from len) b n end last _ (at.Room (record { map = asked false f from len })) Killed (MapNoReserveMeans s t f from len) (free_lock s h ready.0 f) (ready.0 t) refl (λ turn m r. r) k is
+    checked call.Map (MapSteps t) s t f (is_bad_range s from len) b n end last _
+    (at.Room (record { map = asked false f from len })) Killed (MapNoReserveMeans s t f from len)
+    (free_lock s h ready.0 f) (ready.0 t) refl (λ turn m r. r) k is
     (λ _ _ k. room_enters s t f from len b n end last (free_lock s h ready.0 f) (ready.0 t) k is)

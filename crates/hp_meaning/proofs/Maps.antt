@@ -18,7 +18,8 @@ use Rattle.hp_machine.specs.declared.exit.ExitPhase.{ExitPhase}
 use Rattle.hp_machine.specs.declared.exit.ExitPhase.TheVariants as exit
 use Rattle.hp_machine.specs.declared.call.Turn.{Turn}
 use Rattle.hp_meaning.specs.Renaming.{Renaming}
-use Rattle.hp_meaning.proofs.Parts.{pool_renamed, unnamed, Used, Follows, leaf, plain, by_tests, by_like_tests, by_options, by_like_options, start_row, change_row, frees_renamed, cleared_renamed}
+use Rattle.hp_meaning.proofs.Parts.{pool_renamed, unnamed, Used, Follows, leaf, plain, by_tests, by_like_tests, by_options}
+use Rattle.hp_meaning.proofs.Parts.{by_like_options, start_row, change_row, frees_renamed, cleared_renamed}
 
 -- there is one least room, or none
 room_one : (space : ℕ) (ms : List Mapping) (len : ℕ) (a b : Option ℕ) → IsRoom space ms len a → IsRoom space ms len b → b ≡ a
@@ -33,7 +34,8 @@ room_one space ms len (Some x) (Some y) h k = ap (λ (w : ℕ). Some w) (least (
     least : (x < y → ⊥) → (y < x → ⊥) → y ≡ x
     least d e = omega arith
 
-pub map_row : {frames : ℕ} {s : Pool} {r : Renaming frames} {turn other : Turn MapPhase} {new there : Pool} (t : ℕ) (killed grant : Bool) (p : MapPhase)
+pub map_row : {frames : ℕ} {s : Pool} {r : Renaming frames} {turn other : Turn MapPhase} {new there : Pool} (t : ℕ)
+    (killed grant : Bool) (p : MapPhase)
     → Used frames s → MapRow s t killed grant p turn new → MapRow (pool_renamed r s) t killed grant p other there
     → Follows MapPhase unnamed frames s r turn new other there
 map_row {s = s} t killed grant (map.Start p) h a b = start_row t killed p.map.file (is_bad_range s p.map.from p.map.len) _ _ _ a b
@@ -43,25 +45,34 @@ map_row {s = s} t killed grant (map.Room p) h a b =
     (λ base _ a b. by_tests grant a b
     (λ _ a b. by_tests p.map.reserve a b (λ _ a b. plain a b refl) (λ _ a b. plain a b refl))
     (λ _ a b. plain a b refl))
-map_row t killed grant (map.Missing p) h a b = change_row grant p.map.file p.map.from (p.map.from + p.map.len) _ (λ change. map.Changed (record { map = p.map; base = p.base; pending = change })) a b
+map_row t killed grant (map.Missing p) h a b =
+    change_row grant p.map.file p.map.from (p.map.from + p.map.len) _
+    (λ change. map.Changed (record { map = p.map; base = p.base; pending = change })) a b
 map_row {s = s} {r = r} t killed grant (map.Changed p) h a b =
     by_tests killed a b
     (λ _ a b. plain a b refl)
-    (λ _ a b. by_like_tests (nat_lt (frees s - s.resv) p.pending.missing) _ (ap (λ (n : ℕ). nat_lt (n - s.resv) p.pending.missing) (frees_renamed s r h.count)) a b (λ _ a b. plain a b refl) (λ _ a b. plain a b refl))
+    (λ _ a b. by_like_tests (nat_lt (frees s - s.resv) p.pending.missing) _
+    (ap (λ (n : ℕ). nat_lt (n - s.resv) p.pending.missing) (frees_renamed s r h.count)) a b
+    (λ _ a b. plain a b refl) (λ _ a b. plain a b refl))
 map_row t killed grant (map.Abort p) h a b = plain a b refl
-map_row {s = s} t killed grant (map.Accounted p) h a b = by_tests (nat_lt (missing (s.reserved p.map.file) p.pending.from p.pending.to) p.pending.missing) a b (λ _ a b. plain a b refl) (λ _ a b. plain a b refl)
+map_row {s = s} t killed grant (map.Accounted p) h a b =
+    by_tests (nat_lt (missing (s.reserved p.map.file) p.pending.from p.pending.to) p.pending.missing) a b
+    (λ _ a b. plain a b refl) (λ _ a b. plain a b refl)
 map_row t killed grant (map.Settle p) h a b = plain a.1 b.1 refl
 map_row t killed grant (map.Enter p) h a b = plain a b refl
 map_row t killed grant (map.Leave p) h a b = plain a b refl
 
-pub unmap_row : {frames : ℕ} {s : Pool} {r : Renaming frames} {turn other : Turn UnmapPhase} {new there : Pool} (t : ℕ) (killed grant : Bool) (p : UnmapPhase)
+pub unmap_row : {frames : ℕ} {s : Pool} {r : Renaming frames} {turn other : Turn UnmapPhase} {new there : Pool}
+    (t : ℕ) (killed grant : Bool) (p : UnmapPhase)
     → UnmapRow s t killed grant p turn new → UnmapRow (pool_renamed r s) t killed grant p other there
     → Follows UnmapPhase unnamed frames s r turn new other there
-unmap_row {s = s} t killed grant (unmap.Start p) a b = by_tests (is_base (s.areas t) p.base) a b (λ _ a b. plain a b refl) (λ _ a b. plain a b refl)
+unmap_row {s = s} t killed grant (unmap.Start p) a b =
+    by_tests (is_base (s.areas t) p.base) a b (λ _ a b. plain a b refl) (λ _ a b. plain a b refl)
 unmap_row {s = s} {r = r} t killed grant (unmap.Clear p) a b = leaf a b refl (cleared_renamed s r t p.base) refl
 unmap_row t killed grant (unmap.Drop p) a b = plain a b refl
 
-pub exit_row : {frames : ℕ} {s : Pool} {r : Renaming frames} {turn other : Turn ExitPhase} {new there : Pool} (t : ℕ) (killed grant : Bool) (p : ExitPhase)
+pub exit_row : {frames : ℕ} {s : Pool} {r : Renaming frames} {turn other : Turn ExitPhase} {new there : Pool} (t : ℕ)
+    (killed grant : Bool) (p : ExitPhase)
     → ExitRow s t killed grant p turn new → ExitRow (pool_renamed r s) t killed grant p other there
     → Follows ExitPhase unnamed frames s r turn new other there
 exit_row {s = s} t killed grant exit.Start a b =

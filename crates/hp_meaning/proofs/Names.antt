@@ -13,7 +13,8 @@ use Rattle.hp_meaning.specs.Renaming.{Renaming}
 -- a sum with one term
 one_term : (n k v : ℕ) → k < n → total n (put (λ _. 0) k v) ≡ v
 one_term n k v l =
-    let a : total n (put (λ _. 0) k v) + 0 ≡ total n (λ _. 0) + put (λ _. 0) k v k = total_change n k (λ _. 0) (put (λ _. 0) k v) l (λ j h. put_other (λ _. 0) k v j h) in
+    let a : total n (put (λ _. 0) k v) + 0 ≡ total n (λ _. 0) + put (λ _. 0) k v k =
+    total_change n k (λ _. 0) (put (λ _. 0) k v) l (λ j h. put_other (λ _. 0) k v j h) in
     let b = total_none n in
     let c : put (λ _. 0) k v k ≡ v = put_same (λ _. 0) k v in
     omega arith
@@ -22,7 +23,9 @@ one_term n k v l =
 pub count_renamed : {frames : ℕ} (r : Renaming frames) (p : ℕ → Bool) → count_below (λ y. p (r.back y)) frames ≡ count_below p frames
 count_renamed {frames} r p =
     count_below-total (λ y. p (r.back y)) frames
-    ∙ (sym (total_same frames (λ y. bit (p (r.back y))) (λ y. total frames (λ x. pair x y)) (λ y l. total_same frames (put (λ _. 0) (r.back y) (bit (p (r.back y)))) (λ x. pair x y) (λ x _. from_name x y) ∙ one_term frames (r.back y) _ (below y l)))
+    ∙ (sym (total_same frames (λ y. bit (p (r.back y))) (λ y. total frames (λ x. pair x y))
+    (λ y l. total_same frames (put (λ _. 0) (r.back y) (bit (p (r.back y)))) (λ x. pair x y) (λ x _. from_name x y)
+    ∙ one_term frames (r.back y) _ (below y l)))
     ∙ (sym (exchange frames frames pair)
     ∙ (total_same frames (λ x. bit (p x)) (λ x. total frames (pair x)) (λ x l. one_term frames (r.to x) _ ((r.inside x).0 l))
     ∙ sym (count_below-total p frames))))
@@ -36,8 +39,12 @@ count_renamed {frames} r p =
     from_name : (x y : ℕ) → put (λ _. 0) (r.to x) (bit (p x)) y ≡ put (λ _. 0) (r.back y) (bit (p (r.back y))) x
     from_name x y = elim (same_or_other x (r.back y)) [
       | inl e ↦ (let d : y ≡ r.to x = sym (r.here y) ∙ ap r.to (sym e) in
-          ap (put (λ _. 0) (r.to x) (bit (p x))) d ∙ (put_same (λ _. 0) (r.to x) (bit (p x)) ∙ (ap (λ (w : ℕ). bit (p w)) e ∙ sym (ap (put (λ _. 0) (r.back y) (bit (p (r.back y)))) e ∙ put_same (λ _. 0) (r.back y) (bit (p (r.back y)))))))
-      | inr e ↦ put_other (λ _. 0) (r.to x) (bit (p x)) y (λ d. e (sym (r.there x) ∙ ap r.back (sym d))) ∙ sym (put_other (λ _. 0) (r.back y) (bit (p (r.back y))) x e)
+          ap (put (λ _. 0) (r.to x) (bit (p x))) d
+          ∙ (put_same (λ _. 0) (r.to x) (bit (p x))
+          ∙ (ap (λ (w : ℕ). bit (p w)) e
+          ∙ sym (ap (put (λ _. 0) (r.back y) (bit (p (r.back y)))) e ∙ put_same (λ _. 0) (r.back y) (bit (p (r.back y)))))))
+      | inr e ↦ put_other (λ _. 0) (r.to x) (bit (p x)) y (λ d. e (sym (r.there x) ∙ ap r.back (sym d)))
+          ∙ sym (put_other (λ _. 0) (r.back y) (bit (p (r.back y))) x e)
     ]
 
 -- a change at one place, of what is seen through h
@@ -49,7 +56,8 @@ put_map h f k v = fun_ext (λ j. elim (same_or_other j k) [
 
 pub put2_map : {A B : Type 0} (h : A → B) (p : ℕ → ℕ → A) (f i : ℕ) (v : A)
     → ◌≡◌ {A = ℕ → ℕ → B} (put2 (λ k j. h (p k j)) f i (h v)) (λ k j. h (put2 p f i v k j))
-put2_map {A} {B} h p f i v = ap (put (λ k j. h (p k j)) f) (put_map h (p f) i v) ∙ put_map {A = ℕ → A} {B = ℕ → B} (λ row j. h (row j)) p f (put (p f) i v)
+put2_map {A} {B} h p f i v =
+    ap (put (λ k j. h (p k j)) f) (put_map h (p f) i v) ∙ put_map {A = ℕ → A} {B = ℕ → B} (λ row j. h (row j)) p f (put (p f) i v)
 
 -- a change at one frame, under its other name
 pub put_renamed : {A : Type 0} {frames : ℕ} (r : Renaming frames) (f : ℕ → A) (x : ℕ) (v : A)

@@ -1,7 +1,8 @@
 -- The parts of rows that operations share, taken by a pool and by that pool with its frames renamed.
 use Rattle.std.proofs.Common.{◌≡◌, ◌≢◌, ℕ, ◌-◌, ◌<◌, refl, ap, sym, ◌∙◌, subst}
 use Rattle.std.proofs.Math.Path.{fun_ext}
-use Rattle.std.specs.Prelude.{Bool, true, false, not, ◌&&◌, ◌==◌, nat_le, nat_lt, Option, Some, None, MatchBool, MatchOption, List, if◌then◌else◌}
+use Rattle.std.specs.Prelude.{Bool, true, false, not, ◌&&◌, ◌==◌, nat_le, nat_lt, Option, Some, None, MatchBool, MatchOption}
+use Rattle.std.specs.Prelude.{List, if◌then◌else◌}
 use Rattle.std.specs.Option.{option_map}
 use Rattle.hp_base.specs.Numbers.{put, put2}
 use Rattle.hp_base.specs.Indices.{missing}
@@ -12,14 +13,21 @@ use Rattle.hp_frames.specs.declared.frame.FrameState.{FrameState}
 use Rattle.hp_frames.specs.declared.frame.FrameState.TheVariants.{Free, Hand, Placed}
 use Rattle.hp_region.specs.Change.{Change}
 use Rattle.hp_machine.specs.State.{Pool, is_free, free_frames, frees, slot_of}
-use Rattle.hp_machine.specs.Parts.{Gives, Goes, StartRow, WantSlotRow, ChangeRow, CommitRow, TakeRow, SettleOneRow, placed, UnmapIndexRow, EvictRow, cleared}
+use Rattle.hp_machine.specs.Parts.{Gives, Goes, StartRow, WantSlotRow, ChangeRow, CommitRow, TakeRow, SettleOneRow, placed}
+use Rattle.hp_machine.specs.Parts.{UnmapIndexRow, EvictRow, cleared}
 use Rattle.hp_machine.specs.declared.call.Turn.{Turn}
 use Rattle.hp_machine.specs.declared.call.Turn.TheVariants.{Moved, Blocked, Ended}
 use Rattle.hp_meaning.specs.Renaming.{Renaming}
-use Rattle.hp_meaning.proofs.Names.{count_renamed, put_map, put2_map, put_renamed, map_agrees, some_same, turned, turned_first, turned_other, turned_back}
+use Rattle.hp_meaning.proofs.Names.{count_renamed, put_map, put2_map, put_renamed, map_agrees, some_same, turned, turned_first}
+use Rattle.hp_meaning.proofs.Names.{turned_other, turned_back}
 
 abbrev pub pool_renamed : {frames : ℕ} → Renaming frames → Pool → Pool
-pool_renamed r s = record s { frame = λ y. s.frame (r.back y); pages = λ f i. option_map r.to (s.pages f i); table = λ t v. option_map r.to (s.table t v) }
+pool_renamed r s =
+    record s {
+      frame = λ y. s.frame (r.back y);
+      pages = λ f i. option_map r.to (s.pages f i);
+      table = λ t v. option_map r.to (s.table t v);
+    }
 
 abbrev pub turn_renamed : {P : Type 0} → (P → P) → Turn P → Turn P
 turn_renamed rename (Moved p) = Moved (rename p)
@@ -39,7 +47,8 @@ pub record Used (frames : ℕ) (s : Pool) : Type 0 where
 
 -- The pool went on to `new` and the renamed one to `there`: the same, under names by which each frame in use is
 -- called as before.
-pub record Follows (P : Type 0) (rename : (ℕ → ℕ) → P → P) (frames : ℕ) (s : Pool) (r : Renaming frames) (turn : Turn P) (new : Pool) (other : Turn P) (there : Pool) : Type 0 where
+pub record Follows (P : Type 0) (rename : (ℕ → ℕ) → P → P) (frames : ℕ) (s : Pool) (r : Renaming frames)
+    (turn : Turn P) (new : Pool) (other : Turn P) (there : Pool) : Type 0 where
   pub names : Renaming frames
   pub keeps : (x : ℕ) → s.frame x ≢ Free → names.to x ≡ r.to x
   pub turns : other ≡ turn_renamed (rename names.to) turn
@@ -72,7 +81,8 @@ by_names D to None m n off on = off refl m n
 by_names D to (Some x) m n off on = on x refl m n
 
 -- both rows at one leaf, under the names as they are
-pub leaf : {P : Type 0} {rename : (ℕ → ℕ) → P → P} {frames : ℕ} {s : Pool} {r : Renaming frames} {turn other wanted wanted' : Turn P} {new there after after' : Pool}
+pub leaf : {P : Type 0} {rename : (ℕ → ℕ) → P → P} {frames : ℕ} {s : Pool} {r : Renaming frames}
+    {turn other wanted wanted' : Turn P} {new there after after' : Pool}
     → Gives wanted after turn new → Gives wanted' after' other there → wanted' ≡ turn_renamed (rename r.to) wanted
     → after' ≡ pool_renamed r after → after.frames ≡ s.frames → Follows P rename frames s r turn new other there
 leaf {rename = rename} {r = r} a b e d k = record {
@@ -84,12 +94,14 @@ leaf {rename = rename} {r = r} a b e d k = record {
 }
 
 -- and where the change names no frame
-pub plain : {P : Type 0} {rename : (ℕ → ℕ) → P → P} {frames : ℕ} {s : Pool} {r : Renaming frames} {turn other wanted : Turn P} {new there after : Pool}
+pub plain : {P : Type 0} {rename : (ℕ → ℕ) → P → P} {frames : ℕ} {s : Pool} {r : Renaming frames}
+    {turn other wanted : Turn P} {new there after : Pool}
     → Gives wanted after turn new → Gives (turn_renamed (rename r.to) wanted) (pool_renamed r after) other there
     → after.frames ≡ s.frames → Follows P rename frames s r turn new other there
 plain a b k = leaf a b refl refl k
 
-pub start_row : {P : Type 0} {rename : (ℕ → ℕ) → P → P} {frames : ℕ} {s : Pool} {r : Renaming frames} {turn other : Turn P} {new there : Pool} (t : ℕ) (killed : Bool) (f : ℕ) (bad : Bool) (at_kill : Answer) (here next : P)
+pub start_row : {P : Type 0} {rename : (ℕ → ℕ) → P → P} {frames : ℕ} {s : Pool} {r : Renaming frames}
+    {turn other : Turn P} {new there : Pool} (t : ℕ) (killed : Bool) (f : ℕ) (bad : Bool) (at_kill : Answer) (here next : P)
     → StartRow s t killed f bad at_kill here next turn new
     → StartRow (pool_renamed r s) t killed f bad at_kill (rename r.to here) (rename r.to next) other there
     → Follows P rename frames s r turn new other there
@@ -102,25 +114,33 @@ start_row {s = s} t killed f bad at_kill here next a b =
     (λ _ a b. plain a b refl)
     (λ _ a b. by_options (s.locks f) a b (λ _ a b. plain a b refl) (λ holder _ a b. plain a b refl))))
 
-pub want_row : {P : Type 0} {rename : (ℕ → ℕ) → P → P} {frames : ℕ} {s : Pool} {r : Renaming frames} {turn other : Turn P} {new there : Pool} (t f i : ℕ) (here next : P)
+pub want_row : {P : Type 0} {rename : (ℕ → ℕ) → P → P} {frames : ℕ} {s : Pool} {r : Renaming frames}
+    {turn other : Turn P} {new there : Pool} (t f i : ℕ) (here next : P)
     → WantSlotRow s t f i here next turn new
     → WantSlotRow (pool_renamed r s) t f i (rename r.to here) (rename r.to next) other there
     → Follows P rename frames s r turn new other there
-want_row {s = s} t f i here next a b = by_options (s.slots (slot_of s.geometry f i)) a b (λ _ a b. plain a b refl) (λ holder _ a b. plain a b refl)
+want_row {s = s} t f i here next a b =
+    by_options (s.slots (slot_of s.geometry f i)) a b (λ _ a b. plain a b refl) (λ holder _ a b. plain a b refl)
 
-pub change_row : {P : Type 0} {rename : (ℕ → ℕ) → P → P} {frames : ℕ} {s : Pool} {r : Renaming frames} {turn other : Turn P} {new there : Pool} (grant : Bool) (f from to : ℕ) (denied : P) (changed : Change → P)
+pub change_row : {P : Type 0} {rename : (ℕ → ℕ) → P → P} {frames : ℕ} {s : Pool} {r : Renaming frames}
+    {turn other : Turn P} {new there : Pool} (grant : Bool) (f from to : ℕ) (denied : P) (changed : Change → P)
     → ChangeRow s grant f from to denied changed turn new
     → ChangeRow (pool_renamed r s) grant f from to (rename r.to denied) (λ change. rename r.to (changed change)) other there
     → Follows P rename frames s r turn new other there
-change_row {s = s} grant f from to denied changed a b = by_tests ((s.spare f == s.pending f) && not grant) a b (λ _ a b. plain a b refl) (λ _ a b. plain a b refl)
+change_row {s = s} grant f from to denied changed a b =
+    by_tests ((s.spare f == s.pending f) && not grant) a b (λ _ a b. plain a b refl) (λ _ a b. plain a b refl)
 
-pub commit_row : {P : Type 0} {rename : (ℕ → ℕ) → P → P} {frames : ℕ} {s : Pool} {r : Renaming frames} {turn other : Turn P} {new there : Pool} (f : ℕ) (change : Change) (settle next : P)
+pub commit_row : {P : Type 0} {rename : (ℕ → ℕ) → P → P} {frames : ℕ} {s : Pool} {r : Renaming frames}
+    {turn other : Turn P} {new there : Pool} (f : ℕ) (change : Change) (settle next : P)
     → CommitRow s f change settle next turn new
     → CommitRow (pool_renamed r s) f change (rename r.to settle) (rename r.to next) other there
     → Follows P rename frames s r turn new other there
-commit_row {s = s} f change settle next a b = by_tests (nat_lt (missing (s.reserved f) change.from change.to) change.missing) a b (λ _ a b. plain a b refl) (λ _ a b. plain a b refl)
+commit_row {s = s} f change settle next a b =
+    by_tests (nat_lt (missing (s.reserved f) change.from change.to) change.missing) a b (λ _ a b. plain a b refl)
+    (λ _ a b. plain a b refl)
 
-pub settle_row : {P : Type 0} {rename : (ℕ → ℕ) → P → P} {frames : ℕ} {s : Pool} {r : Renaming frames} {turn other : Turn P} {new there : Pool} (next : P)
+pub settle_row : {P : Type 0} {rename : (ℕ → ℕ) → P → P} {frames : ℕ} {s : Pool} {r : Renaming frames}
+    {turn other : Turn P} {new there : Pool} (next : P)
     → SettleOneRow s next turn new → SettleOneRow (pool_renamed r s) (rename r.to next) other there
     → Follows P rename frames s r turn new other there
 settle_row next a b = plain a.1 b.1 refl
@@ -132,7 +152,8 @@ frees_renamed s r e = rw e (count_renamed r (λ x. is_free (s.frame x)))
 
 -- Each pool takes a free frame of its own. Call the first one's frame as the second one's is called: nothing that is
 -- in use has another name then.
-takes : {P : Type 0} {rename : (ℕ → ℕ) → P → P} {frames : ℕ} {s : Pool} {r : Renaming frames} {turn other : Turn P} {new there : Pool} (resv x y : ℕ) (taken : ℕ → P)
+takes : {P : Type 0} {rename : (ℕ → ℕ) → P → P} {frames : ℕ} {s : Pool} {r : Renaming frames} {turn other : Turn P}
+    {new there : Pool} (resv x y : ℕ) (taken : ℕ → P)
     → Used frames s → s.frame x ≡ Free → s.frame (r.back y) ≡ Free
     → Goes (taken x) (record s { frame = put s.frame x Hand; resv = resv }) turn new
     → Goes (taken y) (record (pool_renamed r s) { frame = put (λ z. s.frame (r.back z)) y Hand; resv = resv }) other there
@@ -142,28 +163,40 @@ takes {rename = rename} {frames = frames} {s = s} {r = r} resv x y taken h e d a
     let m = h.real (r.back y) d in
     let names = turned r x (r.back y) l m in
     let called : names.to x ≡ y = turned_first r x (r.back y) l m ∙ r.here y in
-    let keeps : (z : ℕ) → s.frame z ≢ Free → names.to z ≡ r.to z = λ z used. turned_other r x (r.back y) l m z (λ q. used (ap s.frame q ∙ e)) (λ q. used (ap s.frame q ∙ d)) in
+    let keeps : (z : ℕ) → s.frame z ≢ Free → names.to z ≡ r.to z =
+    λ z used. turned_other r x (r.back y) l m z (λ q. used (ap s.frame q ∙ e)) (λ q. used (ap s.frame q ∙ d)) in
     let frame : ◌≡◌ {A = ℕ → FrameState} (put (λ z. s.frame (r.back z)) y Hand) (λ z. put s.frame x Hand (names.back z)) =
     ap (λ (old : ℕ → FrameState). put old y Hand) (sym (fun_ext (turned_back r x (r.back y) l m s.frame (e ∙ sym d))))
     ∙ (ap (λ (w : ℕ). put (λ z. s.frame (names.back z)) w Hand) (sym called) ∙ put_renamed names s.frame x Hand) in
-    let agrees : (o : ℕ → ℕ → Option ℕ) → ((k j z : ℕ) → o k j ≡ Some z → s.frame z ≢ Free) → ◌≡◌ {A = ℕ → ℕ → Option ℕ} (λ k j. option_map r.to (o k j)) (λ k j. option_map names.to (o k j)) =
+    let agrees : (o : ℕ → ℕ → Option ℕ) → ((k j z : ℕ) → o k j ≡ Some z → s.frame z ≢ Free)
+    → ◌≡◌ {A = ℕ → ℕ → Option ℕ} (λ k j. option_map r.to (o k j)) (λ k j. option_map names.to (o k j)) =
     λ o used. fun_ext (λ k. fun_ext (λ j. sym (map_agrees r.to names.to (o k j) (λ z q. keeps z (used k j z q))))) in
     record {
       names = names;
       keeps = keeps;
-      turns = b.0 ∙ (ap (λ (w : ℕ). Moved (taken w)) (sym called) ∙ (ap (λ p. Moved p) (same names.to x) ∙ sym (ap (turn_renamed (rename names.to)) a.0)));
-      pools = b.1 ∙ ((λ i. record s { frame = frame i; resv = resv; pages = agrees s.pages h.pages i; table = agrees s.table h.table i }) ∙ sym (ap (pool_renamed names) a.1));
+      turns =
+          b.0 ∙ (ap (λ (w : ℕ). Moved (taken w)) (sym called)
+          ∙ (ap (λ p. Moved p) (same names.to x) ∙ sym (ap (turn_renamed (rename names.to)) a.0)));
+      pools =
+          b.1 ∙ ((λ i. record s {
+            frame = frame i;
+            resv = resv;
+            pages = agrees s.pages h.pages i;
+            table = agrees s.table h.table i;
+          }) ∙ sym (ap (pool_renamed names) a.1));
       count = ap (λ (m : Pool). m.frames) a.1;
     }
 
-pub take_row : {P : Type 0} {rename : (ℕ → ℕ) → P → P} {frames : ℕ} {s : Pool} {r : Renaming frames} {turn other : Turn P} {new there : Pool} (missing : ℕ) (no_frame : P) (taken : ℕ → P)
+pub take_row : {P : Type 0} {rename : (ℕ → ℕ) → P → P} {frames : ℕ} {s : Pool} {r : Renaming frames}
+    {turn other : Turn P} {new there : Pool} (missing : ℕ) (no_frame : P) (taken : ℕ → P)
     → Used frames s → TakeRow s missing no_frame taken turn new
     → TakeRow (pool_renamed r s) missing (rename r.to no_frame) taken other there
     → ((to : ℕ → ℕ) (z : ℕ) → taken (to z) ≡ rename to (taken z)) → Follows P rename frames s r turn new other there
 take_row {s = s} {r = r} m no_frame taken h a b same =
     by_tests (m == 0) a b
     (λ _ a b. takes (s.resv - 1) a.0 b.0 taken h a.1 b.1 a.3 b.3 same)
-    (λ _ a b. by_like_tests (frees s == s.resv) (frees (pool_renamed r s) == s.resv) (ap (λ (n : ℕ). n == s.resv) (frees_renamed s r h.count)) a b
+    (λ _ a b. by_like_tests (frees s == s.resv) (frees (pool_renamed r s) == s.resv)
+    (ap (λ (n : ℕ). n == s.resv) (frees_renamed s r h.count)) a b
     (λ _ a b. plain a b refl)
     (λ _ a b. takes s.resv a.0 b.0 taken h a.1 b.1 a.2 b.2 same))
 
@@ -176,16 +209,22 @@ placed_renamed s r f i x =
     λ k. record (pool_renamed r s) { frame = frame k; pages = pages k }
 
 pub freed_renamed : {frames : ℕ} (s : Pool) (r : Renaming frames) (x resv : ℕ)
-    → ◌≡◌ {A = Pool} (record (pool_renamed r s) { frame = put (λ y. s.frame (r.back y)) (r.to x) Free; resv = resv }) (pool_renamed r (record s { frame = put s.frame x Free; resv = resv }))
+    → ◌≡◌ {A = Pool} (record (pool_renamed r s) { frame = put (λ y. s.frame (r.back y)) (r.to x) Free; resv = resv })
+    (pool_renamed r (record s { frame = put s.frame x Free; resv = resv }))
 freed_renamed s r x resv = let frame = put_renamed r s.frame x Free in λ k. record (pool_renamed r s) { frame = frame k; resv = resv }
 
 -- a page goes into a hand
-pub evict_row : {P : Type 0} {rename : (ℕ → ℕ) → P → P} {frames : ℕ} {s : Pool} {r : Renaming frames} {turn other : Turn P} {new there : Pool} (f i : ℕ) (next : ℕ → P)
+pub evict_row : {P : Type 0} {rename : (ℕ → ℕ) → P → P} {frames : ℕ} {s : Pool} {r : Renaming frames}
+    {turn other : Turn P} {new there : Pool} (f i : ℕ) (next : ℕ → P)
     → EvictRow s f i next turn new → EvictRow (pool_renamed r s) f i next other there
     → ((z : ℕ) → next (r.to z) ≡ rename r.to (next z)) → Follows P rename frames s r turn new other there
 evict_row {P} {s = s} {r = r} {other = other} {there = there} f i next a b same =
     let is : b.0 ≡ r.to a.0 = some_same (sym b.1 ∙ ap (option_map r.to) a.1) in
-    let named = subst (λ (y : ℕ). Goes (next y) (record (pool_renamed r s) { pages = put2 (λ k j. option_map r.to (s.pages k j)) f i None; frame = put (λ z. s.frame (r.back z)) y Hand }) other there) is b.2 in
+    let named = subst (λ (y : ℕ). Goes (next y)
+    (record (pool_renamed r s) {
+      pages = put2 (λ k j. option_map r.to (s.pages k j)) f i None;
+      frame = put (λ z. s.frame (r.back z)) y Hand;
+    }) other there) is b.2 in
     let frame = put_renamed r s.frame a.0 Hand in
     let pages = put2_map (option_map r.to) s.pages f i None in
     leaf a.2 named (ap (λ p. Moved p) (same a.0)) (λ k. record (pool_renamed r s) { frame = frame k; pages = pages k }) refl
@@ -197,12 +236,14 @@ gone_renamed to true o = refl
 gone_renamed to false o = refl
 
 index_renamed : (to : ℕ → ℕ) (areas : List Mapping) (entries : ℕ → Option ℕ) (f i : ℕ)
-    → ◌≡◌ {A = ℕ → Option ℕ} (without_index areas (λ v. option_map to (entries v)) f i) (λ v. option_map to (without_index areas entries f i v))
+    → ◌≡◌ {A = ℕ → Option ℕ} (without_index areas (λ v. option_map to (entries v)) f i)
+    (λ v. option_map to (without_index areas entries f i v))
 unfolding without_index
 index_renamed to areas entries f i = fun_ext (λ v. gone_renamed to (is_there (find areas v) f i) (entries v))
 
 mapping_renamed : (to : ℕ → ℕ) (areas : List Mapping) (entries : ℕ → Option ℕ) (base : ℕ)
-    → ◌≡◌ {A = ℕ → Option ℕ} (without_mapping areas (λ v. option_map to (entries v)) base) (λ v. option_map to (without_mapping areas entries base v))
+    → ◌≡◌ {A = ℕ → Option ℕ} (without_mapping areas (λ v. option_map to (entries v)) base)
+    (λ v. option_map to (without_mapping areas entries base v))
 unfolding without_mapping
 mapping_renamed to areas entries base = fun_ext (λ v. gone_renamed to (in_mapping areas base v) (entries v))
 
@@ -210,7 +251,9 @@ mapping_renamed to areas entries base = fun_ext (λ v. gone_renamed to (in_mappi
 entries_renamed : (to : ℕ → ℕ) (table : ℕ → ℕ → Option ℕ) (t : ℕ) (entries entries' : ℕ → Option ℕ)
     → entries' ≡ (λ v. option_map to (entries v))
     → ◌≡◌ {A = ℕ → ℕ → Option ℕ} (put (λ u v. option_map to (table u v)) t entries') (λ u v. option_map to (put table t entries u v))
-entries_renamed to table t entries entries' e = ap (put (λ u v. option_map to (table u v)) t) e ∙ put_map {A = ℕ → Option ℕ} {B = ℕ → Option ℕ} (λ row v. option_map to (row v)) table t entries
+entries_renamed to table t entries entries' e =
+    ap (put (λ u v. option_map to (table u v)) t) e
+    ∙ put_map {A = ℕ → Option ℕ} {B = ℕ → Option ℕ} (λ row v. option_map to (row v)) table t entries
 
 pub cleared_renamed : {frames : ℕ} (s : Pool) (r : Renaming frames) (t base : ℕ)
     → cleared (pool_renamed r s) t base ≡ pool_renamed r (cleared s t base)
@@ -218,7 +261,8 @@ cleared_renamed s r t base =
     let table = entries_renamed r.to s.table t _ _ (mapping_renamed r.to (s.areas t) (s.table t) base) in
     λ k. record (pool_renamed r s) { table = table k }
 
-pub unmap_row : {P : Type 0} {rename : (ℕ → ℕ) → P → P} {frames : ℕ} {s : Pool} {r : Renaming frames} {turn other : Turn P} {new there : Pool} (k f i : ℕ) (more last : P)
+pub unmap_row : {P : Type 0} {rename : (ℕ → ℕ) → P → P} {frames : ℕ} {s : Pool} {r : Renaming frames}
+    {turn other : Turn P} {new there : Pool} (k f i : ℕ) (more last : P)
     → UnmapIndexRow s k f i more last turn new
     → UnmapIndexRow (pool_renamed r s) k f i (rename r.to more) (rename r.to last) other there
     → Follows P rename frames s r turn new other there

@@ -22,7 +22,8 @@ use Rattle.hp_laws.proofs.Invariant.{Inv}
 use Rattle.hp_meaning.specs.Meaning.{IsReady, Looks, Checked, is_bad_range, without_pages, without_entries, paged_within, Freed, PunchMeans}
 use Rattle.hp_meaning.proofs.Alone.{if_true, if_false, if_none, Leads, next, moves, goes_on, ends_so, from_pool, put_put, over, Comes}
 use Rattle.hp_meaning.proofs.Idle.{finish, idle_again, free_slot, free_lock, put_back, and_false, checked}
-use Rattle.hp_meaning.proofs.Emptying.{Adds, Owned, unreserved, page_kept, pages_none, reserved_none, entries_none, entry_kept, freed_none, pages_more, reserved_more, entries_more, freed_more, unmaps}
+use Rattle.hp_meaning.proofs.Emptying.{Adds, Owned, unreserved, page_kept, pages_none, reserved_none, entries_none, entry_kept}
+use Rattle.hp_meaning.proofs.Emptying.{freed_none, pages_more, reserved_more, entries_more, freed_more, unmaps}
 
 -- granted steps of a task that isn't killed
 abbrev pub PunchSteps : (task : ℕ) → Pool → PunchPhase → Turn PunchPhase → Pool → Type 0
@@ -55,7 +56,10 @@ record OneDone (s : State) (t : ℕ) (hole : Hole) (i : ℕ) (more : ℕ → Boo
   frame : ℕ → FrameState
   spare : ℕ → ℕ
   freed : Freed (s.pages hole.file) s.frame more frame
-  leads : Leads (PunchSteps t) b end (record (punched s t hole.file more frame spare) { slots = put s.slots (slot_of s.geometry hole.file i) (Some t) }) (at.Unslot (record { hole = hole; index = i }))
+  leads : Leads (PunchSteps t) b end
+      (record (punched s t hole.file more frame spare) {
+        slots = put s.slots (slot_of s.geometry hole.file i) (Some t);
+      }) (at.Unslot (record { hole = hole; index = i }))
 
 -- an index without a page
 bare_index : (s : State) (t : ℕ) (hole : Hole) (i : ℕ) (gone : ℕ → Bool) (frame : ℕ → FrameState) (spare : ℕ → ℕ) (b : Answer) (end : Pool)
@@ -78,7 +82,8 @@ evicted s t hole i x gone frame spare = record (punched s t hole.file gone frame
 }
 
 -- from there on
-evicted_index : (s : State) (t : ℕ) (hole : Hole) (i x : ℕ) (gone more : ℕ → Bool) (frame : ℕ → FrameState) (spare : ℕ → ℕ) (b : Answer) (end : Pool)
+evicted_index : (s : State) (t : ℕ) (hole : Hole) (i x : ℕ) (gone more : ℕ → Bool) (frame : ℕ → FrameState)
+    (spare : ℕ → ℕ) (b : Answer) (end : Pool)
     → s.pages hole.file i ≡ Some x → Adds gone i more
     → Freed (s.pages hole.file) s.frame gone frame
     → Leads (PunchSteps t) b end (evicted s t hole i x gone frame spare) (at.Delete (record { hole = hole; index = i; held = x }))
@@ -108,7 +113,8 @@ evicted_index s t hole i x gone more frame spare b end page adds freed k =
     }
 
 -- an index with a page
-paged_index : (s : State) (t : ℕ) (hole : Hole) (i y : ℕ) (gone more : ℕ → Bool) (frame : ℕ → FrameState) (spare : ℕ → ℕ) (b : Answer) (end : Pool)
+paged_index : (s : State) (t : ℕ) (hole : Hole) (i y : ℕ) (gone more : ℕ → Bool) (frame : ℕ → FrameState)
+    (spare : ℕ → ℕ) (b : Answer) (end : Pool)
     → Ready s t hole.file → gone i ≡ false → s.pages hole.file i ≡ Some y → Adds gone i more
     → Freed (s.pages hole.file) s.frame gone frame
     → Leads (PunchSteps t) b end (punched s t hole.file gone frame spare) (at.Want (record { hole = hole; index = i }))
@@ -117,8 +123,10 @@ paged_index s t hole i y gone more frame spare b end h here paged adds freed k =
     let f = hole.file in
     let k1 = goes_on k (λ turn m r. if_none _ _ (h.slots (slot_of s.geometry f i)) r) in
     let k2 = goes_on k1 (λ turn m r. if_true _ _ (ap is_some (page_kept s.pages f i gone here ∙ paged)) r) in
-    let owned = λ (u v x : ℕ) (e : without_entries s.areas s.table f gone u v ≡ Some x). h.owned u v x (entry_kept s.areas s.table f gone u v x e) in
-    let k3 = unmaps (PunchSteps t) b end _ f i (λ k. at.Unmap (record { hole = hole; index = i; task = k })) (at.Evict (record { hole = hole; index = i })) (λ p k turn m r. r) h.tasks owned k2 in
+    let owned = λ (u v x : ℕ) (e : without_entries s.areas s.table f gone u v ≡ Some x). h.owned u v x
+    (entry_kept s.areas s.table f gone u v x e) in
+    let k3 = unmaps (PunchSteps t) b end _ f i (λ k. at.Unmap (record { hole = hole; index = i; task = k }))
+    (at.Evict (record { hole = hole; index = i })) (λ p k turn m r. r) h.tasks owned k2 in
     let z = next k3 in
     let r = z.2 in
     evicted_index s t hole i r.0 gone more frame spare b end (sym (page_kept s.pages f i gone here) ∙ r.1) adds freed (moves z.3 r.2)
@@ -132,14 +140,18 @@ within_below s f from i j e =
 more_paged : (s : State) (f from i x : ℕ) → from ≤ i → s.pages f i ≡ Some x
     → Adds (paged_within s f from i) i (paged_within s f from (i + 1))
 more_paged s f from i x low e = record {
-  this = (let a : is_within from (i + 1) i ≡ true = grind (arith, nat_tests) in ap (λ (c : Bool). c && is_some (s.pages f i)) a ∙ ap is_some e);
+  this =
+      (let a : is_within from (i + 1) i ≡ true = grind (arith, nat_tests) in
+      ap (λ (c : Bool). c && is_some (s.pages f i)) a ∙ ap is_some e);
   others = λ j d. within_below s f from i j d;
 }
 
 same_paged : (s : State) (f from i : ℕ) → s.pages f i ≡ None → paged_within s f from i ≡ paged_within s f from (i + 1)
 same_paged s f from i e = fun_ext (λ j. elim (same_or_other j i) [
   | inl d ↦ (let a : is_some (s.pages f j) ≡ false = ap (λ (k : ℕ). is_some (s.pages f k)) d ∙ ap is_some e in
-      ap (λ (c : Bool). is_within from i j && c) a ∙ (and_false (is_within from i j) ∙ sym (ap (λ (c : Bool). is_within from (i + 1) j && c) a ∙ and_false (is_within from (i + 1) j))))
+      ap (λ (c : Bool). is_within from i j && c) a
+      ∙ (and_false (is_within from i j)
+      ∙ sym (ap (λ (c : Bool). is_within from (i + 1) j && c) a ∙ and_false (is_within from (i + 1) j))))
   | inr d ↦ sym (within_below s f from i j d)
 ])
 
@@ -153,13 +165,19 @@ none_yet s f from j = let a : is_within from from j ≡ false = grind (arith, na
 one_index : (s : State) (t : ℕ) (hole : Hole) (i : ℕ) (frame : ℕ → FrameState) (spare : ℕ → ℕ) (b : Answer) (end : Pool)
     → Ready s t hole.file → hole.from ≤ i
     → Freed (s.pages hole.file) s.frame (paged_within s hole.file hole.from i) frame
-    → Leads (PunchSteps t) b end (punched s t hole.file (paged_within s hole.file hole.from i) frame spare) (at.Want (record { hole = hole; index = i }))
+    → Leads (PunchSteps t) b end (punched s t hole.file (paged_within s hole.file hole.from i) frame spare)
+    (at.Want (record { hole = hole; index = i }))
     → OneDone s t hole i (paged_within s hole.file hole.from (i + 1)) b end
 one_index s t hole i frame spare b end h low freed k = by_page (s.pages hole.file i) refl
   where
     by_page : (o : Option ℕ) → s.pages hole.file i ≡ o → OneDone s t hole i (paged_within s hole.file hole.from (i + 1)) b end
-    by_page None e = subst (λ (gone : ℕ → Bool). OneDone s t hole i gone b end) (same_paged s hole.file hole.from i e) (bare_index s t hole i (paged_within s hole.file hole.from i) frame spare b end h (not_yet s hole.file hole.from i) e freed k)
-    by_page (Some y) e = paged_index s t hole i y (paged_within s hole.file hole.from i) (paged_within s hole.file hole.from (i + 1)) frame spare b end h (not_yet s hole.file hole.from i) e (more_paged s hole.file hole.from i y low e) freed k
+    by_page None e =
+        subst (λ (gone : ℕ → Bool). OneDone s t hole i gone b end) (same_paged s hole.file hole.from i e)
+        (bare_index s t hole i (paged_within s hole.file hole.from i) frame spare b end h
+        (not_yet s hole.file hole.from i) e freed k)
+    by_page (Some y) e =
+        paged_index s t hole i y (paged_within s hole.file hole.from i) (paged_within s hole.file hole.from (i + 1))
+        frame spare b end h (not_yet s hole.file hole.from i) e (more_paged s hole.file hole.from i y low e) freed k
 
 -- the hole is punched
 record Holed (s : State) (t f : ℕ) (gone : ℕ → Bool) (b : Answer) (end : Pool) : Type 0 where
@@ -173,7 +191,8 @@ record Holed (s : State) (t f : ℕ) (gone : ℕ → Bool) (b : Answer) (end : P
 indices : (s : State) (t : ℕ) (hole : Hole) (d i : ℕ) (frame : ℕ → FrameState) (spare : ℕ → ℕ) (b : Answer) (end : Pool)
     → Ready s t hole.file → hole.from ≤ i → i + d + 1 ≡ hole.from + hole.len
     → Freed (s.pages hole.file) s.frame (paged_within s hole.file hole.from i) frame
-    → Leads (PunchSteps t) b end (punched s t hole.file (paged_within s hole.file hole.from i) frame spare) (at.Want (record { hole = hole; index = i }))
+    → Leads (PunchSteps t) b end (punched s t hole.file (paged_within s hole.file hole.from i) frame spare)
+    (at.Want (record { hole = hole; index = i }))
     → Holed s t hole.file (paged_within s hole.file hole.from (hole.from + hole.len)) b end
 indices s t hole zero i frame spare b end h low e freed k =
     let o = one_index s t hole i frame spare b end h low freed k in
@@ -189,14 +208,17 @@ indices s t hole zero i frame spare b end h low e freed k =
       spare = o.spare;
       freed = o.freed;
       done = z.0;
-      ends = z.1 ∙ (λ j. record (punched s t hole.file (paged_within s hole.file hole.from (i + 1)) o.frame o.spare) { slots = slots j; locks = locks j });
+      ends =
+          z.1 ∙ (λ j. record (punched s t hole.file (paged_within s hole.file hole.from (i + 1)) o.frame
+          o.spare) { slots = slots j; locks = locks j });
     })
 indices s t hole (suc d) i frame spare b end h low e freed k =
     let o = one_index s t hole i frame spare b end h low freed k in
     let more : nat_lt (i + 1) (hole.from + hole.len) ≡ true = grind (arith, nat_tests) in
     let k1 = goes_on o.leads (λ turn m r. if_true _ _ more r) in
     let slots = put_back s.slots (slot_of s.geometry hole.file i) (Some t) None (h.slots (slot_of s.geometry hole.file i)) in
-    let k2 = from_pool (λ j. record (punched s t hole.file (paged_within s hole.file hole.from (i + 1)) o.frame o.spare) { slots = slots j }) k1 in
+    let k2 = from_pool (λ j.
+    record (punched s t hole.file (paged_within s hole.file hole.from (i + 1)) o.frame o.spare) { slots = slots j }) k1 in
     indices s t hole d (i + 1) o.frame o.spare b end h (omega arith) (omega arith) o.freed k2
 
 -- what the pool says of the table
@@ -222,16 +244,25 @@ pub punch_means : (s : State) (t f from len : ℕ) (b : Answer) (n : State) → 
     → Comes call.Punch (PunchSteps t) s t b n (pool_of s) (at.Start (record { hole = record { file = f; from = from; len = len } }))
     → (m : State) × Checked s f (is_bad_range s from len) b m (PunchMeans s f from len b m) × Looks m n
 punch_means s t f from len b n h tasks ready (end, last, k, is) =
-    checked call.Punch (PunchSteps t) s t f (is_bad_range s from len) b n end last _ (at.Want (record { hole = hole; index = from })) Killed (PunchMeans s f from len) (free_lock s h ready.0 f) (ready.0 t) refl (λ turn m r. r) k is
+    checked call.Punch (PunchSteps t) s t f (is_bad_range s from len) b n end last _
+    (at.Want (record { hole = hole; index = from })) Killed (PunchMeans s f from len) (free_lock s h ready.0 f)
+    (ready.0 t) refl (λ turn m r. r) k is
     (λ _ good k.
     let gone = paged_within s f from from in
     let pages = pages_none s.pages f gone (none_yet s f from) in
     let reserved = reserved_none s.reserved f gone (none_yet s f from) in
     let table = entries_none s.areas s.table f gone (none_yet s f from) in
-    let k1 = from_pool (λ j. record (pool_of s) { locks = put s.locks f (Some t); pages = sym pages j; reserved = sym reserved j; table = sym table j }) k in
+    let k1 = from_pool (λ j.
+    record (pool_of s) {
+      locks = put s.locks f (Some t);
+      pages = sym pages j;
+      reserved = sym reserved j;
+      table = sym table j;
+    }) k in
     let p = predecessor len good in
     holed_means s t f from len b n end last (ready.0 t) is
-    (indices s t hole p.0 from s.frame s.spare b end there (omega arith) (let e = p.1 in omega arith) (freed_none (s.pages f) s.frame gone (none_yet s f from)) k1))
+    (indices s t hole p.0 from s.frame s.spare b end there (omega arith) (let e = p.1 in omega arith)
+    (freed_none (s.pages f) s.frame gone (none_yet s f from)) k1))
   where
     hole : Hole
     hole = record { file = f; from = from; len = len }

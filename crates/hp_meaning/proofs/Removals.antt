@@ -17,19 +17,27 @@ use Rattle.hp_machine.specs.declared.call.Turn.{Turn}
 use Rattle.hp_machine.specs.declared.call.Turn.TheVariants.{Moved}
 use Rattle.hp_meaning.specs.Renaming.{Renaming, punch_renamed, truncate_renamed}
 use Rattle.hp_meaning.proofs.Names.{some_renamed}
-use Rattle.hp_meaning.proofs.Parts.{pool_renamed, Follows, leaf, plain, by_tests, by_like_tests, start_row, want_row, unmap_row, evict_row, freed_renamed}
+use Rattle.hp_meaning.proofs.Parts.{pool_renamed, Follows, leaf, plain, by_tests, by_like_tests, start_row, want_row, unmap_row}
+use Rattle.hp_meaning.proofs.Parts.{evict_row, freed_renamed}
 
-pub punch_row : {frames : ℕ} {s : Pool} {r : Renaming frames} {turn other : Turn PunchPhase} {new there : Pool} (t : ℕ) (killed grant : Bool) (p : PunchPhase)
+pub punch_row : {frames : ℕ} {s : Pool} {r : Renaming frames} {turn other : Turn PunchPhase} {new there : Pool}
+    (t : ℕ) (killed grant : Bool) (p : PunchPhase)
     → PunchRow s t killed grant p turn new → PunchRow (pool_renamed r s) t killed grant (punch_renamed r.to p) other there
     → Follows PunchPhase punch_renamed frames s r turn new other there
 punch_row {s = s} t killed grant (punch.Start p) a b = start_row t killed p.hole.file (is_bad_range s p.hole.from p.hole.len) _ _ _ a b
 punch_row t killed grant (punch.Want p) a b = want_row t p.hole.file p.index _ _ a b
-punch_row {s = s} {r = r} t killed grant (punch.Locked p) a b = by_like_tests (is_some (s.pages p.hole.file p.index)) _ (some_renamed r.to (s.pages p.hole.file p.index)) a b (λ _ a b. plain a b refl) (λ _ a b. plain a b refl)
+punch_row {s = s} {r = r} t killed grant (punch.Locked p) a b =
+    by_like_tests (is_some (s.pages p.hole.file p.index)) _ (some_renamed r.to (s.pages p.hole.file p.index)) a b
+    (λ _ a b. plain a b refl) (λ _ a b. plain a b refl)
 punch_row t killed grant (punch.Unmap p) a b = unmap_row p.task p.hole.file p.index _ _ a b
 punch_row t killed grant (punch.Evict p) a b = evict_row p.hole.file p.index _ a b (λ z. refl)
-punch_row {s = s} t killed grant (punch.Delete p) a b = by_tests (splits (s.reserved p.hole.file) p.index && nat_le (s.spare p.hole.file) (s.pending p.hole.file) && not grant) a b (λ _ a b. plain a b refl) (λ _ a b. plain a b refl)
-punch_row {s = s} {r = r} t killed grant (punch.Free p) a b = leaf a b refl (freed_renamed s r p.held (if p.denied then s.resv + 1 else s.resv)) refl
-punch_row t killed grant (punch.Unslot p) a b = by_tests (nat_lt (p.index + 1) (p.hole.from + p.hole.len)) a b (λ _ a b. plain a b refl) (λ _ a b. plain a b refl)
+punch_row {s = s} t killed grant (punch.Delete p) a b =
+    by_tests (splits (s.reserved p.hole.file) p.index && nat_le (s.spare p.hole.file) (s.pending p.hole.file)
+    && not grant) a b (λ _ a b. plain a b refl) (λ _ a b. plain a b refl)
+punch_row {s = s} {r = r} t killed grant (punch.Free p) a b =
+    leaf a b refl (freed_renamed s r p.held (if p.denied then s.resv + 1 else s.resv)) refl
+punch_row t killed grant (punch.Unslot p) a b =
+    by_tests (nat_lt (p.index + 1) (p.hole.from + p.hole.len)) a b (λ _ a b. plain a b refl) (λ _ a b. plain a b refl)
 punch_row t killed grant (punch.Leave p) a b = plain a b refl
 
 -- the pages end where they did
@@ -49,22 +57,30 @@ size_row : {frames : ℕ} {s : Pool} {r : Renaming frames} {turn other : Turn Tr
 size_row {s = s} {r = r} p a b =
     let f = p.truncation.file in
     let same = end_one r.to (s.pages f) a.0 b.0 a.1 b.1 in
-    by_like_tests (nat_lt p.truncation.new (max (s.size f) a.0)) (nat_lt p.truncation.new (max (s.size f) b.0)) (ap (λ (e : ℕ). nat_lt p.truncation.new (max (s.size f) e)) same) a.2 b.2
-    (λ _ c d. leaf c d (ap (λ (e : ℕ). Moved (truncate.Want (record { truncation = p.truncation; index = max (s.size f) e - 1; evicted = 0 }))) same) refl refl)
+    by_like_tests (nat_lt p.truncation.new (max (s.size f) a.0)) (nat_lt p.truncation.new (max (s.size f) b.0))
+    (ap (λ (e : ℕ). nat_lt p.truncation.new (max (s.size f) e)) same) a.2 b.2
+    (λ _ c d. leaf c d (ap
+    (λ (e : ℕ). Moved (truncate.Want
+    (record { truncation = p.truncation; index = max (s.size f) e - 1; evicted = 0 }))) same) refl refl)
     (λ _ c d. plain c d refl)
 
-pub truncate_row : {frames : ℕ} {s : Pool} {r : Renaming frames} {turn other : Turn TruncatePhase} {new there : Pool} (t : ℕ) (killed grant : Bool) (p : TruncatePhase)
+pub truncate_row : {frames : ℕ} {s : Pool} {r : Renaming frames} {turn other : Turn TruncatePhase} {new there : Pool}
+    (t : ℕ) (killed grant : Bool) (p : TruncatePhase)
     → TruncateRow s t killed grant p turn new
     → TruncateRow (pool_renamed r s) t killed grant (truncate_renamed r.to p) other there
     → Follows TruncatePhase truncate_renamed frames s r turn new other there
-truncate_row {s = s} t killed grant (truncate.Start p) a b = start_row t killed p.truncation.file (nat_lt s.geometry.limit p.truncation.new) _ _ _ a b
+truncate_row {s = s} t killed grant (truncate.Start p) a b =
+    start_row t killed p.truncation.file (nat_lt s.geometry.limit p.truncation.new) _ _ _ a b
 truncate_row t killed grant (truncate.Size p) a b = size_row p a b
 truncate_row t killed grant (truncate.Want p) a b = want_row t p.truncation.file p.index _ _ a b
-truncate_row {s = s} {r = r} t killed grant (truncate.Locked p) a b = by_like_tests (is_some (s.pages p.truncation.file p.index)) _ (some_renamed r.to (s.pages p.truncation.file p.index)) a b (λ _ a b. plain a b refl) (λ _ a b. plain a b refl)
+truncate_row {s = s} {r = r} t killed grant (truncate.Locked p) a b =
+    by_like_tests (is_some (s.pages p.truncation.file p.index)) _
+    (some_renamed r.to (s.pages p.truncation.file p.index)) a b (λ _ a b. plain a b refl) (λ _ a b. plain a b refl)
 truncate_row t killed grant (truncate.Unmap p) a b = unmap_row p.task p.truncation.file p.index _ _ a b
 truncate_row t killed grant (truncate.Evict p) a b = evict_row p.truncation.file p.index _ a b (λ z. refl)
 truncate_row {s = s} {r = r} t killed grant (truncate.Free p) a b = leaf a b refl (freed_renamed s r p.held s.resv) refl
-truncate_row t killed grant (truncate.Unslot p) a b = by_tests (nat_lt p.truncation.new p.index) a b (λ _ a b. plain a b refl) (λ _ a b. plain a b refl)
+truncate_row t killed grant (truncate.Unslot p) a b =
+    by_tests (nat_lt p.truncation.new p.index) a b (λ _ a b. plain a b refl) (λ _ a b. plain a b refl)
 truncate_row t killed grant (truncate.Tail p) a b = plain a b refl
 truncate_row t killed grant (truncate.Settle p) a b = plain a.1 b.1 refl
 truncate_row t killed grant (truncate.Leave p) a b = plain a b refl

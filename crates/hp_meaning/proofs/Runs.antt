@@ -42,7 +42,8 @@ run_alike frames r s (v ∷ es) (f ∷ fs) after after' k h a b e =
     let rest : events_of fs ≡ events_of es = (cc) in
     let row : Row (renamed r s) v.0 f.1 b.0 = subst (λ (u : Event). Row (renamed r s) u f.1 b.0) same b.1 in
     let both = event_row s r v.0 v.1 f.1 a.0 b.0 (in_use frames s k h.inv) a.1 row in
-    let z = run_alike frames both.names a.0 es fs after after' (both.count ∙ k) (row_keeps s v.0 v.1 a.0 h a.1) a.2 (subst (λ (n : State). Run n fs after') both.states b.2) rest in
+    let z = run_alike frames both.names a.0 es fs after after' (both.count ∙ k) (row_keeps s v.0 v.1 a.0 h a.1) a.2
+    (subst (λ (n : State). Run n fs after') both.states b.2) rest in
     (same_lists same both.tells z.0, z.1)
 
 -- each frame keeps its name

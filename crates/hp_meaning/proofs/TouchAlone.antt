@@ -25,7 +25,8 @@ use Rattle.hp_laws.proofs.Shared.{by_test}
 use Rattle.hp_meaning.specs.Meaning.{IsReady, Looks, available, PageMade, TouchMeans}
 use Rattle.hp_meaning.proofs.Names.{some_same}
 use Rattle.hp_meaning.proofs.Alone.{if_true, if_false, if_none, if_some, Leads, next, moves, stops, goes_on, ends_so, over, Comes, put_put}
-use Rattle.hp_meaning.proofs.Idle.{so_true, so_false, so_none, so_some, finish, idle_again, free_slot, translated_low, put_back, pending_back, put2_self, range_one, not_below_itself, and_false}
+use Rattle.hp_meaning.proofs.Idle.{so_true, so_false, so_none, so_some, finish, idle_again, free_slot, translated_low, put_back}
+use Rattle.hp_meaning.proofs.Idle.{pending_back, put2_self, range_one, not_below_itself, and_false}
 
 -- granted steps of a task that isn't killed
 abbrev pub TouchSteps : (task : ℕ) → Pool → TouchPhase → Turn TouchPhase → Pool → Type 0
@@ -37,7 +38,12 @@ record Read (t : ℕ) (touch : Touch) (b : Answer) (s end : Pool) : Type 0 where
   word : ℕ
   page : s.pages touch.file touch.index ≡ Some x
   placed : s.frame x ≡ Placed word
-  ends : (b ≡ answer_of touch.access word) × (end ≡ record s { table = put2 s.table t touch.vpn (Some x); frame = frame_after touch.access s.frame x; slots = put s.slots (slot_of s.geometry touch.file touch.index) None })
+  ends : (b ≡ answer_of touch.access word)
+      × (end ≡ record s {
+        table = put2 s.table t touch.vpn (Some x);
+        frame = frame_after touch.access s.frame x;
+        slots = put s.slots (slot_of s.geometry touch.file touch.index) None;
+      })
 
 -- from the page on
 found_reads : {t : ℕ} {b : Answer} {s end : Pool} (touch : Touch) → nat_le (s.size touch.file) touch.index ≡ false
@@ -54,7 +60,11 @@ slotted s t f i = record (pool_of s) { slots = put s.slots (slot_of s.geometry f
 
 -- the change of one index is begun
 abbrev changing : State → (task file index : ℕ) → Pool
-changing s t f i = record (slotted s t f i) { pending = put s.pending f (s.pending f + 1); spare = put s.spare f (max (s.spare f) (s.pending f + 1)) }
+changing s t f i =
+    record (slotted s t f i) {
+      pending = put s.pending f (s.pending f + 1);
+      spare = put s.spare f (max (s.spare f) (s.pending f + 1));
+    }
 
 abbrev change_of : State → (file index : ℕ) → Change
 change_of s f i = record { from = i; to = i + 1; missing = missing (s.reserved f) i (i + 1) }
@@ -78,7 +88,9 @@ placed_same e = cc
 -- from the frame on
 taken_pages : (s : State) (t : ℕ) (touch : Touch) (b : Answer) (x resv : ℕ) (end : Pool)
     → s.slots (slot_of s.geometry touch.file touch.index) ≡ None → nat_le (s.size touch.file) touch.index ≡ false
-    → Leads (TouchSteps t) b end (record (changing s t touch.file touch.index) { frame = put s.frame x Hand; resv = resv }) (at.Taken (record { touch = touch; pending = change_of s touch.file touch.index; held = x }))
+    → Leads (TouchSteps t) b end
+    (record (changing s t touch.file touch.index) { frame = put s.frame x Hand; resv = resv })
+    (at.Taken (record { touch = touch; pending = change_of s touch.file touch.index; held = x }))
     → Paged s t touch b x resv end
 taken_pages s t touch b x resv end unheld low k =
     let f = touch.file in
@@ -87,8 +99,10 @@ taken_pages s t touch b x resv end unheld low k =
     let k2 = goes_on k1 (λ turn m r. if_false _ _ low r) in
     let z = found_reads touch low k2 in
     let same : z.x ≡ x = some_same (sym z.page ∙ put2_same s.pages f i (Some x)) in
-    let word : z.word ≡ 0 = placed_same (sym z.placed ∙ (ap (put (put s.frame x Hand) x (Placed 0)) same ∙ put_same (put s.frame x Hand) x (Placed 0))) in
-    let frame = ap (frame_after touch.access (put (put s.frame x Hand) x (Placed 0))) same ∙ ap (λ (g : ℕ → FrameState). frame_after touch.access g x) (put_put s.frame x Hand (Placed 0)) in
+    let word : z.word ≡ 0 =
+    placed_same (sym z.placed ∙ (ap (put (put s.frame x Hand) x (Placed 0)) same ∙ put_same (put s.frame x Hand) x (Placed 0))) in
+    let frame = ap (frame_after touch.access (put (put s.frame x Hand) x (Placed 0))) same
+    ∙ ap (λ (g : ℕ → FrameState). frame_after touch.access g x) (put_put s.frame x Hand (Placed 0)) in
     let slots = put_back s.slots (slot_of s.geometry f i) (Some t) None unheld in
     let pending = pending_back s.pending f in
     let reserved = ap (put s.reserved f) (range_one (s.reserved f) i) in
@@ -117,7 +131,8 @@ reserved_page : (s : State) (t : ℕ) (touch : Touch) (b : Answer) (n : State) (
 reserved_page s t touch b n x end last idle e free some y is =
     let reserved = put2_self s.reserved touch.file touch.index true e in
     let calls = idle_again s t idle in
-    finish call.Touch s t last (PageMade s t touch.vpn touch.access touch.file touch.index) _ (y.answers, y.ends) is (so_true _ _ e (x, free, some, (refl, refl)))
+    finish call.Touch s t last (PageMade s t touch.vpn touch.access touch.file touch.index) _ (y.answers, y.ends) is
+    (so_true _ _ e (x, free, some, (refl, refl)))
     (λ j. record s {
       pool = record s.pool {
         frame = frame_after touch.access (put s.frame x (Placed 0)) x;
@@ -137,7 +152,8 @@ available_page : (s : State) (t : ℕ) (touch : Touch) (b : Answer) (n : State) 
     → (m : State) × PageMade s t touch.vpn touch.access touch.file touch.index b m × Looks m n
 available_page s t touch b n x end last idle e some free y is =
     let calls = idle_again s t idle in
-    finish call.Touch s t last (PageMade s t touch.vpn touch.access touch.file touch.index) _ (y.answers, y.ends) is (so_false _ _ e (so_true _ _ some (x, free, (refl, refl))))
+    finish call.Touch s t last (PageMade s t touch.vpn touch.access touch.file touch.index) _ (y.answers, y.ends) is
+    (so_false _ _ e (so_true _ _ some (x, free, (refl, refl))))
     (λ j. record s {
       pool = record s.pool {
         frame = frame_after touch.access (put s.frame x (Placed 0)) x;
@@ -158,7 +174,8 @@ makes_page : (s : State) (t : ℕ) (touch : Touch) (b : Answer) (n : State) (end
     → (m : State) × PageMade s t touch.vpn touch.access touch.file touch.index b m × Looks m n
 makes_page s t touch b n end last enough unheld idle low k is = by_reserved (s.reserved touch.file touch.index) refl
   where
-    k1 : Leads (TouchSteps t) b end (changing s t touch.file touch.index) (at.Changed (record { touch = touch; pending = change_of s touch.file touch.index }))
+    k1 : Leads (TouchSteps t) b end (changing s t touch.file touch.index)
+        (at.Changed (record { touch = touch; pending = change_of s touch.file touch.index }))
     k1 = goes_on k (λ turn m r. if_false _ _ (and_false (s.spare touch.file == s.pending touch.file)) r)
 
     -- nothing is missing where the index is reserved
@@ -182,11 +199,20 @@ makes_page s t touch b n end last enough unheld idle low k is = by_reserved (s.r
         let slots = put_back s.slots (slot_of s.geometry touch.file touch.index) (Some t) None unheld in
         let pending = pending_back s.pending touch.file in
         let calls = idle_again s t idle in
-        finish call.Touch s t last (PageMade s t touch.vpn touch.access touch.file touch.index) s y is (so_false _ _ e (so_false _ _ none_available (refl, refl)))
-        (λ j. record s { pool = record s.pool { slots = slots j; pending = pending j; spare = put s.spare touch.file (max (s.spare touch.file) (s.pending touch.file + 1)) }; calls = calls j }))
+        finish call.Touch s t last (PageMade s t touch.vpn touch.access touch.file touch.index) s y is
+        (so_false _ _ e (so_false _ _ none_available (refl, refl)))
+        (λ j. record s {
+          pool = record s.pool {
+            slots = slots j;
+            pending = pending j;
+            spare = put s.spare touch.file (max (s.spare touch.file) (s.pending touch.file + 1));
+          };
+          calls = calls j;
+        }))
         (λ some r.
         let some_available : nat_lt 0 (available s) ≡ true = grind (arith, nat_tests) in
-        available_page s t touch b n r.0 end last idle e some_available r.1 (taken_pages s t touch b r.0 s.resv end unheld low (moves z.3 r.2)) is)
+        available_page s t touch b n r.0 end last idle e some_available r.1
+        (taken_pages s t touch b r.0 s.resv end unheld low (moves z.3 r.2)) is)
 
 -- a touch from its first phase on
 pub touch_means : (s : State) (t v : ℕ) (access : Access) (b : Answer) (n : State) → Inv s.geometry s → IsReady s t
@@ -207,11 +233,13 @@ touch_means s t v access b n h ready (end, last, k, is) = by_find (find (s.areas
     below a b l = grind (arith, nat_tests)
 
     by_page : (f i : ℕ) (o : Option ℕ) → s.pages f i ≡ o → find (s.areas t) v ≡ Some (f, i) → nat_le (s.size f) i ≡ false
-        → Leads (TouchSteps t) b end (slotted s t f i) (at.Locked (record { touch = record { vpn = v; access = access; file = f; index = i } }))
+        → Leads (TouchSteps t) b end (slotted s t f i)
+        (at.Locked (record { touch = record { vpn = v; access = access; file = f; index = i } }))
         → (m : State) × TouchMeans s t v access b m × Looks m n
     by_page f i None e q low k =
         let k1 = goes_on k (λ turn m r. if_false _ _ (ap is_some e) (if_false _ _ low r)) in
-        let z = makes_page s t (record { vpn = v; access = access; file = f; index = i }) b n end last h.enough (free_slot s h ready.0 (slot_of s.geometry f i)) (ready.0 t) low k1 is in
+        let z = makes_page s t (record { vpn = v; access = access; file = f; index = i }) b n end last h.enough
+        (free_slot s h ready.0 (slot_of s.geometry f i)) (ready.0 t) low k1 is in
         (z.0, so_some _ _ (f, i) q (so_false _ _ low (so_none _ _ e z.1)), z.2)
     by_page f i (Some x) e q low k =
         let k1 = goes_on k (λ turn m r. if_true _ _ (ap is_some e) (if_false _ _ low r)) in
@@ -219,16 +247,26 @@ touch_means s t v access b n h ready (end, last, k, is) = by_find (find (s.areas
         let slots = slots_back f i in
         finish call.Touch s t last (TouchMeans s t v access) _ z.ends is
         (so_some _ _ (f, i) q (so_false _ _ low (so_some _ _ z.x z.page (z.word, z.placed, (refl, refl)))))
-        (λ j. record s { pool = record s.pool { frame = frame_after access s.frame z.x; slots = slots j; table = put2 s.table t v (Some z.x) }; calls = calls j })
+        (λ j. record s {
+          pool = record s.pool {
+            frame = frame_after access s.frame z.x;
+            slots = slots j;
+            table = put2 s.table t v (Some z.x);
+          };
+          calls = calls j;
+        })
 
     by_size : (f i : ℕ) (high : Bool) → nat_le (s.size f) i ≡ high → find (s.areas t) v ≡ Some (f, i)
-        → Leads (TouchSteps t) b end (slotted s t f i) (at.Locked (record { touch = record { vpn = v; access = access; file = f; index = i } }))
+        → Leads (TouchSteps t) b end (slotted s t f i)
+        (at.Locked (record { touch = record { vpn = v; access = access; file = f; index = i } }))
         → (m : State) × TouchMeans s t v access b m × Looks m n
     by_size f i true e q k =
         let k1 = goes_on k (λ turn m r. if_true _ _ e r) in
         let z = ends_so k1 (λ turn m r. r) in
         let slots = slots_back f i in
-        finish call.Touch s t last (TouchMeans s t v access) s z is (so_some _ _ (f, i) q (so_true _ _ e (refl, refl))) (λ j. record s { pool = record s.pool { slots = slots j }; calls = calls j })
+        finish call.Touch s t last (TouchMeans s t v access) s z is
+        (so_some _ _ (f, i) q (so_true _ _ e (refl, refl)))
+        (λ j. record s { pool = record s.pool { slots = slots j }; calls = calls j })
     by_size f i false e q k = by_page f i (s.pages f i) refl q e k
 
     by_entry : (f i : ℕ) (o : Option ℕ) → s.table t v ≡ o → find (s.areas t) v ≡ Some (f, i)
@@ -250,5 +288,7 @@ touch_means s t v access b n h ready (end, last, k, is) = by_find (find (s.areas
         by_size f i (nat_le (s.size f) i) refl q k2
 
     by_find : (o : Option (ℕ × ℕ)) → find (s.areas t) v ≡ o → (m : State) × TouchMeans s t v access b m × Looks m n
-    by_find None q = finish call.Touch s t last (TouchMeans s t v access) s (ends_so k (λ turn m r. if_none _ _ q r)) is (so_none _ _ q (refl, refl)) (λ j. record s { calls = calls j })
+    by_find None q =
+        finish call.Touch s t last (TouchMeans s t v access) s (ends_so k (λ turn m r. if_none _ _ q r)) is
+        (so_none _ _ q (refl, refl)) (λ j. record s { calls = calls j })
     by_find (Some place) q = by_entry place.0 place.1 (s.table t v) refl q

@@ -21,7 +21,9 @@ use Rattle.hp_machine.specs.declared.call.Turn.{Turn}
 use Rattle.hp_machine.specs.declared.call.Turn.TheVariants.{Moved, Ended}
 use Rattle.hp_meaning.specs.Renaming.{Renaming, touch_renamed, alloc_renamed}
 use Rattle.hp_meaning.proofs.Names.{put_renamed, put2_map, some_same, some_renamed}
-use Rattle.hp_meaning.proofs.Parts.{pool_renamed, Used, Follows, leaf, plain, by_tests, by_like_tests, by_options, by_names, start_row, want_row, change_row, commit_row, settle_row, take_row, placed_renamed, freed_renamed}
+use Rattle.hp_meaning.proofs.Parts.{pool_renamed, Used, Follows, leaf, plain, by_tests, by_like_tests, by_options, by_names}
+use Rattle.hp_meaning.proofs.Parts.{start_row, want_row, change_row, commit_row, settle_row, take_row, placed_renamed}
+use Rattle.hp_meaning.proofs.Parts.{freed_renamed}
 
 same_word : {a b : ℕ} → Placed a ≡ Placed b → a ≡ b
 same_word e = cc
@@ -37,20 +39,29 @@ after_renamed r Load frame x = refl
 after_renamed r (Store new) frame x = put_renamed r frame x (Placed new)
 
 -- a page is read or written
-reads : {frames : ℕ} {s : Pool} {r : Renaming frames} {turn other : Turn TouchPhase} {new there : Pool} (t : ℕ) (p : Found) (x y word word' : ℕ)
+reads : {frames : ℕ} {s : Pool} {r : Renaming frames} {turn other : Turn TouchPhase} {new there : Pool} (t : ℕ)
+    (p : Found) (x y word word' : ℕ)
     → s.pages p.touch.file p.touch.index ≡ Some x → option_map r.to (s.pages p.touch.file p.touch.index) ≡ Some y
     → s.frame x ≡ Placed word → s.frame (r.back y) ≡ Placed word'
-    → Goes (touch.Leave (record { touch = p.touch; answer = answer_of p.touch.access word })) (record s { table = put2 s.table t p.touch.vpn (Some x); frame = frame_after p.touch.access s.frame x }) turn new
-    → Goes (touch.Leave (record { touch = p.touch; answer = answer_of p.touch.access word' })) (record (pool_renamed r s) { table = put2 (λ u v. option_map r.to (s.table u v)) t p.touch.vpn (Some y); frame = frame_after p.touch.access (λ z. s.frame (r.back z)) y }) other there
+    → Goes (touch.Leave (record { touch = p.touch; answer = answer_of p.touch.access word }))
+    (record s { table = put2 s.table t p.touch.vpn (Some x); frame = frame_after p.touch.access s.frame x }) turn new
+    → Goes (touch.Leave (record { touch = p.touch; answer = answer_of p.touch.access word' }))
+    (record (pool_renamed r s) {
+      table = put2 (λ u v. option_map r.to (s.table u v)) t p.touch.vpn (Some y);
+      frame = frame_after p.touch.access (λ z. s.frame (r.back z)) y;
+    }) other there
     → Follows TouchPhase touch_renamed frames s r turn new other there
 reads {s = s} {r = r} t p x y word word' page page' placed placed' a b =
     let is : y ≡ r.to x = some_same (sym page' ∙ ap (option_map r.to) page) in
     let same = word_renamed r s.frame x word word' placed (ap (λ (z : ℕ). s.frame (r.back z)) (sym is) ∙ placed') in
-    let table = ap (λ (z : ℕ). put2 (λ u v. option_map r.to (s.table u v)) t p.touch.vpn (Some z)) is ∙ put2_map (option_map r.to) s.table t p.touch.vpn (Some x) in
+    let table = ap (λ (z : ℕ). put2 (λ u v. option_map r.to (s.table u v)) t p.touch.vpn (Some z)) is
+    ∙ put2_map (option_map r.to) s.table t p.touch.vpn (Some x) in
     let frame = ap (frame_after p.touch.access (λ z. s.frame (r.back z))) is ∙ after_renamed r p.touch.access s.frame x in
-    leaf a b (ap (λ (w : ℕ). Moved (touch.Leave (record { touch = p.touch; answer = answer_of p.touch.access w }))) same) (λ k. record (pool_renamed r s) { table = table k; frame = frame k }) refl
+    leaf a b (ap (λ (w : ℕ). Moved (touch.Leave (record { touch = p.touch; answer = answer_of p.touch.access w })))
+    same) (λ k. record (pool_renamed r s) { table = table k; frame = frame k }) refl
 
-found_row : {frames : ℕ} {s : Pool} {r : Renaming frames} {turn other : Turn TouchPhase} {new there : Pool} (t : ℕ) (grant : Bool) (p : Found)
+found_row : {frames : ℕ} {s : Pool} {r : Renaming frames} {turn other : Turn TouchPhase} {new there : Pool} (t : ℕ)
+    (grant : Bool) (p : Found)
     → TouchFoundRow s t grant p turn new → TouchFoundRow (pool_renamed r s) t grant p other there
     → Follows TouchPhase touch_renamed frames s r turn new other there
 found_row {s = s} t grant p a b =
@@ -60,7 +71,8 @@ found_row {s = s} t grant p a b =
     (λ _ a b. reads t p a.0 b.0 a.1 b.1 a.2 b.2 a.3 b.3 a.4 b.4)
     (λ _ a b. plain a b refl))
 
-pub touch_row : {frames : ℕ} {s : Pool} {r : Renaming frames} {turn other : Turn TouchPhase} {new there : Pool} (t : ℕ) (killed grant : Bool) (p : TouchPhase)
+pub touch_row : {frames : ℕ} {s : Pool} {r : Renaming frames} {turn other : Turn TouchPhase} {new there : Pool}
+    (t : ℕ) (killed grant : Bool) (p : TouchPhase)
     → Used frames s → TouchRow s t killed grant p turn new
     → TouchRow (pool_renamed r s) t killed grant (touch_renamed r.to p) other there
     → Follows TouchPhase touch_renamed frames s r turn new other there
@@ -80,8 +92,11 @@ touch_row t killed grant (touch.Want p) h a b =
 touch_row {s = s} {r = r} t killed grant (touch.Locked p) h a b =
     by_tests (nat_le (s.size p.touch.file) p.touch.index) a b
     (λ _ a b. plain a b refl)
-    (λ _ a b. by_like_tests (is_some (s.pages p.touch.file p.touch.index)) _ (some_renamed r.to (s.pages p.touch.file p.touch.index)) a b (λ _ a b. plain a b refl) (λ _ a b. plain a b refl))
-touch_row t killed grant (touch.Missing p) h a b = change_row grant p.touch.file p.touch.index (p.touch.index + 1) _ (λ change. touch.Changed (record { touch = p.touch; pending = change })) a b
+    (λ _ a b. by_like_tests (is_some (s.pages p.touch.file p.touch.index)) _
+    (some_renamed r.to (s.pages p.touch.file p.touch.index)) a b (λ _ a b. plain a b refl) (λ _ a b. plain a b refl))
+touch_row t killed grant (touch.Missing p) h a b =
+    change_row grant p.touch.file p.touch.index (p.touch.index + 1) _
+    (λ change. touch.Changed (record { touch = p.touch; pending = change })) a b
 touch_row t killed grant (touch.Changed p) h a b =
     by_tests killed a b
     (λ _ a b. plain a b refl)
@@ -99,18 +114,24 @@ touch_row {s = s} {r = r} t killed grant (touch.Restore p) h a b = leaf a b refl
 touch_row t killed grant (touch.Found p) h a b = found_row t grant p a b
 touch_row t killed grant (touch.Leave p) h a b = plain a b refl
 
-pub alloc_row : {frames : ℕ} {s : Pool} {r : Renaming frames} {turn other : Turn AllocPhase} {new there : Pool} (t : ℕ) (killed grant : Bool) (p : AllocPhase)
+pub alloc_row : {frames : ℕ} {s : Pool} {r : Renaming frames} {turn other : Turn AllocPhase} {new there : Pool}
+    (t : ℕ) (killed grant : Bool) (p : AllocPhase)
     → Used frames s → AllocRow s t killed grant p turn new
     → AllocRow (pool_renamed r s) t killed grant (alloc_renamed r.to p) other there
     → Follows AllocPhase alloc_renamed frames s r turn new other there
-alloc_row {s = s} t killed grant (alloc.Start p) h a b = start_row t killed p.allocation.file (is_bad_range s p.allocation.from p.allocation.len) _ _ _ a b
+alloc_row {s = s} t killed grant (alloc.Start p) h a b =
+    start_row t killed p.allocation.file (is_bad_range s p.allocation.from p.allocation.len) _ _ _ a b
 alloc_row t killed grant (alloc.Head p) h a b = by_tests killed a b (λ _ a b. plain a b refl) (λ _ a b. plain a b refl)
 alloc_row t killed grant (alloc.Want p) h a b =
     by_tests killed a b
     (λ _ a b. plain a b refl)
     (λ _ a b. want_row t p.allocation.file p.index _ _ a b)
-alloc_row {s = s} {r = r} t killed grant (alloc.Locked p) h a b = by_like_tests (is_some (s.pages p.allocation.file p.index)) _ (some_renamed r.to (s.pages p.allocation.file p.index)) a b (λ _ a b. plain a b refl) (λ _ a b. plain a b refl)
-alloc_row t killed grant (alloc.Missing p) h a b = change_row grant p.allocation.file p.index (p.index + 1) _ (λ change. alloc.Changed (record { allocation = p.allocation; index = p.index; pending = change })) a b
+alloc_row {s = s} {r = r} t killed grant (alloc.Locked p) h a b =
+    by_like_tests (is_some (s.pages p.allocation.file p.index)) _
+    (some_renamed r.to (s.pages p.allocation.file p.index)) a b (λ _ a b. plain a b refl) (λ _ a b. plain a b refl)
+alloc_row t killed grant (alloc.Missing p) h a b =
+    change_row grant p.allocation.file p.index (p.index + 1) _
+    (λ change. alloc.Changed (record { allocation = p.allocation; index = p.index; pending = change })) a b
 alloc_row t killed grant (alloc.Changed p) h a b =
     by_tests killed a b
     (λ _ a b. plain a b refl)

@@ -26,7 +26,8 @@ use Rattle.hp_meaning.specs.Meaning.{IsReady, Looks, Checked, without_pages, is_
 use Rattle.hp_meaning.proofs.Names.{some_same}
 use Rattle.hp_meaning.proofs.Alone.{if_true, if_false, if_none, Leads, next, moves, goes_on, ends_so, from_pool, put_put, Comes}
 use Rattle.hp_meaning.proofs.Idle.{finish, idle_again, free_slot, free_lock, put_back, and_false, checked}
-use Rattle.hp_meaning.proofs.Emptying.{Adds, Owned, page_kept, pages_none, entries_none, entry_kept, freed_none, pages_more, entries_more, freed_more, unmaps}
+use Rattle.hp_meaning.proofs.Emptying.{Adds, Owned, page_kept, pages_none, entries_none, entry_kept, freed_none, pages_more}
+use Rattle.hp_meaning.proofs.Emptying.{entries_more, freed_more, unmaps}
 
 -- granted steps of a task that isn't killed
 abbrev pub TruncateSteps : (task : ℕ) → Pool → TruncatePhase → Turn TruncatePhase → Pool → Type 0
@@ -61,7 +62,12 @@ record Ready (s : State) (t f : ℕ) : Type 0 where
 record OneDone (s : State) (t : ℕ) (cut : Truncation) (i : ℕ) (b : Answer) (end : Pool) : Type 0 where
   frame : ℕ → FrameState
   freed : Freed (s.pages cut.file) s.frame (paged_from s cut.file i) frame
-  leads : Leads (TruncateSteps t) b end (record (emptied s t cut.file cut.new (paged_from s cut.file i) frame) { slots = put s.slots (slot_of s.geometry cut.file i) (Some t) }) (at.Unslot (record { truncation = cut; index = i; evicted = pages_from s cut.file i }))
+  leads : Leads (TruncateSteps t) b end
+      (record (emptied s t cut.file cut.new (paged_from s cut.file i) frame) {
+        slots = put s.slots
+            (slot_of s.geometry cut.file i) (Some t);
+      })
+      (at.Unslot (record { truncation = cut; index = i; evicted = pages_from s cut.file i }))
 
 -- the indices from one on that have a page, with one more index
 from_above : (s : State) (f i j : ℕ) → j ≢ i → paged_from s f i j ≡ paged_from s f (i + 1) j
@@ -78,7 +84,8 @@ more_paged s f i x e = record {
 same_paged : (s : State) (f i : ℕ) → s.pages f i ≡ None → paged_from s f (i + 1) ≡ paged_from s f i
 same_paged s f i e = fun_ext (λ j. elim (same_or_other j i) [
   | inl d ↦ (let a : is_some (s.pages f j) ≡ false = ap (λ (k : ℕ). is_some (s.pages f k)) d ∙ ap is_some e in
-      ap (λ (c : Bool). nat_le (i + 1) j && c) a ∙ (and_false (nat_le (i + 1) j) ∙ sym (ap (λ (c : Bool). nat_le i j && c) a ∙ and_false (nat_le i j))))
+      ap (λ (c : Bool). nat_le (i + 1) j && c) a
+      ∙ (and_false (nat_le (i + 1) j) ∙ sym (ap (λ (c : Bool). nat_le i j && c) a ∙ and_false (nat_le i j))))
   | inr d ↦ sym (from_above s f i j d)
 ])
 
@@ -89,7 +96,9 @@ not_yet s f i = let a : nat_le (i + 1) i ≡ false = grind (arith, nat_tests) in
 tail_skip : (limit i : ℕ) (r : ℕ → Bool) → r i ≡ false → count_within r i limit ≡ count_within r (i + 1) limit
 unfolding count_within
 tail_skip limit i r e = count_below-ext (λ k. nat_le i k && r k) (λ k. nat_le (i + 1) k && r k) limit (λ k l. elim (same_or_other k i) [
-  | inl d ↦ (let a : r k ≡ false = ap r d ∙ e in ap (λ (c : Bool). nat_le i k && c) a ∙ (and_false (nat_le i k) ∙ sym (ap (λ (c : Bool). nat_le (i + 1) k && c) a ∙ and_false (nat_le (i + 1) k))))
+  | inl d ↦ (let a : r k ≡ false = ap r d ∙ e in
+      ap (λ (c : Bool). nat_le i k && c) a
+      ∙ (and_false (nat_le i k) ∙ sym (ap (λ (c : Bool). nat_le (i + 1) k && c) a ∙ and_false (nat_le (i + 1) k))))
   | inr d ↦ (let a : nat_le i k ≡ nat_le (i + 1) k = grind (arith, nat_tests) in ap (λ (c : Bool). c && r k) a)
 ])
 
@@ -105,7 +114,8 @@ evicted s t cut i x frame = record (emptied s t cut.file cut.new (paged_from s c
 -- from there on
 evicted_index : (s : State) (t : ℕ) (cut : Truncation) (i x : ℕ) (frame : ℕ → FrameState) (b : Answer) (end : Pool)
     → Ready s t cut.file → s.pages cut.file i ≡ Some x → Freed (s.pages cut.file) s.frame (paged_from s cut.file (i + 1)) frame
-    → Leads (TruncateSteps t) b end (evicted s t cut i x frame) (at.Free (record { truncation = cut; index = i; evicted = pages_from s cut.file (i + 1) + 1; held = x }))
+    → Leads (TruncateSteps t) b end (evicted s t cut i x frame)
+    (at.Free (record { truncation = cut; index = i; evicted = pages_from s cut.file (i + 1) + 1; held = x }))
     → OneDone s t cut i b end
 evicted_index s t cut i x frame b end h page freed k =
     let f = cut.file in
@@ -115,22 +125,41 @@ evicted_index s t cut i x frame b end h page freed k =
     let table = entries_more s.areas s.table f i gone (paged_from s f i) adds in
     let pages = pages_more s.pages f i gone (paged_from s f i) adds in
     let frame' = put_put frame x Hand Free in
-    let count : pages_from s f i ≡ pages_from s f (i + 1) + 1 = tail_next s.geometry.limit i (λ j. is_some (s.pages f j)) (h.low i x page) (ap is_some page) in
+    let count : pages_from s f i ≡ pages_from s f (i + 1) + 1 =
+    tail_next s.geometry.limit i (λ j. is_some (s.pages f j)) (h.low i x page) (ap is_some page) in
     record {
       frame = put frame x Free;
       freed = freed_more (s.pages f) s.frame frame i x gone (paged_from s f i) adds page freed;
-      leads = subst (λ (c : ℕ). Leads (TruncateSteps t) b end (record (emptied s t cut.file cut.new (paged_from s cut.file i) (put frame x Free)) { slots = put s.slots (slot_of s.geometry cut.file i) (Some t) }) (at.Unslot (record { truncation = cut; index = i; evicted = c }))) (sym count)
-          (from_pool (λ j. record (pool_of s) { locks = put s.locks f (Some t); size = put s.size f cut.new; slots = put s.slots (slot_of s.geometry f i) (Some t); frame = frame' j; pages = pages j; table = table j }) k1);
+      leads =
+          subst (λ (c : ℕ). Leads (TruncateSteps t) b end
+          (record (emptied s t cut.file cut.new (paged_from s cut.file i) (put frame x Free)) {
+            slots = put s.slots
+                (slot_of s.geometry cut.file i) (Some t);
+          }) (at.Unslot (record { truncation = cut; index = i; evicted = c }))) (sym count)
+          (from_pool (λ j. record (pool_of s) {
+            locks = put s.locks f (Some t);
+            size = put s.size f cut.new;
+            slots = put s.slots (slot_of s.geometry f i) (Some t);
+            frame = frame' j;
+            pages = pages j;
+            table = table j;
+          }) k1);
     }
 
 -- one index, with or without a page
 one_index : (s : State) (t : ℕ) (cut : Truncation) (i : ℕ) (frame : ℕ → FrameState) (b : Answer) (end : Pool) → Ready s t cut.file
     → Freed (s.pages cut.file) s.frame (paged_from s cut.file (i + 1)) frame
-    → Leads (TruncateSteps t) b end (emptied s t cut.file cut.new (paged_from s cut.file (i + 1)) frame) (at.Want (record { truncation = cut; index = i; evicted = pages_from s cut.file (i + 1) }))
+    → Leads (TruncateSteps t) b end (emptied s t cut.file cut.new (paged_from s cut.file (i + 1)) frame)
+    (at.Want (record { truncation = cut; index = i; evicted = pages_from s cut.file (i + 1) }))
     → OneDone s t cut i b end
 one_index s t cut i frame b end h freed k = by_page (s.pages cut.file i) refl
   where
-    k1 : Leads (TruncateSteps t) b end (record (emptied s t cut.file cut.new (paged_from s cut.file (i + 1)) frame) { slots = put s.slots (slot_of s.geometry cut.file i) (Some t) }) (at.Locked (record { truncation = cut; index = i; evicted = pages_from s cut.file (i + 1) }))
+    k1 : Leads (TruncateSteps t) b end
+        (record (emptied s t cut.file cut.new (paged_from s cut.file (i + 1)) frame) {
+          slots = put s.slots
+              (slot_of s.geometry cut.file i) (Some t);
+        })
+        (at.Locked (record { truncation = cut; index = i; evicted = pages_from s cut.file (i + 1) }))
     k1 = goes_on k (λ turn m r. if_none _ _ (h.slots (slot_of s.geometry cut.file i)) r)
 
     same : put s.pages cut.file (without_pages (s.pages cut.file) (paged_from s cut.file (i + 1))) cut.file i ≡ s.pages cut.file i
@@ -144,14 +173,26 @@ one_index s t cut i frame b end h freed k = by_page (s.pages cut.file i) refl
         record {
           frame = frame;
           freed = subst (λ (g : ℕ → Bool). Freed (s.pages cut.file) s.frame g frame) gone freed;
-          leads = subst (λ (c : ℕ). Leads (TruncateSteps t) b end (record (emptied s t cut.file cut.new (paged_from s cut.file i) frame) { slots = put s.slots (slot_of s.geometry cut.file i) (Some t) }) (at.Unslot (record { truncation = cut; index = i; evicted = c }))) (sym count)
-              (from_pool (λ j. record (emptied s t cut.file cut.new (gone j) frame) { slots = put s.slots (slot_of s.geometry cut.file i) (Some t) }) k2);
+          leads =
+              subst (λ (c : ℕ). Leads (TruncateSteps t) b end
+              (record (emptied s t cut.file cut.new (paged_from s cut.file i) frame) {
+                slots = put s.slots
+                    (slot_of s.geometry cut.file i) (Some t);
+              })
+              (at.Unslot (record { truncation = cut; index = i; evicted = c }))) (sym count)
+              (from_pool (λ j. record (emptied s t cut.file cut.new (gone j) frame) {
+                slots = put s.slots
+                    (slot_of s.geometry cut.file i) (Some t);
+              }) k2);
         }
     by_page (Some y) e =
         let f = cut.file in
         let k2 = goes_on k1 (λ turn m r. if_true _ _ (ap is_some (same ∙ e)) r) in
-        let owned = λ (u v x : ℕ) (e : without_entries s.areas s.table f (paged_from s f (i + 1)) u v ≡ Some x). h.owned u v x (entry_kept s.areas s.table f (paged_from s f (i + 1)) u v x e) in
-        let k3 = unmaps (TruncateSteps t) b end _ f i (λ k. at.Unmap (record { truncation = cut; index = i; evicted = pages_from s cut.file (i + 1); task = k })) (at.Evict (record { truncation = cut; index = i; evicted = pages_from s cut.file (i + 1) }))
+        let owned = λ (u v x : ℕ) (e : without_entries s.areas s.table f (paged_from s f (i + 1)) u v ≡ Some x).
+        h.owned u v x (entry_kept s.areas s.table f (paged_from s f (i + 1)) u v x e) in
+        let k3 = unmaps (TruncateSteps t) b end _ f i
+        (λ k. at.Unmap (record { truncation = cut; index = i; evicted = pages_from s cut.file (i + 1); task = k }))
+        (at.Evict (record { truncation = cut; index = i; evicted = pages_from s cut.file (i + 1) }))
         (λ p k turn m r. r) h.tasks owned k2 in
         let z = next k3 in
         let r = z.2 in
@@ -166,7 +207,8 @@ reserved_parts : (s : State) (f from : ℕ) → ((i : ℕ) → s.reserved f i �
     → count_within (s.reserved f) from s.geometry.limit ≡ waiting s f from + pages_from s f from
 unfolding count_within
 reserved_parts s f from bare =
-    count_below-sum (λ k. nat_le from k && (s.reserved f k && is_none (s.pages f k))) (λ k. nat_le from k && is_some (s.pages f k)) (λ k. nat_le from k && s.reserved f k) s.geometry.limit
+    count_below-sum (λ k. nat_le from k && (s.reserved f k && is_none (s.pages f k)))
+    (λ k. nat_le from k && is_some (s.pages f k)) (λ k. nat_le from k && s.reserved f k) s.geometry.limit
     (λ k l. parts (nat_le from k) (s.reserved f k) (s.pages f k) (bare k))
   where
     parts : (a r : Bool) (o : Option ℕ) → (r ≡ false → o ≡ None)
@@ -183,13 +225,18 @@ record Cut (s : State) (t : ℕ) (cut : Truncation) (b : Answer) (end : Pool) : 
   freed : Freed (s.pages cut.file) s.frame (paged_from s cut.file cut.new) frame
   enough : waiting s cut.file cut.new ≤ s.resv
   done : b ≡ Done
-  ends : end ≡ record (emptied s t cut.file cut.new (paged_from s cut.file cut.new) frame) { locks = s.locks; reserved = put s.reserved cut.file (cut_tail (s.reserved cut.file) cut.new); resv = s.resv - waiting s cut.file cut.new }
+  ends : end ≡ record (emptied s t cut.file cut.new (paged_from s cut.file cut.new) frame) {
+    locks = s.locks;
+    reserved = put s.reserved cut.file (cut_tail (s.reserved cut.file) cut.new);
+    resv = s.resv - waiting s cut.file cut.new;
+  }
 
 -- the reserved indices go
 tail_ends : (s : State) (t : ℕ) (cut : Truncation) (frame : ℕ → FrameState) (b : Answer) (end : Pool) → s.locks cut.file ≡ None
     → ((i : ℕ) → s.reserved cut.file i ≡ false → s.pages cut.file i ≡ None)
     → Freed (s.pages cut.file) s.frame (paged_from s cut.file cut.new) frame
-    → Leads (TruncateSteps t) b end (emptied s t cut.file cut.new (paged_from s cut.file cut.new) frame) (at.Tail (record { truncation = cut; evicted = pages_from s cut.file cut.new }))
+    → Leads (TruncateSteps t) b end (emptied s t cut.file cut.new (paged_from s cut.file cut.new) frame)
+    (at.Tail (record { truncation = cut; evicted = pages_from s cut.file cut.new }))
     → Cut s t cut b end
 tail_ends s t cut frame b end unlocked bare freed k =
     let k1 = goes_on k (λ turn m r. r) in
@@ -197,38 +244,53 @@ tail_ends s t cut frame b end unlocked bare freed k =
     let r = z.2 in
     let y = ends_so (moves z.3 r.1) (λ turn m r. r) in
     let parts = reserved_parts s cut.file cut.new bare in
-    let same : count_within (s.reserved cut.file) cut.new s.geometry.limit - pages_from s cut.file cut.new ≡ waiting s cut.file cut.new = omega arith in
+    let same : count_within (s.reserved cut.file) cut.new s.geometry.limit - pages_from s cut.file cut.new ≡ waiting s
+    cut.file cut.new = omega arith in
     let locks = put_back s.locks cut.file (Some t) None unlocked in
     record {
       frame = frame;
       freed = freed;
       enough = subst (λ (c : ℕ). c ≤ s.resv) same r.0;
       done = y.0;
-      ends = y.1 ∙ (λ j. record (emptied s t cut.file cut.new (paged_from s cut.file cut.new) frame) { locks = locks j; reserved = put s.reserved cut.file (cut_tail (s.reserved cut.file) cut.new); resv = s.resv - same j });
+      ends =
+          y.1 ∙ (λ j. record (emptied s t cut.file cut.new (paged_from s cut.file cut.new) frame) {
+            locks = locks j;
+            reserved = put s.reserved cut.file (cut_tail (s.reserved cut.file) cut.new);
+            resv = s.resv - same j;
+          });
     }
 
 -- the indices from i down
 indices : (s : State) (t : ℕ) (cut : Truncation) (d i : ℕ) (frame : ℕ → FrameState) (b : Answer) (end : Pool) → Ready s t cut.file
     → ((i : ℕ) → s.reserved cut.file i ≡ false → s.pages cut.file i ≡ None) → i ≡ cut.new + d
     → Freed (s.pages cut.file) s.frame (paged_from s cut.file (i + 1)) frame
-    → Leads (TruncateSteps t) b end (emptied s t cut.file cut.new (paged_from s cut.file (i + 1)) frame) (at.Want (record { truncation = cut; index = i; evicted = pages_from s cut.file (i + 1) }))
+    → Leads (TruncateSteps t) b end (emptied s t cut.file cut.new (paged_from s cut.file (i + 1)) frame)
+    (at.Want (record { truncation = cut; index = i; evicted = pages_from s cut.file (i + 1) }))
     → Cut s t cut b end
 indices s t cut zero i frame b end h bare e freed k =
     let o = one_index s t cut i frame b end h freed k in
     let last : nat_lt cut.new i ≡ false = grind (arith, nat_tests) in
     let same : i ≡ cut.new = omega arith in
     let slots = put_back s.slots (slot_of s.geometry cut.file i) (Some t) None (h.slots (slot_of s.geometry cut.file i)) in
-    let k1 = from_pool (λ j. record (emptied s t cut.file cut.new (paged_from s cut.file i) o.frame) { slots = slots j }) (goes_on o.leads (λ turn m r. if_false _ _ last r)) in
-    tail_ends s t cut o.frame b end h.unlocked bare (subst (λ (c : ℕ). Freed (s.pages cut.file) s.frame (paged_from s cut.file c) o.frame) same o.freed)
-    (subst (λ (c : ℕ). Leads (TruncateSteps t) b end (emptied s t cut.file cut.new (paged_from s cut.file c) o.frame) (at.Tail (record { truncation = cut; evicted = pages_from s cut.file c }))) same k1)
+    let k1 = from_pool (λ j.
+    record (emptied s t cut.file cut.new (paged_from s cut.file i) o.frame) { slots = slots j })
+    (goes_on o.leads (λ turn m r. if_false _ _ last r)) in
+    tail_ends s t cut o.frame b end h.unlocked bare
+    (subst (λ (c : ℕ). Freed (s.pages cut.file) s.frame (paged_from s cut.file c) o.frame) same o.freed)
+    (subst (λ (c : ℕ). Leads (TruncateSteps t) b end (emptied s t cut.file cut.new (paged_from s cut.file c) o.frame)
+    (at.Tail (record { truncation = cut; evicted = pages_from s cut.file c }))) same k1)
 indices s t cut (suc d) i frame b end h bare e freed k =
     let o = one_index s t cut i frame b end h freed k in
     let more : nat_lt cut.new i ≡ true = grind (arith, nat_tests) in
     let same : i ≡ i - 1 + 1 = omega arith in
     let slots = put_back s.slots (slot_of s.geometry cut.file i) (Some t) None (h.slots (slot_of s.geometry cut.file i)) in
-    let k1 = from_pool (λ j. record (emptied s t cut.file cut.new (paged_from s cut.file i) o.frame) { slots = slots j }) (goes_on o.leads (λ turn m r. if_true _ _ more r)) in
-    indices s t cut d (i - 1) o.frame b end h bare (omega arith) (subst (λ (c : ℕ). Freed (s.pages cut.file) s.frame (paged_from s cut.file c) o.frame) same o.freed)
-    (subst (λ (c : ℕ). Leads (TruncateSteps t) b end (emptied s t cut.file cut.new (paged_from s cut.file c) o.frame) (at.Want (record { truncation = cut; index = i - 1; evicted = pages_from s cut.file c }))) same k1)
+    let k1 = from_pool (λ j.
+    record (emptied s t cut.file cut.new (paged_from s cut.file i) o.frame) { slots = slots j })
+    (goes_on o.leads (λ turn m r. if_true _ _ more r)) in
+    indices s t cut d (i - 1) o.frame b end h bare (omega arith)
+    (subst (λ (c : ℕ). Freed (s.pages cut.file) s.frame (paged_from s cut.file c) o.frame) same o.freed)
+    (subst (λ (c : ℕ). Leads (TruncateSteps t) b end (emptied s t cut.file cut.new (paged_from s cut.file c) o.frame)
+    (at.Want (record { truncation = cut; index = i - 1; evicted = pages_from s cut.file c }))) same k1)
 
 -- above the pages nothing is to go
 none_above : (s : State) (f from : ℕ) → ((j : ℕ) → from ≤ j → s.pages f j ≡ None) → (j : ℕ) → paged_from s f from j ≡ false
@@ -242,7 +304,8 @@ none_above s f from bare j = here (nat_le from j) refl
 
 no_pages_above : (s : State) (f from : ℕ) → ((j : ℕ) → from ≤ j → s.pages f j ≡ None) → pages_from s f from ≡ 0
 unfolding count_within
-no_pages_above s f from bare = count_below_none (λ k. nat_le from k && is_some (s.pages f k)) s.geometry.limit (λ k l. none_above s f from bare k)
+no_pages_above s f from bare =
+    count_below_none (λ k. nat_le from k && is_some (s.pages f k)) s.geometry.limit (λ k l. none_above s f from bare k)
 
 -- under the lock
 size_cuts : (s : State) (t : ℕ) (cut : Truncation) (b : Answer) (end : Pool) → Ready s t cut.file
@@ -257,23 +320,35 @@ size_cuts s t cut b end h bare k =
     let top : cut.new < max (s.size cut.file) r.0 = grind (arith, nat_tests) in
     let i = max (s.size cut.file) r.0 - 1 in
     let none = λ (j : ℕ) (l : i + 1 ≤ j). r.1.0 j (omega arith) in
-    indices s t cut (i - cut.new) i s.frame b end h bare (omega arith) (freed_none (s.pages cut.file) s.frame (paged_from s cut.file (i + 1)) (none_above s cut.file (i + 1) none))
-    (subst (λ (c : ℕ). Leads (TruncateSteps t) b end (emptied s t cut.file cut.new (paged_from s cut.file (i + 1)) s.frame) (at.Want (record { truncation = cut; index = i; evicted = c }))) (sym (no_pages_above s cut.file (i + 1) none))
+    indices s t cut (i - cut.new) i s.frame b end h bare (omega arith)
+    (freed_none (s.pages cut.file) s.frame (paged_from s cut.file (i + 1)) (none_above s cut.file (i + 1) none))
+    (subst (λ (c : ℕ). Leads (TruncateSteps t) b end
+    (emptied s t cut.file cut.new (paged_from s cut.file (i + 1)) s.frame)
+    (at.Want (record { truncation = cut; index = i; evicted = c }))) (sym (no_pages_above s cut.file (i + 1) none))
     (starts (i + 1) none (at.Want (record { truncation = cut; index = i; evicted = 0 })) (moves z.3 r2))))
     (λ below r2.
     let top : max (s.size cut.file) r.0 ≤ cut.new = grind (arith, nat_tests) in
     let none = λ (j : ℕ) (l : cut.new ≤ j). r.1.0 j (omega arith) in
-    tail_ends s t cut s.frame b end h.unlocked bare (freed_none (s.pages cut.file) s.frame (paged_from s cut.file cut.new) (none_above s cut.file cut.new none))
-    (subst (λ (c : ℕ). Leads (TruncateSteps t) b end (emptied s t cut.file cut.new (paged_from s cut.file cut.new) s.frame) (at.Tail (record { truncation = cut; evicted = c }))) (sym (no_pages_above s cut.file cut.new none))
+    tail_ends s t cut s.frame b end h.unlocked bare
+    (freed_none (s.pages cut.file) s.frame (paged_from s cut.file cut.new) (none_above s cut.file cut.new none))
+    (subst (λ (c : ℕ). Leads (TruncateSteps t) b end
+    (emptied s t cut.file cut.new (paged_from s cut.file cut.new) s.frame)
+    (at.Tail (record { truncation = cut; evicted = c }))) (sym (no_pages_above s cut.file cut.new none))
     (starts cut.new none (at.Tail (record { truncation = cut; evicted = 0 })) (moves z.3 r2))))
   where
     starts : (from : ℕ) → ((j : ℕ) → from ≤ j → s.pages cut.file j ≡ None) → (phase : TruncatePhase)
-        → Leads (TruncateSteps t) b end (record (pool_of s) { locks = put s.locks cut.file (Some t); size = put s.size cut.file cut.new }) phase
+        → Leads (TruncateSteps t) b end
+        (record (pool_of s) { locks = put s.locks cut.file (Some t); size = put s.size cut.file cut.new }) phase
         → Leads (TruncateSteps t) b end (emptied s t cut.file cut.new (paged_from s cut.file from) s.frame) phase
     starts from none phase k =
         let pages = pages_none s.pages cut.file (paged_from s cut.file from) (none_above s cut.file from none) in
         let table = entries_none s.areas s.table cut.file (paged_from s cut.file from) (none_above s cut.file from none) in
-        from_pool (λ j. record (pool_of s) { locks = put s.locks cut.file (Some t); size = put s.size cut.file cut.new; pages = sym pages j; table = sym table j }) k
+        from_pool (λ j. record (pool_of s) {
+          locks = put s.locks cut.file (Some t);
+          size = put s.size cut.file cut.new;
+          pages = sym pages j;
+          table = sym table j;
+        }) k
 
 -- all indices from one on go, not only those with a page
 all_pages : (s : State) (f new : ℕ) → without_pages (s.pages f) (paged_from s f new) ≡ without_pages (s.pages f) (nat_le new)
@@ -325,22 +400,27 @@ all_entries s f new h = fun_ext (λ u. fun_ext (λ v. here u v (find (s.areas u)
         absurd (cc)
 
     here : (u v : ℕ) (found : Option (ℕ × ℕ)) (entry : Option ℕ) → find (s.areas u) v ≡ found → s.table u v ≡ entry
-        → ◌≡◌ {A = Option ℕ} (if is_gone f (paged_from s f new) found then None else entry) (if is_gone f (nat_le new) found then None else entry)
+        → ◌≡◌ {A = Option ℕ} (if is_gone f (paged_from s f new) found then None else entry)
+        (if is_gone f (nat_le new) found then None else entry)
     here u v None entry q e = refl
-    here u v (Some place) entry q e = ours (place.0 == f) (nat_le new place.1) (s.pages f place.1) entry (λ is none. none_there u v place entry q e is none)
+    here u v (Some place) entry q e =
+        ours (place.0 == f) (nat_le new place.1) (s.pages f place.1) entry (λ is none. none_there u v place entry q e is none)
 
 -- a truncation from its first phase on
 pub truncate_means : (s : State) (t f new : ℕ) (b : Answer) (n : State) → Inv s.geometry s → 1 ≤ s.geometry.tasks → IsReady s t
     → Comes call.Truncate (TruncateSteps t) s t b n (pool_of s) (at.Start (record { truncation = record { file = f; new = new } }))
     → (m : State) × Checked s f (nat_lt s.geometry.limit new) b m (TruncateMeans s f new b m) × Looks m n
 truncate_means s t f new b n h tasks ready (end, last, k, is) =
-    checked call.Truncate (TruncateSteps t) s t f (nat_lt s.geometry.limit new) b n end last _ (at.Size (record { truncation = cut })) Killed (TruncateMeans s f new) (free_lock s h ready.0 f) (ready.0 t) refl (λ turn m r. r) k is
+    checked call.Truncate (TruncateSteps t) s t f (nat_lt s.geometry.limit new) b n end last _
+    (at.Size (record { truncation = cut })) Killed (TruncateMeans s f new) (free_lock s h ready.0 f) (ready.0 t)
+    refl (λ turn m r. r) k is
     (λ _ _ k.
     let z = size_cuts s t cut b end there (h.inside.bare f) k in
     let pages = all_pages s f new in
     let table = all_entries s f new h in
     let calls = idle_again s t (ready.0 t) in
-    finish call.Truncate s t last (TruncateMeans s f new) _ (z.done, z.ends) is (z.frame, all_freed s f new z.frame z.freed, z.enough, (refl, refl))
+    finish call.Truncate s t last (TruncateMeans s f new) _ (z.done, z.ends) is
+    (z.frame, all_freed s f new z.frame z.freed, z.enough, (refl, refl))
     (λ j. record s {
       pool = record s.pool {
         size = put s.size f new;
@@ -357,4 +437,11 @@ truncate_means s t f new b n h tasks ready (end, last, k, is) =
     cut = record { file = f; new = new }
 
     there : Ready s t f
-    there = record { slots = free_slot s h ready.0; unlocked = free_lock s h ready.0 f; tasks = tasks; owned = h.entries.owners; low = λ i x e. (page_within f i x h.inside e).1 }
+    there =
+        record {
+          slots = free_slot s h ready.0;
+          unlocked = free_lock s h ready.0 f;
+          tasks = tasks;
+          owned = h.entries.owners;
+          low = λ i x e. (page_within f i x h.inside e).1;
+        }

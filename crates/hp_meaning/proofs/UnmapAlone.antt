@@ -47,8 +47,16 @@ unmap_means s t base b n ready (end, last, k, is) = by_base (is_base (s.areas t)
         let k2 = goes_on k1 (λ turn m r. r) in
         let z = ends_so k2 (λ turn m r. r) in
         finish call.Unmap s t last (UnmapMeans s t base) _ z is (so_true _ _ e (refl, refl))
-        (λ j. record s { pool = record s.pool { areas = put s.areas t (without (s.areas t) base); table = put s.table t (without_mapping (s.areas t) (s.table t) base) }; calls = calls j })
-    by_base false e = finish call.Unmap s t last (UnmapMeans s t base) s (ends_so k (λ turn m r. if_false _ _ e r)) is (so_false _ _ e (refl, refl)) (λ j. record s { calls = calls j })
+        (λ j. record s {
+          pool = record s.pool {
+            areas = put s.areas t (without (s.areas t) base);
+            table = put s.table t (without_mapping (s.areas t) (s.table t) base);
+          };
+          calls = calls j;
+        })
+    by_base false e =
+        finish call.Unmap s t last (UnmapMeans s t base) s (ends_so k (λ turn m r. if_false _ _ e r)) is
+        (so_false _ _ e (refl, refl)) (λ j. record s { calls = calls j })
 
 -- the task has these mappings and entries
 abbrev mapped : State → (task : ℕ) → List Mapping → (ℕ → Option ℕ) → Pool
@@ -96,12 +104,15 @@ clears_first : (s : State) (t : ℕ) (b : Answer) (end : Pool) (m : Mapping) (ms
     → Leads (ExitSteps t) b end (mapped s t (m ∷ ms) entries) (exit.Clear (record { base = m.base }))
     → Leads (ExitSteps t) b end (mapped s t (m ∷ ms) (without_mapping (m ∷ ms) entries m.base)) (exit.Drop (record { base = m.base }))
 clears_first s t b end m ms entries k =
-    let table = ap (λ (list : List Mapping). put (put s.table t entries) t (without_mapping list (put s.table t entries t) m.base)) (put_same s.areas t (m ∷ ms)) ∙ set_again s.table t entries (λ e. without_mapping (m ∷ ms) e m.base) in
+    let table = ap (λ (list : List Mapping). put (put s.table t entries) t
+    (without_mapping list (put s.table t entries t) m.base)) (put_same s.areas t (m ∷ ms))
+    ∙ set_again s.table t entries (λ e. without_mapping (m ∷ ms) e m.base) in
     from_pool (λ i. record (pool_of s) { areas = put s.areas t (m ∷ ms); table = table i }) (goes_on k (λ turn m r. r))
 
 -- the mappings after it are left
 first_left : (s : State) (t : ℕ) (m : Mapping) (ms : List Mapping) → first_base (without (put s.areas t (m ∷ ms) t) m.base) ≡ first_base ms
-first_left s t m ms = ap (λ (list : List Mapping). first_base (without list m.base)) (put_same s.areas t (m ∷ ms)) ∙ ap first_base (same_base m ms)
+first_left s t m ms =
+    ap (λ (list : List Mapping). first_base (without list m.base)) (put_same s.areas t (m ∷ ms)) ∙ ap first_base (same_base m ms)
 
 areas_left : (s : State) (t : ℕ) (m : Mapping) (ms : List Mapping)
     → put (put s.areas t (m ∷ ms)) t (without (put s.areas t (m ∷ ms) t) m.base) ≡ put s.areas t ms
@@ -129,7 +140,11 @@ pub exit_means : (s : State) (t : ℕ) (b : Answer) (n : State) → Inv s.geomet
 exit_means s t b n h ready (end, last, k, is) =
     let calls = idle_again s t (ready.0 t) in
     finish call.Exit s t last (ExitMeans s t) _ (by_areas (s.areas t) refl) is (refl, refl)
-    (λ j. record s { pool = record s.pool { areas = put s.areas t []; table = put s.table t (λ _. None) }; life = put s.life t Dead; calls = calls j })
+    (λ j. record s {
+      pool = record s.pool { areas = put s.areas t []; table = put s.table t (λ _. None) };
+      life = put s.life t Dead;
+      calls = calls j;
+    })
   where
     covered : Covered (s.areas t) (s.table t)
     covered v x e none = (let y = h.entries.agree t v x e in let z : None ≡ Some y.0 = sym none ∙ y.1 in absurd (cc))
@@ -139,10 +154,12 @@ exit_means s t b n h ready (end, last, k, is) =
         let k1 = goes_on k (λ turn m r. if_none _ _ (ap first_base e) r) in
         let z = ends_so k1 (λ turn m r. r) in
         let areas = sym (put_known s.areas t [] e) in
-        let table = sym (put_known s.table t (λ _. None) (none_left (s.table t) (subst (λ (list : List Mapping). Covered list (s.table t)) e covered))) in
+        let table = sym (put_known s.table t (λ _. None)
+        (none_left (s.table t) (subst (λ (list : List Mapping). Covered list (s.table t)) e covered))) in
         (z.0, z.1 ∙ (λ i. record (pool_of s) { areas = areas i; table = table i }))
     by_areas (m ∷ ms) e =
         let k1 = goes_on k (λ turn m r. if_some _ _ (ap first_base e) r) in
         let areas = sym (put_known s.areas t (m ∷ ms) e) in
         let table = sym (put_self s.table t) in
-        exits s t b end m ms (s.table t) (subst (λ (list : List Mapping). Covered list (s.table t)) e covered) (from_pool (λ i. record (pool_of s) { areas = areas i; table = table i }) k1)
+        exits s t b end m ms (s.table t) (subst (λ (list : List Mapping). Covered list (s.table t)) e covered)
+        (from_pool (λ i. record (pool_of s) { areas = areas i; table = table i }) k1)

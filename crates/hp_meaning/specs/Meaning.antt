@@ -1,6 +1,7 @@
 -- What a call means that runs alone: its answer and the state after it, operation by operation. Of the
 -- conditions of an operation the first that holds decides; what it doesn't name is as before.
-use Rattle.std.specs.Prelude.{◌≡◌, ◌≢◌, ℕ, ◌+◌, ◌-◌, ◌≤◌, ◌<◌, ◌⊎◌, ◌==◌, ◌&&◌, ◌||◌, Bool, true, false, not, Option, Some, None, is_some, List, [], ◌∷◌, max, nat_le, nat_lt, MatchBool, MatchOption, if◌then◌else◌}
+use Rattle.std.specs.Prelude.{◌≡◌, ◌≢◌, ℕ, ◌+◌, ◌-◌, ◌≤◌, ◌<◌, ◌⊎◌, ◌==◌, ◌&&◌, ◌||◌, Bool, true, false, not, Option, Some, None}
+use Rattle.std.specs.Prelude.{is_some, List, [], ◌∷◌, max, nat_le, nat_lt, MatchBool, MatchOption, if◌then◌else◌}
 use Rattle.hp_base.specs.Numbers.{put, put2, is_none}
 use Rattle.hp_base.specs.Indices.{is_within, count_within, missing, add_range, cut_tail}
 use Rattle.hp_base.specs.Mappings.{find, is_base, without, without_mapping, IsRoom, entered}
@@ -29,7 +30,8 @@ IsReady s t = ((u : ℕ) → s.calls u ≡ None) × (s.life t ≡ Alive)
 -- granted steps of the task, of which the last one alone ends its call, with that answer
 abbrev pub AreSteps : (task : ℕ) → Answer → List (Event × Outcome) → Type 0
 AreSteps t answer [] = ⊥
-AreSteps t answer (e ∷ es) = (e.0 ≡ Step t true) × (((e.1 ≡ Ended answer) × (es ≡ [])) ⊎ (((other : Answer) → e.1 ≢ Ended other) × AreSteps t answer es))
+AreSteps t answer (e ∷ es) =
+    (e.0 ≡ Step t true) × (((e.1 ≡ Ended answer) × (es ≡ [])) ⊎ (((other : Answer) → e.1 ≢ Ended other) × AreSteps t answer es))
 
 -- the task begins the call, and its granted steps alone lead to its end
 abbrev pub IsCall : (task : ℕ) → Op → Answer → List (Event × Outcome) → Type 0
@@ -104,11 +106,25 @@ PageMade s t vpn access f i answer m =
     MatchBool (s.reserved f i)
     ((x : ℕ) × (s.frame x ≡ Free) × (1 ≤ s.resv)
     × Gives (answer_of access 0)
-    (record s { pool = record s.pool { frame = frame_after access (put s.frame x (Placed 0)) x; resv = s.resv - 1; pages = put2 s.pages f i (Some x); table = put2 s.table t vpn (Some x) } }) answer m)
+    (record s {
+      pool = record s.pool {
+        frame = frame_after access (put s.frame x (Placed 0)) x;
+        resv = s.resv - 1;
+        pages = put2 s.pages f i (Some x);
+        table = put2 s.table t vpn (Some x);
+      };
+    }) answer m)
     (MatchBool (nat_lt 0 (available s))
     ((x : ℕ) × (s.frame x ≡ Free)
     × Gives (answer_of access 0)
-    (record s { pool = record s.pool { frame = frame_after access (put s.frame x (Placed 0)) x; reserved = put2 s.reserved f i true; pages = put2 s.pages f i (Some x); table = put2 s.table t vpn (Some x) } }) answer m)
+    (record s {
+      pool = record s.pool {
+        frame = frame_after access (put s.frame x (Placed 0)) x;
+        reserved = put2 s.reserved f i true;
+        pages = put2 s.pages f i (Some x);
+        table = put2 s.table t vpn (Some x);
+      };
+    }) answer m)
     (Gives NoFrame s answer m))
 
 -- Load and Store (Linux: `hugetlb_fault`). In no mapping: Segv. Index at or above the size: Beyond. The index
@@ -122,18 +138,28 @@ TouchMeans s t vpn access answer m =
     (MatchOption (s.pages place.0 place.1)
     (PageMade s t vpn access place.0 place.1 answer m)
     (λ x. (word : ℕ) × (s.frame x ≡ Placed word)
-    × Gives (answer_of access word) (record s { pool = record s.pool { frame = frame_after access s.frame x; table = put2 s.table t vpn (Some x) } }) answer m)))
+    × Gives (answer_of access word)
+    (record s { pool = record s.pool { frame = frame_after access s.frame x; table = put2 s.table t vpn (Some x) } }) answer m)))
 
 -- Unmap (Linux: `unmap_region`). No mapping with that base: NotMapped. Else it and its entries go: Done
 abbrev pub UnmapMeans : State → (task base : ℕ) → Answer → State → Type 0
 UnmapMeans s t base answer m =
     MatchBool (is_base (s.areas t) base)
-    (Gives Done (record s { pool = record s.pool { areas = put s.areas t (without (s.areas t) base); table = put s.table t (without_mapping (s.areas t) (s.table t) base) } }) answer m)
+    (Gives Done (record s {
+      pool = record s.pool {
+        areas = put s.areas t (without (s.areas t) base);
+        table = put s.table t (without_mapping (s.areas t) (s.table t) base);
+      };
+    }) answer m)
     (Gives NotMapped s answer m)
 
 -- Exit (Linux: `exit_mmap`). All mappings and entries of the task go, and it is dead: Done
 abbrev pub ExitMeans : State → (task : ℕ) → Answer → State → Type 0
-ExitMeans s t answer m = Gives Done (record s { pool = record s.pool { areas = put s.areas t []; table = put s.table t (λ _. None) }; life = put s.life t Dead }) answer m
+ExitMeans s t answer m =
+    Gives Done (record s {
+      pool = record s.pool { areas = put s.areas t []; table = put s.table t (λ _. None) };
+      life = put s.life t Dead;
+    }) answer m
 
 -- the pages of a file without those at the indices that go
 unfoldable pub without_pages : (ℕ → Option ℕ) → (gone : ℕ → Bool) → ℕ → Option ℕ
@@ -195,7 +221,8 @@ TruncateMeans s f new answer m =
 
 -- Each index of [from, to) has a page: the one it had, else a free frame with word 0. Pages elsewhere and frames that
 -- became no page are as they were, and as many frames fewer are free as there are new pages
-pub record Filled (frames : ℕ) (pages : ℕ → Option ℕ) (before : ℕ → FrameState) (from to : ℕ) (after : ℕ → Option ℕ) (frame : ℕ → FrameState) : Type 0 where
+pub record Filled (frames : ℕ) (pages : ℕ → Option ℕ) (before : ℕ → FrameState) (from to : ℕ) (after : ℕ → Option ℕ)
+    (frame : ℕ → FrameState) : Type 0 where
   pub fresh : (j : ℕ) → from ≤ j → j < to → pages j ≡ None → (x : ℕ) × (after j ≡ Some x) × (before x ≡ Free) × (frame x ≡ Placed 0)
   pub kept : (j x : ℕ) → pages j ≡ Some x → after j ≡ Some x
   pub elsewhere : (j : ℕ) → is_within from to j ≡ false → after j ≡ pages j
@@ -209,7 +236,15 @@ RangePaged s f from to size m =
     let gains = λ (j : ℕ). is_within from to j && is_none (s.pages f j) in
     let promised = count_within (λ j. s.reserved f j && is_none (s.pages f j)) from to in
     (pages : ℕ → Option ℕ) × (frame : ℕ → FrameState) × Filled s.frames (s.pages f) s.frame from to pages frame × (promised ≤ s.resv)
-    × (m ≡ record s { pool = record s.pool { frame = frame; pages = put s.pages f pages; reserved = put s.reserved f (λ j. s.reserved f j || gains j); resv = s.resv - promised; size = size } })
+    × (m ≡ record s {
+      pool = record s.pool {
+        frame = frame;
+        pages = put s.pages f pages;
+        reserved = put s.reserved f (λ j. s.reserved f j || gains j);
+        resv = s.resv - promised;
+        size = size;
+      };
+    })
 
 -- Alloc (Linux: `hugetlbfs_fallocate`). No more of the range is missing from the reserved indices than frames are
 -- available: the range is paged, and size grows to its end unless it is to be kept: Done. Else the range is

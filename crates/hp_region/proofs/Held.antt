@@ -19,7 +19,8 @@ is_member_below low (r ∷ rs) k apart below =
 overlap_of-count : (from to : ℕ) (r : Region) → count_within (is_within r.from r.to) from to ≡ overlap_of from to r
 unfolding count_within
 overlap_of-count from to r =
-    count_below-ext (λ k. nat_le from k && is_within r.from r.to k) (is_within (max r.from from) r.to) to (λ k below. grind (arith, nat_tests))
+    count_below-ext (λ k. nat_le from k && is_within r.from r.to k) (is_within (max r.from from) r.to) to
+    (λ k below. grind (arith, nat_tests))
     ∙ count_below-is_within (max r.from from) r.to to
 
 -- the walk counts the members
@@ -30,7 +31,8 @@ held_within-count low [] from to apart = sym (count_below_none (λ k. nat_le fro
 held_within-count low (r ∷ rs) from to apart =
     let rest = held_within-count (r.to + 1) rs from to apart.3 in
     let one = overlap_of-count from to r in
-    let both = count_below-sum (λ k. nat_le from k && is_within r.from r.to k) (λ k. nat_le from k && is_member rs k) (λ k. nat_le from k && (is_within r.from r.to k || is_member rs k)) to
+    let both = count_below-sum (λ k. nat_le from k && is_within r.from r.to k) (λ k. nat_le from k && is_member rs k)
+    (λ k. nat_le from k && (is_within r.from r.to k || is_member rs k)) to
     (λ k below. let out = is_member_below (r.to + 1) rs k apart.3 in grind (arith, nat_tests, out)) in
     omega (arith, rest, one, both)
 

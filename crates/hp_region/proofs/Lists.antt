@@ -37,7 +37,9 @@ ended_by (r ∷ rs) i = cond (nat_le r.to i) (suc (ended_by rs i)) (ended_by rs 
 
 -- what is left of a region without index i, which lies in it
 abbrev pub around : Region → ℕ → List Region
-around r i = cond (nat_lt r.from i) (record { from = r.from; to = i } ∷ []) [] ++ cond (nat_lt (i + 1) r.to) (record { from = i + 1; to = r.to } ∷ []) []
+around r i =
+    cond (nat_lt r.from i) (record { from = r.from; to = i } ∷ []) []
+    ++ cond (nat_lt (i + 1) r.to) (record { from = i + 1; to = r.to } ∷ []) []
 
 -- the regions without index i
 abbrev pub without : List Region → ℕ → List Region

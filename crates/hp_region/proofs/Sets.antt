@@ -1,5 +1,6 @@
 -- What is said of a list of regions, said of the set.
-use Rattle.std.proofs.Common.{◌≡◌, ℕ, ◌+◌, ◌-◌, ◌<◌, ◌≤◌, Bool, true, false, cond, not, ◌&&◌, ◌||◌, List, [], ◌∷◌, length, get_or, refl, sym, ap, ◌∙◌, true≢false, subst, arith}
+use Rattle.std.proofs.Common.{◌≡◌, ℕ, ◌+◌, ◌-◌, ◌<◌, ◌≤◌, Bool, true, false, cond, not, ◌&&◌, ◌||◌, List, [], ◌∷◌, length, get_or}
+use Rattle.std.proofs.Common.{refl, sym, ap, ◌∙◌, true≢false, subst, arith}
 use Rattle.std.specs.Prelude.{nat_lt, nat_eq}
 use Rattle.std.proofs.Math.Path.{fun_ext}
 use Rattle.std.proofs.lemmas.Bool.Decides.{nat_tests}
@@ -13,7 +14,8 @@ use Rattle.hp_region.specs.Regions.{is_member, IsApartFrom}
 use Rattle.hp_region.proofs.Lists.{meets, falls_apart, held_within, ended_by, with_range, without, below}
 use Rattle.hp_region.proofs.Held.{is_member_below, held_within-count}
 use Rattle.hp_region.proofs.Walked.{is_member-with_range, IsApartFrom-with_range}
-use Rattle.hp_region.proofs.Sought.{is_member-without, is_member-below, IsApartFrom-without, IsApartFrom-below, falls_apart_none_outside, falls_apart_is, held_place}
+use Rattle.hp_region.proofs.Sought.{is_member-without, is_member-below, IsApartFrom-without, IsApartFrom-below}
+use Rattle.hp_region.proofs.Sought.{falls_apart_none_outside, falls_apart_is, held_place}
 
 -- a region falls apart without i where i and both its neighbours are in the set
 pub falls_apart-splits : (low : ℕ) (rs : List Region) (i : ℕ) → IsApartFrom low rs → falls_apart rs i ≡ splits (is_member rs) i
@@ -47,7 +49,8 @@ region_count-length low [] apart = count_below_none (λ k. false) LIMIT (λ k be
 region_count-length low (r ∷ rs) apart =
     let rest = region_count-length (r.to + 1) rs apart.3 in
     let last : ℕ → Bool = is_within (r.to - 1) r.to in
-    let parts = count_below-sum last (λ k. is_member rs k && not (is_member rs (k + 1))) (λ k. (is_within r.from r.to k || is_member rs k) && not (is_within r.from r.to (k + 1) || is_member rs (k + 1))) LIMIT
+    let parts = count_below-sum last (λ k. is_member rs k && not (is_member rs (k + 1)))
+    (λ k. (is_within r.from r.to k || is_member rs k) && not (is_within r.from r.to (k + 1) || is_member rs (k + 1))) LIMIT
     (λ k below.
     let here = is_member_below (r.to + 1) rs k apart.3 in
     let after = is_member_below (r.to + 1) rs (k + 1) apart.3 in
@@ -93,18 +96,27 @@ member_below_limit low (r ∷ rs) i apart there =
 -- what the lists that a walk makes are, as sets
 pub with_range_is : (rs new : List Region) (from to : ℕ) → IsApartFrom 0 rs → from < to → to ≤ LIMIT → new ≡ with_range rs from to
     → (IsApartFrom 0 new) × (is_member new ≡ add_range (is_member rs) from to)
-with_range_is rs new from to apart order limit is =
-    (let P : List Region → Type 0 = IsApartFrom 0 in subst P (sym is) (IsApartFrom-with_range 0 rs from to apart (omega arith) order limit), ap is_member is ∙ with_range-add_range rs from to apart order)
+with_range_is rs new from to apart order limit is = (
+  let P : List Region → Type 0 = IsApartFrom 0 in
+      subst P (sym is) (IsApartFrom-with_range 0 rs from to apart (omega arith) order limit),
+  ap is_member is ∙ with_range-add_range rs from to apart order,
+)
 
 pub without_is : (rs new : List Region) (i : ℕ) → IsApartFrom 0 rs → new ≡ without rs i
     → (IsApartFrom 0 new) × (is_member new ≡ put (is_member rs) i false)
-without_is rs new i apart is =
-    (let P : List Region → Type 0 = IsApartFrom 0 in subst P (sym is) (IsApartFrom-without 0 rs i apart), ap is_member is ∙ without-put rs i apart)
+without_is rs new i apart is = (
+  let P : List Region → Type 0 = IsApartFrom 0 in
+      subst P (sym is) (IsApartFrom-without 0 rs i apart),
+  ap is_member is ∙ without-put rs i apart,
+)
 
 pub below_is : (rs new : List Region) (i : ℕ) → IsApartFrom 0 rs → new ≡ below rs i
     → (IsApartFrom 0 new) × (is_member new ≡ cut_tail (is_member rs) i)
-below_is rs new i apart is =
-    (let P : List Region → Type 0 = IsApartFrom 0 in subst P (sym is) (IsApartFrom-below 0 rs i apart), ap is_member is ∙ below-cut_tail rs i apart)
+below_is rs new i apart is = (
+  let P : List Region → Type 0 = IsApartFrom 0 in
+      subst P (sym is) (IsApartFrom-below 0 rs i apart),
+  ap is_member is ∙ below-cut_tail rs i apart,
+)
 
 inside : (from to i : ℕ) → is_within from to i ≡ true → (from ≤ i) × (i < to)
 inside from to i e = (grind (arith, nat_tests), grind (arith, nat_tests))

@@ -1,5 +1,6 @@
 -- What the place that `seek` finds says of the regions.
-use Rattle.std.proofs.Common.{◌≡◌, ℕ, zero, suc, ◌+◌, ◌-◌, ◌/◌, ◌*◌, ◌^◌, ◌<◌, ◌≤◌, Bool, true, false, cond, not, ◌&&◌, ◌||◌, List, [], ◌∷◌, ◌++◌, length, get_or, set, take, drop, refl, sym, ap, ◌∙◌, arith, add-one}
+use Rattle.std.proofs.Common.{◌≡◌, ℕ, zero, suc, ◌+◌, ◌-◌, ◌/◌, ◌*◌, ◌^◌, ◌<◌, ◌≤◌, Bool, true, false, cond, not, ◌&&◌, ◌||◌}
+use Rattle.std.proofs.Common.{List, [], ◌∷◌, ◌++◌, length, get_or, set, take, drop, refl, sym, ap, ◌∙◌, arith, add-one}
 use Rattle.std.specs.Prelude.{nat_le, nat_lt, nat_eq, count_by}
 use Rattle.std.proofs.Math.Nat.{pow-suc, div-lt_iff_lt-mul}
 use Rattle.std.specs.List.{insert, remove}
@@ -29,7 +30,8 @@ pub is_member-sought : (low : ℕ) (rs : List Region) (i : ℕ) (d : Region) →
 is_member-sought low [] i d apart = refl
 is_member-sought low (r ∷ rs) i d apart =
     let rest = is_member-sought (r.to + 1) rs i d apart.3 in
-    cond_both (nat_le r.to i) (suc (ended_by rs i)) (ended_by rs i) (λ n. (is_within r.from r.to i || is_member rs i) ≡ (nat_lt n (suc (length rs)) && nat_le (get_or (r ∷ rs) n d).from i))
+    cond_both (nat_le r.to i) (suc (ended_by rs i)) (ended_by rs i)
+    (λ n. (is_within r.from r.to i || is_member rs i) ≡ (nat_lt n (suc (length rs)) && nat_le (get_or (r ∷ rs) n d).from i))
     (λ e. grind (arith, nat_tests, rest))
     (λ e.
     let inside = leb-false _ _ e in
@@ -46,7 +48,8 @@ is_member-around : (r : Region) (i k : ℕ) → r.from ≤ i → i < r.to → is
 is_member-around r i k above inside =
     let left : Region = record { from = r.from; to = i } in
     let right : Region = record { from = i + 1; to = r.to } in
-    let parts = list_any-append (λ (s : Region). is_within s.from s.to k) (cond (nat_lt r.from i) (left ∷ []) []) (cond (nat_lt (i + 1) r.to) (right ∷ []) []) in
+    let parts = list_any-append (λ (s : Region). is_within s.from s.to k) (cond (nat_lt r.from i) (left ∷ []) [])
+    (cond (nat_lt (i + 1) r.to) (right ∷ []) []) in
     let first = is_member_when (nat_lt r.from i) left k in
     let second = is_member_when (nat_lt (i + 1) r.to) right k in
     parts ∙ rw (first, second) (grind (arith, nat_tests))
@@ -117,11 +120,14 @@ splits_none low (r ∷ rs) i apart above =
 
 -- only the region at that place can be split
 pub falls_apart-sought : (low : ℕ) (rs : List Region) (i : ℕ) (d : Region) → IsApartFrom low rs
-    → falls_apart rs i ≡ (nat_lt (ended_by rs i) (length rs) && (nat_lt (get_or rs (ended_by rs i) d).from i && nat_lt (i + 1) (get_or rs (ended_by rs i) d).to))
+    → falls_apart rs i ≡ (nat_lt (ended_by rs i) (length rs)
+    && (nat_lt (get_or rs (ended_by rs i) d).from i && nat_lt (i + 1) (get_or rs (ended_by rs i) d).to))
 falls_apart-sought low [] i d apart = refl
 falls_apart-sought low (r ∷ rs) i d apart =
     let rest = falls_apart-sought (r.to + 1) rs i d apart.3 in
-    cond_both (nat_le r.to i) (suc (ended_by rs i)) (ended_by rs i) (λ n. ((nat_lt r.from i && nat_lt (i + 1) r.to) || falls_apart rs i) ≡ (nat_lt n (suc (length rs)) && (nat_lt (get_or (r ∷ rs) n d).from i && nat_lt (i + 1) (get_or (r ∷ rs) n d).to)))
+    cond_both (nat_le r.to i) (suc (ended_by rs i)) (ended_by rs i)
+    (λ n. ((nat_lt r.from i && nat_lt (i + 1) r.to) || falls_apart rs i) ≡ (nat_lt n (suc (length rs))
+    && (nat_lt (get_or (r ∷ rs) n d).from i && nat_lt (i + 1) (get_or (r ∷ rs) n d).to)))
     (λ e. grind (arith, nat_tests, rest))
     (λ e.
     let inside = leb-false _ _ e in
@@ -166,7 +172,8 @@ ended_before low (r ∷ rs) i (suc k) d apart = λ within ends.
 pub ended_past : (low : ℕ) (rs : List Region) (i k : ℕ) (d : Region) → IsApartFrom low rs → k < length rs → i < (get_or rs k d).to
     → ended_by rs i ≤ k
 ended_past low [] i k d apart = λ within over. absurd (omega arith)
-ended_past low (r ∷ rs) i zero d apart = λ within over. rw (lt-leb r.to i over, ended_by_none (r.to + 1) rs i apart.3 (omega arith)) (omega arith)
+ended_past low (r ∷ rs) i zero d apart =
+    λ within over. rw (lt-leb r.to i over, ended_by_none (r.to + 1) rs i apart.3 (omega arith)) (omega arith)
 ended_past low (r ∷ rs) i (suc k) d apart = λ within over.
     let rest = ended_past (r.to + 1) rs i k d apart.3 (omega arith) over in
     grind (arith, rest)
@@ -188,11 +195,19 @@ zero_lt n = grind (arith, nat_tests)
 
 -- the cut, by the place
 pub below-sought : (low : ℕ) (rs : List Region) (i : ℕ) (d : Region) → IsApartFrom low rs
-    → below rs i ≡ take (ended_by rs i) rs ++ cond (nat_lt (ended_by rs i) (length rs) && nat_lt (get_or rs (ended_by rs i) d).from i) (record { from = (get_or rs (ended_by rs i) d).from; to = i } ∷ []) []
+    → below rs i ≡ take (ended_by rs i) rs
+    ++ cond (nat_lt (ended_by rs i) (length rs) && nat_lt (get_or rs (ended_by rs i) d).from i)
+    (record { from = (get_or rs (ended_by rs i) d).from; to = i } ∷ []) []
 below-sought low [] i d apart = refl
 below-sought low (r ∷ rs) i d apart =
     let rest = below-sought (r.to + 1) rs i d apart.3 in
-    elim (nat_le r.to i) as (λ b. nat_le r.to i ≡ b → cond b (r ∷ below rs i) (cond (nat_lt r.from i) (record { from = r.from; to = i } ∷ []) []) ≡ take (cond b (suc (ended_by rs i)) (ended_by rs i)) (r ∷ rs) ++ cond (nat_lt (cond b (suc (ended_by rs i)) (ended_by rs i)) (suc (length rs)) && nat_lt (get_or (r ∷ rs) (cond b (suc (ended_by rs i)) (ended_by rs i)) d).from i) (record { from = (get_or (r ∷ rs) (cond b (suc (ended_by rs i)) (ended_by rs i)) d).from; to = i } ∷ []) []) [
+    elim (nat_le r.to i) as
+    (λ b. nat_le r.to i ≡ b
+    → cond b (r ∷ below rs i) (cond (nat_lt r.from i) (record { from = r.from; to = i } ∷ []) []) ≡ take
+    (cond b (suc (ended_by rs i)) (ended_by rs i)) (r ∷ rs)
+    ++ cond (nat_lt (cond b (suc (ended_by rs i)) (ended_by rs i)) (suc (length rs))
+    && nat_lt (get_or (r ∷ rs) (cond b (suc (ended_by rs i)) (ended_by rs i)) d).from i)
+    (record { from = (get_or (r ∷ rs) (cond b (suc (ended_by rs i)) (ended_by rs i)) d).from; to = i } ∷ []) []) [
       | true ↦ λ e. rw (nat_lt-suc (ended_by rs i) (length rs)) (ap (λ xs. r ∷ xs) rest)
       | false ↦ λ e. rw (ended_by_none (r.to + 1) rs i apart.3 (omega (arith, leb-false _ _ e)), zero_lt (length rs)) refl
     ] refl
@@ -204,9 +219,16 @@ pub without-sought : (low : ℕ) (rs : List Region) (i : ℕ) (d : Region) → I
 without-sought low [] i d apart = λ within above. absurd (omega arith)
 without-sought low (r ∷ rs) i d apart =
     let rest = without-sought (r.to + 1) rs i d apart.3 in
-    elim (nat_le r.to i) as (λ b. nat_le r.to i ≡ b → cond b (suc (ended_by rs i)) (ended_by rs i) < suc (length rs) → (get_or (r ∷ rs) (cond b (suc (ended_by rs i)) (ended_by rs i)) d).from ≤ i → cond b (r ∷ without rs i) (cond (nat_lt i r.from) (r ∷ rs) (around r i ++ rs)) ≡ take (cond b (suc (ended_by rs i)) (ended_by rs i)) (r ∷ rs) ++ (around (get_or (r ∷ rs) (cond b (suc (ended_by rs i)) (ended_by rs i)) d) i ++ drop (suc (cond b (suc (ended_by rs i)) (ended_by rs i))) (r ∷ rs))) [
+    elim (nat_le r.to i) as
+    (λ b. nat_le r.to i ≡ b → cond b (suc (ended_by rs i)) (ended_by rs i) < suc (length rs)
+    → (get_or (r ∷ rs) (cond b (suc (ended_by rs i)) (ended_by rs i)) d).from ≤ i
+    → cond b (r ∷ without rs i) (cond (nat_lt i r.from) (r ∷ rs) (around r i ++ rs)) ≡ take
+    (cond b (suc (ended_by rs i)) (ended_by rs i)) (r ∷ rs)
+    ++ (around (get_or (r ∷ rs) (cond b (suc (ended_by rs i)) (ended_by rs i)) d) i
+    ++ drop (suc (cond b (suc (ended_by rs i)) (ended_by rs i))) (r ∷ rs))) [
       | true ↦ λ e within above. ap (λ xs. r ∷ xs) (rest (omega arith) above)
-      | false ↦ λ e. rw (ended_by_none (r.to + 1) rs i apart.3 (omega (arith, leb-false _ _ e))) (λ within above. rw (le-ltb i r.from above) refl)
+      | false ↦ λ e. rw (ended_by_none (r.to + 1) rs i apart.3 (omega (arith, leb-false _ _ e)))
+          (λ within above. rw (le-ltb i r.from above) refl)
     ] refl
 
 set-split : {X : Type 0} (xs : List X) (i : ℕ) (y : X) → i < length xs → set xs i y ≡ take i xs ++ (y ∷ drop (suc i) xs)
@@ -228,7 +250,8 @@ falls_apart_none_outside (r ∷ rs) i out =
     grind (arith, nat_tests, rest)
 
 -- the edits at that place which take i out of the region r there
-module _ (rs : List Region) (at i : ℕ) (r : Region) (apart : IsApartFrom 0 rs) (sought : at ≡ ended_by rs i) (within : at < length rs) (read : r ≡ get_or rs at r) (above : r.from ≤ i) where
+module _ (rs : List Region) (at i : ℕ) (r : Region) (apart : IsApartFrom 0 rs) (sought : at ≡ ended_by rs i)
+    (within : at < length rs) (read : r ≡ get_or rs at r) (above : r.from ≤ i) where
   without_at : without rs i ≡ take at rs ++ (around r i ++ drop (suc at) rs)
   without_at =
       let here : ended_by rs i < length rs = omega arith in
@@ -246,7 +269,9 @@ module _ (rs : List Region) (at i : ℕ) (r : Region) (apart : IsApartFrom 0 rs)
 
   pub split_is : nat_lt r.from i ≡ true → nat_lt (i + 1) r.to ≡ true
       → insert (set rs at (record { from = r.from; to = i })) (at + 1) (record { from = i + 1; to = r.to }) ≡ without rs i
-  split_is first second = rw add-one (insert-set rs at (record { from = r.from; to = i }) (record { from = i + 1; to = r.to }) within ∙ sym (without_at ∙ rw (first, second) refl))
+  split_is first second =
+      rw add-one (insert-set rs at (record { from = r.from; to = i }) (record { from = i + 1; to = r.to }) within
+      ∙ sym (without_at ∙ rw (first, second) refl))
 
   pub falls_apart_is : falls_apart rs i ≡ (nat_lt r.from i && nat_lt (i + 1) r.to)
   falls_apart_is =
@@ -289,7 +314,10 @@ pub with_range-sought : (low : ℕ) (rs : List Region) (from to : ℕ) → IsApa
 with_range-sought low [] from to apart = refl
 with_range-sought low (r ∷ rs) from to apart =
     let rest = with_range-sought (r.to + 1) rs from to apart.3 in
-    elim (nat_lt r.to from) as (λ b. nat_lt r.to from ≡ b → cond b (r ∷ with_range rs from to) (absorb (r ∷ rs) from to) ≡ take (ended_by (r ∷ rs) (from - 1)) (r ∷ rs) ++ absorb (drop (ended_by (r ∷ rs) (from - 1)) (r ∷ rs)) from to) [
+    elim (nat_lt r.to from) as
+    (λ b. nat_lt r.to from ≡ b
+    → cond b (r ∷ with_range rs from to) (absorb (r ∷ rs) from to) ≡ take (ended_by (r ∷ rs) (from - 1)) (r ∷ rs)
+    ++ absorb (drop (ended_by (r ∷ rs) (from - 1)) (r ∷ rs)) from to) [
       | true ↦ λ e. let before = ltb-true r.to from e in rw (le-leb r.to (from - 1) (omega arith)) (ap (λ xs. r ∷ xs) rest)
       | false ↦ λ e.
           let past = ltb-false r.to from e in
@@ -303,7 +331,10 @@ pub meets-sought : (low : ℕ) (rs : List Region) (from to : ℕ) → IsApartFro
 meets-sought low [] from to apart = refl
 meets-sought low (r ∷ rs) from to apart =
     let rest = meets-sought (r.to + 1) rs from to apart.3 in
-    elim (nat_lt r.to from) as (λ b. nat_lt r.to from ≡ b → ((nat_le from r.to && nat_le r.from to) || meets rs from to) ≡ meets (drop (ended_by (r ∷ rs) (from - 1)) (r ∷ rs)) from to) [
+    elim (nat_lt r.to from) as
+    (λ b. nat_lt r.to from ≡ b
+    → ((nat_le from r.to && nat_le r.from to) || meets rs from to) ≡ meets
+    (drop (ended_by (r ∷ rs) (from - 1)) (r ∷ rs)) from to) [
       | true ↦ λ e. let before = ltb-true r.to from e in rw (le-leb r.to (from - 1) (omega arith), lt-leb from r.to before) rest
       | false ↦ λ e.
           let past = ltb-false r.to from e in
@@ -317,7 +348,9 @@ pub held_within-sought : (low : ℕ) (rs : List Region) (from to : ℕ) → IsAp
 held_within-sought low [] from to apart = refl
 held_within-sought low (r ∷ rs) from to apart =
     let rest = held_within-sought (r.to + 1) rs from to apart.3 in
-    elim (nat_le r.to from) as (λ b. nat_le r.to from ≡ b → held_within (drop (cond b (suc (ended_by rs from)) (ended_by rs from)) (r ∷ rs)) from to ≡ held_within (r ∷ rs) from to) [
+    elim (nat_le r.to from) as
+    (λ b. nat_le r.to from ≡ b
+    → held_within (drop (cond b (suc (ended_by rs from)) (ended_by rs from)) (r ∷ rs)) from to ≡ held_within (r ∷ rs) from to) [
       | true ↦ λ e. let before = leb-true r.to from e in omega (arith, rest)
       | false ↦ λ e. let past = leb-false r.to from e in rw (ended_by_none (r.to + 1) rs from apart.3 (omega arith)) refl
     ] refl
@@ -337,7 +370,8 @@ held_within_past low (r ∷ rs) zero from to d apart past =
     let beyond = past (omega arith) in
     let rest = held_within_none (r.to + 1) rs from to apart.3 (omega (arith, apart.1)) in
     omega (arith, rest)
-held_within_past low (r ∷ rs) (suc at) from to d apart past = held_within_past (r.to + 1) rs at from to d apart.3 (λ within. past (omega arith))
+held_within_past low (r ∷ rs) (suc at) from to d apart past =
+    held_within_past (r.to + 1) rs at from to d apart.3 (λ within. past (omega arith))
 
 -- a region that holds i stands at that place
 pub held_place : (low : ℕ) (rs : List Region) (k i : ℕ) (d : Region) → IsApartFrom low rs → k < length rs

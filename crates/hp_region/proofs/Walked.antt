@@ -22,7 +22,8 @@ pub is_member-absorb : (low : ℕ) (rs : List Region) (from to k : ℕ) → IsAp
     → is_member (absorb rs from to) k ≡ (is_within from to k || is_member rs k)
 is_member-absorb low [] from to k apart order above = refl
 is_member-absorb low (r ∷ rs) from to k apart order above =
-    let rest = is_member-absorb (r.to + 1) rs (min from r.from) (max to r.to) k apart.3 (omega arith) (next_ends_above (r.to + 1) (min from r.from) rs apart.3 (omega arith)) in
+    let rest = is_member-absorb (r.to + 1) rs (min from r.from) (max to r.to) k apart.3 (omega arith)
+    (next_ends_above (r.to + 1) (min from r.from) rs apart.3 (omega arith)) in
     grind (arith, nat_tests, rest)
 
 pub IsApartFrom_lower : (low high : ℕ) (rs : List Region) → IsApartFrom high rs → low ≤ high → IsApartFrom low rs
@@ -34,7 +35,9 @@ pub IsApartFrom-absorb : (low : ℕ) (rs : List Region) (from to : ℕ) → IsAp
 IsApartFrom-absorb low [] from to apart above order limit = (above, order, limit, tt)
 IsApartFrom-absorb low (r ∷ rs) from to apart above order limit =
     cond_both (nat_le r.from to) _ _ (IsApartFrom low)
-    (λ e. IsApartFrom-absorb low rs (min from r.from) (max to r.to) (IsApartFrom_lower low (r.to + 1) rs apart.3 (omega (arith, apart.0, apart.1))) (omega (arith, apart.0)) (omega (arith, apart.1)) (omega (arith, apart.2)))
+    (λ e. IsApartFrom-absorb low rs (min from r.from) (max to r.to)
+    (IsApartFrom_lower low (r.to + 1) rs apart.3 (omega (arith, apart.0, apart.1))) (omega (arith, apart.0))
+    (omega (arith, apart.1)) (omega (arith, apart.2)))
     (λ e. (above, order, limit, (omega (arith, leb-false _ _ e), apart.1, apart.2, apart.3)))
 
 -- the range is added, and nothing else

@@ -123,7 +123,8 @@ impl RegionMap {
         ensures apart { IsApartFrom 0 self.now.regions }
 
         // So the set alone tells them.
-        ensures told { (other : List Region) → IsApartFrom 0 other → is_member other ≡ is_member self.now.regions → other ≡ self.now.regions }
+        ensures told { (other : List Region) → IsApartFrom 0 other → is_member other ≡ is_member self.now.regions
+            → other ≡ self.now.regions }
     {
         self.regions.len()
     }

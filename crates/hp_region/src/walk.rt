@@ -1,5 +1,7 @@
 //! Walks over a sorted list of regions.
-ghost use Rattle.std.specs.Prelude.{◌≡◌, ℕ, ◌^◌, ◌+◌, ◌++◌, ◌∷◌, take, drop, ◌-◌, ◌<◌, ◌≤◌, ◌↔◌, true, false, min, max, not, nat_le, length, count_by, IsTrue, IsSome, IfSome, slice_index_or, vec_len, vec_capacity, if◌then◌else◌};
+ghost use Rattle.std.specs.Prelude.{◌≡◌, ℕ, ◌^◌, ◌+◌, ◌++◌, ◌∷◌, take, drop, ◌-◌, ◌<◌, ◌≤◌, ◌↔◌, true, false, min, max, not};
+ghost use Rattle.std.specs.Prelude.{nat_le, length, count_by, IsTrue, IsSome, IfSome, slice_index_or, vec_len, vec_capacity};
+ghost use Rattle.std.specs.Prelude.{if◌then◌else◌};
 ghost use Rattle.hp_base.specs.Indices.{is_within, count_within, add_range, cut_tail, touches, splits};
 ghost use Rattle.hp_base.specs.Numbers.{put};
 ghost use Rattle.hp_region.specs.Regions.{is_member, IsApartFrom};
@@ -108,7 +110,8 @@ pub fn find(regions: &[Region], index: Index) -> Option<usize>
     requires apart { IsApartFrom 0 regions.now }
     ensures found { IsSome result ↔ IsTrue (is_member regions.now index) }
     ensures in_range { IfSome result (λ at. at < length regions.now) }
-    ensures holds { IfSome result (λ at. (d : Region) → is_within (slice_index_or regions.now at d).from (slice_index_or regions.now at d).to index ≡ true) }
+    ensures holds { IfSome result
+        (λ at. (d : Region) → is_within (slice_index_or regions.now at d).from (slice_index_or regions.now at d).to index ≡ true) }
 {
     let (at, _) = seek(regions, index);
     if at < regions.len() && regions[at].from <= index {
@@ -133,11 +136,13 @@ pub fn is_split(regions: &[Region], at: usize, index: Index) -> bool
 pub fn carve(regions: &mut Vec<Region>, at: usize, index: Index)
     requires apart { IsApartFrom 0 regions.old.items }
     requires in_range { at < vec_len regions.old }
-    requires holds { (d : Region) → is_within (slice_index_or regions.old.items at d).from (slice_index_or regions.old.items at d).to index ≡ true }
+    requires holds { (d : Region)
+        → is_within (slice_index_or regions.old.items at d).from (slice_index_or regions.old.items at d).to index ≡ true }
     requires room { IsTrue (splits (is_member regions.old.items) index) → vec_len regions.old < vec_capacity regions.old }
     ensures apart { IsApartFrom 0 regions.new.items }
     ensures members { is_member regions.new.items ≡ put (is_member regions.old.items) index false }
-    ensures len { vec_len regions.new ≤ (if splits (is_member regions.old.items) index then vec_len regions.old + 1 else vec_len regions.old) }
+    ensures len { vec_len regions.new
+        ≤ (if splits (is_member regions.old.items) index then vec_len regions.old + 1 else vec_len regions.old) }
     ensures capacity { vec_capacity regions.new ≡ vec_capacity regions.old }
 {
     let Region { from, to } = regions[at];

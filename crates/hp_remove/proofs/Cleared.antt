@@ -18,4 +18,5 @@ pub still_cleared : (xs : List Table) (n t base : ℕ) (d : Table) → 1 ≤ t �
     → IsTrue (in_mapping d.mappings base v) → get d.entries v ≡ None
 unfolding areas_of entries_of
 still_cleared xs n t base d low high e is bare v within =
-    subst (λ (y : Table). in_mapping y.mappings base v ≡ true → get y.entries v ≡ None) (sym (table_read xs n t d low high e is)) (bare v) within
+    subst (λ (y : Table). in_mapping y.mappings base v ≡ true → get y.entries v ≡ None)
+    (sym (table_read xs n t d low high e is)) (bare v) within

@@ -25,19 +25,24 @@ pub drop_row : (s mid new : Pool) (t : ℕ) (p : Drop) (turn : Turn ExitPhase)
 drop_row s mid new t p turn e row =
     let after = record s { areas = put s.areas t (without (s.areas t) p.base) } in
     let there = subst (λ (q : Pool). ExitStartRow q t turn new) e row in
-    subst (λ (ms : List Mapping). MatchOption (first_base ms) (Goes exit.Leave after turn new) (λ base. Goes (exit.Clear (record { base = base })) after turn new)) (put_same s.areas t (without (s.areas t) p.base)) there
+    subst (λ (ms : List Mapping). MatchOption (first_base ms) (Goes exit.Leave after turn new)
+    (λ base. Goes (exit.Clear (record { base = base })) after turn new)) (put_same s.areas t (without (s.areas t) p.base)) there
 
 -- the size is set, and the top was the larger of the old size and the end of the pages
 pub size_row : (s new : Pool) (p : Size) (turn : Turn TruncatePhase) (top : ℕ)
     → ((end : ℕ) × IsPagesEnd (s.pages p.truncation.file) end × (top ≡ max (s.size p.truncation.file) end))
     → MatchBool (nat_lt p.truncation.new top)
-    (Goes (truncate.Want (record { truncation = p.truncation; index = top - 1; evicted = 0 })) (record s { size = put s.size p.truncation.file p.truncation.new }) turn new)
-    (Goes (truncate.Tail (record { truncation = p.truncation; evicted = 0 })) (record s { size = put s.size p.truncation.file p.truncation.new }) turn new)
+    (Goes (truncate.Want (record { truncation = p.truncation; index = top - 1; evicted = 0 }))
+    (record s { size = put s.size p.truncation.file p.truncation.new }) turn new)
+    (Goes (truncate.Tail (record { truncation = p.truncation; evicted = 0 }))
+    (record s { size = put s.size p.truncation.file p.truncation.new }) turn new)
     → TruncateSizeRow s p turn new
 size_row s new p turn top is row = (
   is.0,
   is.1,
   subst (λ (n : ℕ). MatchBool (nat_lt p.truncation.new n)
-      (Goes (truncate.Want (record { truncation = p.truncation; index = n - 1; evicted = 0 })) (record s { size = put s.size p.truncation.file p.truncation.new }) turn new)
-      (Goes (truncate.Tail (record { truncation = p.truncation; evicted = 0 })) (record s { size = put s.size p.truncation.file p.truncation.new }) turn new)) is.2 row,
+      (Goes (truncate.Want (record { truncation = p.truncation; index = n - 1; evicted = 0 }))
+      (record s { size = put s.size p.truncation.file p.truncation.new }) turn new)
+      (Goes (truncate.Tail (record { truncation = p.truncation; evicted = 0 }))
+      (record s { size = put s.size p.truncation.file p.truncation.new }) turn new)) is.2 row,
 )

@@ -42,7 +42,8 @@ TruncateFits s t (truncate.Unmap p) = IsTaskOf s p.task × (s.geometry.tasks < 2
 TruncateFits s t (truncate.Evict p) = IsFileOf s p.truncation.file × HasPage s p.truncation.file p.index × (p.evicted ≤ s.geometry.limit)
 TruncateFits s t (truncate.Free p) = IsHeld s p.held
 TruncateFits s t (truncate.Unslot p) = s.slots (slot_of s.geometry p.truncation.file p.index) ≡ Some t
-TruncateFits s t (truncate.Tail p) = IsFileOf s p.truncation.file × (p.evicted ≤ count_within (s.reserved p.truncation.file) p.truncation.new s.geometry.limit)
+TruncateFits s t (truncate.Tail p) =
+    IsFileOf s p.truncation.file × (p.evicted ≤ count_within (s.reserved p.truncation.file) p.truncation.new s.geometry.limit)
 TruncateFits s t (truncate.Settle p) = p.surplus ≤ s.resv
 TruncateFits s t (truncate.Leave p) = s.locks p.truncation.file ≡ Some t
 

@@ -56,7 +56,8 @@ pub fn clear_mapping(parts: &mut Parts, task: Task, base: Vpn)
 pub fn drop_mapping(parts: &mut Parts, task: Task, base: Vpn)
     requires task { IsTaskOf (view parts.old) task }
     requires bare { IsCleared (view parts.old) task base }
-    ensures after { view parts.new ≡ record (view parts.old) { areas = put (view parts.old).areas task (without ((view parts.old).areas task) base) } }
+    ensures after { view parts.new
+        ≡ record (view parts.old) { areas = put (view parts.old).areas task (without ((view parts.old).areas task) base) } }
     ensures sizes { SizesStay (state_of parts.old) (state_of parts.new) }
 {
     parts.spaces[(task.number() - 1) as usize].drop_mapping(base);

@@ -1,7 +1,8 @@
 //! One function for each phase of a punch (Linux: `hugetlbfs_punch_hole`, `remove_inode_hugepages`).
 ghost use Rattle.std.specs.Prelude.{◌≡◌, ◌≤◌, ◌<◌, ◌+◌, ◌^◌, true, Some, IfOk, IfErr, OnErr};
 ghost use Rattle.hp_machine.specs.State.{slot_of};
-ghost use Rattle.hp_machine.specs.PunchRows.{PunchRow, PunchStartRow, PunchWantRow, PunchLockedRow, PunchUnmapRow, PunchEvictRow, PunchDeleteRow, PunchFreeRow, PunchUnslotRow, PunchLeaveRow};
+ghost use Rattle.hp_machine.specs.PunchRows.{PunchRow, PunchStartRow, PunchWantRow, PunchLockedRow, PunchUnmapRow, PunchEvictRow};
+ghost use Rattle.hp_machine.specs.PunchRows.{PunchDeleteRow, PunchFreeRow, PunchUnslotRow, PunchLeaveRow};
 ghost use Rattle.hp_machine.specs.Wants.{punch_wants};
 ghost use Rattle.hp_machine.specs.Standings.{standing};
 ghost use Rattle.hp_machine.specs.declared.call.Call.TheVariants as call;

@@ -1,5 +1,6 @@
 -- Where a fault comes, no line stands.
-use Rattle.std.proofs.Common.{◌≡◌, ℕ, zero, suc, ◌+◌, ◌<◌, List, [], ◌∷◌, ◌++◌, length, Option, Some, None, refl, sym, ap, subst, ◌∙◌, arith, append_assoc, length-append, inl, inr, ◌⊎◌}
+use Rattle.std.proofs.Common.{◌≡◌, ℕ, zero, suc, ◌+◌, ◌<◌, List, [], ◌∷◌, ◌++◌, length, Option, Some, None, refl, sym, ap, subst}
+use Rattle.std.proofs.Common.{◌∙◌, arith, append_assoc, length-append, inl, inr, ◌⊎◌}
 use Rattle.std.proofs.lemmas.List.{append-nil}
 use Rattle.hp_base.specs.Text.{sizes_text, event_text}
 use Rattle.hp_replay.specs.declared.fault.ReplayFault.{ReplayFault}
@@ -66,19 +67,29 @@ pub record Refuses (h : Held) (b : ℕ) (next : Held × Option Line) : Type 0 wh
 all_lines : (n : ℕ) (bytes : List ℕ) → n ≡ 1000001 → NoLine n bytes
 all_lines n bytes e = subst (λ (k : ℕ). NoLine k bytes) (sym e) (inl refl)
 
-pub refuses : (h : Held) (b : ℕ) (fault : ReplayFault) → h.fault ≡ None → IsHeld h → (take_byte h b).0.fault ≡ Some fault → Refuses h b (take_byte h b)
+pub refuses : (h : Held) (b : ℕ) (fault : ReplayFault) → h.fault ≡ None → IsHeld h
+    → (take_byte h b).0.fault ≡ Some fault → Refuses h b (take_byte h b)
 refuses h b fault none is bad = by (take_byte h b) (byte_case h b none) bad
   where
     by : (next : Held × Option Line) → ByteCase h b next → next.0.fault ≡ Some fault → Refuses h b next
     by next (full n e) bad = record { is = e; bad = λ back. all_lines h.lines _ n }
-    by next (takes_none end n e) bad = record { is = e; bad = λ back. subst (λ (x : ℕ). NoLine h.lines (h.rest ++ (x ∷ back))) (sym end) (unread h.lines h.rest back is.no_end n) }
+    by next (takes_none end n e) bad =
+        record {
+          is = e;
+          bad = λ back. subst (λ (x : ℕ). NoLine h.lines (h.rest ++ (x ∷ back))) (sym end)
+              (unread h.lines h.rest back is.no_end n);
+        }
     by next (too_long other n e) bad =
         let len : length (h.rest ++ (b ∷ [])) ≡ length h.rest + 1 = length-append h.rest (b ∷ []) in
         record {
           is = e;
-          bad = λ back. subst (λ (x : List ℕ). NoLine h.lines x) (append_assoc h.rest (b ∷ []) back) (past_width h.lines (h.rest ++ (b ∷ [])) back (HasNoEnd-append h.rest (b ∷ []) is.no_end (rw other refl)) (omega arith));
+          bad =
+              λ back. subst (λ (x : List ℕ). NoLine h.lines x) (append_assoc h.rest (b ∷ []) back)
+              (past_width h.lines (h.rest ++ (b ∷ [])) back
+              (HasNoEnd-append h.rest (b ∷ []) is.no_end (rw other refl)) (omega arith));
         }
-    by next (takes_line l few end n e) bad = absurd (no_fault next (record { lines = h.lines + 1; rest = []; fault = None }, Some l) e refl bad)
+    by next (takes_line l few end n e) bad =
+        absurd (no_fault next (record { lines = h.lines + 1; rest = []; fault = None }, Some l) e refl bad)
       where
         no_fault : (next x : Held × Option Line) → next ≡ x → x.0.fault ≡ None → next.0.fault ≡ Some fault → ⊥
         no_fault next x e p q = let same = ap (λ (y : Held × Option Line). y.0.fault) e in cc
@@ -99,13 +110,16 @@ pub record Stops (h : Held) (bytes : List ℕ) (fault : ReplayFault) : Type 0 wh
   pub fault_is : fault ≡ fault_at (held_after h front).lines
   pub bad : (later : List ℕ) → NoLine (held_after h front).lines ((held_after h front).rest ++ (back ++ later))
 
-pub stops : (h : Held) (bytes : List ℕ) (fault : ReplayFault) → h.fault ≡ None → IsHeld h → (held_after h bytes).fault ≡ Some fault → Stops h bytes fault
+pub stops : (h : Held) (bytes : List ℕ) (fault : ReplayFault) → h.fault ≡ None → IsHeld h
+    → (held_after h bytes).fault ≡ Some fault → Stops h bytes fault
 unfolding held_after lines_after
 stops h [] fault none is bad = absurd (none_some h.fault fault none bad)
 stops h (b ∷ bytes) fault none is bad =
-    by (take_byte h b).0.fault refl (λ (ok : (take_byte h b).0.fault ≡ None). stops (take_byte h b).0 bytes fault ok (keeps_held h b none is).held bad)
+    by (take_byte h b).0.fault refl
+    (λ (ok : (take_byte h b).0.fault ≡ None). stops (take_byte h b).0 bytes fault ok (keeps_held h b none is).held bad)
   where
-    by : (f : Option ReplayFault) → (take_byte h b).0.fault ≡ f → ((take_byte h b).0.fault ≡ None → Stops (take_byte h b).0 bytes fault) → Stops h (b ∷ bytes) fault
+    by : (f : Option ReplayFault) → (take_byte h b).0.fault ≡ f
+        → ((take_byte h b).0.fault ≡ None → Stops (take_byte h b).0 bytes fault) → Stops h (b ∷ bytes) fault
     by None ok later =
         let more = later ok in
         record {

@@ -1,5 +1,6 @@
 -- What one byte does to what is held.
-use Rattle.std.proofs.Common.{◌≡◌, ℕ, ◌+◌, ◌-◌, ◌*◌, ◌<◌, ◌≤◌, Bool, true, false, cond, eqb, [], ◌∷◌, ◌++◌, length, Option, Some, None, refl, sym, subst, arith, length-append}
+use Rattle.std.proofs.Common.{◌≡◌, ℕ, ◌+◌, ◌-◌, ◌*◌, ◌<◌, ◌≤◌, Bool, true, false, cond, eqb, [], ◌∷◌, ◌++◌, length, Option, Some}
+use Rattle.std.proofs.Common.{None, refl, sym, subst, arith, length-append}
 use Rattle.std.proofs.lemmas.Bool.{eqb-true, eqb-false}
 use Rattle.hp_replay.specs.declared.fault.ReplayFault.{ReplayFault}
 use Rattle.hp_replay.specs.Lines.{Held, Line, line_at, end_line, take_byte, next_byte, unless_fault, with_fault}
@@ -9,16 +10,21 @@ use Rattle.hp_replay.specs.Traces.{HasNoEnd, inside}
 -- what happens at a byte where there is no fault
 pub data ByteCase (h : Held) (b : ℕ) (next : Held × Option Line) : Type 0 where
   full : h.lines ≡ 1000001 → next ≡ (with_fault h, None) → ByteCase h b next
-  takes_line : (l : Line) → (h.lines ≡ 1000001 → ⊥) → b ≡ 10 → line_at h.lines h.rest ≡ Some l → next ≡ (record { lines = h.lines + 1; rest = []; fault = None }, Some l) → ByteCase h b next
+  takes_line : (l : Line) → (h.lines ≡ 1000001 → ⊥) → b ≡ 10 → line_at h.lines h.rest ≡ Some l
+      → next ≡ (record { lines = h.lines + 1; rest = []; fault = None }, Some l) → ByteCase h b next
   takes_none : b ≡ 10 → line_at h.lines h.rest ≡ None → next ≡ (with_fault h, None) → ByteCase h b next
   too_long : inside b ≡ true → length h.rest ≡ 56 → next ≡ (with_fault h, None) → ByteCase h b next
-  grows : (h.lines ≡ 1000001 → ⊥) → inside b ≡ true → (length h.rest ≡ 56 → ⊥) → next ≡ (record h { rest = h.rest ++ b ∷ [] }, None) → ByteCase h b next
+  grows : (h.lines ≡ 1000001 → ⊥) → inside b ≡ true → (length h.rest ≡ 56 → ⊥)
+      → next ≡ (record h { rest = h.rest ++ b ∷ [] }, None) → ByteCase h b next
 
 pub byte_case : (h : Held) (b : ℕ) → h.fault ≡ None → ByteCase h b (take_byte h b)
 unfolding take_byte
-byte_case h b none = subst (λ (f : Option ReplayFault). ByteCase h b (unless_fault f h (next_byte h b))) (sym none) (by_lines (eqb h.lines 1000001) refl)
+byte_case h b none =
+    subst (λ (f : Option ReplayFault). ByteCase h b (unless_fault f h (next_byte h b))) (sym none)
+    (by_lines (eqb h.lines 1000001) refl)
   where
-    by_long : (is_long : Bool) → eqb (length h.rest) 56 ≡ is_long → eqb h.lines 1000001 ≡ false → eqb b 10 ≡ false → ByteCase h b (cond {A = Held × Option Line} is_long (with_fault h, None) (record h { rest = h.rest ++ b ∷ [] }, None))
+    by_long : (is_long : Bool) → eqb (length h.rest) 56 ≡ is_long → eqb h.lines 1000001 ≡ false → eqb b 10 ≡ false
+        → ByteCase h b (cond {A = Held × Option Line} is_long (with_fault h, None) (record h { rest = h.rest ++ b ∷ [] }, None))
     by_long true is few other = too_long (rw other refl) (eqb-true _ _ is) refl
     by_long false is few other = grows (eqb-false _ _ few) (rw other refl) (eqb-false _ _ is) refl
 
@@ -26,11 +32,16 @@ byte_case h b none = subst (λ (f : Option ReplayFault). ByteCase h b (unless_fa
     by_line (Some l) is few end = takes_line l (eqb-false _ _ few) end is refl
     by_line None is few end = takes_none end is refl
 
-    by_end : (end : Bool) → eqb b 10 ≡ end → eqb h.lines 1000001 ≡ false → ByteCase h b (cond {A = Held × Option Line} end (end_line h (line_at h.lines h.rest)) (cond (eqb (length h.rest) 56) (with_fault h, None) (record h { rest = h.rest ++ b ∷ [] }, None)))
+    by_end : (end : Bool) → eqb b 10 ≡ end → eqb h.lines 1000001 ≡ false
+        → ByteCase h b (cond {A = Held × Option Line} end (end_line h (line_at h.lines h.rest))
+        (cond (eqb (length h.rest) 56) (with_fault h, None) (record h { rest = h.rest ++ b ∷ [] }, None)))
     by_end true is few = by_line (line_at h.lines h.rest) refl few (eqb-true _ _ is)
     by_end false is few = by_long (eqb (length h.rest) 56) refl few is
 
-    by_lines : (all : Bool) → eqb h.lines 1000001 ≡ all → ByteCase h b (cond {A = Held × Option Line} all (with_fault h, None) (cond (eqb b 10) (end_line h (line_at h.lines h.rest)) (cond (eqb (length h.rest) 56) (with_fault h, None) (record h { rest = h.rest ++ b ∷ [] }, None))))
+    by_lines : (all : Bool) → eqb h.lines 1000001 ≡ all
+        → ByteCase h b (cond {A = Held × Option Line} all (with_fault h, None)
+        (cond (eqb b 10) (end_line h (line_at h.lines h.rest))
+        (cond (eqb (length h.rest) 56) (with_fault h, None) (record h { rest = h.rest ++ b ∷ [] }, None))))
     by_lines true is = full (eqb-true _ _ is) refl
     by_lines false is = by_end (eqb b 10) refl is
 
@@ -50,7 +61,11 @@ pub record KeepsHeld (h next : Held) : Type 0 where
   pub smaller : next.fault ≡ None → room next < room h
 
 failed : (h : Held) → IsHeld h → KeepsHeld h (with_fault h)
-failed h is = record { held = record { lines = is.lines; rest = is.rest; no_end = is.no_end }; smaller = λ (e : (with_fault h).fault ≡ None). absurd (some_none e) }
+failed h is =
+    record {
+      held = record { lines = is.lines; rest = is.rest; no_end = is.no_end };
+      smaller = λ (e : (with_fault h).fault ≡ None). absurd (some_none e);
+    }
   where
     some_none : {A : Type 0} {x : A} → Some x ≡ None → ⊥
     some_none e = cc
@@ -75,4 +90,11 @@ keeps_held h b none is = by (take_byte h b) (byte_case h b none)
         let fits = is.rest in
         let len : length (h.rest ++ (b ∷ [])) ≡ length h.rest + 1 = length-append h.rest (b ∷ []) in
         same next (record h { rest = h.rest ++ b ∷ [] }, None) e
-        (record { held = record { lines = is.lines; rest = omega arith; no_end = HasNoEnd-append h.rest (b ∷ []) is.no_end (rw other refl) }; smaller = λ _. omega arith })
+        (record {
+          held = record {
+            lines = is.lines;
+            rest = omega arith;
+            no_end = HasNoEnd-append h.rest (b ∷ []) is.no_end (rw other refl);
+          };
+          smaller = λ _. omega arith;
+        })

@@ -1,5 +1,6 @@
 -- A trace that is kept while it is read, piece by piece.
-use Rattle.std.proofs.Common.{◌≡◌, ℕ, zero, suc, ◌+◌, ◌<◌, List, [], ◌∷◌, ◌++◌, length, drop, Option, Some, None, refl, sym, ap, subst, ◌∙◌, append_assoc, length-append, arith, inl, inr, ◌⊎◌}
+use Rattle.std.proofs.Common.{◌≡◌, ℕ, zero, suc, ◌+◌, ◌<◌, List, [], ◌∷◌, ◌++◌, length, drop, Option, Some, None, refl, sym, ap}
+use Rattle.std.proofs.Common.{subst, ◌∙◌, append_assoc, length-append, arith, inl, inr, ◌⊎◌}
 use Rattle.std.specs.Prelude.{map, IfSome, Ok, Err}
 use Rattle.std.specs.Io.BufRead.{take_through}
 use Rattle.std.specs.Io.KnownBytes.{Consumes, IsAtEnd}
@@ -30,9 +31,11 @@ pub record Adding (held now : Held) (old new : List Line) (piece rest : List ℕ
   pub no_fault : now.fault ≡ None
   pub count : now.lines ≡ length new
 
-pub starts : (held : Held) (old : List Line) (piece : List ℕ) → held.fault ≡ None → held.lines ≡ length old → Adding held held old old piece piece
+pub starts : (held : Held) (old : List Line) (piece : List ℕ) → held.fault ≡ None → held.lines ≡ length old
+    → Adding held held old old piece piece
 unfolding held_after lines_after
-starts held old piece ok count = record { front = []; parts = refl; taken = refl; lines = sym (append-nil old); no_fault = ok; count = count }
+starts held old piece ok count =
+    record { front = []; parts = refl; taken = refl; lines = sym (append-nil old); no_fault = ok; count = count }
 
 can_follow : (n : ℕ) (line : Line) (lines : List Line) → n ≡ length lines → AreLines n (line ∷ []) → CanFollow lines line
 can_follow zero (header s) [] count are = tt
@@ -43,39 +46,56 @@ can_follow (suc n) (event e) [] count are = absurd (omega arith)
 can_follow (suc n) (event e) (l ∷ lines) count are = tt
 
 -- a line that comes follows those that are there
-pub line_can_follow : (h next : Held) (line : Option Line) (rest : List ℕ) (lines : List Line) → next ≡ held_after h (take_through 10 rest) → listed line [] ≡ lines_after h (take_through 10 rest) → next.fault ≡ None → h.lines ≡ length lines → CanFollowIfSome lines line
+pub line_can_follow : (h next : Held) (line : Option Line) (rest : List ℕ) (lines : List Line)
+    → next ≡ held_after h (take_through 10 rest) → listed line [] ≡ lines_after h (take_through 10 rest)
+    → next.fault ≡ None → h.lines ≡ length lines → CanFollowIfSome lines line
 line_can_follow h next None rest lines held is ok count = tt
 line_can_follow h next (Some line) rest lines held is ok count =
     let s = spelled h (take_through 10 rest) (ap (λ (x : Held). x.fault) (sym held) ∙ ok) in
     can_follow h.lines line lines count (subst (λ (ls : List Line). AreLines h.lines ls) (sym is) s.are)
 
-pub adds : (held h next : Held) (old mid new : List Line) (piece rest left : List ℕ) (line : Option Line) → Adding held h old mid piece rest → TookLine h next line rest left → new ≡ mid ++ listed line [] → Adding held next old new piece left
+pub adds : (held h next : Held) (old mid new : List Line) (piece rest left : List ℕ) (line : Option Line)
+    → Adding held h old mid piece rest → TookLine h next line rest left → new ≡ mid ++ listed line []
+    → Adding held next old new piece left
 adds held h next old mid new piece rest left line a t is =
     let first = take_through 10 rest in
     let s = spelled h first (ap (λ (x : Held). x.fault) (sym t.held) ∙ t.ok) in
-    let taken : next ≡ held_after held (a.front ++ first) = t.held ∙ ap (λ (x : Held). held_after x first) a.taken ∙ sym (held_after-append held a.front first) in
+    let taken : next ≡ held_after held (a.front ++ first) =
+    t.held ∙ ap (λ (x : Held). held_after x first) a.taken ∙ sym (held_after-append held a.front first) in
     let more : listed line [] ≡ lines_after (held_after held a.front) first = t.lines ∙ ap (λ (x : Held). lines_after x first) a.taken in
-    let all : lines_after held (a.front ++ first) ≡ lines_after held a.front ++ listed line [] = lines_after-append held a.front first ∙ ap (λ (x : List Line). lines_after held a.front ++ x) (sym more) in
-    let count : next.lines ≡ h.lines + length (listed line []) = ap (λ (x : Held). x.lines) t.held ∙ s.lines ∙ ap (λ (x : List Line). h.lines + length x) (sym t.lines) in
-    let longer : length new ≡ length mid + length (listed line []) = ap (λ (x : List Line). length x) is ∙ length-append mid (listed line []) in
+    let all : lines_after held (a.front ++ first) ≡ lines_after held a.front ++ listed line [] =
+    lines_after-append held a.front first ∙ ap (λ (x : List Line). lines_after held a.front ++ x) (sym more) in
+    let count : next.lines ≡ h.lines + length (listed line []) =
+    ap (λ (x : Held). x.lines) t.held ∙ s.lines ∙ ap (λ (x : List Line). h.lines + length x) (sym t.lines) in
+    let longer : length new ≡ length mid + length (listed line []) =
+    ap (λ (x : List Line). length x) is ∙ length-append mid (listed line []) in
     let before = a.count in
     record {
       front = a.front ++ first;
-      parts = a.parts ∙ ap (λ (x : List ℕ). a.front ++ x) (through_parts rest ∙ ap (λ (x : List ℕ). first ++ x) (sym t.left_is)) ∙ sym (append_assoc a.front first left);
+      parts =
+          a.parts ∙ ap (λ (x : List ℕ). a.front ++ x)
+          (through_parts rest ∙ ap (λ (x : List ℕ). first ++ x) (sym t.left_is)) ∙ sym (append_assoc a.front first left);
       taken = taken;
-      lines = is ∙ ap (λ (x : List Line). x ++ listed line []) a.lines ∙ append_assoc old (lines_after held a.front) (listed line []) ∙ ap (λ (x : List Line). old ++ x) (sym all);
+      lines =
+          is ∙ ap (λ (x : List Line). x ++ listed line []) a.lines
+          ∙ append_assoc old (lines_after held a.front) (listed line []) ∙ ap (λ (x : List Line). old ++ x) (sym all);
       no_fault = t.ok;
       count = omega arith;
     }
 
 -- a bad line ends the piece
-pub not_added : (held h next : Held) (old mid : List Line) (piece rest : List ℕ) (fault : ReplayFault) → Adding held h old mid piece rest → next ≡ held_after h (take_through 10 rest) → next.fault ≡ Some fault → PieceNotKept fault held piece next
+pub not_added : (held h next : Held) (old mid : List Line) (piece rest : List ℕ) (fault : ReplayFault)
+    → Adding held h old mid piece rest → next ≡ held_after h (take_through 10 rest) → next.fault ≡ Some fault
+    → PieceNotKept fault held piece next
 not_added held h next old mid piece rest fault a held_is failed =
     let first = take_through 10 rest in
     let left = drop (length first) rest in
     let s = stays next fault left failed in
-    let whole : next ≡ held_after h (first ++ left) = sym s.0 ∙ ap (λ (x : Held). held_after x left) held_is ∙ sym (held_after-append h first left) in
-    let all : next ≡ held_after held (a.front ++ rest) = whole ∙ ap (λ (x : List ℕ). held_after h x) (sym (through_parts rest)) ∙ ap (λ (x : Held). held_after x rest) a.taken ∙ sym (held_after-append held a.front rest) in
+    let whole : next ≡ held_after h (first ++ left) =
+    sym s.0 ∙ ap (λ (x : Held). held_after x left) held_is ∙ sym (held_after-append h first left) in
+    let all : next ≡ held_after held (a.front ++ rest) =
+    whole ∙ ap (λ (x : List ℕ). held_after h x) (sym (through_parts rest))
+    ∙ ap (λ (x : Held). held_after x rest) a.taken ∙ sym (held_after-append held a.front rest) in
     inl (failed, all ∙ ap (λ (x : List ℕ). held_after held x) (sym a.parts))
 
 -- ---- between two reads
@@ -91,7 +111,8 @@ pub begins : (from : Option (List ℕ)) → Drafting from from opening_held []
 unfolding held_after lines_after
 begins from = record { bytes = []; reads = Consumes-nil from; held = refl; lines_are = refl; no_fault = refl }
 
-held_ok : {from to : Option (List ℕ)} (h : Held) (lines : List Line) (d : Drafting from to h lines) → (held_after opening_held d.bytes).fault ≡ None
+held_ok : {from to : Option (List ℕ)} (h : Held) (lines : List Line) (d : Drafting from to h lines)
+    → (held_after opening_held d.bytes).fault ≡ None
 held_ok h lines d = ap (λ (x : Held). x.fault) (sym d.held) ∙ d.no_fault
 
 pub counts : (from to : Option (List ℕ)) (h : Held) (lines : List Line) → Drafting from to h lines → h.lines ≡ length lines
@@ -99,17 +120,23 @@ counts from to h lines d =
     let t = taken d.bytes (held_ok h lines d) in
     ap (λ (x : Held). x.lines) d.held ∙ t.lines ∙ ap (λ (x : List Line). length x) (sym d.lines_are)
 
-pub goes_on : (from mid to : Option (List ℕ)) (h h' : Held) (lines more : List Line) (piece : List ℕ) → Drafting from mid h lines → Consumes mid to piece → h' ≡ held_after h piece → more ≡ lines ++ lines_after h piece → h'.fault ≡ None → Drafting from to h' more
+pub goes_on : (from mid to : Option (List ℕ)) (h h' : Held) (lines more : List Line) (piece : List ℕ)
+    → Drafting from mid h lines → Consumes mid to piece → h' ≡ held_after h piece → more ≡ lines ++ lines_after h piece
+    → h'.fault ≡ None → Drafting from to h' more
 goes_on from mid to h h' lines more piece d read held is ok =
     record {
       bytes = d.bytes ++ piece;
       reads = Consumes-trans from mid to d.bytes piece d.reads read;
       held = held ∙ ap (λ (x : Held). held_after x piece) d.held ∙ sym (held_after-append opening_held d.bytes piece);
-      lines_are = is ∙ ap (λ (x : List Line). x ++ lines_after h piece) d.lines_are ∙ ap (λ (x : Held). lines_after opening_held d.bytes ++ lines_after x piece) d.held ∙ sym (lines_after-append opening_held d.bytes piece);
+      lines_are =
+          is ∙ ap (λ (x : List Line). x ++ lines_after h piece) d.lines_are
+          ∙ ap (λ (x : Held). lines_after opening_held d.bytes ++ lines_after x piece) d.held
+          ∙ sym (lines_after-append opening_held d.bytes piece);
       no_fault = ok;
     }
 
-pub smaller : (from to : Option (List ℕ)) (h h' : Held) (lines : List Line) (piece : List ℕ) → Drafting from to h lines → h' ≡ held_after h piece → h'.fault ≡ None → 0 < length piece → room h' < room h
+pub smaller : (from to : Option (List ℕ)) (h h' : Held) (lines : List Line) (piece : List ℕ)
+    → Drafting from to h lines → h' ≡ held_after h piece → h'.fault ≡ None → 0 < length piece → room h' < room h
 smaller from to h h' lines piece d held ok some =
     let is : IsHeld h = subst (λ (x : Held). IsHeld x) (sym d.held) (holds opening_held d.bytes opening_is (held_ok h lines d)).held in
     let later = holds h piece is (ap (λ (x : Held). x.fault) (sym held) ∙ ok) in
@@ -120,7 +147,8 @@ smaller from to h h' lines piece d held ok some =
 -- ---- what is answered
 
 -- what is wrong with all bytes of the reader
-known_fault : (from to : Option (List ℕ)) (bytes : List ℕ) (fault : ReplayFault) → Consumes from to bytes → IfSome to (λ left. HasFault (bytes ++ left) fault) → IfSome from (λ all. HasFault all fault)
+known_fault : (from to : Option (List ℕ)) (bytes : List ℕ) (fault : ReplayFault) → Consumes from to bytes
+    → IfSome to (λ left. HasFault (bytes ++ left) fault) → IfSome from (λ all. HasFault all fault)
 known_fault None to bytes fault reads bad = tt
 known_fault (Some all) None bytes fault reads bad = absurd reads
 known_fault (Some all) (Some left) bytes fault reads bad = subst (λ (x : List ℕ). HasFault x fault) (sym reads) bad
@@ -135,7 +163,8 @@ pub record Answers (from : Option (List ℕ)) (fault : ReplayFault) : Type 0 whe
   pub bad : IfSome from (λ all. HasFault all fault)
   pub only : IsLineFault fault → IfSome from (λ all. ¬ (SpellsSome all))
 
-none_spelled : (from : Option (List ℕ)) (fault : ReplayFault) → IfSome from (λ all. HasFault all fault) → IsLineFault fault → IfSome from (λ all. ¬ (SpellsSome all))
+none_spelled : (from : Option (List ℕ)) (fault : ReplayFault) → IfSome from (λ all. HasFault all fault)
+    → IsLineFault fault → IfSome from (λ all. ¬ (SpellsSome all))
 none_spelled None fault bad is = tt
 none_spelled (Some all) fault bad is = λ (s : SpellsSome all). no_fault all fault s.sizes s.events is bad s.spells
 
@@ -148,16 +177,20 @@ read_failed from = answers from Read tt (for_some from _ (λ _. tt))
 pub memory : (from : Option (List ℕ)) → Answers from Memory
 memory from = answers from Memory tt (for_some from _ (λ _. tt))
 
-pub piece_failed : (from mid to : Option (List ℕ)) (h h' : Held) (lines : List Line) (piece : List ℕ) (fault : ReplayFault) → Drafting from mid h lines → Consumes mid to piece → PieceNotKept fault h piece h' → Answers from fault
+pub piece_failed : (from mid to : Option (List ℕ)) (h h' : Held) (lines : List Line) (piece : List ℕ)
+    (fault : ReplayFault) → Drafting from mid h lines → Consumes mid to piece → PieceNotKept fault h piece h' → Answers from fault
 piece_failed from mid to h h' lines piece fault d read (inr is) = subst (λ (f : ReplayFault). Answers from f) (sym is) (memory from)
 piece_failed from mid to h h' lines piece fault d read (inl (failed, held)) =
-    let whole : h' ≡ held_after opening_held (d.bytes ++ piece) = held ∙ ap (λ (x : Held). held_after x piece) d.held ∙ sym (held_after-append opening_held d.bytes piece) in
+    let whole : h' ≡ held_after opening_held (d.bytes ++ piece) =
+    held ∙ ap (λ (x : Held). held_after x piece) d.held ∙ sym (held_after-append opening_held d.bytes piece) in
     let stopped : (held_after opening_held (d.bytes ++ piece)).fault ≡ Some fault = ap (λ (x : Held). x.fault) (sym whole) ∙ failed in
     let s = stops opening_held (d.bytes ++ piece) fault refl opening_is stopped in
     answers from fault (subst IsReadFault (sym s.fault_is) (line_fault (held_after opening_held s.front).lines))
-    (known_fault from to (d.bytes ++ piece) fault (Consumes-trans from mid to d.bytes piece d.reads read) (for_some to _ (λ left. fault_of (d.bytes ++ piece) fault left stopped)))
+    (known_fault from to (d.bytes ++ piece) fault (Consumes-trans from mid to d.bytes piece d.reads read)
+    (for_some to _ (λ left. fault_of (d.bytes ++ piece) fault left stopped)))
 
-pub end_failed : (from mid to : Option (List ℕ)) (h : Held) (lines : List Line) (fault : ReplayFault) → Drafting from mid h lines → Consumes mid to [] → IsAtEnd to → end_of h ≡ Err fault → Answers from fault
+pub end_failed : (from mid to : Option (List ℕ)) (h : Held) (lines : List Line) (fault : ReplayFault)
+    → Drafting from mid h lines → Consumes mid to [] → IsAtEnd to → end_of h ≡ Err fault → Answers from fault
 end_failed from mid to h lines fault d read all ended = by (end_cases h (Err fault) d.no_fault ended)
   where
     err_ok : (f : ReplayFault) → with_error f ≡ Ok tt → ⊥
@@ -168,13 +201,17 @@ end_failed from mid to h lines fault d read all ended = by (end_cases h (Err fau
 
     at_end : (to : Option (List ℕ)) → IsAtEnd to → HasFault d.bytes fault → IfSome to (λ left. HasFault ((d.bytes ++ []) ++ left) fault)
     at_end None e bad = tt
-    at_end (Some left) e bad = subst (λ (x : List ℕ). HasFault ((d.bytes ++ []) ++ x) fault) (sym e) (subst (λ (x : List ℕ). HasFault x fault) (sym (append-nil (d.bytes ++ []) ∙ append-nil d.bytes)) bad)
+    at_end (Some left) e bad =
+        subst (λ (x : List ℕ). HasFault ((d.bytes ++ []) ++ x) fault) (sym e)
+        (subst (λ (x : List ℕ). HasFault x fault) (sym (append-nil (d.bytes ++ []) ∙ append-nil d.bytes)) bad)
 
-    by : ((with_error fault ≡ Ok tt) × (h.rest ≡ []) × (0 < h.lines)) ⊎ ((with_error fault ≡ Err (fault_at h.lines)) × (0 < h.lines → 0 < length h.rest)) → Answers from fault
+    by : ((with_error fault ≡ Ok tt) × (h.rest ≡ []) × (0 < h.lines))
+        ⊎ ((with_error fault ≡ Err (fault_at h.lines)) × (0 < h.lines → 0 < length h.rest)) → Answers from fault
     by (inl (is, none, some)) = absurd (err_ok fault is)
     by (inr (is, some)) =
         answers from fault (subst IsReadFault (err_is fault (fault_at h.lines) is) (line_fault h.lines))
-        (known_fault from to (d.bytes ++ []) fault (Consumes-trans from mid to d.bytes [] d.reads read) (at_end to all (end_fault d.bytes fault (ap end_of (sym d.held) ∙ ended))))
+        (known_fault from to (d.bytes ++ []) fault (Consumes-trans from mid to d.bytes [] d.reads read)
+        (at_end to all (end_fault d.bytes fault (ap end_of (sym d.held) ∙ ended))))
 
 -- the trace is that of the bytes
 pub some_lines : (from to : Option (List ℕ)) (h : Held) (lines : List Line) → Drafting from to h lines → end_of h ≡ Ok tt → 0 < length lines
@@ -193,7 +230,9 @@ map_event (x ∷ a) (y ∷ b) e =
     let others : map event a ≡ map event b = cc in
     rw (first, map_event a b others) refl
 
-pub trace_read : (from mid to : Option (List ℕ)) (h : Held) (lines : List Line) (s : Sizes) (events : List Event) → Drafting from mid h lines → Consumes mid to [] → IsAtEnd to → end_of h ≡ Ok tt → lines ≡ header s ∷ map event events → ReadsTrace from to s events
+pub trace_read : (from mid to : Option (List ℕ)) (h : Held) (lines : List Line) (s : Sizes) (events : List Event)
+    → Drafting from mid h lines → Consumes mid to [] → IsAtEnd to → end_of h ≡ Ok tt
+    → lines ≡ header s ∷ map event events → ReadsTrace from to s events
 trace_read from mid to h lines s events d read all ended is =
     let t = end_trace d.bytes (ap end_of (sym d.held) ∙ ended) in
     let same : header t.lines.sizes ∷ map event t.lines.events ≡ header s ∷ map event events = sym t.lines.is ∙ sym d.lines_are ∙ is in
@@ -204,6 +243,8 @@ trace_read from mid to h lines s events d read all ended is =
     (subst (λ (x : List Event). ReadsTrace from to t.lines.sizes x) events_are
     (record {
       trace = t.spells.trace;
-      reads = subst (λ (x : List ℕ). Consumes from to x) (append-nil d.bytes ∙ t.spells.text) (Consumes-trans from mid to d.bytes [] d.reads read);
+      reads =
+          subst (λ (x : List ℕ). Consumes from to x) (append-nil d.bytes ∙ t.spells.text)
+          (Consumes-trans from mid to d.bytes [] d.reads read);
       all = all;
     }))

@@ -1,5 +1,6 @@
 -- What is held while bytes come: a fault stays, and bytes may come in pieces.
-use Rattle.std.proofs.Common.{◌≡◌, ℕ, suc, ◌+◌, ◌<◌, ◌≤◌, Bool, true, false, cond, eqb, List, [], ◌∷◌, ◌++◌, length, drop, get_or, Option, Some, None, refl, sym, ap, ◌∙◌, arith, add-one, drop-cons}
+use Rattle.std.proofs.Common.{◌≡◌, ℕ, suc, ◌+◌, ◌<◌, ◌≤◌, Bool, true, false, cond, eqb, List, [], ◌∷◌, ◌++◌, length, drop, get_or}
+use Rattle.std.proofs.Common.{Option, Some, None, refl, sym, ap, ◌∙◌, arith, add-one, drop-cons}
 use Rattle.std.specs.Io.BufRead.{take_through}
 use Rattle.std.proofs.lemmas.Bool.{ne_eqb, eq-eqb, eqb-true}
 use Rattle.std.proofs.lemmas.List.{drop_all}
@@ -33,13 +34,15 @@ pub lines_after-append : (h : Held) (a b : List ℕ) → lines_after h (a ++ b) 
 unfolding held_after lines_after
 lines_after-append h [] b = refl
 lines_after-append h (x ∷ a) b =
-    ap (λ (ls : List Line). listed (take_byte h x).1 ls) (lines_after-append (take_byte h x).0 a b) ∙ listed-append (take_byte h x).1 (lines_after (take_byte h x).0 a) (lines_after (held_after (take_byte h x).0 a) b)
+    ap (λ (ls : List Line). listed (take_byte h x).1 ls) (lines_after-append (take_byte h x).0 a b)
+    ∙ listed-append (take_byte h x).1 (lines_after (take_byte h x).0 a) (lines_after (held_after (take_byte h x).0 a) b)
 
 no_line : (h : Held) (b : ℕ) → eqb b 10 ≡ false → (take_byte h b).1 ≡ None
 unfolding take_byte
 no_line h b other = by h.fault
   where
-    by_tests : (full long : Bool) (x y : Held) → ◌≡◌ {A = Option Line} (cond {A = Held × Option Line} full (x, None) (cond long (x, None) (y, None))).1 None
+    by_tests : (full long : Bool) (x y : Held)
+        → ◌≡◌ {A = Option Line} (cond {A = Held × Option Line} full (x, None) (cond long (x, None) (y, None))).1 None
     by_tests true long x y = refl
     by_tests false true x y = refl
     by_tests false false x y = refl
@@ -86,15 +89,20 @@ pub record Taking (h first : Held) (i : ℕ) (piece : List ℕ) : Type 0 where
   pub used : i + length (take_through 10 (drop i piece)) ≡ length (take_through 10 piece)
   pub no_fault : h.fault ≡ None
 
-pub goes_on : (h first new : Held) (i : ℕ) (piece : List ℕ) → i < length piece → (get_or piece i 0 ≡ 10 → ⊥) → new ≡ (take_byte h (get_or piece i 0)).0 → new.fault ≡ None → Taking h first i piece → Taking new first (i + 1) piece
+pub goes_on : (h first new : Held) (i : ℕ) (piece : List ℕ) → i < length piece → (get_or piece i 0 ≡ 10 → ⊥)
+    → new ≡ (take_byte h (get_or piece i 0)).0 → new.fault ≡ None → Taking h first i piece → Taking new first (i + 1) piece
 goes_on h first new i piece lt other is no_fault t =
     let b = get_or piece i 0 in
     let rest = drop (i + 1) piece in
     let front : drop i piece ≡ b ∷ rest = at_drop piece i lt in
     let turn = turns h b rest (ne_eqb _ _ other) in
     record {
-      held = ap (λ (x : Held). held_after x (take_through 10 rest)) is ∙ sym turn.held ∙ ap (λ (x : List ℕ). held_after h (take_through 10 x)) (sym front) ∙ t.held;
-      lines = ap (λ (x : Held). lines_after x (take_through 10 rest)) is ∙ sym turn.lines ∙ ap (λ (x : List ℕ). lines_after h (take_through 10 x)) (sym front) ∙ t.lines;
+      held =
+          ap (λ (x : Held). held_after x (take_through 10 rest)) is ∙ sym turn.held
+          ∙ ap (λ (x : List ℕ). held_after h (take_through 10 x)) (sym front) ∙ t.held;
+      lines =
+          ap (λ (x : Held). lines_after x (take_through 10 rest)) is ∙ sym turn.lines
+          ∙ ap (λ (x : List ℕ). lines_after h (take_through 10 x)) (sym front) ∙ t.lines;
       used = omega (arith, t.used, turn.used, ap (λ (x : List ℕ). length (take_through 10 x)) front);
       no_fault = no_fault;
     }
@@ -105,7 +113,8 @@ pub record Ended (h first : Held) (i : ℕ) (piece : List ℕ) : Type 0 where
   pub lines : listed (take_byte h (get_or piece i 0)).1 [] ≡ lines_after first (take_through 10 piece)
   pub used : i + 1 ≡ length (take_through 10 piece)
 
-pub ended_here : (h first : Held) (i : ℕ) (piece : List ℕ) → i < length piece → get_or piece i 0 ≡ 10 → Taking h first i piece → Ended h first i piece
+pub ended_here : (h first : Held) (i : ℕ) (piece : List ℕ) → i < length piece → get_or piece i 0 ≡ 10
+    → Taking h first i piece → Ended h first i piece
 ended_here h first i piece lt end t =
     let b = get_or piece i 0 in
     let rest = drop (i + 1) piece in
@@ -118,14 +127,17 @@ ended_here h first i piece lt end t =
     }
 
 -- the turn at which a fault comes, wherever the line ends
-pub failed_here : (h first new : Held) (i : ℕ) (piece : List ℕ) (fault : ReplayFault) → i < length piece → new ≡ (take_byte h (get_or piece i 0)).0 → (take_byte h (get_or piece i 0)).1 ≡ None → new.fault ≡ Some fault → Taking h first i piece → (new ≡ held_after first (take_through 10 piece)) × (lines_after first (take_through 10 piece) ≡ [])
+pub failed_here : (h first new : Held) (i : ℕ) (piece : List ℕ) (fault : ReplayFault) → i < length piece
+    → new ≡ (take_byte h (get_or piece i 0)).0 → (take_byte h (get_or piece i 0)).1 ≡ None → new.fault ≡ Some fault
+    → Taking h first i piece → (new ≡ held_after first (take_through 10 piece)) × (lines_after first (take_through 10 piece) ≡ [])
 failed_here h first new i piece fault lt is none failed t =
     by (eqb b 10) refl
   where
     b : ℕ
     b = get_or piece i 0
 
-    by : (end : Bool) → eqb (get_or piece i 0) 10 ≡ end → (new ≡ held_after first (take_through 10 piece)) × (lines_after first (take_through 10 piece) ≡ [])
+    by : (end : Bool) → eqb (get_or piece i 0) 10 ≡ end
+        → (new ≡ held_after first (take_through 10 piece)) × (lines_after first (take_through 10 piece) ≡ [])
     by true end =
         let e = ended_here h first i piece lt (eqb-true _ _ end) t in
         (is ∙ e.held, sym e.lines ∙ ap (λ (x : Option Line). listed x []) none)
@@ -133,12 +145,19 @@ failed_here h first new i piece fault lt is none failed t =
         let turn = turns h (get_or piece i 0) (drop (i + 1) piece) other in
         let s = stays new fault (take_through 10 (drop (i + 1) piece)) failed in
         let front : drop i piece ≡ get_or piece i 0 ∷ drop (i + 1) piece = at_drop piece i lt in
-        let held : held_after new (take_through 10 (drop (i + 1) piece)) ≡ held_after first (take_through 10 piece) = ap (λ (x : Held). held_after x (take_through 10 (drop (i + 1) piece))) is ∙ sym turn.held ∙ ap (λ (x : List ℕ). held_after h (take_through 10 x)) (sym front) ∙ t.held in
-        let lines : lines_after new (take_through 10 (drop (i + 1) piece)) ≡ lines_after first (take_through 10 piece) = ap (λ (x : Held). lines_after x (take_through 10 (drop (i + 1) piece))) is ∙ sym turn.lines ∙ ap (λ (x : List ℕ). lines_after h (take_through 10 x)) (sym front) ∙ t.lines in
+        let held : held_after new (take_through 10 (drop (i + 1) piece)) ≡ held_after first (take_through 10 piece) =
+        ap (λ (x : Held). held_after x (take_through 10 (drop (i + 1) piece))) is ∙ sym turn.held
+        ∙ ap (λ (x : List ℕ). held_after h (take_through 10 x)) (sym front) ∙ t.held in
+        let lines : lines_after new (take_through 10 (drop (i + 1) piece)) ≡ lines_after first
+        (take_through 10 piece) = ap (λ (x : Held). lines_after x (take_through 10 (drop (i + 1) piece))) is
+        ∙ sym turn.lines ∙ ap (λ (x : List ℕ). lines_after h (take_through 10 x)) (sym front) ∙ t.lines in
         (sym s.0 ∙ held, sym lines ∙ s.1)
 
-pub all_taken : (h first : Held) (i : ℕ) (piece : List ℕ) → length piece ≤ i → Taking h first i piece → (h ≡ held_after first (take_through 10 piece)) × ([] ≡ lines_after first (take_through 10 piece))
+pub all_taken : (h first : Held) (i : ℕ) (piece : List ℕ) → length piece ≤ i → Taking h first i piece
+    → (h ≡ held_after first (take_through 10 piece)) × ([] ≡ lines_after first (take_through 10 piece))
 unfolding held_after lines_after
 all_taken h first i piece le t =
-    let none : drop i piece ≡ [] = drop_all i piece le in
-    (ap (λ (x : List ℕ). held_after h (take_through 10 x)) (sym none) ∙ t.held, ap (λ (x : List ℕ). lines_after h (take_through 10 x)) (sym none) ∙ t.lines)
+    let none : drop i piece ≡ [] = drop_all i piece le in (
+      ap (λ (x : List ℕ). held_after h (take_through 10 x)) (sym none) ∙ t.held,
+      ap (λ (x : List ℕ). lines_after h (take_through 10 x)) (sym none) ∙ t.lines,
+    )

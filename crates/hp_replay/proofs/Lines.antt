@@ -1,5 +1,6 @@
 -- A line that is read is spelled so, and what is spelled so is read.
-use Rattle.std.proofs.Common.{◌≡◌, ℕ, ◌^◌, ◌<◌, ◌≤◌, true, false, cond, List, [], ◌∷◌, ◌++◌, Option, Some, None, refl, sym, ap, subst, ◌∙◌, append_assoc, arith, inl, inr, ◌⊎◌}
+use Rattle.std.proofs.Common.{◌≡◌, ℕ, ◌^◌, ◌<◌, ◌≤◌, true, false, cond, List, [], ◌∷◌, ◌++◌, Option, Some, None, refl, sym, ap}
+use Rattle.std.proofs.Common.{subst, ◌∙◌, append_assoc, arith, inl, inr, ◌⊎◌}
 use Rattle.std.specs.Prelude.{codes}
 use Rattle.std.specs.Option.{option_map_or}
 use Rattle.std.specs.Fmt.{decimal}
@@ -12,14 +13,17 @@ use Rattle.hp_base.specs.declared.event.Op.TheVariants.{Map, MapNoReserve, Unmap
 use Rattle.hp_base.specs.declared.event.Event.{Event}
 use Rattle.hp_base.specs.declared.event.Event.TheVariants.{Begin, Step, Kill}
 use Rattle.hp_replay.specs.Fits.{IsShort, OpFits, EventFits}
-use Rattle.hp_replay.specs.Reading.{◌>>=◌, after_word, number_at, field_at, ended, last_at, range_at, pair_at, option_or, behind, range_op_at, plain_op_at, op_at, event_at, last_field_at, sizes_at, header_at, limit, word_limit}
+use Rattle.hp_replay.specs.Reading.{◌>>=◌, after_word, number_at, field_at, ended, last_at, range_at, pair_at, option_or, behind}
+use Rattle.hp_replay.specs.Reading.{range_op_at, plain_op_at, op_at, event_at, last_field_at, sizes_at, header_at, limit}
+use Rattle.hp_replay.specs.Reading.{word_limit}
 use Rattle.hp_replay.proofs.Numbers.{chosen, bind_some, number_takes, number_again, word_takes, Stops}
 
 ended_takes : {A : Type 0} (x : A) (bytes : List ℕ) (y : A) → ended x bytes ≡ Some y → (bytes ≡ []) × (x ≡ y)
 ended_takes x [] y e = (refl, cc)
 ended_takes x (b ∷ bytes) y e = absurd cc
 
-field_takes : (most : ℕ) (bytes : List ℕ) (n : ℕ) (rest : List ℕ) → 9 ≤ most → most < 2 ^ 64 → field_at most bytes ≡ Some (n, rest) → (bytes ≡ field n ++ rest) × (n ≤ most)
+field_takes : (most : ℕ) (bytes : List ℕ) (n : ℕ) (rest : List ℕ) → 9 ≤ most → most < 2 ^ 64
+    → field_at most bytes ≡ Some (n, rest) → (bytes ≡ field n ++ rest) × (n ≤ most)
 unfolding field_at
 field_takes most bytes n rest low fits e =
     let a = bind_some (after_word (codes " ") bytes) (number_at most) (n, rest) e in
@@ -41,14 +45,17 @@ last_takes bytes n e =
 last_again : (n : ℕ) → IsShort n → last_at (decimal n) ≡ Some n
 unfolding last_at
 last_again n fits =
-    let read : number_at limit (decimal n) ≡ Some (n, []) = ap (number_at limit) (sym (append-nil (decimal n))) ∙ number_again limit n [] (omega arith) (omega arith) tt in
+    let read : number_at limit (decimal n) ≡ Some (n, []) =
+    ap (number_at limit) (sym (append-nil (decimal n))) ∙ number_again limit n [] (omega arith) (omega arith) tt in
     rw read refl
 
 -- three numbers
-range_takes : (bytes : List ℕ) (r : ℕ × ℕ × ℕ) → range_at bytes ≡ Some r → (bytes ≡ decimal r.0 ++ (field r.1 ++ field r.2)) × IsShort r.0 × IsShort r.1 × IsShort r.2
+range_takes : (bytes : List ℕ) (r : ℕ × ℕ × ℕ) → range_at bytes ≡ Some r
+    → (bytes ≡ decimal r.0 ++ (field r.1 ++ field r.2)) × IsShort r.0 × IsShort r.1 × IsShort r.2
 unfolding range_at
 range_takes bytes r e =
-    let a = bind_some (number_at limit bytes) (λ file. field_at limit file.1 >>= λ from. field_at limit from.1 >>= λ len. ended (file.0, from.0, len.0) len.1) r e in
+    let a = bind_some (number_at limit bytes)
+    (λ file. field_at limit file.1 >>= λ from. field_at limit from.1 >>= λ len. ended (file.0, from.0, len.0) len.1) r e in
     let b = bind_some (field_at limit a.0.1) (λ from. field_at limit from.1 >>= λ len. ended (a.0.0, from.0, len.0) len.1) r a.2 in
     let d = bind_some (field_at limit b.0.1) (λ len. ended (a.0.0, b.0.0, len.0) len.1) r b.2 in
     let file = number_takes limit bytes a.0.0 a.0.1 (omega arith) (omega arith) a.1 in
@@ -56,19 +63,24 @@ range_takes bytes r e =
     let len = field_takes limit b.0.1 d.0.0 d.0.1 (omega arith) (omega arith) d.1 in
     let end = ended_takes (a.0.0, b.0.0, d.0.0) d.0.1 r d.2 in
     let last : b.0.1 ≡ field d.0.0 = len.0 ∙ rw end.0 (append-nil (field d.0.0)) in
-    let whole : bytes ≡ decimal a.0.0 ++ (field b.0.0 ++ field d.0.0) = file.0 ∙ ap (λ (t : List ℕ). decimal a.0.0 ++ t) (from.0 ∙ ap (λ (t : List ℕ). field b.0.0 ++ t) last) in
-    subst (λ (r : ℕ × ℕ × ℕ). (bytes ≡ decimal r.0 ++ (field r.1 ++ field r.2)) × IsShort r.0 × IsShort r.1 × IsShort r.2) end.1 (whole, omega (arith, file.1), omega (arith, from.1), omega (arith, len.1))
+    let whole : bytes ≡ decimal a.0.0 ++ (field b.0.0 ++ field d.0.0) =
+    file.0 ∙ ap (λ (t : List ℕ). decimal a.0.0 ++ t) (from.0 ∙ ap (λ (t : List ℕ). field b.0.0 ++ t) last) in
+    subst (λ (r : ℕ × ℕ × ℕ). (bytes ≡ decimal r.0 ++ (field r.1 ++ field r.2)) × IsShort r.0 × IsShort r.1
+    × IsShort r.2) end.1 (whole, omega (arith, file.1), omega (arith, from.1), omega (arith, len.1))
 
-range_again : (file from len : ℕ) → IsShort file → IsShort from → IsShort len → range_at (decimal file ++ (field from ++ field len)) ≡ Some (file, from, len)
+range_again : (file from len : ℕ) → IsShort file → IsShort from → IsShort len
+    → range_at (decimal file ++ (field from ++ field len)) ≡ Some (file, from, len)
 unfolding range_at
 range_again file from len file_fits from_fits len_fits =
     let first = number_again limit file (field from ++ field len) (omega arith) (omega arith) refl in
     let second = field_again limit from (field len) (omega arith) (omega arith) refl in
-    let third : field_at limit (field len) ≡ Some (len, []) = ap (field_at limit) (sym (append-nil (field len))) ∙ field_again limit len [] (omega arith) (omega arith) tt in
+    let third : field_at limit (field len) ≡ Some (len, []) =
+    ap (field_at limit) (sym (append-nil (field len))) ∙ field_again limit len [] (omega arith) (omega arith) tt in
     rw (first, second, third) refl
 
 -- two numbers
-pair_takes : (most : ℕ) (bytes : List ℕ) (r : ℕ × ℕ) → 9 ≤ most → most < 2 ^ 64 → pair_at most bytes ≡ Some r → (bytes ≡ decimal r.0 ++ field r.1) × IsShort r.0 × (r.1 ≤ most)
+pair_takes : (most : ℕ) (bytes : List ℕ) (r : ℕ × ℕ) → 9 ≤ most → most < 2 ^ 64 → pair_at most bytes ≡ Some r
+    → (bytes ≡ decimal r.0 ++ field r.1) × IsShort r.0 × (r.1 ≤ most)
 unfolding pair_at
 pair_takes most bytes r low high e =
     let a = bind_some (number_at limit bytes) (λ first. field_at most first.1 >>= λ second. ended (first.0, second.0) second.1) r e in
@@ -84,15 +96,18 @@ pair_again : (most a b : ℕ) → most < 2 ^ 64 → IsShort a → b ≤ most →
 unfolding pair_at
 pair_again most a b high a_fits b_fits =
     let first = number_again limit a (field b) (omega arith) (omega arith) refl in
-    let second : field_at most (field b) ≡ Some (b, []) = ap (field_at most) (sym (append-nil (field b))) ∙ field_again most b [] high b_fits tt in
+    let second : field_at most (field b) ≡ Some (b, []) =
+    ap (field_at most) (sym (append-nil (field b))) ∙ field_again most b [] high b_fits tt in
     rw (first, second) refl
 
 -- ---- operations
 
-behind_some : {A : Type 0} (word bytes : List ℕ) (read : List ℕ → Option A) (other : Option A) (y : A) → behind word bytes read other ≡ Some y → ((rest : List ℕ) × (bytes ≡ word ++ rest) × (read rest ≡ Some y)) ⊎ (other ≡ Some y)
+behind_some : {A : Type 0} (word bytes : List ℕ) (read : List ℕ → Option A) (other : Option A) (y : A)
+    → behind word bytes read other ≡ Some y → ((rest : List ℕ) × (bytes ≡ word ++ rest) × (read rest ≡ Some y)) ⊎ (other ≡ Some y)
 behind_some {A} word bytes read other y e = by (after_word word bytes) refl e
   where
-    by : (found : Option (List ℕ)) → after_word word bytes ≡ found → option_map_or read found other ≡ Some y → ((rest : List ℕ) × (bytes ≡ word ++ rest) × (read rest ≡ Some y)) ⊎ (other ≡ Some y)
+    by : (found : Option (List ℕ)) → after_word word bytes ≡ found → option_map_or read found other ≡ Some y
+        → ((rest : List ℕ) × (bytes ≡ word ++ rest) × (read rest ≡ Some y)) ⊎ (other ≡ Some y)
     by (Some rest) is e = inl (rest, word_takes word bytes rest is, e)
     by None is e = inr e
 
@@ -113,7 +128,8 @@ op_again (MapNoReserve file from len) fits =
 op_again (Unmap base) fits = rw (last_again base fits) refl
 op_again (Load vpn) fits = rw (last_again vpn fits) refl
 op_again (Store vpn word) fits =
-    let regrouped : (codes "store" ++ field vpn) ++ field word ≡ codes "store " ++ (decimal vpn ++ field word) = append_assoc (codes "store") (field vpn) (field word) in
+    let regrouped : (codes "store" ++ field vpn) ++ field word ≡ codes "store " ++ (decimal vpn ++ field word) =
+    append_assoc (codes "store") (field vpn) (field word) in
     rw (regrouped, pair_again word_limit vpn word (omega arith) fits.0 (let l : word < 2 ^ 64 = fits.1 in omega arith)) refl
 op_again (Alloc file from len true) fits =
     let regrouped = append_assoc (decimal file) (field from) (field len) in
@@ -125,21 +141,28 @@ op_again (Punch file from len) fits =
     let regrouped = append_assoc (decimal file) (field from) (field len) in
     rw (regrouped, range_again file from len fits.0 fits.1 fits.2) refl
 op_again (Truncate file new) fits =
-    let regrouped : (codes "trunc" ++ field file) ++ field new ≡ codes "trunc " ++ (decimal file ++ field new) = append_assoc (codes "trunc") (field file) (field new) in
+    let regrouped : (codes "trunc" ++ field file) ++ field new ≡ codes "trunc " ++ (decimal file ++ field new) =
+    append_assoc (codes "trunc") (field file) (field new) in
     rw (regrouped, pair_again limit file new (omega arith) fits.0 (let l : new < 2 ^ 32 = fits.1 in omega arith)) refl
 op_again Exit fits = refl
 
 -- what is made of a range
-range_case : (word bytes rest : List ℕ) (make : ℕ → ℕ → ℕ → Op) (op : Op) → ((file from len : ℕ) → IsShort file × IsShort from × IsShort len → OpFits (make file from len)) → ((file from len : ℕ) → word ++ ((decimal file ++ field from) ++ field len) ≡ op_text (make file from len)) → bytes ≡ word ++ rest → (range_at rest >>= λ r. Some (make r.0 r.1 r.2)) ≡ Some op → Spells bytes op
+range_case : (word bytes rest : List ℕ) (make : ℕ → ℕ → ℕ → Op) (op : Op)
+    → ((file from len : ℕ) → IsShort file × IsShort from × IsShort len → OpFits (make file from len))
+    → ((file from len : ℕ) → word ++ ((decimal file ++ field from) ++ field len) ≡ op_text (make file from len))
+    → bytes ≡ word ++ rest → (range_at rest >>= λ r. Some (make r.0 r.1 r.2)) ≡ Some op → Spells bytes op
 range_case word bytes rest make op fits spelled parts e =
     let a = bind_some (range_at rest) (λ r. Some (make r.0 r.1 r.2)) op e in
     let t = range_takes rest a.0 a.1 in
-    let text : rest ≡ (decimal a.0.0 ++ field a.0.1) ++ field a.0.2 = t.0 ∙ sym (append_assoc (decimal a.0.0) (field a.0.1) (field a.0.2)) in
+    let text : rest ≡ (decimal a.0.0 ++ field a.0.1) ++ field a.0.2 =
+    t.0 ∙ sym (append_assoc (decimal a.0.0) (field a.0.1) (field a.0.2)) in
     let whole : bytes ≡ op_text (make a.0.0 a.0.1 a.0.2) = parts ∙ ap (λ (t : List ℕ). word ++ t) text ∙ spelled a.0.0 a.0.1 a.0.2 in
     subst (λ (op : Op). Spells bytes op) (some_is _ _ a.2) (whole, fits a.0.0 a.0.1 a.0.2 (t.1, t.2, t.3))
 
 -- what is made of one number
-number_case : (word bytes rest : List ℕ) (make : ℕ → Op) (op : Op) → ((n : ℕ) → IsShort n → OpFits (make n)) → ((n : ℕ) → word ++ decimal n ≡ op_text (make n)) → bytes ≡ word ++ rest → (last_at rest >>= λ n. Some (make n)) ≡ Some op → Spells bytes op
+number_case : (word bytes rest : List ℕ) (make : ℕ → Op) (op : Op) → ((n : ℕ) → IsShort n → OpFits (make n))
+    → ((n : ℕ) → word ++ decimal n ≡ op_text (make n)) → bytes ≡ word ++ rest
+    → (last_at rest >>= λ n. Some (make n)) ≡ Some op → Spells bytes op
 number_case word bytes rest make op fits spelled parts e =
     let a = bind_some (last_at rest) (λ n. Some (make n)) op e in
     let t = last_takes rest a.0 a.1 in
@@ -147,7 +170,10 @@ number_case word bytes rest make op fits spelled parts e =
     subst (λ (op : Op). Spells bytes op) (some_is _ _ a.2) (whole, fits a.0 t.1)
 
 -- and of two
-pair_case : (most : ℕ) (word bytes rest : List ℕ) (make : ℕ → ℕ → Op) (op : Op) → 9 ≤ most → most < 2 ^ 64 → ((a b : ℕ) → IsShort a → b ≤ most → OpFits (make a b)) → ((a b : ℕ) → word ++ (decimal a ++ field b) ≡ op_text (make a b)) → bytes ≡ word ++ rest → (pair_at most rest >>= λ r. Some (make r.0 r.1)) ≡ Some op → Spells bytes op
+pair_case : (most : ℕ) (word bytes rest : List ℕ) (make : ℕ → ℕ → Op) (op : Op) → 9 ≤ most → most < 2 ^ 64
+    → ((a b : ℕ) → IsShort a → b ≤ most → OpFits (make a b))
+    → ((a b : ℕ) → word ++ (decimal a ++ field b) ≡ op_text (make a b)) → bytes ≡ word ++ rest
+    → (pair_at most rest >>= λ r. Some (make r.0 r.1)) ≡ Some op → Spells bytes op
 pair_case most word bytes rest make op low high fits spelled parts e =
     let a = bind_some (pair_at most rest) (λ r. Some (make r.0 r.1)) op e in
     let t = pair_takes most rest a.0 low high a.1 in
@@ -172,9 +198,11 @@ range_op_takes bytes op e =
       | inr e0 ↦ elim (behind_some (codes "mapn ") bytes _ _ op e0) [
         | inl w ↦ range_case (codes "mapn ") bytes w.0 MapNoReserve op (λ _ _ _ f. f) (λ _ _ _. refl) w.1 w.2
         | inr e1 ↦ elim (behind_some (codes "alloc ") bytes _ _ op e1) [
-          | inl w ↦ range_case (codes "alloc ") bytes w.0 (λ file from len. Alloc file from len false) op (λ _ _ _ f. f) (λ _ _ _. refl) w.1 w.2
+          | inl w ↦ range_case (codes "alloc ") bytes w.0 (λ file from len. Alloc file from len false) op
+              (λ _ _ _ f. f) (λ _ _ _. refl) w.1 w.2
           | inr e2 ↦ elim (behind_some (codes "allock ") bytes _ _ op e2) [
-            | inl w ↦ range_case (codes "allock ") bytes w.0 (λ file from len. Alloc file from len true) op (λ _ _ _ f. f) (λ _ _ _. refl) w.1 w.2
+            | inl w ↦ range_case (codes "allock ") bytes w.0 (λ file from len. Alloc file from len true) op
+                (λ _ _ _ f. f) (λ _ _ _. refl) w.1 w.2
             | inr e3 ↦ elim (behind_some (codes "punch ") bytes _ _ op e3) [
               | inl w ↦ range_case (codes "punch ") bytes w.0 Punch op (λ _ _ _ f. f) (λ _ _ _. refl) w.1 w.2
               | inr e4 ↦ absurd (none_op e4)
@@ -190,11 +218,14 @@ plain_op_takes bytes op e =
     elim (behind_some (codes "load ") bytes _ _ op e) [
       | inl w ↦ number_case (codes "load ") bytes w.0 Load op (λ _ f. f) (λ _. refl) w.1 w.2
       | inr e0 ↦ elim (behind_some (codes "store ") bytes _ _ op e0) [
-        | inl w ↦ pair_case word_limit (codes "store ") bytes w.0 Store op (omega arith) (omega arith) (λ _ word f g. (f, omega (arith, g))) (λ vpn word. sym (append_assoc (codes "store") (field vpn) (field word))) w.1 w.2
+        | inl w ↦ pair_case word_limit (codes "store ") bytes w.0 Store op (omega arith) (omega arith)
+            (λ _ word f g. (f, omega (arith, g))) (λ vpn word. sym (append_assoc (codes "store") (field vpn) (field word))) w.1 w.2
         | inr e1 ↦ elim (behind_some (codes "unmap ") bytes _ _ op e1) [
           | inl w ↦ number_case (codes "unmap ") bytes w.0 Unmap op (λ _ f. f) (λ _. refl) w.1 w.2
           | inr e2 ↦ elim (behind_some (codes "trunc ") bytes _ _ op e2) [
-            | inl w ↦ pair_case limit (codes "trunc ") bytes w.0 Truncate op (omega arith) (omega arith) (λ _ new f g. (f, omega (arith, g))) (λ file new. sym (append_assoc (codes "trunc") (field file) (field new))) w.1 w.2
+            | inl w ↦ pair_case limit (codes "trunc ") bytes w.0 Truncate op (omega arith) (omega arith)
+                (λ _ new f g. (f, omega (arith, g)))
+                (λ file new. sym (append_assoc (codes "trunc") (field file) (field new))) w.1 w.2
             | inr e3 ↦ elim (behind_some (codes "exit") bytes _ _ op e3) [
               | inl w ↦ exit_case bytes w.0 op w.1 w.2
               | inr e4 ↦ absurd (none_op e4)
@@ -227,23 +258,30 @@ event_again (Step task true) is = rw (last_again task is) refl
 event_again (Step task false) is = rw (last_again task is) refl
 event_again (Kill task) is = rw (last_again task is) refl
 
-task_case : (word bytes rest : List ℕ) (make : ℕ → Event) (event : Event) → ((n : ℕ) → IsShort n → EventFits (make n)) → ((n : ℕ) → word ++ decimal n ≡ event_text (make n)) → bytes ≡ word ++ rest → (last_at rest >>= λ n. Some (make n)) ≡ Some event → SpellsEvent bytes event
+task_case : (word bytes rest : List ℕ) (make : ℕ → Event) (event : Event) → ((n : ℕ) → IsShort n → EventFits (make n))
+    → ((n : ℕ) → word ++ decimal n ≡ event_text (make n)) → bytes ≡ word ++ rest
+    → (last_at rest >>= λ n. Some (make n)) ≡ Some event → SpellsEvent bytes event
 task_case word bytes rest make event is spelled parts e =
     let a = bind_some (last_at rest) (λ n. Some (make n)) event e in
     let t = last_takes rest a.0 a.1 in
     let whole : bytes ≡ event_text (make a.0) = parts ∙ ap (λ (t : List ℕ). word ++ t) t.0 ∙ spelled a.0 in
     subst (λ (event : Event). SpellsEvent bytes event) (some_is _ _ a.2) (whole, is a.0 t.1)
 
-begin_case : (bytes rest : List ℕ) (event : Event) → bytes ≡ codes "begin " ++ rest → (number_at limit rest >>= λ task. after_word (codes " ") task.1 >>= λ text. op_at text >>= λ op. Some (Begin task.0 op)) ≡ Some event → SpellsEvent bytes event
+begin_case : (bytes rest : List ℕ) (event : Event) → bytes ≡ codes "begin " ++ rest
+    → (number_at limit rest >>= λ task. after_word (codes " ") task.1 >>= λ text. op_at text >>= λ op. Some
+    (Begin task.0 op)) ≡ Some event → SpellsEvent bytes event
 begin_case bytes rest event parts e =
-    let a = bind_some (number_at limit rest) (λ task. after_word (codes " ") task.1 >>= λ text. op_at text >>= λ op. Some (Begin task.0 op)) event e in
+    let a = bind_some (number_at limit rest)
+    (λ task. after_word (codes " ") task.1 >>= λ text. op_at text >>= λ op. Some (Begin task.0 op)) event e in
     let b = bind_some (after_word (codes " ") a.0.1) (λ text. op_at text >>= λ op. Some (Begin a.0.0 op)) event a.2 in
     let d = bind_some (op_at b.0) (λ op. Some (Begin a.0.0 op)) event b.2 in
     let task = number_takes limit rest a.0.0 a.0.1 (omega arith) (omega arith) a.1 in
     let space = word_takes (codes " ") a.0.1 b.0 b.1 in
     let op = op_takes b.0 d.0 d.1 in
-    let text : rest ≡ decimal a.0.0 ++ (32 ∷ op_text d.0) = task.0 ∙ ap (λ (t : List ℕ). decimal a.0.0 ++ t) (space ∙ ap (λ (t : List ℕ). 32 ∷ t) op.0) in
-    let regrouped : decimal a.0.0 ++ (32 ∷ op_text d.0) ≡ (decimal a.0.0 ++ (32 ∷ [])) ++ op_text d.0 = sym (append_assoc (decimal a.0.0) (32 ∷ []) (op_text d.0)) in
+    let text : rest ≡ decimal a.0.0 ++ (32 ∷ op_text d.0) =
+    task.0 ∙ ap (λ (t : List ℕ). decimal a.0.0 ++ t) (space ∙ ap (λ (t : List ℕ). 32 ∷ t) op.0) in
+    let regrouped : decimal a.0.0 ++ (32 ∷ op_text d.0) ≡ (decimal a.0.0 ++ (32 ∷ [])) ++ op_text d.0 =
+    sym (append_assoc (decimal a.0.0) (32 ∷ []) (op_text d.0)) in
     let whole : bytes ≡ event_text (Begin a.0.0 d.0) = parts ∙ ap (λ (t : List ℕ). codes "begin " ++ t) (text ∙ regrouped) in
     let is : EventFits (Begin a.0.0 d.0) = (omega (arith, task.1), op.1) in
     subst (λ (event : Event). SpellsEvent bytes event) (some_is _ _ d.2) (whole, is)
@@ -284,24 +322,37 @@ last_field_takes bytes n e =
 sizes_takes : (bytes : List ℕ) (s : Sizes) → sizes_at bytes ≡ Some s → codes "pool " ++ bytes ≡ sizes_text s
 unfolding sizes_at
 sizes_takes bytes s e =
-    let a = bind_some (number_at limit bytes) (λ frames. field_at limit frames.1 >>= λ files. field_at limit files.1 >>= λ slots. last_field_at slots.1 >>= λ tasks. Some (record { frames = frames.0; files = files.0; slots = slots.0; tasks = tasks })) s e in
-    let b = bind_some (field_at limit a.0.1) (λ files. field_at limit files.1 >>= λ slots. last_field_at slots.1 >>= λ tasks. Some (record { frames = a.0.0; files = files.0; slots = slots.0; tasks = tasks })) s a.2 in
-    let d = bind_some (field_at limit b.0.1) (λ slots. last_field_at slots.1 >>= λ tasks. Some (record { frames = a.0.0; files = b.0.0; slots = slots.0; tasks = tasks })) s b.2 in
-    let f = bind_some (last_field_at d.0.1) (λ tasks. Some (record { frames = a.0.0; files = b.0.0; slots = d.0.0; tasks = tasks })) s d.2 in
+    let a = bind_some (number_at limit bytes)
+    (λ frames. field_at limit frames.1 >>= λ files. field_at limit files.1 >>= λ slots. last_field_at slots.1 >>=
+    λ tasks. Some (record { frames = frames.0; files = files.0; slots = slots.0; tasks = tasks })) s e in
+    let b = bind_some (field_at limit a.0.1)
+    (λ files. field_at limit files.1 >>= λ slots. last_field_at slots.1 >>= λ tasks. Some
+    (record { frames = a.0.0; files = files.0; slots = slots.0; tasks = tasks })) s a.2 in
+    let d = bind_some (field_at limit b.0.1)
+    (λ slots. last_field_at slots.1 >>= λ tasks. Some
+    (record { frames = a.0.0; files = b.0.0; slots = slots.0; tasks = tasks })) s b.2 in
+    let f = bind_some (last_field_at d.0.1)
+    (λ tasks. Some (record { frames = a.0.0; files = b.0.0; slots = d.0.0; tasks = tasks })) s d.2 in
     let frames = number_takes limit bytes a.0.0 a.0.1 (omega arith) (omega arith) a.1 in
     let files = field_takes limit a.0.1 b.0.0 b.0.1 (omega arith) (omega arith) b.1 in
     let slots = field_takes limit b.0.1 d.0.0 d.0.1 (omega arith) (omega arith) d.1 in
     let tasks = last_field_takes d.0.1 f.0 f.1 in
     let third : b.0.1 ≡ field d.0.0 ++ field f.0 = slots.0 ∙ ap (λ (t : List ℕ). field d.0.0 ++ t) tasks in
     let second : a.0.1 ≡ field b.0.0 ++ (field d.0.0 ++ field f.0) = files.0 ∙ ap (λ (t : List ℕ). field b.0.0 ++ t) third in
-    let whole : bytes ≡ decimal a.0.0 ++ (field b.0.0 ++ (field d.0.0 ++ field f.0)) = frames.0 ∙ ap (λ (t : List ℕ). decimal a.0.0 ++ t) second in
-    let regrouped : decimal a.0.0 ++ (field b.0.0 ++ (field d.0.0 ++ field f.0)) ≡ ((decimal a.0.0 ++ field b.0.0) ++ field d.0.0) ++ field f.0 = sym (append_assoc (decimal a.0.0) (field b.0.0) (field d.0.0 ++ field f.0)) ∙ sym (append_assoc (decimal a.0.0 ++ field b.0.0) (field d.0.0) (field f.0)) in
-    subst (λ (s : Sizes). codes "pool " ++ bytes ≡ sizes_text s) (some_is _ _ f.2) (ap (λ (t : List ℕ). codes "pool " ++ t) (whole ∙ regrouped))
+    let whole : bytes ≡ decimal a.0.0 ++ (field b.0.0 ++ (field d.0.0 ++ field f.0)) =
+    frames.0 ∙ ap (λ (t : List ℕ). decimal a.0.0 ++ t) second in
+    let regrouped : decimal a.0.0
+    ++ (field b.0.0 ++ (field d.0.0 ++ field f.0)) ≡ ((decimal a.0.0 ++ field b.0.0) ++ field d.0.0)
+    ++ field f.0 = sym (append_assoc (decimal a.0.0) (field b.0.0) (field d.0.0 ++ field f.0))
+    ∙ sym (append_assoc (decimal a.0.0 ++ field b.0.0) (field d.0.0) (field f.0)) in
+    subst (λ (s : Sizes). codes "pool " ++ bytes ≡ sizes_text s) (some_is _ _ f.2)
+    (ap (λ (t : List ℕ). codes "pool " ++ t) (whole ∙ regrouped))
 
 pub header_takes : (bytes : List ℕ) (s : Sizes) → header_at bytes ≡ Some s → SpellsHeader bytes s
 unfolding header_at
 header_takes bytes s e =
-    let a = bind_some (after_word (codes "pool ") bytes) (λ text. sizes_at text >>= λ s. cond (within_limits s.frames s.files s.slots s.tasks) (Some s) None) s e in
+    let a = bind_some (after_word (codes "pool ") bytes)
+    (λ text. sizes_at text >>= λ s. cond (within_limits s.frames s.files s.slots s.tasks) (Some s) None) s e in
     let b = bind_some (sizes_at a.0) (λ s. cond (within_limits s.frames s.files s.slots s.tasks) (Some s) None) s a.2 in
     let whole : bytes ≡ sizes_text b.0 = word_takes (codes "pool ") bytes a.0 a.1 ∙ sizes_takes a.0 b.0 b.1 in
     elim (chosen (within_limits b.0.frames b.0.files b.0.slots b.0.tasks) (Some b.0) None (Some s) b.2) [
@@ -315,7 +366,8 @@ header_takes bytes s e =
 last_field_again : (n : ℕ) → IsShort n → last_field_at (field n) ≡ Some n
 unfolding last_field_at
 last_field_again n fits =
-    let read : field_at limit (field n) ≡ Some (n, []) = ap (field_at limit) (sym (append-nil (field n))) ∙ field_again limit n [] (omega arith) (omega arith) tt in
+    let read : field_at limit (field n) ≡ Some (n, []) =
+    ap (field_at limit) (sym (append-nil (field n))) ∙ field_again limit n [] (omega arith) (omega arith) tt in
     rw read refl
 
 pub header_again : (s : Sizes) → within_limits s.frames s.files s.slots s.tasks ≡ true → header_at (sizes_text s) ≡ Some s
@@ -328,7 +380,9 @@ header_again s within =
     let files = leb-true s.files 16 (and_parts _ _ r.1).1 in
     let slots = leb-true s.slots 64 (and_parts _ _ q.1).1 in
     let tasks = leb-true s.tasks 64 (and_parts _ _ p.1).1 in
-    let regrouped : ((decimal s.frames ++ field s.files) ++ field s.slots) ++ field s.tasks ≡ decimal s.frames ++ (field s.files ++ (field s.slots ++ field s.tasks)) = append_assoc (decimal s.frames ++ field s.files) (field s.slots) (field s.tasks) ∙ append_assoc (decimal s.frames) (field s.files) (field s.slots ++ field s.tasks) in
+    let regrouped : ((decimal s.frames ++ field s.files) ++ field s.slots) ++ field s.tasks ≡ decimal s.frames
+    ++ (field s.files ++ (field s.slots ++ field s.tasks)) = append_assoc (decimal s.frames ++ field s.files)
+    (field s.slots) (field s.tasks) ∙ append_assoc (decimal s.frames) (field s.files) (field s.slots ++ field s.tasks) in
     let one = number_again limit s.frames (field s.files ++ (field s.slots ++ field s.tasks)) (omega arith) (omega arith) refl in
     let two = field_again limit s.files (field s.slots ++ field s.tasks) (omega arith) (omega arith) refl in
     let three = field_again limit s.slots (field s.tasks) (omega arith) (omega arith) refl in

@@ -1,5 +1,6 @@
 -- A number that is read is spelled so, and what is spelled so is read.
-use Rattle.std.proofs.Common.{◌≡◌, ℕ, zero, suc, ◌+◌, ◌-◌, ◌*◌, ◌/◌, ◌%◌, ◌^◌, ◌<◌, ◌≤◌, Bool, true, false, cond, eqb, List, [], ◌∷◌, ◌++◌, length, drop, Option, Some, None, refl, sym, ap, ◌∙◌, append_assoc, arith, inl, inr, ◌⊎◌}
+use Rattle.std.proofs.Common.{◌≡◌, ℕ, zero, suc, ◌+◌, ◌-◌, ◌*◌, ◌/◌, ◌%◌, ◌^◌, ◌<◌, ◌≤◌, Bool, true, false, cond, eqb, List, []}
+use Rattle.std.proofs.Common.{◌∷◌, ◌++◌, length, drop, Option, Some, None, refl, sym, ap, ◌∙◌, append_assoc, arith, inl, inr, ◌⊎◌}
 use Rattle.std.specs.Prelude.{nat_le, nat_eq}
 use Rattle.std.specs.Char.{is_ascii_digit}
 use Rattle.std.specs.List.{starts_with}
@@ -33,7 +34,8 @@ decimal_more n d some lt fits =
     decimal_step (10 * n + d) (omega arith) fits ∙ rw (quotient, rest) refl
 
 -- what was read so far and what is left are the number's digits and what is behind them
-pub from_takes : (most n : ℕ) (bytes : List ℕ) (m : ℕ) (rest : List ℕ) → most < 2 ^ 64 → 0 < n → n ≤ most → number_from most n bytes ≡ Some (m, rest) → (decimal n ++ bytes ≡ decimal m ++ rest) × (m ≤ most)
+pub from_takes : (most n : ℕ) (bytes : List ℕ) (m : ℕ) (rest : List ℕ) → most < 2 ^ 64 → 0 < n → n ≤ most
+    → number_from most n bytes ≡ Some (m, rest) → (decimal n ++ bytes ≡ decimal m ++ rest) × (m ≤ most)
 unfolding number_from
 from_takes most n [] m rest fits some le e =
     let p = some_pair_parts n m [] rest e in
@@ -47,7 +49,8 @@ from_takes most n (b ∷ bytes) m rest fits some le e =
                 let more_le : 10 * n + (b - 48) ≤ most = leb-true _ _ v.0 in
                 let later = from_takes most (10 * n + (b - 48)) bytes m rest fits (omega arith) more_le v.1 in
                 let back : 48 + (b - 48) ≡ b = omega arith in
-                let spelled : decimal (10 * n + (b - 48)) ≡ decimal n ++ (b ∷ []) = decimal_more n (b - 48) some (omega arith) (omega arith) ∙ rw back refl in
+                let spelled : decimal (10 * n + (b - 48)) ≡ decimal n ++ (b ∷ []) =
+                decimal_more n (b - 48) some (omega arith) (omega arith) ∙ rw back refl in
                 (sym (append_assoc (decimal n) (b ∷ []) bytes) ∙ ap (λ (t : List ℕ). t ++ bytes) (sym spelled) ∙ later.0, later.1)
             | inr v ↦ absurd (none_some v.1)
           ]
@@ -59,7 +62,8 @@ from_takes most n (b ∷ bytes) m rest fits some le e =
     none_some : {A : Type 0} {x : A} → None ≡ Some x → ⊥
     none_some e = cc
 
-pub number_takes : (most : ℕ) (bytes : List ℕ) (n : ℕ) (rest : List ℕ) → 9 ≤ most → most < 2 ^ 64 → number_at most bytes ≡ Some (n, rest) → (bytes ≡ decimal n ++ rest) × (n ≤ most)
+pub number_takes : (most : ℕ) (bytes : List ℕ) (n : ℕ) (rest : List ℕ) → 9 ≤ most → most < 2 ^ 64
+    → number_at most bytes ≡ Some (n, rest) → (bytes ≡ decimal n ++ rest) × (n ≤ most)
 unfolding number_at
 number_takes most [] n rest low fits e = absurd cc
 number_takes most (b ∷ bytes) n rest low fits e =
@@ -95,7 +99,8 @@ unfolding number_from
 from_stops most n [] stops = refl
 from_stops most n (b ∷ rest) stops = rw stops refl
 
-number_reads : (most n : ℕ) → most < 2 ^ 64 → n < 2 ^ 64 → 0 < n → n ≤ most → (rest : List ℕ) → number_at most (decimal n ++ rest) ≡ number_from most n rest
+number_reads : (most n : ℕ) → most < 2 ^ 64 → n < 2 ^ 64 → 0 < n → n ≤ most → (rest : List ℕ)
+    → number_at most (decimal n ++ rest) ≡ number_from most n rest
 unfolding number_at number_from
 number_reads most n fits small = decimal_by_steps P one more n small
   where
@@ -113,13 +118,16 @@ number_reads most n fits small = decimal_by_steps P one more n small
         let regrouped = append_assoc ds ((48 + k % 10) ∷ []) rest in
         let back : 10 * (k / 10) + (48 + k % 10 - 48) ≡ k = omega arith in
         let within : nat_le k most ≡ true = le-leb _ _ le in
-        let last : number_from most (k / 10) ((48 + k % 10) ∷ rest) ≡ number_from most k rest = rw (is_digit (k % 10) (omega arith), back, within) refl in
+        let last : number_from most (k / 10) ((48 + k % 10) ∷ rest) ≡ number_from most k rest =
+        rw (is_digit (k % 10) (omega arith), back, within) refl in
         ap (number_at most) regrouped ∙ before (omega arith) (omega arith) ((48 + k % 10) ∷ rest) ∙ last
 
-pub number_again : (most n : ℕ) (rest : List ℕ) → most < 2 ^ 64 → n ≤ most → Stops rest → number_at most (decimal n ++ rest) ≡ Some (n, rest)
+pub number_again : (most n : ℕ) (rest : List ℕ) → most < 2 ^ 64 → n ≤ most → Stops rest
+    → number_at most (decimal n ++ rest) ≡ Some (n, rest)
 unfolding number_at
 number_again most zero rest fits le stops = rw (decimal_digit 0 (omega arith)) refl
-number_again most (suc n) rest fits le stops = number_reads most (suc n) fits (omega arith) (omega arith) le rest ∙ from_stops most (suc n) rest stops
+number_again most (suc n) rest fits le stops =
+    number_reads most (suc n) fits (omega arith) (omega arith) le rest ∙ from_stops most (suc n) rest stops
 
 -- what follows a word, both ways
 starts_parts : (word bytes : List ℕ) → starts_with nat_eq bytes word ≡ true → bytes ≡ word ++ drop (length word) bytes

@@ -1,5 +1,6 @@
 -- A replay as a whole: what was read is a trace or has a fault, and what was written is its run.
-use Rattle.std.proofs.Common.{◌≡◌, ℕ, zero, suc, ◌+◌, ◌<◌, List, [], ◌∷◌, ◌++◌, length, take, Option, Some, None, refl, sym, ap, subst, ◌∙◌, append_assoc, length-append, arith, inl, inr, ◌⊎◌}
+use Rattle.std.proofs.Common.{◌≡◌, ℕ, zero, suc, ◌+◌, ◌<◌, List, [], ◌∷◌, ◌++◌, length, take, Option, Some, None, refl, sym, ap}
+use Rattle.std.proofs.Common.{subst, ◌∙◌, append_assoc, length-append, arith, inl, inr, ◌⊎◌}
 use Rattle.std.specs.Prelude.{map, IfSome, IfErr, OnOk, Result, Ok, Err}
 use Rattle.std.specs.Io.KnownBytes.{Appends, Consumes, Keeps, IsAtEnd}
 use Rattle.std.proofs.KnownBytes.{Appends-nil, Appends-trans, Consumes-nil, Consumes-trans, Consumes-kept}
@@ -15,7 +16,8 @@ use Rattle.hp_replay.specs.Traces.{IsTrace, HasNoEnd, trace_text}
 use Rattle.hp_replay.specs.Outcomes.{Run, RunOf, outcomes_text, outcome_line, state_text}
 use Rattle.hp_replay.specs.Writing.{Wrote, IsWriteFault}
 use Rattle.hp_replay.specs.Running.{LinesRun, PieceRan, PieceStopped, IsOpened}
-use Rattle.hp_replay.specs.Replaying.{Replayed, StoppedEarly, StoppedAtRead, RunWrites, nothing, so_far, to_the_end, AllRunWrites, no_line, each_line, Stopped}
+use Rattle.hp_replay.specs.Replaying.{Replayed, StoppedEarly, StoppedAtRead, RunWrites, nothing, so_far, to_the_end, AllRunWrites}
+use Rattle.hp_replay.specs.Replaying.{no_line, each_line, Stopped}
 use Rattle.hp_replay.proofs.Writes.{Wrote-behind}
 use Rattle.hp_replay.proofs.Bytes.{IsHeld, room}
 use Rattle.hp_replay.proofs.BadLines.{NoLine, stops, cut}
@@ -32,7 +34,8 @@ record EventsRan (old : CoreState) (events : List Event) (core : Option CoreStat
   pub run : Run old events outcomes new
   pub text_is : text ≡ outcomes_text outcomes
 
-events_ran : (old : CoreState) (events : List Event) (core : Option CoreState) (text : List ℕ) → LinesRun (Some old) (map event events) core text → EventsRan old events core text
+events_ran : (old : CoreState) (events : List Event) (core : Option CoreState) (text : List ℕ)
+    → LinesRun (Some old) (map event events) core text → EventsRan old events core text
 events_ran old [] core text runs = record { new = old; outcomes = []; is = runs.0; run = refl; text_is = runs.1 }
 events_ran old (e ∷ events) core text (None, first, others, one, more, parts) = absurd one
 events_ran old (e ∷ events) core text (Some mid, first, others, (outcome, row, line), more, parts) =
@@ -53,7 +56,8 @@ pub record TraceRan (s : Sizes) (events : List Event) (core : Option CoreState) 
   pub run : RunOf s events outcomes new
   pub text_is : text ≡ outcomes_text outcomes
 
-header_ran : (s : Sizes) (events : List Event) (core : Option CoreState) (text : List ℕ) → LinesRun None (header s ∷ map event events) core text → TraceRan s events core text
+header_ran : (s : Sizes) (events : List Event) (core : Option CoreState) (text : List ℕ)
+    → LinesRun None (header s ∷ map event events) core text → TraceRan s events core text
 header_ran s events core text (None, first, others, one, more, parts) = absurd one
 header_ran s events core text (Some mid, first, others, (config, is, opening, none), more, parts) =
     let later = events_ran mid events core others more in
@@ -65,7 +69,8 @@ header_ran s events core text (Some mid, first, others, (config, is, opening, no
       text_is = parts ∙ ap (λ (x : List ℕ). x ++ others) none ∙ later.text_is;
     }
 
-trace_ran : (lines : List Line) (t : TraceLines lines) (core : Option CoreState) (text : List ℕ) → LinesRun None lines core text → TraceRan t.sizes t.events core text
+trace_ran : (lines : List Line) (t : TraceLines lines) (core : Option CoreState) (text : List ℕ)
+    → LinesRun None lines core text → TraceRan t.sizes t.events core text
 trace_ran lines t core text runs = header_ran t.sizes t.events core text (subst (λ (x : List Line). LinesRun None x core text) t.is runs)
 
 no_lines_ran : (lines : List Line) (core : Option CoreState) (text : List ℕ) → length lines ≡ 0 → LinesRun None lines core text → text ≡ []
@@ -75,9 +80,13 @@ no_lines_ran (l ∷ lines) core text none runs = absurd (omega arith)
 -- what ran of the bytes before some point: nothing yet, or the run of a trace
 pub data Ran (front back text : List ℕ) (core : Option CoreState) : Type 0 where
   before : (held_after opening_held front).lines ≡ 0 → text ≡ [] → (held_after opening_held front).rest ≡ front → Ran front back text core
-  behind : (t : TakenTrace front (lines_after opening_held front) (held_after opening_held front).rest) → (held_after opening_held front).lines ≡ length t.trace.events + 1 → front ++ back ≡ trace_text t.trace.sizes t.trace.events ++ ((held_after opening_held front).rest ++ back) → TraceRan t.trace.sizes t.trace.events core text → Ran front back text core
+  behind : (t : TakenTrace front (lines_after opening_held front) (held_after opening_held front).rest)
+      → (held_after opening_held front).lines ≡ length t.trace.events + 1
+      → front ++ back ≡ trace_text t.trace.sizes t.trace.events ++ ((held_after opening_held front).rest ++ back)
+      → TraceRan t.trace.sizes t.trace.events core text → Ran front back text core
 
-ran : (front back text : List ℕ) (core : Option CoreState) → (held_after opening_held front).fault ≡ None → LinesRun None (lines_after opening_held front) core text → Ran front back text core
+ran : (front back text : List ℕ) (core : Option CoreState) → (held_after opening_held front).fault ≡ None
+    → LinesRun None (lines_after opening_held front) core text → Ran front back text core
 ran front back text core ok runs = by (held_after opening_held front).lines refl
   where
     by : (n : ℕ) → (held_after opening_held front).lines ≡ n → Ran front back text core
@@ -85,12 +94,16 @@ ran front back text core ok runs = by (held_after opening_held front).lines refl
         let t = taken front ok in
         let lines = t.lines in
         let no_lines : length (lines_after opening_held front) ≡ 0 = omega arith in
-        before none (no_lines_ran (lines_after opening_held front) core text no_lines runs) (rest_is (lines_after opening_held front) (held_after opening_held front).rest front no_lines t.text)
+        before none (no_lines_ran (lines_after opening_held front) core text no_lines runs)
+        (rest_is (lines_after opening_held front) (held_after opening_held front).rest front no_lines t.text)
     by (suc n) count =
         let t = taken_trace front n ok count in
         let lines = (taken front ok).lines in
         let counted = t.trace.count in
-        behind t (omega arith) (ap (λ (x : List ℕ). x ++ back) (sym t.text) ∙ append_assoc (trace_text t.trace.sizes t.trace.events) (held_after opening_held front).rest back) (trace_ran (lines_after opening_held front) t.trace core text runs)
+        behind t (omega arith)
+        (ap (λ (x : List ℕ). x ++ back) (sym t.text)
+        ∙ append_assoc (trace_text t.trace.sizes t.trace.events) (held_after opening_held front).rest back)
+        (trace_ran (lines_after opening_held front) t.trace core text runs)
 
 -- ---- where a replay stops
 
@@ -100,28 +113,47 @@ Keeps-from (Some a) None e = absurd e
 Keeps-from (Some a) (Some b) e = e ∙ append-nil a
 
 -- no line stands behind those that ran
-line_stopped : (from to o o' : Option (List ℕ)) (front back text : List ℕ) (core : Option CoreState) → Consumes from to (front ++ back) → (held_after opening_held front).fault ≡ None → LinesRun None (lines_after opening_held front) core text → Appends o o' text → (0 < (held_after opening_held front).lines → 0 < length ((held_after opening_held front).rest ++ back)) → IfSome to (λ left. NoLine (held_after opening_held front).lines ((held_after opening_held front).rest ++ (back ++ left))) → Stopped (fault_at (held_after opening_held front).lines) from to o o'
+line_stopped : (from to o o' : Option (List ℕ)) (front back text : List ℕ) (core : Option CoreState)
+    → Consumes from to (front ++ back) → (held_after opening_held front).fault ≡ None
+    → LinesRun None (lines_after opening_held front) core text → Appends o o' text
+    → (0 < (held_after opening_held front).lines → 0 < length ((held_after opening_held front).rest ++ back))
+    → IfSome to (λ left. NoLine (held_after opening_held front).lines
+    ((held_after opening_held front).rest ++ (back ++ left))) → Stopped (fault_at (held_after opening_held front).lines) from to o o'
 line_stopped from to o o' front back text core reads ok runs wrote some bad = by (ran front back text core ok runs)
   where
     h : Held
     h = held_after opening_held front
 
-    no_header : (n : ℕ) (to : Option (List ℕ)) → n ≡ 0 → (held_after opening_held front).rest ≡ front → IfSome to (λ left. NoLine n ((held_after opening_held front).rest ++ (back ++ left))) → IfSome to (λ left. NoLine 0 ((front ++ back) ++ left))
+    no_header : (n : ℕ) (to : Option (List ℕ)) → n ≡ 0 → (held_after opening_held front).rest ≡ front
+        → IfSome to (λ left. NoLine n ((held_after opening_held front).rest ++ (back ++ left)))
+        → IfSome to (λ left. NoLine 0 ((front ++ back) ++ left))
     no_header n None none is bad = tt
     no_header n (Some left) none is bad =
-        subst (λ (x : List ℕ). NoLine 0 x) (ap (λ (x : List ℕ). x ++ (back ++ left)) is ∙ sym (append_assoc front back left)) (subst (λ (k : ℕ). NoLine k ((held_after opening_held front).rest ++ (back ++ left))) none bad)
+        subst (λ (x : List ℕ). NoLine 0 x)
+        (ap (λ (x : List ℕ). x ++ (back ++ left)) is ∙ sym (append_assoc front back left))
+        (subst (λ (k : ℕ). NoLine k ((held_after opening_held front).rest ++ (back ++ left))) none bad)
 
-    bad_rest : (n k : ℕ) (rest : List ℕ) (to : Option (List ℕ)) → n ≡ k + 1 → 0 < length (rest ++ back) → IfSome to (λ left. NoLine n (rest ++ (back ++ left))) → IfSome to (λ left. (0 < length ((rest ++ back) ++ left)) × NoLine (suc k) ((rest ++ back) ++ left))
+    bad_rest : (n k : ℕ) (rest : List ℕ) (to : Option (List ℕ)) → n ≡ k + 1 → 0 < length (rest ++ back)
+        → IfSome to (λ left. NoLine n (rest ++ (back ++ left)))
+        → IfSome to (λ left. (0 < length ((rest ++ back) ++ left)) × NoLine (suc k) ((rest ++ back) ++ left))
     bad_rest n k rest None count some bad = tt
     bad_rest n k rest (Some left) count some bad =
         let add : n ≡ suc k = omega arith in
-        let longer : length ((rest ++ back) ++ left) ≡ length (rest ++ back) + length left = length-append (rest ++ back) left in
-        (omega arith, subst (λ (x : List ℕ). NoLine (suc k) x) (sym (append_assoc rest back left)) (subst (λ (j : ℕ). NoLine j (rest ++ (back ++ left))) add bad))
+        let longer : length ((rest ++ back) ++ left) ≡ length (rest ++ back) + length left = length-append (rest ++ back) left in (
+          omega arith,
+          subst (λ (x : List ℕ). NoLine (suc k) x) (sym (append_assoc rest back left))
+              (subst (λ (j : ℕ). NoLine j (rest ++ (back ++ left))) add bad),
+        )
 
     by : Ran front back text core → Stopped (fault_at (held_after opening_held front).lines) from to o o'
     by (before none empty is) =
         subst (λ (k : ℕ). Stopped (fault_at k) from to o o') (sym none)
-        (record { bytes = front ++ back; reads = reads; bad = no_header (held_after opening_held front).lines to none is bad; wrote = Keeps-from o o' (subst (λ (x : List ℕ). Appends o o' x) empty wrote) })
+        (record {
+          bytes = front ++ back;
+          reads = reads;
+          bad = no_header (held_after opening_held front).lines to none is bad;
+          wrote = Keeps-from o o' (subst (λ (x : List ℕ). Appends o o' x) empty wrote);
+        })
     by (behind t count parts run) =
         let add : (held_after opening_held front).lines ≡ suc (length t.trace.events) = omega arith in
         subst (λ (k : ℕ). Stopped (fault_at k) from to o o') (sym add)
@@ -134,7 +166,9 @@ line_stopped from to o o' front back text core reads ok runs wrote some bad = by
           trace = t.trace.trace;
           reads = subst (λ (x : List ℕ). Consumes from to x) parts reads;
           number = refl;
-          bad = bad_rest (held_after opening_held front).lines (length t.trace.events) (held_after opening_held front).rest to count (some (omega arith)) bad;
+          bad =
+              bad_rest (held_after opening_held front).lines (length t.trace.events)
+              (held_after opening_held front).rest to count (some (omega arith)) bad;
           run = run.run;
           wrote = subst (λ (x : List ℕ). Appends o o' x) run.text_is wrote;
         })
@@ -170,7 +204,9 @@ begins from o =
       opened = λ (some : 0 < 0). absurd (omega arith);
     }
 
-pub goes_on : (from mid to : Option (List ℕ)) (h h' : Held) (core core' : Option CoreState) (o o' o'' : Option (List ℕ)) (piece : List ℕ) → Going from mid h core o o' → Consumes mid to piece → PieceRan h piece h' core core' o' o'' → h'.fault ≡ None → IsOpened h' core' → Going from to h' core' o o''
+pub goes_on : (from mid to : Option (List ℕ)) (h h' : Held) (core core' : Option CoreState)
+    (o o' o'' : Option (List ℕ)) (piece : List ℕ) → Going from mid h core o o' → Consumes mid to piece
+    → PieceRan h piece h' core core' o' o'' → h'.fault ≡ None → IsOpened h' core' → Going from to h' core' o o''
 goes_on from mid to h h' core core' o o' o'' piece g read more ok opened =
     record {
       bytes = g.bytes ++ piece;
@@ -181,22 +217,29 @@ goes_on from mid to h h' core core' o o' o'' piece g read more ok opened =
     }
 
 -- each byte takes room
-pub smaller : (from mid : Option (List ℕ)) (h h' : Held) (core core' : Option CoreState) (o o' o'' : Option (List ℕ)) (piece : List ℕ) → Going from mid h core o o' → PieceRan h piece h' core core' o' o'' → h'.fault ≡ None → 0 < length piece → room h' < room h
+pub smaller : (from mid : Option (List ℕ)) (h h' : Held) (core core' : Option CoreState) (o o' o'' : Option (List ℕ))
+    (piece : List ℕ) → Going from mid h core o o' → PieceRan h piece h' core core' o' o'' → h'.fault ≡ None
+    → 0 < length piece → room h' < room h
 smaller from mid h h' core core' o o' o'' piece g more ok some =
-    let is : IsHeld h = subst (λ (x : Held). IsHeld x) (sym g.piece.taken) (holds opening_held g.bytes opening_is (ap (λ (x : Held). x.fault) (sym g.piece.taken) ∙ g.no_fault)).held in
+    let is : IsHeld h = subst (λ (x : Held). IsHeld x) (sym g.piece.taken)
+    (holds opening_held g.bytes opening_is (ap (λ (x : Held). x.fault) (sym g.piece.taken) ∙ g.no_fault)).held in
     let later = holds h piece is (ap (λ (x : Held). x.fault) (sym more.taken) ∙ ok) in
     let less = later.room in
     let same : room h' ≡ room (held_after h piece) = ap room more.taken in
     omega arith
 
-pub piece_stopped : (from mid to : Option (List ℕ)) (h h' : Held) (core core' : Option CoreState) (o o' o'' : Option (List ℕ)) (piece : List ℕ) (fault : ReplayFault) → Going from mid h core o o' → Consumes mid to piece → PieceStopped fault h piece h' core core' o' o'' → Stopped fault from to o o''
+pub piece_stopped : (from mid to : Option (List ℕ)) (h h' : Held) (core core' : Option CoreState)
+    (o o' o'' : Option (List ℕ)) (piece : List ℕ) (fault : ReplayFault) → Going from mid h core o o'
+    → Consumes mid to piece → PieceStopped fault h piece h' core core' o' o'' → Stopped fault from to o o''
 piece_stopped from mid to h h' core core' o o' o'' piece fault g read (inl (failed, more)) =
     let all = PieceRan-append opening_held h h' g.bytes piece None core core' o o' o'' g.piece more in
     let s = stops opening_held (g.bytes ++ piece) fault refl opening_is (ap (λ (x : Held). x.fault) (sym all.taken) ∙ failed) in
-    let reads : Consumes from to (s.front ++ s.back) = subst (λ (x : List ℕ). Consumes from to x) s.parts (Consumes-trans from mid to g.bytes piece g.reads read) in
+    let reads : Consumes from to (s.front ++ s.back) =
+    subst (λ (x : List ℕ). Consumes from to x) s.parts (Consumes-trans from mid to g.bytes piece g.reads read) in
     let some = s.some in
     subst (λ (f : ReplayFault). Stopped f from to o o'') (sym s.fault_is)
-    (line_stopped from to o o'' s.front s.back all.text core' reads s.ok (subst (λ (x : List Line). LinesRun None x core' all.text) s.lines all.runs) all.wrote
+    (line_stopped from to o o'' s.front s.back all.text core' reads s.ok
+    (subst (λ (x : List Line). LinesRun None x core' all.text) s.lines all.runs) all.wrote
     (λ _. simp (length-append) (omega arith))
     (for_some to _ s.bad))
 piece_stopped from mid to h h' core core' o o' o'' piece fault g read (inr (is, part)) =
@@ -207,7 +250,9 @@ piece_stopped from mid to h h' core core' o o' o'' piece fault g read (inr (is, 
       bytes = g.bytes ++ piece;
       text = all.ran.text;
       reads = reads;
-      run = subst (λ (x : List ℕ). RunWrites to x all.ran.text) (sym all.parts) (writes (ran all.front all.back all.ran.text all.ran.new all.ok all.ran.runs));
+      run =
+          subst (λ (x : List ℕ). RunWrites to x all.ran.text) (sym all.parts)
+          (writes (ran all.front all.back all.ran.text all.ran.new all.ok all.ran.runs));
       wrote = all.ran.wrote;
     })
   where
@@ -215,13 +260,23 @@ piece_stopped from mid to h h' core core' o o' o'' piece fault g read (inr (is, 
     writes (before none empty is) = nothing empty
     writes {front} {back} (behind t count parts run) =
         so_far ((held_after opening_held front).rest ++ back) run.new
-        (record { sizes = t.trace.sizes; events = t.trace.events; outcomes = run.outcomes; trace = t.trace.trace; parts = parts; run = run.run; text_is = run.text_is })
+        (record {
+          sizes = t.trace.sizes;
+          events = t.trace.events;
+          outcomes = run.outcomes;
+          trace = t.trace.trace;
+          parts = parts;
+          run = run.run;
+          text_is = run.text_is;
+        })
 
 -- what the feed holds
-held_is : (from mid : Option (List ℕ)) (h : Held) (core : Option CoreState) (o o' : Option (List ℕ)) (g : Going from mid h core o o') → (held_after opening_held g.bytes).fault ≡ None
+held_is : (from mid : Option (List ℕ)) (h : Held) (core : Option CoreState) (o o' : Option (List ℕ))
+    (g : Going from mid h core o o') → (held_after opening_held g.bytes).fault ≡ None
 held_is from mid h core o o' g = ap (λ (x : Held). x.fault) (sym g.piece.taken) ∙ g.no_fault
 
-pub read_failed : (from mid to : Option (List ℕ)) (h : Held) (core : Option CoreState) (o o' : Option (List ℕ)) → Going from mid h core o o' → Keeps mid to → StoppedAtRead from to o o'
+pub read_failed : (from mid to : Option (List ℕ)) (h : Held) (core : Option CoreState) (o o' : Option (List ℕ))
+    → Going from mid h core o o' → Keeps mid to → StoppedAtRead from to o o'
 read_failed from mid to h core o o' g kept =
     record {
       bytes = g.bytes;
@@ -238,7 +293,15 @@ read_failed from mid to h core o o' g kept =
     writes (before none empty is) = no_line (subst (λ (x : List ℕ). HasNoEnd x) is no_end) empty
     writes (behind t count parts run) =
         each_line (held_after opening_held g.bytes).rest run.new
-        (record { sizes = t.trace.sizes; events = t.trace.events; outcomes = run.outcomes; trace = t.trace.trace; parts = sym t.text; run = run.run; text_is = run.text_is }) no_end
+        (record {
+          sizes = t.trace.sizes;
+          events = t.trace.events;
+          outcomes = run.outcomes;
+          trace = t.trace.trace;
+          parts = sym t.text;
+          run = run.run;
+          text_is = run.text_is;
+        }) no_end
 
 -- ---- the end of the bytes
 
@@ -249,13 +312,16 @@ abbrev pub with_error : ReplayFault → Result (Unit {0}) ReplayFault
 with_error fault = Err fault
 
 -- what the end says where no fault is held
-pub end_cases : (h : Held) (r : Result (Unit {0}) ReplayFault) → h.fault ≡ None → end_of h ≡ r → ((r ≡ Ok tt) × (h.rest ≡ []) × (0 < h.lines)) ⊎ ((r ≡ Err (fault_at h.lines)) × (0 < h.lines → 0 < length h.rest))
+pub end_cases : (h : Held) (r : Result (Unit {0}) ReplayFault) → h.fault ≡ None → end_of h ≡ r
+    → ((r ≡ Ok tt) × (h.rest ≡ []) × (0 < h.lines)) ⊎ ((r ≡ Err (fault_at h.lines)) × (0 < h.lines → 0 < length h.rest))
 end_cases h r ok e = by h.fault h.lines h.rest refl refl refl ok e
   where
     some_none : (f : ReplayFault) → Some f ≡ None → ⊥
     some_none f e = cc
 
-    by : (f : Option ReplayFault) (n : ℕ) (rest : List ℕ) → h.fault ≡ f → h.lines ≡ n → h.rest ≡ rest → f ≡ None → end_at f n rest ≡ r → ((r ≡ Ok tt) × (h.rest ≡ []) × (0 < h.lines)) ⊎ ((r ≡ Err (fault_at h.lines)) × (0 < h.lines → 0 < length h.rest))
+    by : (f : Option ReplayFault) (n : ℕ) (rest : List ℕ) → h.fault ≡ f → h.lines ≡ n → h.rest ≡ rest → f ≡ None
+        → end_at f n rest ≡ r
+        → ((r ≡ Ok tt) × (h.rest ≡ []) × (0 < h.lines)) ⊎ ((r ≡ Err (fault_at h.lines)) × (0 < h.lines → 0 < length h.rest))
     by (Some f) n rest p q s ok e = absurd (some_none f ok)
     by None zero rest p q s ok e = inr (sym e ∙ ap (λ (k : ℕ). (with_error (fault_at k))) (sym q), λ more. absurd (omega arith))
     by None (suc n) [] p q s ok e = inl (sym e, s, omega arith)
@@ -273,17 +339,22 @@ pub record EndRan (from to : Option (List ℕ)) (core : Option CoreState) (o o' 
   pub run : RunOf sizes events outcomes new
   pub wrote : Appends o o' (outcomes_text outcomes)
 
-end_ran : (from mid to : Option (List ℕ)) (h : Held) (core : Option CoreState) (o o' : Option (List ℕ)) → Going from mid h core o o' → Consumes mid to [] → end_of h ≡ Ok tt → EndRan from to core o o'
+end_ran : (from mid to : Option (List ℕ)) (h : Held) (core : Option CoreState) (o o' : Option (List ℕ))
+    → Going from mid h core o o' → Consumes mid to [] → end_of h ≡ Ok tt → EndRan from to core o o'
 end_ran from mid to h core o o' g read e = by (end_cases h (Ok tt) g.no_fault e)
   where
     ok_err : (f : ReplayFault) → good ≡ Err f → ⊥
     ok_err f e = cc
 
     by_ran : h.rest ≡ [] → 0 < h.lines → Ran g.bytes [] g.piece.text core → EndRan from to core o o'
-    by_ran none some (before zero_is empty is) = absurd (let same : h.lines ≡ (held_after opening_held g.bytes).lines = ap (λ (x : Held). x.lines) g.piece.taken in omega arith)
+    by_ran none some (before zero_is empty is) =
+        absurd (let same : h.lines ≡ (held_after opening_held g.bytes).lines = ap (λ (x : Held). x.lines)
+        g.piece.taken in omega arith)
     by_ran none some (behind t count parts run) =
         let rest : (held_after opening_held g.bytes).rest ≡ [] = ap (λ (x : Held). x.rest) (sym g.piece.taken) ∙ none in
-        let whole : g.bytes ≡ trace_text t.trace.sizes t.trace.events = sym t.text ∙ ap (λ (x : List ℕ). trace_text t.trace.sizes t.trace.events ++ x) rest ∙ append-nil (trace_text t.trace.sizes t.trace.events) in
+        let whole : g.bytes ≡ trace_text t.trace.sizes t.trace.events =
+        sym t.text ∙ ap (λ (x : List ℕ). trace_text t.trace.sizes t.trace.events ++ x) rest
+        ∙ append-nil (trace_text t.trace.sizes t.trace.events) in
         record {
           sizes = t.trace.sizes;
           events = t.trace.events;
@@ -291,16 +362,21 @@ end_ran from mid to h core o o' g read e = by (end_cases h (Ok tt) g.no_fault e)
           new = run.new;
           is = run.is;
           trace = t.trace.trace;
-          reads = subst (λ (x : List ℕ). Consumes from to x) (append-nil g.bytes ∙ whole) (Consumes-trans from mid to g.bytes [] g.reads read);
+          reads =
+              subst (λ (x : List ℕ). Consumes from to x) (append-nil g.bytes ∙ whole)
+              (Consumes-trans from mid to g.bytes [] g.reads read);
           run = run.run;
           wrote = subst (λ (x : List ℕ). Appends o o' x) run.text_is g.piece.wrote;
         }
 
-    by : ((good ≡ Ok tt) × (h.rest ≡ []) × (0 < h.lines)) ⊎ ((good ≡ Err (fault_at h.lines)) × (0 < h.lines → 0 < length h.rest)) → EndRan from to core o o'
+    by : ((good ≡ Ok tt) × (h.rest ≡ []) × (0 < h.lines))
+        ⊎ ((good ≡ Err (fault_at h.lines)) × (0 < h.lines → 0 < length h.rest)) → EndRan from to core o o'
     by (inl (is, none, some)) = by_ran none some (ran g.bytes [] g.piece.text core (held_is from mid h core o o' g) g.piece.runs)
     by (inr (is, some)) = absurd (ok_err _ is)
 
-pub finished : (from mid to : Option (List ℕ)) (h : Held) (core : Option CoreState) (o o' o'' : Option (List ℕ)) (r : Result (Unit {0}) ReplayFault) → Going from mid h core o o' → Consumes mid to [] → IsAtEnd to → OnOk r (end_of h ≡ Ok tt) → OnOk r (IfSome core (λ c. Appends o' o'' (state_text c))) → OnOk r (Replayed from to o o'')
+pub finished : (from mid to : Option (List ℕ)) (h : Held) (core : Option CoreState) (o o' o'' : Option (List ℕ))
+    (r : Result (Unit {0}) ReplayFault) → Going from mid h core o o' → Consumes mid to [] → IsAtEnd to
+    → OnOk r (end_of h ≡ Ok tt) → OnOk r (IfSome core (λ c. Appends o' o'' (state_text c))) → OnOk r (Replayed from to o o'')
 finished from mid to h core o o' o'' (Err f) g read all ended wrote = tt
 finished from mid to h core o o' o'' (Ok x) g read all ended wrote =
     let e = end_ran from mid to h core o o' g read ended in
@@ -313,14 +389,19 @@ finished from mid to h core o o' o'' (Ok x) g read all ended wrote =
       reads = e.reads;
       all = all;
       run = e.run;
-      wrote = Appends-trans o o' o'' (outcomes_text e.outcomes) (state_text e.new) e.wrote (subst (λ (c : Option CoreState). IfSome c (λ c. Appends o' o'' (state_text c))) e.is wrote);
+      wrote =
+          Appends-trans o o' o'' (outcomes_text e.outcomes) (state_text e.new) e.wrote
+          (subst (λ (c : Option CoreState). IfSome c (λ c. Appends o' o'' (state_text c))) e.is wrote);
     }
 
 -- what `finish` says of a fault
 abbrev pub NotFinished : ReplayFault → Held → Option CoreState → Option (List ℕ) → Option (List ℕ) → Type 0
-NotFinished fault h core o o' = ((end_of h ≡ Err fault) × Keeps o o') ⊎ (IsWriteFault fault × (end_of h ≡ Ok tt) × IfSome core (λ c. Wrote o o' (state_text c)))
+NotFinished fault h core o o' =
+    ((end_of h ≡ Err fault) × Keeps o o') ⊎ (IsWriteFault fault × (end_of h ≡ Ok tt) × IfSome core (λ c. Wrote o o' (state_text c)))
 
-not_finished : (from mid to : Option (List ℕ)) (h : Held) (core : Option CoreState) (o o' o'' : Option (List ℕ)) (fault : ReplayFault) → Going from mid h core o o' → Consumes mid to [] → IsAtEnd to → NotFinished fault h core o' o'' → Stopped fault from to o o''
+not_finished : (from mid to : Option (List ℕ)) (h : Held) (core : Option CoreState) (o o' o'' : Option (List ℕ))
+    (fault : ReplayFault) → Going from mid h core o o' → Consumes mid to [] → IsAtEnd to
+    → NotFinished fault h core o' o'' → Stopped fault from to o o''
 not_finished from mid to h core o o' o'' fault g read all (inl (ended, kept)) = by (end_cases h (Err fault) g.no_fault ended)
   where
     err_ok : (f : ReplayFault) → (with_error f) ≡ Ok tt → ⊥
@@ -329,9 +410,12 @@ not_finished from mid to h core o o' o'' fault g read all (inl (ended, kept)) = 
     err_is : (f f' : ReplayFault) → (with_error f) ≡ Err f' → f' ≡ f
     err_is f f' e = cc
 
-    at_end : (to : Option (List ℕ)) (n : ℕ) (rest : List ℕ) → IsAtEnd to → NoLine n rest → IfSome to (λ left. NoLine n (rest ++ ([] ++ left)))
+    at_end : (to : Option (List ℕ)) (n : ℕ) (rest : List ℕ) → IsAtEnd to → NoLine n rest
+        → IfSome to (λ left. NoLine n (rest ++ ([] ++ left)))
     at_end None n rest e bad = tt
-    at_end (Some left) n rest e bad = subst (λ (x : List ℕ). NoLine n (rest ++ ([] ++ x))) (sym e) (subst (λ (x : List ℕ). NoLine n x) (sym (append-nil rest)) bad)
+    at_end (Some left) n rest e bad =
+        subst (λ (x : List ℕ). NoLine n (rest ++ ([] ++ x))) (sym e)
+        (subst (λ (x : List ℕ). NoLine n x) (sym (append-nil rest)) bad)
 
     kept_writes : (a b c : Option (List ℕ)) (text : List ℕ) → Appends a b text → Keeps b c → Appends a c text
     kept_writes None b c text p k = tt
@@ -339,15 +423,19 @@ not_finished from mid to h core o o' o'' fault g read all (inl (ended, kept)) = 
     kept_writes (Some a) (Some b) None text p k = absurd k
     kept_writes (Some a) (Some b) (Some c) text p k = k ∙ p
 
-    by : (((with_error fault) ≡ Ok tt) × (h.rest ≡ []) × (0 < h.lines)) ⊎ (((with_error fault) ≡ Err (fault_at h.lines)) × (0 < h.lines → 0 < length h.rest)) → Stopped fault from to o o''
+    by : (((with_error fault) ≡ Ok tt) × (h.rest ≡ []) × (0 < h.lines))
+        ⊎ (((with_error fault) ≡ Err (fault_at h.lines)) × (0 < h.lines → 0 < length h.rest)) → Stopped fault from to o o''
     by (inl (is, none, some)) = absurd (err_ok fault is)
     by (inr (is, some)) =
         let held = g.piece.taken in
         let now = held_after opening_held g.bytes in
         let no_end = (taken g.bytes (held_is from mid h core o o' g)).held.no_end in
-        subst (λ (f : ReplayFault). Stopped f from to o o'') (ap (λ (x : Held). fault_at x.lines) (sym held) ∙ err_is fault (fault_at h.lines) is)
-        (line_stopped from to o o'' g.bytes [] g.piece.text core (Consumes-trans from mid to g.bytes [] g.reads read) (held_is from mid h core o o' g) g.piece.runs (kept_writes o o' o'' g.piece.text g.piece.wrote kept)
-        (λ more. subst (λ (x : List ℕ). 0 < length x) (sym (append-nil now.rest)) (subst (λ (x : Held). 0 < x.lines → 0 < length x.rest) held some more))
+        subst (λ (f : ReplayFault). Stopped f from to o o'')
+        (ap (λ (x : Held). fault_at x.lines) (sym held) ∙ err_is fault (fault_at h.lines) is)
+        (line_stopped from to o o'' g.bytes [] g.piece.text core (Consumes-trans from mid to g.bytes [] g.reads read)
+        (held_is from mid h core o o' g) g.piece.runs (kept_writes o o' o'' g.piece.text g.piece.wrote kept)
+        (λ more. subst (λ (x : List ℕ). 0 < length x) (sym (append-nil now.rest))
+        (subst (λ (x : Held). 0 < x.lines → 0 < length x.rest) held some more))
         (at_end to now.lines now.rest all (cut now.lines now.rest no_end)))
 not_finished from mid to h core o o' o'' fault g read all (inr (is, ended, wrote)) =
     let e = end_ran from mid to h core o o' g read ended in
@@ -356,11 +444,25 @@ not_finished from mid to h core o o' o'' fault g read all (inr (is, ended, wrote
       bytes = trace_text e.sizes e.events;
       text = outcomes_text e.outcomes ++ state_text e.new;
       reads = e.reads;
-      run = to_the_end (outcomes_text e.outcomes) e.new (record { sizes = e.sizes; events = e.events; outcomes = e.outcomes; trace = e.trace; parts = sym (append-nil (trace_text e.sizes e.events)); run = e.run; text_is = refl }) all refl;
-      wrote = Wrote-behind o o' o'' (outcomes_text e.outcomes) (state_text e.new) e.wrote (subst (λ (c : Option CoreState). IfSome c (λ c. Wrote o' o'' (state_text c))) e.is wrote);
+      run =
+          to_the_end (outcomes_text e.outcomes) e.new
+          (record {
+            sizes = e.sizes;
+            events = e.events;
+            outcomes = e.outcomes;
+            trace = e.trace;
+            parts = sym (append-nil (trace_text e.sizes e.events));
+            run = e.run;
+            text_is = refl;
+          }) all refl;
+      wrote =
+          Wrote-behind o o' o'' (outcomes_text e.outcomes) (state_text e.new) e.wrote
+          (subst (λ (c : Option CoreState). IfSome c (λ c. Wrote o' o'' (state_text c))) e.is wrote);
     })
 
-pub finish_stopped : (from mid to : Option (List ℕ)) (h : Held) (core : Option CoreState) (o o' o'' : Option (List ℕ)) (r : Result (Unit {0}) ReplayFault) → Going from mid h core o o' → Consumes mid to [] → IsAtEnd to → IfErr r (λ fault. NotFinished fault h core o' o'') → IfErr r (λ fault. Stopped fault from to o o'')
+pub finish_stopped : (from mid to : Option (List ℕ)) (h : Held) (core : Option CoreState) (o o' o'' : Option (List ℕ))
+    (r : Result (Unit {0}) ReplayFault) → Going from mid h core o o' → Consumes mid to [] → IsAtEnd to
+    → IfErr r (λ fault. NotFinished fault h core o' o'') → IfErr r (λ fault. Stopped fault from to o o'')
 finish_stopped from mid to h core o o' o'' (Ok x) g read all not = tt
 finish_stopped from mid to h core o o' o'' (Err fault) g read all not = not_finished from mid to h core o o' o'' fault g read all not
 

@@ -1,5 +1,6 @@
 -- Lines that run one after the other, piece by piece.
-use Rattle.std.proofs.Common.{◌≡◌, ℕ, zero, suc, ◌+◌, ◌<◌, ◌≤◌, Bool, true, false, eqb, List, [], ◌∷◌, ◌++◌, length, drop, Option, Some, None, refl, sym, ap, subst, ◌∙◌, append_assoc, length-append, arith, inl, inr}
+use Rattle.std.proofs.Common.{◌≡◌, ℕ, zero, suc, ◌+◌, ◌<◌, ◌≤◌, Bool, true, false, eqb, List, [], ◌∷◌, ◌++◌, length, drop, Option}
+use Rattle.std.proofs.Common.{Some, None, refl, sym, ap, subst, ◌∙◌, append_assoc, length-append, arith, inl, inr}
 use Rattle.std.specs.Prelude.{IsSome, IfErr, OnOk, Result, Ok, Err}
 use Rattle.std.specs.Io.BufRead.{take_through}
 use Rattle.std.specs.Io.KnownBytes.{Appends}
@@ -16,46 +17,76 @@ use Rattle.hp_replay.specs.declared.feed.TraceLine.TheVariants as lines
 use Rattle.hp_replay.specs.Lines.{Held, Line, header, event, line_of, held_after, lines_after, listed, AreLines}
 use Rattle.hp_replay.specs.Outcomes.{outcome_line}
 use Rattle.hp_replay.specs.Writing.{Wrote, IsWriteFault}
-use Rattle.hp_replay.specs.Running.{LineRuns, LinesRun, LinesRan, LinesRanPartly, LinesStopped, PieceRan, PieceRanPartly, PieceStopped, CanRun, CanRunIfSome, IsOpened}
+use Rattle.hp_replay.specs.Running.{LineRuns, LinesRun, LinesRan, LinesRanPartly, LinesStopped, PieceRan, PieceRanPartly}
+use Rattle.hp_replay.specs.Running.{PieceStopped, CanRun, CanRunIfSome, IsOpened}
 use Rattle.hp_replay.proofs.Feeding.{held_after-append, lines_after-append, stays}
 use Rattle.hp_replay.proofs.Spelled.{spelled}
 use Rattle.hp_replay.proofs.Writes.{Wrote-behind}
 
-pub LinesRun-append : (a : Option CoreState) (xs : List Line) (b : Option CoreState) (s : List ℕ) (ys : List Line) (c : Option CoreState) (t : List ℕ) → LinesRun a xs b s → LinesRun b ys c t → LinesRun a (xs ++ ys) c (s ++ t)
-LinesRun-append a [] b s ys c t p q = subst (λ (x : List ℕ). LinesRun a ys c (x ++ t)) (sym p.1) (subst (λ (x : Option CoreState). LinesRun x ys c t) p.0 q)
-LinesRun-append a (x ∷ xs) b s ys c t (mid, first, others, one, more, text) q =
-    (mid, first, others ++ t, one, LinesRun-append mid xs b others ys c t more q, ap (λ (x : List ℕ). x ++ t) text ∙ append_assoc first others t)
+pub LinesRun-append : (a : Option CoreState) (xs : List Line) (b : Option CoreState) (s : List ℕ) (ys : List Line)
+    (c : Option CoreState) (t : List ℕ) → LinesRun a xs b s → LinesRun b ys c t → LinesRun a (xs ++ ys) c (s ++ t)
+LinesRun-append a [] b s ys c t p q =
+    subst (λ (x : List ℕ). LinesRun a ys c (x ++ t)) (sym p.1) (subst (λ (x : Option CoreState). LinesRun x ys c t) p.0 q)
+LinesRun-append a (x ∷ xs) b s ys c t (mid, first, others, one, more, text) q = (
+  mid,
+  first,
+  others ++ t,
+  one,
+  LinesRun-append mid xs b others ys c t more q,
+  ap (λ (x : List ℕ). x ++ t) text ∙ append_assoc first others t,
+)
 
 -- ---- one line
 
 pub no_lines : (old : Option CoreState) (o : Option (List ℕ)) → LinesRan old [] old o o
 no_lines old o = record { text = []; runs = (refl, refl); wrote = Appends-nil o }
 
-one_runs : (old : Option CoreState) (line : Line) (new : Option CoreState) (text : List ℕ) → LineRuns old line new text → LinesRun old (line ∷ []) new text
+one_runs : (old : Option CoreState) (line : Line) (new : Option CoreState) (text : List ℕ)
+    → LineRuns old line new text → LinesRun old (line ∷ []) new text
 one_runs old line new text runs = (new, text, [], runs, (refl, refl), sym (append-nil text))
 
 -- the first line opens the core
-pub opened_ran : (old : Option CoreState) (line : TraceLine) (config : Config) (core : CoreState) (o : Option (List ℕ)) → line ≡ lines.Header config → IsOpening config core → LinesRan old (line_of line ∷ []) (Some core) o o
+pub opened_ran : (old : Option CoreState) (line : TraceLine) (config : Config) (core : CoreState)
+    (o : Option (List ℕ)) → line ≡ lines.Header config → IsOpening config core → LinesRan old (line_of line ∷ []) (Some core) o o
 opened_ran old line config core o is opening =
     subst (λ (l : TraceLine). LinesRan old (line_of l ∷ []) (Some core) o o) (sym is)
-    (record { text = []; runs = one_runs old (line_of (lines.Header config)) (Some core) [] (config, refl, opening, refl); wrote = Appends-nil o })
+    (record {
+      text = [];
+      runs = one_runs old (line_of (lines.Header config)) (Some core) [] (config, refl, opening, refl);
+      wrote = Appends-nil o;
+    })
 
 -- another line is an event
-event_runs : (old : Option CoreState) (core new : CoreState) (line : TraceLine) (e : Event) (outcome : Outcome) → line ≡ lines.Event e → old ≡ Some core → Row core e outcome new → LinesRun old (line_of line ∷ []) (Some new) (outcome_line outcome)
+event_runs : (old : Option CoreState) (core new : CoreState) (line : TraceLine) (e : Event) (outcome : Outcome)
+    → line ≡ lines.Event e → old ≡ Some core → Row core e outcome new
+    → LinesRun old (line_of line ∷ []) (Some new) (outcome_line outcome)
 event_runs old core new line e outcome is some row =
     subst (λ (l : TraceLine). LinesRun old (line_of l ∷ []) (Some new) (outcome_line outcome)) (sym is)
     (subst (λ (c : Option CoreState). LinesRun c (event e ∷ []) (Some new) (outcome_line outcome)) (sym some)
     (one_runs (Some core) (event e) (Some new) (outcome_line outcome) (outcome, row, refl)))
 
-pub event_ran : (old : Option CoreState) (core new : CoreState) (line : TraceLine) (e : Event) (outcome : Outcome) (o o' : Option (List ℕ)) (r : Result (Unit {0}) ReplayFault) → line ≡ lines.Event e → old ≡ Some core → Row core e outcome new → OnOk r (Appends o o' (outcome_line outcome)) → OnOk r (LinesRan old (line_of line ∷ []) (Some new) o o')
+pub event_ran : (old : Option CoreState) (core new : CoreState) (line : TraceLine) (e : Event) (outcome : Outcome)
+    (o o' : Option (List ℕ)) (r : Result (Unit {0}) ReplayFault) → line ≡ lines.Event e → old ≡ Some core
+    → Row core e outcome new → OnOk r (Appends o o' (outcome_line outcome))
+    → OnOk r (LinesRan old (line_of line ∷ []) (Some new) o o')
 event_ran old core new line e outcome o o' (Err fault) is some row wrote = tt
 event_ran old core new line e outcome o o' (Ok x) is some row wrote =
     record { text = outcome_line outcome; runs = event_runs old core new line e outcome is some row; wrote = wrote }
 
-pub event_stopped : (old : Option CoreState) (core new : CoreState) (line : TraceLine) (e : Event) (outcome : Outcome) (o o' : Option (List ℕ)) (r : Result (Unit {0}) ReplayFault) → line ≡ lines.Event e → old ≡ Some core → Row core e outcome new → IfErr r (λ fault. IsWriteFault fault × Wrote o o' (outcome_line outcome)) → IfErr r (λ fault. LinesStopped fault old (line_of line ∷ []) o o')
+pub event_stopped : (old : Option CoreState) (core new : CoreState) (line : TraceLine) (e : Event) (outcome : Outcome)
+    (o o' : Option (List ℕ)) (r : Result (Unit {0}) ReplayFault) → line ≡ lines.Event e → old ≡ Some core
+    → Row core e outcome new → IfErr r (λ fault. IsWriteFault fault × Wrote o o' (outcome_line outcome))
+    → IfErr r (λ fault. LinesStopped fault old (line_of line ∷ []) o o')
 event_stopped old core new line e outcome o o' (Ok x) is some row stopped = tt
-event_stopped old core new line e outcome o o' (Err fault) is some row stopped =
-    (stopped.0, inr (record { new = Some new; text = outcome_line outcome; runs = event_runs old core new line e outcome is some row; wrote = stopped.1 }))
+event_stopped old core new line e outcome o o' (Err fault) is some row stopped = (
+  stopped.0,
+  inr (record {
+    new = Some new;
+    text = outcome_line outcome;
+    runs = event_runs old core new line e outcome is some row;
+    wrote = stopped.1;
+  }),
+)
 
 -- ---- pieces
 
@@ -67,7 +98,8 @@ pub record Running (held now : Held) (core new : Option CoreState) (before after
   pub no_fault : now.fault ≡ None
   pub opened : IsOpened now new
 
-pub starts : (held : Held) (core : Option CoreState) (before : Option (List ℕ)) (piece : List ℕ) → held.fault ≡ None → IsOpened held core → Running held held core core before before piece piece
+pub starts : (held : Held) (core : Option CoreState) (before : Option (List ℕ)) (piece : List ℕ) → held.fault ≡ None
+    → IsOpened held core → Running held held core core before before piece piece
 unfolding held_after lines_after
 starts held core before piece ok opened =
     record {
@@ -79,12 +111,15 @@ starts held core before piece ok opened =
     }
 
 -- the lines of a longer piece
-lines_run : (h h' : Held) (a b : List ℕ) (c c' c'' : Option CoreState) (s t : List ℕ) → h' ≡ held_after h a → LinesRun c (lines_after h a) c' s → LinesRun c' (lines_after h' b) c'' t → LinesRun c (lines_after h (a ++ b)) c'' (s ++ t)
+lines_run : (h h' : Held) (a b : List ℕ) (c c' c'' : Option CoreState) (s t : List ℕ) → h' ≡ held_after h a
+    → LinesRun c (lines_after h a) c' s → LinesRun c' (lines_after h' b) c'' t → LinesRun c (lines_after h (a ++ b)) c'' (s ++ t)
 lines_run h h' a b c c' c'' s t is p q =
     let more : LinesRun c' (lines_after (held_after h a) b) c'' t = subst (λ (x : Held). LinesRun c' (lines_after x b) c'' t) is q in
-    subst (λ (ls : List Line). LinesRun c ls c'' (s ++ t)) (sym (lines_after-append h a b)) (LinesRun-append c (lines_after h a) c' s (lines_after (held_after h a) b) c'' t p more)
+    subst (λ (ls : List Line). LinesRun c ls c'' (s ++ t)) (sym (lines_after-append h a b))
+    (LinesRun-append c (lines_after h a) c' s (lines_after (held_after h a) b) c'' t p more)
 
-pub PieceRan-append : (h h' h'' : Held) (a b : List ℕ) (c c' c'' : Option CoreState) (o o' o'' : Option (List ℕ)) → PieceRan h a h' c c' o o' → PieceRan h' b h'' c' c'' o' o'' → PieceRan h (a ++ b) h'' c c'' o o''
+pub PieceRan-append : (h h' h'' : Held) (a b : List ℕ) (c c' c'' : Option CoreState) (o o' o'' : Option (List ℕ))
+    → PieceRan h a h' c c' o o' → PieceRan h' b h'' c' c'' o' o'' → PieceRan h (a ++ b) h'' c c'' o o''
 PieceRan-append h h' h'' a b c c' c'' o o' o'' p q =
     record {
       text = p.text ++ q.text;
@@ -94,7 +129,8 @@ PieceRan-append h h' h'' a b c c' c'' o o' o'' p q =
     }
 
 -- a piece that ran, and then one that did in part
-pub PieceRanPartly-behind : (h h' : Held) (a b : List ℕ) (c c' : Option CoreState) (o o' o'' : Option (List ℕ)) → PieceRan h a h' c c' o o' → PieceRanPartly h' b c' o' o'' → PieceRanPartly h (a ++ b) c o o''
+pub PieceRanPartly-behind : (h h' : Held) (a b : List ℕ) (c c' : Option CoreState) (o o' o'' : Option (List ℕ))
+    → PieceRan h a h' c c' o o' → PieceRanPartly h' b c' o' o'' → PieceRanPartly h (a ++ b) c o o''
 PieceRanPartly-behind h h' a b c c' o o' o'' p q =
     record {
       front = a ++ q.front;
@@ -114,12 +150,18 @@ pub through_parts : (xs : List ℕ) → xs ≡ take_through 10 xs ++ drop (lengt
 through_parts [] = refl
 through_parts (x ∷ xs) = by (eqb x 10) refl (through_parts xs)
   where
-    by : (end : Bool) → eqb x 10 ≡ end → xs ≡ take_through 10 xs ++ drop (length (take_through 10 xs)) xs → x ∷ xs ≡ take_through 10 (x ∷ xs) ++ drop (length (take_through 10 (x ∷ xs))) (x ∷ xs)
+    by : (end : Bool) → eqb x 10 ≡ end → xs ≡ take_through 10 xs ++ drop (length (take_through 10 xs)) xs
+        → x ∷ xs ≡ take_through 10 (x ∷ xs) ++ drop (length (take_through 10 (x ∷ xs))) (x ∷ xs)
     by true e later = rw e refl
     by false e later = rw e (ap (λ (t : List ℕ). x ∷ t) later)
 
 pub through_within : (xs : List ℕ) → length (take_through 10 xs) ≤ length xs
-through_within xs = omega (arith, ap (λ (t : List ℕ). length t) (through_parts xs), length-append (take_through 10 xs) (drop (length (take_through 10 xs)) xs))
+through_within xs =
+    omega (
+      arith,
+      ap (λ (t : List ℕ). length t) (through_parts xs),
+      length-append (take_through 10 xs) (drop (length (take_through 10 xs)) xs),
+    )
 
 pub through_some : (xs : List ℕ) → 0 < length xs → 0 < length (take_through 10 xs)
 through_some [] lt = absurd (omega arith)
@@ -147,7 +189,9 @@ can_run (suc n) (event e) None are opened = absurd (none_is (opened (omega arith
 can_run (suc n) (event e) (Some core) are opened = tt
 
 -- a line that comes finds the core that it needs
-pub line_can_run : (h next : Held) (line : Option Line) (rest : List ℕ) (core : Option CoreState) → next ≡ held_after h (take_through 10 rest) → listed line [] ≡ lines_after h (take_through 10 rest) → next.fault ≡ None → IsOpened h core → CanRunIfSome core line
+pub line_can_run : (h next : Held) (line : Option Line) (rest : List ℕ) (core : Option CoreState)
+    → next ≡ held_after h (take_through 10 rest) → listed line [] ≡ lines_after h (take_through 10 rest)
+    → next.fault ≡ None → IsOpened h core → CanRunIfSome core line
 line_can_run h next None rest core held lines ok opened = tt
 line_can_run h next (Some line) rest core held lines ok opened =
     let s = spelled h (take_through 10 rest) (ap (λ (x : Held). x.fault) (sym held) ∙ ok) in
@@ -160,26 +204,43 @@ some_core None (event e) new text runs = absurd runs
 some_core (Some old) (event e) None text runs = absurd runs
 some_core (Some old) (event e) (Some new) text runs = refl
 
-opened_on : (n m : ℕ) (mid new : Option CoreState) (line : Option Line) (text : List ℕ) → LinesRun mid (listed line []) new text → m ≡ n + length (listed line []) → (0 < n → IsSome mid) → 0 < m → IsSome new
+opened_on : (n m : ℕ) (mid new : Option CoreState) (line : Option Line) (text : List ℕ)
+    → LinesRun mid (listed line []) new text → m ≡ n + length (listed line []) → (0 < n → IsSome mid) → 0 < m → IsSome new
 opened_on n m mid new None text runs count opened some = subst (λ (x : Option CoreState). IsSome x) (sym runs.0) (opened (omega arith))
-opened_on n m mid new (Some line) text (next, first, others, one, more, parts) count opened some = subst (λ (x : Option CoreState). IsSome x) (sym more.0) (some_core mid line next first one)
+opened_on n m mid new (Some line) text (next, first, others, one, more, parts) count opened some =
+    subst (λ (x : Option CoreState). IsSome x) (sym more.0) (some_core mid line next first one)
 
 -- the next line of the piece ran
-pub line_moves : (held h next : Held) (core mid new : Option CoreState) (o o' o'' : Option (List ℕ)) (piece rest left : List ℕ) (line : Option Line) → Running held h core mid o o' piece rest → TookLine h next line rest left → LinesRan mid (listed line []) new o' o'' → Running held next core new o o'' piece left
+pub line_moves : (held h next : Held) (core mid new : Option CoreState) (o o' o'' : Option (List ℕ))
+    (piece rest left : List ℕ) (line : Option Line) → Running held h core mid o o' piece rest
+    → TookLine h next line rest left → LinesRan mid (listed line []) new o' o'' → Running held next core new o o'' piece left
 line_moves held h next core mid new o o' o'' piece rest left line r t ran =
     let s = spelled h (take_through 10 rest) (ap (λ (x : Held). x.fault) (sym t.held) ∙ t.ok) in
-    let count : next.lines ≡ h.lines + length (listed line []) = ap (λ (x : Held). x.lines) t.held ∙ s.lines ∙ ap (λ (x : List Line). h.lines + length x) (sym t.lines) in
-    let one : PieceRan h (take_through 10 rest) next mid new o' o'' = record { text = ran.text; taken = t.held; runs = subst (λ (ls : List Line). LinesRun mid ls new ran.text) t.lines ran.runs; wrote = ran.wrote } in
+    let count : next.lines ≡ h.lines + length (listed line []) =
+    ap (λ (x : Held). x.lines) t.held ∙ s.lines ∙ ap (λ (x : List Line). h.lines + length x) (sym t.lines) in
+    let one : PieceRan h (take_through 10 rest) next mid new o' o'' =
+    record {
+      text = ran.text;
+      taken = t.held;
+      runs = subst (λ (ls : List Line). LinesRun mid ls new ran.text) t.lines ran.runs;
+      wrote = ran.wrote;
+    } in
     record {
       front = r.front ++ take_through 10 rest;
-      parts = r.parts ∙ ap (λ (x : List ℕ). r.front ++ x) (through_parts rest ∙ ap (λ (x : List ℕ). take_through 10 rest ++ x) (sym t.left_is)) ∙ sym (append_assoc r.front (take_through 10 rest) left);
+      parts =
+          r.parts ∙ ap (λ (x : List ℕ). r.front ++ x)
+          (through_parts rest ∙ ap (λ (x : List ℕ). take_through 10 rest ++ x) (sym t.left_is))
+          ∙ sym (append_assoc r.front (take_through 10 rest) left);
       ran = PieceRan-append held h next r.front (take_through 10 rest) core mid new o o' o'' r.ran one;
       no_fault = t.ok;
       opened = opened_on h.lines next.lines mid new line ran.text ran.runs count r.opened;
     }
 
 -- the line was taken, and did not run to its end
-pub line_stops : (held h next after : Held) (core mid new : Option CoreState) (o o' o'' : Option (List ℕ)) (piece rest left : List ℕ) (line : Option Line) (fault : ReplayFault) → Running held h core mid o o' piece rest → TookLine h next line rest left → LinesStopped fault mid (listed line []) o' o'' → PieceStopped fault held piece after core new o o''
+pub line_stops : (held h next after : Held) (core mid new : Option CoreState) (o o' o'' : Option (List ℕ))
+    (piece rest left : List ℕ) (line : Option Line) (fault : ReplayFault) → Running held h core mid o o' piece rest
+    → TookLine h next line rest left → LinesStopped fault mid (listed line []) o' o''
+    → PieceStopped fault held piece after core new o o''
 unfolding held_after lines_after
 line_stops held h next after core mid new o o' o'' piece rest left line fault r t (is, inl none) =
     inr (
@@ -196,17 +257,36 @@ line_stops held h next after core mid new o o' o'' piece rest left line fault r 
       is,
       subst (λ (x : List ℕ). PieceRanPartly held x core o o'') (sym r.parts)
           (PieceRanPartly-behind held h r.front rest core mid o o' o'' r.ran
-          (record { front = first; back = left'; parts = through_parts rest; ok = ap (λ (x : Held). x.fault) (sym t.held) ∙ t.ok; ran = ran })),
+          (record {
+            front = first;
+            back = left';
+            parts = through_parts rest;
+            ok = ap (λ (x : Held). x.fault) (sym t.held) ∙ t.ok;
+            ran = ran;
+          })),
     )
 
 -- a fault: no line comes of the rest of the piece
-pub fails : (held h next : Held) (core mid : Option CoreState) (o o' : Option (List ℕ)) (piece rest : List ℕ) (fault : ReplayFault) → Running held h core mid o o' piece rest → next ≡ held_after h (take_through 10 rest) → lines_after h (take_through 10 rest) ≡ [] → next.fault ≡ Some fault → PieceStopped fault held piece next core mid o o'
+pub fails : (held h next : Held) (core mid : Option CoreState) (o o' : Option (List ℕ)) (piece rest : List ℕ)
+    (fault : ReplayFault) → Running held h core mid o o' piece rest → next ≡ held_after h (take_through 10 rest)
+    → lines_after h (take_through 10 rest) ≡ [] → next.fault ≡ Some fault → PieceStopped fault held piece next core mid o o'
 fails held h next core mid o o' piece rest fault r held_is none failed =
     let t = take_through 10 rest in
     let left = drop (length t) rest in
     let s = stays next fault left failed in
-    let taken : next ≡ held_after h (t ++ left) = sym s.0 ∙ ap (λ (x : Held). held_after x left) held_is ∙ sym (held_after-append h t left) in
+    let taken : next ≡ held_after h (t ++ left) =
+    sym s.0 ∙ ap (λ (x : Held). held_after x left) held_is ∙ sym (held_after-append h t left) in
     let no_lines : lines_after h (t ++ left) ≡ [] = lines_after-append h t left ∙ rw (none, ← held_is) s.1 in
-    let last : PieceRan h (t ++ left) next mid mid o' o' = record { text = []; taken = taken; runs = subst (λ (ls : List Line). LinesRun mid ls mid []) (sym no_lines) (refl, refl); wrote = Appends-nil o' } in
+    let last : PieceRan h (t ++ left) next mid mid o' o' =
+    record {
+      text = [];
+      taken = taken;
+      runs = subst (λ (ls : List Line). LinesRun mid ls mid []) (sym no_lines) (refl, refl);
+      wrote = Appends-nil o';
+    } in
     let parts : r.front ++ (t ++ left) ≡ piece = sym (r.parts ∙ ap (λ (x : List ℕ). r.front ++ x) (through_parts rest)) in
-    inl (failed, subst (λ (x : List ℕ). PieceRan held x next core mid o o') parts (PieceRan-append held h next r.front (t ++ left) core mid mid o o' o' r.ran last))
+    inl (
+      failed,
+      subst (λ (x : List ℕ). PieceRan held x next core mid o o') parts
+          (PieceRan-append held h next r.front (t ++ left) core mid mid o o' o' r.ran last),
+    )

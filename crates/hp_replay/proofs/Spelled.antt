@@ -1,11 +1,13 @@
 -- The bytes that were taken are the lines that came of them, and the rest.
-use Rattle.std.proofs.Common.{◌≡◌, ℕ, zero, suc, ◌+◌, List, [], ◌∷◌, ◌++◌, length, Option, Some, None, refl, sym, ap, subst, ◌∙◌, arith, append_assoc}
+use Rattle.std.proofs.Common.{◌≡◌, ℕ, zero, suc, ◌+◌, List, [], ◌∷◌, ◌++◌, length, Option, Some, None, refl, sym, ap, subst, ◌∙◌}
+use Rattle.std.proofs.Common.{arith, append_assoc}
 use Rattle.std.specs.List.{flat_map}
 use Rattle.std.proofs.lemmas.List.{append-nil}
 use Rattle.std.proofs.lemmas.List.Concat.{flat_map-cons}
 use Rattle.hp_replay.specs.declared.fault.ReplayFault.{ReplayFault}
 use Rattle.hp_replay.specs.Reading.{header_at, event_at}
-use Rattle.hp_replay.specs.Lines.{Held, Line, header, event, line_at, take_byte, with_fault, held_after, lines_after, listed, line_text, AreLines}
+use Rattle.hp_replay.specs.Lines.{Held, Line, header, event, line_at, take_byte, with_fault, held_after, lines_after, listed}
+use Rattle.hp_replay.specs.Lines.{line_text, AreLines}
 use Rattle.hp_replay.proofs.Numbers.{bind_some}
 use Rattle.hp_replay.proofs.Lines.{header_takes, event_takes}
 use Rattle.hp_replay.proofs.Feeding.{stays}
@@ -25,11 +27,13 @@ pub line_takes : (n : ℕ) (rest : List ℕ) (l : Line) → line_at n rest ≡ S
 line_takes zero rest l e =
     let a = bind_some (header_at rest) (λ s. Some (header s)) l e in
     let t = header_takes rest a.0 a.1 in
-    subst (λ (x : Line). (rest ++ (10 ∷ []) ≡ line_text x) × AreLines 0 (x ∷ [])) (some_is (header a.0) l a.2) (ap (λ (x : List ℕ). x ++ (10 ∷ [])) t.0, (t.1, tt))
+    subst (λ (x : Line). (rest ++ (10 ∷ []) ≡ line_text x) × AreLines 0 (x ∷ [])) (some_is (header a.0) l a.2)
+    (ap (λ (x : List ℕ). x ++ (10 ∷ [])) t.0, (t.1, tt))
 line_takes (suc n) rest l e =
     let a = bind_some (event_at rest) (λ s. Some (event s)) l e in
     let t = event_takes rest a.0 a.1 in
-    subst (λ (x : Line). (rest ++ (10 ∷ []) ≡ line_text x) × AreLines (suc n) (x ∷ [])) (some_is (event a.0) l a.2) (ap (λ (x : List ℕ). x ++ (10 ∷ [])) t.0, (t.1, tt))
+    subst (λ (x : Line). (rest ++ (10 ∷ []) ≡ line_text x) × AreLines (suc n) (x ∷ [])) (some_is (event a.0) l a.2)
+    (ap (λ (x : List ℕ). x ++ (10 ∷ [])) t.0, (t.1, tt))
 
 byte_took : (h : Held) (b : ℕ) → h.fault ≡ None → (take_byte h b).0.fault ≡ None → Took h (take_byte h b) b
 byte_took h b none ok = by (take_byte h b) (byte_case h b none) ok
@@ -49,20 +53,30 @@ byte_took h b none ok = by (take_byte h b) (byte_case h b none) ok
     by next (takes_line l few end is e) ok =
         let t = line_takes h.lines h.rest l is in
         same next (record { lines = h.lines + 1; rest = []; fault = None }, Some l) e
-        (record { text = append-nil (line_text l ++ []) ∙ append-nil (line_text l) ∙ sym t.0 ∙ ap (λ (x : ℕ). h.rest ++ (x ∷ [])) (sym end); lines = refl; are = t.1 })
+        (record {
+          text = append-nil (line_text l ++ []) ∙ append-nil (line_text l) ∙ sym t.0
+              ∙ ap (λ (x : ℕ). h.rest ++ (x ∷ [])) (sym end);
+          lines = refl;
+          are = t.1;
+        })
     by next (grows few other short e) ok =
         same next (record h { rest = h.rest ++ b ∷ [] }, None) e (record { text = refl; lines = omega arith; are = tt })
 
-listed_text : (o : Option Line) (lines : List Line) → flat_map line_text (listed o lines) ≡ flat_map line_text (listed o []) ++ flat_map line_text lines
+listed_text : (o : Option Line) (lines : List Line)
+    → flat_map line_text (listed o lines) ≡ flat_map line_text (listed o []) ++ flat_map line_text lines
 listed_text None lines = refl
-listed_text (Some l) lines = flat_map-cons line_text l lines ∙ ap (λ (x : List ℕ). x ++ flat_map line_text lines) (sym (flat_map-cons line_text l [] ∙ append-nil (line_text l)))
+listed_text (Some l) lines =
+    flat_map-cons line_text l lines
+    ∙ ap (λ (x : List ℕ). x ++ flat_map line_text lines) (sym (flat_map-cons line_text l [] ∙ append-nil (line_text l)))
 
-are_more : (n m : ℕ) (o : Option Line) (lines : List Line) → AreLines n (listed o []) → m ≡ n + length (listed o []) → AreLines m lines → AreLines n (listed o lines)
+are_more : (n m : ℕ) (o : Option Line) (lines : List Line) → AreLines n (listed o []) → m ≡ n + length (listed o [])
+    → AreLines m lines → AreLines n (listed o lines)
 are_more n m None lines first is more = let e : m ≡ n = omega arith in subst (λ (k : ℕ). AreLines k lines) e more
 are_more zero m (Some (header s)) lines first is more = let e : m ≡ 1 = omega arith in (first.0, subst (λ (k : ℕ). AreLines k lines) e more)
 are_more zero m (Some (event s)) lines first is more = absurd first
 are_more (suc n) m (Some (header s)) lines first is more = absurd first
-are_more (suc n) m (Some (event s)) lines first is more = let e : m ≡ suc n + 1 = omega arith in (first.0, subst (λ (k : ℕ). AreLines k lines) e more)
+are_more (suc n) m (Some (event s)) lines first is more =
+    let e : m ≡ suc n + 1 = omega arith in (first.0, subst (λ (k : ℕ). AreLines k lines) e more)
 
 -- what the bytes were, where there is no fault after them
 pub record Spelled (h : Held) (bytes : List ℕ) : Type 0 where
@@ -106,6 +120,7 @@ spelled h (b ∷ bytes) ok =
       are = are_more h.lines next.0.lines next.1 lines first.are first.lines more.are;
     }
   where
-    counted : (o : Option Line) (lines : List Line) (n m : ℕ) → m ≡ n + length (listed o []) → m + length lines ≡ n + length (listed o lines)
+    counted : (o : Option Line) (lines : List Line) (n m : ℕ) → m ≡ n + length (listed o [])
+        → m + length lines ≡ n + length (listed o lines)
     counted None lines n m e = omega arith
     counted (Some l) lines n m e = omega arith

@@ -1,5 +1,6 @@
 -- What all bytes say: a trace, or the fault of their first bad line.
-use Rattle.std.proofs.Common.{◌≡◌, ℕ, zero, suc, ◌+◌, ◌<◌, ◌≤◌, List, [], ◌∷◌, ◌++◌, length, Option, Some, None, refl, sym, ap, subst, ◌∙◌, arith, append_assoc, length-append}
+use Rattle.std.proofs.Common.{◌≡◌, ℕ, zero, suc, ◌+◌, ◌<◌, ◌≤◌, List, [], ◌∷◌, ◌++◌, length, Option, Some, None, refl, sym, ap}
+use Rattle.std.proofs.Common.{subst, ◌∙◌, arith, append_assoc, length-append}
 use Rattle.std.specs.Prelude.{Result, Ok, Err, map, All}
 use Rattle.std.specs.List.{flat_map}
 use Rattle.std.proofs.lemmas.List.{append-nil}
@@ -9,7 +10,8 @@ use Rattle.hp_base.specs.declared.event.Event.{Event}
 use Rattle.hp_replay.specs.declared.fault.ReplayFault.{ReplayFault}
 use Rattle.hp_replay.specs.declared.fault.ReplayFault.TheVariants.{BadLine, BadHeader}
 use Rattle.hp_replay.specs.Fits.{EventFits}
-use Rattle.hp_replay.specs.Lines.{Held, opening_held, Line, header, event, line_text, AreLines, take_byte, fault_at, held_after, lines_after, end_of, end_at}
+use Rattle.hp_replay.specs.Lines.{Held, opening_held, Line, header, event, line_text, AreLines, take_byte, fault_at, held_after}
+use Rattle.hp_replay.specs.Lines.{lines_after, end_of, end_at}
 use Rattle.hp_replay.specs.Traces.{IsTrace, Spells, HasFault, trace_text, events_text}
 use Rattle.hp_replay.proofs.Bytes.{IsHeld, keeps_held, room}
 use Rattle.hp_replay.proofs.BadLines.{NoLine, stops, cut}
@@ -46,7 +48,8 @@ pub event_lines : (n : ℕ) (lines : List Line) → AreLines (suc n) lines → E
 event_lines n [] are = record { events = []; is = refl; each = All-nil EventFits; text = refl; count = refl }
 event_lines n (header s ∷ lines) are = absurd are
 event_lines n (event e ∷ lines) are =
-    let later : AreLines (suc (suc n)) lines = let add : suc n + 1 ≡ suc (suc n) = omega arith in subst (λ (k : ℕ). AreLines k lines) add are.1 in
+    let later : AreLines (suc (suc n)) lines = let add : suc n + 1 ≡ suc (suc n) = omega arith in
+    subst (λ (k : ℕ). AreLines k lines) add are.1 in
     let more = event_lines (suc n) lines later in
     record {
       events = e ∷ more.events;
@@ -97,7 +100,9 @@ pub record TakenTrace (bytes : List ℕ) (lines : List Line) (rest : List ℕ) :
   pub trace : TraceLines lines
   pub text : trace_text trace.sizes trace.events ++ rest ≡ bytes
 
-pub taken_trace : (bytes : List ℕ) (n : ℕ) → (held_after opening_held bytes).fault ≡ None → (held_after opening_held bytes).lines ≡ suc n → TakenTrace bytes (lines_after opening_held bytes) (held_after opening_held bytes).rest
+pub taken_trace : (bytes : List ℕ) (n : ℕ) → (held_after opening_held bytes).fault ≡ None
+    → (held_after opening_held bytes).lines ≡ suc n
+    → TakenTrace bytes (lines_after opening_held bytes) (held_after opening_held bytes).rest
 taken_trace bytes n ok count =
     let t = taken bytes ok in
     let few = t.held.lines in
@@ -110,14 +115,19 @@ rest_is [] rest bytes e t = t
 rest_is (l ∷ lines) rest bytes e t = absurd (omega arith)
 
 -- no line stands behind those that were taken
-pub front_fault : (front back : List ℕ) → (held_after opening_held front).fault ≡ None → (0 < (held_after opening_held front).lines → 0 < length ((held_after opening_held front).rest ++ back)) → NoLine (held_after opening_held front).lines ((held_after opening_held front).rest ++ back) → HasFault (front ++ back) (fault_at (held_after opening_held front).lines)
+pub front_fault : (front back : List ℕ) → (held_after opening_held front).fault ≡ None
+    → (0 < (held_after opening_held front).lines → 0 < length ((held_after opening_held front).rest ++ back))
+    → NoLine (held_after opening_held front).lines ((held_after opening_held front).rest ++ back)
+    → HasFault (front ++ back) (fault_at (held_after opening_held front).lines)
 front_fault front back ok some bad = by (held_after opening_held front).lines refl bad
   where
-    by : (n : ℕ) → (held_after opening_held front).lines ≡ n → NoLine n ((held_after opening_held front).rest ++ back) → HasFault (front ++ back) (fault_at n)
+    by : (n : ℕ) → (held_after opening_held front).lines ≡ n → NoLine n ((held_after opening_held front).rest ++ back)
+        → HasFault (front ++ back) (fault_at n)
     by zero none bad =
         let t = taken front ok in
         let no_lines = t.lines in
-        let rest : (held_after opening_held front).rest ≡ front = rest_is (lines_after opening_held front) (held_after opening_held front).rest front (omega arith) t.text in
+        let rest : (held_after opening_held front).rest ≡ front =
+        rest_is (lines_after opening_held front) (held_after opening_held front).rest front (omega arith) t.text in
         subst (λ (x : List ℕ). NoLine 0 (x ++ back)) rest bad
     by (suc n) count bad =
         let t = taken_trace front n ok count in
@@ -128,24 +138,30 @@ front_fault front back ok some bad = by (held_after opening_held front).lines re
           sizes = t.trace.sizes;
           events = t.trace.events;
           rest = (held_after opening_held front).rest ++ back;
-          parts = ap (λ (x : List ℕ). x ++ back) (sym t.text) ∙ append_assoc (trace_text t.trace.sizes t.trace.events) (held_after opening_held front).rest back;
+          parts =
+              ap (λ (x : List ℕ). x ++ back) (sym t.text)
+              ∙ append_assoc (trace_text t.trace.sizes t.trace.events) (held_after opening_held front).rest back;
           trace = t.trace.trace;
           number = omega arith;
           bad = (some (omega arith), subst (λ (k : ℕ). NoLine (suc k) ((held_after opening_held front).rest ++ back)) same bad);
         }
 
 -- a fault with which bytes are not taken, whatever follows
-pub fault_of : (bytes : List ℕ) (fault : ReplayFault) (later : List ℕ) → (held_after opening_held bytes).fault ≡ Some fault → HasFault (bytes ++ later) fault
+pub fault_of : (bytes : List ℕ) (fault : ReplayFault) (later : List ℕ)
+    → (held_after opening_held bytes).fault ≡ Some fault → HasFault (bytes ++ later) fault
 fault_of bytes fault later failed =
     let s = stops opening_held bytes fault refl opening_is failed in
     let some = s.some in
     subst (λ (f : ReplayFault). HasFault (bytes ++ later) f) (sym s.fault_is)
-    (subst (λ (x : List ℕ). HasFault x (fault_at (held_after opening_held s.front).lines)) (sym (ap (λ (x : List ℕ). x ++ later) s.parts ∙ append_assoc s.front s.back later))
+    (subst (λ (x : List ℕ). HasFault x (fault_at (held_after opening_held s.front).lines))
+    (sym (ap (λ (x : List ℕ). x ++ later) s.parts ∙ append_assoc s.front s.back later))
     (front_fault s.front (s.back ++ later) s.ok (λ _. simp (length-append) (omega arith)) (s.bad later)))
 
 -- what is wrong where the bytes are over
 pub end_fault : (bytes : List ℕ) (fault : ReplayFault) → end_of (held_after opening_held bytes) ≡ Err fault → HasFault bytes fault
-end_fault bytes fault e = by (held_after opening_held bytes).fault (held_after opening_held bytes).lines (held_after opening_held bytes).rest refl refl refl e
+end_fault bytes fault e =
+    by (held_after opening_held bytes).fault (held_after opening_held bytes).lines
+    (held_after opening_held bytes).rest refl refl refl e
   where
     err_is : (f g : ReplayFault) → (let r : Result (Unit {0}) ReplayFault = Err f in r) ≡ Err g → f ≡ g
     err_is f g e = cc
@@ -153,21 +169,28 @@ end_fault bytes fault e = by (held_after opening_held bytes).fault (held_after o
     ok_err : (g : ReplayFault) → (let r : Result (Unit {0}) ReplayFault = Ok tt in r) ≡ Err g → ⊥
     ok_err g e = cc
 
-    over : (held_after opening_held bytes).fault ≡ None → (0 < (held_after opening_held bytes).lines → 0 < length (held_after opening_held bytes).rest) → HasFault bytes (fault_at (held_after opening_held bytes).lines)
+    over : (held_after opening_held bytes).fault ≡ None
+        → (0 < (held_after opening_held bytes).lines → 0 < length (held_after opening_held bytes).rest)
+        → HasFault bytes (fault_at (held_after opening_held bytes).lines)
     over ok some =
         let h = held_after opening_held bytes in
         let t = taken bytes ok in
         subst (λ (x : List ℕ). HasFault x (fault_at h.lines)) (append-nil bytes)
-        (front_fault bytes [] ok (λ more. rw (append-nil h.rest) (some more)) (subst (λ (x : List ℕ). NoLine h.lines x) (sym (append-nil h.rest)) (cut h.lines h.rest t.held.no_end)))
+        (front_fault bytes [] ok (λ more. rw (append-nil h.rest) (some more))
+        (subst (λ (x : List ℕ). NoLine h.lines x) (sym (append-nil h.rest)) (cut h.lines h.rest t.held.no_end)))
 
-    by : (f : Option ReplayFault) (n : ℕ) (rest : List ℕ) → (held_after opening_held bytes).fault ≡ f → (held_after opening_held bytes).lines ≡ n → (held_after opening_held bytes).rest ≡ rest → end_at f n rest ≡ Err fault → HasFault bytes fault
+    by : (f : Option ReplayFault) (n : ℕ) (rest : List ℕ) → (held_after opening_held bytes).fault ≡ f
+        → (held_after opening_held bytes).lines ≡ n → (held_after opening_held bytes).rest ≡ rest
+        → end_at f n rest ≡ Err fault → HasFault bytes fault
     by (Some f) n rest failed count is e =
         subst (λ (x : List ℕ). HasFault x fault) (append-nil bytes) (fault_of bytes fault [] (failed ∙ ap Some (err_is f fault e)))
     by None zero rest ok count is e =
-        subst (λ (f : ReplayFault). HasFault bytes f) (ap fault_at count ∙ err_is BadHeader fault e) (over ok (λ more. absurd (omega arith)))
+        subst (λ (f : ReplayFault). HasFault bytes f) (ap fault_at count ∙ err_is BadHeader fault e)
+        (over ok (λ more. absurd (omega arith)))
     by None (suc n) [] ok count is e = absurd (ok_err fault e)
     by None (suc n) (b ∷ rest) ok count is e =
-        subst (λ (f : ReplayFault). HasFault bytes f) (ap fault_at count ∙ err_is (BadLine (n + 2)) fault e) (over ok (λ _. rw is (omega arith)))
+        subst (λ (f : ReplayFault). HasFault bytes f) (ap fault_at count ∙ err_is (BadLine (n + 2)) fault e)
+        (over ok (λ _. rw is (omega arith)))
 
 -- and what they spell where nothing is
 pub record EndTrace (bytes : List ℕ) : Type 0 where
@@ -175,12 +198,16 @@ pub record EndTrace (bytes : List ℕ) : Type 0 where
   pub spells : Spells bytes lines.sizes lines.events
 
 pub end_trace : (bytes : List ℕ) → end_of (held_after opening_held bytes) ≡ Ok tt → EndTrace bytes
-end_trace bytes e = by (held_after opening_held bytes).fault (held_after opening_held bytes).lines (held_after opening_held bytes).rest refl refl refl e
+end_trace bytes e =
+    by (held_after opening_held bytes).fault (held_after opening_held bytes).lines
+    (held_after opening_held bytes).rest refl refl refl e
   where
     err_ok : (f : ReplayFault) → (let r : Result (Unit {0}) ReplayFault = Err f in r) ≡ Ok tt → ⊥
     err_ok f e = cc
 
-    by : (f : Option ReplayFault) (n : ℕ) (rest : List ℕ) → (held_after opening_held bytes).fault ≡ f → (held_after opening_held bytes).lines ≡ n → (held_after opening_held bytes).rest ≡ rest → end_at f n rest ≡ Ok tt → EndTrace bytes
+    by : (f : Option ReplayFault) (n : ℕ) (rest : List ℕ) → (held_after opening_held bytes).fault ≡ f
+        → (held_after opening_held bytes).lines ≡ n → (held_after opening_held bytes).rest ≡ rest
+        → end_at f n rest ≡ Ok tt → EndTrace bytes
     by (Some f) n rest failed count is e = absurd (err_ok f e)
     by None zero rest ok count is e = absurd (err_ok BadHeader e)
     by None (suc n) (b ∷ rest) ok count is e = absurd (err_ok (BadLine (n + 2)) e)
@@ -188,5 +215,10 @@ end_trace bytes e = by (held_after opening_held bytes).fault (held_after opening
         let t = taken_trace bytes n ok count in
         record {
           lines = t.trace;
-          spells = record { text = sym t.text ∙ ap (λ (x : List ℕ). trace_text t.trace.sizes t.trace.events ++ x) is ∙ append-nil (trace_text t.trace.sizes t.trace.events); trace = t.trace.trace };
+          spells =
+              record {
+                text = sym t.text ∙ ap (λ (x : List ℕ). trace_text t.trace.sizes t.trace.events ++ x) is
+                    ∙ append-nil (trace_text t.trace.sizes t.trace.events);
+                trace = t.trace.trace;
+              };
         }

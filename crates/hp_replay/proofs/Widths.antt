@@ -1,5 +1,6 @@
 -- No line's text holds a line's end, and none is longer than 56 bytes.
-use Rattle.std.proofs.Common.{◌≡◌, ℕ, ◌+◌, ◌/◌, ◌%◌, ◌^◌, ◌<◌, ◌≤◌, true, false, eqb, List, [], ◌∷◌, ◌++◌, length, refl, arith, length-append}
+use Rattle.std.proofs.Common.{◌≡◌, ℕ, ◌+◌, ◌/◌, ◌%◌, ◌^◌, ◌<◌, ◌≤◌, true, false, eqb, List, [], ◌∷◌, ◌++◌, length, refl, arith}
+use Rattle.std.proofs.Common.{length-append}
 use Rattle.std.specs.Prelude.{codes}
 use Rattle.std.specs.Fmt.{decimal}
 use Rattle.std.proofs.lemmas.Bool.{ne_eqb, and_parts, leb-true}
@@ -19,7 +20,8 @@ pub record IsInLine (most : ℕ) (bytes : List ℕ) : Type 0 where
   pub no_end : HasNoEnd bytes
 
 joined : (m n : ℕ) (a b : List ℕ) → IsInLine m a → IsInLine n b → IsInLine (m + n) (a ++ b)
-joined m n a b p q = record { width = simp (length-append) (omega (arith, p.width, q.width)); no_end = HasNoEnd-append a b p.no_end q.no_end }
+joined m n a b p q =
+    record { width = simp (length-append) (omega (arith, p.width, q.width)); no_end = HasNoEnd-append a b p.no_end q.no_end }
 
 wider : (m n : ℕ) (a : List ℕ) → m ≤ n → IsInLine m a → IsInLine n a
 wider m n a le p = record { width = omega (arith, p.width); no_end = p.no_end }
@@ -42,12 +44,18 @@ decimal_no_end n small = decimal_by_steps P one more n small
     more k ds ge before = HasNoEnd-append ds _ before (digit (k % 10) (omega arith))
 
 short_field : (n : ℕ) → IsShort n → IsInLine 11 (field n)
-short_field n short = record { width = omega (arith, length-decimal-le 10 n (omega arith) (omega arith) (omega arith)); no_end = decimal_no_end n (omega arith) }
+short_field n short =
+    record {
+      width = omega (arith, length-decimal-le 10 n (omega arith) (omega arith) (omega arith));
+      no_end = decimal_no_end n (omega arith);
+    }
 
 word_field : (n : ℕ) → n < 2 ^ 64 → IsInLine 21 (field n)
-word_field n small = record { width = omega (arith, length-decimal-le 20 n (omega arith) (omega arith) small); no_end = decimal_no_end n small }
+word_field n small =
+    record { width = omega (arith, length-decimal-le 20 n (omega arith) (omega arith) small); no_end = decimal_no_end n small }
 
-range_width : (word : List ℕ) (file from len : ℕ) → IsInLine 6 word → IsShort file × IsShort from × IsShort len → IsInLine 39 (((word ++ field file) ++ field from) ++ field len)
+range_width : (word : List ℕ) (file from len : ℕ) → IsInLine 6 word → IsShort file × IsShort from × IsShort len
+    → IsInLine 39 (((word ++ field file) ++ field from) ++ field len)
 range_width word file from len w fits =
     joined 28 11 _ _ (joined 17 11 _ _ (joined 6 11 _ _ w (short_field file fits.0)) (short_field from fits.1)) (short_field len fits.2)
 
@@ -57,13 +65,21 @@ short_word word width no_end = record { width = width; no_end = no_end }
 op_width : (op : Op) → OpFits op → IsInLine 39 (op_text op)
 op_width (Map file from len) fits = range_width _ file from len (short_word (codes "map") (omega arith) refl) fits
 op_width (MapNoReserve file from len) fits = range_width _ file from len (short_word (codes "mapn") (omega arith) refl) fits
-op_width (Unmap base) fits = wider 17 39 _ (omega arith) (joined 6 11 _ _ (short_word (codes "unmap") (omega arith) refl) (short_field base fits))
-op_width (Load vpn) fits = wider 17 39 _ (omega arith) (joined 6 11 _ _ (short_word (codes "load") (omega arith) refl) (short_field vpn fits))
-op_width (Store vpn word) fits = wider 38 39 _ (omega arith) (joined 17 21 _ _ (joined 6 11 _ _ (short_word (codes "store") (omega arith) refl) (short_field vpn fits.0)) (word_field word fits.1))
+op_width (Unmap base) fits =
+    wider 17 39 _ (omega arith) (joined 6 11 _ _ (short_word (codes "unmap") (omega arith) refl) (short_field base fits))
+op_width (Load vpn) fits =
+    wider 17 39 _ (omega arith) (joined 6 11 _ _ (short_word (codes "load") (omega arith) refl) (short_field vpn fits))
+op_width (Store vpn word) fits =
+    wider 38 39 _ (omega arith)
+    (joined 17 21 _ _ (joined 6 11 _ _ (short_word (codes "store") (omega arith) refl) (short_field vpn fits.0))
+    (word_field word fits.1))
 op_width (Alloc file from len true) fits = range_width _ file from len (short_word (codes "allock") (omega arith) refl) fits
 op_width (Alloc file from len false) fits = range_width _ file from len (short_word (codes "alloc") (omega arith) refl) fits
 op_width (Punch file from len) fits = range_width _ file from len (short_word (codes "punch") (omega arith) refl) fits
-op_width (Truncate file new) fits = wider 28 39 _ (omega arith) (joined 17 11 _ _ (joined 6 11 _ _ (short_word (codes "trunc") (omega arith) refl) (short_field file fits.0)) (short_field new fits.1))
+op_width (Truncate file new) fits =
+    wider 28 39 _ (omega arith)
+    (joined 17 11 _ _ (joined 6 11 _ _ (short_word (codes "trunc") (omega arith) refl) (short_field file fits.0))
+    (short_field new fits.1))
 op_width Exit fits = wider 6 39 _ (omega arith) (short_word (codes "exit") (omega arith) refl)
 
 step_width : (word : List ℕ) (task : ℕ) → IsInLine 6 word → IsShort task → IsInLine 56 (word ++ field task)
@@ -94,4 +110,5 @@ sizes_width s within =
     let slots = leb-true s.slots 64 (and_parts _ _ q.1).1 in
     let tasks = leb-true s.tasks 64 (and_parts _ _ p.1).1 in
     wider 50 56 _ (omega arith)
-    (joined 39 11 _ _ (range_width (codes "pool") s.frames s.files s.slots (short_word (codes "pool") (omega arith) refl) (omega arith, omega arith, omega arith)) (short_field s.tasks (omega arith)))
+    (joined 39 11 _ _ (range_width (codes "pool") s.frames s.files s.slots
+    (short_word (codes "pool") (omega arith) refl) (omega arith, omega arith, omega arith)) (short_field s.tasks (omega arith)))

@@ -34,10 +34,13 @@ pub record Writing (old new : Option (List ℕ)) (text rest : List ℕ) : Type 0
 pub starts : (old : Option (List ℕ)) (text : List ℕ) → Writing old old text text
 starts old text = record { front = []; parts = refl; appends = Appends-nil old }
 
-pub goes_on : (old mid new : Option (List ℕ)) (text rest : List ℕ) (n : ℕ) → Writing old mid text rest → Appends mid new (take n rest) → Writing old new text (drop n rest)
+pub goes_on : (old mid new : Option (List ℕ)) (text rest : List ℕ) (n : ℕ) → Writing old mid text rest
+    → Appends mid new (take n rest) → Writing old new text (drop n rest)
 goes_on old mid new text rest n w more =
     record {
       front = w.front ++ take n rest;
-      parts = w.parts ∙ ap (λ (t : List ℕ). w.front ++ t) (sym (take-append-drop n rest)) ∙ sym (append_assoc w.front (take n rest) (drop n rest));
+      parts =
+          w.parts ∙ ap (λ (t : List ℕ). w.front ++ t) (sym (take-append-drop n rest))
+          ∙ sym (append_assoc w.front (take n rest) (drop n rest));
       appends = Appends-trans old mid new w.front (take n rest) w.appends more;
     }

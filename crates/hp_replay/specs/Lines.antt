@@ -1,5 +1,6 @@
 -- The lines of a trace, and what is held of a trace while it comes in pieces.
-use Rattle.std.specs.Prelude.{ℕ, zero, suc, ◌+◌, List, [], ◌∷◌, ◌++◌, length, Option, Some, None, Result, Ok, Err, ◌==◌, if◌then◌else◌, IsTrue}
+use Rattle.std.specs.Prelude.{ℕ, zero, suc, ◌+◌, List, [], ◌∷◌, ◌++◌, length, Option, Some, None, Result, Ok, Err, ◌==◌}
+use Rattle.std.specs.Prelude.{if◌then◌else◌, IsTrue}
 use Rattle.hp_base.specs.Limits.{within_limits}
 use Rattle.hp_base.specs.Text.{Sizes, sizes, sizes_text, event_text}
 use Rattle.hp_replay.specs.Fits.{EventFits}

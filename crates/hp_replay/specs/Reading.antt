@@ -1,5 +1,6 @@
 -- How a line is read: from the front, a word or a number at a time.
-use Rattle.std.specs.Prelude.{ℕ, ◌+◌, ◌-◌, ◌*◌, ◌^◌, List, [], ◌∷◌, length, drop, Option, Some, None, true, false, nat_le, nat_eq, ◌==◌, if◌then◌else◌, codes}
+use Rattle.std.specs.Prelude.{ℕ, ◌+◌, ◌-◌, ◌*◌, ◌^◌, List, [], ◌∷◌, length, drop, Option, Some, None, true, false, nat_le, nat_eq}
+use Rattle.std.specs.Prelude.{◌==◌, if◌then◌else◌, codes}
 use Rattle.std.specs.List.{starts_with}
 use Rattle.std.specs.Option.{option_map_or}
 use Rattle.std.specs.Char.{is_ascii_digit}
@@ -22,7 +23,9 @@ after_word word bytes = if starts_with nat_eq bytes word then Some (drop (length
 -- n, and the digits that follow it
 unfoldable pub number_from : ℕ → ℕ → List ℕ → Option (ℕ × List ℕ)
 number_from most n [] = Some (n, [])
-number_from most n (b ∷ bytes) = if is_ascii_digit b then (if nat_le (10 * n + (b - 48)) most then number_from most (10 * n + (b - 48)) bytes else None) else Some (n, b ∷ bytes)
+number_from most n (b ∷ bytes) =
+    if is_ascii_digit b then (if nat_le (10 * n + (b - 48)) most then number_from most (10 * n + (b - 48)) bytes
+    else None) else Some (n, b ∷ bytes)
 
 -- a number of at most `most`, and the bytes behind it: behind a 0 no digit belongs to it
 unfoldable pub number_at : ℕ → List ℕ → Option (ℕ × List ℕ)

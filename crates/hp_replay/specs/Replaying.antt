@@ -61,7 +61,8 @@ pub record RunOfLines (bytes rest text : List ℕ) (core : CoreState) : Type 0 w
 pub data RunWrites (to : Option (List ℕ)) (bytes text : List ℕ) : Type 0 where
   nothing : text ≡ [] → RunWrites to bytes text
   so_far : (rest : List ℕ) (core : CoreState) → RunOfLines bytes rest text core → RunWrites to bytes text
-  to_the_end : (front : List ℕ) (core : CoreState) → RunOfLines bytes [] front core → IsAtEnd to → text ≡ front ++ state_text core → RunWrites to bytes text
+  to_the_end : (front : List ℕ) (core : CoreState) → RunOfLines bytes [] front core → IsAtEnd to
+      → text ≡ front ++ state_text core → RunWrites to bytes text
 
 -- what was written is a front of what a run of the lines read writes
 pub record StoppedEarly (from to before after : Option (List ℕ)) : Type 0 where

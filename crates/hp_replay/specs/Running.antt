@@ -22,7 +22,9 @@ LineRuns (Some old) (event e) (Some new) text = (outcome : Outcome) × Row old e
 -- what lines do, one after the other
 abbrev pub LinesRun : Option CoreState → List Line → Option CoreState → List ℕ → Type 0
 LinesRun old [] new text = (new ≡ old) × (text ≡ [])
-LinesRun old (line ∷ lines) new text = (mid : Option CoreState) × (first : List ℕ) × (others : List ℕ) × LineRuns old line mid first × LinesRun mid lines new others × (text ≡ first ++ others)
+LinesRun old (line ∷ lines) new text =
+    (mid : Option CoreState) × (first : List ℕ) × (others : List ℕ) × LineRuns old line mid first
+    × LinesRun mid lines new others × (text ≡ first ++ others)
 
 -- an event needs a core
 abbrev pub CanRun : Option CoreState → Line → Type 0
@@ -53,10 +55,12 @@ pub record LinesRanPartly (old : Option CoreState) (lines : List Line) (before a
 
 -- memory was refused before the lines ran, or their text was not written to its end
 abbrev pub LinesStopped : ReplayFault → Option CoreState → List Line → Option (List ℕ) → Option (List ℕ) → Type 0
-LinesStopped fault old lines before after = IsWriteFault fault × (LinesRanPartly old [] before after ⊎ LinesRanPartly old lines before after)
+LinesStopped fault old lines before after =
+    IsWriteFault fault × (LinesRanPartly old [] before after ⊎ LinesRanPartly old lines before after)
 
 -- the lines of a piece ran, and their text was written
-pub record PieceRan (held : Held) (piece : List ℕ) (next : Held) (old new : Option CoreState) (before after : Option (List ℕ)) : Type 0 where
+pub record PieceRan (held : Held) (piece : List ℕ) (next : Held) (old new : Option CoreState)
+    (before after : Option (List ℕ)) : Type 0 where
   pub text : List ℕ
   pub taken : next ≡ held_after held piece
   pub runs : LinesRun old (lines_after held piece) new text
@@ -71,7 +75,8 @@ pub record PieceRanPartly (held : Held) (piece : List ℕ) (old : Option CoreSta
   pub ran : LinesRanPartly old (lines_after held front) before after
 
 -- a line of the piece is bad, or not all was run and written
-abbrev pub PieceStopped : ReplayFault → Held → List ℕ → Held → Option CoreState → Option CoreState → Option (List ℕ) → Option (List ℕ) → Type 0
+abbrev pub PieceStopped : ReplayFault → Held → List ℕ → Held → Option CoreState → Option CoreState → Option (List ℕ)
+    → Option (List ℕ) → Type 0
 PieceStopped fault held piece next old new before after =
     ((next.fault ≡ Some fault) × PieceRan held piece next old new before after)
     ⊎ (IsWriteFault fault × PieceRanPartly held piece old before after)

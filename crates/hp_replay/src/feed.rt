@@ -2,7 +2,8 @@
 ghost use Rattle.std.specs.Prelude.{◌≡◌, ◌≤◌, IfOk, IfErr, OnOk, OnErr, take, length, [], None, Some};
 ghost use Rattle.std.specs.Option.{option_map};
 ghost use Rattle.std.specs.Io.BufRead.{take_through};
-ghost use Rattle.hp_replay.specs.Lines.{Held, line_of, line_at, opening_held, fault_at, with_fault, take_byte, held_after, lines_after, listed, end_of};
+ghost use Rattle.hp_replay.specs.Lines.{Held, line_of, line_at, opening_held, fault_at, with_fault, take_byte, held_after};
+ghost use Rattle.hp_replay.specs.Lines.{lines_after, listed, end_of};
 
 use crate::fault::ReplayFault;
 use crate::reading::{event_at, header_at};

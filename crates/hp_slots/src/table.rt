@@ -1,5 +1,6 @@
 //! The table of holders.
-ghost use Rattle.std.specs.Prelude.{◌≡◌, ℕ, ◌<◌, ◌≤◌, ◌↔◌, IsOk, IfErr, OnOk, OnErr, IfOk, Some, None, List, Option, length, replicate, slice_set, slice_index_or};
+ghost use Rattle.std.specs.Prelude.{◌≡◌, ℕ, ◌<◌, ◌≤◌, ◌↔◌, IsOk, IfErr, OnOk, OnErr, IfOk, Some, None, List, Option, length};
+ghost use Rattle.std.specs.Prelude.{replicate, slice_set, slice_index_or};
 ghost use Rattle.hp_slots.specs.Holders.{holder_of, holder_in, slot_number};
 
 use hp_base::{File, Index, Task};

@@ -1,5 +1,6 @@
 -- The mapping that begins at a page: its place, what it has, and the list without it.
-use Rattle.std.proofs.Common.{◌≡◌, ℕ, zero, suc, ◌+◌, ◌<◌, ◌≤◌, Bool, true, false, cond, not, ◌==◌, List, [], ◌∷◌, Option, Some, None, length, get_or, refl, sym, ap, ◌∙◌, arith}
+use Rattle.std.proofs.Common.{◌≡◌, ℕ, zero, suc, ◌+◌, ◌<◌, ◌≤◌, Bool, true, false, cond, not, ◌==◌, List, [], ◌∷◌, Option, Some}
+use Rattle.std.proofs.Common.{None, length, get_or, refl, sym, ap, ◌∙◌, arith}
 use Rattle.std.proofs.Math.Path.{fun_ext}
 use Rattle.std.specs.FinMap as map
 use Rattle.std.specs.FinMap.{from_sorted, is_sorted}
@@ -38,7 +39,9 @@ pub no_place : (space low : ℕ) (ms : List Mapping) (v : ℕ) → IsSpread spac
     → position_or_len (begins_at v) ms ≡ length ms
 no_place space low [] v spread = λ none. refl
 no_place space low (m ∷ ms) v spread =
-    elim (nat_le m.base v) as (λ b. nat_le m.base v ≡ b → cond b (1 + prefix_len (begins v) ms) 0 ≡ 0 → position_or_len (begins_at v) (m ∷ ms) ≡ suc (length ms)) [
+    elim (nat_le m.base v) as
+    (λ b. nat_le m.base v ≡ b → cond b (1 + prefix_len (begins v) ms) 0 ≡ 0
+    → position_or_len (begins_at v) (m ∷ ms) ≡ suc (length ms)) [
       | true ↦ λ e none. absurd (omega arith)
       | false ↦ λ e none.
           let above = leb-false m.base v e in
@@ -61,7 +64,8 @@ last_place space low (m ∷ ms) v zero d spread begun =
 last_place space low (m ∷ ms) v (suc j) d spread begun =
     let rest : prefix_len (begins v) ms ≡ suc j = grind (arith, nat_tests, begun) in
     let past = past_first space m ms v j spread.2 rest in
-    rw (differs m.base v (omega (arith, past, spread.1))) (later ((get_or ms j d).base == v) (last_place space (m.base + m.len) ms v j d spread.2 rest))
+    rw (differs m.base v (omega (arith, past, spread.1)))
+    (later ((get_or ms j d).base == v) (last_place space (m.base + m.len) ms v j d spread.2 rest))
   where
     later : (b : Bool) → position_or_len (begins_at v) ms ≡ cond b j (length ms)
         → 1 + position_or_len (begins_at v) ms ≡ cond b (suc j) (suc (length ms))
@@ -82,7 +86,9 @@ position_there p xs k false within none = position_none p xs none
 
 place_found : {A : Type 0} (p : A → Bool) (xs : List A) (k : ℕ) → Some k ≡ position p xs → (position_or_len p xs ≡ k) × (k < length xs)
 place_found p xs k =
-    elim (nat_lt (position_or_len p xs) (length xs)) as (λ b. nat_lt (position_or_len p xs) (length xs) ≡ b → Some k ≡ cond b (Some (position_or_len p xs)) None → (position_or_len p xs ≡ k) × (k < length xs)) [
+    elim (nat_lt (position_or_len p xs) (length xs)) as
+    (λ b. nat_lt (position_or_len p xs) (length xs) ≡ b → Some k ≡ cond b (Some (position_or_len p xs)) None
+    → (position_or_len p xs ≡ k) × (k < length xs)) [
       | true ↦ λ e found.
           let within = ltb-true (position_or_len p xs) (length xs) e in
           let same : position_or_len p xs ≡ k = cc in
@@ -92,7 +98,9 @@ place_found p xs k =
 
 place_absent : {A : Type 0} (p : A → Bool) (xs : List A) → None ≡ position p xs → position_or_len p xs ≡ length xs
 place_absent p xs =
-    elim (nat_lt (position_or_len p xs) (length xs)) as (λ b. nat_lt (position_or_len p xs) (length xs) ≡ b → None ≡ cond b (Some (position_or_len p xs)) None → position_or_len p xs ≡ length xs) [
+    elim (nat_lt (position_or_len p xs) (length xs)) as
+    (λ b. nat_lt (position_or_len p xs) (length xs) ≡ b → None ≡ cond b (Some (position_or_len p xs)) None
+    → position_or_len p xs ≡ length xs) [
       | true ↦ λ e absent. let d : ◌≡◌ {A = Option ℕ} None (Some (position_or_len p xs)) = absent in absurd (cc)
       | false ↦ λ e absent.
           let past = ltb-false (position_or_len p xs) (length xs) e in
@@ -120,7 +128,8 @@ base_at (m ∷ ms) base k d place within = here (λ j place within. base_at ms b
 in_mapping-at : (ms : List Mapping) (base k : ℕ) (d : Mapping) (v : ℕ) → position_or_len (begins_at base) ms ≡ k → k < length ms
     → in_mapping ms base v ≡ covers (get_or ms k d) v
 in_mapping-at [] base k d v place within = absurd (omega arith)
-in_mapping-at (m ∷ ms) base k d v place within = here (λ j place within. in_mapping-at ms base j d v place within) (m.base == base) k place within
+in_mapping-at (m ∷ ms) base k d v place within =
+    here (λ j place within. in_mapping-at ms base j d v place within) (m.base == base) k place within
   where
     here : ((j : ℕ) → position_or_len (begins_at base) ms ≡ j → j < length ms → in_mapping ms base v ≡ covers (get_or ms j d) v)
         → (b : Bool) → (k : ℕ) → cond (not b) (1 + position_or_len (begins_at base) ms) 0 ≡ k → k < length (m ∷ ms)
@@ -165,17 +174,23 @@ without-none (m ∷ ms) base none = here (λ none. without-none ms base none) (m
 -- the entries of that mapping are those of its pages
 pub get-within : (ms : List Mapping) (base k : ℕ) (m : Mapping) (es : List (ℕ × ℕ)) → Some k ≡ position (begins_at base) ms
     → m ≡ get_or ms k m → IsTrue (is_sorted nat_cmp es)
-    → map.get (from_sorted {R = nat_cmp} (filter (λ e. not (is_within base (base + m.len) e.0)) es)) ≡ without_mapping ms (map.get (from_sorted {R = nat_cmp} es)) base
+    → map.get (from_sorted {R = nat_cmp} (filter (λ e. not (is_within base (base + m.len) e.0)) es)) ≡ without_mapping
+    ms (map.get (from_sorted {R = nat_cmp} es)) base
 unfolding without_mapping
 get-within ms base k m es found is sorted =
     let place = place_found (begins_at base) ms k found in
-    let same = λ (v : ℕ). ap (λ (b : ℕ). is_within b (b + m.len) v) (sym (ap (λ (x : Mapping). x.base) is ∙ base_at ms base k m place.0 place.1)) ∙ (ap (λ (x : Mapping). covers x v) is ∙ sym (in_mapping-at ms base k m v place.0 place.1)) in
-    fun_ext (λ v. get-cleared (is_within base (base + m.len)) es v sorted ∙ ap (λ (b : Bool). if b then None else map.get (from_sorted {R = nat_cmp} es) v) (same v))
+    let same = λ (v : ℕ). ap (λ (b : ℕ). is_within b (b + m.len) v)
+    (sym (ap (λ (x : Mapping). x.base) is ∙ base_at ms base k m place.0 place.1))
+    ∙ (ap (λ (x : Mapping). covers x v) is ∙ sym (in_mapping-at ms base k m v place.0 place.1)) in
+    fun_ext (λ v. get-cleared (is_within base (base + m.len)) es v sorted
+    ∙ ap (λ (b : Bool). if b then None else map.get (from_sorted {R = nat_cmp} es) v) (same v))
 
 pub without_mapping-none : (ms : List Mapping) (base : ℕ) (f : ℕ → Option ℕ) → None ≡ position (begins_at base) ms
     → f ≡ without_mapping ms f base
 unfolding without_mapping
-without_mapping-none ms base f absent = fun_ext (λ v. ap (λ (b : Bool). if b then None else f v) (sym (in_mapping-none ms base v (place_absent (begins_at base) ms absent))))
+without_mapping-none ms base f absent =
+    fun_ext (λ v. ap (λ (b : Bool). if b then None else f v)
+    (sym (in_mapping-none ms base v (place_absent (begins_at base) ms absent))))
 
 pub without_found : (ms : List Mapping) (base k : ℕ) → Some k ≡ position (begins_at base) ms → without ms base ≡ remove ms k
 without_found ms base k found =

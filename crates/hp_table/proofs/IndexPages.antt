@@ -1,5 +1,6 @@
 -- The pages that stand for one index of a file: at most one in each mapping.
-use Rattle.std.proofs.Common.{◌≡◌, ℕ, ◌+◌, ◌-◌, ◌<◌, ◌≤◌, Bool, true, false, cond, not, ◌&&◌, ◌||◌, ◌==◌, List, [], ◌∷◌, Option, Some, None, refl, ap, ◌∙◌, arith}
+use Rattle.std.proofs.Common.{◌≡◌, ℕ, ◌+◌, ◌-◌, ◌<◌, ◌≤◌, Bool, true, false, cond, not, ◌&&◌, ◌||◌, ◌==◌, List, [], ◌∷◌, Option}
+use Rattle.std.proofs.Common.{Some, None, refl, ap, ◌∙◌, arith}
 use Rattle.std.proofs.Math.Path.{fun_ext}
 use Rattle.std.specs.FinMap as map
 use Rattle.std.specs.FinMap.{from_sorted, is_sorted}
@@ -27,7 +28,8 @@ others ms file index es = filter (λ e. not (is_there (find ms e.0) file index))
 
 -- a page below the mappings stands for nothing
 find_below : (space low : ℕ) (ms : List Mapping) (v : ℕ) → IsSpread space low ms → v < low → find ms v ≡ None
-find_below space low ms v spread under = find-holder ms v ∙ ap (option_map (λ (m : Mapping). (m.file, m.from + (v - m.base)))) (holder_none space low ms v spread under)
+find_below space low ms v spread under =
+    find-holder ms v ∙ ap (option_map (λ (m : Mapping). (m.file, m.from + (v - m.base)))) (holder_none space low ms v spread under)
 
 within : (m : Mapping) (v : ℕ) → covers m v ≡ true → (m.base ≤ v) × (v < m.base + m.len)
 within m v e = (grind (arith, nat_tests), grind (arith, nat_tests))
@@ -49,7 +51,8 @@ neither false b = refl
 
 -- where the first mapping has the index, its page stands for it too
 at_page : (m : Mapping) (file index v : ℕ) → has_index m file index ≡ true → covers m v ≡ true
-    → is_there (Some (m.file, m.from + (v - m.base))) file index ≡ (is_within (m.base + (index - m.from)) (m.base + (index - m.from) + 1) v || false)
+    → is_there (Some (m.file, m.from + (v - m.base))) file
+    index ≡ (is_within (m.base + (index - m.from)) (m.base + (index - m.from) + 1) v || false)
 at_page m file index v has here = grind (arith, nat_tests)
 
 off_page : (m : Mapping) (file index v : ℕ) → has_index m file index ≡ true → covers m v ≡ false
@@ -61,9 +64,13 @@ no_index : (m : Mapping) (file index v : ℕ) → has_index m file index ≡ fal
 no_index m file index v lacks here = grind (arith, nat_tests)
 
 one_more : (m : Mapping) (ms : List Mapping) (file index v : ℕ) → has_index m file index ≡ true → (v < m.base + m.len → find ms v ≡ None)
-    → is_there (find (m ∷ ms) v) file index ≡ (is_within (m.base + (index - m.from)) (m.base + (index - m.from) + 1) v || is_there (find ms v) file index)
+    → is_there (find (m ∷ ms) v) file
+    index ≡ (is_within (m.base + (index - m.from)) (m.base + (index - m.from) + 1) v || is_there (find ms v) file index)
 one_more m ms file index v has below =
-    elim (covers m v) as (λ b. covers m v ≡ b → is_there (if b then Some (m.file, m.from + (v - m.base)) else find ms v) file index ≡ (is_within (m.base + (index - m.from)) (m.base + (index - m.from) + 1) v || is_there (find ms v) file index)) [
+    elim (covers m v) as
+    (λ b. covers m v ≡ b
+    → is_there (if b then Some (m.file, m.from + (v - m.base)) else find ms v) file
+    index ≡ (is_within (m.base + (index - m.from)) (m.base + (index - m.from) + 1) v || is_there (find ms v) file index)) [
       | true ↦ λ e. rw (below (within m v e).1) (at_page m file index v has e)
       | false ↦ λ e. rw (off_page m file index v has e) refl
     ] refl
@@ -71,7 +78,9 @@ one_more m ms file index v has below =
 no_more : (m : Mapping) (ms : List Mapping) (file index v : ℕ) → has_index m file index ≡ false
     → (v < m.base + m.len → find ms v ≡ None) → is_there (find (m ∷ ms) v) file index ≡ is_there (find ms v) file index
 no_more m ms file index v lacks below =
-    elim (covers m v) as (λ b. covers m v ≡ b → is_there (if b then Some (m.file, m.from + (v - m.base)) else find ms v) file index ≡ is_there (find ms v) file index) [
+    elim (covers m v) as
+    (λ b. covers m v ≡ b
+    → is_there (if b then Some (m.file, m.from + (v - m.base)) else find ms v) file index ≡ is_there (find ms v) file index) [
       | true ↦ λ e. rw (below (within m v e).1) (no_index m file index v lacks e)
       | false ↦ λ e. refl
     ] refl
@@ -81,19 +90,27 @@ pub others_some : (space low : ℕ) (m : Mapping) (ms : List Mapping) (file inde
     → IsSpread space low (m ∷ ms) → Some page ≡ index_page m file index
     → others (m ∷ ms) file index es ≡ others ms file index (filter (λ e. not (is_within page (page + 1) e.0)) es)
 others_some space low m ms file index page es spread =
-    elim (has_index m file index) as (λ b. has_index m file index ≡ b → Some page ≡ (if b then Some (m.base + (index - m.from)) else None) → others (m ∷ ms) file index es ≡ others ms file index (filter (λ e. not (is_within page (page + 1) e.0)) es)) [
+    elim (has_index m file index) as
+    (λ b. has_index m file index ≡ b → Some page ≡ (if b then Some (m.base + (index - m.from)) else None)
+    → others (m ∷ ms) file index es ≡ others ms file index (filter (λ e. not (is_within page (page + 1) e.0)) es)) [
       | true ↦ λ has is.
           let there : page ≡ m.base + (index - m.from) = cc in
-          rw there (ap (λ (test : ℕ × ℕ → Bool). filter test es) (fun_ext (λ e. ap not (one_more m ms file index e.0 has (λ under. find_below space (m.base + m.len) ms e.0 spread.2 under)) ∙ neither _ _)) ∙ filter-filter _ _ es)
+          rw there (ap (λ (test : ℕ × ℕ → Bool). filter test es)
+          (fun_ext (λ e. ap not (one_more m ms file index e.0 has
+          (λ under. find_below space (m.base + m.len) ms e.0 spread.2 under)) ∙ neither _ _)) ∙ filter-filter _ _ es)
       | false ↦ λ lacks is. let d : ◌≡◌ {A = Option ℕ} (Some page) None = is in absurd (cc)
     ] refl
 
 pub others_none : (space low : ℕ) (m : Mapping) (ms : List Mapping) (file index : ℕ) (es : List (ℕ × ℕ))
     → IsSpread space low (m ∷ ms) → None ≡ index_page m file index → others (m ∷ ms) file index es ≡ others ms file index es
 others_none space low m ms file index es spread =
-    elim (has_index m file index) as (λ b. has_index m file index ≡ b → None ≡ (if b then Some (m.base + (index - m.from)) else None) → others (m ∷ ms) file index es ≡ others ms file index es) [
+    elim (has_index m file index) as
+    (λ b. has_index m file index ≡ b → None ≡ (if b then Some (m.base + (index - m.from)) else None)
+    → others (m ∷ ms) file index es ≡ others ms file index es) [
       | true ↦ λ has is. let d : ◌≡◌ {A = Option ℕ} None (Some (m.base + (index - m.from))) = is in absurd (cc)
-      | false ↦ λ lacks is. ap (λ (test : ℕ × ℕ → Bool). filter test es) (fun_ext (λ e. ap not (no_more m ms file index e.0 lacks (λ under. find_below space (m.base + m.len) ms e.0 spread.2 under))))
+      | false ↦ λ lacks is. ap (λ (test : ℕ × ℕ → Bool). filter test es)
+          (fun_ext (λ e. ap not (no_more m ms file index e.0 lacks
+          (λ under. find_below space (m.base + m.len) ms e.0 spread.2 under))))
     ] refl
 
 pub others_all : (file index : ℕ) (es : List (ℕ × ℕ)) → others [] file index es ≡ es
@@ -103,7 +120,9 @@ others_all file index (e ∷ es) = ap (λ xs. e ∷ xs) (others_all file index e
 -- the page lies in its mapping
 pub index_page_within : (m : Mapping) (file index page : ℕ) → Some page ≡ index_page m file index → page < m.base + m.len
 index_page_within m file index page =
-    elim (has_index m file index) as (λ b. has_index m file index ≡ b → Some page ≡ (if b then Some (m.base + (index - m.from)) else None) → page < m.base + m.len) [
+    elim (has_index m file index) as
+    (λ b. has_index m file index ≡ b → Some page ≡ (if b then Some (m.base + (index - m.from)) else None)
+    → page < m.base + m.len) [
       | true ↦ λ has is. let there : page ≡ m.base + (index - m.from) = cc in grind (arith, nat_tests)
       | false ↦ λ lacks is. let d : ◌≡◌ {A = Option ℕ} (Some page) None = is in absurd (cc)
     ] refl

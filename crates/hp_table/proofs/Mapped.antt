@@ -1,5 +1,6 @@
 -- Pages that lie in a mapping, after one is entered or goes.
-use Rattle.std.proofs.Common.{◌≡◌, ℕ, zero, suc, ◌+◌, ◌-◌, ◌<◌, ◌≤◌, Bool, true, false, List, [], ◌∷◌, Option, Some, None, length, get_or, refl, ap, ◌∙◌, arith}
+use Rattle.std.proofs.Common.{◌≡◌, ℕ, zero, suc, ◌+◌, ◌-◌, ◌<◌, ◌≤◌, Bool, true, false, List, [], ◌∷◌, Option, Some, None, length}
+use Rattle.std.proofs.Common.{get_or, refl, ap, ◌∙◌, arith}
 use Rattle.std.specs.Prelude.{All, IsTrue, IsSome, is_some, ◌==◌, if◌then◌else◌}
 use Rattle.std.proofs.lemmas.Bool.Decides.{nat_tests}
 use Rattle.hp_base.proofs.Spaces.{fits_clear, entered_find, without_find}
@@ -51,7 +52,8 @@ spread_later space low m (n ∷ ms) spread = (omega arith, spread.2.1, spread.2.
 pub found_in_space : (space low : ℕ) (ms : List Mapping) (v : ℕ) (place : ℕ × ℕ) → IsSpread space low ms → find ms v ≡ Some place
     → v < space
 found_in_space space low [] v place spread found = (let d : ◌≡◌ {A = Option (ℕ × ℕ)} None (Some place) = found in absurd (cc))
-found_in_space space low (m ∷ ms) v place spread found = here (λ e. found_in_space space (m.base + m.len) ms v place spread.2 e) (covers m v) refl found
+found_in_space space low (m ∷ ms) v place spread found =
+    here (λ e. found_in_space space (m.base + m.len) ms v place spread.2 e) (covers m v) refl found
   where
     inside : covers m v ≡ true → v < m.base + m.len
     inside is = grind (arith, nat_tests, is)

@@ -1,12 +1,14 @@
 -- Entries in order of their virtual pages, and edits that keep them so.
-use Rattle.std.proofs.Common.{◌≡◌, ℕ, zero, suc, ◌+◌, ◌<◌, ◌≤◌, Bool, true, false, cond, not, ◌&&◌, ◌==◌, List, [], ◌∷◌, ◌++◌, Option, Some, None, length, get_or, take, drop, refl, sym, ap, subst, ◌∙◌, arith}
+use Rattle.std.proofs.Common.{◌≡◌, ℕ, zero, suc, ◌+◌, ◌<◌, ◌≤◌, Bool, true, false, cond, not, ◌&&◌, ◌==◌, List, [], ◌∷◌, ◌++◌}
+use Rattle.std.proofs.Common.{Option, Some, None, length, get_or, take, drop, refl, sym, ap, subst, ◌∙◌, arith}
 use Rattle.std.specs.Prelude.{nat_lt, IsTrue, IsSome, T, filter, if◌then◌else◌, is_some}
 use Rattle.std.specs.List.{prefix_len, insert}
 use Rattle.std.specs.List.Sorted.{IsNonDecreasingBy}
 use Rattle.std.specs.Cmp.{nat_cmp_total}
 use Rattle.std.specs.declared.cmp.Ordering.TheVariants.{Less, Equal, Greater}
 use Rattle.std.specs.FinMap as map
-use Rattle.std.specs.FinMap.{from_sorted, find, put, is_sorted, get-from_sorted, entries-from_sorted, entries-insert, same_entries_map, nat_cmp-IsAntisymmetric, get}
+use Rattle.std.specs.FinMap.{from_sorted, find, put, is_sorted, get-from_sorted, entries-from_sorted, entries-insert}
+use Rattle.std.specs.FinMap.{same_entries_map, nat_cmp-IsAntisymmetric, get}
 use Rattle.std.specs.FinMap.Entries.{by_order, below_all, is_sorted-put, is_sorted-where_key, find-put, find-where_key}
 use Rattle.std.specs.Ordering.{eq_by_cmp, is_lt, nat_cmp}
 use Rattle.std.proofs.lemmas.Bool.{ltb-true, ltb-false, le-ltb}
@@ -100,13 +102,15 @@ not_tied_above v k above = tie v k ∙ grind (arith, nat_tests)
 -- a page below all has no entry
 pub find_none : (low : ℕ) (es : List (ℕ × ℕ)) (v : ℕ) → Rises low es → v < low → find nat_cmp v es ≡ None
 find_none low [] v rises under = refl
-find_none low (e ∷ es) v rises under = rw (not_tied_above v e.0 (omega (arith, rises.0)), find_none (e.0 + 1) es v rises.1 (omega (arith, rises.0))) refl
+find_none low (e ∷ es) v rises under =
+    rw (not_tied_above v e.0 (omega (arith, rises.0)), find_none (e.0 + 1) es v rises.1 (omega (arith, rises.0))) refl
 
 -- where all stand before a page, it has no entry
 pub find_absent : (es : List (ℕ × ℕ)) (v : ℕ) → prefix_len (stands_before v) es ≡ length es → find nat_cmp v es ≡ None
 find_absent [] v = λ all. refl
 find_absent (e ∷ es) v =
-    elim (nat_lt e.0 v) as (λ b. nat_lt e.0 v ≡ b → cond b (1 + prefix_len (stands_before v) es) 0 ≡ suc (length es) → find nat_cmp v (e ∷ es) ≡ None) [
+    elim (nat_lt e.0 v) as
+    (λ b. nat_lt e.0 v ≡ b → cond b (1 + prefix_len (stands_before v) es) 0 ≡ suc (length es) → find nat_cmp v (e ∷ es) ≡ None) [
       | true ↦ λ t all. rw (not_tied v e.0 (ltb-true e.0 v t)) (find_absent es v (omega arith))
       | false ↦ λ t all. absurd (omega arith)
     ] refl
@@ -133,7 +137,9 @@ pub find_there : (low : ℕ) (es : List (ℕ × ℕ)) (v n : ℕ) (d : ℕ × �
     → n < length es → find nat_cmp v es ≡ cond ((get_or es n d).0 == v) (Some (get_or es n d).1) None
 find_there low [] v n d rises counted within = absurd (omega arith)
 find_there low (e ∷ es) v n d rises counted within =
-    elim (nat_lt e.0 v) as (λ b. nat_lt e.0 v ≡ b → cond b (1 + prefix_len (stands_before v) es) 0 ≡ n → find nat_cmp v (e ∷ es) ≡ cond ((get_or (e ∷ es) n d).0 == v) (Some (get_or (e ∷ es) n d).1) None) [
+    elim (nat_lt e.0 v) as
+    (λ b. nat_lt e.0 v ≡ b → cond b (1 + prefix_len (stands_before v) es) 0 ≡ n
+    → find nat_cmp v (e ∷ es) ≡ cond ((get_or (e ∷ es) n d).0 == v) (Some (get_or (e ∷ es) n d).1) None) [
       | true ↦ λ t same. found_later e es v _ d t (λ k counted under. find_there (e.0 + 1) es v k d rises.1 counted under) n same within
       | false ↦ λ t same. found_first e es v d (λ under. find_none (e.0 + 1) es v rises.1 under) t n same
     ] refl counted
@@ -148,21 +154,26 @@ within_cons from to e es kept first end le rest none_first none_end true p true 
     let two : 1 + end ≡ suc end = omega arith in
     let out : is_within from to e.0 ≡ false = grind (arith, nat_tests) in
     rw (out, one, two) (ap (λ xs. e ∷ xs) rest)
-within_cons from to e es kept first end le rest none_first none_end true p false q = absurd (let x = ltb-true e.0 from p in let y = ltb-false e.0 to q in omega arith)
+within_cons from to e es kept first end le rest none_first none_end true p false q =
+    absurd (let x = ltb-true e.0 from p in let y = ltb-false e.0 to q in omega arith)
 within_cons from to e es kept first end le rest none_first none_end false p true q =
     let two : 1 + end ≡ suc end = omega arith in
     let inside : is_within from to e.0 ≡ true = grind (arith, nat_tests) in
     rw (inside, two) (rest ∙ ap (λ (n : ℕ). take n es ++ drop end es) (none_first (ltb-false e.0 from p)))
 within_cons from to e es kept first end le rest none_first none_end false p false q =
     let out : is_within from to e.0 ≡ false = grind (arith, nat_tests) in
-    rw out (ap (λ xs. e ∷ xs) (rest ∙ (ap (λ (n : ℕ). take n es ++ drop end es) (none_first (ltb-false e.0 from p)) ∙ ap (λ (n : ℕ). drop n es) (none_end (ltb-false e.0 to q)))))
+    rw out (ap (λ xs. e ∷ xs)
+    (rest ∙ (ap (λ (n : ℕ). take n es ++ drop end es) (none_first (ltb-false e.0 from p))
+    ∙ ap (λ (n : ℕ). drop n es) (none_end (ltb-false e.0 to q)))))
 
 pub filter-within : (low : ℕ) (es : List (ℕ × ℕ)) (from to : ℕ) → Rises low es → from ≤ to
-    → filter (λ e. not (is_within from to e.0)) es ≡ take (prefix_len (stands_before from) es) es ++ drop (prefix_len (stands_before to) es) es
+    → filter (λ e. not (is_within from to e.0)) es ≡ take (prefix_len (stands_before from) es) es
+    ++ drop (prefix_len (stands_before to) es) es
 filter-within low [] from to rises le = refl
 filter-within low (e ∷ es) from to rises le =
     let none = λ (v : ℕ) (under : v ≤ e.0). none_before (e.0 + 1) es v rises.1 (omega arith) in
-    within_cons from to e es _ _ _ le (filter-within (e.0 + 1) es from to rises.1 le) (none from) (none to) (nat_lt e.0 from) refl (nat_lt e.0 to) refl
+    within_cons from to e es _ _ _ le (filter-within (e.0 + 1) es from to rises.1 le) (none from) (none to)
+    (nat_lt e.0 from) refl (nat_lt e.0 to) refl
 
 -- an entry that is new is put where those before it end
 compared : (v k : ℕ) (b c : Bool) → nat_lt k v ≡ b → (v == k) ≡ c → nat_cmp v k ≡ cond b Greater (cond c Equal Less)
@@ -186,7 +197,9 @@ put_cons v f e es new at o rest false p false q none = rw (compared v e.0 false 
 put-insert : (es : List (ℕ × ℕ)) (v f : ℕ) → find nat_cmp v es ≡ None
     → put nat_cmp v f es ≡ insert es (prefix_len (stands_before v) es) (v, f)
 put-insert [] v f bare = refl
-put-insert (e ∷ es) v f bare = put_cons v f e es (put nat_cmp v f es) (prefix_len (stands_before v) es) (find nat_cmp v es) (λ none. put-insert es v f none) (nat_lt e.0 v) refl (v == e.0) refl bare
+put-insert (e ∷ es) v f bare =
+    put_cons v f e es (put nat_cmp v f es) (prefix_len (stands_before v) es) (find nat_cmp v es)
+    (λ none. put-insert es v f none) (nat_lt e.0 v) refl (v == e.0) refl bare
 
 -- the map with one entry more
 pub from_sorted-put : (es : List (ℕ × ℕ)) (v f : ℕ) → IsTrue (is_sorted nat_cmp es)
@@ -215,11 +228,16 @@ turned false o = refl
 
 find-cleared : (gone : ℕ → Bool) (es : List (ℕ × ℕ)) (v : ℕ)
     → find nat_cmp v (filter (λ e. not (gone e.0)) es) ≡ (if gone v then None else find nat_cmp v es)
-find-cleared gone es v = find-where_key nat_cmp (λ k. not (gone k)) v (λ k same. ap (λ (j : ℕ). not (gone j)) (sym (nat_cmp-IsAntisymmetric v k same))) es ∙ turned (gone v) (find nat_cmp v es)
+find-cleared gone es v =
+    find-where_key nat_cmp (λ k. not (gone k)) v
+    (λ k same. ap (λ (j : ℕ). not (gone j)) (sym (nat_cmp-IsAntisymmetric v k same))) es ∙ turned (gone v) (find nat_cmp v es)
 
 pub get-cleared : (gone : ℕ → Bool) (es : List (ℕ × ℕ)) (v : ℕ) → IsTrue (is_sorted nat_cmp es)
-    → map.get (from_sorted {R = nat_cmp} (filter (λ e. not (gone e.0)) es)) v ≡ (if gone v then None else map.get (from_sorted {R = nat_cmp} es) v)
-get-cleared gone es v sorted = get_is _ v (is_sorted-cleared gone es sorted) ∙ (find-cleared gone es v ∙ ap (λ (o : Option ℕ). if gone v then None else o) (sym (get_is es v sorted)))
+    → map.get (from_sorted {R = nat_cmp} (filter (λ e. not (gone e.0)) es))
+    v ≡ (if gone v then None else map.get (from_sorted {R = nat_cmp} es) v)
+get-cleared gone es v sorted =
+    get_is _ v (is_sorted-cleared gone es sorted)
+    ∙ (find-cleared gone es v ∙ ap (λ (o : Option ℕ). if gone v then None else o) (sym (get_is es v sorted)))
 
 -- what holds of each page with an entry still holds of each
 pub cleared_keeps : (P : ℕ → Type 0) (gone : ℕ → Bool) (es : List (ℕ × ℕ)) → ((v : ℕ) → IsSome (find nat_cmp v es) → P v)
@@ -232,7 +250,8 @@ cleared_keeps P gone es each v some = kept (gone v) (sym (ap (λ (o : Option ℕ
 
 pub put_keeps : (P : ℕ → Type 0) (es : List (ℕ × ℕ)) (v f : ℕ) → P v → ((u : ℕ) → IsSome (find nat_cmp u es) → P u) → (u : ℕ)
     → IsSome (find nat_cmp u (put nat_cmp v f es)) → P u
-put_keeps P es v f new each u some = one (eq_by_cmp nat_cmp u v) (tie u v) (sym (ap (λ (o : Option ℕ). is_some o) (find-put nat_cmp nat_cmp_total u v f es)) ∙ some)
+put_keeps P es v f new each u some =
+    one (eq_by_cmp nat_cmp u v) (tie u v) (sym (ap (λ (o : Option ℕ). is_some o) (find-put nat_cmp nat_cmp_total u v f es)) ∙ some)
   where
     same : (u == v) ≡ true → v ≡ u
     same e = grind (arith, nat_tests)
@@ -248,7 +267,8 @@ get_some es v sorted some = ap (λ (o : Option ℕ). is_some o) (sym (get_is es 
 -- an entry that is put at its place
 pub insert_is : (es seen : List (ℕ × ℕ)) (v f at : ℕ) → at ≡ prefix_len (stands_before v) seen → seen ≡ es
     → find nat_cmp v es ≡ None → insert es at (v, f) ≡ put nat_cmp v f es
-insert_is es seen v f at place same bare = ap (λ (i : ℕ). insert es i (v, f)) (place ∙ ap (prefix_len (stands_before v)) same) ∙ sym (put-insert es v f bare)
+insert_is es seen v f at place same bare =
+    ap (λ (i : ℕ). insert es i (v, f)) (place ∙ ap (prefix_len (stands_before v)) same) ∙ sym (put-insert es v f bare)
 
 pub is_sorted_put : (es : List (ℕ × ℕ)) (v f : ℕ) → IsTrue (is_sorted nat_cmp es) → IsTrue (is_sorted nat_cmp (put nat_cmp v f es))
 is_sorted_put es v f sorted = T-true _ (is_sorted-put nat_cmp nat_cmp_total v f es (subst T (sym sorted) tt))

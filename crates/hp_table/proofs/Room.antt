@@ -1,5 +1,6 @@
 -- The first gap between mappings, and that it is the least base that fits.
-use Rattle.std.proofs.Common.{◌≡◌, ℕ, ◌+◌, ◌-◌, ◌<◌, ◌≤◌, true, false, cond, List, [], ◌∷◌, Option, Some, None, refl, sym, ◌∙◌, subst, arith}
+use Rattle.std.proofs.Common.{◌≡◌, ℕ, ◌+◌, ◌-◌, ◌<◌, ◌≤◌, true, false, cond, List, [], ◌∷◌, Option, Some, None, refl, sym, ◌∙◌}
+use Rattle.std.proofs.Common.{subst, arith}
 use Rattle.std.specs.Prelude.{nat_le, if◌then◌else◌}
 use Rattle.std.proofs.lemmas.Bool.{leb-true, leb-false, le-leb, lt-leb}
 use Rattle.std.proofs.lemmas.Bool.Decides.{nat_tests}
@@ -14,7 +15,8 @@ gap space low (m ∷ ms) len = if nat_le (low + len) m.base then Some low else g
 -- the least base at or above `low` that fits, or none where none there does
 abbrev pub IsRoomFrom : (space low : ℕ) → List Mapping → (len : ℕ) → Option ℕ → Type 0
 IsRoomFrom space low ms len None = (base : ℕ) → low ≤ base → fits space ms base len ≡ false
-IsRoomFrom space low ms len (Some base) = (low ≤ base) × (fits space ms base len ≡ true) × ((other : ℕ) → low ≤ other → other < base → fits space ms other len ≡ false)
+IsRoomFrom space low ms len (Some base) =
+    (low ≤ base) × (fits space ms base len ≡ true) × ((other : ℕ) → low ≤ other → other < base → fits space ms other len ≡ false)
 
 pub spread_within : (space low : ℕ) (ms : List Mapping) → IsSpread space low ms → low ≤ space
 spread_within space low [] spread = spread
@@ -39,18 +41,26 @@ on_first space m ms len base before after = grind (arith, nat_tests)
 
 either : (low middle base : ℕ) (A : Type 0) → low ≤ base → (base < middle → A) → (middle ≤ base → A) → A
 either low middle base A above first later =
-    elim (nat_le middle base) as (λ b. nat_le middle base ≡ b → A) [ true ↦ λ e. later (leb-true middle base e) | false ↦ λ e. first (leb-false middle base e) ] refl
+    elim (nat_le middle base) as
+    (λ b. nat_le middle base ≡ b → A) [
+      | true ↦ λ e. later (leb-true middle base e)
+      | false ↦
+          λ e. first (leb-false middle base e)
+    ] refl
 
 -- a gap after the first mapping, where none is before it
 later_gap : (space low : ℕ) (m : Mapping) (ms : List Mapping) (len : ℕ) (o : Option ℕ) → low ≤ m.base → m.base < low + len
     → IsRoomFrom space (m.base + m.len) ms len o → IsRoomFrom space low (m ∷ ms) len o
 later_gap space low m ms len None below short room = λ base above.
-    either low (m.base + m.len) base (fits space (m ∷ ms) base len ≡ false) above (λ before. on_first space m ms len base before (omega arith)) (λ past. past_first space m ms len base past ∙ room base past)
+    either low (m.base + m.len) base (fits space (m ∷ ms) base len ≡ false) above
+    (λ before. on_first space m ms len base before (omega arith)) (λ past. past_first space m ms len base past ∙ room base past)
 later_gap space low m ms len (Some found) below short room = (
   omega (arith, room.0),
   past_first space m ms len found room.0 ∙ room.1,
   λ other above under.
-      either low (m.base + m.len) other (fits space (m ∷ ms) other len ≡ false) above (λ before. on_first space m ms len other before (omega arith)) (λ past. past_first space m ms len other past ∙ room.2 other past under),
+      either low (m.base + m.len) other (fits space (m ∷ ms) other len ≡ false) above
+      (λ before. on_first space m ms len other before (omega arith))
+      (λ past. past_first space m ms len other past ∙ room.2 other past under),
 )
 
 nothing_between : (low other : ℕ) (A : Type 0) → low ≤ other → other < low → A
@@ -63,13 +73,19 @@ gap_is space low [] len spread =
       | false ↦ λ e base above. rw (lt-leb (base + len) space (omega (arith, leb-false (low + len) space e))) refl
     ] refl
 gap_is space low (m ∷ ms) len spread =
-    elim (nat_le (low + len) m.base) as (λ b. nat_le (low + len) m.base ≡ b → IsRoomFrom space low (m ∷ ms) len (if b then Some low else gap space (m.base + m.len) ms len)) [
+    elim (nat_le (low + len) m.base) as
+    (λ b. nat_le (low + len) m.base ≡ b
+    → IsRoomFrom space low (m ∷ ms) len (if b then Some low else gap space (m.base + m.len) ms len)) [
       | true ↦ λ e.
           let ends = leb-true (low + len) m.base e in
           let within = spread_within space (m.base + m.len) ms spread.2 in
-          let clear = clear_below space (m.base + m.len) ms low len spread.2 (omega arith) in
-          (omega arith, rw (le-leb (low + len) space (omega (arith, within)), e, clear) (grind (arith, nat_tests)), λ other above under. nothing_between low other _ above under)
-      | false ↦ λ e. later_gap space low m ms len (gap space (m.base + m.len) ms len) spread.0 (leb-false (low + len) m.base e) (gap_is space (m.base + m.len) ms len spread.2)
+          let clear = clear_below space (m.base + m.len) ms low len spread.2 (omega arith) in (
+            omega arith,
+            rw (le-leb (low + len) space (omega (arith, within)), e, clear) (grind (arith, nat_tests)),
+            λ other above under. nothing_between low other _ above under,
+          )
+      | false ↦ λ e. later_gap space low m ms len (gap space (m.base + m.len) ms len) spread.0
+          (leb-false (low + len) m.base e) (gap_is space (m.base + m.len) ms len spread.2)
     ] refl
 
 room_at_all : (space : ℕ) (ms : List Mapping) (len : ℕ) (o : Option ℕ) → IsRoomFrom space 0 ms len o → IsRoom space ms len o

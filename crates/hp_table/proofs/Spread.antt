@@ -1,5 +1,6 @@
 -- Mappings that stand in order and share no page.
-use Rattle.std.proofs.Common.{◌≡◌, ◌≢◌, ℕ, zero, suc, ◌+◌, ◌-◌, ◌<◌, ◌≤◌, Bool, true, false, cond, ◌||◌, ◌==◌, List, [], ◌∷◌, Option, Some, None, length, get_or, refl, sym, ap, ◌∙◌, true≢false, inl, inr, arith}
+use Rattle.std.proofs.Common.{◌≡◌, ◌≢◌, ℕ, zero, suc, ◌+◌, ◌-◌, ◌<◌, ◌≤◌, Bool, true, false, cond, ◌||◌, ◌==◌, List, [], ◌∷◌}
+use Rattle.std.proofs.Common.{Option, Some, None, length, get_or, refl, sym, ap, ◌∙◌, true≢false, inl, inr, arith}
 use Rattle.std.specs.Prelude.{nat_le, nat_lt, All, ◌↔◌, IsTrue, if◌then◌else◌}
 use Rattle.std.specs.List.{prefix_len, insert}
 use Rattle.std.specs.List as list
@@ -26,7 +27,8 @@ begun_none space low (m ∷ ms) v spread under = rw (lt-leb m.base v (omega (ari
 
 pub holder_none : (space low : ℕ) (ms : List Mapping) (v : ℕ) → IsSpread space low ms → v < low → list.find (λ m. covers m v) ms ≡ None
 holder_none space low [] v spread under = refl
-holder_none space low (m ∷ ms) v spread under = rw (lt-leb m.base v (omega (arith, spread.0)), holder_none space (m.base + m.len) ms v spread.2 (omega (arith, spread.0))) refl
+holder_none space low (m ∷ ms) v spread under =
+    rw (lt-leb m.base v (omega (arith, spread.0)), holder_none space (m.base + m.len) ms v spread.2 (omega (arith, spread.0))) refl
 
 is_base_none : (space low : ℕ) (ms : List Mapping) (v : ℕ) → IsSpread space low ms → v < low → is_base ms v ≡ false
 is_base_none space low [] v spread under = refl
@@ -39,7 +41,8 @@ is_base_none space low (m ∷ ms) v spread under =
 base_above : (space low : ℕ) (ms : List Mapping) (k : ℕ) (d : Mapping) → IsSpread space low ms → k < length ms → low ≤ (get_or ms k d).base
 base_above space low [] k d spread within = absurd (omega arith)
 base_above space low (m ∷ ms) zero d spread within = spread.0
-base_above space low (m ∷ ms) (suc k) d spread within = omega (arith, spread.0, base_above space (m.base + m.len) ms k d spread.2 (omega arith))
+base_above space low (m ∷ ms) (suc k) d spread within =
+    omega (arith, spread.0, base_above space (m.base + m.len) ms k d spread.2 (omega arith))
 
 rises : (space low : ℕ) (m : Mapping) (ms : List Mapping) → IsSpread space low (m ∷ ms) → IsNonDecreasingBy (λ m. m.base) ms
     → (i j : ℕ) (d : Mapping) → i ≤ j → j < length (m ∷ ms) → (get_or (m ∷ ms) i d).base ≤ (get_or (m ∷ ms) j d).base
@@ -57,7 +60,8 @@ pub holder_absent : (space low : ℕ) (ms : List Mapping) (v : ℕ) → IsSpread
     → list.find (λ m. covers m v) ms ≡ None
 holder_absent space low [] v spread = λ none. refl
 holder_absent space low (m ∷ ms) v spread =
-    elim (nat_le m.base v) as (λ b. nat_le m.base v ≡ b → cond b (1 + prefix_len (begins v) ms) 0 ≡ 0 → list.find (λ m. covers m v) (m ∷ ms) ≡ None) [
+    elim (nat_le m.base v) as
+    (λ b. nat_le m.base v ≡ b → cond b (1 + prefix_len (begins v) ms) 0 ≡ 0 → list.find (λ m. covers m v) (m ∷ ms) ≡ None) [
       | true ↦ λ e none. absurd (omega arith)
       | false ↦ λ e none. let under = leb-false m.base v e in rw (e, holder_none space (m.base + m.len) ms v spread.2 (omega arith)) refl
     ] refl
@@ -90,12 +94,20 @@ pub find-holder : (ms : List Mapping) (v : ℕ)
     → find ms v ≡ option_map (λ m. (m.file, m.from + (v - m.base))) (list.find (λ m. covers m v) ms)
 find-holder [] v = refl
 find-holder (m ∷ ms) v =
-    elim (covers m v) as (λ b. (if b then Some (m.file, m.from + (v - m.base)) else find ms v) ≡ option_map (λ m. (m.file, m.from + (v - m.base))) (cond b (Some m) (list.find (λ m. covers m v) ms))) [ true ↦ refl | false ↦ find-holder ms v ]
+    elim (covers m v) as
+    (λ b. (if b then Some (m.file, m.from + (v - m.base)) else find ms v) ≡ option_map
+    (λ m. (m.file, m.from + (v - m.base))) (cond b (Some m) (list.find (λ m. covers m v) ms))) [
+      | true ↦
+          refl
+      | false ↦ find-holder ms v
+    ]
 
 pub base_of-holder : (ms : List Mapping) (v : ℕ) → base_of ms v ≡ option_map (λ m. m.base) (list.find (λ m. covers m v) ms)
 base_of-holder [] v = refl
 base_of-holder (m ∷ ms) v =
-    elim (covers m v) as (λ b. (if b then Some m.base else base_of ms v) ≡ option_map (λ m. m.base) (cond b (Some m) (list.find (λ m. covers m v) ms))) [ true ↦ refl | false ↦ base_of-holder ms v ]
+    elim (covers m v) as
+    (λ b. (if b then Some m.base else base_of ms v) ≡ option_map (λ m. m.base)
+    (cond b (Some m) (list.find (λ m. covers m v) ms))) [ true ↦ refl | false ↦ base_of-holder ms v ]
 
 -- what holds of each holds of the one that has the page
 pub holder_is : (P : Mapping → Type 0) (ms : List Mapping) (v : ℕ) (m : Mapping) → All P ms
@@ -128,8 +140,13 @@ base_of-is_base space low (m ∷ ms) v spread =
     (λ same. rw (at_base m v spread.1 same) (λ h. grind (arith, nat_tests), λ h. ap (λ (n : ℕ). Some n) same))
     (λ other.
     let none = is_base_none space (m.base + m.len) ms v spread.2 in
-    elim (covers m v) as (λ b. covers m v ≡ b → ((if b then Some m.base else base_of ms v) ≡ Some v) ↔ IsTrue ((m.base == v) || is_base ms v)) [
-      | true ↦ λ e. (λ h. let same : m.base ≡ v = cc in absurd (other same), λ h. absurd (true≢false (sym h ∙ rw (not_same m.base v other, none (within_end m v e)) refl)))
+    elim (covers m v) as
+    (λ b. covers m v ≡ b → ((if b then Some m.base else base_of ms v) ≡ Some v) ↔ IsTrue ((m.base == v) || is_base ms v)) [
+      | true ↦ λ e. (
+        λ h. let same : m.base ≡ v = cc in
+            absurd (other same),
+        λ h. absurd (true≢false (sym h ∙ rw (not_same m.base v other, none (within_end m v e)) refl)),
+      )
       | false ↦ λ e. (λ h. rw (not_same m.base v other) (rest.0 h), λ h. rest.1 (rw (not_same m.base v other) at h))
     ] refl)
 
@@ -137,7 +154,9 @@ base_of-is_base space low (m ∷ ms) v spread =
 pub entered-insert : (ms : List Mapping) (new : Mapping) → entered ms new ≡ insert ms (prefix_len (begins new.base) ms) new
 entered-insert [] new = refl
 entered-insert (m ∷ ms) new =
-    elim (nat_le m.base new.base) as (λ b. nat_le m.base new.base ≡ b → entered (m ∷ ms) new ≡ insert (m ∷ ms) (cond b (1 + prefix_len (begins new.base) ms) 0) new) [
+    elim (nat_le m.base new.base) as
+    (λ b. nat_le m.base new.base ≡ b
+    → entered (m ∷ ms) new ≡ insert (m ∷ ms) (cond b (1 + prefix_len (begins new.base) ms) 0) new) [
       | true ↦ λ e.
           let before = leb-true m.base new.base e in
           let one : 1 + prefix_len (begins new.base) ms ≡ suc (prefix_len (begins new.base) ms) = omega arith in
@@ -177,9 +196,15 @@ pub IsSpread-entered : (space low : ℕ) (ms : List Mapping) (new : Mapping) →
     → fits space ms new.base new.len ≡ true → IsSpread space low (entered ms new)
 IsSpread-entered space low [] new spread above some room = (above, some, fits_within space new room)
 IsSpread-entered space low (m ∷ ms) new spread above some room =
-    elim (nat_lt new.base m.base) as (λ b. nat_lt new.base m.base ≡ b → IsSpread space low (if b then new ∷ m ∷ ms else m ∷ entered ms new)) [
+    elim (nat_lt new.base m.base) as
+    (λ b. nat_lt new.base m.base ≡ b → IsSpread space low (if b then new ∷ m ∷ ms else m ∷ entered ms new)) [
       | true ↦ λ e. (above, some, (fits_before space m ms new room (ltb-true new.base m.base e) spread.1, spread.1, spread.2))
-      | false ↦ λ e. (spread.0, spread.1, IsSpread-entered space (m.base + m.len) ms new spread.2 (fits_past space m ms new room (ltb-false new.base m.base e) some) some (fits_rest space m ms new room))
+      | false ↦ λ e. (
+        spread.0,
+        spread.1,
+        IsSpread-entered space (m.base + m.len) ms new spread.2
+            (fits_past space m ms new room (ltb-false new.base m.base e) some) some (fits_rest space m ms new room),
+      )
     ] refl
 
 pub base_of_is : (ms : List Mapping) (v : ℕ) (o : Option Mapping) → o ≡ list.find (λ m. covers m v) ms

@@ -15,8 +15,12 @@ pub record Table : Type 0 where
 -- how a proof tells two of them apart
 abbrev pub mapping_code : Coded Mapping
 mapping_code =
-    code_by (ℕ × (ℕ × (ℕ × ℕ))) (coded× coded_ℕ (coded× coded_ℕ (coded× coded_ℕ coded_ℕ))) (λ m. (m.base, (m.file, (m.from, m.len)))) (λ p. record { base = p.0; file = p.1.0; from = p.1.1.0; len = p.1.1.1 }) (λ _. refl)
+    code_by (ℕ × (ℕ × (ℕ × ℕ))) (coded× coded_ℕ (coded× coded_ℕ (coded× coded_ℕ coded_ℕ)))
+    (λ m. (m.base, (m.file, (m.from, m.len))))
+    (λ p. record { base = p.0; file = p.1.0; from = p.1.1.0; len = p.1.1.1 }) (λ _. refl)
 
 abbrev pub table_code : Coded Table
 table_code =
-    code_by (List Mapping × (FinMap nat_cmp ℕ × Bool)) (coded× (coded_list mapping_code) (coded× (code coded_ℕ coded_ℕ) coded_bool)) (λ t. (t.mappings, (t.entries, t.ready))) (λ p. record { mappings = p.0; entries = p.1.0; ready = p.1.1 }) (λ _. refl)
+    code_by (List Mapping × (FinMap nat_cmp ℕ × Bool))
+    (coded× (coded_list mapping_code) (coded× (code coded_ℕ coded_ℕ) coded_bool))
+    (λ t. (t.mappings, (t.entries, t.ready))) (λ p. record { mappings = p.0; entries = p.1.0; ready = p.1.1 }) (λ _. refl)

@@ -1,7 +1,8 @@
 //! The space of a task.
 ghost use Rattle.std.specs.Prelude.{◌≡◌, ◌+◌, ◌<◌, ◌≤◌, ◌↔◌, [], ℕ, None, length, true, false, IsTrue, IsSome, OnOk, OnErr, IfSome, All};
 ghost use Rattle.std.specs.FinMap as map;
-ghost use Rattle.hp_base.specs.Mappings.{find, base_of, is_base, fits, entered, in_mapping, first_base, without, without_index, without_mapping, IsRoom, IsSpread};
+ghost use Rattle.hp_base.specs.Mappings.{find, base_of, is_base, fits, entered, in_mapping, first_base, without, without_index};
+ghost use Rattle.hp_base.specs.Mappings.{without_mapping, IsRoom, IsSpread};
 ghost use Rattle.hp_table.specs.Table.{Table};
 
 use crate::{entries, search};

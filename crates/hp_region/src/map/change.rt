@@ -104,7 +104,8 @@ impl RegionMap {
         ensures added { result ≡ missing (is_member self.old.regions) change.from change.to }
         ensures members { is_member self.new.regions ≡ add_range (is_member self.old.regions) change.from change.to }
         ensures pending { self.new.pending ≡ self.old.pending - 1 }
-        ensures spare { self.new.spare ≡ (if touches (is_member self.old.regions) change.from change.to then self.old.spare else self.old.spare - 1) }
+        ensures spare { self.new.spare ≡ (if touches (is_member self.old.regions) change.from change.to then self.old.spare
+            else self.old.spare - 1) }
     {
         let Pending { from, to, .. } = change;
         let added = self.missing(from, to);

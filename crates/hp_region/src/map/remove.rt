@@ -1,5 +1,6 @@
 //! What takes indices out of the set (Linux: `region_del`).
-ghost use Rattle.std.specs.Prelude.{◌≡◌, ◌+◌, ◌-◌, ◌<◌, ◌≤◌, ◌↔◌, ◌&&◌, nat_lt, false, IsTrue, IfOk, OnOk, OnErr, IsErrOf, vec_len, vec_capacity, if◌then◌else◌};
+ghost use Rattle.std.specs.Prelude.{◌≡◌, ◌+◌, ◌-◌, ◌<◌, ◌≤◌, ◌↔◌, ◌&&◌, nat_lt, false, IsTrue, IfOk, OnOk, OnErr, IsErrOf};
+ghost use Rattle.std.specs.Prelude.{vec_len, vec_capacity, if◌then◌else◌};
 ghost use Rattle.hp_base.specs.Indices.{count_within, cut_tail, splits};
 ghost use Rattle.hp_base.specs.Numbers.{put};
 ghost use Rattle.hp_region.specs.Regions.{is_member};
@@ -31,10 +32,14 @@ impl RegionMap {
         ensures removed { IfOk result (λ n. n ≡ (if is_member self.old.regions index then 1 else 0)) }
         ensures members { OnOk result (is_member self.new.regions ≡ put (is_member self.old.regions) index false) }
         ensures pending { OnOk result (self.new.pending ≡ self.old.pending) }
-        ensures spare { OnOk result (self.new.spare ≡ (if splits (is_member self.old.regions) index && nat_lt self.old.pending self.old.spare then self.old.spare - 1 else self.old.spare)) }
+        ensures spare { OnOk result
+            (self.new.spare ≡ (if splits (is_member self.old.regions) index && nat_lt self.old.pending self.old.spare
+            then self.old.spare - 1 else self.old.spare)) }
 
-        ensures denied { IsErrOf result DelFault.Denied ↔ (IsTrue (splits (is_member self.old.regions) index) × (self.old.spare ≡ self.old.pending) × (grant ≡ false)) }
-        ensures memory { IsErrOf result DelFault.Memory → IsTrue (splits (is_member self.old.regions) index) × (self.old.spare ≡ self.old.pending) × IsTrue grant }
+        ensures denied { IsErrOf result DelFault.Denied ↔
+            (IsTrue (splits (is_member self.old.regions) index) × (self.old.spare ≡ self.old.pending) × (grant ≡ false)) }
+        ensures memory { IsErrOf result DelFault.Memory
+            → IsTrue (splits (is_member self.old.regions) index) × (self.old.spare ≡ self.old.pending) × IsTrue grant }
         ensures err { OnErr result (self.new ≡ self.old) }
     {
         let Some(at) = walk::find(&self.regions, index) else {

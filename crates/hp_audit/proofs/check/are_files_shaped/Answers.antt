@@ -6,4 +6,6 @@ use Rattle.hp_audit.proofs.check.are_files_shaped.Goals as goal
 
 pub returns : goal.returns
 returns c =
-    all_tells IsFileShaped c.all.result c.args.files.now (cases_from_all _ _ _ IsFileShaped (λ file. IsFileShaped file → ⊥) c.all.ensures.ran (YieldsList-from_slice c.args.files.now cc) (λ x q k. search (rules, tests)) (λ x q k. search (rules, tests)))
+    all_tells IsFileShaped c.all.result c.args.files.now
+    (cases_from_all _ _ _ IsFileShaped (λ file. IsFileShaped file → ⊥) c.all.ensures.ran
+    (YieldsList-from_slice c.args.files.now cc) (λ x q k. search (rules, tests)) (λ x q k. search (rules, tests)))

@@ -9,7 +9,8 @@ returns-then-are_alone-2 c =
     elim c.if-are_alone.branch [
       | then-are_alone w ↦ (
         let free = rw c.deref.ensures.value at (c.are_alone.ensures.0 w.if-are_alone.true) in
-            let hands = rw w.deref-then-are_alone.ensures.value at (w.are_alone-then-are_alone.ensures.0 (sym w.value-is ∙ c.if-are_alone-2.true)) in
+            let hands = rw w.deref-then-are_alone.ensures.value at
+            (w.are_alone-then-are_alone.ensures.0 (sym w.value-is ∙ c.if-are_alone-2.true)) in
             λ passed. IsOnePlace-of_all c.args.picture.now free hands (c.are_files_alone.ensures.0 passed),
         λ one. c.are_files_alone.ensures.1 (λ k d within k' d' within'. one _),
       )

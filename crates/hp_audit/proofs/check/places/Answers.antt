@@ -7,8 +7,10 @@ use Rattle.hp_audit.proofs.check.places.Goals as goal
 pub loop-file-init : goal.loop-file-init
 loop-file-init c =
     let none = count_in-none c.args.picture.now c.args.frame c.args.picture.now.files.items in
-    let free : c.times_in-places.result ≡ times_in c.args.picture.now.free.items c.args.frame = rw c.deref.ensures.value at c.times_in-places.ensures in
-    let hands : c.times_in.result ≡ times_in c.args.picture.now.hands.items c.args.frame = rw c.deref-2.ensures.value at c.times_in.ensures in
+    let free : c.times_in-places.result ≡ times_in c.args.picture.now.free.items c.args.frame =
+    rw c.deref.ensures.value at c.times_in-places.ensures in
+    let hands : c.times_in.result ≡ times_in c.args.picture.now.hands.items c.args.frame =
+    rw c.deref-2.ensures.value at c.times_in.ensures in
     (omega (arith, none, free, hands), omega (arith, c.times_in.type_inv, c.times_in-places.type_inv))
 
 pub loop-file-preserved : goal.loop-file-preserved
@@ -24,4 +26,6 @@ pub returns : goal.returns
 returns c =
     let files = c.args.picture.now.files.items in
     let done = rw c.deref-file-items.ensures.value at c.loop-file-test.false in
-    c.loop-file.invariant.0 ∙ (ap (count_in c.args.picture.now c.args.frame) (take_all c.loop-file.file-index files done) ∙ count_in-all c.args.picture.now c.args.frame)
+    c.loop-file.invariant.0
+    ∙ (ap (count_in c.args.picture.now c.args.frame) (take_all c.loop-file.file-index files done)
+    ∙ count_in-all c.args.picture.now c.args.frame)

@@ -10,11 +10,16 @@ loop-file-preserved c =
     let files = c.args.picture.now.files.items in
     let within : c.loop-file.file-index < length files = rw c.deref-file-items.ensures.value at c.loop-file-test.true in
     let more = sum_by_more vacant_of files c.loop-file.file-index c.file-item.result within in
-    let here = ap vacant_of (rw c.deref-file-items.ensures.value at c.file-item.is) in
-    (omega (arith, more, here, c.loop-file.invariant.0, c.vacant.ensures.counted, c.from-vacant.ensures), omega (arith, c.loop-file.invariant.1, c.vacant.ensures.in_limit, c.from-vacant.ensures))
+    let here = ap vacant_of (rw c.deref-file-items.ensures.value at c.file-item.is) in (
+      omega (arith, more, here, c.loop-file.invariant.0, c.vacant.ensures.counted, c.from-vacant.ensures),
+      omega (arith, c.loop-file.invariant.1, c.vacant.ensures.in_limit, c.from-vacant.ensures),
+    )
 
 pub returns : goal.returns
 returns c =
     let files = c.args.picture.now.files.items in
     let done = rw c.deref-file-items.ensures.value at c.loop-file-test.false in
-    record { counted = c.loop-file.invariant.0 ∙ ap (sum_by vacant_of) (take_all c.loop-file.file-index files done); in_range = omega (arith, c.loop-file.invariant.1) }
+    record {
+      counted = c.loop-file.invariant.0 ∙ ap (sum_by vacant_of) (take_all c.loop-file.file-index files done);
+      in_range = omega (arith, c.loop-file.invariant.1);
+    }

@@ -18,8 +18,16 @@ loop-number-preserved c =
     let tested : is_vacant c.args.file.now c.loop-number.number ≡ c.is_vacant.result = sym (rw c.new.ensures at c.is_vacant.ensures) in
     let more = count_below_more (is_vacant c.args.file.now) c.loop-number.number c.is_vacant.result tested in
     elim c.if-is_vacant.branch [
-      | then-is_vacant w ↦ (let here = rw w.if-is_vacant.true at more in omega (arith, here, w.vacant-is, c.loop-number.invariant), omega (arith, w.vacant-is, c.loop-number.invariant))
-      | else-is_vacant w ↦ (let here = rw w.if-is_vacant.false at more in omega (arith, here, w.vacant-is, c.loop-number.invariant), omega (arith, w.vacant-is, c.loop-number.invariant))
+      | then-is_vacant w ↦ (
+        let here = rw w.if-is_vacant.true at more in
+            omega (arith, here, w.vacant-is, c.loop-number.invariant),
+        omega (arith, w.vacant-is, c.loop-number.invariant),
+      )
+      | else-is_vacant w ↦ (
+        let here = rw w.if-is_vacant.false at more in
+            omega (arith, here, w.vacant-is, c.loop-number.invariant),
+        omega (arith, w.vacant-is, c.loop-number.invariant),
+      )
     ]
 
 pub returns : goal.returns

@@ -10,5 +10,7 @@ returns c =
     let pages = c.args.pages.now in
     let at = c.partition_point.result in
     let parted = IsPartitionedBy-ltb (λ page. page.0) pages c.args.index (keys_rise pages c.requires) in
-    let point = IsPartitionPoint-from_clause (before c.args.index) _ _ c.partition_point.ensures.partitioned parted (λ a r q k. search rules) in
-    sym (prefix_len_is (before c.args.index) pages at (0, 0) c.partition_point.ensures.bound (λ k under. point.0 k (0, 0) (omega arith) under) (λ within. point.1 at (0, 0) (omega arith) within))
+    let point = IsPartitionPoint-from_clause (before c.args.index) _ _ c.partition_point.ensures.partitioned parted
+    (λ a r q k. search rules) in
+    sym (prefix_len_is (before c.args.index) pages at (0, 0) c.partition_point.ensures.bound
+    (λ k under. point.0 k (0, 0) (omega arith) under) (λ within. point.1 at (0, 0) (omega arith) within))

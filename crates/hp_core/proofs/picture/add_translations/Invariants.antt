@@ -4,4 +4,6 @@ use Rattle.hp_core.specs.Copies.{translation}
 use Rattle.hp_core.proofs.picture.add_translations.Given as goal
 
 abbrev pub invariant-loop-vpn : goal.invariant-loop-vpn
-invariant-loop-vpn l = l.tables.items ≡ l.initial.tables.items ++ filter_map (translation l.task l.space.mappings) (take l.vpn-index (entries l.space.entries))
+invariant-loop-vpn l =
+    l.tables.items ≡ l.initial.tables.items
+    ++ filter_map (translation l.task l.space.mappings) (take l.vpn-index (entries l.space.entries))

@@ -15,7 +15,8 @@ pub loop-number-preserved : goal.loop-number-preserved
 loop-number-preserved c =
     let fr : ℕ → Bool = λ x. is_free (frame_at c.args.bank.now.frames x) in
     let n : ℕ = c.loop-number.number in
-    let test : fr c.new-frame.result ≡ c.is_free.result = free_test c.args.bank.now.frames c.new-frame.result c.is_free.result c.is_free.ensures in
+    let test : fr c.new-frame.result ≡ c.is_free.result =
+    free_test c.args.bank.now.frames c.new-frame.result c.is_free.result c.is_free.ensures in
     let here : fr n ≡ c.is_free.result = ap fr (sym c.new-frame.ensures) ∙ test in
     elim c.if-is_free.branch [
       | then-is_free+in_ok-push w ↦ (
@@ -23,14 +24,18 @@ loop-number-preserved c =
           let yields : fr n ≡ true = here ∙ w.if-is_free.true in
           record {
             each = free_more fr n c.loop-number.free.items c.if-is_free.free.items yields is c.loop-number.invariant.each;
-            count = count_more fr n (length c.loop-number.free.items) _ true yields c.loop-number.invariant.count (grind (arith, common_steps, is));
+            count =
+                count_more fr n (length c.loop-number.free.items) _ true yields c.loop-number.invariant.count
+                (grind (arith, common_steps, is));
           })
       | else-is_free w ↦ (
           let is : c.if-is_free.free.items ≡ c.loop-number.free.items = grind (arith, common_steps) in
           let yields : fr n ≡ false = here ∙ w.if-is_free.false in
           record {
             each = free_same fr n c.loop-number.free.items c.if-is_free.free.items yields is c.loop-number.invariant.each;
-            count = count_more fr n (length c.loop-number.free.items) _ false yields c.loop-number.invariant.count (grind (arith, common_steps, is));
+            count =
+                count_more fr n (length c.loop-number.free.items) _ false yields c.loop-number.invariant.count
+                (grind (arith, common_steps, is));
           })
     ]
 

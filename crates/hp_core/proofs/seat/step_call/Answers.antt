@@ -17,7 +17,8 @@ pub returns-in-Punch-clause-row : goal.returns-in-Punch-clause-row
 returns-in-Punch-clause-row c = rw c.in-Punch.is (punch_row _ _ _ _ _ _ _ _ c.finish-in-Punch.ensures c.step_punch.ensures.row)
 
 pub returns-in-Truncate-clause-row : goal.returns-in-Truncate-clause-row
-returns-in-Truncate-clause-row c = rw c.in-Truncate.is (truncate_row _ _ _ _ _ _ _ _ c.finish-in-Truncate.ensures c.step_truncate.ensures.row)
+returns-in-Truncate-clause-row c =
+    rw c.in-Truncate.is (truncate_row _ _ _ _ _ _ _ _ c.finish-in-Truncate.ensures c.step_truncate.ensures.row)
 
 pub returns-in-Unmap-clause-row : goal.returns-in-Unmap-clause-row
 returns-in-Unmap-clause-row c = rw c.in-Unmap.is (unmap_row _ _ _ _ _ _ _ _ c.finish-in-Unmap.ensures c.step_unmap.ensures.row)
@@ -32,10 +33,14 @@ pub returns-in-Map-clause-blocked : goal.returns-in-Map-clause-blocked
 returns-in-Map-clause-blocked c = rw c.in-Map.is (finished_blocked call.Map _ _ _ _ _ c.finish-in-Map.ensures c.step_map.ensures.blocked)
 
 pub returns-in-Alloc-clause-blocked : goal.returns-in-Alloc-clause-blocked
-returns-in-Alloc-clause-blocked c = rw c.in-Alloc.is (finished_blocked call.Alloc _ _ _ _ _ c.finish-in-Alloc.ensures c.step_alloc.ensures.blocked)
+returns-in-Alloc-clause-blocked c =
+    rw c.in-Alloc.is (finished_blocked call.Alloc _ _ _ _ _ c.finish-in-Alloc.ensures c.step_alloc.ensures.blocked)
 
 pub returns-in-Punch-clause-blocked : goal.returns-in-Punch-clause-blocked
-returns-in-Punch-clause-blocked c = rw c.in-Punch.is (finished_blocked call.Punch _ _ _ _ _ c.finish-in-Punch.ensures c.step_punch.ensures.blocked)
+returns-in-Punch-clause-blocked c =
+    rw c.in-Punch.is (finished_blocked call.Punch _ _ _ _ _ c.finish-in-Punch.ensures c.step_punch.ensures.blocked)
 
 pub returns-in-Truncate-clause-blocked : goal.returns-in-Truncate-clause-blocked
-returns-in-Truncate-clause-blocked c = rw c.in-Truncate.is (finished_blocked call.Truncate _ _ _ (Ok c.step_truncate.result) _ c.finish-in-Truncate.ensures c.step_truncate.ensures.blocked)
+returns-in-Truncate-clause-blocked c =
+    rw c.in-Truncate.is (finished_blocked call.Truncate _ _ _ (Ok c.step_truncate.result) _
+    c.finish-in-Truncate.ensures c.step_truncate.ensures.blocked)

@@ -1,4 +1,5 @@
-use Rattle.std.proofs.Common.{◌≡◌, ℕ, ◌+◌, ◌≤◌, ◌<◌, slice_get, sym, ap, subst, arith, Some, refl, List, length, replicate, ◌++◌, ◌∷◌, [], ◌∙◌}
+use Rattle.std.proofs.Common.{◌≡◌, ℕ, ◌+◌, ◌≤◌, ◌<◌, slice_get, sym, ap, subst, arith, Some, refl, List, length, replicate, ◌++◌}
+use Rattle.std.proofs.Common.{◌∷◌, [], ◌∙◌}
 use Rattle.std.proofs.lemmas.Option.{slice_get_within}
 use Rattle.std.proofs.lemmas.List.{length-replicate}
 use Rattle.std.proofs.lemmas.Grind.{common_steps}
@@ -14,4 +15,5 @@ move_frame-requires c =
     slice_get_within _ _ Free at
 
 pub returns-clause-was_free : goal.returns-clause-was_free
-returns-clause-was_free c = last_free _ _ _ (subst (λ (xs : List ℕ). AreFree c.args.frames.now.items xs) c.in-Some.ensures.items c.requires.free)
+returns-clause-was_free c =
+    last_free _ _ _ (subst (λ (xs : List ℕ). AreFree c.args.frames.now.items xs) c.in-Some.ensures.items c.requires.free)

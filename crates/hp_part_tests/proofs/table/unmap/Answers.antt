@@ -9,6 +9,7 @@ drop_mapping-requires c = record {
   bare = λ v lies.
       let ms = c.args.space.now.mappings in
       let same = c.new.ensures ∙ sym c.new-2.ensures in
-      let there = ap (λ (base : ℕ). in_mapping ms base v) same ∙ (ap (λ (ms : List Mapping). in_mapping ms c.new-2.result v) (sym c.clear_mapping.ensures.mappings) ∙ lies) in
+      let there = ap (λ (base : ℕ). in_mapping ms base v) same
+      ∙ (ap (λ (ms : List Mapping). in_mapping ms c.new-2.result v) (sym c.clear_mapping.ensures.mappings) ∙ lies) in
       ap (λ (f : ℕ → Option ℕ). f v) c.clear_mapping.ensures.entries ∙ without_mapping-bare ms _ c.new.result v there;
 }

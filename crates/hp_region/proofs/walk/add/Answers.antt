@@ -12,14 +12,18 @@ use Rattle.hp_region.proofs.walk.add.Goals.{then-loop-end-test+else-le, else-loo
 
 -- the place from which `seek` was asked
 sought : (c : goal.After-seek-at) → c.seek-at.result.0 ≡ ended_by c.args.regions.now.items (c.args.from - 1)
-sought c = c.seek-at.ensures.ended ∙ (sym (ended_by-count_by c.deref.result.now c.new-before.result) ∙ ap (λ (rs : _). ended_by rs c.new-before.result) c.deref.ensures.value ∙ ap (ended_by c.args.regions.now.items) (omega arith))
+sought c =
+    c.seek-at.ensures.ended
+    ∙ (sym (ended_by-count_by c.deref.result.now c.new-before.result)
+    ∙ ap (λ (rs : _). ended_by rs c.new-before.result) c.deref.ensures.value ∙ ap (ended_by c.args.regions.now.items) (omega arith))
 
 pub loop-end-init : goal.loop-end-init
 loop-end-init c =
     let rs = c.args.regions.now.items in
     let d : Region = record { from = c.args.from; to = c.args.to } in
     let place = sought c in
-    let above : c.seek-at.result.0 < length rs → c.args.from - 1 < (get_or rs c.seek-at.result.0 d).to = rw place (sought_above 0 rs (c.args.from - 1) d c.requires.apart) in
+    let above : c.seek-at.result.0 < length rs → c.args.from - 1 < (get_or rs c.seek-at.result.0 d).to =
+    rw place (sought_above 0 rs (c.args.from - 1) d c.requires.apart) in
     let ends : (to : ℕ) → c.args.from - 1 < to → c.args.from ≤ to = λ to h. omega arith in
     let whole = with_range-sought 0 rs c.args.from c.args.to c.requires.apart in
     let met = meets-sought 0 rs c.args.from c.args.to c.requires.apart in
@@ -36,7 +40,8 @@ beyond : (c : goal.After-replace) → c.loop-end.end < length c.args.regions.now
     → c.loop-end.merged.to < (get_or c.args.regions.now.items c.loop-end.end c.loop-end.merged).from
 beyond c within = elim c.loop-end-test.branch [
   | then-loop-end-test+else-le w ↦
-      let read = ap (λ (r : Region). r.from) (w.index.ensures ∙ get_or_default c.args.regions.now.items c.loop-end.end w.index.result.now c.loop-end.merged within) in
+      let read = ap (λ (r : Region). r.from)
+      (w.index.ensures ∙ get_or_default c.args.regions.now.items c.loop-end.end w.index.result.now c.loop-end.merged within) in
       omega (arith, le_false w.index.result.now.from c.loop-end.merged.to (w.if-le.ensures {u = tt}), read)
   | else-loop-end-test w ↦ absurd (omega arith)
 ]
@@ -48,10 +53,14 @@ items c =
     c.replace.ensures.items ∙ sym (c.loop-end.invariant.left ∙ last)
 
 pub returns-clause-apart : goal.returns-clause-apart
-returns-clause-apart c = (with_range_is c.args.regions.now.items c.replace.new.regions.items c.args.from c.args.to c.requires.apart c.requires.in_order c.requires.in_limit (items c)).0
+returns-clause-apart c =
+    (with_range_is c.args.regions.now.items c.replace.new.regions.items c.args.from c.args.to c.requires.apart
+    c.requires.in_order c.requires.in_limit (items c)).0
 
 pub returns-clause-members : goal.returns-clause-members
-returns-clause-members c = (with_range_is c.args.regions.now.items c.replace.new.regions.items c.args.from c.args.to c.requires.apart c.requires.in_order c.requires.in_limit (items c)).1
+returns-clause-members c =
+    (with_range_is c.args.regions.now.items c.replace.new.regions.items c.args.from c.args.to c.requires.apart
+    c.requires.in_order c.requires.in_limit (items c)).1
 
 -- where nothing was merged, the region there begins past the range
 alone : (c : goal.After-replace) → c.loop-end.end ≡ c.seek-at.result.0 → meets c.args.regions.now.items c.args.from c.args.to ≡ false
@@ -68,7 +77,9 @@ alone c same =
 pub returns-clause-alone : goal.returns-clause-alone
 returns-clause-alone c =
     let touched = meets-touches c.args.regions.now.items c.args.from c.args.to c.requires.apart c.requires.in_order in
-    rw (← touched) (elim (nat_eq c.loop-end.end c.seek-at.result.0) as (λ b. nat_eq c.loop-end.end c.seek-at.result.0 ≡ b → b ≡ not (meets c.args.regions.now.items c.args.from c.args.to)) [
+    rw (← touched) (elim (nat_eq c.loop-end.end c.seek-at.result.0) as
+    (λ b. nat_eq c.loop-end.end c.seek-at.result.0 ≡ b → b ≡ not (meets c.args.regions.now.items c.args.from c.args.to)) [
       | true ↦ λ e. ap not (sym (alone c (same_number c.loop-end.end c.seek-at.result.0 e)))
-      | false ↦ λ e. ap not (sym (c.loop-end.invariant.later (other_number c.loop-end.end c.seek-at.result.0 e c.loop-end.invariant.in_order)))
+      | false ↦ λ e. ap not (sym
+          (c.loop-end.invariant.later (other_number c.loop-end.end c.seek-at.result.0 e c.loop-end.invariant.in_order)))
     ] refl)

@@ -6,8 +6,12 @@ abbrev pub invariant-loop-end : goal.invariant-loop-end
 invariant-loop-end l = record {
   in_order : l.at ≤ l.end;
   in_range : l.end ≤ length l.regions.items;
-  left : with_range l.regions.items l.fn.from l.fn.to ≡ take l.at l.regions.items ++ absorb (drop l.end l.regions.items) l.merged.from l.merged.to;
-  first : l.end ≡ l.at → (l.merged.to ≡ l.fn.to) × (meets l.regions.items l.fn.from l.fn.to ≡ meets (drop l.at l.regions.items) l.fn.from l.fn.to) × ((l.at < length l.regions.items) → l.fn.from ≤ (slice_index_or l.regions.items l.at l.merged).to);
+  left : with_range l.regions.items l.fn.from l.fn.to ≡ take l.at l.regions.items
+      ++ absorb (drop l.end l.regions.items) l.merged.from l.merged.to;
+  first : l.end ≡ l.at
+      → (l.merged.to ≡ l.fn.to)
+      × (meets l.regions.items l.fn.from l.fn.to ≡ meets (drop l.at l.regions.items) l.fn.from l.fn.to)
+      × ((l.at < length l.regions.items) → l.fn.from ≤ (slice_index_or l.regions.items l.at l.merged).to);
   later : l.at < l.end → meets l.regions.items l.fn.from l.fn.to ≡ true;
 }
 

@@ -10,13 +10,15 @@ pub loop-at-init : goal.loop-at-init
 loop-at-init c =
     let rs = c.args.regions.now in
     let whole = held_within-sought 0 rs c.args.from c.args.to c.requires.apart in
-    let place = ap (λ (i : ℕ). held_within (drop i rs) c.args.from c.args.to) (c.seek-at.ensures.ended ∙ sym (ended_by-count_by rs c.args.from)) in
+    let place = ap (λ (i : ℕ). held_within (drop i rs) c.args.from c.args.to)
+    (c.seek-at.ensures.ended ∙ sym (ended_by-count_by rs c.args.from)) in
     record { in_range = c.seek-at.ensures.in_range; left = omega (arith, whole, place) }
 
 pub overflow_add-held : goal.overflow_add-held
 overflow_add-held c =
     let rs = c.args.regions.now in
-    let next = ap (λ xs. held_within xs c.args.from c.args.to) (drop-cons rs c.loop-at.at c.index-regions-at-in-loop-at.result c.loop-at-test.true) in
+    let next = ap (λ xs. held_within xs c.args.from c.args.to)
+    (drop-cons rs c.loop-at.at c.index-regions-at-in-loop-at.result c.loop-at-test.true) in
     let one = ap (overlap_of c.args.from c.args.to) c.index-regions-at-in-loop-at.is in
     let bound = held_within_le rs c.args.from c.args.to c.requires.apart in
     omega (arith, next, one, bound, c.loop-at.invariant.left, c.overlap-held.ensures)

@@ -14,17 +14,21 @@ outer from to i x h off = grind (arith, nat_tests)
 
 pub overflow_sub-result : goal.overflow_sub-result
 overflow_sub-result c =
-    let there = holds_there c.args.regions.now c.args.at c.args.index c.index-regions-at.result c.requires.apart c.requires.in_range c.index-regions-at.is (c.requires.holds c.index-regions-at.result) in
+    let there = holds_there c.args.regions.now c.args.at c.args.index c.index-regions-at.result c.requires.apart
+    c.requires.in_range c.index-regions-at.is (c.requires.holds c.index-regions-at.result) in
     omega (arith, there.ends)
 
 pub returns-then-lt : goal.returns-then-lt
 returns-then-lt c =
     let r = c.index-regions-at.result in
-    let there = holds_there c.args.regions.now c.args.at c.args.index r c.requires.apart c.requires.in_range c.index-regions-at.is (c.requires.holds r) in
-    rw (c.number.ensures, c.number-then-lt.ensures) (inner r.from r.to c.args.index (lt_true r.from c.args.index (c.if-lt.ensures {u = tt})) there.ends ∙ sym there.split)
+    let there = holds_there c.args.regions.now c.args.at c.args.index r c.requires.apart c.requires.in_range
+    c.index-regions-at.is (c.requires.holds r) in
+    rw (c.number.ensures, c.number-then-lt.ensures)
+    (inner r.from r.to c.args.index (lt_true r.from c.args.index (c.if-lt.ensures {u = tt})) there.ends ∙ sym there.split)
 
 pub returns-else-lt : goal.returns-else-lt
 returns-else-lt c =
     let r = c.index-regions-at.result in
-    let there = holds_there c.args.regions.now c.args.at c.args.index r c.requires.apart c.requires.in_range c.index-regions-at.is (c.requires.holds r) in
+    let there = holds_there c.args.regions.now c.args.at c.args.index r c.requires.apart c.requires.in_range
+    c.index-regions-at.is (c.requires.holds r) in
     outer r.from r.to c.args.index c.lt.result c.lt.ensures c.if-lt.false ∙ sym there.split

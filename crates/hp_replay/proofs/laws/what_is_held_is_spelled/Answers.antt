@@ -11,7 +11,8 @@ pub returns-clause-fault : goal.returns-clause-fault
 returns-clause-fault c = fault_of
 
 pub returns-clause-end_ok : goal.returns-clause-end_ok
-returns-clause-end_ok c = λ bytes ok. let t = end_trace bytes ok in record { sizes = t.lines.sizes; events = t.lines.events; spells = t.spells }
+returns-clause-end_ok c =
+    λ bytes ok. let t = end_trace bytes ok in record { sizes = t.lines.sizes; events = t.lines.events; spells = t.spells }
 
 pub returns-clause-end_err : goal.returns-clause-end_err
 returns-clause-end_err c = end_fault

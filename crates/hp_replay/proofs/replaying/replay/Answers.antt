@@ -8,7 +8,9 @@ pub loop-text-init : goal.loop-text-init
 loop-text-init g c = rw c.new-feed.ensures (begins (g.R.Read.remaining c.args.reader.now) (g.W.Write.contents c.args.writer.now))
 
 pub loop-text-preserved : goal.loop-text-preserved
-loop-text-preserved g c = goes_on _ _ _ _ _ _ _ _ _ _ _ c.loop-text.invariant c.in_ok-n.ensures.bytes c.in_ok-run_piece.ensures.ok c.in_ok-run_piece.ensures.no_fault c.in_ok-run_piece.ensures.opened
+loop-text-preserved g c =
+    goes_on _ _ _ _ _ _ _ _ _ _ _ c.loop-text.invariant c.in_ok-n.ensures.bytes c.in_ok-run_piece.ensures.ok
+    c.in_ok-run_piece.ensures.no_fault c.in_ok-run_piece.ensures.opened
 
 pub loop-text-smaller : goal.loop-text-smaller
 loop-text-smaller g c =
@@ -24,14 +26,17 @@ returns-in_err-n-clause-err g c =
 pub returns-then-n-eq0-clause-ok : goal.returns-then-n-eq0-clause-ok
 returns-then-n-eq0-clause-ok g c =
     let none = read_none _ _ _ _ c.if-n-eq0.true c.in_ok-n.ensures.bytes in
-    finished _ _ _ c.loop-text.feed c.loop-text.core _ _ _ c.finish.result c.loop-text.invariant none (c.in_ok-n.ensures.end c.if-n-eq0.true (first_of (omega arith, search rules))) c.finish.ensures.ended c.finish.ensures.wrote
+    finished _ _ _ c.loop-text.feed c.loop-text.core _ _ _ c.finish.result c.loop-text.invariant none
+    (c.in_ok-n.ensures.end c.if-n-eq0.true (first_of (omega arith, search rules))) c.finish.ensures.ended c.finish.ensures.wrote
 
 pub returns-then-n-eq0-clause-err : goal.returns-then-n-eq0-clause-err
 returns-then-n-eq0-clause-err g c =
     let none = read_none _ _ _ _ c.if-n-eq0.true c.in_ok-n.ensures.bytes in
-    finish_stopped _ _ _ c.loop-text.feed c.loop-text.core _ _ _ c.finish.result c.loop-text.invariant none (c.in_ok-n.ensures.end c.if-n-eq0.true (first_of (omega arith, search rules))) c.finish.ensures.err
+    finish_stopped _ _ _ c.loop-text.feed c.loop-text.core _ _ _ c.finish.result c.loop-text.invariant none
+    (c.in_ok-n.ensures.end c.if-n-eq0.true (first_of (omega arith, search rules))) c.finish.ensures.err
 
 pub returns-in_err-run_piece-clause-err : goal.returns-in_err-run_piece-clause-err
 returns-in_err-run_piece-clause-err g c =
     let p = err_from_is_err_and c.from_residual-in_err-run_piece.result c.from_residual-in_err-run_piece.ensures.1 in
-    rw (p.1, p.2) (piece_stopped _ _ _ c.loop-text.feed c.run_piece.new.feed c.loop-text.core c.run_piece.new.core _ _ _ _ c.in_err-run_piece.field-0.0 c.loop-text.invariant c.in_ok-n.ensures.bytes c.in_err-run_piece.ensures.err)
+    rw (p.1, p.2) (piece_stopped _ _ _ c.loop-text.feed c.run_piece.new.feed c.loop-text.core c.run_piece.new.core _ _
+    _ _ c.in_err-run_piece.field-0.0 c.loop-text.invariant c.in_ok-n.ensures.bytes c.in_err-run_piece.ensures.err)

@@ -7,33 +7,60 @@ use Rattle.hp_replay.proofs.Running.{TookLine, starts, through_within, through_s
 use Rattle.hp_replay.proofs.replaying.run_piece.Goals as goal
 
 pub loop-rest-init : goal.loop-rest-init
-loop-rest-init g c = starts c.args.feed.now c.args.core.now (g.W.Write.contents c.args.writer.now) c.args.piece.now c.requires.no_fault c.requires.opened
+loop-rest-init g c =
+    starts c.args.feed.now c.args.core.now (g.W.Write.contents c.args.writer.now) c.args.piece.now c.requires.no_fault
+    c.requires.opened
 
 pub returns-in_err-used-clause-err : goal.returns-in_err-used-clause-err
 returns-in_err-used-clause-err g c =
     let p = err_from_is_err_and c.from_residual.result c.from_residual.ensures.1 in
-    let ran = fails c.args.feed.now c.loop-rest.feed c.take.new.self c.args.core.now c.loop-rest.core (g.W.Write.contents c.args.writer.now) (g.W.Write.contents c.loop-rest.writer) c.args.piece.now c.loop-rest.rest.now c.in_err-used.field-0.0 c.loop-rest.invariant c.take.ensures.held c.in_err-used.ensures.none c.in_err-used.ensures.err in
+    let ran = fails c.args.feed.now c.loop-rest.feed c.take.new.self c.args.core.now c.loop-rest.core
+    (g.W.Write.contents c.args.writer.now) (g.W.Write.contents c.loop-rest.writer) c.args.piece.now
+    c.loop-rest.rest.now c.in_err-used.field-0.0 c.loop-rest.invariant c.take.ensures.held
+    c.in_err-used.ensures.none c.in_err-used.ensures.err in
     rw (p.1, p.2) ran
 
 pub split_at-requires : goal.split_at-requires
 split_at-requires g c = omega (arith, c.in_ok-used.ensures.used, through_within c.loop-rest.rest.now)
 
 pub run_taken-requires : goal.run_taken-requires
-run_taken-requires g c = line_can_run c.loop-rest.feed c.take.new.self (option_map line_of c.in_ok-used.line) c.loop-rest.rest.now c.loop-rest.core c.take.ensures.held c.in_ok-used.ensures.line c.in_ok-used.ensures.ok c.loop-rest.invariant.opened
+run_taken-requires g c =
+    line_can_run c.loop-rest.feed c.take.new.self (option_map line_of c.in_ok-used.line) c.loop-rest.rest.now
+    c.loop-rest.core c.take.ensures.held c.in_ok-used.ensures.line c.in_ok-used.ensures.ok c.loop-rest.invariant.opened
 
 pub loop-rest-preserved : goal.loop-rest-preserved
 loop-rest-preserved g c =
-    let left : c.split_at.result.1.now ≡ drop (length (take_through 10 c.loop-rest.rest.now)) c.loop-rest.rest.now = c.split_at.ensures.back ∙ ap (λ n. drop n c.loop-rest.rest.now) c.in_ok-used.ensures.used in
-    let took : TookLine c.loop-rest.feed c.take.new.self (option_map line_of c.in_ok-used.line) c.loop-rest.rest.now c.split_at.result.1.now = record { held = c.take.ensures.held; lines = c.in_ok-used.ensures.line; left_is = left; ok = c.in_ok-used.ensures.ok } in
-    line_moves c.args.feed.now c.loop-rest.feed c.take.new.self c.args.core.now c.loop-rest.core c.run_taken.new.core (g.W.Write.contents c.args.writer.now) (g.W.Write.contents c.loop-rest.writer) (g.W.Write.contents c.run_taken.new.writer) c.args.piece.now c.loop-rest.rest.now c.split_at.result.1.now (option_map line_of c.in_ok-used.line) c.loop-rest.invariant took c.in_ok-run_taken.ensures.ok
+    let left : c.split_at.result.1.now ≡ drop (length (take_through 10 c.loop-rest.rest.now)) c.loop-rest.rest.now =
+    c.split_at.ensures.back ∙ ap (λ n. drop n c.loop-rest.rest.now) c.in_ok-used.ensures.used in
+    let took : TookLine c.loop-rest.feed c.take.new.self (option_map line_of c.in_ok-used.line) c.loop-rest.rest.now
+    c.split_at.result.1.now = record {
+      held = c.take.ensures.held;
+      lines = c.in_ok-used.ensures.line;
+      left_is = left;
+      ok = c.in_ok-used.ensures.ok;
+    } in
+    line_moves c.args.feed.now c.loop-rest.feed c.take.new.self c.args.core.now c.loop-rest.core c.run_taken.new.core
+    (g.W.Write.contents c.args.writer.now) (g.W.Write.contents c.loop-rest.writer)
+    (g.W.Write.contents c.run_taken.new.writer) c.args.piece.now c.loop-rest.rest.now c.split_at.result.1.now
+    (option_map line_of c.in_ok-used.line) c.loop-rest.invariant took c.in_ok-run_taken.ensures.ok
 
 pub returns-in_err-run_taken-clause-err : goal.returns-in_err-run_taken-clause-err
 returns-in_err-run_taken-clause-err g c =
     let p = err_from_is_err_and c.from_residual-in_err-run_taken.result c.from_residual-in_err-run_taken.ensures.1 in
-    let left : c.split_at.result.1.now ≡ drop (length (take_through 10 c.loop-rest.rest.now)) c.loop-rest.rest.now = c.split_at.ensures.back ∙ ap (λ n. drop n c.loop-rest.rest.now) c.in_ok-used.ensures.used in
-    let took : TookLine c.loop-rest.feed c.take.new.self (option_map line_of c.in_ok-used.line) c.loop-rest.rest.now c.split_at.result.1.now = record { held = c.take.ensures.held; lines = c.in_ok-used.ensures.line; left_is = left; ok = c.in_ok-used.ensures.ok } in
+    let left : c.split_at.result.1.now ≡ drop (length (take_through 10 c.loop-rest.rest.now)) c.loop-rest.rest.now =
+    c.split_at.ensures.back ∙ ap (λ n. drop n c.loop-rest.rest.now) c.in_ok-used.ensures.used in
+    let took : TookLine c.loop-rest.feed c.take.new.self (option_map line_of c.in_ok-used.line) c.loop-rest.rest.now
+    c.split_at.result.1.now = record {
+      held = c.take.ensures.held;
+      lines = c.in_ok-used.ensures.line;
+      left_is = left;
+      ok = c.in_ok-used.ensures.ok;
+    } in
     rw (p.1, p.2)
-    (line_stops c.args.feed.now c.loop-rest.feed c.take.new.self c.take.new.self c.args.core.now c.loop-rest.core c.run_taken.new.core (g.W.Write.contents c.args.writer.now) (g.W.Write.contents c.loop-rest.writer) (g.W.Write.contents c.run_taken.new.writer) c.args.piece.now c.loop-rest.rest.now c.split_at.result.1.now (option_map line_of c.in_ok-used.line) c.in_err-run_taken.field-0.0 c.loop-rest.invariant took c.in_err-run_taken.ensures.err)
+    (line_stops c.args.feed.now c.loop-rest.feed c.take.new.self c.take.new.self c.args.core.now c.loop-rest.core
+    c.run_taken.new.core (g.W.Write.contents c.args.writer.now) (g.W.Write.contents c.loop-rest.writer)
+    (g.W.Write.contents c.run_taken.new.writer) c.args.piece.now c.loop-rest.rest.now c.split_at.result.1.now
+    (option_map line_of c.in_ok-used.line) c.in_err-run_taken.field-0.0 c.loop-rest.invariant took c.in_err-run_taken.ensures.err)
 
 pub loop-rest-smaller : goal.loop-rest-smaller
 loop-rest-smaller g c =

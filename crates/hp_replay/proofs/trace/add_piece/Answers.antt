@@ -13,19 +13,32 @@ loop-rest-init c = starts c.args.feed.now c.args.draft.now c.args.piece.now c.re
 pub returns-in_err-used-clause-err : goal.returns-in_err-used-clause-err
 returns-in_err-used-clause-err c =
     let p = err_from_is_err_and c.from_residual.result c.from_residual.ensures.1 in
-    rw (p.1, p.2) (not_added c.args.feed.now c.loop-rest.feed c.take.new.self c.args.draft.now c.loop-rest.draft c.args.piece.now c.loop-rest.rest.now c.in_err-used.field-0.0 c.loop-rest.invariant c.take.ensures.held c.in_err-used.ensures.err)
+    rw (p.1, p.2) (not_added c.args.feed.now c.loop-rest.feed c.take.new.self c.args.draft.now c.loop-rest.draft
+    c.args.piece.now c.loop-rest.rest.now c.in_err-used.field-0.0 c.loop-rest.invariant c.take.ensures.held
+    c.in_err-used.ensures.err)
 
 pub split_at-requires : goal.split_at-requires
 split_at-requires c = omega (arith, c.in_ok-used.ensures.used, through_within c.loop-rest.rest.now)
 
 pub add_taken-requires : goal.add_taken-requires
-add_taken-requires c = line_can_follow c.loop-rest.feed c.take.new.self (option_map line_of c.in_ok-used.line) c.loop-rest.rest.now c.loop-rest.draft c.take.ensures.held c.in_ok-used.ensures.line c.in_ok-used.ensures.ok c.loop-rest.invariant.count
+add_taken-requires c =
+    line_can_follow c.loop-rest.feed c.take.new.self (option_map line_of c.in_ok-used.line) c.loop-rest.rest.now
+    c.loop-rest.draft c.take.ensures.held c.in_ok-used.ensures.line c.in_ok-used.ensures.ok c.loop-rest.invariant.count
 
 pub loop-rest-preserved : goal.loop-rest-preserved
 loop-rest-preserved c =
-    let left : c.split_at.result.1.now ≡ drop (length (take_through 10 c.loop-rest.rest.now)) c.loop-rest.rest.now = c.split_at.ensures.back ∙ ap (λ n. drop n c.loop-rest.rest.now) c.in_ok-used.ensures.used in
-    let took : TookLine c.loop-rest.feed c.take.new.self (option_map line_of c.in_ok-used.line) c.loop-rest.rest.now c.split_at.result.1.now = record { held = c.take.ensures.held; lines = c.in_ok-used.ensures.line; left_is = left; ok = c.in_ok-used.ensures.ok } in
-    adds c.args.feed.now c.loop-rest.feed c.take.new.self c.args.draft.now c.loop-rest.draft c.add_taken.new.self c.args.piece.now c.loop-rest.rest.now c.split_at.result.1.now (option_map line_of c.in_ok-used.line) c.loop-rest.invariant took c.in_ok-add_taken.ensures
+    let left : c.split_at.result.1.now ≡ drop (length (take_through 10 c.loop-rest.rest.now)) c.loop-rest.rest.now =
+    c.split_at.ensures.back ∙ ap (λ n. drop n c.loop-rest.rest.now) c.in_ok-used.ensures.used in
+    let took : TookLine c.loop-rest.feed c.take.new.self (option_map line_of c.in_ok-used.line) c.loop-rest.rest.now
+    c.split_at.result.1.now = record {
+      held = c.take.ensures.held;
+      lines = c.in_ok-used.ensures.line;
+      left_is = left;
+      ok = c.in_ok-used.ensures.ok;
+    } in
+    adds c.args.feed.now c.loop-rest.feed c.take.new.self c.args.draft.now c.loop-rest.draft c.add_taken.new.self
+    c.args.piece.now c.loop-rest.rest.now c.split_at.result.1.now (option_map line_of c.in_ok-used.line)
+    c.loop-rest.invariant took c.in_ok-add_taken.ensures
 
 pub loop-rest-smaller : goal.loop-rest-smaller
 loop-rest-smaller c =

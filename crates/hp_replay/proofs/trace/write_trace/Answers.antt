@@ -6,21 +6,37 @@ use Rattle.hp_replay.proofs.trace.write_trace.Goals as goal
 pub returns-in_err-write_line-clause-err : goal.returns-in_err-write_line-clause-err
 returns-in_err-write_line-clause-err g c =
     let p = err_from_is_err_and c.from_residual.result c.from_residual.ensures.1 in
-    rw (p.1, p.2) (c.in_err-write_line.ensures.front.0, header_stopped _ _ (sizes c.args.trace.now.config) c.args.trace.now.events.items c.in_err-write_line.ensures.front.1)
+    rw (p.1, p.2) (
+      c.in_err-write_line.ensures.front.0,
+      header_stopped _ _ (sizes c.args.trace.now.config) c.args.trace.now.events.items c.in_err-write_line.ensures.front.1,
+    )
 
 pub loop-event-init : goal.loop-event-init
 loop-event-init g c = header_written _ _ (sizes c.args.trace.now.config) c.args.trace.now.events.items c.in_ok-write_line.ensures.ok
 
 pub loop-event-preserved : goal.loop-event-preserved
-loop-event-preserved g c = event_written _ _ _ (sizes c.args.trace.now.config) c.args.trace.now.events.items c.deref-event-items.result.now c.loop-event.event-index c.event-item.result c.deref-event-items.ensures.value c.loop-event-test.true c.event-item.is c.loop-event.invariant c.write_event.ensures.fits c.in_ok-write_event.ensures.ok
+loop-event-preserved g c =
+    event_written _ _ _ (sizes c.args.trace.now.config) c.args.trace.now.events.items c.deref-event-items.result.now
+    c.loop-event.event-index c.event-item.result c.deref-event-items.ensures.value c.loop-event-test.true
+    c.event-item.is c.loop-event.invariant c.write_event.ensures.fits c.in_ok-write_event.ensures.ok
 
 pub returns-in_err-write_event-clause-err : goal.returns-in_err-write_event-clause-err
 returns-in_err-write_event-clause-err g c =
     let p = err_from_is_err_and c.from_residual-in_err-write_event.result c.from_residual-in_err-write_event.ensures.1 in
-    rw (p.1, p.2) (c.in_err-write_event.ensures.err.0, event_stopped _ _ _ (sizes c.args.trace.now.config) c.args.trace.now.events.items c.deref-event-items.result.now c.loop-event.event-index c.event-item.result c.deref-event-items.ensures.value c.loop-event-test.true c.event-item.is c.loop-event.invariant c.in_err-write_event.ensures.err.1)
+    rw (p.1, p.2) (
+      c.in_err-write_event.ensures.err.0,
+      event_stopped _ _ _ (sizes c.args.trace.now.config) c.args.trace.now.events.items c.deref-event-items.result.now
+          c.loop-event.event-index c.event-item.result c.deref-event-items.ensures.value c.loop-event-test.true
+          c.event-item.is c.loop-event.invariant c.in_err-write_event.ensures.err.1,
+    )
 
 pub returns-clause-ok : goal.returns-clause-ok
-returns-clause-ok g c = all_written _ _ (sizes c.args.trace.now.config) c.args.trace.now.events.items c.deref-event-items.result.now c.loop-event.event-index c.deref-event-items.ensures.value c.loop-event-test.false c.loop-event.invariant
+returns-clause-ok g c =
+    all_written _ _ (sizes c.args.trace.now.config) c.args.trace.now.events.items c.deref-event-items.result.now
+    c.loop-event.event-index c.deref-event-items.ensures.value c.loop-event-test.false c.loop-event.invariant
 
 pub returns-clause-spells : goal.returns-clause-spells
-returns-clause-spells g c = written_is _ _ (sizes c.args.trace.now.config) c.args.trace.now.events.items c.deref-event-items.result.now c.loop-event.event-index c.deref-event-items.ensures.value c.loop-event-test.false c.loop-event.invariant c.args.trace.now.config.within_limits c.requires
+returns-clause-spells g c =
+    written_is _ _ (sizes c.args.trace.now.config) c.args.trace.now.events.items c.deref-event-items.result.now
+    c.loop-event.event-index c.deref-event-items.ensures.value c.loop-event-test.false c.loop-event.invariant
+    c.args.trace.now.config.within_limits c.requires

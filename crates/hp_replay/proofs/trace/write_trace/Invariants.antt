@@ -3,4 +3,6 @@ use Rattle.hp_replay.proofs.WrittenTraces.{WritingTrace}
 use Rattle.hp_replay.proofs.trace.write_trace.Given as goal
 
 abbrev pub invariant-loop-event : goal.invariant-loop-event
-invariant-loop-event g l = WritingTrace (g.W.Write.contents l.fn.writer) (g.W.Write.contents l.writer) (sizes l.trace.config) l.trace.events.items l.event-index
+invariant-loop-event g l =
+    WritingTrace (g.W.Write.contents l.fn.writer) (g.W.Write.contents l.writer) (sizes l.trace.config)
+    l.trace.events.items l.event-index

@@ -10,5 +10,6 @@ abbrev pub invariant-loop-mapping : goal.invariant-loop-mapping
 invariant-loop-mapping l = record {
   sorted : IsTrue (map.is_sorted nat_cmp l.entries.items);
   spread : IsSpread VPNS 0 (drop l.mapping-index l.mappings);
-  left : filter (λ e. not (is_there (find l.mappings e.0) l.file l.index)) l.fn.entries.items ≡ filter (λ e. not (is_there (find (drop l.mapping-index l.mappings) e.0) l.file l.index)) l.entries.items;
+  left : filter (λ e. not (is_there (find l.mappings e.0) l.file l.index)) l.fn.entries.items ≡ filter
+      (λ e. not (is_there (find (drop l.mapping-index l.mappings) e.0) l.file l.index)) l.entries.items;
 }

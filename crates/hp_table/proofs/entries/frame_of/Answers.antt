@@ -18,5 +18,6 @@ returns c =
     let es = c.args.entries.now in
     let e = c.index-entries-at.result in
     let within : c.before-at.result < length es = omega (arith, c.before-at.ensures, prefix_len-le-length (stands_before c.args.vpn) es) in
-    let there = rw (← c.index-entries-at.is) at (find_there 0 es c.args.vpn c.before-at.result e (is_sorted-Rises es c.requires) (sym c.before-at.ensures) within) in
+    let there = rw (← c.index-entries-at.is) at
+    (find_there 0 es c.args.vpn c.before-at.result e (is_sorted-Rises es c.requires) (sym c.before-at.ensures) within) in
     c.then_some.ensures ∙ (then_some-cond _ e.1 ∙ rw c.eq.ensures (sym there))

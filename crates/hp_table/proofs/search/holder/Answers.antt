@@ -37,7 +37,8 @@ begun_there ms v last begun m counted before is =
 pub overflow_sub-number : goal.overflow_sub-number
 overflow_sub-number c =
     let found = c.in_ok-last.ensures {u = tt} in
-    let there = begun_there c.args.mappings.now c.args.vpn c.in_ok-last.last c.begun.result c.index-mappings-last.result c.begun.ensures (omega (arith, found)) c.index-mappings-last.is in
+    let there = begun_there c.args.mappings.now c.args.vpn c.in_ok-last.last c.begun.result
+    c.index-mappings-last.result c.begun.ensures (omega (arith, found)) c.index-mappings-last.is in
     omega (arith, there, c.number.ensures, c.number-2.ensures)
 
 offset_test : (m : Mapping) (v : ℕ) → m.base ≤ v → nat_lt (v - m.base) m.len ≡ covers m v
@@ -48,7 +49,8 @@ returns c =
     let found = c.in_ok-last.ensures {u = tt} in
     let ms = c.args.mappings.now in
     let m = c.index-mappings-last.result in
-    let there = begun_there ms c.args.vpn c.in_ok-last.last c.begun.result m c.begun.ensures (omega (arith, found)) c.index-mappings-last.is in
+    let there = begun_there ms c.args.vpn c.in_ok-last.last c.begun.result m c.begun.ensures (omega (arith, found))
+    c.index-mappings-last.is in
     let begun : prefix_len (begins c.args.vpn) ms ≡ suc c.in_ok-last.last = omega (arith, found, c.begun.ensures) in
     let last = rw (← c.index-mappings-last.is) at (holder_last VPNS 0 ms c.args.vpn c.in_ok-last.last m c.requires begun) in
     c.then_some.ensures ∙ (then_some-cond _ m ∙ rw (c.number.ensures, c.number-2.ensures, offset_test m c.args.vpn there) (sym last))

@@ -31,4 +31,7 @@ returns c =
     let found = c.in_ok-last.ensures {u = tt} in
     let begun : prefix_len (begins c.args.base) ms ≡ suc k = omega (arith, found, c.begun.ensures) in
     let place = last_place VPNS 0 ms c.args.base k m c.requires begun in
-    c.then_some.ensures ∙ (then_some-cond _ k ∙ rw c.eq.ensures (sym (position_there (begins_at c.args.base) ms k _ (omega (arith, found, c.begun.ensures, prefix_len-le-length (begins c.args.base) ms)) place)))
+    c.then_some.ensures ∙ (then_some-cond _ k
+    ∙ rw c.eq.ensures (sym
+    (position_there (begins_at c.args.base) ms k _
+    (omega (arith, found, c.begun.ensures, prefix_len-le-length (begins c.args.base) ms)) place)))

@@ -5,7 +5,12 @@ use Rattle.hp_cache.proofs.cache.PageCache.count.Goals as goal
 
 pub overflow_cast-result : goal.overflow_cast-result
 overflow_cast-result c =
-    omega (arith, c.len.ensures, length_le_limit LIMIT c.self.inside.pages.items c.args.self.now (c.self.invariant.in_order, c.self.view_is) c.self.invariant.in_file)
+    omega (
+      arith,
+      c.len.ensures,
+      length_le_limit LIMIT c.self.inside.pages.items c.args.self.now (c.self.invariant.in_order, c.self.view_is)
+          c.self.invariant.in_file,
+    )
 
 pub returns-clause-count : goal.returns-clause-count
 returns-clause-count c =
@@ -15,4 +20,9 @@ returns-clause-count c =
 
 pub returns-clause-in_limit : goal.returns-clause-in_limit
 returns-clause-in_limit c =
-    omega (arith, c.len.ensures, length_le_limit LIMIT c.self.inside.pages.items c.args.self.now (c.self.invariant.in_order, c.self.view_is) c.self.invariant.in_file)
+    omega (
+      arith,
+      c.len.ensures,
+      length_le_limit LIMIT c.self.inside.pages.items c.args.self.now (c.self.invariant.in_order, c.self.view_is)
+          c.self.invariant.in_file,
+    )

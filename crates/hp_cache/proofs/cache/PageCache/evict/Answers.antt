@@ -17,10 +17,13 @@ pub invariant_of-self : goal.invariant_of-self
 invariant_of-self c =
     let pages = c.self.inside.pages.items in
     let placed = rw c.deref.ensures.value at c.place_of-at.ensures in
-    let seen = IsSeenAs-remove pages c.remove.new.self.items c.args.self.now c.args.index c.place_of-at.result (c.self.invariant.in_order, c.self.view_is) c.requires.present placed c.remove.ensures.items in
+    let seen = IsSeenAs-remove pages c.remove.new.self.items c.args.self.now c.args.index c.place_of-at.result
+    (c.self.invariant.in_order, c.self.view_is) c.requires.present placed c.remove.ensures.items in
     record {
       in_order = seen.0;
-      in_file = rw c.remove.ensures.items (All-remove (λ (page : ℕ × ℕ). page.0 < LIMIT) pages c.place_of-at.result c.self.invariant.in_file);
+      in_file =
+          rw c.remove.ensures.items
+          (All-remove (λ (page : ℕ × ℕ). page.0 < LIMIT) pages c.place_of-at.result c.self.invariant.in_file);
     }
 
 pub returns-clause-frame : goal.returns-clause-frame
@@ -35,4 +38,5 @@ returns-clause-frame c =
 pub returns-clause-pages : goal.returns-clause-pages
 returns-clause-pages c =
     let placed = rw c.deref.ensures.value at c.place_of-at.ensures in
-    (IsSeenAs-remove c.self.inside.pages.items c.remove.new.self.items c.args.self.now c.args.index c.place_of-at.result (c.self.invariant.in_order, c.self.view_is) c.requires.present placed c.remove.ensures.items).1
+    (IsSeenAs-remove c.self.inside.pages.items c.remove.new.self.items c.args.self.now c.args.index
+    c.place_of-at.result (c.self.invariant.in_order, c.self.view_is) c.requires.present placed c.remove.ensures.items).1

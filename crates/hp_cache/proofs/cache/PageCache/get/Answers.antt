@@ -10,7 +10,8 @@ returns-in_err-found c =
     let at : c.place_of.result ≡ place c.args.index pages = rw c.deref-2.ensures.value at c.place_of.ensures in
     let look = (c.in_err-found.ensures {u = tt}).lookup in
     let past : length pages ≤ place c.args.index pages = rw (c.deref.ensures.value, at) at look.3 in
-    c.from_residual.ensures ∙ sym (get-find pages c.args.self.now c.args.index (sorted, c.self.view_is) ∙ find_past c.args.index pages sorted past)
+    c.from_residual.ensures
+    ∙ sym (get-find pages c.args.self.now c.args.index (sorted, c.self.view_is) ∙ find_past c.args.index pages sorted past)
 
 pub returns : goal.returns
 returns c =

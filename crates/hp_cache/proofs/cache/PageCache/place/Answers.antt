@@ -14,14 +14,18 @@ invariant_of-self-2 c =
     let pages = c.self.inside.pages.items in
     let edited = (c.in_ok-insert.ensures {u = tt}).items in
     let placed = rw c.deref.ensures.value at c.place_of-at.ensures in
-    let seen = IsSeenAs-insert pages c.insert.new.self.items c.args.self.now c.args.index c.place_of-at.result c.args.frame (c.self.invariant.in_order, c.self.view_is) c.requires.vacant placed edited in
+    let seen = IsSeenAs-insert pages c.insert.new.self.items c.args.self.now c.args.index c.place_of-at.result
+    c.args.frame (c.self.invariant.in_order, c.self.view_is) c.requires.vacant placed edited in
     record {
       in_order = seen.0;
-      in_file = rw edited (All-insert (λ (page : ℕ × ℕ). page.0 < LIMIT) pages c.place_of-at.result (c.args.index, c.args.frame) c.self.invariant.in_file c.requires.in_file);
+      in_file =
+          rw edited (All-insert (λ (page : ℕ × ℕ). page.0 < LIMIT) pages c.place_of-at.result
+          (c.args.index, c.args.frame) c.self.invariant.in_file c.requires.in_file);
     }
 
 pub returns-clause-ok : goal.returns-clause-ok
 returns-clause-ok c =
     let edited = (c.in_ok-insert.ensures {u = tt}).items in
     let placed = rw c.deref.ensures.value at c.place_of-at.ensures in
-    (IsSeenAs-insert c.self.inside.pages.items c.insert.new.self.items c.args.self.now c.args.index c.place_of-at.result c.args.frame (c.self.invariant.in_order, c.self.view_is) c.requires.vacant placed edited).1
+    (IsSeenAs-insert c.self.inside.pages.items c.insert.new.self.items c.args.self.now c.args.index
+    c.place_of-at.result c.args.frame (c.self.invariant.in_order, c.self.view_is) c.requires.vacant placed edited).1

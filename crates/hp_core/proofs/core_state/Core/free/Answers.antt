@@ -9,5 +9,9 @@ use Rattle.hp_core.proofs.core_state.Core.free.Goals as goal
 pub returns : goal.returns
 unfolding free_of
 returns c =
-    let s : CoreState = record { sizes = sizes c.self.inside.config; parts = state_of c.self.inside.parts; seats = c.self.inside.seats.items } in
+    let s : CoreState = record {
+      sizes = sizes c.self.inside.config;
+      parts = state_of c.self.inside.parts;
+      seats = c.self.inside.seats.items;
+    } in
     c.free.ensures ∙ (sym (free_frames_is c.self.inside.parts.bank.frames) ∙ ap (λ (z : CoreState). free_of z) c.self.view_is)

@@ -9,12 +9,18 @@ use Rattle.hp_core.proofs.core_state.Core.owed.Goals as goal
 
 pub sums-less-requires : goal.sums-less-requires
 sums-less-requires c =
-    let s : CoreState = record { sizes = sizes c.self.inside.config; parts = state_of c.self.inside.parts; seats = c.self.inside.seats.items } in
+    let s : CoreState = record {
+      sizes = sizes c.self.inside.config;
+      parts = state_of c.self.inside.parts;
+      seats = c.self.inside.seats.items;
+    } in
     let few = few_seats s c.self.invariant in
     let same = ap length c.deref.ensures.value in
     omega (arith, few, same)
 
 pub returns : goal.returns
 returns c =
-    let is = c.difference.ensures ∙ (owed_is _ _ _ _ c.self.invariant c.deref.ensures.value c.sums-less.ensures.less c.sums-less.ensures.more ∙ ap owed_of c.self.view_is) in
+    let is = c.difference.ensures
+    ∙ (owed_is _ _ _ _ c.self.invariant c.deref.ensures.value c.sums-less.ensures.less c.sums-less.ensures.more
+    ∙ ap owed_of c.self.view_is) in
     search (rules, is)

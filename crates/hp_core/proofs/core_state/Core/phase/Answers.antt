@@ -13,26 +13,44 @@ use Rattle.hp_core.proofs.core_state.Core.phase.Goals as goal
 
 pub index-requires : goal.index-requires
 index-requires c =
-    let s : CoreState = record { sizes = sizes c.self.inside.config; parts = state_of c.self.inside.parts; seats = c.self.inside.seats.items } in
+    let s : CoreState = record {
+      sizes = sizes c.self.inside.config;
+      parts = state_of c.self.inside.parts;
+      seats = c.self.inside.seats.items;
+    } in
     let low : 1 ≤ c.args.task = c.requires.first in
-    let high : c.args.task ≤ (config_of s).tasks = subst (λ (z : CoreState). c.args.task ≤ (config_of z).tasks) (sym c.self.view_is) c.requires.last in
+    let high : c.args.task ≤ (config_of s).tasks =
+    subst (λ (z : CoreState). c.args.task ≤ (config_of z).tasks) (sym c.self.view_is) c.requires.last in
     let l = seat_in s _ _ c.self.invariant c.number.ensures low high in
     omega (arith, l)
 
 pub returns-in-Some : goal.returns-in-Some
 unfolding phase_of calls_of
 returns-in-Some c =
-    let s : CoreState = record { sizes = sizes c.self.inside.config; parts = state_of c.self.inside.parts; seats = c.self.inside.seats.items } in
+    let s : CoreState = record {
+      sizes = sizes c.self.inside.config;
+      parts = state_of c.self.inside.parts;
+      seats = c.self.inside.seats.items;
+    } in
     let low : 1 ≤ c.args.task = c.requires.first in
-    let high : c.args.task ≤ (config_of s).tasks = subst (λ (z : CoreState). c.args.task ≤ (config_of z).tasks) (sym c.self.view_is) c.requires.last in
+    let high : c.args.task ≤ (config_of s).tasks =
+    subst (λ (z : CoreState). c.args.task ≤ (config_of z).tasks) (sym c.self.view_is) c.requires.last in
     let read = seat_read s _ _ _ c.self.invariant c.number.ensures low high c.index.ensures in
-    ap Some c.phase_word.ensures ∙ (ap (λ (o : Option Call). option_map word_of o) (sym c.in-Some.is) ∙ (ap (λ (y : Seat). option_map word_of y.call) read ∙ ap (λ (z : CoreState). phase_of z c.args.task) c.self.view_is))
+    ap Some c.phase_word.ensures
+    ∙ (ap (λ (o : Option Call). option_map word_of o) (sym c.in-Some.is)
+    ∙ (ap (λ (y : Seat). option_map word_of y.call) read ∙ ap (λ (z : CoreState). phase_of z c.args.task) c.self.view_is))
 
 pub returns-in-None : goal.returns-in-None
 unfolding phase_of calls_of
 returns-in-None c =
-    let s : CoreState = record { sizes = sizes c.self.inside.config; parts = state_of c.self.inside.parts; seats = c.self.inside.seats.items } in
+    let s : CoreState = record {
+      sizes = sizes c.self.inside.config;
+      parts = state_of c.self.inside.parts;
+      seats = c.self.inside.seats.items;
+    } in
     let low : 1 ≤ c.args.task = c.requires.first in
-    let high : c.args.task ≤ (config_of s).tasks = subst (λ (z : CoreState). c.args.task ≤ (config_of z).tasks) (sym c.self.view_is) c.requires.last in
+    let high : c.args.task ≤ (config_of s).tasks =
+    subst (λ (z : CoreState). c.args.task ≤ (config_of z).tasks) (sym c.self.view_is) c.requires.last in
     let read = seat_read s _ _ _ c.self.invariant c.number.ensures low high c.index.ensures in
-    ap (λ (o : Option Call). option_map word_of o) (sym c.in-None.is) ∙ (ap (λ (y : Seat). option_map word_of y.call) read ∙ ap (λ (z : CoreState). phase_of z c.args.task) c.self.view_is)
+    ap (λ (o : Option Call). option_map word_of o) (sym c.in-None.is)
+    ∙ (ap (λ (y : Seat). option_map word_of y.call) read ∙ ap (λ (z : CoreState). phase_of z c.args.task) c.self.view_is)

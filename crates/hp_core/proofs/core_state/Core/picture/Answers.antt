@@ -33,7 +33,11 @@ tables-requires c =
 
 pub returns : goal.returns
 returns c =
-    let s : CoreState = record { sizes = sizes c.self.inside.config; parts = state_of c.self.inside.parts; seats = c.self.inside.seats.items } in
+    let s : CoreState = record {
+      sizes = sizes c.self.inside.config;
+      parts = state_of c.self.inside.parts;
+      seats = c.self.inside.seats.items;
+    } in
     let is : c.owed.result ≡ owed_of s = c.owed.ensures ∙ ap (λ (z : CoreState). owed_of z) (sym c.self.view_is) in
     let owed_is : to_z w64 (of_z w64 c.owed.result) ≡ owed_of s = grind (arith, to_z-of_z, is) in
     let copies : AreCopies s _ = record {
@@ -43,7 +47,10 @@ returns c =
       owed = owed_is;
       hands = c.in_ok-hands.ensures ∙ ap (λ (xs : List Seat). filter_map (λ seat. hand seat.call) xs) c.deref.ensures.value;
       as_many = c.in_ok-file_pictures.ensures.count ∙ ap (λ (xs : List FileState). length xs) c.deref-2.ensures.value;
-      files = subst (λ (xs : List FileState). (f : ℕ) → f < length xs → HoldsAt (IsCopy (get_or xs f no_file) (is_some (holder_of c.self.inside.parts.locks f))) c.in_ok-file_pictures.field-0.items f) c.deref-2.ensures.value c.in_ok-file_pictures.ensures.each;
+      files =
+          subst (λ (xs : List FileState). (f : ℕ) → f < length xs
+          → HoldsAt (IsCopy (get_or xs f no_file) (is_some (holder_of c.self.inside.parts.locks f)))
+          c.in_ok-file_pictures.field-0.items f) c.deref-2.ensures.value c.in_ok-file_pictures.ensures.each;
       tables = c.in_ok-tables.ensures ∙ ap (λ (xs : List Table). all_translations xs (length xs)) c.deref-3.ensures.value;
     } in
     record {

@@ -12,7 +12,9 @@ loop-event-init c = record {
 
 pub loop-event-preserved : goal.loop-event-preserved
 loop-event-preserved c = record {
-  ran = ran_next _ _ _ _ _ _ _ _ _ c.loop-event-test.true c.event-item.is c.push_reserved.ensures.items c.loop-event.invariant.ran c.in-Ok.ensures.row;
+  ran =
+      ran_next _ _ _ _ _ _ _ _ _ c.loop-event-test.true c.event-item.is c.push_reserved.ensures.items
+      c.loop-event.invariant.ran c.in-Ok.ensures.row;
   room = omega (arith, c.push_reserved.ensures.capacity, c.loop-event.invariant.room);
   head = c.in-Ok.ensures.headline;
 }

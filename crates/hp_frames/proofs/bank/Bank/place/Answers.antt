@@ -7,5 +7,10 @@ use Rattle.hp_frames.proofs.bank.Bank.place.Goals as goal
 
 pub invariant_of-self : goal.invariant_of-self
 invariant_of-self c =
-    let was : slice_get c.self.inside.frames.items c.held.inside.frame ≡ Some Hand = subst (λ (b : BankState). slice_get b.frames c.held.inside.frame ≡ Some Hand) (sym c.self.view_is) (subst (λ (f : ℕ). slice_get c.args.self.now.frames f ≡ Some Hand) (sym c.held.view_is) c.requires) in
-    record { listed = moved _ _ _ _ _ Hand (Placed 0) c.move_frame.ensures was refl refl c.self.invariant.listed; reserved = c.self.invariant.reserved }
+    let was : slice_get c.self.inside.frames.items c.held.inside.frame ≡ Some Hand =
+    subst (λ (b : BankState). slice_get b.frames c.held.inside.frame ≡ Some Hand) (sym c.self.view_is)
+    (subst (λ (f : ℕ). slice_get c.args.self.now.frames f ≡ Some Hand) (sym c.held.view_is) c.requires) in
+    record {
+      listed = moved _ _ _ _ _ Hand (Placed 0) c.move_frame.ensures was refl refl c.self.invariant.listed;
+      reserved = c.self.invariant.reserved;
+    }

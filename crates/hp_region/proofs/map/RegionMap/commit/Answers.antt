@@ -17,7 +17,8 @@ pub overflow_add-self : goal.overflow_add-self
 overflow_add-self c =
     let set = is_member c.self.inside.regions.items in
     let few = missing_le set c.change.inside.from c.change.inside.to in
-    let added = added_is c.missing-added.result c.change.inside.from c.change.inside.to c.self.inside.regions.items c.args.self.now c.missing-added.ensures.counted (ap (λ (m : Reserved). m.regions) c.self.view_is) in
+    let added = added_is c.missing-added.result c.change.inside.from c.change.inside.to c.self.inside.regions.items
+    c.args.self.now c.missing-added.ensures.counted (ap (λ (m : Reserved). m.regions) c.self.view_is) in
     omega (arith, added, few, c.self.invariant.counted, count_below_le set LIMIT, c.change.invariant.in_limit)
 
 pub invariant_of-self : goal.invariant_of-self
@@ -25,7 +26,8 @@ invariant_of-self c =
     let rs = c.self.inside.regions.items in
     let from = c.change.inside.from in
     let to = c.change.inside.to in
-    let added = added_is c.missing-added.result from to rs c.args.self.now c.missing-added.ensures.counted (ap (λ (m : Reserved). m.regions) c.self.view_is) in
+    let added = added_is c.missing-added.result from to rs c.args.self.now c.missing-added.ensures.counted
+    (ap (λ (m : Reserved). m.regions) c.self.view_is) in
     record {
       apart = c.add-alone.ensures.apart;
       counted = rw c.add-alone.ensures.members

@@ -1,4 +1,5 @@
-use Rattle.std.proofs.Common.{ℕ, ◌≡◌, ◌≤◌, ◌-◌, ◌+◌, Bool, true, false, cond, IsTrue, List, vec_len, vec_capacity, refl, ap, sym, ◌∙◌, arith}
+use Rattle.std.proofs.Common.{ℕ, ◌≡◌, ◌≤◌, ◌-◌, ◌+◌, Bool, true, false, cond, IsTrue, List, vec_len, vec_capacity, refl, ap, sym}
+use Rattle.std.proofs.Common.{◌∙◌, arith}
 use Rattle.std.specs.Prelude.{nat_lt}
 use Rattle.std.proofs.lemmas.Bool.Decides.{nat_tests}
 use Rattle.hp_base.specs.Indices.{count_below, splits}
@@ -30,8 +31,14 @@ one_less rs seen i count apart counted same there =
 
 pub overflow_sub-self : goal.overflow_sub-self
 overflow_sub-self c =
-    let kept : c.if-is_split.self-inside.count ≡ c.self.inside.count = elim c.if-is_split.branch [ then-is_split+in_ok-take_room w ↦ ap (λ (m : Inside). m.count) w.self-inside-is | else-is_split w ↦ ap (λ (m : Inside). m.count) w.self-inside-is ] in
-    let less = one_less c.self.inside.regions.items c.deref.result.now c.args.index c.self.inside.count c.self.invariant.apart c.self.invariant.counted c.deref.ensures.value (c.in-Some.ensures.found.0 refl) in
+    let kept : c.if-is_split.self-inside.count ≡ c.self.inside.count =
+    elim c.if-is_split.branch [
+      | then-is_split+in_ok-take_room w ↦
+          ap (λ (m : Inside). m.count) w.self-inside-is
+      | else-is_split w ↦ ap (λ (m : Inside). m.count) w.self-inside-is
+    ] in
+    let less = one_less c.self.inside.regions.items c.deref.result.now c.args.index c.self.inside.count
+    c.self.invariant.apart c.self.invariant.counted c.deref.ensures.value (c.in-Some.ensures.found.0 refl) in
     omega (arith, kept, less)
 
 -- room is made without a change of the regions
@@ -71,22 +78,31 @@ room c = elim c.if-is_split.branch [
       let now = ap (λ (m : Inside). m.spare) w.self-inside-is in
       let len = ap (λ (m : Inside). vec_len m.regions) w.self-inside-is in
       let capacity = ap (λ (m : Inside). vec_capacity m.regions) w.self-inside-is in
-      let most = at_most (splits (is_member c.if-is_split.self-inside.regions.items) c.args.index) (vec_len c.if-is_split.self-inside.regions) (vec_len c.carve.new.regions) c.carve.ensures.len in
+      let most = at_most (splits (is_member c.if-is_split.self-inside.regions.items) c.args.index)
+      (vec_len c.if-is_split.self-inside.regions) (vec_len c.carve.new.regions) c.carve.ensures.len in
       omega (arith, now, len, capacity, most, w.in_ok-take_room.ensures.room, c.carve.ensures.capacity)
   | else-is_split w ↦
       let now = ap (λ (m : Inside). m.spare) w.self-inside-is in
       let len = ap (λ (m : Inside). vec_len m.regions) w.self-inside-is in
       let capacity = ap (λ (m : Inside). vec_capacity m.regions) w.self-inside-is in
-      let whole = ap (λ (rs : List Region). splits (is_member rs) c.args.index) (same c ∙ sym c.deref-2.ensures.value) ∙ sym c.is_split.ensures ∙ w.if-is_split.false in
-      let most = no_more (splits (is_member c.if-is_split.self-inside.regions.items) c.args.index) (vec_len c.if-is_split.self-inside.regions) (vec_len c.carve.new.regions) whole c.carve.ensures.len in
+      let whole = ap (λ (rs : List Region). splits (is_member rs) c.args.index) (same c ∙ sym c.deref-2.ensures.value)
+      ∙ sym c.is_split.ensures ∙ w.if-is_split.false in
+      let most = no_more (splits (is_member c.if-is_split.self-inside.regions.items) c.args.index)
+      (vec_len c.if-is_split.self-inside.regions) (vec_len c.carve.new.regions) whole c.carve.ensures.len in
       omega (arith, now, len, capacity, most, c.self.invariant.room, c.carve.ensures.capacity)
 ]
 
 pub invariant_of-self-2 : goal.invariant_of-self-2
 invariant_of-self-2 c =
     let rs = c.self.inside.regions.items in
-    let kept : c.if-is_split.self-inside.count ≡ c.self.inside.count = elim c.if-is_split.branch [ then-is_split+in_ok-take_room w ↦ ap (λ (m : Inside). m.count) w.self-inside-is | else-is_split w ↦ ap (λ (m : Inside). m.count) w.self-inside-is ] in
-    let less = one_less rs c.deref.result.now c.args.index c.self.inside.count c.self.invariant.apart c.self.invariant.counted c.deref.ensures.value (c.in-Some.ensures.found.0 refl) in
+    let kept : c.if-is_split.self-inside.count ≡ c.self.inside.count =
+    elim c.if-is_split.branch [
+      | then-is_split+in_ok-take_room w ↦
+          ap (λ (m : Inside). m.count) w.self-inside-is
+      | else-is_split w ↦ ap (λ (m : Inside). m.count) w.self-inside-is
+    ] in
+    let less = one_less rs c.deref.result.now c.args.index c.self.inside.count c.self.invariant.apart
+    c.self.invariant.counted c.deref.ensures.value (c.in-Some.ensures.found.0 refl) in
     record {
       apart = c.carve.ensures.apart;
       counted = rw (left c) (omega (arith, kept, less));

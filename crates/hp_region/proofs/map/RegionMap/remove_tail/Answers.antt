@@ -11,18 +11,21 @@ split : (rs seen : List Region) (count removed from end : ℕ) → count ≡ cou
     → removed ≡ count_within (is_member seen) from end → seen ≡ rs → end ≡ LIMIT
     → count_below (cut_tail (is_member rs) from) LIMIT + removed ≡ count
 split rs seen count removed from end counted held same limit =
-    let here = held ∙ (ap (λ (xs : List Region). count_within (is_member xs) from end) same ∙ ap (count_within (is_member rs) from) limit) in
+    let here = held ∙ (ap (λ (xs : List Region). count_within (is_member xs) from end) same
+    ∙ ap (count_within (is_member rs) from) limit) in
     omega (arith, here, counted, count_below-cut_tail (is_member rs) from LIMIT)
 
 pub overflow_sub-self : goal.overflow_sub-self
 overflow_sub-self c =
-    let parts = split c.self.inside.regions.items c.deref.result.now c.self.inside.count c.held-removed.result c.args.from c.new.result c.self.invariant.counted c.held-removed.ensures.counted c.deref.ensures.value c.new.ensures in
+    let parts = split c.self.inside.regions.items c.deref.result.now c.self.inside.count c.held-removed.result
+    c.args.from c.new.result c.self.invariant.counted c.held-removed.ensures.counted c.deref.ensures.value c.new.ensures in
     omega (arith, parts)
 
 pub invariant_of-self : goal.invariant_of-self
 invariant_of-self c =
     let rs = c.self.inside.regions.items in
-    let parts = split rs c.deref.result.now c.self.inside.count c.held-removed.result c.args.from c.new.result c.self.invariant.counted c.held-removed.ensures.counted c.deref.ensures.value c.new.ensures in
+    let parts = split rs c.deref.result.now c.self.inside.count c.held-removed.result c.args.from c.new.result
+    c.self.invariant.counted c.held-removed.ensures.counted c.deref.ensures.value c.new.ensures in
     record {
       apart = c.cut.ensures.apart;
       counted = rw c.cut.ensures.members (omega (arith, parts));

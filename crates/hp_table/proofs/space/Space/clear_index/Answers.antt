@@ -8,7 +8,9 @@ use Rattle.hp_table.proofs.space.Space.clear_index.Goals as goal
 
 items : (c : goal.After-clear_index)
     → c.clear_index.new.entries.items ≡ others c.self.inside.mappings.items c.args.file c.args.index c.self.inside.entries.items
-items c = c.clear_index.ensures ∙ ap (λ (ms : List Mapping). others ms c.args.file c.args.index c.self.inside.entries.items) c.deref.ensures.value
+items c =
+    c.clear_index.ensures
+    ∙ ap (λ (ms : List Mapping). others ms c.args.file c.args.index c.self.inside.entries.items) c.deref.ensures.value
 
 pub invariant_of-self : goal.invariant_of-self
 invariant_of-self c =
@@ -25,4 +27,5 @@ invariant_of-self c =
 
 pub returns-clause-entries : goal.returns-clause-entries
 returns-clause-entries c =
-    rw (← c.self.view_is, items c) (get-others c.self.inside.mappings.items c.args.file c.args.index c.self.inside.entries.items c.self.invariant.in_order)
+    rw (← c.self.view_is, items c)
+    (get-others c.self.inside.mappings.items c.args.file c.args.index c.self.inside.entries.items c.self.invariant.in_order)

@@ -11,7 +11,8 @@ use Rattle.hp_table.proofs.space.Space.clear_mapping.Goals as goal
 pub clear-requires-clause-within : goal.clear-requires-clause-within
 clear-requires-clause-within c =
     let found = c.in-Some.ensures {u = tt} ∙ ap (position (begins_at c.args.base)) c.deref.ensures.value in
-    ends_in_space_at VPNS c.self.inside.mappings.items c.args.base c.in-Some.at c.index.result.now c.self.invariant.spread found c.index.ensures
+    ends_in_space_at VPNS c.self.inside.mappings.items c.args.base c.in-Some.at c.index.result.now
+    c.self.invariant.spread found c.index.ensures
 
 pub invariant_of-self : goal.invariant_of-self
 invariant_of-self c =
@@ -28,7 +29,9 @@ invariant_of-self c =
 pub returns-in-Some-clause-entries : goal.returns-in-Some-clause-entries
 returns-in-Some-clause-entries c =
     let found = c.in-Some.ensures {u = tt} ∙ ap (position (begins_at c.args.base)) c.deref.ensures.value in
-    rw (← c.self.view_is, c.clear.ensures) (get-within c.self.inside.mappings.items c.args.base c.in-Some.at c.index.result.now c.self.inside.entries.items found c.index.ensures c.self.invariant.in_order)
+    rw (← c.self.view_is, c.clear.ensures)
+    (get-within c.self.inside.mappings.items c.args.base c.in-Some.at c.index.result.now c.self.inside.entries.items
+    found c.index.ensures c.self.invariant.in_order)
 
 pub returns-in_default-clause-entries : goal.returns-in_default-clause-entries
 returns-in_default-clause-entries c =

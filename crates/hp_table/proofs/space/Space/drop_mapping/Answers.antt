@@ -26,7 +26,8 @@ bare : (c : goal.After-remove) (v : ℕ) → IsSome (find nat_cmp v c.self.insid
     → IsTrue (in_mapping c.self.inside.mappings.items c.args.base v) → ⊥
 bare c v some lies =
     let there = ap (λ (t : Table). in_mapping t.mappings c.args.base v) (sym c.self.view_is) ∙ lies in
-    let none = sym (get_is c.self.inside.entries.items v c.self.invariant.in_order) ∙ (ap (λ (t : Table). map.get t.entries v) c.self.view_is ∙ c.requires.bare v there) in
+    let none = sym (get_is c.self.inside.entries.items v c.self.invariant.in_order)
+    ∙ (ap (λ (t : Table). map.get t.entries v) c.self.view_is ∙ c.requires.bare v there) in
     some_or_none (find nat_cmp v c.self.inside.entries.items) some none
 
 pub invariant_of-self : goal.invariant_of-self

@@ -12,10 +12,13 @@ pub insert-requires : goal.insert-requires
 insert-requires c = omega (arith, c.begun-at.ensures, c.deref.ensures.len, prefix_len-le-length (begins c.args.base) c.deref.result.now)
 
 items : (c : goal.After-self-1)
-    → c.insert.new.self.items ≡ entered c.self.inside.mappings.items (record { base = c.args.base; file = c.args.file; from = c.args.from; len = c.args.len })
+    → c.insert.new.self.items ≡ entered c.self.inside.mappings.items
+    (record { base = c.args.base; file = c.args.file; from = c.args.from; len = c.args.len })
 items c =
     let edited = rw c.unwrap.ensures at c.insert.ensures.items in
-    edited ∙ insert_is c.self.inside.mappings.items c.deref.result.now (record { base = c.args.base; file = c.args.file; from = c.args.from; len = c.args.len }) c.begun-at.result c.begun-at.ensures c.deref.ensures.value
+    edited ∙ insert_is c.self.inside.mappings.items c.deref.result.now
+    (record { base = c.args.base; file = c.args.file; from = c.args.from; len = c.args.len }) c.begun-at.result
+    c.begun-at.ensures c.deref.ensures.value
 
 pub invariant_of-self : goal.invariant_of-self
 invariant_of-self c =

@@ -10,7 +10,8 @@ use Rattle.hp_table.proofs.space.Space.find.Goals as goal
 
 pub returns-in_err-mapping-clause-found : goal.returns-in_err-mapping-clause-found
 returns-in_err-mapping-clause-found c =
-    rw (← c.self.view_is, ← c.deref.ensures.value) (c.from_residual.ensures ∙ sym (find_is c.deref.result.now c.args.vpn _ (c.in_err-mapping.ensures {u = tt})))
+    rw (← c.self.view_is, ← c.deref.ensures.value)
+    (c.from_residual.ensures ∙ sym (find_is c.deref.result.now c.args.vpn _ (c.in_err-mapping.ensures {u = tt})))
 
 within : (m : Mapping) (v : ℕ) → covers m v ≡ true → (m.base ≤ v) × (v < m.base + m.len)
 within m v e = (grind (arith, nat_tests), grind (arith, nat_tests))
@@ -25,12 +26,14 @@ found ms seen v m same ends is =
 
 pub overflow_sub-index : goal.overflow_sub-index
 overflow_sub-index c =
-    let there = found c.self.inside.mappings.items c.deref.result.now c.args.vpn c.in_ok-mapping.mapping c.deref.ensures.value c.self.invariant.in_files (c.in_ok-mapping.ensures {u = tt}) in
+    let there = found c.self.inside.mappings.items c.deref.result.now c.args.vpn c.in_ok-mapping.mapping
+    c.deref.ensures.value c.self.invariant.in_files (c.in_ok-mapping.ensures {u = tt}) in
     omega (arith, there, c.number-2.ensures, c.number-3.ensures)
 
 pub overflow_add-index : goal.overflow_add-index
 overflow_add-index c =
-    let there = found c.self.inside.mappings.items c.deref.result.now c.args.vpn c.in_ok-mapping.mapping c.deref.ensures.value c.self.invariant.in_files (c.in_ok-mapping.ensures {u = tt}) in
+    let there = found c.self.inside.mappings.items c.deref.result.now c.args.vpn c.in_ok-mapping.mapping
+    c.deref.ensures.value c.self.invariant.in_files (c.in_ok-mapping.ensures {u = tt}) in
     omega (arith, there, c.number.ensures, c.number-2.ensures, c.number-3.ensures)
 
 pub returns-clause-found : goal.returns-clause-found
@@ -40,5 +43,6 @@ returns-clause-found c =
 
 pub returns-clause-in_file : goal.returns-clause-in_file
 returns-clause-in_file c =
-    let there = found c.self.inside.mappings.items c.deref.result.now c.args.vpn c.in_ok-mapping.mapping c.deref.ensures.value c.self.invariant.in_files (c.in_ok-mapping.ensures {u = tt}) in
+    let there = found c.self.inside.mappings.items c.deref.result.now c.args.vpn c.in_ok-mapping.mapping
+    c.deref.ensures.value c.self.invariant.in_files (c.in_ok-mapping.ensures {u = tt}) in
     omega (arith, there, c.new.ensures, c.number.ensures, c.number-2.ensures, c.number-3.ensures)
