@@ -17,15 +17,20 @@ from __future__ import annotations
 
 import os
 import re
+import shutil
+import signal
 import subprocess
 import sys
+import tempfile
 import time
 from pathlib import Path
+from typing import Iterable
 
 import try_edits
 from scratch import TOP, crates_of
 
 GATE = Path(__file__).resolve().parent
+TOLD = {"stderr": subprocess.STDOUT, "text": True, "errors": "replace"}
 COUNTS = re.compile(r"^(?:[\w ]+: )?(\d+) passed, (\d+) failed$")
 
 
@@ -33,26 +38,60 @@ class Step:
     """Commands whose output goes on, and whose lines 'N passed, M failed' are added up."""
 
     def __init__(self, name: str) -> None:
-        self.name, self.passed, self.failed, self.began = name, 0, 0, time.monotonic()
+        self.name, self.passed, self.failed = name, 0, 0
+        self.begin()
+
+    def begin(self) -> None:
+        self.began = self.ended = time.monotonic()
+
+    def end(self) -> None:
+        self.ended = time.monotonic()
 
     def run(self, words: list[str], folder: Path = TOP) -> bool:
-        """Runs a command, and returns whether it ended well. One that fails and counts nothing is one failure."""
+        """Runs a command, and returns whether it ended well."""
+        with subprocess.Popen(words, cwd=folder, stdin=subprocess.DEVNULL, stdout=subprocess.PIPE, **TOLD) as ran:
+            return self.follow(ran.stdout, ran)
+
+    def follow(self, lines: Iterable[str], ran: subprocess.Popen) -> bool:
+        """Passes a command's lines on, and returns whether it ended well. One that fails and counts nothing is one failure."""
         counted = 0
-        with subprocess.Popen(words, cwd=folder, stdin=subprocess.DEVNULL, stdout=subprocess.PIPE, stderr=subprocess.STDOUT, text=True, errors="replace") as ran:
-            for line in ran.stdout:
-                print(line, end="", flush=True)
-                if made := COUNTS.match(line.rstrip("\n")):
-                    self.passed, self.failed, counted = self.passed + int(made[1]), self.failed + int(made[2]), counted + int(made[2])
-        if ran.returncode and not counted:
+        for line in lines:
+            print(line, end="", flush=True)
+            if made := COUNTS.match(line.rstrip("\n")):
+                self.passed, self.failed, counted = self.passed + int(made[1]), self.failed + int(made[2]), counted + int(made[2])
+        if ran.wait() and not counted:
             self.failed += 1
         return ran.returncode == 0
 
     def told(self) -> str:
-        return f"check: {self.name}: {self.passed} passed, {self.failed} failed, in {time.monotonic() - self.began:.0f} s"
+        return f"check: {self.name}: {self.passed} passed, {self.failed} failed, in {self.ended - self.began:.0f} s"
 
 
 def python(script: str, *words: str) -> list[str]:
     return [sys.executable, str(GATE / script), *words]
+
+
+class Beside:
+    """The trial of all edits in a copy of the repository, while something else works in the repository itself and goes before it."""
+
+    def __init__(self, room: Path) -> None:
+        top = shutil.copytree(TOP, room / "all", ignore=shutil.ignore_patterns(".git"))
+        words = ["nice", *python("try_edits.py", "--beside", str(top))]
+        self.said = (room / "said").open("w+", encoding="utf-8", errors="replace")
+        self.ran = subprocess.Popen(
+            words, cwd=TOP, stdin=subprocess.PIPE, stdout=self.said, env={**os.environ, "TMPDIR": str(room)}, start_new_session=True, **TOLD
+        )
+
+    def finish(self, step: Step) -> None:
+        """Lets it have all processors, and passes on what it tells."""
+        self.ran.stdin.close()
+        self.ran.wait()
+        self.said.seek(0)
+        step.follow(self.said, self.ran)
+
+    def stop(self) -> None:
+        os.killpg(self.ran.pid, signal.SIGKILL)
+        self.ran.wait()
 
 
 def ci(step: Step, _: list[str]) -> None:
@@ -62,8 +101,12 @@ def ci(step: Step, _: list[str]) -> None:
 def edits(step: Step, words: list[str]) -> None:
     step.run(python("try_edits.py", *words))
     if not [it for it in words if not it.startswith("-")]:
-        step.run(python("test_edits.py"))
-        step.run(python("index.py"))
+        of_the_gate(step)
+
+
+def of_the_gate(step: Step) -> None:
+    step.run(python("test_edits.py"))
+    step.run(python("index.py"))
 
 
 def examples(step: Step, _: list[str]) -> None:
@@ -87,8 +130,38 @@ def quick(step: Step, _: list[str]) -> None:
             step.failed += 1
 
 
+def whole() -> list[Step]:
+    """All that has to pass. The edits are tried beside the proofs from nothing, which leave processors idle where a crate waits for another."""
+    steps = [Step(name) for name in ("ci", "edits", "examples", "linux")]
+    first, second, *others = steps
+    with tempfile.TemporaryDirectory(prefix="check-") as room:
+        beside = Beside(Path(room))
+        try:
+            ci(first, [])
+            if first.failed:
+                print("check: the other steps rest on what is proved, so they were left out")
+                return [first]
+            first.end()
+            beside.finish(second)
+        finally:
+            beside.stop()
+    of_the_gate(second)
+    second.end()
+    for step in others:
+        step.begin()
+        STEPS[step.name](step, [])
+        step.end()
+    return steps
+
+
+def one(name: str, words: list[str]) -> list[Step]:
+    step = Step(name)
+    STEPS[name](step, words)
+    step.end()
+    return [step]
+
+
 STEPS = {"ci": ci, "edits": edits, "examples": examples, "linux": linux, "quick": quick}
-WHOLE = ["ci", "edits", "examples", "linux"]
 
 
 def main(words: list[str]) -> int:
@@ -98,14 +171,7 @@ def main(words: list[str]) -> int:
     if words and words[0] not in STEPS or words[1:] and words[0] != "edits":
         print(__doc__.split("\n\n", 1)[1], end="", file=sys.stderr)
         return 2
-    done = []
-    for name in words[:1] or WHOLE:
-        step = Step(name)
-        STEPS[name](step, words[1:])
-        done.append(step)
-        if name == "ci" and step.failed:
-            print("check: the other steps rest on what is proved, so they were left out")
-            break
+    done = one(words[0], words[1:]) if words else whole()
     print("\n".join(it.told() for it in done))
     passed, failed = sum(it.passed for it in done), sum(it.failed for it in done)
     print(f"{passed} passed, {failed} failed")

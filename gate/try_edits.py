@@ -20,11 +20,12 @@ import shutil
 import subprocess
 import sys
 import tempfile
+import threading
 from collections import Counter
 from concurrent.futures import ThreadPoolExecutor, as_completed
 from dataclasses import dataclass
 from pathlib import Path
-from typing import Iterator
+from typing import Iterable, Iterator
 
 import edit as edits
 from edit import BadEdit, Edit, Texts
@@ -34,6 +35,7 @@ from verdicts import Check, Verdict
 
 NOT_COMPILED = "must-not-compile"
 FOLDERS = ("must-fail", "edits", NOT_COMPILED)
+QUIETLY = {"stdin": subprocess.DEVNULL, "stdout": subprocess.PIPE, "stderr": subprocess.STDOUT, "text": True, "errors": "replace"}
 # edits in one scratch copy: a larger share would end long after the others
 MOST = 40
 
@@ -221,15 +223,32 @@ def try_share(top: Path, share: Share, rooms: Path) -> Tried:
     return Tried(trial.results, scratch.checks, scratch.seconds)
 
 
-def try_crates(top: Path, names: list[str], lanes: int) -> Iterator[tuple[str, list[Result], str]]:
-    """Tries the crates' edits side by side, those with most first. Gives of each crate, as it ends, the results and a line on what they took."""
-    read = {name: read_all(top / "crates" / name) for name in names}
-    shares = [share for name, (candidates, _) in read.items() for share in shares_of(name, candidates)]
-    shares.sort(key=lambda it: -len(it.candidates))
-    left = Counter(it.crate for it in shares)
-    ended = {name: Tried(list(bad), 0, 0.0) for name, (_, bad) in read.items()}
-    with tempfile.TemporaryDirectory(prefix="edits-") as rooms, ThreadPoolExecutor(lanes) as pool:
-        trials = {pool.submit(try_share, top, it, Path(rooms)): it.crate for it in shares}
+class Lanes:
+    """How many checks may run side by side: few while something else needs the processors, and all from `widen` on."""
+
+    def __init__(self, few: int, most: int) -> None:
+        self.most, self.more, self.free = most, most - few, threading.Semaphore(few)
+
+    def widen(self) -> None:
+        for _ in range(self.more):
+            self.free.release()
+        self.more = 0
+
+
+def try_crates(top: Path, proved: Iterable[str], lanes: Lanes) -> Iterator[tuple[str, list[Result], str]]:
+    """Tries the edits of each crate once that is proved, share beside share. Gives of each crate the results and a line on what they took."""
+    def in_lane(share: Share) -> Tried:
+        with lanes.free:
+            return try_share(top, share, Path(rooms))
+
+    trials, left, ended = {}, Counter(), {}
+    with tempfile.TemporaryDirectory(prefix="edits-") as rooms, ThreadPoolExecutor(lanes.most) as pool:
+        for name in proved:
+            candidates, bad = read_all(top / "crates" / name)
+            ended[name] = Tried(list(bad), 0, 0.0)
+            for share in shares_of(name, candidates):
+                trials[pool.submit(in_lane, share)] = name
+                left[name] += 1
         for trial in as_completed(trials):
             name, tried = trials[trial], trial.result()
             so_far = ended[name]
@@ -247,25 +266,38 @@ def told_of(name: str, tried: Tried) -> str:
     return f"{name}: {refused} of {len(tried.results)} edits refused, in {tried.checks} checks and {tried.seconds:.0f} s of processor time"
 
 
-def prepare(top: Path, names: list[str], is_whole: bool) -> bool:
-    """Has the crates, and those below them, built and proved, over what earlier checks kept."""
-    if is_whole:
-        commands = [(top, ["rt", "all", "check", "--jobs", str(os.cpu_count() or 1)])]
-    else:
-        commands = [(top / "crates" / it, ["rt", "check"]) for it in names]
-    for folder, words in commands:
-        ran = subprocess.run(words, cwd=folder, stdin=subprocess.DEVNULL, stdout=subprocess.PIPE, stderr=subprocess.STDOUT, errors="replace")
+class NotProved(Exception):
+    """The crates aren't proved, so that their edits tell nothing. It holds what the check printed."""
+
+
+def proved_one_by_one(top: Path, names: list[str]) -> Iterator[str]:
+    """Proves these crates, and those below them, over what earlier checks kept. Gives each as it is proved."""
+    for name in names:
+        ran = subprocess.run(["rt", "check"], cwd=top / "crates" / name, **QUIETLY)
         if ran.returncode:
-            print(ran.stdout, end="")
-            print("check: the crates aren't proved, so their edits weren't tried", file=sys.stderr)
-            return False
-    return True
+            raise NotProved(ran.stdout)
+        yield name
 
 
-def try_all(top: Path, names: list[str], lanes: int, is_each_told: bool) -> tuple[int, int]:
+def proved_in_order(top: Path) -> Iterator[str]:
+    """Proves all crates, over what earlier checks kept. Gives each as it is proved: the check prints `== CRATE`, and later how that ended."""
+    said, crate, known = [], None, crates_of(top)
+    with subprocess.Popen(["rt", "all", "check", "--jobs", str(os.cpu_count() or 1)], cwd=top, **QUIETLY) as ran:
+        for line in ran.stdout:
+            said.append(line)
+            if line.startswith("== "):
+                crate = line[len("== "):].strip()
+            elif line.startswith("logic=proved ") and crate in known:
+                known.pop(crate)
+                yield crate
+    if ran.returncode or known:
+        raise NotProved("".join(said))
+
+
+def try_all(top: Path, proved: Iterable[str], lanes: Lanes, is_each_told: bool) -> tuple[int, int]:
     """Tries and tells, and returns how many edits were refused and how many faults there are."""
     refused = faults = 0
-    for name, results, told in try_crates(top, names, lanes):
+    for name, results, told in try_crates(top, proved, lanes):
         print(told)
         for it in sorted(results, key=lambda it: it.name):
             if is_each_told or not it.is_refused:
@@ -276,19 +308,38 @@ def try_all(top: Path, names: list[str], lanes: int, is_each_told: bool) -> tupl
     return refused, faults
 
 
+def widen_when_input_ends(lanes: Lanes) -> None:
+    sys.stdin.read()
+    lanes.widen()
+
+
+def try_beside(top: Path, most: int, is_each_told: bool) -> tuple[int, int]:
+    """Tries all edits of a copy of the repository, with half the lanes until the input ends."""
+    lanes = Lanes(max(1, most // 2), most)
+    threading.Thread(target=widen_when_input_ends, args=(lanes,), daemon=True).start()
+    return try_all(top, proved_in_order(top), lanes, is_each_told)
+
+
 def main() -> int:
     words = argparse.ArgumentParser(prog="./check edits", description=__doc__.split("\n")[0])
     words.add_argument("crates", nargs="*", metavar="CRATE", help="the crates whose edits are tried; none: all")
     words.add_argument("--each", action="store_true", help="tell of each edit, not of the faults alone")
-    words.add_argument("--lanes", type=int, default=os.cpu_count() or 1, metavar="N", help="how many crates side by side")
+    words.add_argument("--lanes", type=int, default=os.cpu_count() or 1, metavar="N", help="how many checks side by side")
+    words.add_argument("--beside", type=Path, help=argparse.SUPPRESS)
     given = words.parse_args()
-    known = crates_of(TOP)
-    unknown = [it for it in given.crates if it not in known]
+    unknown = [it for it in given.crates if it not in crates_of(TOP)]
     if unknown:
         words.error(f"crates.txt has no crate {unknown[0]}")
-    if not prepare(TOP, given.crates, is_whole=not given.crates):
+    most = max(1, given.lanes)
+    try:
+        if given.beside:
+            refused, faults = try_beside(given.beside, most, given.each)
+        else:
+            proved = proved_one_by_one(TOP, given.crates) if given.crates else proved_in_order(TOP)
+            refused, faults = try_all(TOP, proved, Lanes(most, most), given.each)
+    except NotProved as error:
+        print(f"{error}check: the crates aren't proved, so not all edits were tried")
         return 1
-    refused, faults = try_all(TOP, given.crates or list(known), max(1, given.lanes), given.each)
     print(f"edits: {refused} passed, {faults} failed")
     return 1 if faults else 0
 

@@ -28,7 +28,7 @@ pub enum Kind { Load, Store, Map, MapNoReserve, Alloc, Punch, Truncate, Unmap, E
 #[derive(Clone, Copy)]
 pub struct Call {
     pub kind: Kind, phase: Phase, file: u32, from: u32, len: u32, keep: bool, vpn: u32, word: u64,
-    index: u32, missing: u32, surplus: u32, base: u32, held: u32, task: u32, denied: bool,
+    index: u32, missing: u32, excess: u32, base: u32, held: u32, task: u32, denied: bool,
     evicted: u32, answer: Option<Answer>,
 }
 
@@ -235,16 +235,16 @@ impl Pool {
             Abort => { self.files[f].pending -= 1; Outcome::Moved(if c.kind == Kind::Alloc { Unslot } else { Leave }) }
             Accounted => {
                 let added = self.files[f].add(c.from, c.from + c.len);
-                c.surplus = c.missing - added;
+                c.excess = c.missing - added;
                 Outcome::Moved(if added < c.missing { Settle } else { Enter })
             }
             Taken => {
                 let added = self.files[f].add(c.index, c.index + 1);
-                c.surplus = 1;
+                c.excess = 1;
                 Outcome::Moved(if added < c.missing { Settle } else { Committed })
             }
             Settle => {
-                self.resv -= c.surplus;
+                self.resv -= c.excess;
                 match c.kind {
                     Kind::Map => Outcome::Moved(Enter),
                     Kind::Truncate => go(c, Leave, Answer::Done),
@@ -311,7 +311,7 @@ impl Pool {
                 self.files[f].size = c.len;
                 if top > c.len { c.index = top - 1; Outcome::Moved(Want) } else { Outcome::Moved(Tail) }
             }
-            Tail => { c.surplus = self.files[f].tail(c.len) - c.evicted; Outcome::Moved(Settle) }
+            Tail => { c.excess = self.files[f].tail(c.len) - c.evicted; Outcome::Moved(Settle) }
             Clear => { self.tasks[at].clear(c.base); Outcome::Moved(Drop) }
             Drop => {
                 self.tasks[at].mappings.retain(|m| m.base != c.base);
@@ -369,7 +369,7 @@ pub fn parse(words: &[&str]) -> Call {
     let n = |k: usize| words.get(k).map_or(0, |w| w.parse::<u64>().expect("a number"));
     let mut call = Call {
         kind: Kind::Exit, phase: Phase::Start, file: 0, from: 0, len: 0, keep: false, vpn: 0, word: 0, index: 0,
-        missing: 0, surplus: 0, base: 0, held: 0, task: 1, denied: false, evicted: 0, answer: None,
+        missing: 0, excess: 0, base: 0, held: 0, task: 1, denied: false, evicted: 0, answer: None,
     };
     let kind = match words[0] {
         "map" => Kind::Map, "mapn" => Kind::MapNoReserve, "alloc" | "allock" => Kind::Alloc, "punch" => Kind::Punch,

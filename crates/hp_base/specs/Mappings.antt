@@ -64,11 +64,11 @@ is_there (Some place) f i = (place.0 == f) && (place.1 == i)
 
 -- the entries without those that stand for that file and index
 unfoldable pub without_index : List Mapping → (ℕ → Option ℕ) → (file index : ℕ) → ℕ → Option ℕ
-without_index areas entries f i = λ v. if is_there (find areas v) f i then None else entries v
+without_index mappings entries f i = λ v. if is_there (find mappings v) f i then None else entries v
 
 -- the entries without those of the mapping that begins at base
 unfoldable pub without_mapping : List Mapping → (ℕ → Option ℕ) → (base : ℕ) → ℕ → Option ℕ
-without_mapping areas entries base = λ v. if in_mapping areas base v then None else entries v
+without_mapping mappings entries base = λ v. if in_mapping mappings base v then None else entries v
 
 -- each mapping has a page, and ends where or before the next begins; all end within the space
 abbrev pub IsSpread : (space low : ℕ) → List Mapping → Type 0

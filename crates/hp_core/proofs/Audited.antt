@@ -97,7 +97,7 @@ there_is f i (Some place) e =
 
 -- some virtual page of the task stands for that index of the file, and is translated to the frame
 abbrev IsTranslation : State → ℕ × ℕ × ℕ × ℕ → Type 0
-IsTranslation s entry = (v : ℕ) × (s.table entry.0 v ≡ Some entry.3) × (find (s.areas entry.0) v ≡ Some (entry.1, entry.2))
+IsTranslation s entry = (v : ℕ) × (s.entries entry.0 v ≡ Some entry.3) × (find (s.mappings entry.0) v ≡ Some (entry.1, entry.2))
 
 -- an entry is of its own task, index and frame
 its_own : (e : ℕ × ℕ × ℕ × ℕ) → is_entry e.0 e.1 e.2 e.3 e ≡ true
@@ -120,8 +120,8 @@ told s p is = λ k d within. of_entry (get_or p.tables.items k d) (there k d wit
     of_entry : (e : ℕ × ℕ × ℕ × ℕ) → 0 < times e → IsTranslation (as_state s) e
     of_entry e some =
         let at = count_below_somewhere (translates (as_state s) e.0 e.1 e.2 e.3) VPNS (omega (arith, some, is.tables e.0 e.1 e.2 e.3)) in
-        let place : Option (ℕ × ℕ) = find ((as_state s).areas e.0) at.0 in
-        let frame : Option ℕ = (as_state s).table e.0 at.0 in
+        let place : Option (ℕ × ℕ) = find ((as_state s).mappings e.0) at.0 in
+        let frame : Option ℕ = (as_state s).entries e.0 at.0 in
         let both = both_true (is_there place e.1 e.2) (is_that e.3 frame) at.2 in
         (at.0, that_is e.3 frame both.1, there_is e.1 e.2 place both.0)
 

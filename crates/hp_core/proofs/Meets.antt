@@ -39,7 +39,7 @@ is_task : (s : State) (t : ℕ) (c : Call) → IsReached s → s.calls t ≡ Som
 is_task s t c reached e = task_there s t reached (busy_lives s t c reached e)
 
 -- an entry's frame is a page's
-entry_page : (s : State) (t v : ℕ) (o : Option ℕ) → IsReached s → s.table t v ≡ o → IfSome o (λ x. IsPage (pool_of s) x)
+entry_page : (s : State) (t v : ℕ) (o : Option ℕ) → IsReached s → s.entries t v ≡ o → IfSome o (λ x. IsPage (pool_of s) x)
 entry_page s t v None reached e = tt
 entry_page s t v (Some x) reached e = let h = entry_placed s t v x reached e in (h.2, (h.0, h.1))
 
@@ -47,7 +47,7 @@ is_found : {A : Type 0} (o : Option A) (x : A) → o ≡ Some x → IsSome o
 is_found {A} o x e = ap (λ (c : Option A). is_some c) e
 
 touch_fits : (s : State) (t : ℕ) (phase : TouchPhase) → IsReached s → s.calls t ≡ Some (call.Touch phase) → TouchFits (pool_of s) t phase
-touch_fits s t (touch.Look p) reached e = (is_task s t _ reached e, entry_page s t p.vpn (s.table t p.vpn) reached refl)
+touch_fits s t (touch.Look p) reached e = (is_task s t _ reached e, entry_page s t p.vpn (s.entries t p.vpn) reached refl)
 touch_fits s t (touch.Want p) reached e = tt
 touch_fits s t (touch.Locked p) reached e = (touch_stands s t _ reached e).file
 touch_fits s t (touch.Missing p) reached e = let h = touch_stands s t _ reached e in (h.file, h.index)
@@ -85,7 +85,7 @@ map_fits s t (map.Enter p) reached e =
       file = h.file;
       some = h.some;
       in_limit = h.range;
-      prepared = h.prepared;
+      ready = h.ready;
       fits = h.fits;
     }
 map_fits s t (map.Leave p) reached e = (map_stands s t _ reached e).lock
@@ -152,11 +152,11 @@ truncate_fits s t (truncate.Settle p) reached few e = (laws.truncate_stands s t 
 truncate_fits s t (truncate.Leave p) reached few e = (laws.truncate_stands s t _ reached e).lock
 
 -- a mapping whose entries were cleared has none
-cleared : (s : State) (t base : ℕ) → ((v x : ℕ) → s.table t v ≡ Some x → in_mapping (s.areas t) base v ≡ false)
+cleared : (s : State) (t base : ℕ) → ((v x : ℕ) → s.entries t v ≡ Some x → in_mapping (s.mappings t) base v ≡ false)
     → IsCleared (pool_of s) t base
-cleared s t base empty v within = by_entry (s.table t v) refl
+cleared s t base empty v within = by_entry (s.entries t v) refl
   where
-    by_entry : (o : Option ℕ) → s.table t v ≡ o → s.table t v ≡ None
+    by_entry : (o : Option ℕ) → s.entries t v ≡ o → s.entries t v ≡ None
     by_entry None e = e
     by_entry (Some x) e = absurd (true≢false (sym within ∙ empty v x e))
 

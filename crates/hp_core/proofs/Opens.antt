@@ -23,7 +23,7 @@ use Rattle.hp_machine.specs.declared.outcome.Life.TheVariants as life
 use Rattle.hp_fault.specs.declared.parts.FileState.{FileState}
 use Rattle.hp_fault.specs.State.{PartsState}
 use Rattle.hp_fault.specs.View.{no_file, no_table, table_of, holders_of, sizes_of, pendings_of, spares_of, sets_of, pages_of}
-use Rattle.hp_fault.specs.View.{prepared_of, areas_of, entries_of, geometry_of}
+use Rattle.hp_fault.specs.View.{ready_by_task, mappings_by_task, entries_of, geometry_of}
 use Rattle.hp_core.specs.declared.seat.Seat.{Seat}
 use Rattle.hp_core.specs.State.{seat_at, no_seat, calls_of, lives_of, state_with}
 use Rattle.hp_core.specs.Opening.{IsFresh, IsVacant}
@@ -146,13 +146,13 @@ module _ (z : Sizes) (p : PartsState) (seats : List Seat) (h : AreFresh z p seat
       (λ i. file_is (λ y. get y.cache i ≡ None)
       (λ y fresh. ap (λ (m : FinMap nat_cmp ℕ). get m i) fresh.cache ∙ get-empty nat_cmp i) (get-empty nat_cmp i) f))
 
-  prepared_are : prepared_of p.spaces ≡ (λ _. false)
-  unfolding prepared_of
-  prepared_are = fun_ext (λ t. ap (λ (y : Table). y.ready) (same_table p.spaces h.all_spaces t))
+  ready_are : ready_by_task p.spaces ≡ (λ _. false)
+  unfolding ready_by_task
+  ready_are = fun_ext (λ t. ap (λ (y : Table). y.ready) (same_table p.spaces h.all_spaces t))
 
-  areas_are : areas_of p.spaces ≡ (λ _. [])
-  unfolding areas_of
-  areas_are = fun_ext (λ t. ap (λ (y : Table). y.mappings) (same_table p.spaces h.all_spaces t))
+  mappings_are : mappings_by_task p.spaces ≡ (λ _. [])
+  unfolding mappings_by_task
+  mappings_are = fun_ext (λ t. ap (λ (y : Table). y.mappings) (same_table p.spaces h.all_spaces t))
 
   entries_are : entries_of p.spaces ≡ (λ _ _. None)
   unfolding entries_of
@@ -182,9 +182,9 @@ module _ (z : Sizes) (p : PartsState) (seats : List Seat) (h : AreFresh z p seat
       spare = spares_are i;
       reserved = sets_are i;
       pages = pages_are i;
-      prepared = prepared_are i;
-      areas = areas_are i;
-      table = entries_are i;
+      ready = ready_are i;
+      mappings = mappings_are i;
+      entries = entries_are i;
     };
     life = lives_are i;
     calls = calls_are i;

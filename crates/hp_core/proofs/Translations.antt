@@ -21,7 +21,7 @@ use Rattle.hp_table.proofs.Counts.{count_by-find}
 use Rattle.hp_table.proofs.Mapped.{found_in_space}
 use Rattle.hp_table.proofs.PageTable.{is_sorted-Rises}
 use Rattle.hp_laws.proofs.Runs.{always}
-use Rattle.hp_fault.specs.View.{table_of, areas_of, entries_of}
+use Rattle.hp_fault.specs.View.{table_of, mappings_by_task, entries_of}
 use Rattle.hp_core.specs.State.{CoreState, as_state}
 use Rattle.hp_core.specs.Sound.{IsSound}
 use Rattle.hp_core.specs.Copies.{translation, translations, all_translations}
@@ -33,9 +33,9 @@ abbrev times : (t f i x : ℕ) → List (ℕ × ℕ × ℕ × ℕ) → ℕ
 times t f i x told = count_by (is_entry t f i x) told
 
 -- an entry of a table is told as one of its task, of its page's place
-told_as : (t f i x : ℕ) (areas : List Mapping) (v y : ℕ)
-    → passes (is_entry t f i x) (translation t areas (v, y)) ≡ (is_there (find areas v) f i && (y == x))
-told_as t f i x areas v y = by_place (find areas v)
+told_as : (t f i x : ℕ) (mappings : List Mapping) (v y : ℕ)
+    → passes (is_entry t f i x) (translation t mappings (v, y)) ≡ (is_there (find mappings v) f i && (y == x))
+told_as t f i x mappings v y = by_place (find mappings v)
   where
     by_place : (o : Option (ℕ × ℕ))
         → passes (is_entry t f i x) (option_map (λ place. (t, place.0, place.1, y)) o) ≡ (is_there o f i && (y == x))
@@ -43,8 +43,8 @@ told_as t f i x areas v y = by_place (find areas v)
     by_place (Some place) = grind (arith, nat_tests)
 
 -- and never as one of another task
-not_told_as : (t u f i x : ℕ) (areas : List Mapping) → u ≢ t → (e : ℕ × ℕ) → passes (is_entry t f i x) (translation u areas e) ≡ false
-not_told_as t u f i x areas other e = by_place (find areas e.0)
+not_told_as : (t u f i x : ℕ) (mappings : List Mapping) → u ≢ t → (e : ℕ × ℕ) → passes (is_entry t f i x) (translation u mappings e) ≡ false
+not_told_as t u f i x mappings other e = by_place (find mappings e.0)
   where
     by_place : (o : Option (ℕ × ℕ)) → passes (is_entry t f i x) (option_map (λ place. (u, place.0, place.1, e.1)) o) ≡ false
     by_place None = refl
@@ -60,19 +60,19 @@ in_order table = to_test _ (finite.entries_sorted table.entries)
 
 -- each entry of a table is translated, and so lies in the space
 within_space : (s : CoreState) (t : ℕ) → IsSound s → All (λ e. e.0 < VPNS) (finite.entries (table_of s.parts.spaces t).entries)
-unfolding areas_of entries_of
+unfolding mappings_by_task entries_of
 within_space s t h k d within =
     let table : Table = table_of s.parts.spaces t in
     let e : ℕ × ℕ = get_or (finite.entries table.entries) k d in
     let found = finite.get-entries table.entries e.0 ∙ find_at (finite.entries table.entries) k d (in_order table) within in
     let inv = (always (as_state s) (reached_of s h)).inv in
     let place = inv.entries.agree t e.0 e.1 found in
-    found_in_space VPNS 0 ((as_state s).areas t) e.0 place.0 (inv.spread t) place.1
+    found_in_space VPNS 0 ((as_state s).mappings t) e.0 place.0 (inv.spread t) place.1
 
 -- of the entries of one task's table
 times_own : (s : CoreState) (t f i x : ℕ) → IsSound s
     → times t f i x (translations t (table_of s.parts.spaces t)) ≡ count_below (translates (as_state s) t f i x) VPNS
-unfolding translations areas_of entries_of
+unfolding translations mappings_by_task entries_of
 times_own s t f i x h =
     let es : List (ℕ × ℕ) = finite.entries table.entries in
     let given = count_by-filter_map (is_entry t f i x) (translation t table.mappings) es in
@@ -135,10 +135,11 @@ times_upto spaces (suc n) t f i x low high = elim (same_or_other t (suc n)) [
 none_there : (s : CoreState) (t f i x : ℕ) → IsSound s → (1 ≤ t → t ≤ length s.parts.spaces → ⊥)
     → count_below (translates (as_state s) t f i x) VPNS ≡ 0
 none_there s t f i x h out =
-    count_below_none (translates (as_state s) t f i x) VPNS (λ v low. by_frame v ((as_state s).table t v) refl)
+    count_below_none (translates (as_state s) t f i x) VPNS (λ v low. by_frame v ((as_state s).entries t v) refl)
   where
-    by_frame : (v : ℕ) (o : Option ℕ) → (as_state s).table t v ≡ o → (is_there (find ((as_state s).areas t) v) f i && is_that x o) ≡ false
-    by_frame v None is = and-false (is_there (find ((as_state s).areas t) v) f i)
+    by_frame : (v : ℕ) (o : Option ℕ) → (as_state s).entries t v ≡ o
+        → (is_there (find ((as_state s).mappings t) v) f i && is_that x o) ≡ false
+    by_frame v None is = and-false (is_there (find ((as_state s).mappings t) v) f i)
     by_frame v (Some y) is =
         (let there = (always (as_state s) (reached_of s h)).inv.entries.owners t v y is in absurd (out there.0 there.1))
 

@@ -217,7 +217,7 @@ touch_held p t killed grant (touch.Found q) turn new row =
     ((x : ℕ) × (word : ℕ) × (pages_of p.files q.touch.file q.touch.index ≡ Some x) × (frame_at p.bank.frames x ≡ Placed word)
     × Goes (touch.Leave (record { touch = q.touch; answer = answer_of q.touch.access word }))
     (record (pool_of p) {
-      table = put2 (entries_of p.spaces) t q.touch.vpn (Some x);
+      entries = put2 (entries_of p.spaces) t q.touch.vpn (Some x);
       frame = frame_after q.touch.access (frame_at p.bank.frames) x;
     }) turn new)
     row (λ r. ap held_up r.4.0)

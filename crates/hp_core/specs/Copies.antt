@@ -22,7 +22,7 @@ pub record IsCopy (file : FileState) (taken : Bool) (p : FilePicture) : Type 0 w
 
 -- what an entry of a task's table translates: a page of a file
 abbrev pub translation : (task : ℕ) → List Mapping → ℕ × ℕ → Option (ℕ × ℕ × ℕ × ℕ)
-translation t areas entry = option_map (λ place. (t, place.0, place.1, entry.1)) (find areas entry.0)
+translation t mappings entry = option_map (λ place. (t, place.0, place.1, entry.1)) (find mappings entry.0)
 
 -- all entries of the table
 unfoldable pub translations : (task : ℕ) → Table → List (ℕ × ℕ × ℕ × ℕ)

@@ -38,7 +38,7 @@ is_entry t f i x entry = (entry.0 == t) && (entry.1 == f) && (entry.2 == i) && (
 
 -- the virtual page of the task stands for that index of the file, and is translated to the frame
 abbrev pub translates : State → (task file index frame vpn : ℕ) → Bool
-translates s t f i x v = is_there (find (s.areas t) v) f i && is_that x (s.table t v)
+translates s t f i x v = is_there (find (s.mappings t) v) f i && is_that x (s.entries t v)
 
 -- The picture is of the core: each frame is among the free ones once where it is free, and never where it
 -- isn't; it is in as many hands as calls have it in theirs; and an entry stands there as often as virtual

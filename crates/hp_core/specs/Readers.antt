@@ -61,7 +61,7 @@ unfoldable pub life_of : CoreState → (task : ℕ) → Life
 life_of s t = (as_state s).life t
 
 unfoldable pub mappings_of : CoreState → (task : ℕ) → ℕ
-mappings_of s t = length ((as_state s).areas t)
+mappings_of s t = length ((as_state s).mappings t)
 
 -- how many virtual pages of the task are translated
 unfoldable pub entries_of : CoreState → (task : ℕ) → ℕ
@@ -69,7 +69,7 @@ entries_of s t = map.len (table_of s.parts.spaces t).entries
 
 -- the frame that a virtual page of the task is translated to, if it is
 unfoldable pub translation_of : CoreState → (task vpn : ℕ) → Option ℕ
-translation_of s t v = (as_state s).table t v
+translation_of s t v = (as_state s).entries t v
 
 -- the word of the phase in which the task's call stands, if one is in flight
 unfoldable pub phase_of : CoreState → (task : ℕ) → Option Phase

@@ -76,8 +76,8 @@ fn more(call: &Call) -> u32
 {
     match call {
         Call::Map(MapPhase::Accounted(phase)) => phase.pending.missing(),
-        Call::Map(MapPhase::Settle(phase)) => phase.surplus,
-        Call::Truncate(TruncatePhase::Settle(phase)) => phase.surplus,
+        Call::Map(MapPhase::Settle(phase)) => phase.excess,
+        Call::Truncate(TruncatePhase::Settle(phase)) => phase.excess,
         _ => 0,
     }
 }

@@ -22,7 +22,7 @@ use Rattle.hp_table.specs.Table.{Table}
 use Rattle.hp_machine.specs.State as machine
 use Rattle.hp_fault.specs.declared.parts.FileState.{FileState}
 use Rattle.hp_fault.specs.View.{no_file, no_table, holders_of, sizes_of, pendings_of, spares_of, sets_of, pages_of, table_of}
-use Rattle.hp_fault.specs.View.{prepared_of, areas_of, entries_of}
+use Rattle.hp_fault.specs.View.{ready_by_task, mappings_by_task, entries_of}
 
 -- the bank's count of free frames is the machine's
 same_free : (s : FrameState) → machine.is_free s ≡ bank.is_free s
@@ -162,13 +162,13 @@ sets_without xs f i y l e =
     ∙ ap (λ (m : ℕ → Bool). put (λ (k : ℕ). is_member (slice_index_or xs k no_file).map.regions) f m) e
 
 -- tasks
-pub prepared_at : (xs : List Table) (t : ℕ) → prepared_of xs t ≡ (table_of xs t).ready
-unfolding prepared_of
-prepared_at xs t = refl
+pub ready_at : (xs : List Table) (t : ℕ) → ready_by_task xs t ≡ (table_of xs t).ready
+unfolding ready_by_task
+ready_at xs t = refl
 
-pub areas_at : (xs : List Table) (t : ℕ) → areas_of xs t ≡ (table_of xs t).mappings
-unfolding areas_of
-areas_at xs t = refl
+pub mappings_at : (xs : List Table) (t : ℕ) → mappings_by_task xs t ≡ (table_of xs t).mappings
+unfolding mappings_by_task
+mappings_at xs t = refl
 
 -- what is seen of a function that changes at one place
 seen_put : {A B : Type 0} (v : A → B) (f : ℕ → A) (k : ℕ) (a : A)
@@ -205,26 +205,26 @@ seen_set : {B : Type 0} (v : Table → B) (xs : List Table) (t : ℕ) (y : Table
 seen_set {B} v xs t y low high =
     ap {B = ℕ → B} (λ (g : ℕ → Table). λ (j : ℕ). v (g j)) (table_set xs t y low high) ∙ seen_put v (λ j. table_of xs j) t y
 
-pub prepared_set : (xs : List Table) (t : ℕ) (y : Table) → 1 ≤ t → t ≤ length xs
-    → prepared_of (slice_set xs (t - 1) y) ≡ put (prepared_of xs) t y.ready
-unfolding prepared_of
-prepared_set xs t y low high = seen_set (λ (d : Table). d.ready) xs t y low high
+pub ready_set : (xs : List Table) (t : ℕ) (y : Table) → 1 ≤ t → t ≤ length xs
+    → ready_by_task (slice_set xs (t - 1) y) ≡ put (ready_by_task xs) t y.ready
+unfolding ready_by_task
+ready_set xs t y low high = seen_set (λ (d : Table). d.ready) xs t y low high
 
-pub prepared_same : (xs : List Table) (t : ℕ) (y : Table) → 1 ≤ t → t ≤ length xs → y.ready ≡ (table_of xs t).ready
-    → prepared_of (slice_set xs (t - 1) y) ≡ prepared_of xs
-unfolding prepared_of
-prepared_same xs t y low high e =
+pub ready_same : (xs : List Table) (t : ℕ) (y : Table) → 1 ≤ t → t ≤ length xs → y.ready ≡ (table_of xs t).ready
+    → ready_by_task (slice_set xs (t - 1) y) ≡ ready_by_task xs
+unfolding ready_by_task
+ready_same xs t y low high e =
     seen_set (λ (d : Table). d.ready) xs t y low high ∙ put_known (λ j. (table_of xs j).ready) t y.ready (sym e)
 
-pub areas_set : (xs : List Table) (t : ℕ) (y : Table) → 1 ≤ t → t ≤ length xs
-    → areas_of (slice_set xs (t - 1) y) ≡ put (areas_of xs) t y.mappings
-unfolding areas_of
-areas_set xs t y low high = seen_set (λ (d : Table). d.mappings) xs t y low high
+pub mappings_set : (xs : List Table) (t : ℕ) (y : Table) → 1 ≤ t → t ≤ length xs
+    → mappings_by_task (slice_set xs (t - 1) y) ≡ put (mappings_by_task xs) t y.mappings
+unfolding mappings_by_task
+mappings_set xs t y low high = seen_set (λ (d : Table). d.mappings) xs t y low high
 
-pub areas_same : (xs : List Table) (t : ℕ) (y : Table) → 1 ≤ t → t ≤ length xs → y.mappings ≡ (table_of xs t).mappings
-    → areas_of (slice_set xs (t - 1) y) ≡ areas_of xs
-unfolding areas_of
-areas_same xs t y low high e =
+pub mappings_same : (xs : List Table) (t : ℕ) (y : Table) → 1 ≤ t → t ≤ length xs → y.mappings ≡ (table_of xs t).mappings
+    → mappings_by_task (slice_set xs (t - 1) y) ≡ mappings_by_task xs
+unfolding mappings_by_task
+mappings_same xs t y low high e =
     seen_set (λ (d : Table). d.mappings) xs t y low high ∙ put_known (λ j. (table_of xs j).mappings) t y.mappings (sym e)
 
 pub entries_at : (xs : List Table) (t v : ℕ) → entries_of xs t v ≡ get (table_of xs t).entries v
@@ -279,7 +279,7 @@ word_of xs x l placed = (placed.0, frame_got xs x (Placed placed.0) l placed.1)
 
 pub ruleset lock_laws = (holders_at, holders_set, get_or_past, length-set)
 
-pub ruleset room_laws = (nat_tests, ne_eqb, set-get_or, areas_at, areas_same, prepared_set, entries_same, length-set)
+pub ruleset room_laws = (nat_tests, ne_eqb, set-get_or, mappings_at, mappings_same, ready_set, entries_same, length-set)
 
 pub ruleset change_laws = (
   nat_tests,
@@ -307,10 +307,10 @@ pub ruleset enter_laws = (
   spares_same,
   sets_same,
   pages_same,
-  areas_at,
-  areas_set,
-  prepared_at,
-  prepared_set,
+  mappings_at,
+  mappings_set,
+  ready_at,
+  ready_set,
   entries_same,
   length-set,
 )
@@ -319,7 +319,7 @@ pub ruleset frame_laws = (frame_at_set, frame_at_is, frame_got, slice_get_within
 
 pub ruleset take_laws = (free_frames_is, frame_at_set, frame_at_is, slice_get_within, length-set)
 
-pub ruleset look_laws = (nat_tests, ne_eqb, get_or_read, areas_at, entries_at, frame_at_is, frame_got)
+pub ruleset look_laws = (nat_tests, ne_eqb, get_or_read, mappings_at, entries_at, frame_at_is, frame_got)
 
 pub ruleset size_laws = (sizes_at, sizes_set, pendings_same, spares_same, sets_same, pages_same, length-set)
 
@@ -344,9 +344,9 @@ pub ruleset install_laws = (
   ne_eqb,
   sizes_at,
   pages_at,
-  areas_at,
-  areas_same,
-  prepared_same,
+  mappings_at,
+  mappings_same,
+  ready_same,
   entries_at,
   entries_installed,
   frame_at_is,
@@ -354,9 +354,9 @@ pub ruleset install_laws = (
   length-set,
 )
 
-pub ruleset clear_laws = (nat_tests, ne_eqb, areas_at, areas_same, prepared_same, entries_are, entries_set, length-set)
+pub ruleset clear_laws = (nat_tests, ne_eqb, mappings_at, mappings_same, ready_same, entries_are, entries_set, length-set)
 
-pub ruleset drop_laws = (nat_tests, ne_eqb, areas_at, areas_set, prepared_same, entries_at, entries_same, length-set)
+pub ruleset drop_laws = (nat_tests, ne_eqb, mappings_at, mappings_set, ready_same, entries_at, entries_same, length-set)
 
 pub ruleset evict_laws = (
   sizes_same,

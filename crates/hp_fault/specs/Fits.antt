@@ -36,19 +36,19 @@ MapFits s t (at.Missing p) = IsFileOf s p.map.file × (1 ≤ p.map.len) × (p.ma
 MapFits s t (at.Changed p) = Unit {0}
 MapFits s t (at.Abort p) = IsFileOf s p.map.file × (1 ≤ s.pending p.map.file)
 MapFits s t (at.Accounted p) = IsFileOf s p.map.file × (1 ≤ s.pending p.map.file)
-MapFits s t (at.Settle p) = p.surplus ≤ s.resv
+MapFits s t (at.Settle p) = p.excess ≤ s.resv
 MapFits s t (at.Enter p) = record {
   task : IsTaskOf s t;
   file : IsFileOf s p.map.file;
   some : 1 ≤ p.map.len;
   in_limit : p.map.from + p.map.len ≤ s.geometry.limit;
-  prepared : s.prepared t ≡ true;
-  fits : fits s.geometry.space (s.areas t) p.base p.map.len ≡ true;
+  ready : s.ready t ≡ true;
+  fits : fits s.geometry.space (s.mappings t) p.base p.map.len ≡ true;
 }
 MapFits s t (at.Leave p) = s.locks p.map.file ≡ Some t
 
 abbrev pub TouchFits : Pool → (task : ℕ) → TouchPhase → Type 0
-TouchFits s t (touch.Look p) = IsTaskOf s t × IfSome (s.table t p.vpn) (λ x. IsPage s x)
+TouchFits s t (touch.Look p) = IsTaskOf s t × IfSome (s.entries t p.vpn) (λ x. IsPage s x)
 TouchFits s t (touch.Want p) = Unit {0}
 TouchFits s t (touch.Locked p) = IsFileOf s p.touch.file
 TouchFits s t (touch.Missing p) = IsFileOf s p.touch.file × (p.touch.index < s.geometry.limit)
@@ -66,8 +66,8 @@ TouchFits s t (touch.Restore p) = IsHeld s p.held
 TouchFits s t (touch.Found p) = record {
   task : IsTaskOf s t;
   file : IsFileOf s p.touch.file;
-  mapped : IsSome (find (s.areas t) p.touch.vpn);
-  untranslated : s.table t p.touch.vpn ≡ None;
+  mapped : IsSome (find (s.mappings t) p.touch.vpn);
+  untranslated : s.entries t p.touch.vpn ≡ None;
   page : HasPage s p.touch.file p.touch.index;
 }
 TouchFits s t (touch.Leave p) = s.slots (slot_of s.geometry p.touch.file p.touch.index) ≡ Some t

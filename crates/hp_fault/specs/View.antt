@@ -41,11 +41,11 @@ pages_of files f i = get (slice_index_or files f no_file).cache i
 abbrev pub table_of : List Table → ℕ → Table
 table_of spaces t = if t == 0 then no_table else slice_index_or spaces (t - 1) no_table
 
-unfoldable pub prepared_of : List Table → ℕ → Bool
-prepared_of spaces t = (table_of spaces t).ready
+unfoldable pub ready_by_task : List Table → ℕ → Bool
+ready_by_task spaces t = (table_of spaces t).ready
 
-unfoldable pub areas_of : List Table → ℕ → List Mapping
-areas_of spaces t = (table_of spaces t).mappings
+unfoldable pub mappings_by_task : List Table → ℕ → List Mapping
+mappings_by_task spaces t = (table_of spaces t).mappings
 
 unfoldable pub entries_of : List Table → ℕ → ℕ → Option ℕ
 entries_of spaces t v = get (table_of spaces t).entries v
@@ -68,9 +68,9 @@ pool_of p = record {
   spare = spares_of p.files;
   reserved = sets_of p.files;
   pages = pages_of p.files;
-  prepared = prepared_of p.spaces;
-  areas = areas_of p.spaces;
-  table = entries_of p.spaces;
+  ready = ready_by_task p.spaces;
+  mappings = mappings_by_task p.spaces;
+  entries = entries_of p.spaces;
 }
 
 abbrev pub view : Parts → Pool

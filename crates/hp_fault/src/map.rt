@@ -167,20 +167,20 @@ fn from_accounted(parts: &mut Parts, phase: Accounted) -> Turn<MapPhase>
     let missing = pending.missing();
     let added = parts.files[map.file.number() as usize].map.commit(pending);
     if added < missing {
-        let surplus = missing - added;
-        Turn::Moved(MapPhase::Settle(Settle { map, base, surplus }))
+        let excess = missing - added;
+        Turn::Moved(MapPhase::Settle(Settle { map, base, excess }))
     } else {
         Turn::Moved(MapPhase::Enter(Enter { map, base }))
     }
 }
 
 fn from_settle(parts: &mut Parts, phase: Settle) -> Turn<MapPhase>
-    requires { phase.surplus ≤ (view parts.old).resv }
+    requires { phase.excess ≤ (view parts.old).resv }
     ensures row { MapSettleRow (view parts.old) phase result (view parts.new) }
     ensures sizes { SizesStay (state_of parts.old) (state_of parts.new) }
 {
-    let Settle { map, base, surplus } = phase;
-    parts.bank.settle(surplus);
+    let Settle { map, base, excess } = phase;
+    parts.bank.settle(excess);
     Turn::Moved(MapPhase::Enter(Enter { map, base }))
 }
 
@@ -190,8 +190,8 @@ fn from_enter(parts: &mut Parts, task: Task, phase: Enter) -> Turn<MapPhase>
     requires file { IsFileOf (view parts.old) phase.map.file }
     requires some { 1 ≤ phase.map.len }
     requires in_limit { phase.map.from + phase.map.len ≤ LIMIT }
-    requires prepared { (view parts.old).prepared task ≡ true }
-    requires fits { fits VPNS ((view parts.old).areas task) phase.base phase.map.len ≡ true }
+    requires ready { (view parts.old).ready task ≡ true }
+    requires fits { fits VPNS ((view parts.old).mappings task) phase.base phase.map.len ≡ true }
     ensures row { MapEnterRow (view parts.old) task phase result (view parts.new) }
     ensures sizes { SizesStay (state_of parts.old) (state_of parts.new) }
 {

@@ -72,7 +72,7 @@ pub fn step_touch(
 #[tactic(auto, using(crate::proofs::Laws::look_laws))]
 fn from_look(parts: &mut Parts, task: Task, phase: Look) -> Turn<TouchPhase>
     requires task { IsTaskOf (view parts.old) task }
-    requires page { IfSome ((view parts.old).table task phase.vpn) (λ x. IsPage (view parts.old) x) }
+    requires page { IfSome ((view parts.old).entries task phase.vpn) (λ x. IsPage (view parts.old) x) }
     ensures row { TouchLookRow (view parts.old) task phase result (view parts.new) }
     ensures sizes { SizesStay (state_of parts.old) (state_of parts.new) }
 {
@@ -270,8 +270,8 @@ fn from_found(
 ) -> Result<Turn<TouchPhase>, Found>
     requires task { IsTaskOf (view parts.old) task }
     requires file { IsFileOf (view parts.old) phase.touch.file }
-    requires mapped { IsSome (find ((view parts.old).areas task) phase.touch.vpn) }
-    requires untranslated { (view parts.old).table task phase.touch.vpn ≡ None }
+    requires mapped { IsSome (find ((view parts.old).mappings task) phase.touch.vpn) }
+    requires untranslated { (view parts.old).entries task phase.touch.vpn ≡ None }
     requires page { HasPage (view parts.old) phase.touch.file phase.touch.index }
     ensures row { IfOk result (λ turn. TouchFoundRow (view parts.old) task grant phase turn (view parts.new)) }
     ensures sizes { SizesStay (state_of parts.old) (state_of parts.new) }

@@ -239,7 +239,7 @@ truncate_words s t killed grant (truncate.Leave p) turn new w row = leaf call.Tr
 unmap_words : (s : State) (t : ℕ) (killed grant : Bool) (phase : UnmapPhase) (turn : Turn UnmapPhase) (new : Pool) (w : ℕ)
     → UnmapRow (pool_of s) t killed grant phase turn new → Yields call.Unmap w ⊥ turn
 unmap_words s t killed grant (unmap.Start p) turn new w row =
-    by_test (is_base (s.areas t) p.base) row (λ _ r. leaf call.Unmap w ⊥ _ turn r.0 (λ e. e))
+    by_test (is_base (s.mappings t) p.base) row (λ _ r. leaf call.Unmap w ⊥ _ turn r.0 (λ e. e))
     (λ _ r. leaf call.Unmap w ⊥ _ turn r.0 (λ e. absurd (cc)))
 unmap_words s t killed grant (unmap.Clear p) turn new w row = leaf call.Unmap w ⊥ _ turn row.0 (λ e. e)
 unmap_words s t killed grant (unmap.Drop p) turn new w row = leaf call.Unmap w ⊥ _ turn row.0 (λ e. absurd (cc))
@@ -248,17 +248,18 @@ unmap_words s t killed grant (unmap.Drop p) turn new w row = leaf call.Unmap w �
 exit_words : (s : State) (t : ℕ) (killed grant : Bool) (phase : ExitPhase) (turn : Turn ExitPhase) (new : Pool) (w : ℕ)
     → ExitRow (pool_of s) t killed grant phase turn new → Yields call.Exit w ⊥ turn
 exit_words s t killed grant exit.Start turn new w row =
-    by_option (first_base (s.areas t)) row (λ _ r. leaf call.Exit w ⊥ _ turn r.0 (λ e. e)) (λ b _ r. leaf call.Exit w ⊥ _ turn r.0 (λ e. e))
+    by_option (first_base (s.mappings t)) row (λ _ r. leaf call.Exit w ⊥ _ turn r.0 (λ e. e))
+    (λ b _ r. leaf call.Exit w ⊥ _ turn r.0 (λ e. e))
 exit_words s t killed grant (exit.Clear p) turn new w row = leaf call.Exit w ⊥ _ turn row.0 (λ e. e)
 exit_words s t killed grant (exit.Drop p) turn new w row =
-    by_option (first_base (without (s.areas t) p.base)) row (λ _ r. leaf call.Exit w ⊥ _ turn r.0 (λ e. e))
+    by_option (first_base (without (s.mappings t) p.base)) row (λ _ r. leaf call.Exit w ⊥ _ turn r.0 (λ e. e))
     (λ b _ r. leaf call.Exit w ⊥ _ turn r.0 (λ e. e))
 exit_words s t killed grant exit.Leave turn new w row = leaf call.Exit w ⊥ _ turn row.0 (λ e. absurd (cc))
 
 -- from where a touch has the word that its step tells: it reads it just then, or carried it
 abbrev Source : State → (t w : ℕ) → TouchPhase → Turn TouchPhase → Type 0
 Source s t w (touch.Look p) turn =
-    (place : ℕ × ℕ) × (p.access ≡ Load) × (find (s.areas t) p.vpn ≡ Some place) × (turn ≡ Ended (answer.Word w))
+    (place : ℕ × ℕ) × (p.access ≡ Load) × (find (s.mappings t) p.vpn ≡ Some place) × (turn ≡ Ended (answer.Word w))
 Source s t w (touch.Found p) turn =
     (p.touch.access ≡ Load) × (turn ≡ Moved (touch.Leave (record { touch = p.touch; answer = answer.Word w })))
 Source s t w phase turn = Carries (Some (call.Touch phase)) w
@@ -271,9 +272,9 @@ is_load (Store new) v w e = absurd (cc)
 -- a touch that tells a word reads it just then, or carried it
 touch_words : (s : State) (t : ℕ) (killed grant : Bool) (phase : TouchPhase) (turn : Turn TouchPhase) (new : Pool) (w : ℕ)
     → TouchRow (pool_of s) t killed grant phase turn new → Yields call.Touch w (Source s t w phase turn) turn
-touch_words s t killed grant (touch.Look p) turn new w row = by_option (find (s.areas t) p.vpn) row
+touch_words s t killed grant (touch.Look p) turn new w row = by_option (find (s.mappings t) p.vpn) row
     (λ _ r. leaf call.Touch w _ _ turn r.0 (λ e. absurd (cc)))
-    (λ place there r. by_option (s.table t p.vpn) r
+    (λ place there r. by_option (s.entries t p.vpn) r
     (λ _ r. leaf call.Touch w _ _ turn r.0 (λ e. absurd e))
     (λ x _ r. leaf call.Touch w _ _ turn r.2.0 (λ e. (place, is_load p.access r.0 w e, there, r.2.0 ∙ ap (λ (a : Answer). Ended a) e))))
 touch_words s t killed grant (touch.Want p) turn new w row = by_test killed row
@@ -413,7 +414,7 @@ told_by_event : (s : State) (t w : ℕ) (event : Event) (o : Outcome) (n : State
     → ((grant : Bool) × (event ≡ Step t grant) × (o ≡ outcome.Ended (answer.Word w))) ⊎ Carries (n.calls t) w → From t w s event o n
 told_by_event s t w event o n h row tells = elim (begun_or_not t event o) [
   | inl quiet ↦ own_or_same s t event o n (From t w s event o n) h quiet row
-      (λ calls areas lives no_end. (
+      (λ calls mappings lives no_end. (
         quiet,
         inl (elim tells [
           | inl e ↦ absurd (no_end e.0 (answer.Word w) e.1 e.2)

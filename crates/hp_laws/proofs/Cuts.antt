@@ -120,11 +120,11 @@ cuts g s t b c f new top h l e same_held same_hand same_change balance held low 
             slot = λ k a. a;
             page = λ k j a. refl;
             mark = λ k j a w r. r;
-            entries = λ k j a w v y p q. (y, p, q);
+            translated = λ k j a w v y p q. (y, p, q);
             lock = λ k a. (a, put_other s.size f new k (other_lock s t u k f held d a), λ j r. r);
-            areas = refl;
-            prepared = refl;
-            table = λ v y p. (y, p);
+            mappings = refl;
+            ready = refl;
+            entries = λ v y p. (y, p);
           }) (h.stands u);
       own = own;
     })
@@ -209,7 +209,7 @@ passes g s t b c f i new h l e same_lock some none same_hand same_change balance
     pair_page : (k : ℕ × ℕ) (y : Option (ℕ × ℕ)) (k' j : ℕ) → y ≡ Some k → y ≡ Some (k', j) → s.pages k.0 k.1 ≡ s.pages k' j
     pair_page k y k' j p q = ap (λ (m : ℕ × ℕ). s.pages m.0 m.1) (some_same (sym p ∙ q))
 
-    no_entry : (w v x k j : ℕ) → s.table w v ≡ Some x → find (s.areas w) v ≡ Some (k, j) → k ≡ f → j ≡ i → ⊥
+    no_entry : (w v x k j : ℕ) → s.entries w v ≡ Some x → find (s.mappings w) v ≡ Some (k, j) → k ≡ f → j ≡ i → ⊥
     no_entry w v x k j p q y z =
         let o = h.entries.agree w v x p in
         let d : ◌≡◌ {A = Option ℕ} None (Some x) =
@@ -260,10 +260,10 @@ cuts_tail g s t b c f new h l e in_files same_ahead same_passed goners same_held
         ];
       };
       sweep =
-          subst (λ (a : ℕ → ℕ → ℕ → Bool). Swept s.size n.reserved s.pages s.areas s.table a
+          subst (λ (a : ℕ → ℕ → ℕ → Bool). Swept s.size n.reserved s.pages s.mappings s.entries a
           (put (λ (u : ℕ). passed (s.calls u)) t (passed c)) (put (λ (u : ℕ). gone (s.calls u)) t (gone c)))
           (sym (put_known (λ (u : ℕ). ahead (s.calls u)) t (ahead c) (ap ahead e ∙ sym same_ahead)))
-          (subst (λ (a : ℕ → ℕ → ℕ → Bool). Swept s.size n.reserved s.pages s.areas s.table (λ u. ahead (s.calls u)) a
+          (subst (λ (a : ℕ → ℕ → ℕ → Bool). Swept s.size n.reserved s.pages s.mappings s.entries (λ u. ahead (s.calls u)) a
           (put (λ (u : ℕ). gone (s.calls u)) t (gone c)))
           (sym (put_known (λ (u : ℕ). passed (s.calls u)) t (passed c) (ap passed e ∙ sym same_passed)))
           (record {
@@ -289,16 +289,16 @@ cuts_tail g s t b c f new h l e in_files same_ahead same_passed goners same_held
             slot = λ k a. a;
             page = λ k j a. refl;
             mark = λ k j a w r. kept u d k j w r;
-            entries = λ k j a w v y p q. (y, p, q);
+            translated = λ k j a w v y p q. (y, p, q);
             lock = λ k a. (
               a,
               refl,
               λ j r. ap (λ (m : ℕ → Bool). m j)
                   (put_other s.reserved f (cut_tail (s.reserved f) new) k (other_lock s t u k f held d a)) ∙ r,
             );
-            areas = refl;
-            prepared = refl;
-            table = λ v y p. (y, p);
+            mappings = refl;
+            ready = refl;
+            entries = λ v y p. (y, p);
           }) (h.stands u);
       own = own;
     })

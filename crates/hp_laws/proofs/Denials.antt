@@ -80,7 +80,7 @@ by_room I unwanted (Some base, is, row) = absurd (unwanted base is)
 map_same : (s : Pool) (t : ℕ) (killed : Bool) (p : MapPhase) (turn : Turn MapPhase) (new : Pool) → ¬ map_wants s t p
     → MapRow s t killed false p turn new ↔ MapRow s t killed true p turn new
 map_same s t killed (map.Room p) turn new unwanted =
-    let I : Option ℕ → Type 0 = IsRoom s.geometry.space (s.areas t) p.map.len in
+    let I : Option ℕ → Type 0 = IsRoom s.geometry.space (s.mappings t) p.map.len in
     (λ r. by_room I (λ base is. unwanted (base, is)) r, λ r. by_room I (λ base is. unwanted (base, is)) r)
 map_same s t killed (map.Missing p) turn new unwanted =
     change_same s p.map.file p.map.from (p.map.from + p.map.len)
@@ -243,8 +243,9 @@ touch_other s t killed (touch.Found p) wants = λ turn others new news r q.
     told (Store new) word e = (let d : answer.NoMemory ≡ answer.Done = ap answer_at e in absurd (cc))
 touch_other s t killed p wants = absurd wants
 
-none_fits : (space len : ℕ) (areas : List Mapping) → IsRoom space areas len None → (base : ℕ) × IsRoom space areas len (Some base) → ⊥
-none_fits space len areas none some = clash (fits space areas some.0 len) some.1.0 (none some.0)
+none_fits : (space len : ℕ) (mappings : List Mapping) → IsRoom space mappings len None
+    → (base : ℕ) × IsRoom space mappings len (Some base) → ⊥
+none_fits space len mappings none some = clash (fits space mappings some.0 len) some.1.0 (none some.0)
 
 map_other : (s : Pool) (t : ℕ) (killed : Bool) (p : MapPhase) → map_wants s t p
     → Parted (MapRow s t killed false p) (MapRow s t killed true p)
@@ -252,8 +253,8 @@ map_other s t killed (map.Room p) wants = λ turn others new news r q. by_found 
   where
     by_found : {turn others : Turn MapPhase} {new news : Pool} → MapRoomRow s t false p turn new
         → MapRoomRow s t true p others news → (a : MapPhase) × (b : MapPhase) × (turn ≡ Moved a) × (others ≡ Moved b) × (a ≢ b)
-    by_found (None, is, row) q = absurd (none_fits s.geometry.space p.map.len (s.areas t) is wants)
-    by_found (Some base, is, row) (None, same, next) = absurd (none_fits s.geometry.space p.map.len (s.areas t) same wants)
+    by_found (None, is, row) q = absurd (none_fits s.geometry.space p.map.len (s.mappings t) is wants)
+    by_found (Some base, is, row) (None, same, next) = absurd (none_fits s.geometry.space p.map.len (s.mappings t) same wants)
     by_found (Some base, is, row) (Some other, same, next) =
         by_test p.map.reserve next (λ _ n. (_, _, row.0, n.0, λ e. cc)) (λ _ n. (_, _, row.0, n.0, λ e. cc))
 map_other s t killed (map.Missing p) wants =

@@ -336,11 +336,11 @@ commits g s t b c f change h l e in_files low same same_held same_hand some none
             slot = λ k a. a;
             page = λ k j a. refl;
             mark = λ k j a w. grown_keeps s.reserved f change.from change.to k j;
-            entries = λ k j a w v x p q. (x, p, q);
+            translated = λ k j a w v x p q. (x, p, q);
             lock = λ k a. (a, refl, λ j. grown_keeps s.reserved f change.from change.to k j);
-            areas = refl;
-            prepared = refl;
-            table = λ v x p. (x, p);
+            mappings = refl;
+            ready = refl;
+            entries = λ v x p. (x, p);
           }) (h.stands u);
       own = own;
       changes =
@@ -479,11 +479,11 @@ places g s t b c f i x h l e in_files in_limit same same_held some none same_cha
             slot = λ k a. a;
             page = λ k j a. other u d k j a;
             mark = λ k j a w r. r;
-            entries = λ k j a w v y p q. (y, p, q);
+            translated = λ k j a w v y p q. (y, p, q);
             lock = λ k a. (a, refl, λ j r. r);
-            areas = refl;
-            prepared = refl;
-            table = λ v y p. (y, p);
+            mappings = refl;
+            ready = refl;
+            entries = λ v y p. (y, p);
           }) (h.stands u);
       own = own;
     })

@@ -135,7 +135,7 @@ cut_call s t killed grant cut a b (call.Exit p) o pool next w was row = absurd w
 cut_row : (s : State) (t : ℕ) (cut : Truncation) (b : Bool) (event : Event) (o : Outcome) (n : State) → Always s
     → is_begun t event o ≡ 0 → CallCuts cut b (s.calls t) → Row s event o n → CallCuts cut b (n.calls t)
 cut_row s t cut b event o n h quiet w row = own_or_same s t event o n (CallCuts cut b (n.calls t)) h quiet row
-    (λ calls areas lives no_end. subst (CallCuts cut b) (sym calls) w)
+    (λ calls mappings lives no_end. subst (CallCuts cut b) (sym calls) w)
     (λ grant c pool next is e r d. subst (λ (m : State). CallCuts cut b (m.calls t)) (sym d)
     (subst (CallCuts cut b) (sym (put_same s.calls t next))
     (let was = subst (CallCuts cut b) e w in cut_call s t (is_killed (s.life t)) grant cut b b c o pool next was (still c was) r)))

@@ -67,12 +67,12 @@ ended_word e = cc
 
 look_reads : (s : State) (t : ℕ) (killed grant : Bool) (p : Look) (o : Outcome) (pool : Pool) (next : Option Call) (f i w : ℕ)
     → Inv s.geometry s → CallRow (pool_of s) t killed grant (call.Touch (touch.Look p)) o pool next
-    → p.access ≡ Load → find (s.areas t) p.vpn ≡ Some (f, i) → o ≡ outcome.Ended (answer.Word w) → Reads s f i w
+    → p.access ≡ Load → find (s.mappings t) p.vpn ≡ Some (f, i) → o ≡ outcome.Ended (answer.Word w) → Reads s f i w
 unfolding CallRow
 look_reads s t killed grant p o pool next f i w h (turn, row, tells, leaves) loads there ends =
-    by_option (find (s.areas t) p.vpn) row
+    by_option (find (s.mappings t) p.vpn) row
     (λ none r. (let z : ◌≡◌ {A = Option (ℕ × ℕ)} None (Some (f, i)) = sym none ∙ there in absurd (cc)))
-    (λ place found r. by_option (s.table t p.vpn) r
+    (λ place found r. by_option (s.entries t p.vpn) r
     (λ none r. absurd (not_moved (sym (tells ∙ ap (told call.Touch) r.0) ∙ ends)))
     (λ x entry r. let k = h.entries.agree t p.vpn x entry in
     let same : k.0 ≡ (f, i) = pair_of (sym k.1 ∙ there) in

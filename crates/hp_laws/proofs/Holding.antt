@@ -105,11 +105,11 @@ takes_slot g s t b c f i h l e free same same_lock none some fill own = goes_as 
         slot = still u;
         page = λ k j a. refl;
         mark = λ k j a w r. r;
-        entries = λ k j a w v x p q. (x, p, q);
+        translated = λ k j a w v x p q. (x, p, q);
         lock = λ k a. (a, refl, λ j r. r);
-        areas = refl;
-        prepared = refl;
-        table = λ v x p. (x, p);
+        mappings = refl;
+        ready = refl;
+        entries = λ v x p. (x, p);
       }) (h.stands u);
   own = own;
 })
@@ -141,11 +141,11 @@ left_stands g s t f i h held u d =
       slot = still;
       page = λ k j a. refl;
       mark = λ k j a w r. r;
-      entries = λ k j a w v x p q. (x, p, q);
+      translated = λ k j a w v x p q. (x, p, q);
       lock = λ k a. (a, refl, λ j r. r);
-      areas = refl;
-      prepared = refl;
-      table = λ v x p. (x, p);
+      mappings = refl;
+      ready = refl;
+      entries = λ v x p. (x, p);
     }) (h.stands u)
   where
     n : State
@@ -220,11 +220,11 @@ takes_lock g s t b c f h l e free same same_slot none some fill own = goes_as g 
         slot = λ k a. a;
         page = λ k j a. refl;
         mark = λ k j a w r. r;
-        entries = λ k j a w v x p q. (x, p, q);
+        translated = λ k j a w v x p q. (x, p, q);
         lock = λ k a. (still u k a, refl, λ j r. r);
-        areas = refl;
-        prepared = refl;
-        table = λ v x p. (x, p);
+        mappings = refl;
+        ready = refl;
+        entries = λ v x p. (x, p);
       }) (h.stands u);
   own = own;
 })
@@ -277,11 +277,11 @@ leaves_lock g s t b f h l e no_less no_more no_hand no_change no_slot some held 
         slot = λ k a. a;
         page = λ k j a. refl;
         mark = λ k j a w r. r;
-        entries = λ k j a w v x p q. (x, p, q);
+        translated = λ k j a w v x p q. (x, p, q);
         lock = λ k a. (still u d k a, refl, λ j r. r);
-        areas = refl;
-        prepared = refl;
-        table = λ v x p. (x, p);
+        mappings = refl;
+        ready = refl;
+        entries = λ v x p. (x, p);
       }) (h.stands u);
   own = record { slot = tt; lock = tt; facts = tt };
 })

@@ -23,14 +23,14 @@ abbrev pub sum_of : Geometry → (Option Call → ℕ) → (ℕ → Option Call)
 sum_of g v calls = total (g.tasks + 1) (λ u. v (calls u))
 
 -- an entry lies in a mapping of a task, and the page there is its frame
-pub record Entries (tasks : ℕ) (areas : ℕ → List Mapping) (table : ℕ → ℕ → Option ℕ) (pages : ℕ → ℕ → Option ℕ) : Type 0 where
-  pub agree : (t v x : ℕ) → table t v ≡ Some x → (place : ℕ × ℕ) × (find (areas t) v ≡ Some place) × (pages place.0 place.1 ≡ Some x)
+pub record Entries (tasks : ℕ) (mappings : ℕ → List Mapping) (table : ℕ → ℕ → Option ℕ) (pages : ℕ → ℕ → Option ℕ) : Type 0 where
+  pub agree : (t v x : ℕ) → table t v ≡ Some x → (place : ℕ × ℕ) × (find (mappings t) v ≡ Some place) × (pages place.0 place.1 ≡ Some x)
   pub owners : (t v x : ℕ) → table t v ≡ Some x → (1 ≤ t) × (t ≤ tasks)
 
 -- each mapping lies within its file
 abbrev pub AllWithin : Geometry → List Mapping → Type 0
 AllWithin g [] = Unit {0}
-AllWithin g (a ∷ areas) = (a.file < g.files) × (a.from + a.len ≤ g.limit) × AllWithin g areas
+AllWithin g (a ∷ mappings) = (a.file < g.files) × (a.from + a.len ≤ g.limit) × AllWithin g mappings
 
 -- pages lie at reserved indices, and these below the limit of a file that is there
 pub record Inside (g : Geometry) (reserved : ℕ → ℕ → Bool) (pages : ℕ → ℕ → Option ℕ) : Type 0 where
@@ -52,9 +52,9 @@ Reached size aheads f i = (i < size f) ⊎ ((u : ℕ) × (aheads u f i ≡ true)
 
 -- what is translated is reached; what a truncation has passed has no page and is above the size, and what it
 -- took out of the reserve map is out of it
-pub record Swept (size : ℕ → ℕ) (reserved : ℕ → ℕ → Bool) (pages : ℕ → ℕ → Option ℕ) (areas : ℕ → List Mapping)
+pub record Swept (size : ℕ → ℕ) (reserved : ℕ → ℕ → Bool) (pages : ℕ → ℕ → Option ℕ) (mappings : ℕ → List Mapping)
     (table : ℕ → ℕ → Option ℕ) (aheads passes gones : ℕ → ℕ → ℕ → Bool) : Type 0 where
-  pub below : (t v x f i : ℕ) → table t v ≡ Some x → find (areas t) v ≡ Some (f, i) → Reached size aheads f i
+  pub below : (t v x f i : ℕ) → table t v ≡ Some x → find (mappings t) v ≡ Some (f, i) → Reached size aheads f i
   pub past : (u f j : ℕ) → passes u f j ≡ true → (pages f j ≡ None) × (size f ≤ j)
   pub gone : (u f j : ℕ) → gones u f j ≡ true → reserved f j ≡ false
 
@@ -68,11 +68,12 @@ pub record Inv (g : Geometry) (s : State) : Type 0 where
   pub count : s.resv + sum_of g less s.calls ≡ vacant_of g s.reserved s.pages + sum_of g more s.calls
   pub enough : s.resv ≤ free_frames s.frame s.frames
   pub place : Placing s.frames s.frame (λ u. hand (s.calls u)) s.pages
-  pub entries : Entries g.tasks s.areas s.table s.pages
-  pub ranges : (t : ℕ) → AllWithin g (s.areas t)
-  pub spread : (t : ℕ) → IsSpread g.space 0 (s.areas t)
+  pub entries : Entries g.tasks s.mappings s.entries s.pages
+  pub ranges : (t : ℕ) → AllWithin g (s.mappings t)
+  pub spread : (t : ℕ) → IsSpread g.space 0 (s.mappings t)
   pub inside : Inside g s.reserved s.pages
-  pub sweep : Swept s.size s.reserved s.pages s.areas s.table (λ u. ahead (s.calls u)) (λ u. passed (s.calls u)) (λ u. gone (s.calls u))
+  pub sweep : Swept s.size s.reserved s.pages s.mappings s.entries (λ u. ahead (s.calls u)) (λ u. passed (s.calls u))
+      (λ u. gone (s.calls u))
   pub reach : (w : ℕ) → IfSome (fills (s.calls w)) (λ k. Reached s.size (λ u. ahead (s.calls u)) k.0 k.1)
   pub sizes : (f : ℕ) → s.size f ≤ g.limit
   pub changes : (f : ℕ) → s.pending f ≡ sum_of g (opens f) s.calls
@@ -139,11 +140,11 @@ pub record GoesOn (g : Geometry) (s n : State) (t : ℕ) (b c : Option Call) (ah
   pub count : (n.resv + less c) + (vacant_of g s.reserved s.pages + more b) ≡ (s.resv + less b) + (vacant_of g n.reserved n.pages + more c)
   pub enough : n.resv ≤ free_frames n.frame n.frames
   pub place : Placing n.frames n.frame (put (λ (u : ℕ). hand (s.calls u)) t (hand c)) n.pages
-  pub entries : Entries g.tasks n.areas n.table n.pages
-  pub ranges : (u : ℕ) → AllWithin g (n.areas u)
-  pub spread : (u : ℕ) → IsSpread g.space 0 (n.areas u)
+  pub entries : Entries g.tasks n.mappings n.entries n.pages
+  pub ranges : (u : ℕ) → AllWithin g (n.mappings u)
+  pub spread : (u : ℕ) → IsSpread g.space 0 (n.mappings u)
   pub inside : Inside g n.reserved n.pages
-  pub sweep : Swept n.size n.reserved n.pages n.areas n.table aheads passes gones
+  pub sweep : Swept n.size n.reserved n.pages n.mappings n.entries aheads passes gones
   pub reach : (w : ℕ) → IfSome (fills (s.calls w)) (λ k. Reached n.size aheads k.0 k.1)
   pub fill : IfSome (fills c) (λ k. Reached n.size aheads k.0 k.1)
   pub sizes : (f : ℕ) → n.size f ≤ g.limit
@@ -172,11 +173,11 @@ goes_on g s n t b c h l e p =
       spread = p.spread;
       inside = p.inside;
       sweep =
-          subst (λ (a : ℕ → ℕ → ℕ → Bool). Swept n.size n.reserved n.pages n.areas n.table a
+          subst (λ (a : ℕ → ℕ → ℕ → Bool). Swept n.size n.reserved n.pages n.mappings n.entries a
           (λ u. passed (put s.calls t c u)) (λ u. gone (put s.calls t c u))) aheads
-          (subst (λ (a : ℕ → ℕ → ℕ → Bool). Swept n.size n.reserved n.pages n.areas n.table
+          (subst (λ (a : ℕ → ℕ → ℕ → Bool). Swept n.size n.reserved n.pages n.mappings n.entries
           (put (λ (u : ℕ). ahead (s.calls u)) t (ahead c)) a (λ u. gone (put s.calls t c u))) (sym (view_put passed s.calls t c))
-          (subst (λ (a : ℕ → ℕ → ℕ → Bool). Swept n.size n.reserved n.pages n.areas n.table
+          (subst (λ (a : ℕ → ℕ → ℕ → Bool). Swept n.size n.reserved n.pages n.mappings n.entries
           (put (λ (u : ℕ). ahead (s.calls u)) t (ahead c)) (put (λ (u : ℕ). passed (s.calls u)) t (passed c)) a)
           (sym (view_put gone s.calls t c)) p.sweep));
       reach = subst (λ (a : ℕ → ℕ → ℕ → Bool). (w : ℕ) → IfSome (fills (put s.calls t c w)) (λ k. Reached n.size a k.0 k.1)) aheads

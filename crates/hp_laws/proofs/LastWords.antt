@@ -127,14 +127,14 @@ some_call e = cc
 -- which call a store is written by
 stored_by : (s : State) (t : ℕ) (grant : Bool) (c : Call) (o : Outcome) (n : State) → s.calls t ≡ Some c → (P : Type 0)
     → (f i v : ℕ) → Wrote f i (moment s (Step t grant) o n) v
-    → ((p : Look) → c ≡ call.Touch (touch.Look p) → p.access ≡ Store v → find (s.areas t) p.vpn ≡ Some (f, i)
+    → ((p : Look) → c ≡ call.Touch (touch.Look p) → p.access ≡ Store v → find (s.mappings t) p.vpn ≡ Some (f, i)
     → o ≡ outcome.Ended answer.Done → P)
     → ((p : Found) → c ≡ call.Touch (touch.Found p) → p.touch.access ≡ Store v → p.touch.file ≡ f → p.touch.index ≡ i
     → n.calls t ≡ Some (call.Touch (touch.Leave (record { touch = p.touch; answer = answer.Done }))) → P)
     → P
 stored_by s t grant c o n e P f i v wrote look found = elim wrote [
   | inl w ↦ (let d : w.0 ≡ t = same_task w.3 in
-      look w.2 (some_call (sym e ∙ (ap s.calls (sym d) ∙ w.4))) w.5 (ap (λ (m : ℕ). find (s.areas m) w.2.vpn) (sym d) ∙ w.6) w.7)
+      look w.2 (some_call (sym e ∙ (ap s.calls (sym d) ∙ w.4))) w.5 (ap (λ (m : ℕ). find (s.mappings m) w.2.vpn) (sym d) ∙ w.6) w.7)
   | inr w ↦ (let d : w.0 ≡ t = same_task w.3 in
       found w.2 (some_call (sym e ∙ (ap s.calls (sym d) ∙ w.4))) w.5 w.6 w.7 (ap n.calls (sym d) ∙ w.8))
 ]
@@ -164,12 +164,12 @@ look_tells : (s : State) (t : ℕ) (killed grant : Bool) (p : Look) (turn : Turn
     → o ≡ told call.Touch turn
     → n.pages ≡ pool.pages → n.frame ≡ pool.frame → Tells s (Step t grant) o n
 look_tells s t killed grant p turn pool o n h e row tells pages frame =
-    by_option (find (s.areas t) p.vpn) row
+    by_option (find (s.mappings t) p.vpn) row
     (λ none r. self_tells s (Step t grant) o n (pages ∙ ap (λ (m : Pool). m.pages) r.1)
     (frame ∙ ap (λ (m : Pool). m.frame) r.1)
     (silent (λ d. (let z : outcome.Ended answer.Segv ≡ outcome.Ended answer.Done = sym
     (tells ∙ ap (told call.Touch) r.0) ∙ d in cc))))
-    (λ place there r. by_option (s.table t p.vpn) r
+    (λ place there r. by_option (s.entries t p.vpn) r
     (λ none r. self_tells s (Step t grant) o n (pages ∙ ap (λ (m : Pool). m.pages) r.1)
     (frame ∙ ap (λ (m : Pool). m.frame) r.1)
     (silent (λ d. (let z = sym (tells ∙ ap (told call.Touch) r.0) ∙ d in moved_not_done z))))
@@ -188,7 +188,7 @@ look_tells s t killed grant p turn pool o n h e row tells pages frame =
     silent other f i v wrote =
         stored_by s t grant (call.Touch (touch.Look p)) o n e ⊥ f i v wrote (λ q d a b k. other k) (λ q d a b k l. not_found q d)
 
-    reading : (x : ℕ) → s.table t p.vpn ≡ Some x → (place : ℕ × ℕ) → find (s.areas t) p.vpn ≡ Some place → (word : ℕ)
+    reading : (x : ℕ) → s.entries t p.vpn ≡ Some x → (place : ℕ × ℕ) → find (s.mappings t) p.vpn ≡ Some place → (word : ℕ)
         → s.frame x ≡ state.Placed word
         → (turn ≡ Ended (answer_of p.access word)) × (pool ≡ record (pool_of s) { frame = frame_after p.access s.frame x })
         → (a : Access) → p.access ≡ a → Tells s (Step t grant) o n
@@ -215,7 +215,7 @@ look_tells s t killed grant p turn pool o n h e row tells pages frame =
         ))
         (λ f i v wrote. stored_by s t grant (call.Touch (touch.Look p)) o n e ((f ≡ place.0) × (i ≡ place.1) × (v ≡ new)) f i v wrote
         (λ q d a b z. let same_p = same_look q d in
-        let at : (f, i) ≡ place = pair_of (sym b ∙ (ap (λ (m : Look). find (s.areas t) m.vpn) (sym same_p) ∙ there)) in
+        let at : (f, i) ≡ place = pair_of (sym b ∙ (ap (λ (m : Look). find (s.mappings t) m.vpn) (sym same_p) ∙ there)) in
         (ap (λ (m : ℕ × ℕ). m.0) at, ap (λ (m : ℕ × ℕ). m.1) at, same_store (sym a ∙ (ap (λ (m : Look). m.access) (sym same_p) ∙ is))))
         (λ q d a b z l. absurd (not_found q d)))
       where
@@ -260,7 +260,7 @@ found_tells s t grant p turn pool o n h e row next pages frame =
     reading : (x word : ℕ) → s.pages p.touch.file p.touch.index ≡ Some x → s.frame x ≡ state.Placed word
         → (turn ≡ Moved (touch.Leave (record { touch = p.touch; answer = answer_of p.touch.access word })))
         × (pool ≡ record (pool_of s) {
-          table = put2 s.table t p.touch.vpn (Some x);
+          entries = put2 s.entries t p.touch.vpn (Some x);
           frame = frame_after p.touch.access s.frame x;
         })
         → (a : Access) → p.touch.access ≡ a → Tells s (Step t grant) o n

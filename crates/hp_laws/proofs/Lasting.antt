@@ -122,7 +122,7 @@ past_call s t killed grant i (call.Exit p) o pool next w row = absurd w
 past_row : (s : State) (t i : ℕ) (event : Event) (o : Outcome) (n : State) → Always s → is_begun t event o ≡ 0
     → CallPast i (s.calls t) → Row s event o n → CallPast i (n.calls t)
 past_row s t i event o n h quiet w row = own_or_same s t event o n (CallPast i (n.calls t)) h quiet row
-    (λ calls areas lives no_end. subst (CallPast i) (sym calls) w)
+    (λ calls mappings lives no_end. subst (CallPast i) (sym calls) w)
     (λ grant c pool next is e r d. subst (λ (m : State). CallPast i (m.calls t)) (sym d) (subst (CallPast i) (sym (put_same s.calls t next))
     (past_call s t (is_killed (s.life t)) grant i c o pool next (subst (CallPast i) e w) r)))
 

@@ -134,8 +134,8 @@ some_end s f reached =
 touch_leads : (s : State) (t : ℕ) (killed grant : Bool) (phase : TouchPhase) → IsReached s → TouchStands s t phase
     → Leads (TouchRow (pool_of s) t killed grant phase)
 touch_leads s t killed grant (touch.Look p) reached y =
-    option (find (s.areas t) p.vpn) (λ _. ends _ (pool_of s))
-    (λ place _. option (s.table t p.vpn) (λ _. goes _ (pool_of s))
+    option (find (s.mappings t) p.vpn) (λ _. ends _ (pool_of s))
+    (λ place _. option (s.entries t p.vpn) (λ _. goes _ (pool_of s))
     (λ x entry. let o = entry_placed s t p.vpn x reached entry in (Ended _, _, (o.0, o.1, (refl, refl)))))
 touch_leads s t killed grant (touch.Want p) reached y =
     test killed (λ _. ends _ (pool_of s)) (λ _. want (pool_of s) t p.touch.file p.touch.index _ _)
@@ -163,7 +163,7 @@ map_leads : (s : State) (t : ℕ) (killed grant : Bool) (phase : MapPhase) → I
     → Leads (MapRow (pool_of s) t killed grant phase)
 map_leads s t killed grant (map.Start p) reached y = start (pool_of s) t killed p.map.file _ _ _ _
 map_leads s t killed grant (map.Room p) reached y =
-    let o = some_room s.geometry.space (s.areas t) p.map.len in
+    let o = some_room s.geometry.space (s.mappings t) p.map.len in
     witness o.0 o.1 (option o.0 (λ _. goes _ (pool_of s))
     (λ base _. test grant (λ _. test p.map.reserve (λ _. goes _ _) (λ _. goes _ _)) (λ _. goes _ (pool_of s))))
 map_leads s t killed grant (map.Missing p) reached y =
@@ -237,14 +237,14 @@ truncate_leads s t killed grant (truncate.Settle p) reached y = (Moved _, _, (y.
 truncate_leads s t killed grant (truncate.Leave p) reached y = ends _ _
 
 unmap_leads : (s : State) (t : ℕ) (killed grant : Bool) (phase : UnmapPhase) → Leads (UnmapRow (pool_of s) t killed grant phase)
-unmap_leads s t killed grant (unmap.Start p) = test (is_base (s.areas t) p.base) (λ _. goes _ (pool_of s)) (λ _. ends _ (pool_of s))
+unmap_leads s t killed grant (unmap.Start p) = test (is_base (s.mappings t) p.base) (λ _. goes _ (pool_of s)) (λ _. ends _ (pool_of s))
 unmap_leads s t killed grant (unmap.Clear p) = goes _ _
 unmap_leads s t killed grant (unmap.Drop p) = ends _ _
 
 exit_leads : (s : State) (t : ℕ) (killed grant : Bool) (phase : ExitPhase) → Leads (ExitRow (pool_of s) t killed grant phase)
-exit_leads s t killed grant exit.Start = option (first_base (s.areas t)) (λ _. goes _ (pool_of s)) (λ base _. goes _ (pool_of s))
+exit_leads s t killed grant exit.Start = option (first_base (s.mappings t)) (λ _. goes _ (pool_of s)) (λ base _. goes _ (pool_of s))
 exit_leads s t killed grant (exit.Clear p) = goes _ _
-exit_leads s t killed grant (exit.Drop p) = option (first_base (without (s.areas t) p.base)) (λ _. goes _ _) (λ base _. goes _ _)
+exit_leads s t killed grant (exit.Drop p) = option (first_base (without (s.mappings t) p.base)) (λ _. goes _ _) (λ base _. goes _ _)
 exit_leads s t killed grant exit.Leave = ends _ (pool_of s)
 
 call_leads : (s : State) (t : ℕ) (killed grant : Bool) (c : Call) → IsReached s → s.calls t ≡ Some c

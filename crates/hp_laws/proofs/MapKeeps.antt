@@ -75,12 +75,12 @@ map_room s t grant p turn new h l e (found, room, row) =
     (stays s.geometry s t _ (Some (call.Map (leave answer.NoAddress))) h l e refl tt
     (left_stands s t p.map answer.NoAddress y.lock y.facts.range refl)))
     (λ base some r.
-    let fit = (subst (IsRoom s.geometry.space (s.areas t) p.map.len) some room).0 in
+    let fit = (subst (IsRoom s.geometry.space (s.mappings t) p.map.len) some room).0 in
     by_test grant r
     (λ granted r. by_test p.map.reserve r
     (λ reserves r. so call.Map s t _ turn _ new r
     (prepares s.geometry s t _ (Some (call.Map (at.Missing (record { map = p.map; base = base })))) h l e refl tt
-    (record { slot = tt; lock = y.lock; facts = record { range = y.facts.range; based = (put_same s.prepared t true, fit) } })))
+    (record { slot = tt; lock = y.lock; facts = record { range = y.facts.range; based = (put_same s.ready t true, fit) } })))
     (λ not r. so call.Map s t _ turn _ new r
     (prepares s.geometry s t _ (Some (call.Map (at.Enter (record { map = p.map; base = base })))) h l e refl tt
     (record {
@@ -88,7 +88,7 @@ map_room s t grant p turn new h l e (found, room, row) =
       lock = y.lock;
       facts = record {
         range = y.facts.range;
-        based = (put_same s.prepared t true, fit);
+        based = (put_same s.ready t true, fit);
         filled = λ d. nothing p.map.reserve not d;
       };
     }))))
@@ -161,7 +161,7 @@ map_accounted s t p turn new h l e row =
     (record {
       map = p.map;
       base = p.base;
-      surplus = p.pending.missing - missing (s.reserved f) p.pending.from p.pending.to;
+      excess = p.pending.missing - missing (s.reserved f) p.pending.from p.pending.to;
     })))) f p.pending h l e
     y.facts.range.0 low refl refl refl refl refl nobody (omega arith) tt
     (record { slot = tt; lock = y.lock; facts = record { range = y.facts.range; based = y.facts.based; filled = filled } })))
@@ -178,7 +178,7 @@ map_settle s t p turn new h l e (low, row) =
     let y = stands_at s t _ h e in
     so call.Map s t _ turn _ new row
     (rebalances s.geometry s t _ (Some (call.Map (at.Enter (record { map = p.map; base = p.base }))))
-    (s.resv - p.surplus) h l e refl refl refl refl (omega arith) (let z = h.enough in omega arith) tt
+    (s.resv - p.excess) h l e refl refl refl refl (omega arith) (let z = h.enough in omega arith) tt
     (record { slot = tt; lock = y.lock; facts = record { range = y.facts.range; based = y.facts.based; filled = λ d. y.facts.filled } }))
 
 map_enter : (s : State) (t : ℕ) (p : Enter) (turn : Turn MapPhase) (new : Pool) → Inv s.geometry s → t < s.geometry.tasks + 1

@@ -73,7 +73,7 @@ page_placed s f i x reached e =
     (o.0, o.1, h.place.one.real x (Page f i) e)
 
 -- so does an entry's
-pub entry_placed : (s : State) (t v x : ℕ) → IsReached s → s.table t v ≡ Some x
+pub entry_placed : (s : State) (t v x : ℕ) → IsReached s → s.entries t v ≡ Some x
     → (word : ℕ) × (s.frame x ≡ state.Placed word) × (x < s.frames)
 entry_placed s t v x reached e = let o = (always s reached).inv.entries.agree t v x e in page_placed s o.0.0 o.0.1 x reached o.2
 
@@ -99,23 +99,23 @@ TouchStands s t (touch.Want p) =
     record {
       file : p.touch.file < s.geometry.files;
       index : p.touch.index < s.geometry.limit;
-      found : find (s.areas t) p.touch.vpn ≡ Some (p.touch.file, p.touch.index);
-      untranslated : s.table t p.touch.vpn ≡ None;
+      found : find (s.mappings t) p.touch.vpn ≡ Some (p.touch.file, p.touch.index);
+      untranslated : s.entries t p.touch.vpn ≡ None;
     }
 TouchStands s t (touch.Locked p) =
     record {
       file : p.touch.file < s.geometry.files;
       index : p.touch.index < s.geometry.limit;
-      found : find (s.areas t) p.touch.vpn ≡ Some (p.touch.file, p.touch.index);
-      untranslated : s.table t p.touch.vpn ≡ None;
+      found : find (s.mappings t) p.touch.vpn ≡ Some (p.touch.file, p.touch.index);
+      untranslated : s.entries t p.touch.vpn ≡ None;
       slot : s.slots (slot_of s.geometry p.touch.file p.touch.index) ≡ Some t;
     }
 TouchStands s t (touch.Missing p) =
     record {
       file : p.touch.file < s.geometry.files;
       index : p.touch.index < s.geometry.limit;
-      found : find (s.areas t) p.touch.vpn ≡ Some (p.touch.file, p.touch.index);
-      untranslated : s.table t p.touch.vpn ≡ None;
+      found : find (s.mappings t) p.touch.vpn ≡ Some (p.touch.file, p.touch.index);
+      untranslated : s.entries t p.touch.vpn ≡ None;
       slot : s.slots (slot_of s.geometry p.touch.file p.touch.index) ≡ Some t;
       bare : s.pages p.touch.file p.touch.index ≡ None;
     }
@@ -123,8 +123,8 @@ TouchStands s t (touch.Changed p) =
     record {
       file : p.touch.file < s.geometry.files;
       index : p.touch.index < s.geometry.limit;
-      found : find (s.areas t) p.touch.vpn ≡ Some (p.touch.file, p.touch.index);
-      untranslated : s.table t p.touch.vpn ≡ None;
+      found : find (s.mappings t) p.touch.vpn ≡ Some (p.touch.file, p.touch.index);
+      untranslated : s.entries t p.touch.vpn ≡ None;
       slot : s.slots (slot_of s.geometry p.touch.file p.touch.index) ≡ Some t;
       bare : s.pages p.touch.file p.touch.index ≡ None;
       pending : 1 ≤ s.pending p.touch.file;
@@ -135,8 +135,8 @@ TouchStands s t (touch.Abort p) =
     record {
       file : p.touch.file < s.geometry.files;
       index : p.touch.index < s.geometry.limit;
-      found : find (s.areas t) p.touch.vpn ≡ Some (p.touch.file, p.touch.index);
-      untranslated : s.table t p.touch.vpn ≡ None;
+      found : find (s.mappings t) p.touch.vpn ≡ Some (p.touch.file, p.touch.index);
+      untranslated : s.entries t p.touch.vpn ≡ None;
       slot : s.slots (slot_of s.geometry p.touch.file p.touch.index) ≡ Some t;
       pending : 1 ≤ s.pending p.touch.file;
     }
@@ -144,8 +144,8 @@ TouchStands s t (touch.Taken p) =
     record {
       file : p.touch.file < s.geometry.files;
       index : p.touch.index < s.geometry.limit;
-      found : find (s.areas t) p.touch.vpn ≡ Some (p.touch.file, p.touch.index);
-      untranslated : s.table t p.touch.vpn ≡ None;
+      found : find (s.mappings t) p.touch.vpn ≡ Some (p.touch.file, p.touch.index);
+      untranslated : s.entries t p.touch.vpn ≡ None;
       slot : s.slots (slot_of s.geometry p.touch.file p.touch.index) ≡ Some t;
       bare : s.pages p.touch.file p.touch.index ≡ None;
       pending : 1 ≤ s.pending p.touch.file;
@@ -157,8 +157,8 @@ TouchStands s t (touch.Settle p) =
     record {
       file : p.touch.file < s.geometry.files;
       index : p.touch.index < s.geometry.limit;
-      found : find (s.areas t) p.touch.vpn ≡ Some (p.touch.file, p.touch.index);
-      untranslated : s.table t p.touch.vpn ≡ None;
+      found : find (s.mappings t) p.touch.vpn ≡ Some (p.touch.file, p.touch.index);
+      untranslated : s.entries t p.touch.vpn ≡ None;
       slot : s.slots (slot_of s.geometry p.touch.file p.touch.index) ≡ Some t;
       bare : s.pages p.touch.file p.touch.index ≡ None;
       marked : s.reserved p.touch.file p.touch.index ≡ true;
@@ -169,8 +169,8 @@ TouchStands s t (touch.Committed p) =
     record {
       file : p.touch.file < s.geometry.files;
       index : p.touch.index < s.geometry.limit;
-      found : find (s.areas t) p.touch.vpn ≡ Some (p.touch.file, p.touch.index);
-      untranslated : s.table t p.touch.vpn ≡ None;
+      found : find (s.mappings t) p.touch.vpn ≡ Some (p.touch.file, p.touch.index);
+      untranslated : s.entries t p.touch.vpn ≡ None;
       slot : s.slots (slot_of s.geometry p.touch.file p.touch.index) ≡ Some t;
       bare : s.pages p.touch.file p.touch.index ≡ None;
       marked : s.reserved p.touch.file p.touch.index ≡ true;
@@ -180,8 +180,8 @@ TouchStands s t (touch.Restore p) =
     record {
       file : p.touch.file < s.geometry.files;
       index : p.touch.index < s.geometry.limit;
-      found : find (s.areas t) p.touch.vpn ≡ Some (p.touch.file, p.touch.index);
-      untranslated : s.table t p.touch.vpn ≡ None;
+      found : find (s.mappings t) p.touch.vpn ≡ Some (p.touch.file, p.touch.index);
+      untranslated : s.entries t p.touch.vpn ≡ None;
       slot : s.slots (slot_of s.geometry p.touch.file p.touch.index) ≡ Some t;
       bare : s.pages p.touch.file p.touch.index ≡ None;
       marked : s.reserved p.touch.file p.touch.index ≡ true;
@@ -191,8 +191,8 @@ TouchStands s t (touch.Found p) =
     record {
       file : p.touch.file < s.geometry.files;
       index : p.touch.index < s.geometry.limit;
-      found : find (s.areas t) p.touch.vpn ≡ Some (p.touch.file, p.touch.index);
-      untranslated : s.table t p.touch.vpn ≡ None;
+      found : find (s.mappings t) p.touch.vpn ≡ Some (p.touch.file, p.touch.index);
+      untranslated : s.entries t p.touch.vpn ≡ None;
       slot : s.slots (slot_of s.geometry p.touch.file p.touch.index) ≡ Some t;
       page : HasPage s p.touch.file p.touch.index;
     }
@@ -324,8 +324,8 @@ MapStands s t (map.Missing p) =
       some : 1 ≤ p.map.len;
       range : p.map.from + p.map.len ≤ s.geometry.limit;
       lock : s.locks p.map.file ≡ Some t;
-      prepared : s.prepared t ≡ true;
-      fits : fits s.geometry.space (s.areas t) p.base p.map.len ≡ true;
+      ready : s.ready t ≡ true;
+      fits : fits s.geometry.space (s.mappings t) p.base p.map.len ≡ true;
     }
 MapStands s t (map.Changed p) =
     record {
@@ -333,8 +333,8 @@ MapStands s t (map.Changed p) =
       some : 1 ≤ p.map.len;
       range : p.map.from + p.map.len ≤ s.geometry.limit;
       lock : s.locks p.map.file ≡ Some t;
-      prepared : s.prepared t ≡ true;
-      fits : fits s.geometry.space (s.areas t) p.base p.map.len ≡ true;
+      ready : s.ready t ≡ true;
+      fits : fits s.geometry.space (s.mappings t) p.base p.map.len ≡ true;
       pending : 1 ≤ s.pending p.map.file;
       change : (p.pending.from ≡ p.map.from) × (p.pending.to ≡ p.map.from + p.map.len) × (p.pending.missing ≤ p.map.len);
     }
@@ -352,8 +352,8 @@ MapStands s t (map.Accounted p) =
       some : 1 ≤ p.map.len;
       range : p.map.from + p.map.len ≤ s.geometry.limit;
       lock : s.locks p.map.file ≡ Some t;
-      prepared : s.prepared t ≡ true;
-      fits : fits s.geometry.space (s.areas t) p.base p.map.len ≡ true;
+      ready : s.ready t ≡ true;
+      fits : fits s.geometry.space (s.mappings t) p.base p.map.len ≡ true;
       pending : 1 ≤ s.pending p.map.file;
       change : (p.pending.from ≡ p.map.from) × (p.pending.to ≡ p.map.from + p.map.len) × (p.pending.missing ≤ p.map.len);
     }
@@ -363,9 +363,9 @@ MapStands s t (map.Settle p) =
       some : 1 ≤ p.map.len;
       range : p.map.from + p.map.len ≤ s.geometry.limit;
       lock : s.locks p.map.file ≡ Some t;
-      prepared : s.prepared t ≡ true;
-      fits : fits s.geometry.space (s.areas t) p.base p.map.len ≡ true;
-      enough : p.surplus ≤ s.resv;
+      ready : s.ready t ≡ true;
+      fits : fits s.geometry.space (s.mappings t) p.base p.map.len ≡ true;
+      enough : p.excess ≤ s.resv;
     }
 MapStands s t (map.Enter p) =
     record {
@@ -373,8 +373,8 @@ MapStands s t (map.Enter p) =
       some : 1 ≤ p.map.len;
       range : p.map.from + p.map.len ≤ s.geometry.limit;
       lock : s.locks p.map.file ≡ Some t;
-      prepared : s.prepared t ≡ true;
-      fits : fits s.geometry.space (s.areas t) p.base p.map.len ≡ true;
+      ready : s.ready t ≡ true;
+      fits : fits s.geometry.space (s.mappings t) p.base p.map.len ≡ true;
     }
 MapStands s t (map.Leave p) =
     record {
@@ -397,7 +397,7 @@ map_facts s t (map.Missing p) h l e =
       some = y.facts.range.1;
       range = y.facts.range.2;
       lock = y.lock;
-      prepared = y.facts.based.0;
+      ready = y.facts.based.0;
       fits = y.facts.based.1;
     }
 map_facts s t (map.Changed p) h l e =
@@ -407,7 +407,7 @@ map_facts s t (map.Changed p) h l e =
       some = y.facts.range.1;
       range = y.facts.range.2;
       lock = y.lock;
-      prepared = y.facts.based.0;
+      ready = y.facts.based.0;
       fits = y.facts.based.1;
       pending = has_pending s.geometry s t _ p.map.file h l e refl;
       change = y.facts.whole;
@@ -428,7 +428,7 @@ map_facts s t (map.Accounted p) h l e =
       some = y.facts.range.1;
       range = y.facts.range.2;
       lock = y.lock;
-      prepared = y.facts.based.0;
+      ready = y.facts.based.0;
       fits = y.facts.based.1;
       pending = has_pending s.geometry s t _ p.map.file h l e refl;
       change = y.facts.whole;
@@ -440,7 +440,7 @@ map_facts s t (map.Settle p) h l e =
       some = y.facts.range.1;
       range = y.facts.range.2;
       lock = y.lock;
-      prepared = y.facts.based.0;
+      ready = y.facts.based.0;
       fits = y.facts.based.1;
       enough = settles s t _ h l e y;
     }
@@ -451,7 +451,7 @@ map_facts s t (map.Enter p) h l e =
       some = y.facts.range.1;
       range = y.facts.range.2;
       lock = y.lock;
-      prepared = y.facts.based.0;
+      ready = y.facts.based.0;
       fits = y.facts.based.1;
     }
 map_facts s t (map.Leave p) h l e =
@@ -986,7 +986,7 @@ TruncateStands s t (truncate.Settle p) =
       file : p.truncation.file < s.geometry.files;
       sized : s.size p.truncation.file ≡ p.truncation.new;
       lock : s.locks p.truncation.file ≡ Some t;
-      enough : p.surplus ≤ s.resv;
+      enough : p.excess ≤ s.resv;
     }
 TruncateStands s t (truncate.Leave p) =
     record {
@@ -1082,11 +1082,11 @@ truncate_stands s t phase reached e =
 
 abbrev pub UnmapStands : State → (task : ℕ) → UnmapPhase → Type 0
 UnmapStands s t (unmap.Start p) = Unit {0}
-UnmapStands s t (unmap.Clear p) = record { base : is_base (s.areas t) p.base ≡ true }
+UnmapStands s t (unmap.Clear p) = record { base : is_base (s.mappings t) p.base ≡ true }
 UnmapStands s t (unmap.Drop p) =
     record {
-      base : is_base (s.areas t) p.base ≡ true;
-      empty : (v x : ℕ) → s.table t v ≡ Some x → in_mapping (s.areas t) p.base v ≡ false;
+      base : is_base (s.mappings t) p.base ≡ true;
+      empty : (v x : ℕ) → s.entries t v ≡ Some x → in_mapping (s.mappings t) p.base v ≡ false;
     }
 
 unmap_facts : (s : State) (t : ℕ) (phase : UnmapPhase) → Inv s.geometry s → t < s.geometry.tasks + 1
@@ -1103,11 +1103,11 @@ unmap_stands s t phase reached e =
 
 abbrev pub ExitStands : State → (task : ℕ) → ExitPhase → Type 0
 ExitStands s t exit.Start = Unit {0}
-ExitStands s t (exit.Clear p) = record { base : is_base (s.areas t) p.base ≡ true }
+ExitStands s t (exit.Clear p) = record { base : is_base (s.mappings t) p.base ≡ true }
 ExitStands s t (exit.Drop p) =
     record {
-      base : is_base (s.areas t) p.base ≡ true;
-      empty : (v x : ℕ) → s.table t v ≡ Some x → in_mapping (s.areas t) p.base v ≡ false;
+      base : is_base (s.mappings t) p.base ≡ true;
+      empty : (v x : ℕ) → s.entries t v ≡ Some x → in_mapping (s.mappings t) p.base v ≡ false;
     }
 ExitStands s t exit.Leave = Unit {0}
 

@@ -269,17 +269,17 @@ truncate_pages s t killed grant (truncate.Leave p) turn new h e row = same s _ n
 unmap_pages : (s : State) (t : ℕ) (killed grant : Bool) (phase : UnmapPhase) (turn : Turn UnmapPhase) (new : Pool)
     → Inv s.geometry s → s.calls t ≡ Some (call.Unmap phase) → UnmapRow (pool_of s) t killed grant phase turn new → Pages s new
 unmap_pages s t killed grant (unmap.Start p) turn new h e row =
-    by_test (is_base (s.areas t) p.base) row (λ _ r. same s _ new r.1 refl refl) (λ _ r. same s _ new r.1 refl refl)
+    by_test (is_base (s.mappings t) p.base) row (λ _ r. same s _ new r.1 refl refl) (λ _ r. same s _ new r.1 refl refl)
 unmap_pages s t killed grant (unmap.Clear p) turn new h e row = same s _ new row.1 refl refl
 unmap_pages s t killed grant (unmap.Drop p) turn new h e row = same s _ new row.1 refl refl
 
 exit_pages : (s : State) (t : ℕ) (killed grant : Bool) (phase : ExitPhase) (turn : Turn ExitPhase) (new : Pool) → Inv s.geometry s
     → s.calls t ≡ Some (call.Exit phase) → ExitRow (pool_of s) t killed grant phase turn new → Pages s new
 exit_pages s t killed grant exit.Start turn new h e row =
-    by_option (first_base (s.areas t)) row (λ _ r. same s _ new r.1 refl refl) (λ base _ r. same s _ new r.1 refl refl)
+    by_option (first_base (s.mappings t)) row (λ _ r. same s _ new r.1 refl refl) (λ base _ r. same s _ new r.1 refl refl)
 exit_pages s t killed grant (exit.Clear p) turn new h e row = same s _ new row.1 refl refl
 exit_pages s t killed grant (exit.Drop p) turn new h e row =
-    by_option (first_base (without (s.areas t) p.base)) row (λ _ r. same s _ new r.1 refl refl)
+    by_option (first_base (without (s.mappings t) p.base)) row (λ _ r. same s _ new r.1 refl refl)
     (λ base _ r. same s _ new r.1 refl refl)
 exit_pages s t killed grant exit.Leave turn new h e row = same s _ new row.1 refl refl
 

@@ -72,8 +72,8 @@ punch_unmap s t p turn new h l e row =
     let f = p.hole.file in
     let n : State = record s {
       pool = record s.pool {
-        table = put s.table p.task
-            (without_index (s.areas p.task) (s.table p.task) f p.index);
+        entries = put s.entries p.task
+            (without_index (s.mappings p.task) (s.entries p.task) f p.index);
       };
     } in
     by_test (nat_lt p.task s.geometry.tasks) row

@@ -84,11 +84,11 @@ kill_cases s t o n P row refused kills =
 pub record Gone (s : State) (t top : ℕ) (c : Call) (o : Outcome) (new : Pool) (next : Option Call) : Type 0 where
   pub free : (u : ℕ) → o ≡ outcome.Blocked u → ⊥
   pub moved : (p : Phase) → o ≡ outcome.Moved p → (d : Call) × (next ≡ Some d) × (word_of d ≡ p)
-  pub areas : (u : ℕ) → u ≢ t → new.areas u ≡ s.areas u
+  pub mappings : (u : ℕ) → u ≢ t → new.mappings u ≡ s.mappings u
   pub keeps : (f i : ℕ) → s.reserved f i ≡ true → (new.reserved f i ≡ true) ⊎ (deletes (Some c) f i ≡ true)
   pub grows : (f : ℕ) → (s.size f ≤ new.size f) ⊎ (sizes (Some c) ≡ Some f)
   pub nearer : IfSome (sizes (Some c)) (λ f. IsTop s f top)
-      → steps_left s.geometry (length (new.areas t)) top next + 1 ≤ steps_left s.geometry (length (s.areas t)) top (Some c)
+      → steps_left s.geometry (length (new.mappings t)) top next + 1 ≤ steps_left s.geometry (length (s.mappings t)) top (Some c)
 
 -- or it waits
 abbrev pub Steps : State → (t top : ℕ) → Call → Outcome → Pool → Option Call → Type 0
@@ -117,12 +117,12 @@ of_turn call s t top here turn o new next h e l = elim h [
   | inr w ↦ inr (record {
     free = unblocked call turn o e w.goes;
     moved = word_there call turn o next e l;
-    areas = w.areas;
+    mappings = w.mappings;
     keeps = w.keeps;
     grows = w.grows;
     nearer =
-        λ z. subst (λ (m : Option Call). steps_left s.geometry (length (new.areas t)) top m + 1 ≤ steps_left
-        s.geometry (length (s.areas t)) top (Some (call here))) (sym l) (w.nearer z);
+        λ z. subst (λ (m : Option Call). steps_left s.geometry (length (new.mappings t)) top m + 1 ≤ steps_left
+        s.geometry (length (s.mappings t)) top (Some (call here))) (sym l) (w.nearer z);
   })
 ]
 

@@ -32,7 +32,7 @@ pub evicts : (g : Geometry) (s : State) (t : ℕ) (b c : Option Call) (f i x : �
     → sweeps c ≡ sweeps b → holds c ≡ holds b → hand b ≡ None → hand c ≡ Some x → change_in c ≡ change_in b
     → less c + more b ≡ less b + more c + 1
     → s.pages f i ≡ Some x → HasSlot g s t f i
-    → ((w v y : ℕ) → s.table w v ≡ Some y → find (s.areas w) v ≡ Some (f, i) → ⊥)
+    → ((w v y : ℕ) → s.entries w v ≡ Some y → find (s.mappings w) v ≡ Some (f, i) → ⊥)
     → IfSome (fills c) (λ k. Reached s.size (λ u. ahead (s.calls u)) k.0 k.1)
     → Stands g (record s { pool = record s.pool { pages = put2 s.pages f i None; frame = put s.frame x state.Hand } }) t c
     → Inv g (to (record s { pool = record s.pool { pages = put2 s.pages f i None; frame = put s.frame x state.Hand } }) t c)
@@ -79,11 +79,11 @@ evicts g s t b c f i x h l e in_files same same_held none some same_change balan
             slot = λ k a. a;
             page = λ k j a. other u d k j a;
             mark = λ k j a w r. r;
-            entries = λ k j a w v y p q. (y, p, q);
+            translated = λ k j a w v y p q. (y, p, q);
             lock = λ k a. (a, refl, λ j r. r);
-            areas = refl;
-            prepared = refl;
-            table = λ v y p. (y, p);
+            mappings = refl;
+            ready = refl;
+            entries = λ v y p. (y, p);
           }) (h.stands u);
       own = own;
     })
@@ -94,10 +94,10 @@ evicts g s t b c f i x h l e in_files same same_held none some same_change balan
     pair : (k : ℕ × ℕ) (o : Option (ℕ × ℕ)) → o ≡ Some k → k.0 ≡ f → k.1 ≡ i → o ≡ Some (f, i)
     pair k o d p q = d ∙ ap (λ (m : ℕ). Some (m, k.1)) p ∙ ap (λ (m : ℕ). Some (f, m)) q
 
-    still : (w v y : ℕ) (k : ℕ × ℕ) → s.table w v ≡ Some y → find (s.areas w) v ≡ Some k → s.pages k.0 k.1 ≡ Some y
+    still : (w v y : ℕ) (k : ℕ × ℕ) → s.entries w v ≡ Some y → find (s.mappings w) v ≡ Some k → s.pages k.0 k.1 ≡ Some y
         → put2 s.pages f i None k.0 k.1 ≡ Some y
     still w v y k a d p = elim (put2_tells s.pages f i None k.0 k.1) [
-      | inl q ↦ absurd (cleared w v y a (pair k (find (s.areas w) v) d q.0 q.1))
+      | inl q ↦ absurd (cleared w v y a (pair k (find (s.mappings w) v) d q.0 q.1))
       | inr q ↦ q.1 ∙ p
     ]
 
@@ -172,11 +172,11 @@ deletes g s t b c f i spare h l e in_files in_limit same same_held same_hand sam
             slot = λ k a. a;
             page = λ k j a. refl;
             mark = λ k j a w z. other_slot u d k j a ∙ z;
-            entries = λ k j a w v y p q. (y, p, q);
+            translated = λ k j a w v y p q. (y, p, q);
             lock = λ k a. (a, refl, λ j z. other_lock u d k j a ∙ z);
-            areas = refl;
-            prepared = refl;
-            table = λ v y p. (y, p);
+            mappings = refl;
+            ready = refl;
+            entries = λ v y p. (y, p);
           }) (h.stands u);
       own = own;
     })

@@ -54,7 +54,7 @@ same_touch e = cc
 sure_row : (s : State) (t : ℕ) (event : Event) (o : Outcome) (n : State) → Always s → is_begun t event o ≡ 0
     → CallWell Sure (s.calls t) → Row s event o n → CallWell Sure (n.calls t)
 sure_row s t event o n h quiet w row = own_or_same s t event o n (CallWell Sure (n.calls t)) h quiet row
-    (λ calls areas lives no_end. subst (CallWell Sure) (sym calls) w)
+    (λ calls mappings lives no_end. subst (CallWell Sure) (sym calls) w)
     (λ grant c pool next is e r d. subst (λ (m : State). CallWell Sure (m.calls t)) (sym d)
     (subst (CallWell Sure) (sym (put_same s.calls t next))
     (touch_call s t (is_killed (s.life t)) grant Sure Sure Isnt c o pool next
@@ -164,11 +164,11 @@ not_denied true e = (let d : false ≡ true = e in absurd (cc))
 not_denied false e = (let d : false ≡ true = e in absurd (cc))
 
 touch_well : (s : State) (t : ℕ) (killed : Bool) (ms : List Mapping) (f i : ℕ) (phase : TouchPhase) (turn : Turn TouchPhase) (new : Pool)
-    → killed ≡ false → s.reserved f i ≡ true → i < s.size f → Well (s.areas t) f i phase
+    → killed ≡ false → s.reserved f i ≡ true → i < s.size f → Well (s.mappings t) f i phase
     → TouchRow (pool_of s) t killed true phase turn new → TurnWell TouchPhase (Well ms f i) IsServed turn
-touch_well s t killed ms f i (touch.Look p) turn new alive marked low w row = by_option (find (s.areas t) p.vpn) row
+touch_well s t killed ms f i (touch.Look p) turn new alive marked low w row = by_option (find (s.mappings t) p.vpn) row
     (λ none r. (let z : ◌≡◌ {A = Option (ℕ × ℕ)} None (Some (f, i)) = sym none ∙ w in absurd (cc)))
-    (λ place there r. by_option (s.table t p.vpn) r
+    (λ place there r. by_option (s.entries t p.vpn) r
     (λ _ r. at_leaf (Well ms f i) IsServed _ turn r.0 (same_place place (f, i) (sym there ∙ w)))
     (λ x _ r. at_leaf (Well ms f i) IsServed _ turn r.2.0 (served p.access r.0)))
 touch_well s t killed ms f i (touch.Want p) turn new alive marked low w row = by_test killed row
@@ -220,14 +220,14 @@ touch_lives on lives t (call.Unmap p) next w = absurd w
 touch_lives on lives t (call.Exit p) next w = absurd w
 
 abbrev Goes : State → (t f i : ℕ) → Type 0
-Goes s t f i = CallWell (Well (s.areas t) f i) (s.calls t) × (s.life t ≡ life.Alive)
+Goes s t f i = CallWell (Well (s.mappings t) f i) (s.calls t) × (s.life t ≡ life.Alive)
 
 well_row : (s : State) (t f i : ℕ) (event : Event) (o : Outcome) (n : State) → Always s → is_begun t event o ≡ 0
     → event ≢ Step t false → event ≢ Kill t → s.reserved f i ≡ true → i < s.size f → Goes s t f i → Row s event o n → Goes n t f i
 well_row s t f i event o n h quiet grants lives marked low w row = own_or_same s t event o n (Goes n t f i) h quiet row
-    (λ calls areas same no_end. (
-      subst (CallWell (Well (n.areas t) f i)) (sym calls)
-          (subst (λ (m : List Mapping). CallWell (Well m f i) (s.calls t)) (sym areas) w.0),
+    (λ calls mappings same no_end. (
+      subst (CallWell (Well (n.mappings t) f i)) (sym calls)
+          (subst (λ (m : List Mapping). CallWell (Well m f i) (s.calls t)) (sym mappings) w.0),
       elim same [ inl e ↦ e ∙ w.1 | inr e ↦ absurd (lives e) ],
     ))
     (λ grant c pool next is e r d. own grant c pool next is e r d)
@@ -237,12 +237,12 @@ well_row s t f i event o n h quiet grants lives marked low w row = own_or_same s
         → n ≡ record (with_pool s pool) { life = lives_after s.life t c next; calls = put s.calls t next } → Goes n t f i
     own false c pool next is e r d = absurd (grants is)
     own true c pool next is e r d =
-        let there = subst (CallWell (Well (s.areas t) f i)) e w.0 in
-        let now = touch_call s t (is_killed (s.life t)) true (Well (n.areas t) f i) (Well (s.areas t) f i) IsServed c
-        o pool next (λ phase turn q k r. touch_well s t (is_killed (s.life t)) (n.areas t) f i phase turn pool
+        let there = subst (CallWell (Well (s.mappings t) f i)) e w.0 in
+        let now = touch_call s t (is_killed (s.life t)) true (Well (n.mappings t) f i) (Well (s.mappings t) f i) IsServed c
+        o pool next (λ phase turn q k r. touch_well s t (is_killed (s.life t)) (n.mappings t) f i phase turn pool
         (alive_unkilled (s.life t) w.1) marked low k r) there r in (
-          subst (CallWell (Well (n.areas t) f i)) (sym (ap (λ (m : State). m.calls t) d ∙ put_same s.calls t next)) now.0,
-          ap (λ (m : State). m.life t) d ∙ (ap (λ (m : ℕ → Life). m t) (touch_lives (Well (s.areas t) f i) s.life t c next there) ∙ w.1),
+          subst (CallWell (Well (n.mappings t) f i)) (sym (ap (λ (m : State). m.calls t) d ∙ put_same s.calls t next)) now.0,
+          ap (λ (m : State). m.life t) d ∙ (ap (λ (m : ℕ → Life). m t) (touch_lives (Well (s.mappings t) f i) s.life t c next there) ∙ w.1),
         )
 
 -- what is undisturbed is promised at its end
@@ -268,19 +268,19 @@ well_end : (s : State) (t f i : ℕ) (b : Answer) (n : State) → Goes s t f i �
 well_end s t f i b n w marked low row = step_cases s t true (outcome.Ended b) n (IsServed b) row
     (λ why e d. ends_not_refused b why e)
     (λ c lives e pool next r d.
-    (touch_call s t (is_killed (s.life t)) true (Well [] f i) (Well (s.areas t) f i) IsServed c (outcome.Ended b)
+    (touch_call s t (is_killed (s.life t)) true (Well [] f i) (Well (s.mappings t) f i) IsServed c (outcome.Ended b)
     pool next (λ phase turn q k r. touch_well s t (is_killed (s.life t)) [] f i phase turn pool
-    (alive_unkilled (s.life t) w.1) marked low k r) (subst (CallWell (Well (s.areas t) f i)) e w.0) r).1 b refl)
+    (alive_unkilled (s.life t) w.1) marked low k r) (subst (CallWell (Well (s.mappings t) f i)) e w.0) r).1 b refl)
 
 -- a touch of a mapped page goes well where it begins
 starts_well : (s : State) (t : ℕ) (p : Op) (look : Look) (f i : ℕ) (o : Outcome) (n : State)
-    → first p ≡ call.Touch (touch.Look look) → find (s.areas t) look.vpn ≡ Some (f, i) → s.life t ≡ life.Alive → o ≡ outcome.Begun
+    → first p ≡ call.Touch (touch.Look look) → find (s.mappings t) look.vpn ≡ Some (f, i) → s.life t ≡ life.Alive → o ≡ outcome.Begun
     → Row s (Begin t p) o n → Goes n t f i
 starts_well s t p look f i o n e there alive begun row = begin_cases s t p o n (Goes n t f i) row
     (λ why z d. absurd (not_refused why (sym begun ∙ z)))
     (λ lives none may z d. (
-      subst (λ (m : State). CallWell (Well (m.areas t) f i) (m.calls t)) (sym d)
-          (subst (CallWell (Well (s.areas t) f i)) (sym (put_same s.calls t (Some (first p)) ∙ ap (λ (c : Call). Some c) e)) there),
+      subst (λ (m : State). CallWell (Well (m.mappings t) f i) (m.calls t)) (sym d)
+          (subst (CallWell (Well (s.mappings t) f i)) (sym (put_same s.calls t (Some (first p)) ∙ ap (λ (c : Call). Some c) e)) there),
       ap (λ (m : State). m.life t) d ∙ alive,
     ))
   where
@@ -293,7 +293,7 @@ pub promised_served : (g : Geometry) (frames : ℕ) (ends : Moment) (later : Lis
     (t : ℕ) (p : Op) (look : Look) (f i : ℕ) (b : Answer)
     → History g frames (ends ∷ (later ++ (begins ∷ past))) ends.after → calls_begun t (in_order later) ≡ 0
     → begins.event ≡ Begin t p → begins.outcome ≡ outcome.Begun → first p ≡ call.Touch (touch.Look look)
-    → find (begins.before.areas t) look.vpn ≡ Some (f, i) → begins.before.life t ≡ life.Alive → IsUndisturbed t f i later (begins ∷ past)
+    → find (begins.before.mappings t) look.vpn ≡ Some (f, i) → begins.before.life t ≡ life.Alive → IsUndisturbed t f i later (begins ∷ past)
     → ends.event ≡ Step t true → ends.outcome ≡ outcome.Ended b → IsServed b
 promised_served g frames ends later begins past t p look f i b h quiet is begun e there alive calm own ended =
     let w = well_later g frames t f i (begins ∷ past) later ends.before h.2 starts quiet calm in

@@ -179,26 +179,26 @@ not_begun t u p o quiet e d =
 -- what task t's call is seen as, after an event that isn't a begin of it: it is as it was, or made a step
 pub own_or_same : (s : State) (t : ℕ) (event : Event) (o : Outcome) (n : State) (P : Type 0) → Always s → is_begun t event o ≡ 0
     → Row s event o n
-    → (n.calls t ≡ s.calls t → n.areas t ≡ s.areas t → ((n.life t ≡ s.life t) ⊎ (event ≡ Kill t))
+    → (n.calls t ≡ s.calls t → n.mappings t ≡ s.mappings t → ((n.life t ≡ s.life t) ⊎ (event ≡ Kill t))
     → ((grant : Bool) (a : Answer) → event ≡ Step t grant → o ≡ outcome.Ended a → ⊥) → P)
     → ((grant : Bool) (c : Call) (pool : Pool) (next : Option Call) → event ≡ Step t grant → s.calls t ≡ Some c
     → CallRow (pool_of s) t (is_killed (s.life t)) grant c o pool next
     → n ≡ record (with_pool s pool) { life = lives_after s.life t c next; calls = put s.calls t next } → P) → P
 own_or_same s t (Begin u p) o n P h quiet row same own = begin_cases s u p o n P row
-    (λ why e d. same (ap (λ (m : State). m.calls t) d) (ap (λ (m : State). m.areas t) d)
+    (λ why e d. same (ap (λ (m : State). m.calls t) d) (ap (λ (m : State). m.mappings t) d)
     (inl (ap (λ (m : State). m.life t) d)) (λ grant a z. absurd (begin_step z)))
     (λ lives none may e d. elim (same_or_other u t) [
       | inl q ↦ not_begun t u p o quiet e q
       | inr q ↦ same (ap (λ (m : State). m.calls t) d ∙ put_other s.calls u (Some (first p)) t (λ z. q (sym z)))
-          (ap (λ (m : State). m.areas t) d) (inl (ap (λ (m : State). m.life t) d)) (λ grant a z. absurd (begin_step z))
+          (ap (λ (m : State). m.mappings t) d) (inl (ap (λ (m : State). m.life t) d)) (λ grant a z. absurd (begin_step z))
     ])
   where
     begin_step : {grant : Bool} → Begin u p ≡ Step t grant → ⊥
     begin_step z = cc
 own_or_same s t (Kill u) o n P h quiet row same own = kill_cases s u o n P row
-    (λ why e d. same (ap (λ (m : State). m.calls t) d) (ap (λ (m : State). m.areas t) d)
+    (λ why e d. same (ap (λ (m : State). m.calls t) d) (ap (λ (m : State). m.mappings t) d)
     (inl (ap (λ (m : State). m.life t) d)) (λ grant a z. absurd (kill_step z)))
-    (λ alive e d. same (ap (λ (m : State). m.calls t) d) (ap (λ (m : State). m.areas t) d) (elim (same_or_other u t) [
+    (λ alive e d. same (ap (λ (m : State). m.calls t) d) (ap (λ (m : State). m.mappings t) d) (elim (same_or_other u t) [
       | inl q ↦ inr (ap (λ (m : ℕ). Kill m) q)
       | inr q ↦ inl (ap (λ (m : State). m.life t) d ∙ put_other s.life u life.Killed t (λ z. q (sym z)))
     ]) (λ grant a z. absurd (kill_step z)))
@@ -206,15 +206,15 @@ own_or_same s t (Kill u) o n P h quiet row same own = kill_cases s u o n P row
     kill_step : {grant : Bool} → Kill u ≡ Step t grant → ⊥
     kill_step z = cc
 own_or_same s t (Step u grant) o n P h quiet row same own = step_cases s u grant o n P row
-    (λ why e d. same (ap (λ (m : State). m.calls t) d) (ap (λ (m : State). m.areas t) d)
+    (λ why e d. same (ap (λ (m : State). m.calls t) d) (ap (λ (m : State). m.mappings t) d)
     (inl (ap (λ (m : State). m.life t) d)) (λ g a z y. refused_end why a (sym e ∙ y)))
     (λ c lives e pool next r d. elim (same_or_other u t) [
       | inl q ↦ at_own c pool next q e r d
       | inr q ↦ (let is = h.lives.there u lives in same
           (ap (λ (m : State). m.calls t) d ∙ put_other s.calls u next t (λ z. q (sym z)))
-          (ap (λ (m : State). m.areas t) d
+          (ap (λ (m : State). m.mappings t) d
           ∙ elim (call_steps s u 0 (is_killed (s.life u)) grant c o pool next h.inv is.0
-          (let z = is.1 in omega arith) e r) [ inl w ↦ ap (λ (m : Pool). m.areas t) w.2 | inr w ↦ w.areas t (λ z. q (sym z)) ])
+          (let z = is.1 in omega arith) e r) [ inl w ↦ ap (λ (m : Pool). m.mappings t) w.2 | inr w ↦ w.mappings t (λ z. q (sym z)) ])
           (inl (ap (λ (m : State). m.life t) d ∙ other_life s.life u c next t (λ z. q (sym z))))
           (λ g a z. absurd (q (same_task z))))
     ])

@@ -28,8 +28,8 @@ HasLock s u f = s.locks f ≡ Some u
 -- the touch's virtual page stands for its index and has no entry
 abbrev pub Aimed : Geometry → State → (task : ℕ) → Touch → Type 0
 Aimed g s u touch =
-    (find (s.areas u) touch.vpn ≡ Some (touch.file, touch.index)) × (touch.file < g.files) × (touch.index < g.limit)
-    × (s.table u touch.vpn ≡ None)
+    (find (s.mappings u) touch.vpn ≡ Some (touch.file, touch.index)) × (touch.file < g.files) × (touch.index < g.limit)
+    × (s.entries u touch.vpn ≡ None)
 
 -- the change is of that one index
 abbrev pub IsOne : Change → (index : ℕ) → Type 0
@@ -47,9 +47,9 @@ IsRange g f from len = (f < g.files) × (1 ≤ len) × (from + len ≤ g.limit)
 abbrev pub InRange : Geometry → (file from len index : ℕ) → Type 0
 InRange g f from len i = (f < g.files) × (from ≤ i) × (i < from + len) × (from + len ≤ g.limit)
 
--- room is prepared for a mapping, and its virtual pages are clear
+-- room is ready for a mapping, and its virtual pages are clear
 abbrev pub IsBased : Geometry → State → (task base len : ℕ) → Type 0
-IsBased g s u base len = (s.prepared u ≡ true) × (fits g.space (s.areas u) base len ≡ true)
+IsBased g s u base len = (s.ready u ≡ true) × (fits g.space (s.mappings u) base len ≡ true)
 
 -- the whole range is reserved
 abbrev pub IsFilled : State → (file from len : ℕ) → Type 0
@@ -57,7 +57,7 @@ IsFilled s f from len = (j : ℕ) → is_within from (from + len) j ≡ true →
 
 -- no task below that one has an entry of the index
 abbrev pub ClearedBelow : State → (task file index : ℕ) → Type 0
-ClearedBelow s n f i = (t v x : ℕ) → 1 ≤ t → t < n → s.table t v ≡ Some x → find (s.areas t) v ≡ Some (f, i) → ⊥
+ClearedBelow s n f i = (t v x : ℕ) → 1 ≤ t → t < n → s.entries t v ≡ Some x → find (s.mappings t) v ≡ Some (f, i) → ⊥
 
 abbrev pub is_mapped : Answer → Bool
 is_mapped (answer.Mapped base) = true
@@ -283,17 +283,17 @@ Facts g s u (Some (call.Truncate (truncate.Settle p))) =
     record { file : p.truncation.file < g.files; sized : s.size p.truncation.file ≡ p.truncation.new }
 Facts g s u (Some (call.Truncate (truncate.Leave p))) =
     record { file : p.truncation.file < g.files; sized : s.size p.truncation.file ≡ p.truncation.new }
-Facts g s u (Some (call.Unmap (unmap.Clear p))) = record { base : is_base (s.areas u) p.base ≡ true }
+Facts g s u (Some (call.Unmap (unmap.Clear p))) = record { base : is_base (s.mappings u) p.base ≡ true }
 Facts g s u (Some (call.Unmap (unmap.Drop p))) =
     record {
-      base : is_base (s.areas u) p.base ≡ true;
-      empty : (v x : ℕ) → s.table u v ≡ Some x → in_mapping (s.areas u) p.base v ≡ false;
+      base : is_base (s.mappings u) p.base ≡ true;
+      empty : (v x : ℕ) → s.entries u v ≡ Some x → in_mapping (s.mappings u) p.base v ≡ false;
     }
-Facts g s u (Some (call.Exit (exit.Clear p))) = record { base : is_base (s.areas u) p.base ≡ true }
+Facts g s u (Some (call.Exit (exit.Clear p))) = record { base : is_base (s.mappings u) p.base ≡ true }
 Facts g s u (Some (call.Exit (exit.Drop p))) =
     record {
-      base : is_base (s.areas u) p.base ≡ true;
-      empty : (v x : ℕ) → s.table u v ≡ Some x → in_mapping (s.areas u) p.base v ≡ false;
+      base : is_base (s.mappings u) p.base ≡ true;
+      empty : (v x : ℕ) → s.entries u v ≡ Some x → in_mapping (s.mappings u) p.base v ≡ false;
     }
 Facts g s u other = Unit {0}
 

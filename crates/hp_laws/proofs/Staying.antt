@@ -25,12 +25,12 @@ pub record Keeps (g : Geometry) (s n : State) (u : ℕ) (c : Option Call) : Type
   pub page : (f i : ℕ) → HasSlot g s u f i → n.pages f i ≡ s.pages f i
   pub mark : (f i : ℕ) → HasSlot g s u f i → (fills c ≡ Some (f, i)) ⊎ (locked_file c ≡ Some f) → s.reserved f i ≡ true
       → n.reserved f i ≡ true
-  pub entries : (f i : ℕ) → HasSlot g s u f i → (t v x : ℕ) → n.table t v ≡ Some x → find (n.areas t) v ≡ Some (f, i)
-      → (y : ℕ) × (s.table t v ≡ Some y) × (find (s.areas t) v ≡ Some (f, i))
+  pub translated : (f i : ℕ) → HasSlot g s u f i → (t v x : ℕ) → n.entries t v ≡ Some x → find (n.mappings t) v ≡ Some (f, i)
+      → (y : ℕ) × (s.entries t v ≡ Some y) × (find (s.mappings t) v ≡ Some (f, i))
   pub lock : (f : ℕ) → HasLock s u f → HasLock n u f × (n.size f ≡ s.size f) × ((j : ℕ) → s.reserved f j ≡ true → n.reserved f j ≡ true)
-  pub areas : n.areas u ≡ s.areas u
-  pub prepared : n.prepared u ≡ s.prepared u
-  pub table : (v x : ℕ) → n.table u v ≡ Some x → (y : ℕ) × (s.table u v ≡ Some y)
+  pub mappings : n.mappings u ≡ s.mappings u
+  pub ready : n.ready u ≡ s.ready u
+  pub entries : (v x : ℕ) → n.entries u v ≡ Some x → (y : ℕ) × (s.entries u v ≡ Some y)
 
 none_still : (a b : Option ℕ) → ((x : ℕ) → b ≡ Some x → (y : ℕ) × (a ≡ Some y)) → a ≡ None → b ≡ None
 none_still a None f e = refl
@@ -39,19 +39,19 @@ none_still a (Some x) f e = let o = f x refl in let d : ◌≡◌ {A = Option �
 aimed_after : (g : Geometry) (s n : State) (u : ℕ) (touch : Touch) {c : Option Call} → Keeps g s n u c → Aimed g s u touch
     → Aimed g n u touch
 aimed_after g s n u touch k h = (
-  ap (λ (m : List Mapping). find m touch.vpn) k.areas ∙ h.0,
+  ap (λ (m : List Mapping). find m touch.vpn) k.mappings ∙ h.0,
   h.1,
   h.2,
-  none_still (s.table u touch.vpn) (n.table u touch.vpn) (λ x d. k.table touch.vpn x d) h.3,
+  none_still (s.entries u touch.vpn) (n.entries u touch.vpn) (λ x d. k.entries touch.vpn x d) h.3,
 )
 
 based_after : (g : Geometry) (s n : State) (u base len : ℕ) {c : Option Call} → Keeps g s n u c → IsBased g s u base len
     → IsBased g n u base len
-based_after g s n u base len k h = (k.prepared ∙ h.0, ap (λ (m : List Mapping). fits g.space m base len) k.areas ∙ h.1)
+based_after g s n u base len k h = (k.ready ∙ h.0, ap (λ (m : List Mapping). fits g.space m base len) k.mappings ∙ h.1)
 
 cleared_after : (g : Geometry) (s n : State) (u m f i : ℕ) {c : Option Call} → Keeps g s n u c → HasSlot g s u f i
     → ClearedBelow s m f i → ClearedBelow n m f i
-cleared_after g s n u m f i k held h t v x a b d e = let o = k.entries f i held t v x d e in h t v o.0 a b o.1 o.2
+cleared_after g s n u m f i k held h t v x a b d e = let o = k.translated f i held t v x d e in h t v o.0 a b o.1 o.2
 
 pub stands_after : (g : Geometry) (s n : State) (u : ℕ) (c : Option Call) → Keeps g s n u c → Stands g s u c → Stands g n u c
 stands_after g s n u None k h = record { slot = tt; lock = tt; facts = tt }
@@ -448,26 +448,26 @@ stands_after g s n u (Some (call.Truncate (truncate.Leave p))) k h =
     }
 stands_after g s n u (Some (call.Unmap (unmap.Start p))) k h = record { slot = tt; lock = tt; facts = tt }
 stands_after g s n u (Some (call.Unmap (unmap.Clear p))) k h =
-    record { slot = tt; lock = tt; facts = record { base = ap (λ (m : List Mapping). is_base m p.base) k.areas ∙ h.facts.base } }
+    record { slot = tt; lock = tt; facts = record { base = ap (λ (m : List Mapping). is_base m p.base) k.mappings ∙ h.facts.base } }
 stands_after g s n u (Some (call.Unmap (unmap.Drop p))) k h =
     record {
       slot = tt;
       lock = tt;
       facts = record {
-        base = ap (λ (m : List Mapping). is_base m p.base) k.areas ∙ h.facts.base;
-        empty = λ v x d. let o = k.table v x d in ap (λ (m : List Mapping). in_mapping m p.base v) k.areas ∙ h.facts.empty v o.0 o.1;
+        base = ap (λ (m : List Mapping). is_base m p.base) k.mappings ∙ h.facts.base;
+        empty = λ v x d. let o = k.entries v x d in ap (λ (m : List Mapping). in_mapping m p.base v) k.mappings ∙ h.facts.empty v o.0 o.1;
       };
     }
 stands_after g s n u (Some (call.Exit exit.Start)) k h = record { slot = tt; lock = tt; facts = tt }
 stands_after g s n u (Some (call.Exit (exit.Clear p))) k h =
-    record { slot = tt; lock = tt; facts = record { base = ap (λ (m : List Mapping). is_base m p.base) k.areas ∙ h.facts.base } }
+    record { slot = tt; lock = tt; facts = record { base = ap (λ (m : List Mapping). is_base m p.base) k.mappings ∙ h.facts.base } }
 stands_after g s n u (Some (call.Exit (exit.Drop p))) k h =
     record {
       slot = tt;
       lock = tt;
       facts = record {
-        base = ap (λ (m : List Mapping). is_base m p.base) k.areas ∙ h.facts.base;
-        empty = λ v x d. let o = k.table v x d in ap (λ (m : List Mapping). in_mapping m p.base v) k.areas ∙ h.facts.empty v o.0 o.1;
+        base = ap (λ (m : List Mapping). is_base m p.base) k.mappings ∙ h.facts.base;
+        empty = λ v x d. let o = k.entries v x d in ap (λ (m : List Mapping). in_mapping m p.base v) k.mappings ∙ h.facts.empty v o.0 o.1;
       };
     }
 stands_after g s n u (Some (call.Exit exit.Leave)) k h = record { slot = tt; lock = tt; facts = tt }

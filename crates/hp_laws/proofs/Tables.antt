@@ -59,10 +59,10 @@ reached_more size more a f i l r = elim r [ inl d ↦ inl (omega arith) | inr d 
 -- a table entry is written
 pub enters_table : (g : Geometry) (s : State) (t : ℕ) (b c : Option Call) (v f i x : ℕ) → Inv g s → 1 ≤ t → t < g.tasks + 1
     → s.calls t ≡ b → seen c ≡ seen b
-    → find (s.areas t) v ≡ Some (f, i) → s.pages f i ≡ Some x → i < s.size f → HasSlot g s t f i
+    → find (s.mappings t) v ≡ Some (f, i) → s.pages f i ≡ Some x → i < s.size f → HasSlot g s t f i
     → IfSome (fills c) (λ k. Reached s.size (λ u. ahead (s.calls u)) k.0 k.1)
-    → Stands g (record s { pool = record s.pool { table = put2 s.table t v (Some x) } }) t c
-    → Inv g (to (record s { pool = record s.pool { table = put2 s.table t v (Some x) } }) t c)
+    → Stands g (record s { pool = record s.pool { entries = put2 s.entries t v (Some x) } }) t c
+    → Inv g (to (record s { pool = record s.pool { entries = put2 s.entries t v (Some x) } }) t c)
 enters_table g s t b c v f i x h one l e same there page low held fill own =
     goes g s n t b c h l e (ap (λ p. p.4) same) (ap (λ p. p.5) same) (record {
       geometry = h.geometry;
@@ -78,11 +78,11 @@ enters_table g s t b c v f i x h one l e same there page low held fill own =
       count = (let y : less c ≡ less b = ap (λ p. p.0) same in let z : more c ≡ more b = ap (λ p. p.1) same in omega arith);
       place = place_same g s t b c h e (ap (λ p. p.2) same);
       entries = record {
-        agree = λ w z y a. elim (put2_tells s.table t v (Some x) w z) [
-          | inl q ↦ ((f, i), ap (λ (m : ℕ). find (s.areas m) z) q.0 ∙ (ap (find (s.areas t)) q.1 ∙ there), page ∙ (sym q.2 ∙ a))
+        agree = λ w z y a. elim (put2_tells s.entries t v (Some x) w z) [
+          | inl q ↦ ((f, i), ap (λ (m : ℕ). find (s.mappings m) z) q.0 ∙ (ap (find (s.mappings t)) q.1 ∙ there), page ∙ (sym q.2 ∙ a))
           | inr q ↦ h.entries.agree w z y (sym q.1 ∙ a)
         ];
-        owners = λ w z y a. elim (put2_tells s.table t v (Some x) w z) [
+        owners = λ w z y a. elim (put2_tells s.entries t v (Some x) w z) [
           | inl q ↦ (let d : w ≡ t = q.0 in (omega arith, omega arith))
           | inr q ↦ h.entries.owners w z y (sym q.1 ∙ a)
         ];
@@ -90,8 +90,8 @@ enters_table g s t b c v f i x h one l e same there page low held fill own =
       sweep = record {
         past = h.sweep.past;
         gone = h.sweep.gone;
-        below = λ w z y k j a d. elim (put2_tells s.table t v (Some x) w z) [
-          | inl q ↦ inl (low_there k j (sym d ∙ (ap (λ (m : ℕ). find (s.areas m) z) q.0 ∙ (ap (find (s.areas t)) q.1 ∙ there))))
+        below = λ w z y k j a d. elim (put2_tells s.entries t v (Some x) w z) [
+          | inl q ↦ inl (low_there k j (sym d ∙ (ap (λ (m : ℕ). find (s.mappings m) z) q.0 ∙ (ap (find (s.mappings t)) q.1 ∙ there))))
           | inr q ↦ h.sweep.below w z y k j (sym q.1 ∙ a) d
         ];
       };
@@ -100,21 +100,21 @@ enters_table g s t b c v f i x h one l e same there page low held fill own =
         slot = λ k a. a;
         page = λ k j a. refl;
         mark = λ k j a w r. r;
-        entries = λ k j a w z m p q. elim (put2_tells s.table t v (Some x) w z) [
+        translated = λ k j a w z m p q. elim (put2_tells s.entries t v (Some x) w z) [
           | inl o ↦ absurd (d (slot_there u (k, j)
-              (sym q ∙ (ap (λ (r : ℕ). find (s.areas r) z) o.0 ∙ (ap (find (s.areas t)) o.1 ∙ there))) a))
+              (sym q ∙ (ap (λ (r : ℕ). find (s.mappings r) z) o.0 ∙ (ap (find (s.mappings t)) o.1 ∙ there))) a))
           | inr o ↦ (m, sym o.1 ∙ p, q)
         ];
         lock = λ k a. (a, refl, λ j r. r);
-        areas = refl;
-        prepared = refl;
-        table = λ w m a. (m, sym (ap (λ (r : ℕ → Option ℕ). r w) (put_other s.table t (put (s.table t) v (Some x)) u d)) ∙ a);
+        mappings = refl;
+        ready = refl;
+        entries = λ w m a. (m, sym (ap (λ (r : ℕ → Option ℕ). r w) (put_other s.entries t (put (s.entries t) v (Some x)) u d)) ∙ a);
       }) (h.stands u);
       own = own;
     })
   where
     n : State
-    n = record s { pool = record s.pool { table = put2 s.table t v (Some x) } }
+    n = record s { pool = record s.pool { entries = put2 s.entries t v (Some x) } }
 
     low_there : (k j : ℕ) → ◌≡◌ {A = Option (ℕ × ℕ)} (Some (k, j)) (Some (f, i)) → j < s.size k
     low_there k j d = subst (λ (m : ℕ × ℕ). m.1 < s.size m.0) (sym (some_same d)) low
@@ -122,13 +122,13 @@ enters_table g s t b c v f i x h one l e same there page low held fill own =
     slot_there : (u : ℕ) (k : ℕ × ℕ) → ◌≡◌ {A = Option (ℕ × ℕ)} (Some k) (Some (f, i)) → s.slots (slot_of g k.0 k.1) ≡ Some u → u ≡ t
     slot_there u k d a = some_same (sym a ∙ (ap (λ (m : ℕ × ℕ). s.slots (slot_of g m.0 m.1)) (some_same d) ∙ held))
 
--- room is prepared for a mapping
+-- room is ready for a mapping
 pub prepares : (g : Geometry) (s : State) (t : ℕ) (b c : Option Call) → Inv g s → t < g.tasks + 1 → s.calls t ≡ b → seen c ≡ seen b
     → IfSome (fills c) (λ k. Reached s.size (λ u. ahead (s.calls u)) k.0 k.1)
-    → Stands g (record s { pool = record s.pool { prepared = put s.prepared t true } }) t c
-    → Inv g (to (record s { pool = record s.pool { prepared = put s.prepared t true } }) t c)
+    → Stands g (record s { pool = record s.pool { ready = put s.ready t true } }) t c
+    → Inv g (to (record s { pool = record s.pool { ready = put s.ready t true } }) t c)
 prepares g s t b c h l e same fill own =
-    goes g s (record s { pool = record s.pool { prepared = put s.prepared t true } }) t b c h l e (ap (λ p. p.4) same)
+    goes g s (record s { pool = record s.pool { ready = put s.ready t true } }) t b c h l e (ap (λ p. p.4) same)
     (ap (λ p. p.5) same) (record {
       geometry = h.geometry;
       entries = h.entries;
@@ -146,16 +146,16 @@ prepares g s t b c h l e same fill own =
       place = place_same g s t b c h e (ap (λ p. p.2) same);
       changes = same_opens s.pending b c (ap (λ p. p.3) same);
       others =
-          λ u d. stands_after g s (record s { pool = record s.pool { prepared = put s.prepared t true } }) u (s.calls u)
+          λ u d. stands_after g s (record s { pool = record s.pool { ready = put s.ready t true } }) u (s.calls u)
           (record {
             slot = λ k a. a;
             page = λ k j a. refl;
             mark = λ k j a w r. r;
-            entries = λ k j a w v y p q. (y, p, q);
+            translated = λ k j a w v y p q. (y, p, q);
             lock = λ k a. (a, refl, λ j r. r);
-            areas = refl;
-            prepared = put_other s.prepared t true u d;
-            table = λ v y p. (y, p);
+            mappings = refl;
+            ready = put_other s.ready t true u d;
+            entries = λ v y p. (y, p);
           }) (h.stands u);
       own = own;
     })
@@ -222,11 +222,11 @@ extends g s t b c f new h l e same held grows low nobody fill own =
             slot = λ k a. a;
             page = λ k j a. refl;
             mark = λ k j a w r. r;
-            entries = λ k j a w v y p q. (y, p, q);
+            translated = λ k j a w v y p q. (y, p, q);
             lock = λ k a. (a, other_size s t u f k new d held a, λ j r. r);
-            areas = refl;
-            prepared = refl;
-            table = λ v y p. (y, p);
+            mappings = refl;
+            ready = refl;
+            entries = λ v y p. (y, p);
           }) (h.stands u);
       own = own;
     })
@@ -238,8 +238,8 @@ extends g s t b c f new h l e same held grows low nobody fill own =
 abbrev pub entering : State → (task : ℕ) → Mapping → State
 entering s t a = record s {
   pool = record s.pool {
-    areas = put s.areas t (entered (s.areas t) a);
-    prepared = put s.prepared t false;
+    mappings = put s.mappings t (entered (s.mappings t) a);
+    ready = put s.ready t false;
     size = put s.size a.file (max (s.size a.file) (a.from + a.len));
   };
 }
@@ -247,7 +247,7 @@ entering s t a = record s {
 -- a mapping is entered, and its file grows
 pub enters_area : (g : Geometry) (s : State) (t : ℕ) (b c : Option Call) (a : Mapping) → Inv g s → t < g.tasks + 1 → s.calls t ≡ b
     → seen c ≡ seen b
-    → a.file < g.files → 1 ≤ a.len → a.from + a.len ≤ g.limit → fits g.space (s.areas t) a.base a.len ≡ true → HasLock s t a.file
+    → a.file < g.files → 1 ≤ a.len → a.from + a.len ≤ g.limit → fits g.space (s.mappings t) a.base a.len ≡ true → HasLock s t a.file
     → ((u j : ℕ) → passed (s.calls u) a.file j ≡ true → ⊥)
     → IfSome (fills c) (λ k. Reached s.size (λ u. ahead (s.calls u)) k.0 k.1)
     → Stands g (entering s t a) t c → Inv g (to (entering s t a) t c)
@@ -262,14 +262,14 @@ enters_area g s t b c a h l e same in_files some in_limit clear held nobody fill
       place = place_same g s t b c h e (ap (λ p. p.2) same);
       entries = record { owners = h.entries.owners; agree = λ w v x d. let o = h.entries.agree w v x d in (o.0, kept w v o.0 o.1, o.2) };
       ranges = λ w. elim (same_or_other w t) [
-        | inl q ↦ subst (AllWithin g) (sym (ap n.areas q ∙ put_same s.areas t (entered (s.areas t) a)))
-            (within_entered g (s.areas t) a in_files in_limit (h.ranges t))
-        | inr q ↦ subst (AllWithin g) (sym (put_other s.areas t (entered (s.areas t) a) w q)) (h.ranges w)
+        | inl q ↦ subst (AllWithin g) (sym (ap n.mappings q ∙ put_same s.mappings t (entered (s.mappings t) a)))
+            (within_entered g (s.mappings t) a in_files in_limit (h.ranges t))
+        | inr q ↦ subst (AllWithin g) (sym (put_other s.mappings t (entered (s.mappings t) a) w q)) (h.ranges w)
       ];
       spread = λ w. elim (same_or_other w t) [
-        | inl q ↦ subst (IsSpread g.space 0) (sym (ap n.areas q ∙ put_same s.areas t (entered (s.areas t) a)))
-            (entered_spread g.space 0 (s.areas t) a (h.spread t) apart.1 (omega arith) some apart.0)
-        | inr q ↦ subst (IsSpread g.space 0) (sym (put_other s.areas t (entered (s.areas t) a) w q)) (h.spread w)
+        | inl q ↦ subst (IsSpread g.space 0) (sym (ap n.mappings q ∙ put_same s.mappings t (entered (s.mappings t) a)))
+            (entered_spread g.space 0 (s.mappings t) a (h.spread t) apart.1 (omega arith) some apart.0)
+        | inr q ↦ subst (IsSpread g.space 0) (sym (put_other s.mappings t (entered (s.mappings t) a) w q)) (h.spread w)
       ];
       sweep = record {
         below = λ w v x f i d y. let o = h.entries.agree w v x d in
@@ -296,11 +296,11 @@ enters_area g s t b c a h l e same in_files some in_limit clear held nobody fill
         slot = λ k x. x;
         page = λ k j x. refl;
         mark = λ k j x w r. r;
-        entries = λ k j x w v z p q. let o = h.entries.agree w v z p in (z, p, o.1 ∙ (sym (kept w v o.0 o.1) ∙ q));
+        translated = λ k j x w v z p q. let o = h.entries.agree w v z p in (z, p, o.1 ∙ (sym (kept w v o.0 o.1) ∙ q));
         lock = λ f y. (y, other_size s t u a.file f (max (s.size a.file) (a.from + a.len)) d held y, λ j r. r);
-        areas = put_other s.areas t (entered (s.areas t) a) u d;
-        prepared = put_other s.prepared t false u d;
-        table = λ v y p. (y, p);
+        mappings = put_other s.mappings t (entered (s.mappings t) a) u d;
+        ready = put_other s.ready t false u d;
+        entries = λ v y p. (y, p);
       }) (h.stands u);
       own = own;
     })
@@ -308,15 +308,15 @@ enters_area g s t b c a h l e same in_files some in_limit clear held nobody fill
     n : State
     n = entering s t a
 
-    apart : (a.base + a.len ≤ g.space) × (is_clear (s.areas t) a.base a.len ≡ true)
-    apart = fits_clear g.space a.base a.len (s.areas t) clear
+    apart : (a.base + a.len ≤ g.space) × (is_clear (s.mappings t) a.base a.len ≡ true)
+    apart = fits_clear g.space a.base a.len (s.mappings t) clear
 
-    kept : (w v : ℕ) (k : ℕ × ℕ) → find (s.areas w) v ≡ Some k → find (put s.areas t (entered (s.areas t) a) w) v ≡ Some k
+    kept : (w v : ℕ) (k : ℕ × ℕ) → find (s.mappings w) v ≡ Some k → find (put s.mappings t (entered (s.mappings t) a) w) v ≡ Some k
     kept w v k d = elim (same_or_other w t) [
       | inl q ↦ ap (λ (m : List Mapping). find m v)
-          (ap (put s.areas t (entered (s.areas t) a)) q ∙ put_same s.areas t (entered (s.areas t) a))
-          ∙ entered_find (s.areas t) a v k apart.1 (ap (λ (m : ℕ). find (s.areas m) v) (sym q) ∙ d)
-      | inr q ↦ ap (λ (m : List Mapping). find m v) (put_other s.areas t (entered (s.areas t) a) w q) ∙ d
+          (ap (put s.mappings t (entered (s.mappings t) a)) q ∙ put_same s.mappings t (entered (s.mappings t) a))
+          ∙ entered_find (s.mappings t) a v k apart.1 (ap (λ (m : ℕ). find (s.mappings m) v) (sym q) ∙ d)
+      | inr q ↦ ap (λ (m : List Mapping). find m v) (put_other s.mappings t (entered (s.mappings t) a) w q) ∙ d
     ]
 
     larger : (f : ℕ) → s.size f ≤ put s.size a.file (max (s.size a.file) (a.from + a.len)) f
@@ -324,7 +324,7 @@ enters_area g s t b c a h l e same in_files some in_limit clear held nobody fill
 
 -- some entries go
 pub entries_go : (g : Geometry) (s : State) (table : ℕ → ℕ → Option ℕ) → Inv g s
-    → ((w v x : ℕ) → table w v ≡ Some x → s.table w v ≡ Some x) → Inv g (record s { pool = record s.pool { table = table } })
+    → ((w v x : ℕ) → table w v ≡ Some x → s.entries w v ≡ Some x) → Inv g (record s { pool = record s.pool { entries = table } })
 entries_go g s table h kept = record {
   geometry = h.geometry;
   count = h.count;
@@ -341,16 +341,16 @@ entries_go g s table h kept = record {
   entries = record { agree = λ w v x e. h.entries.agree w v x (kept w v x e); owners = λ w v x e. h.entries.owners w v x (kept w v x e) };
   sweep = record { below = λ w v x j m e. h.sweep.below w v x j m (kept w v x e); past = h.sweep.past; gone = h.sweep.gone };
   stands =
-      λ u. stands_after g s (record s { pool = record s.pool { table = table } }) u (s.calls u)
+      λ u. stands_after g s (record s { pool = record s.pool { entries = table } }) u (s.calls u)
       (record {
         slot = λ k a. a;
         page = λ k j a. refl;
         mark = λ k j a w r. r;
-        entries = λ k j a w v x p q. (x, kept w v x p, q);
+        translated = λ k j a w v x p q. (x, kept w v x p, q);
         lock = λ k a. (a, refl, λ j r. r);
-        areas = refl;
-        prepared = refl;
-        table = λ v x p. (x, kept u v x p);
+        mappings = refl;
+        ready = refl;
+        entries = λ v x p. (x, kept u v x p);
       }) (h.stands u);
 }
 
@@ -379,11 +379,11 @@ mapping_each : (ms : List Mapping) (row : ℕ → Option ℕ) (base z : ℕ)
 unfolding without_mapping
 mapping_each ms row base z = refl
 
-pub clear_kept : (s : State) (k f i w v x : ℕ) → put s.table k (without_index (s.areas k) (s.table k) f i) w v ≡ Some x
-    → (s.table w v ≡ Some x) × (w ≡ k → is_there (find (s.areas k) v) f i ≡ false)
+pub clear_kept : (s : State) (k f i w v x : ℕ) → put s.entries k (without_index (s.mappings k) (s.entries k) f i) w v ≡ Some x
+    → (s.entries w v ≡ Some x) × (w ≡ k → is_there (find (s.mappings k) v) f i ≡ false)
 clear_kept s k f i w v x e =
-    filtered s.table k (λ z. is_there (find (s.areas k) z) f i) (without_index (s.areas k) (s.table k) f i) w v x
-    (index_each (s.areas k) (s.table k) f i) e
+    filtered s.entries k (λ z. is_there (find (s.mappings k) z) f i) (without_index (s.mappings k) (s.entries k) f i) w v x
+    (index_each (s.mappings k) (s.entries k) f i) e
 
 there_same : (f i : ℕ) (o : Option (ℕ × ℕ)) → o ≡ Some (f, i) → is_there o f i ≡ true
 there_same f i o e = ap (λ (q : Option (ℕ × ℕ)). is_there q f i) e ∙ both f i
@@ -393,38 +393,43 @@ there_same f i o e = ap (λ (q : Option (ℕ × ℕ)). is_there q f i) e ∙ bot
 
 -- one task's entries of an index are cleared
 pub clears : (g : Geometry) (s : State) (k f i : ℕ) → Inv g s
-    → Inv g (record s { pool = record s.pool { table = put s.table k (without_index (s.areas k) (s.table k) f i) } })
+    → Inv g (record s { pool = record s.pool { entries = put s.entries k (without_index (s.mappings k) (s.entries k) f i) } })
 clears g s k f i h =
-    entries_go g s (put s.table k (without_index (s.areas k) (s.table k) f i)) h (λ w v x e. (clear_kept s k f i w v x e).0)
+    entries_go g s (put s.entries k (without_index (s.mappings k) (s.entries k) f i)) h (λ w v x e. (clear_kept s k f i w v x e).0)
 
 -- after task k's entries are cleared, those of all tasks up to k are
 pub cleared_next : (s : State) (k f i : ℕ) → ClearedBelow s k f i
-    → ClearedBelow (record s { pool = record s.pool { table = put s.table k (without_index (s.areas k) (s.table k) f i) } }) (k + 1) f i
+    → ClearedBelow (record s {
+      pool = record s.pool {
+        entries = put s.entries k
+            (without_index (s.mappings k) (s.entries k) f i);
+      };
+    }) (k + 1) f i
 cleared_next s k f i h w v x z l p q = elim (same_or_other w k) [
-  | inl d ↦ (let a : is_there (find (s.areas k) v) f i ≡ false = (clear_kept s k f i w v x p).1 d in
-      let b : is_there (find (s.areas k) v) f i ≡ true = there_same f i _ (ap (λ (m : ℕ). find (s.areas m) v) (sym d) ∙ q) in
+  | inl d ↦ (let a : is_there (find (s.mappings k) v) f i ≡ false = (clear_kept s k f i w v x p).1 d in
+      let b : is_there (find (s.mappings k) v) f i ≡ true = there_same f i _ (ap (λ (m : ℕ). find (s.mappings m) v) (sym d) ∙ q) in
       absurd (cc))
   | inr d ↦ h w v x z (omega arith) (clear_kept s k f i w v x p).0 q
 ]
 
 -- a mapping's entries are cleared
-pub emptied : (s : State) (t base w v x : ℕ) → put s.table t (without_mapping (s.areas t) (s.table t) base) w v ≡ Some x
-    → (s.table w v ≡ Some x) × (w ≡ t → in_mapping (s.areas t) base v ≡ false)
+pub emptied : (s : State) (t base w v x : ℕ) → put s.entries t (without_mapping (s.mappings t) (s.entries t) base) w v ≡ Some x
+    → (s.entries w v ≡ Some x) × (w ≡ t → in_mapping (s.mappings t) base v ≡ false)
 emptied s t base w v x e =
-    filtered s.table t (λ z. in_mapping (s.areas t) base z) (without_mapping (s.areas t) (s.table t) base) w v x
-    (mapping_each (s.areas t) (s.table t) base) e
+    filtered s.entries t (λ z. in_mapping (s.mappings t) base z) (without_mapping (s.mappings t) (s.entries t) base) w v x
+    (mapping_each (s.mappings t) (s.entries t) base) e
 
 pub empties : (g : Geometry) (s : State) (t base : ℕ) → Inv g s
-    → Inv g (record s { pool = record s.pool { table = put s.table t (without_mapping (s.areas t) (s.table t) base) } })
+    → Inv g (record s { pool = record s.pool { entries = put s.entries t (without_mapping (s.mappings t) (s.entries t) base) } })
 empties g s t base h =
-    entries_go g s (put s.table t (without_mapping (s.areas t) (s.table t) base)) h (λ w v x e. (emptied s t base w v x e).0)
+    entries_go g s (put s.entries t (without_mapping (s.mappings t) (s.entries t) base)) h (λ w v x e. (emptied s t base w v x e).0)
 
 -- a mapping without entries goes
 pub drops : (g : Geometry) (s : State) (t : ℕ) (b c : Option Call) (base : ℕ) → Inv g s → t < g.tasks + 1 → s.calls t ≡ b → seen c ≡ seen b
-    → ((v x : ℕ) → s.table t v ≡ Some x → in_mapping (s.areas t) base v ≡ false)
+    → ((v x : ℕ) → s.entries t v ≡ Some x → in_mapping (s.mappings t) base v ≡ false)
     → IfSome (fills c) (λ k. Reached s.size (λ u. ahead (s.calls u)) k.0 k.1)
-    → Stands g (record s { pool = record s.pool { areas = put s.areas t (without (s.areas t) base) } }) t c
-    → Inv g (to (record s { pool = record s.pool { areas = put s.areas t (without (s.areas t) base) } }) t c)
+    → Stands g (record s { pool = record s.pool { mappings = put s.mappings t (without (s.mappings t) base) } }) t c
+    → Inv g (to (record s { pool = record s.pool { mappings = put s.mappings t (without (s.mappings t) base) } }) t c)
 drops g s t b c base h l e same clear fill own = goes g s n t b c h l e (ap (λ p. p.4) same) (ap (λ p. p.5) same) (record {
   geometry = h.geometry;
   inside = h.inside;
@@ -438,14 +443,14 @@ drops g s t b c base h l e same clear fill own = goes g s n t b c h l e (ap (λ 
   place = place_same g s t b c h e (ap (λ p. p.2) same);
   entries = record { owners = h.entries.owners; agree = λ w v x d. let o = h.entries.agree w v x d in (o.0, same_find w v x d ∙ o.1, o.2) };
   ranges = λ w. elim (same_or_other w t) [
-    | inl q ↦ subst (AllWithin g) (sym (ap n.areas q ∙ put_same s.areas t (without (s.areas t) base)))
-        (within_without g (s.areas t) base (h.ranges t))
-    | inr q ↦ subst (AllWithin g) (sym (put_other s.areas t (without (s.areas t) base) w q)) (h.ranges w)
+    | inl q ↦ subst (AllWithin g) (sym (ap n.mappings q ∙ put_same s.mappings t (without (s.mappings t) base)))
+        (within_without g (s.mappings t) base (h.ranges t))
+    | inr q ↦ subst (AllWithin g) (sym (put_other s.mappings t (without (s.mappings t) base) w q)) (h.ranges w)
   ];
   spread = λ w. elim (same_or_other w t) [
-    | inl q ↦ subst (IsSpread g.space 0) (sym (ap n.areas q ∙ put_same s.areas t (without (s.areas t) base)))
-        (without_spread g.space 0 (s.areas t) base (h.spread t))
-    | inr q ↦ subst (IsSpread g.space 0) (sym (put_other s.areas t (without (s.areas t) base) w q)) (h.spread w)
+    | inl q ↦ subst (IsSpread g.space 0) (sym (ap n.mappings q ∙ put_same s.mappings t (without (s.mappings t) base)))
+        (without_spread g.space 0 (s.mappings t) base (h.spread t))
+    | inr q ↦ subst (IsSpread g.space 0) (sym (put_other s.mappings t (without (s.mappings t) base) w q)) (h.spread w)
   ];
   sweep =
       record {
@@ -458,23 +463,23 @@ drops g s t b c base h l e same clear fill own = goes g s n t b c h l e (ap (λ 
     slot = λ k a. a;
     page = λ k j a. refl;
     mark = λ k j a w r. r;
-    entries = λ k j a w v z p q. (z, p, sym (same_find w v z p) ∙ q);
+    translated = λ k j a w v z p q. (z, p, sym (same_find w v z p) ∙ q);
     lock = λ k a. (a, refl, λ j r. r);
-    areas = put_other s.areas t (without (s.areas t) base) u d;
-    prepared = refl;
-    table = λ v y p. (y, p);
+    mappings = put_other s.mappings t (without (s.mappings t) base) u d;
+    ready = refl;
+    entries = λ v y p. (y, p);
   }) (h.stands u);
   own = own;
 })
   where
     n : State
-    n = record s { pool = record s.pool { areas = put s.areas t (without (s.areas t) base) } }
+    n = record s { pool = record s.pool { mappings = put s.mappings t (without (s.mappings t) base) } }
 
-    same_find : (w v x : ℕ) → s.table w v ≡ Some x → find (put s.areas t (without (s.areas t) base) w) v ≡ find (s.areas w) v
+    same_find : (w v x : ℕ) → s.entries w v ≡ Some x → find (put s.mappings t (without (s.mappings t) base) w) v ≡ find (s.mappings w) v
     same_find w v x a = elim (same_or_other w t) [
       | inl q ↦ ap (λ (m : List Mapping). find m v)
-          (ap (put s.areas t (without (s.areas t) base)) q ∙ put_same s.areas t (without (s.areas t) base))
-          ∙ (without_find (s.areas t) base v (clear v x (ap (λ (m : ℕ). s.table m v) (sym q) ∙ a))
-          ∙ ap (λ (m : ℕ). find (s.areas m) v) (sym q))
-      | inr q ↦ ap (λ (m : List Mapping). find m v) (put_other s.areas t (without (s.areas t) base) w q)
+          (ap (put s.mappings t (without (s.mappings t) base)) q ∙ put_same s.mappings t (without (s.mappings t) base))
+          ∙ (without_find (s.mappings t) base v (clear v x (ap (λ (m : ℕ). s.entries m v) (sym q) ∙ a))
+          ∙ ap (λ (m : ℕ). find (s.mappings m) v) (sym q))
+      | inr q ↦ ap (λ (m : List Mapping). find m v) (put_other s.mappings t (without (s.mappings t) base) w q)
     ]

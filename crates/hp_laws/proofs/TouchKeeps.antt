@@ -48,10 +48,10 @@ touch_look : (s : State) (t : ℕ) (p : Look) (turn : Turn TouchPhase) (new : Po
     → s.calls t ≡ Some (call.Touch (at.Look p)) → TouchLookRow (pool_of s) t p turn new
     → Inv s.geometry (after call.Touch s t turn new)
 touch_look s t p turn new h l e row =
-    by_option (find (s.areas t) p.vpn) row
+    by_option (find (s.mappings t) p.vpn) row
     (λ none r. so call.Touch s t _ turn _ new r (stays s.geometry s t _ None h l e refl tt (idle s.geometry s t)))
-    (λ place there r. by_option (s.table t p.vpn) r
-    (λ none r. let k = find_within s.geometry (s.areas t) p.vpn place (h.ranges t) there in
+    (λ place there r. by_option (s.entries t p.vpn) r
+    (λ none r. let k = find_within s.geometry (s.mappings t) p.vpn place (h.ranges t) there in
     so call.Touch s t _ turn _ new r
     (stays s.geometry s t _
     (Some (call.Touch (at.Want

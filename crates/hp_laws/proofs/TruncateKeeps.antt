@@ -194,8 +194,8 @@ truncate_unmap s t p turn new h l e row =
     let f = p.truncation.file in
     let n : State = record s {
       pool = record s.pool {
-        table = put s.table p.task
-            (without_index (s.areas p.task) (s.table p.task) f p.index);
+        entries = put s.entries p.task
+            (without_index (s.mappings p.task) (s.entries p.task) f p.index);
       };
     } in
     by_test (nat_lt p.task s.geometry.tasks) row
@@ -351,7 +351,7 @@ truncate_row s t killed grant (at.Tail p) turn new h one l e row =
     (Some (call.Truncate
     (at.Settle (record {
       truncation = p.truncation;
-      surplus = count_within (s.reserved f) p.truncation.new s.geometry.limit - p.evicted;
+      excess = count_within (s.reserved f) p.truncation.new s.geometry.limit - p.evicted;
     })))) f p.truncation.new h l
     e y.facts.file refl refl
     (λ k j d. is_up_to f k j p.truncation.new d) refl refl refl refl (omega arith) y.lock
@@ -361,7 +361,7 @@ truncate_row s t killed grant (at.Settle p) turn new h one l e (low, row) =
     let y = stands_at s t _ h e in
     so call.Truncate s t _ turn _ new row
     (rebalances s.geometry s t _ (Some (call.Truncate (at.Leave (record { truncation = p.truncation }))))
-    (s.resv - p.surplus) h l e refl refl refl refl (omega arith) (let z = h.enough in omega arith) tt
+    (s.resv - p.excess) h l e refl refl refl refl (omega arith) (let z = h.enough in omega arith) tt
     (record { slot = tt; lock = y.lock; facts = y.facts }))
 truncate_row s t killed grant (at.Leave p) turn new h one l e row =
     so call.Truncate s t _ turn _ new row

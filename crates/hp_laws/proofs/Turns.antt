@@ -58,12 +58,12 @@ is_blocked (Ended a) = false
 abbrev pub Went : {P : Type 0} → (P → Call) → State → ℕ → ℕ → P → Turn P → Pool → Type 0
 Went call s t top here turn new = record {
   goes : is_blocked turn ≡ false;
-  areas : (u : ℕ) → u ≢ t → new.areas u ≡ s.areas u;
+  mappings : (u : ℕ) → u ≢ t → new.mappings u ≡ s.mappings u;
   keeps : (f i : ℕ) → s.reserved f i ≡ true → (new.reserved f i ≡ true) ⊎ (deletes (Some (call here)) f i ≡ true);
   grows : (f : ℕ) → (s.size f ≤ new.size f) ⊎ (sizes (Some (call here)) ≡ Some f);
   nearer : IfSome (sizes (Some (call here))) (λ f. IsTop s f top)
-      → steps_left s.geometry (length (new.areas t)) top (left call turn) + 1 ≤ steps_left s.geometry
-      (length (s.areas t)) top (Some (call here));
+      → steps_left s.geometry (length (new.mappings t)) top (left call turn) + 1 ≤ steps_left s.geometry
+      (length (s.mappings t)) top (Some (call here));
 }
 
 -- or it waits
@@ -83,19 +83,20 @@ turned {P} call s t top here wanted turn there new e h =
 -- a leaf that leaves mappings, reserved indices and sizes alone
 plain : {P : Type 0} (call : P → Call) (s : State) (t top : ℕ) (here : P) (wanted turn : Turn P) (there new : Pool)
     → (turn ≡ wanted) × (new ≡ there)
-    → is_blocked wanted ≡ false → there.areas ≡ s.areas → there.reserved ≡ s.reserved → there.size ≡ s.size
+    → is_blocked wanted ≡ false → there.mappings ≡ s.mappings → there.reserved ≡ s.reserved → there.size ≡ s.size
     → ((m : ℕ) → steps_left s.geometry m top (left call wanted) + 1 ≤ steps_left s.geometry m top (Some (call here)))
     → Turned call s t top here turn new
-plain call s t top here wanted turn there new e goes areas reserved size nearer = turned call s t top here wanted turn there new e (record {
-  goes = goes;
-  areas = λ u d. ap (λ (m : ℕ → List Mapping). m u) areas;
-  keeps = λ f i a. inl (ap (λ (m : ℕ → ℕ → Bool). m f i) reserved ∙ a);
-  grows = λ f. inl (let z : there.size f ≡ s.size f = ap (λ (m : ℕ → ℕ). m f) size in omega arith);
-  nearer =
-      λ _. subst (λ (m : ℕ). steps_left s.geometry m top (left call wanted) + 1 ≤ steps_left s.geometry
-      (length (s.areas t)) top (Some (call here))) (ap (λ (m : ℕ → List Mapping). length (m t)) (sym areas))
-      (nearer (length (s.areas t)));
-})
+plain call s t top here wanted turn there new e goes mappings reserved size nearer =
+    turned call s t top here wanted turn there new e (record {
+      goes = goes;
+      mappings = λ u d. ap (λ (m : ℕ → List Mapping). m u) mappings;
+      keeps = λ f i a. inl (ap (λ (m : ℕ → ℕ → Bool). m f i) reserved ∙ a);
+      grows = λ f. inl (let z : there.size f ≡ s.size f = ap (λ (m : ℕ → ℕ). m f) size in omega arith);
+      nearer =
+          λ _. subst (λ (m : ℕ). steps_left s.geometry m top (left call wanted) + 1 ≤ steps_left s.geometry
+          (length (s.mappings t)) top (Some (call here))) (ap (λ (m : ℕ → List Mapping). length (m t)) (sym mappings))
+          (nearer (length (s.mappings t)));
+    })
 
 abbrev Nearer : {P : Type 0} → (P → Call) → State → ℕ → P → Turn P → Type 0
 Nearer call s top here turn = (m : ℕ) → steps_left s.geometry m top (left call turn) + 1 ≤ steps_left s.geometry m top (Some (call here))
@@ -153,19 +154,19 @@ take_turn call s t top m here no_frame taken turn new row nearer nearer_taken =
 -- a leaf that adds to the reserved indices
 adds : {P : Type 0} (call : P → Call) (s : State) (t top f : ℕ) (c : Change) (here : P) (wanted turn : Turn P) (there new : Pool)
     → (turn ≡ wanted) × (new ≡ there)
-    → is_blocked wanted ≡ false → there.areas ≡ s.areas → there.reserved ≡ put s.reserved f (add_range (s.reserved f) c.from c.to)
+    → is_blocked wanted ≡ false → there.mappings ≡ s.mappings → there.reserved ≡ put s.reserved f (add_range (s.reserved f) c.from c.to)
     → there.size ≡ s.size
     → Nearer call s top here wanted → Turned call s t top here turn new
-adds call s t top f c here wanted turn there new e goes areas reserved size nearer =
+adds call s t top f c here wanted turn there new e goes mappings reserved size nearer =
     turned call s t top here wanted turn there new e (record {
       goes = goes;
-      areas = λ u d. ap (λ (m : ℕ → List Mapping). m u) areas;
+      mappings = λ u d. ap (λ (m : ℕ → List Mapping). m u) mappings;
       keeps = λ k i a. inl (ap (λ (m : ℕ → ℕ → Bool). m k i) reserved ∙ grown_keeps s.reserved f c.from c.to k i a);
       grows = λ k. inl (let z : there.size k ≡ s.size k = ap (λ (m : ℕ → ℕ). m k) size in omega arith);
       nearer =
           λ _. subst (λ (m : ℕ). steps_left s.geometry m top (left call wanted) + 1 ≤ steps_left s.geometry
-          (length (s.areas t)) top (Some (call here))) (ap (λ (m : ℕ → List Mapping). length (m t)) (sym areas))
-          (nearer (length (s.areas t)));
+          (length (s.mappings t)) top (Some (call here))) (ap (λ (m : ℕ → List Mapping). length (m t)) (sym mappings))
+          (nearer (length (s.mappings t)));
     })
 
 commit_turn : {P : Type 0} (call : P → Call) (s : State) (t top f : ℕ) (c : Change) (here settle next : P) (turn : Turn P) (new : Pool)
@@ -179,16 +180,16 @@ commit_turn call s t top f c here settle next turn new row nearer nearer_next =
 -- a leaf that changes sizes alone, or mappings of the task and sizes
 sized : {P : Type 0} (call : P → Call) (s : State) (t top f new_size : ℕ) (here : P) (wanted turn : Turn P) (there new : Pool)
     → (turn ≡ wanted) × (new ≡ there)
-    → is_blocked wanted ≡ false → ((u : ℕ) → u ≢ t → there.areas u ≡ s.areas u) → there.reserved ≡ s.reserved
+    → is_blocked wanted ≡ false → ((u : ℕ) → u ≢ t → there.mappings u ≡ s.mappings u) → there.reserved ≡ s.reserved
     → there.size ≡ put s.size f new_size → (s.size f ≤ new_size) ⊎ (sizes (Some (call here)) ≡ Some f)
     → (IfSome (sizes (Some (call here))) (λ f. IsTop s f top)
-    → steps_left s.geometry (length (there.areas t)) top (left call wanted) + 1 ≤ steps_left s.geometry
-    (length (s.areas t)) top (Some (call here)))
+    → steps_left s.geometry (length (there.mappings t)) top (left call wanted) + 1 ≤ steps_left s.geometry
+    (length (s.mappings t)) top (Some (call here)))
     → Turned call s t top here turn new
-sized call s t top f new_size here wanted turn there new e goes areas reserved size low nearer =
+sized call s t top f new_size here wanted turn there new e goes mappings reserved size low nearer =
     turned call s t top here wanted turn there new e (record {
       goes = goes;
-      areas = areas;
+      mappings = mappings;
       keeps = λ k i a. inl (ap (λ (m : ℕ → ℕ → Bool). m k i) reserved ∙ a);
       grows = λ k. elim low [
         | inl l ↦ inl (let z : there.size k ≡ put s.size f new_size k = ap (λ (m : ℕ → ℕ). m k) size in
@@ -228,9 +229,9 @@ pub touch_turn : (s : State) (t top : ℕ) (killed grant : Bool) (phase : TouchP
     → Inv s.geometry s → s.calls t ≡ Some (call.Touch phase) → TouchRow (pool_of s) t killed grant phase turn new
     → Turned call.Touch s t top phase turn new
 touch_turn s t top killed grant (touch.Look p) turn new h e row =
-    by_option (find (s.areas t) p.vpn) row
+    by_option (find (s.mappings t) p.vpn) row
     (λ _ r. plain call.Touch s t top (touch.Look p) _ turn _ new r refl refl refl refl (λ m. omega arith))
-    (λ place _ r. by_option (s.table t p.vpn) r
+    (λ place _ r. by_option (s.entries t p.vpn) r
     (λ _ r. plain call.Touch s t top (touch.Look p) _ turn _ new r refl refl refl refl (λ m. omega arith))
     (λ x _ r. plain call.Touch s t top (touch.Look p) _ turn _ new r.2 refl refl refl refl (λ m. omega arith)))
 touch_turn s t top killed grant (touch.Want p) turn new h e row =
@@ -305,7 +306,7 @@ map_turn s t top killed grant (map.Settle p) turn new h e (low, row) =
     plain call.Map s t top (map.Settle p) _ turn _ new row refl refl refl refl (λ m. omega arith)
 map_turn s t top killed grant (map.Enter p) turn new h e row =
     sized call.Map s t top p.map.file (max (s.size p.map.file) (p.map.from + p.map.len)) (map.Enter p) _ turn _ new
-    row refl (λ u d. put_other s.areas t _ u d) refl refl (inl (omega arith)) (λ _. omega arith)
+    row refl (λ u d. put_other s.mappings t _ u d) refl refl (inl (omega arith)) (λ _. omega arith)
 map_turn s t top killed grant (map.Leave p) turn new h e row =
     plain call.Map s t top (map.Leave p) _ turn _ new row refl refl refl refl (λ m. omega arith)
 
@@ -406,7 +407,7 @@ punch_turn s t top killed grant (punch.Delete p) turn new h one l e row =
     (λ m. omega arith)) (λ _ r. turned call.Punch s t top (punch.Delete p) _ turn _ new r
     (record {
       goes = refl;
-      areas = λ u d. refl;
+      mappings = λ u d. refl;
       keeps = λ f i a. elim (put2_tells s.reserved p.hole.file p.index false f i) [
         | inl z ↦
             inr (both p.hole.file p.index f i (sym z.0) (sym z.1))
@@ -474,7 +475,7 @@ truncate_turn s t top killed grant (truncate.Tail p) turn new h one l e row =
     let f = p.truncation.file in
     turned call.Truncate s t top (truncate.Tail p) _ turn _ new row (record {
       goes = refl;
-      areas = λ u d. refl;
+      mappings = λ u d. refl;
       grows = λ k. inl (omega arith);
       nearer = λ _. omega arith;
       keeps = λ k i a. elim (same_or_other k f) [
@@ -501,7 +502,7 @@ truncate_turn s t top killed grant (truncate.Leave p) turn new h one l e row =
 pub unmap_turn : (s : State) (t top : ℕ) (killed grant : Bool) (phase : UnmapPhase) (turn : Turn UnmapPhase) (new : Pool)
     → UnmapRow (pool_of s) t killed grant phase turn new → Turned call.Unmap s t top phase turn new
 unmap_turn s t top killed grant (unmap.Start p) turn new row =
-    by_test (is_base (s.areas t) p.base) row
+    by_test (is_base (s.mappings t) p.base) row
     (λ _ r. plain call.Unmap s t top (unmap.Start p) _ turn _ new r refl refl refl refl (λ m. omega arith))
     (λ _ r. plain call.Unmap s t top (unmap.Start p) _ turn _ new r refl refl refl refl (λ m. omega arith))
 unmap_turn s t top killed grant (unmap.Clear p) turn new row =
@@ -510,7 +511,7 @@ unmap_turn s t top killed grant (unmap.Drop p) turn new row =
     turned call.Unmap s t top (unmap.Drop p) _ turn _ new row
     (record {
       goes = refl;
-      areas = λ u d. put_other s.areas t _ u d;
+      mappings = λ u d. put_other s.mappings t _ u d;
       keeps = λ f i a. inl a;
       grows = λ f. inl (omega arith);
       nearer = λ _. omega arith;
@@ -526,26 +527,27 @@ fewer (m ∷ ms) base e = here (m.base == base) (λ d. fewer ms base d) e
     here true rest d = omega arith
     here false rest d = let z = rest d in omega arith
 
-fewer_at : (s : State) (t base : ℕ) → is_base (s.areas t) base ≡ true
-    → length (put s.areas t (without (s.areas t) base) t) + 1 ≡ length (s.areas t)
-fewer_at s t base e = ap (λ (m : List Mapping). length m + 1) (put_same s.areas t (without (s.areas t) base)) ∙ fewer (s.areas t) base e
+fewer_at : (s : State) (t base : ℕ) → is_base (s.mappings t) base ≡ true
+    → length (put s.mappings t (without (s.mappings t) base) t) + 1 ≡ length (s.mappings t)
+fewer_at s t base e =
+    ap (λ (m : List Mapping). length m + 1) (put_same s.mappings t (without (s.mappings t) base)) ∙ fewer (s.mappings t) base e
 
 pub exit_turn : (s : State) (t top : ℕ) (killed grant : Bool) (phase : ExitPhase) (turn : Turn ExitPhase) (new : Pool)
     → Inv s.geometry s → s.calls t ≡ Some (call.Exit phase) → ExitRow (pool_of s) t killed grant phase turn new
     → Turned call.Exit s t top phase turn new
 exit_turn s t top killed grant exit.Start turn new h e row =
-    by_option (first_base (s.areas t)) row
+    by_option (first_base (s.mappings t)) row
     (λ _ r. plain call.Exit s t top exit.Start _ turn _ new r refl refl refl refl (λ m. omega arith))
     (λ base _ r. plain call.Exit s t top exit.Start _ turn _ new r refl refl refl refl (λ m. omega arith))
 exit_turn s t top killed grant (exit.Clear p) turn new h e row =
     plain call.Exit s t top (exit.Clear p) _ turn _ new row refl refl refl refl (λ m. omega arith)
 exit_turn s t top killed grant (exit.Drop p) turn new h e row =
     let z = fewer_at s t p.base (stands_at s t _ h e).facts.base in
-    by_option (first_base (without (s.areas t) p.base)) row
+    by_option (first_base (without (s.mappings t) p.base)) row
     (λ _ r. turned call.Exit s t top (exit.Drop p) _ turn _ new r
     (record {
       goes = refl;
-      areas = λ u d. put_other s.areas t _ u d;
+      mappings = λ u d. put_other s.mappings t _ u d;
       keeps = λ f i a. inl a;
       grows = λ f. inl (omega arith);
       nearer = λ _. omega arith;
@@ -553,7 +555,7 @@ exit_turn s t top killed grant (exit.Drop p) turn new h e row =
     (λ base _ r. turned call.Exit s t top (exit.Drop p) _ turn _ new r
     (record {
       goes = refl;
-      areas = λ u d. put_other s.areas t _ u d;
+      mappings = λ u d. put_other s.mappings t _ u d;
       keeps = λ f i a. inl a;
       grows = λ f. inl (omega arith);
       nearer = λ _. omega arith;

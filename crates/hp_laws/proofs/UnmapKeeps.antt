@@ -23,7 +23,7 @@ pub unmap_row : (s : State) (t : ℕ) (killed grant : Bool) (phase : UnmapPhase)
     → Inv s.geometry s → t < s.geometry.tasks + 1 → s.calls t ≡ Some (call.Unmap phase)
     → UnmapRow (pool_of s) t killed grant phase turn new → Inv s.geometry (after call.Unmap s t turn new)
 unmap_row s t killed grant (unmap.Start p) turn new h l e row =
-    by_test (is_base (s.areas t) p.base) row
+    by_test (is_base (s.mappings t) p.base) row
     (λ there r. so call.Unmap s t _ turn _ new r
     (stays s.geometry s t _ (Some (call.Unmap (unmap.Clear (record { base = p.base })))) h l e refl tt
     (record { slot = tt; lock = tt; facts = record { base = there } })))
@@ -32,8 +32,8 @@ unmap_row s t killed grant (unmap.Clear p) turn new h l e row =
     so call.Unmap s t _ turn _ new row
     (stays s.geometry (record s {
       pool = record s.pool {
-        table = put s.table t
-            (without_mapping (s.areas t) (s.table t) p.base);
+        entries = put s.entries t
+            (without_mapping (s.mappings t) (s.entries t) p.base);
       };
     }) t _
     (Some (call.Unmap (unmap.Drop (record { base = p.base })))) (empties s.geometry s t p.base h) l e refl tt
@@ -51,18 +51,18 @@ pub exit_row : (s : State) (t : ℕ) (killed grant : Bool) (phase : ExitPhase) (
     → Inv s.geometry s → t < s.geometry.tasks + 1 → s.calls t ≡ Some (call.Exit phase)
     → ExitRow (pool_of s) t killed grant phase turn new → Inv s.geometry (after call.Exit s t turn new)
 exit_row s t killed grant exit.Start turn new h l e row =
-    by_option (first_base (s.areas t)) row
+    by_option (first_base (s.mappings t)) row
     (λ none r. so call.Exit s t _ turn _ new r
     (stays s.geometry s t _ (Some (call.Exit exit.Leave)) h l e refl tt (record { slot = tt; lock = tt; facts = tt })))
     (λ base some r. so call.Exit s t _ turn _ new r
     (stays s.geometry s t _ (Some (call.Exit (exit.Clear (record { base = base })))) h l e refl tt
-    (record { slot = tt; lock = tt; facts = record { base = first_is_base (s.areas t) base some } })))
+    (record { slot = tt; lock = tt; facts = record { base = first_is_base (s.mappings t) base some } })))
 exit_row s t killed grant (exit.Clear p) turn new h l e row =
     so call.Exit s t _ turn _ new row
     (stays s.geometry (record s {
       pool = record s.pool {
-        table = put s.table t
-            (without_mapping (s.areas t) (s.table t) p.base);
+        entries = put s.entries t
+            (without_mapping (s.mappings t) (s.entries t) p.base);
       };
     }) t _
     (Some (call.Exit (exit.Drop (record { base = p.base })))) (empties s.geometry s t p.base h) l e refl tt
@@ -73,7 +73,7 @@ exit_row s t killed grant (exit.Clear p) turn new h l e row =
     }))
 exit_row s t killed grant (exit.Drop p) turn new h l e row =
     let y = stands_at s t _ h e in
-    by_option (first_base (without (s.areas t) p.base)) row
+    by_option (first_base (without (s.mappings t) p.base)) row
     (λ none r. so call.Exit s t _ turn _ new r
     (drops s.geometry s t _ (Some (call.Exit exit.Leave)) p.base h l e refl y.facts.empty tt
     (record { slot = tt; lock = tt; facts = tt })))
@@ -84,7 +84,7 @@ exit_row s t killed grant (exit.Drop p) turn new h l e row =
       lock = tt;
       facts = record {
         base = ap (λ (m : List Mapping). is_base m base)
-            (put_same s.areas t (without (s.areas t) p.base)) ∙ first_is_base (without (s.areas t) p.base) base some;
+            (put_same s.mappings t (without (s.mappings t) p.base)) ∙ first_is_base (without (s.mappings t) p.base) base some;
       };
     })))
 exit_row s t killed grant exit.Leave turn new h l e row =

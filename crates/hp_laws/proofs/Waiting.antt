@@ -204,7 +204,7 @@ moved_tells s t grant p n reached row = step_cases s t grant (outcome.Moved p) n
 
 -- the steps that are left to task t's call
 abbrev left : ℕ → ℕ → State → ℕ
-left t top s = steps_left s.geometry (length (s.areas t)) top (s.calls t)
+left t top s = steps_left s.geometry (length (s.mappings t)) top (s.calls t)
 
 bit_same : (t : ℕ) → bit (t == t) ≡ 1
 bit_same t = ap bit (same t)
@@ -250,11 +250,11 @@ left_after : (s : State) (t u top : ℕ) (grant : Bool) (c : Call) (o : Outcome)
     → Always s → is_dead (s.life u) ≡ false → s.calls u ≡ Some c
     → CallRow (pool_of s) u (is_killed (s.life u)) grant c o pool next
     → n ≡ record (with_pool s pool) { life = lives_after s.life u c next; calls = put s.calls u next }
-    → left t top n ≡ steps_left s.geometry (length (pool.areas t)) top (put s.calls u next t)
+    → left t top n ≡ steps_left s.geometry (length (pool.mappings t)) top (put s.calls u next t)
 left_after s t u top grant c o pool next n h lives e row d =
     let is = h.lives.there u lives in
     let k = call_keeps s u (is_killed (s.life u)) grant c o pool next h.inv is.0 (let a = is.1 in omega arith) e row in
-    ap (left t top) d ∙ ap (λ (m : Geometry). steps_left m (length (pool.areas t)) top (put s.calls u next t)) k.geometry
+    ap (left t top) d ∙ ap (λ (m : Geometry). steps_left m (length (pool.mappings t)) top (put s.calls u next t)) k.geometry
 
 row_counts : (s : State) (t top : ℕ) (event : Event) (o : Outcome) (n : State) → Always s → is_begun t event o ≡ 0
     → ((grant : Bool) → event ≡ Step t grant → IfSome (sizes (s.calls t)) (λ f. IsTop s f top)) → Row s event o n
@@ -265,7 +265,7 @@ row_counts s t top (Begin u p) o n h quiet is_top row = begin_cases s u p o n (C
       | inl q ↦ (let a : is_begun t (Begin u p) o ≡ 1 = ap (is_begun t (Begin u p)) e
           ∙ (ap (λ (m : ℕ). bit (m == t)) q ∙ bit_same t) in absurd (omega arith))
       | inr q ↦ (let b : left t top n ≡ left t top s = ap (left t top) d
-          ∙ ap (steps_left s.geometry (length (s.areas t)) top)
+          ∙ ap (steps_left s.geometry (length (s.mappings t)) top)
           (put_other s.calls u (Some (first p)) t (λ z. q (sym z))) in omega arith)
     ])
 row_counts s t top (Kill u) o n h quiet is_top row = kill_cases s u o n (Counts t top s (Kill u) o n) row
@@ -283,26 +283,26 @@ row_counts s t top (Step u grant) o n h quiet is_top row = step_cases s u grant 
             omega arith)
         | inr q ↦ (let a : is_own t (Step u grant) o ≡ 0 = none_own t u grant o q in
             let x = left_after s t u top grant c o pool next n h lives e r d in
-            let z : steps_left s.geometry (length (pool.areas t)) top (put s.calls u next t) ≡ left t top s
+            let z : steps_left s.geometry (length (pool.mappings t)) top (put s.calls u next t) ≡ left t top s
             =
             ap (λ (m : List Mapping). steps_left s.geometry (length m) top (put s.calls u next t))
-            (w.areas t (λ z. q (sym z)))
-            ∙ ap (steps_left s.geometry (length (s.areas t)) top) (put_other s.calls u next t (λ z. q (sym z))) in
+            (w.mappings t (λ z. q (sym z)))
+            ∙ ap (steps_left s.geometry (length (s.mappings t)) top) (put_other s.calls u next t (λ z. q (sym z))) in
             omega arith)
       ]
     ])
   where
     mine : (c : Call) (pool : Pool) (next : Option Call) → s.calls u ≡ Some c → Gone s u top c o pool next
-        → left u top n ≡ steps_left s.geometry (length (pool.areas u)) top (put s.calls u next u)
+        → left u top n ≡ steps_left s.geometry (length (pool.mappings u)) top (put s.calls u next u)
         → (u ≡ t → IfSome (sizes (s.calls t)) (λ f. IsTop s f top)) → u ≡ t → left u top n + 1 ≤ left u top s
     mine c pool next e w after tops q =
         let there : IfSome (sizes (Some c)) (λ f. IsTop s f top) =
         subst (λ (m : Option Call). IfSome (sizes m) (λ f. IsTop s f top)) (ap s.calls (sym q) ∙ e) (tops q) in
         let near = w.nearer there in
-        let a : steps_left s.geometry (length (pool.areas u)) top (put s.calls u next u) ≡ steps_left s.geometry
-        (length (pool.areas u)) top next = ap (steps_left s.geometry (length (pool.areas u)) top) (put_same s.calls u next) in
-        let b : left u top s ≡ steps_left s.geometry (length (s.areas u)) top (Some c) =
-        ap (steps_left s.geometry (length (s.areas u)) top) e in
+        let a : steps_left s.geometry (length (pool.mappings u)) top (put s.calls u next u) ≡ steps_left s.geometry
+        (length (pool.mappings u)) top next = ap (steps_left s.geometry (length (pool.mappings u)) top) (put_same s.calls u next) in
+        let b : left u top s ≡ steps_left s.geometry (length (s.mappings u)) top (Some c) =
+        ap (steps_left s.geometry (length (s.mappings u)) top) e in
         omega arith
 
 -- the top is that of the file whose size the call sets
@@ -349,23 +349,23 @@ left_first g op.Exit m top = refl
 
 -- a call that has begun has at most so many steps left
 begun_left : (s : State) (t top : ℕ) (p : Op) (o : Outcome) (n : State) → o ≡ outcome.Begun → Row s (Begin t p) o n
-    → left t top n ≡ most_steps s.geometry p (length (s.areas t)) top
-begun_left s t top p o n begun row = begin_cases s t p o n (left t top n ≡ most_steps s.geometry p (length (s.areas t)) top) row
+    → left t top n ≡ most_steps s.geometry p (length (s.mappings t)) top
+begun_left s t top p o n begun row = begin_cases s t p o n (left t top n ≡ most_steps s.geometry p (length (s.mappings t)) top) row
     (λ why e d. (let z : outcome.Begun ≡ outcome.Refused why = sym begun ∙ e in absurd (cc)))
-    (λ lives none may e d. let begins = ap (steps_left s.geometry (length (s.areas t)) top) (put_same s.calls t (Some (first p))) in
-    ap (left t top) d ∙ (begins ∙ left_first s.geometry p (length (s.areas t)) top))
+    (λ lives none may e d. let begins = ap (steps_left s.geometry (length (s.mappings t)) top) (put_same s.calls t (Some (first p))) in
+    ap (left t top) d ∙ (begins ∙ left_first s.geometry p (length (s.mappings t)) top))
 
 -- of a call from its begin on the steps that moved or ended it are few
 pub own_steps_few : (g : Geometry) (frames : ℕ) (later : List Moment) (begins : Moment) (past : List Moment) (s : State) (t top : ℕ)
     (p : Op)
     → History g frames (later ++ (begins ∷ past)) s → begins.event ≡ Begin t p → begins.outcome ≡ outcome.Begun
     → calls_begun t (in_order later) ≡ 0 → SweepsFrom t top later
-    → own_steps t (in_order later) ≤ most_steps begins.before.geometry p (length (begins.before.areas t)) top
+    → own_steps t (in_order later) ≤ most_steps begins.before.geometry p (length (begins.before.mappings t)) top
 own_steps_few g frames later begins past s t top p h is begun quiet tops =
     let k = later_counts g frames t top (begins ∷ past) later s h quiet tops in
     let a : own_steps t (in_order later) + left t top s ≤ left t top k.0 = k.2 in
     let b : left t top begins.after ≡ left t top k.0 = ap (left t top) k.1.0 in
     let row = subst (λ (m : Event). Row begins.before m begins.outcome begins.after) is k.1.1 in
-    let c : left t top begins.after ≡ most_steps begins.before.geometry p (length (begins.before.areas t)) top =
+    let c : left t top begins.after ≡ most_steps begins.before.geometry p (length (begins.before.mappings t)) top =
     begun_left begins.before t top p begins.outcome begins.after begun row in
     omega arith

@@ -28,7 +28,7 @@ abbrev pub FewOwnSteps : State → Type 0
 FewOwnSteps s = (g : Geometry) (frames : ℕ) (later : List Moment) (begins : Moment) (past : List Moment) (t top : ℕ) (op : Op)
     → History g frames (later ++ (begins ∷ past)) s → begins.event ≡ Begin t op → begins.outcome ≡ Begun
     → calls_begun t (in_order later) ≡ 0 → SweepsFrom t top later
-    → own_steps t (in_order later) ≤ most_steps begins.before.geometry op (length (begins.before.areas t)) top
+    → own_steps t (in_order later) ≤ most_steps begins.before.geometry op (length (begins.before.mappings t)) top
 
 -- what a map has promised is reserved and below the size, until a punch or a truncation takes it back
 abbrev pub KeepsPromises : State → Type 0
@@ -53,7 +53,7 @@ PromisedIsServed s =
     (op : Op) (look : Look) (f i : ℕ) (answer : Answer)
     → History g frames (ends ∷ (later ++ (begins ∷ past))) s → calls_begun t (in_order later) ≡ 0
     → begins.event ≡ Begin t op → begins.outcome ≡ Begun → first op ≡ call.Touch (touch.Look look)
-    → find (begins.before.areas t) look.vpn ≡ Some (f, i) → begins.before.life t ≡ Alive → IsUndisturbed t f i later (begins ∷ past)
+    → find (begins.before.mappings t) look.vpn ≡ Some (f, i) → begins.before.life t ≡ Alive → IsUndisturbed t f i later (begins ∷ past)
     → ends.event ≡ Step t true → ends.outcome ≡ Ended answer → IsServed answer
 
 -- a load tells the last word of its page at the step that reads it, and no other word is the last one

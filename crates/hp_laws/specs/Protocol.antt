@@ -112,7 +112,7 @@ truncation_of (truncate.Leave p) = p.truncation
 -- nothing of the file at or above the size is translated, cached or reserved
 abbrev pub IsCut : State → (file new : ℕ) → Type 0
 IsCut s f new = record {
-  translated : (t v x j : ℕ) → s.table t v ≡ Some x → find (s.areas t) v ≡ Some (f, j) → j < new;
+  translated : (t v x j : ℕ) → s.entries t v ≡ Some x → find (s.mappings t) v ≡ Some (f, j) → j < new;
   cached : (j : ℕ) → new ≤ j → s.pages f j ≡ None;
   reserved : (j : ℕ) → new ≤ j → s.reserved f j ≡ false;
 }

@@ -17,7 +17,7 @@ abbrev pub StoredAtLook : (file index : ℕ) → Moment → (word : ℕ) → Typ
 StoredAtLook f i m w =
     (t : ℕ) × (grant : Bool) × (p : Look) × (m.event ≡ Step t grant)
     × (m.before.calls t ≡ Some (call.Touch (touch.Look p))) × (p.access ≡ Store w)
-    × (find (m.before.areas t) p.vpn ≡ Some (f, i)) × (m.outcome ≡ outcome.Ended answer.Done)
+    × (find (m.before.mappings t) p.vpn ≡ Some (f, i)) × (m.outcome ≡ outcome.Ended answer.Done)
 
 -- or found its page, translated it and wrote
 abbrev pub StoredAtFound : (file index : ℕ) → Moment → (word : ℕ) → Type 0
@@ -48,7 +48,7 @@ abbrev pub ReadAtLook : (file index : ℕ) → Moment → (word : ℕ) → Type 
 ReadAtLook f i m w =
     (t : ℕ) × (grant : Bool) × (p : Look) × (m.event ≡ Step t grant)
     × (m.before.calls t ≡ Some (call.Touch (touch.Look p))) × (p.access ≡ Load)
-    × (find (m.before.areas t) p.vpn ≡ Some (f, i)) × (m.outcome ≡ outcome.Ended (answer.Word w))
+    × (find (m.before.mappings t) p.vpn ≡ Some (f, i)) × (m.outcome ≡ outcome.Ended (answer.Word w))
 
 abbrev pub ReadAtFound : (file index : ℕ) → Moment → (word : ℕ) → Type 0
 ReadAtFound f i m w =

@@ -219,9 +219,9 @@ opening g frames = record {
     spare = λ _. 0;
     reserved = λ _ _. false;
     pages = λ _ _. None;
-    prepared = λ _. false;
-    areas = λ _. [];
-    table = λ _ _. None;
+    ready = λ _. false;
+    mappings = λ _. [];
+    entries = λ _ _. None;
   };
   life = λ t. if nat_le 1 t && nat_le t g.tasks then life.Alive else life.Dead;
   calls = λ _. None;

@@ -14,7 +14,7 @@ use Rattle.hp_machine.specs.declared.call.Turn.{Turn}
 -- a mapping is there: to clear, with the least base. Else to leave
 abbrev pub ExitStartRow : Pool → (task : ℕ) → Turn ExitPhase → Pool → Type 0
 ExitStartRow s t turn new =
-    MatchOption (first_base (s.areas t))
+    MatchOption (first_base (s.mappings t))
     (Goes at.Leave s turn new)
     (λ base. Goes (at.Clear (record { base = base })) s turn new)
 
@@ -25,8 +25,8 @@ ExitClearRow s t p turn new = Goes (at.Drop (record { base = p.base })) (cleared
 -- the mapping goes; another is there: to clear, with the least base. Else to leave
 abbrev pub ExitDropRow : Pool → (task : ℕ) → Drop → Turn ExitPhase → Pool → Type 0
 ExitDropRow s t p turn new =
-    let after = record s { areas = put s.areas t (without (s.areas t) p.base) } in
-    MatchOption (first_base (without (s.areas t) p.base))
+    let after = record s { mappings = put s.mappings t (without (s.mappings t) p.base) } in
+    MatchOption (first_base (without (s.mappings t) p.base))
     (Goes at.Leave after turn new)
     (λ base. Goes (at.Clear (record { base = base })) after turn new)
 

@@ -10,7 +10,9 @@ use Rattle.hp_machine.specs.Views.{less, more, hand}
 
 -- each table entry lies in a mapping of its task, and the file's page at its index is the entry's frame
 abbrev pub Agrees : State → Type 0
-Agrees s = (t v x : ℕ) → s.table t v ≡ Some x → (place : ℕ × ℕ) × (find (s.areas t) v ≡ Some place) × (s.pages place.0 place.1 ≡ Some x)
+Agrees s =
+    (t v x : ℕ) → s.entries t v ≡ Some x
+    → (place : ℕ × ℕ) × (find (s.mappings t) v ≡ Some place) × (s.pages place.0 place.1 ≡ Some x)
 
 -- where a frame can be
 pub data Place : Type 0 where
@@ -30,7 +32,7 @@ pub record OnePlace (frames : ℕ) (frame : ℕ → FrameState) (hands : ℕ →
 
 -- an index of a file with no holder of its lock that some task translates is below the size
 abbrev pub IsBelow : State → Type 0
-IsBelow s = (t v x f i : ℕ) → s.table t v ≡ Some x → find (s.areas t) v ≡ Some (f, i) → s.locks f ≡ None → i < s.size f
+IsBelow s = (t v x f i : ℕ) → s.entries t v ≡ Some x → find (s.mappings t) v ≡ Some (f, i) → s.locks f ≡ None → i < s.size f
 
 -- how many indices of all files are reserved and have no page
 abbrev pub vacant_in : State → ℕ

@@ -28,13 +28,13 @@ MapStartRow s t killed p turn new =
 -- no base: to leave (NoAddress). Denied: to leave (NoMemory). Else to missing, or to enter where nothing is reserved
 abbrev pub MapRoomRow : Pool → (task : ℕ) → (grant : Bool) → Room → Turn MapPhase → Pool → Type 0
 MapRoomRow s t grant p turn new =
-    (found : Option ℕ) × IsRoom s.geometry.space (s.areas t) p.map.len found
+    (found : Option ℕ) × IsRoom s.geometry.space (s.mappings t) p.map.len found
     × MatchOption found
     (Goes (at.Leave (record { map = p.map; answer = answer.NoAddress })) s turn new)
     (λ base. MatchBool grant
     (MatchBool p.map.reserve
-    (Goes (at.Missing (record { map = p.map; base = base })) (record s { prepared = put s.prepared t true }) turn new)
-    (Goes (at.Enter (record { map = p.map; base = base })) (record s { prepared = put s.prepared t true }) turn new))
+    (Goes (at.Missing (record { map = p.map; base = base })) (record s { ready = put s.ready t true }) turn new)
+    (Goes (at.Enter (record { map = p.map; base = base })) (record s { ready = put s.ready t true }) turn new))
     (Goes (at.Leave (record { map = p.map; answer = answer.NoMemory })) s turn new))
 
 -- change of the whole range denied: to leave (NoMemory). Else to changed
@@ -64,22 +64,24 @@ abbrev pub MapAccountedRow : Pool → Accounted → Turn MapPhase → Pool → T
 MapAccountedRow s p turn new =
     let added = missing (s.reserved p.map.file) p.pending.from p.pending.to in
     MatchBool (nat_lt added p.pending.missing)
-    (Goes (at.Settle (record { map = p.map; base = p.base; surplus = p.pending.missing - added }))
+    (Goes (at.Settle (record { map = p.map; base = p.base; excess = p.pending.missing - added }))
     (committed s p.map.file p.pending) turn new)
     (Goes (at.Enter (record { map = p.map; base = p.base })) (committed s p.map.file p.pending) turn new)
 
 -- resv minus what was accounted for and not added, to enter
 abbrev pub MapSettleRow : Pool → Settle → Turn MapPhase → Pool → Type 0
 MapSettleRow s p turn new =
-    (p.surplus ≤ s.resv) × Goes (at.Enter (record { map = p.map; base = p.base })) (record s { resv = s.resv - p.surplus }) turn new
+    (p.excess ≤ s.resv) × Goes (at.Enter (record { map = p.map; base = p.base })) (record s { resv = s.resv - p.excess }) turn new
 
 -- the mapping is entered, size becomes the larger of size and from + len, to leave (Mapped)
 abbrev pub MapEnterRow : Pool → (task : ℕ) → Enter → Turn MapPhase → Pool → Type 0
 MapEnterRow s t p turn new =
     Goes (at.Leave (record { map = p.map; answer = answer.Mapped p.base }))
     (record s {
-      areas = put s.areas t (entered (s.areas t) (record { base = p.base; file = p.map.file; from = p.map.from; len = p.map.len }));
-      prepared = put s.prepared t false;
+      mappings =
+          put s.mappings t (entered (s.mappings t)
+          (record { base = p.base; file = p.map.file; from = p.map.from; len = p.map.len }));
+      ready = put s.ready t false;
       size = put s.size p.map.file (max (s.size p.map.file) (p.map.from + p.map.len));
     }) turn new
 

@@ -131,7 +131,7 @@ frame_after (Store new) frame x = put frame x (Placed new)
 -- (Linux: `hugetlb_vmdelete_list`)
 abbrev pub UnmapIndexRow : {P : Type 0} → Pool → (task file index : ℕ) → (more last : P) → Turn P → Pool → Type 0
 UnmapIndexRow s k f i more last turn new =
-    let after = record s { table = put s.table k (without_index (s.areas k) (s.table k) f i) } in
+    let after = record s { entries = put s.entries k (without_index (s.mappings k) (s.entries k) f i) } in
     MatchBool (nat_lt k s.geometry.tasks)
     (Goes more after turn new)
     (Goes last after turn new)
@@ -143,4 +143,4 @@ EvictRow s f i next turn new =
 
 -- the task's entries of the mapping are cleared (Linux: `unmap_vmas`)
 abbrev pub cleared : Pool → (task base : ℕ) → Pool
-cleared s t base = record s { table = put s.table t (without_mapping (s.areas t) (s.table t) base) }
+cleared s t base = record s { entries = put s.entries t (without_mapping (s.mappings t) (s.entries t) base) }

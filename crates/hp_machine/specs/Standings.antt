@@ -128,7 +128,7 @@ standing (call.Map (map.Missing p)) = in_map p.map
 standing (call.Map (map.Changed p)) = record (in_map p.map) { change = Counts p.map.file p.pending }
 standing (call.Map (map.Abort p)) = record (in_map p.map) { change = GivesUp p.map.file }
 standing (call.Map (map.Accounted p)) = record (in_map p.map) { change = Counts p.map.file p.pending; more = p.pending.missing }
-standing (call.Map (map.Settle p)) = record (in_map p.map) { more = p.surplus }
+standing (call.Map (map.Settle p)) = record (in_map p.map) { more = p.excess }
 standing (call.Map (map.Enter p)) = in_map p.map
 standing (call.Map (map.Leave p)) = in_map p.map
 standing (call.Alloc (alloc.Start p)) = record apart { wants = Lock p.allocation.file }
@@ -172,7 +172,7 @@ standing (call.Truncate (truncate.Unslot p)) = record (in_sweep_at p.truncation 
 standing (call.Truncate (truncate.Tail p)) =
     record (in_truncate p.truncation) { less = p.evicted; sweep = Past p.truncation.file p.truncation.new }
 standing (call.Truncate (truncate.Settle p)) =
-    record (in_truncate p.truncation) { more = p.surplus; sweep = Gone p.truncation.file p.truncation.new }
+    record (in_truncate p.truncation) { more = p.excess; sweep = Gone p.truncation.file p.truncation.new }
 standing (call.Truncate (truncate.Leave p)) = record (in_truncate p.truncation) { sweep = Gone p.truncation.file p.truncation.new }
 standing (call.Unmap (unmap.Start p)) = apart
 standing (call.Unmap (unmap.Clear p)) = apart

@@ -18,7 +18,7 @@ pub record Geometry : Type 0 where
 
 -- What all calls share. Per frame: where it is; `resv` is the count of reserved pages. Per slot and per
 -- file lock: the task that holds it. Per file: size, open changes, spare descriptors, the set of reserved
--- indices, and the frame of each page. Per task: whether room for one mapping is prepared, its mappings
+-- indices, and the frame of each page. Per task: whether room for one mapping is ready, its mappings
 -- and its translations.
 pub record Pool : Type 0 where
   pub geometry : Geometry
@@ -32,9 +32,9 @@ pub record Pool : Type 0 where
   pub spare : ℕ → ℕ
   pub reserved : ℕ → ℕ → Bool
   pub pages : ℕ → ℕ → Option ℕ
-  pub prepared : ℕ → Bool
-  pub areas : ℕ → List Mapping
-  pub table : ℕ → ℕ → Option ℕ
+  pub ready : ℕ → Bool
+  pub mappings : ℕ → List Mapping
+  pub entries : ℕ → ℕ → Option ℕ
 
 -- and with it how each task lives, and its call in flight. What the pool has is read off a state too: `s.size`
 pub record State : Type 0 where

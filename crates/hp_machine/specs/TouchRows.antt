@@ -27,9 +27,9 @@ use Rattle.hp_machine.specs.declared.call.Turn.{Turn}
 -- vpn in no mapping: Segv. Translated: the word is read or written. Else to want
 abbrev pub TouchLookRow : Pool → (task : ℕ) → Look → Turn TouchPhase → Pool → Type 0
 TouchLookRow s t p turn new =
-    MatchOption (find (s.areas t) p.vpn)
+    MatchOption (find (s.mappings t) p.vpn)
     (Ends answer.Segv s turn new)
-    (λ place. MatchOption (s.table t p.vpn)
+    (λ place. MatchOption (s.entries t p.vpn)
     (Goes (at.Want (record { touch = record { vpn = p.vpn; access = p.access; file = place.0; index = place.1 } })) s turn new)
     (λ x. (word : ℕ) × (s.frame x ≡ Placed word)
     × Ends (answer_of p.access word) (record s { frame = frame_after p.access s.frame x }) turn new))
@@ -101,7 +101,7 @@ TouchFoundRow s t grant p turn new =
     (MatchBool grant
     ((x : ℕ) × (word : ℕ) × (s.pages p.touch.file p.touch.index ≡ Some x) × (s.frame x ≡ Placed word)
     × Goes (at.Leave (record { touch = p.touch; answer = answer_of p.touch.access word }))
-    (record s { table = put2 s.table t p.touch.vpn (Some x); frame = frame_after p.touch.access s.frame x }) turn new)
+    (record s { entries = put2 s.entries t p.touch.vpn (Some x); frame = frame_after p.touch.access s.frame x }) turn new)
     (Goes (at.Leave (record { touch = p.touch; answer = answer.NoMemory })) s turn new))
 
 -- the slot is left

@@ -85,14 +85,14 @@ TruncateTailRow s p turn new =
     let f = p.truncation.file in
     Goes (at.Settle (record {
       truncation = p.truncation;
-      surplus = count_within (s.reserved f) p.truncation.new s.geometry.limit - p.evicted;
+      excess = count_within (s.reserved f) p.truncation.new s.geometry.limit - p.evicted;
     }))
     (record s { reserved = put s.reserved f (cut_tail (s.reserved f) p.truncation.new) }) turn new
 
 -- resv minus the indices that went and had no page, to leave
 abbrev pub TruncateSettleRow : Pool → Settle → Turn TruncatePhase → Pool → Type 0
 TruncateSettleRow s p turn new =
-    (p.surplus ≤ s.resv) × Goes (at.Leave (record { truncation = p.truncation })) (record s { resv = s.resv - p.surplus }) turn new
+    (p.excess ≤ s.resv) × Goes (at.Leave (record { truncation = p.truncation })) (record s { resv = s.resv - p.excess }) turn new
 
 -- the file lock is left: Done
 abbrev pub TruncateLeaveRow : Pool → Leave → Turn TruncatePhase → Pool → Type 0

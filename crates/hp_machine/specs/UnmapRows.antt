@@ -15,7 +15,7 @@ use Rattle.hp_machine.specs.declared.call.Turn.{Turn}
 -- no mapping with that base: NotMapped. Else to clear
 abbrev pub UnmapStartRow : Pool → (task : ℕ) → Start → Turn UnmapPhase → Pool → Type 0
 UnmapStartRow s t p turn new =
-    MatchBool (is_base (s.areas t) p.base)
+    MatchBool (is_base (s.mappings t) p.base)
     (Goes (at.Clear (record { base = p.base })) s turn new)
     (Ends answer.NotMapped s turn new)
 
@@ -25,7 +25,7 @@ UnmapClearRow s t p turn new = Goes (at.Drop (record { base = p.base })) (cleare
 
 -- the mapping goes: Done
 abbrev pub UnmapDropRow : Pool → (task : ℕ) → Drop → Turn UnmapPhase → Pool → Type 0
-UnmapDropRow s t p turn new = Ends answer.Done (record s { areas = put s.areas t (without (s.areas t) p.base) }) turn new
+UnmapDropRow s t p turn new = Ends answer.Done (record s { mappings = put s.mappings t (without (s.mappings t) p.base) }) turn new
 
 -- what one step of an unmap may do
 abbrev pub UnmapRow : Pool → (task : ℕ) → (killed grant : Bool) → UnmapPhase → Turn UnmapPhase → Pool → Type 0

@@ -25,7 +25,7 @@ touch_wants s (touch.Found p) = p.touch.index < s.size p.touch.file
 touch_wants s phase = ⊥
 
 abbrev pub map_wants : Pool → (task : ℕ) → MapPhase → Type 0
-map_wants s t (map.Room p) = (base : ℕ) × IsRoom s.geometry.space (s.areas t) p.map.len (Some base)
+map_wants s t (map.Room p) = (base : ℕ) × IsRoom s.geometry.space (s.mappings t) p.map.len (Some base)
 map_wants s t (map.Missing p) = ChangeWants s p.map.file
 map_wants s t phase = ⊥
 

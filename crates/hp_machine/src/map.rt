@@ -55,12 +55,12 @@ pub struct Accounted {
     pub pending: Pending,
 }
 
-/// Others reserved `surplus` of the indices meanwhile: to give those reservations back.
+/// Others reserved `excess` of the indices meanwhile: to give those reservations back.
 #[derive(Debug, Drop)]
 pub struct Settle {
     pub map: MapRequest,
     pub base: Vpn,
-    pub surplus: u32,
+    pub excess: u32,
 }
 
 /// To enter the mapping.

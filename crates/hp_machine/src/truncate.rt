@@ -78,11 +78,11 @@ pub struct Tail {
     pub evicted: u32,
 }
 
-/// `surplus` of the indices that went had no page: to give their reservations back.
+/// `excess` of the indices that went had no page: to give their reservations back.
 #[derive(Debug, Drop)]
 pub struct Settle {
     pub truncation: Truncation,
-    pub surplus: u32,
+    pub excess: u32,
 }
 
 /// To leave the file's lock.

@@ -53,17 +53,17 @@ gone_none : (f : ℕ) (gone : ℕ → Bool) → ((j : ℕ) → gone j ≡ false)
 gone_none f gone e None = refl
 gone_none f gone e (Some place) = ap (λ (c : Bool). (place.0 == f) && c) (e place.1) ∙ and_false (place.0 == f)
 
-pub entries_none : (areas : ℕ → List Mapping) (table : ℕ → ℕ → Option ℕ) (f : ℕ) (gone : ℕ → Bool) → ((j : ℕ) → gone j ≡ false)
-    → without_entries areas table f gone ≡ table
+pub entries_none : (mappings : ℕ → List Mapping) (table : ℕ → ℕ → Option ℕ) (f : ℕ) (gone : ℕ → Bool) → ((j : ℕ) → gone j ≡ false)
+    → without_entries mappings table f gone ≡ table
 unfolding without_entries
-entries_none areas table f gone e =
-    fun_ext (λ u. fun_ext (λ v. ap (λ (c : Bool). if c then None else table u v) (gone_none f gone e (find (areas u) v))))
+entries_none mappings table f gone e =
+    fun_ext (λ u. fun_ext (λ v. ap (λ (c : Bool). if c then None else table u v) (gone_none f gone e (find (mappings u) v))))
 
 -- an entry that is left was there
-pub entry_kept : (areas : ℕ → List Mapping) (table : ℕ → ℕ → Option ℕ) (f : ℕ) (gone : ℕ → Bool) (u v x : ℕ)
-    → without_entries areas table f gone u v ≡ Some x → table u v ≡ Some x
+pub entry_kept : (mappings : ℕ → List Mapping) (table : ℕ → ℕ → Option ℕ) (f : ℕ) (gone : ℕ → Bool) (u v x : ℕ)
+    → without_entries mappings table f gone u v ≡ Some x → table u v ≡ Some x
 unfolding without_entries
-entry_kept areas table f gone u v x e = here (is_gone f gone (find (areas u) v)) e
+entry_kept mappings table f gone u v x e = here (is_gone f gone (find (mappings u) v)) e
   where
     here : (c : Bool) → ◌≡◌ {A = Option ℕ} (if c then None else table u v) (Some x) → table u v ≡ Some x
     here true e = absurd (cc)
@@ -123,11 +123,11 @@ gone_more f i gone more h (Some place) entry = elim (same_or_other place.1 i) [
         ap (λ (m : Bool). if m then None else (if c then None else entry)) e ∙ ap (λ (m : Bool). if m then None else entry) (sym k)
     there false b c d e k = refl
 
-pub entries_more : (areas : ℕ → List Mapping) (table : ℕ → ℕ → Option ℕ) (f i : ℕ) (gone more : ℕ → Bool) → Adds gone i more
-    → ◌≡◌ {A = ℕ → ℕ → Option ℕ} (λ u. without_index (areas u) (without_entries areas table f gone u) f i)
-    (without_entries areas table f more)
+pub entries_more : (mappings : ℕ → List Mapping) (table : ℕ → ℕ → Option ℕ) (f i : ℕ) (gone more : ℕ → Bool) → Adds gone i more
+    → ◌≡◌ {A = ℕ → ℕ → Option ℕ} (λ u. without_index (mappings u) (without_entries mappings table f gone u) f i)
+    (without_entries mappings table f more)
 unfolding without_entries without_index
-entries_more areas table f i gone more h = fun_ext (λ u. fun_ext (λ v. gone_more f i gone more h (find (areas u) v) (table u v)))
+entries_more mappings table f i gone more h = fun_ext (λ u. fun_ext (λ v. gone_more f i gone more h (find (mappings u) v) (table u v)))
 
 pub freed_more : (pages : ℕ → Option ℕ) (before frame : ℕ → FrameState) (i x : ℕ) (gone more : ℕ → Bool) → Adds gone i more
     → pages i ≡ Some x → Freed pages before gone frame → Freed pages before more (put frame x Free)
@@ -150,100 +150,102 @@ freed_more pages before frame i x gone more h page k = record {
 
 -- the entries of the index of the tasks below k are gone
 cleared_below : (ℕ → List Mapping) → (ℕ → ℕ → Option ℕ) → (f i k : ℕ) → ℕ → ℕ → Option ℕ
-cleared_below areas table f i k u = if nat_lt u k then without_index (areas u) (table u) f i else table u
+cleared_below mappings table f i k u = if nat_lt u k then without_index (mappings u) (table u) f i else table u
 
 -- a task without entries
-no_entries : (areas : List Mapping) (entries : ℕ → Option ℕ) (f i : ℕ) → ((v x : ℕ) → entries v ≡ Some x → ⊥)
-    → without_index areas entries f i ≡ entries
+no_entries : (mappings : List Mapping) (entries : ℕ → Option ℕ) (f i : ℕ) → ((v x : ℕ) → entries v ≡ Some x → ⊥)
+    → without_index mappings entries f i ≡ entries
 unfolding without_index
-no_entries areas entries f i none = fun_ext (λ v. here v (is_there (find areas v) f i) (entries v) refl)
+no_entries mappings entries f i none = fun_ext (λ v. here v (is_there (find mappings v) f i) (entries v) refl)
   where
     here : (v : ℕ) (c : Bool) (o : Option ℕ) → entries v ≡ o → ◌≡◌ {A = Option ℕ} (if c then None else entries v) (entries v)
     here v true None e = sym e
     here v true (Some x) e = absurd (none v x e)
     here v false o e = refl
 
-clears_one : (areas : ℕ → List Mapping) (table : ℕ → ℕ → Option ℕ) (f i k : ℕ)
-    → put (cleared_below areas table f i k) k
-    (without_index (areas k) (cleared_below areas table f i k k) f i) ≡ cleared_below areas table f i (k + 1)
+clears_one : (mappings : ℕ → List Mapping) (table : ℕ → ℕ → Option ℕ) (f i k : ℕ)
+    → put (cleared_below mappings table f i k) k
+    (without_index (mappings k) (cleared_below mappings table f i k k) f i) ≡ cleared_below mappings table f i (k + 1)
 unfolding cleared_below
-clears_one areas table f i k = fun_ext each
+clears_one mappings table f i k = fun_ext each
   where
     each : (u : ℕ)
-        → put (cleared_below areas table f i k) k (without_index (areas k) (cleared_below areas table f i k k) f i)
-        u ≡ cleared_below areas table f i (k + 1) u
-    each u = elim (put_tells (cleared_below areas table f i k) k (without_index (areas k) (cleared_below areas table f i k k) f i) u) [
-      | inl a ↦ (
-          let b : nat_lt k k ≡ false = grind (arith, nat_tests) in
-          let c : nat_lt k (k + 1) ≡ true = grind (arith, nat_tests) in
-          a.1 ∙ (ap (λ (m : Bool). without_index (areas k) (if m then without_index (areas k) (table k) f i else table k) f i) b
-          ∙ (ap (λ (m : Bool). if m then without_index (areas k) (table k) f i else table k) (sym c)
-          ∙ ap (cleared_below areas table f i (k + 1)) (sym a.0))))
-      | inr a ↦ (
-          let d = a.0 in
-          let b : nat_lt u k ≡ nat_lt u (k + 1) = grind (arith, nat_tests) in
-          a.1 ∙ ap (λ (m : Bool). if m then without_index (areas u) (table u) f i else table u) b)
-    ]
+        → put (cleared_below mappings table f i k) k (without_index (mappings k) (cleared_below mappings table f i k k) f i)
+        u ≡ cleared_below mappings table f i (k + 1) u
+    each u =
+        elim (put_tells (cleared_below mappings table f i k) k
+        (without_index (mappings k) (cleared_below mappings table f i k k) f i) u) [
+          | inl a ↦ (
+              let b : nat_lt k k ≡ false = grind (arith, nat_tests) in
+              let c : nat_lt k (k + 1) ≡ true = grind (arith, nat_tests) in
+              a.1 ∙ (ap (λ (m : Bool). without_index (mappings k) (if m then without_index (mappings k) (table k) f i else table k) f i) b
+              ∙ (ap (λ (m : Bool). if m then without_index (mappings k) (table k) f i else table k) (sym c)
+              ∙ ap (cleared_below mappings table f i (k + 1)) (sym a.0))))
+          | inr a ↦ (
+              let d = a.0 in
+              let b : nat_lt u k ≡ nat_lt u (k + 1) = grind (arith, nat_tests) in
+              a.1 ∙ ap (λ (m : Bool). if m then without_index (mappings u) (table u) f i else table u) b)
+        ]
 
 -- entries are of tasks that are there
 abbrev pub Owned : (tasks : ℕ) → (ℕ → ℕ → Option ℕ) → Type 0
 Owned tasks table = (u v x : ℕ) → table u v ≡ Some x → (1 ≤ u) × (u ≤ tasks)
 
-clears_none : (tasks : ℕ) (areas : ℕ → List Mapping) (table : ℕ → ℕ → Option ℕ) (f i : ℕ) → Owned tasks table
-    → table ≡ cleared_below areas table f i 1
+clears_none : (tasks : ℕ) (mappings : ℕ → List Mapping) (table : ℕ → ℕ → Option ℕ) (f i : ℕ) → Owned tasks table
+    → table ≡ cleared_below mappings table f i 1
 unfolding cleared_below
-clears_none tasks areas table f i owned = fun_ext (λ u. each u (nat_lt u 1) refl)
+clears_none tasks mappings table f i owned = fun_ext (λ u. each u (nat_lt u 1) refl)
   where
-    each : (u : ℕ) (c : Bool) → nat_lt u 1 ≡ c → table u ≡ cleared_below areas table f i 1 u
+    each : (u : ℕ) (c : Bool) → nat_lt u 1 ≡ c → table u ≡ cleared_below mappings table f i 1 u
     each u true e =
-        sym (ap (λ (m : Bool). if m then without_index (areas u) (table u) f i else table u) e
-        ∙ no_entries (areas u) (table u) f i
+        sym (ap (λ (m : Bool). if m then without_index (mappings u) (table u) f i else table u) e
+        ∙ no_entries (mappings u) (table u) f i
         (λ v x p. (let z = (owned u v x p).0 in let l : u < 1 = grind (arith, nat_tests) in omega arith)))
-    each u false e = sym (ap (λ (m : Bool). if m then without_index (areas u) (table u) f i else table u) e)
+    each u false e = sym (ap (λ (m : Bool). if m then without_index (mappings u) (table u) f i else table u) e)
 
-clears_all : (tasks : ℕ) (areas : ℕ → List Mapping) (table : ℕ → ℕ → Option ℕ) (f i : ℕ) → Owned tasks table
-    → ◌≡◌ {A = ℕ → ℕ → Option ℕ} (cleared_below areas table f i (tasks + 1)) (λ u. without_index (areas u) (table u) f i)
+clears_all : (tasks : ℕ) (mappings : ℕ → List Mapping) (table : ℕ → ℕ → Option ℕ) (f i : ℕ) → Owned tasks table
+    → ◌≡◌ {A = ℕ → ℕ → Option ℕ} (cleared_below mappings table f i (tasks + 1)) (λ u. without_index (mappings u) (table u) f i)
 unfolding cleared_below
-clears_all tasks areas table f i owned = fun_ext (λ u. each u (nat_lt u (tasks + 1)) refl)
+clears_all tasks mappings table f i owned = fun_ext (λ u. each u (nat_lt u (tasks + 1)) refl)
   where
     each : (u : ℕ) (c : Bool) → nat_lt u (tasks + 1) ≡ c
-        → cleared_below areas table f i (tasks + 1) u ≡ without_index (areas u) (table u) f i
-    each u true e = ap (λ (m : Bool). if m then without_index (areas u) (table u) f i else table u) e
+        → cleared_below mappings table f i (tasks + 1) u ≡ without_index (mappings u) (table u) f i
+    each u true e = ap (λ (m : Bool). if m then without_index (mappings u) (table u) f i else table u) e
     each u false e =
-        ap (λ (m : Bool). if m then without_index (areas u) (table u) f i else table u) e
-        ∙ sym (no_entries (areas u) (table u) f i
+        ap (λ (m : Bool). if m then without_index (mappings u) (table u) f i else table u) e
+        ∙ sym (no_entries (mappings u) (table u) f i
         (λ v x p. (let z = (owned u v x p).1 in let l : tasks + 1 ≤ u = grind (arith, nat_tests) in omega arith)))
 
 -- the entries of one task after the other are cleared
 unmaps_from : {P : Type 0} (R : Pool → P → Turn P → Pool → Type 0) (b : Answer) (n s : Pool) (f i : ℕ) (more : ℕ → P) (last : P)
     → ((p : Pool) (k : ℕ) (turn : Turn P) (m : Pool) → R p (more k) turn m → UnmapIndexRow p k f i (more (k + 1)) last turn m)
     → (d k : ℕ) → k + d ≡ s.geometry.tasks
-    → Leads R b n (record s { table = cleared_below s.areas s.table f i k }) (more k)
-    → Leads R b n (record s { table = cleared_below s.areas s.table f i (s.geometry.tasks + 1) }) last
+    → Leads R b n (record s { entries = cleared_below s.mappings s.entries f i k }) (more k)
+    → Leads R b n (record s { entries = cleared_below s.mappings s.entries f i (s.geometry.tasks + 1) }) last
 unmaps_from R b n s f i more last rows zero k e go =
     let end : nat_lt k s.geometry.tasks ≡ false = grind (arith, nat_tests) in
     let k1 = goes_on go (λ turn m r. if_false _ _ end (rows _ k turn m r)) in
-    let one = clears_one s.areas s.table f i k in
-    let z : Leads R b n (record s { table = cleared_below s.areas s.table f i (k + 1) }) last =
-    from_pool (λ j. record s { table = one j }) k1 in
+    let one = clears_one s.mappings s.entries f i k in
+    let z : Leads R b n (record s { entries = cleared_below s.mappings s.entries f i (k + 1) }) last =
+    from_pool (λ j. record s { entries = one j }) k1 in
     let same : k ≡ s.geometry.tasks = omega arith in
-    subst (λ (m : ℕ). Leads R b n (record s { table = cleared_below s.areas s.table f i (m + 1) }) last) same z
+    subst (λ (m : ℕ). Leads R b n (record s { entries = cleared_below s.mappings s.entries f i (m + 1) }) last) same z
 unmaps_from R b n s f i more last rows (suc d) k e go =
     let on : nat_lt k s.geometry.tasks ≡ true = grind (arith, nat_tests) in
     let k1 = goes_on go (λ turn m r. if_true _ _ on (rows _ k turn m r)) in
-    let one = clears_one s.areas s.table f i k in
-    unmaps_from R b n s f i more last rows d (k + 1) (omega arith) (from_pool (λ j. record s { table = one j }) k1)
+    let one = clears_one s.mappings s.entries f i k in
+    unmaps_from R b n s f i more last rows d (k + 1) (omega arith) (from_pool (λ j. record s { entries = one j }) k1)
 
 pub unmaps : {P : Type 0} (R : Pool → P → Turn P → Pool → Type 0) (b : Answer) (n s : Pool) (f i : ℕ) (more : ℕ → P) (last : P)
     → ((p : Pool) (k : ℕ) (turn : Turn P) (m : Pool) → R p (more k) turn m → UnmapIndexRow p k f i (more (k + 1)) last turn m)
-    → 1 ≤ s.geometry.tasks → Owned s.geometry.tasks s.table
-    → Leads R b n s (more 1) → Leads R b n (record s { table = λ u. without_index (s.areas u) (s.table u) f i }) last
+    → 1 ≤ s.geometry.tasks → Owned s.geometry.tasks s.entries
+    → Leads R b n s (more 1) → Leads R b n (record s { entries = λ u. without_index (s.mappings u) (s.entries u) f i }) last
 unmaps R b n s f i more last rows some owned go =
-    let none = clears_none s.geometry.tasks s.areas s.table f i owned in
-    let all = clears_all s.geometry.tasks s.areas s.table f i owned in
+    let none = clears_none s.geometry.tasks s.mappings s.entries f i owned in
+    let all = clears_all s.geometry.tasks s.mappings s.entries f i owned in
     let d = less_one s.geometry.tasks some in
-    from_pool (λ j. record s { table = all j })
-    (unmaps_from R b n s f i more last rows d.0 1 d.1 (from_pool (λ j. record s { table = none j }) go))
+    from_pool (λ j. record s { entries = all j })
+    (unmaps_from R b n s f i more last rows d.0 1 d.1 (from_pool (λ j. record s { entries = none j }) go))
   where
     less_one : (a : ℕ) → 1 ≤ a → (d : ℕ) × (1 + d ≡ a)
     less_one zero p = absurd (omega arith)

@@ -61,8 +61,8 @@ free_lock s h idle f = here (s.locks f) refl
     here (Some u) e = (let z : None ≡ Some _ = sym (ap locked_file (idle u)) ∙ h.holders.lock f u e in absurd (cc))
 
 -- what is translated lies below the size
-pub translated_low : (s : State) (t v x f i : ℕ) → Inv s.geometry s → ((u : ℕ) → s.calls u ≡ None) → s.table t v ≡ Some x
-    → find (s.areas t) v ≡ Some (f, i) → i < s.size f
+pub translated_low : (s : State) (t v x f i : ℕ) → Inv s.geometry s → ((u : ℕ) → s.calls u ≡ None) → s.entries t v ≡ Some x
+    → find (s.mappings t) v ≡ Some (f, i) → i < s.size f
 translated_low s t v x f i h idle e d = elim (h.sweep.below t v x f i e d) [
   | inl l ↦ l
   | inr a ↦ (let z : false ≡ true = sym (ap (λ (c : Option Call). ahead c f i) (idle a.0)) ∙ a.1 in absurd (cc))

@@ -36,14 +36,14 @@ locked s t f = record (pool_of s) { locks = put s.locks f (Some t) }
 abbrev changing : State → (task file : ℕ) → Pool
 changing s t f =
     record (locked s t f) {
-      prepared = put s.prepared t true;
+      ready = put s.ready t true;
       pending = put s.pending f (s.pending f + 1);
       spare = put s.spare f (max (s.spare f) (s.pending f + 1));
     }
 
 -- the frames are counted
 change_maps : (s : State) (t f from len base : ℕ) (b : Answer) (n : State) (end : Pool) (last : MapPhase) → s.locks f ≡ None
-    → s.calls t ≡ None → IsRoom s.geometry.space (s.areas t) len (Some base)
+    → s.calls t ≡ None → IsRoom s.geometry.space (s.mappings t) len (Some base)
     → Leads (MapSteps t) b end (changing s t f)
     (at.Changed (record {
       map = asked true f from len;
@@ -67,7 +67,7 @@ change_maps s t f from len base b n end last unlocked idle room k is =
         locks = locks j;
         pending = pending j;
         spare = put s.spare f (max (s.spare f) (s.pending f + 1));
-        prepared = put s.prepared t true;
+        ready = put s.ready t true;
       };
       calls = calls j;
     }))
@@ -79,14 +79,14 @@ change_maps s t f from len base b n end last unlocked idle room k is =
     finish call.Map s t last (MapMeans s t f from len) _ x is (Some base, room, so_false _ _ enough (refl, refl))
     (λ j. record s {
       pool = record s.pool {
-        areas = put s.areas t (entered (s.areas t) (record { base = base; file = f; from = from; len = len }));
+        mappings = put s.mappings t (entered (s.mappings t) (record { base = base; file = f; from = from; len = len }));
         reserved = put s.reserved f (add_range (s.reserved f) from (from + len));
         resv = s.resv + missing (s.reserved f) from (from + len);
         size = put s.size f (max (s.size f) (from + len));
         locks = locks j;
         pending = pending j;
         spare = put spare f (if touches (s.reserved f) from (from + len) then spare f else spare f - 1);
-        prepared = put (put s.prepared t true) t false;
+        ready = put (put s.ready t true) t false;
       };
       calls = calls j;
     }))
@@ -106,7 +106,7 @@ room_maps s t f from len b n end last unlocked idle k is =
     (λ j. record s { pool = record s.pool { locks = locks j }; calls = calls j }))
     (λ base some r.
     let k1 = goes_on (moves z.3 r) (λ turn m r. if_false _ _ (and_false (s.spare f == s.pending f)) r) in
-    change_maps s t f from len base b n end last unlocked idle (subst (IsRoom s.geometry.space (s.areas t) len) some z.2.1) k1 is)
+    change_maps s t f from len base b n end last unlocked idle (subst (IsRoom s.geometry.space (s.mappings t) len) some z.2.1) k1 is)
 
 -- and without one
 room_enters : (s : State) (t f from len : ℕ) (b : Answer) (n : State) (end : Pool) (last : MapPhase) → s.locks f ≡ None → s.calls t ≡ None
@@ -127,10 +127,10 @@ room_enters s t f from len b n end last unlocked idle k is =
     finish call.Map s t last (MapNoReserveMeans s t f from len) _ x is (z.2.0, z.2.1, so_some _ _ base some (refl, refl))
     (λ j. record s {
       pool = record s.pool {
-        areas = put s.areas t (entered (s.areas t) (record { base = base; file = f; from = from; len = len }));
+        mappings = put s.mappings t (entered (s.mappings t) (record { base = base; file = f; from = from; len = len }));
         size = put s.size f (max (s.size f) (from + len));
         locks = locks j;
-        prepared = put (put s.prepared t true) t false;
+        ready = put (put s.ready t true) t false;
       };
       calls = calls j;
     }))

@@ -40,7 +40,7 @@ pub map_row : {frames : ℕ} {s : Pool} {r : Renaming frames} {turn other : Turn
     → Follows MapPhase unnamed frames s r turn new other there
 map_row {s = s} t killed grant (map.Start p) h a b = start_row t killed p.map.file (is_bad_range s p.map.from p.map.len) _ _ _ a b
 map_row {s = s} t killed grant (map.Room p) h a b =
-    by_like_options a.0 b.0 (room_one s.geometry.space (s.areas t) p.map.len a.0 b.0 a.1 b.1) a.2 b.2
+    by_like_options a.0 b.0 (room_one s.geometry.space (s.mappings t) p.map.len a.0 b.0 a.1 b.1) a.2 b.2
     (λ _ a b. plain a b refl)
     (λ base _ a b. by_tests grant a b
     (λ _ a b. by_tests p.map.reserve a b (λ _ a b. plain a b refl) (λ _ a b. plain a b refl))
@@ -67,7 +67,7 @@ pub unmap_row : {frames : ℕ} {s : Pool} {r : Renaming frames} {turn other : Tu
     → UnmapRow s t killed grant p turn new → UnmapRow (pool_renamed r s) t killed grant p other there
     → Follows UnmapPhase unnamed frames s r turn new other there
 unmap_row {s = s} t killed grant (unmap.Start p) a b =
-    by_tests (is_base (s.areas t) p.base) a b (λ _ a b. plain a b refl) (λ _ a b. plain a b refl)
+    by_tests (is_base (s.mappings t) p.base) a b (λ _ a b. plain a b refl) (λ _ a b. plain a b refl)
 unmap_row {s = s} {r = r} t killed grant (unmap.Clear p) a b = leaf a b refl (cleared_renamed s r t p.base) refl
 unmap_row t killed grant (unmap.Drop p) a b = plain a b refl
 
@@ -76,8 +76,8 @@ pub exit_row : {frames : ℕ} {s : Pool} {r : Renaming frames} {turn other : Tur
     → ExitRow s t killed grant p turn new → ExitRow (pool_renamed r s) t killed grant p other there
     → Follows ExitPhase unnamed frames s r turn new other there
 exit_row {s = s} t killed grant exit.Start a b =
-    by_options (first_base (s.areas t)) a b (λ _ a b. plain a b refl) (λ base _ a b. plain a b refl)
+    by_options (first_base (s.mappings t)) a b (λ _ a b. plain a b refl) (λ base _ a b. plain a b refl)
 exit_row {s = s} {r = r} t killed grant (exit.Clear p) a b = leaf a b refl (cleared_renamed s r t p.base) refl
 exit_row {s = s} t killed grant (exit.Drop p) a b =
-    by_options (first_base (without (s.areas t) p.base)) a b (λ _ a b. plain a b refl) (λ base _ a b. plain a b refl)
+    by_options (first_base (without (s.mappings t) p.base)) a b (λ _ a b. plain a b refl) (λ base _ a b. plain a b refl)
 exit_row t killed grant exit.Leave a b = plain a b refl

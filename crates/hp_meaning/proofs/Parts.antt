@@ -26,7 +26,7 @@ pool_renamed r s =
     record s {
       frame = λ y. s.frame (r.back y);
       pages = λ f i. option_map r.to (s.pages f i);
-      table = λ t v. option_map r.to (s.table t v);
+      entries = λ t v. option_map r.to (s.entries t v);
     }
 
 abbrev pub turn_renamed : {P : Type 0} → (P → P) → Turn P → Turn P
@@ -41,7 +41,7 @@ unnamed to p = p
 -- pages and entries name frames in use, and the free ones are there
 pub record Used (frames : ℕ) (s : Pool) : Type 0 where
   pub pages : (f i x : ℕ) → s.pages f i ≡ Some x → s.frame x ≢ Free
-  pub table : (t v x : ℕ) → s.table t v ≡ Some x → s.frame x ≢ Free
+  pub entries : (t v x : ℕ) → s.entries t v ≡ Some x → s.frame x ≢ Free
   pub real : (x : ℕ) → s.frame x ≡ Free → x < frames
   pub count : s.frames ≡ frames
 
@@ -182,7 +182,7 @@ takes {rename = rename} {frames = frames} {s = s} {r = r} resv x y taken h e d a
             frame = frame i;
             resv = resv;
             pages = agrees s.pages h.pages i;
-            table = agrees s.table h.table i;
+            entries = agrees s.entries h.entries i;
           }) ∙ sym (ap (pool_renamed names) a.1));
       count = ap (λ (m : Pool). m.frames) a.1;
     }
@@ -235,17 +235,17 @@ gone_renamed : (to : ℕ → ℕ) (gone : Bool) (o : Option ℕ)
 gone_renamed to true o = refl
 gone_renamed to false o = refl
 
-index_renamed : (to : ℕ → ℕ) (areas : List Mapping) (entries : ℕ → Option ℕ) (f i : ℕ)
-    → ◌≡◌ {A = ℕ → Option ℕ} (without_index areas (λ v. option_map to (entries v)) f i)
-    (λ v. option_map to (without_index areas entries f i v))
+index_renamed : (to : ℕ → ℕ) (mappings : List Mapping) (entries : ℕ → Option ℕ) (f i : ℕ)
+    → ◌≡◌ {A = ℕ → Option ℕ} (without_index mappings (λ v. option_map to (entries v)) f i)
+    (λ v. option_map to (without_index mappings entries f i v))
 unfolding without_index
-index_renamed to areas entries f i = fun_ext (λ v. gone_renamed to (is_there (find areas v) f i) (entries v))
+index_renamed to mappings entries f i = fun_ext (λ v. gone_renamed to (is_there (find mappings v) f i) (entries v))
 
-mapping_renamed : (to : ℕ → ℕ) (areas : List Mapping) (entries : ℕ → Option ℕ) (base : ℕ)
-    → ◌≡◌ {A = ℕ → Option ℕ} (without_mapping areas (λ v. option_map to (entries v)) base)
-    (λ v. option_map to (without_mapping areas entries base v))
+mapping_renamed : (to : ℕ → ℕ) (mappings : List Mapping) (entries : ℕ → Option ℕ) (base : ℕ)
+    → ◌≡◌ {A = ℕ → Option ℕ} (without_mapping mappings (λ v. option_map to (entries v)) base)
+    (λ v. option_map to (without_mapping mappings entries base v))
 unfolding without_mapping
-mapping_renamed to areas entries base = fun_ext (λ v. gone_renamed to (in_mapping areas base v) (entries v))
+mapping_renamed to mappings entries base = fun_ext (λ v. gone_renamed to (in_mapping mappings base v) (entries v))
 
 -- one task's entries, under other names
 entries_renamed : (to : ℕ → ℕ) (table : ℕ → ℕ → Option ℕ) (t : ℕ) (entries entries' : ℕ → Option ℕ)
@@ -258,8 +258,8 @@ entries_renamed to table t entries entries' e =
 pub cleared_renamed : {frames : ℕ} (s : Pool) (r : Renaming frames) (t base : ℕ)
     → cleared (pool_renamed r s) t base ≡ pool_renamed r (cleared s t base)
 cleared_renamed s r t base =
-    let table = entries_renamed r.to s.table t _ _ (mapping_renamed r.to (s.areas t) (s.table t) base) in
-    λ k. record (pool_renamed r s) { table = table k }
+    let table = entries_renamed r.to s.entries t _ _ (mapping_renamed r.to (s.mappings t) (s.entries t) base) in
+    λ k. record (pool_renamed r s) { entries = table k }
 
 pub unmap_row : {P : Type 0} {rename : (ℕ → ℕ) → P → P} {frames : ℕ} {s : Pool} {r : Renaming frames}
     {turn other : Turn P} {new there : Pool} (k f i : ℕ) (more last : P)
@@ -267,7 +267,7 @@ pub unmap_row : {P : Type 0} {rename : (ℕ → ℕ) → P → P} {frames : ℕ}
     → UnmapIndexRow (pool_renamed r s) k f i (rename r.to more) (rename r.to last) other there
     → Follows P rename frames s r turn new other there
 unmap_row {s = s} {r = r} k f i more last a b =
-    let table = entries_renamed r.to s.table k _ _ (index_renamed r.to (s.areas k) (s.table k) f i) in
+    let table = entries_renamed r.to s.entries k _ _ (index_renamed r.to (s.mappings k) (s.entries k) f i) in
     by_tests (nat_lt k s.geometry.tasks) a b
-    (λ _ a b. leaf a b refl (λ j. record (pool_renamed r s) { table = table j }) refl)
-    (λ _ a b. leaf a b refl (λ j. record (pool_renamed r s) { table = table j }) refl)
+    (λ _ a b. leaf a b refl (λ j. record (pool_renamed r s) { entries = table j }) refl)
+    (λ _ a b. leaf a b refl (λ j. record (pool_renamed r s) { entries = table j }) refl)

@@ -37,7 +37,7 @@ punched s t f gone frame spare = record (pool_of s) {
   spare = spare;
   pages = put s.pages f (without_pages (s.pages f) gone);
   reserved = put s.reserved f (unreserved (s.reserved f) gone);
-  table = without_entries s.areas s.table f gone;
+  entries = without_entries s.mappings s.entries f gone;
 }
 
 -- the file's reserved indices there
@@ -49,7 +49,7 @@ record Ready (s : State) (t f : ℕ) : Type 0 where
   slots : (k : ℕ) → s.slots k ≡ None
   unlocked : s.locks f ≡ None
   tasks : 1 ≤ s.geometry.tasks
-  owned : Owned s.geometry.tasks s.table
+  owned : Owned s.geometry.tasks s.entries
 
 -- one index is done with: the slot of it is to be left
 record OneDone (s : State) (t : ℕ) (hole : Hole) (i : ℕ) (more : ℕ → Bool) (b : Answer) (end : Pool) : Type 0 where
@@ -76,7 +76,7 @@ bare_index s t hole i gone frame spare b end h here bare freed k =
 abbrev evicted : State → (task : ℕ) → Hole → (i x : ℕ) → (gone : ℕ → Bool) → (frame : ℕ → FrameState) → (spare : ℕ → ℕ) → Pool
 evicted s t hole i x gone frame spare = record (punched s t hole.file gone frame spare) {
   slots = put s.slots (slot_of s.geometry hole.file i) (Some t);
-  table = λ u. without_index (s.areas u) (without_entries s.areas s.table hole.file gone u) hole.file i;
+  entries = λ u. without_index (s.mappings u) (without_entries s.mappings s.entries hole.file gone u) hole.file i;
   pages = put2 (put s.pages hole.file (without_pages (s.pages hole.file) gone)) hole.file i None;
   frame = put frame x Hand;
 }
@@ -92,7 +92,7 @@ evicted_index s t hole i x gone more frame spare b end page adds freed k =
     let f = hole.file in
     let k1 = goes_on k (λ turn m r. if_false _ _ (and_false (splits (unreserved_at s f gone) i && nat_le (spare f) (s.pending f))) r) in
     let k2 = goes_on k1 (λ turn m r. r) in
-    let table = entries_more s.areas s.table f i gone more adds in
+    let table = entries_more s.mappings s.entries f i gone more adds in
     let pages = pages_more s.pages f i gone more adds in
     let reserved = reserved_more s.reserved f i gone more adds in
     let frame' = put_put frame x Hand Free in
@@ -108,7 +108,7 @@ evicted_index s t hole i x gone more frame spare b end page adds freed k =
         spare = spare';
         pages = pages j;
         reserved = reserved j;
-        table = table j;
+        entries = table j;
       }) k2;
     }
 
@@ -123,8 +123,8 @@ paged_index s t hole i y gone more frame spare b end h here paged adds freed k =
     let f = hole.file in
     let k1 = goes_on k (λ turn m r. if_none _ _ (h.slots (slot_of s.geometry f i)) r) in
     let k2 = goes_on k1 (λ turn m r. if_true _ _ (ap is_some (page_kept s.pages f i gone here ∙ paged)) r) in
-    let owned = λ (u v x : ℕ) (e : without_entries s.areas s.table f gone u v ≡ Some x). h.owned u v x
-    (entry_kept s.areas s.table f gone u v x e) in
+    let owned = λ (u v x : ℕ) (e : without_entries s.mappings s.entries f gone u v ≡ Some x). h.owned u v x
+    (entry_kept s.mappings s.entries f gone u v x e) in
     let k3 = unmaps (PunchSteps t) b end _ f i (λ k. at.Unmap (record { hole = hole; index = i; task = k }))
     (at.Evict (record { hole = hole; index = i })) (λ p k turn m r. r) h.tasks owned k2 in
     let z = next k3 in
@@ -234,7 +234,7 @@ holed_means s t f from len b n end last idle is z =
         spare = z.spare;
         pages = put s.pages f (without_pages (s.pages f) (paged_within s f from (from + len)));
         reserved = put s.reserved f (unreserved (s.reserved f) (paged_within s f from (from + len)));
-        table = without_entries s.areas s.table f (paged_within s f from (from + len));
+        entries = without_entries s.mappings s.entries f (paged_within s f from (from + len));
       };
       calls = calls j;
     })
@@ -251,13 +251,13 @@ punch_means s t f from len b n h tasks ready (end, last, k, is) =
     let gone = paged_within s f from from in
     let pages = pages_none s.pages f gone (none_yet s f from) in
     let reserved = reserved_none s.reserved f gone (none_yet s f from) in
-    let table = entries_none s.areas s.table f gone (none_yet s f from) in
+    let table = entries_none s.mappings s.entries f gone (none_yet s f from) in
     let k1 = from_pool (λ j.
     record (pool_of s) {
       locks = put s.locks f (Some t);
       pages = sym pages j;
       reserved = sym reserved j;
-      table = sym table j;
+      entries = sym table j;
     }) k in
     let p = predecessor len good in
     holed_means s t f from len b n end last (ready.0 t) is

@@ -17,7 +17,7 @@ in_use : (frames : ℕ) (s : State) → s.frames ≡ frames → Inv s.geometry s
 in_use frames s e h = record {
   pool = record {
     pages = page;
-    table = λ t v x q. (let place = h.entries.agree t v x q in page place.0.0 place.0.1 x place.2);
+    entries = λ t v x q. (let place = h.entries.agree t v x q in page place.0.0 place.0.1 x place.2);
     real = λ x q. subst (λ (n : ℕ). x < n) e (h.place.one.real x Free q);
     count = e;
   };

@@ -40,7 +40,7 @@ record Read (t : ℕ) (touch : Touch) (b : Answer) (s end : Pool) : Type 0 where
   placed : s.frame x ≡ Placed word
   ends : (b ≡ answer_of touch.access word)
       × (end ≡ record s {
-        table = put2 s.table t touch.vpn (Some x);
+        entries = put2 s.entries t touch.vpn (Some x);
         frame = frame_after touch.access s.frame x;
         slots = put s.slots (slot_of s.geometry touch.file touch.index) None;
       })
@@ -79,7 +79,7 @@ record Paged (s : State) (t : ℕ) (touch : Touch) (b : Answer) (x resv : ℕ) (
     spare = spare;
     reserved = put2 s.reserved touch.file touch.index true;
     pages = put2 s.pages touch.file touch.index (Some x);
-    table = put2 s.table t touch.vpn (Some x);
+    entries = put2 s.entries t touch.vpn (Some x);
   }
 
 placed_same : {x y : ℕ} → Placed x ≡ Placed y → x ≡ y
@@ -119,7 +119,7 @@ taken_pages s t touch b x resv end unheld low k =
         spare = spare';
         reserved = reserved j;
         pages = put2 s.pages f i (Some x);
-        table = put2 s.table t touch.vpn (Some (same j));
+        entries = put2 s.entries t touch.vpn (Some (same j));
       });
     }
 
@@ -140,7 +140,7 @@ reserved_page s t touch b n x end last idle e free some y is =
         spare = y.spare;
         reserved = reserved j;
         pages = put2 s.pages touch.file touch.index (Some x);
-        table = put2 s.table t touch.vpn (Some x);
+        entries = put2 s.entries t touch.vpn (Some x);
       };
       calls = calls j;
     })
@@ -160,7 +160,7 @@ available_page s t touch b n x end last idle e some free y is =
         spare = y.spare;
         reserved = put2 s.reserved touch.file touch.index true;
         pages = put2 s.pages touch.file touch.index (Some x);
-        table = put2 s.table t touch.vpn (Some x);
+        entries = put2 s.entries t touch.vpn (Some x);
       };
       calls = calls j;
     })
@@ -218,7 +218,7 @@ makes_page s t touch b n end last enough unheld idle low k is = by_reserved (s.r
 pub touch_means : (s : State) (t v : ℕ) (access : Access) (b : Answer) (n : State) → Inv s.geometry s → IsReady s t
     → Comes call.Touch (TouchSteps t) s t b n (pool_of s) (at.Look (record { vpn = v; access = access }))
     → (m : State) × TouchMeans s t v access b m × Looks m n
-touch_means s t v access b n h ready (end, last, k, is) = by_find (find (s.areas t) v) refl
+touch_means s t v access b n h ready (end, last, k, is) = by_find (find (s.mappings t) v) refl
   where
     calls : put s.calls t None ≡ s.calls
     calls = idle_again s t (ready.0 t)
@@ -232,7 +232,7 @@ touch_means s t v access b n h ready (end, last, k, is) = by_find (find (s.areas
     below : (a b : ℕ) → a < b → nat_le b a ≡ false
     below a b l = grind (arith, nat_tests)
 
-    by_page : (f i : ℕ) (o : Option ℕ) → s.pages f i ≡ o → find (s.areas t) v ≡ Some (f, i) → nat_le (s.size f) i ≡ false
+    by_page : (f i : ℕ) (o : Option ℕ) → s.pages f i ≡ o → find (s.mappings t) v ≡ Some (f, i) → nat_le (s.size f) i ≡ false
         → Leads (TouchSteps t) b end (slotted s t f i)
         (at.Locked (record { touch = record { vpn = v; access = access; file = f; index = i } }))
         → (m : State) × TouchMeans s t v access b m × Looks m n
@@ -251,12 +251,12 @@ touch_means s t v access b n h ready (end, last, k, is) = by_find (find (s.areas
           pool = record s.pool {
             frame = frame_after access s.frame z.x;
             slots = slots j;
-            table = put2 s.table t v (Some z.x);
+            entries = put2 s.entries t v (Some z.x);
           };
           calls = calls j;
         })
 
-    by_size : (f i : ℕ) (high : Bool) → nat_le (s.size f) i ≡ high → find (s.areas t) v ≡ Some (f, i)
+    by_size : (f i : ℕ) (high : Bool) → nat_le (s.size f) i ≡ high → find (s.mappings t) v ≡ Some (f, i)
         → Leads (TouchSteps t) b end (slotted s t f i)
         (at.Locked (record { touch = record { vpn = v; access = access; file = f; index = i } }))
         → (m : State) × TouchMeans s t v access b m × Looks m n
@@ -269,7 +269,7 @@ touch_means s t v access b n h ready (end, last, k, is) = by_find (find (s.areas
         (λ j. record s { pool = record s.pool { slots = slots j }; calls = calls j })
     by_size f i false e q k = by_page f i (s.pages f i) refl q e k
 
-    by_entry : (f i : ℕ) (o : Option ℕ) → s.table t v ≡ o → find (s.areas t) v ≡ Some (f, i)
+    by_entry : (f i : ℕ) (o : Option ℕ) → s.entries t v ≡ o → find (s.mappings t) v ≡ Some (f, i)
         → (m : State) × TouchMeans s t v access b m × Looks m n
     by_entry f i (Some x) e q =
         let z = next k in
@@ -278,17 +278,17 @@ touch_means s t v access b n h ready (end, last, k, is) = by_find (find (s.areas
         let there : y.0 ≡ (f, i) = some_same (sym y.1 ∙ q) in
         let page : s.pages f i ≡ Some x = subst (λ (p : ℕ × ℕ). s.pages p.0 p.1 ≡ Some x) there y.2 in
         let low = below i (s.size f) (translated_low s t v x f i h ready.0 e q) in
-        let table = put2_self s.table t v (Some x) e in
+        let table = put2_self s.entries t v (Some x) e in
         finish call.Touch s t last (TouchMeans s t v access) _ (stops z.3 r.2) is
         (so_some _ _ (f, i) q (so_false _ _ low (so_some _ _ x page (r.0, r.1, (refl, refl)))))
-        (λ j. record s { pool = record s.pool { frame = frame_after access s.frame x; table = sym table j }; calls = calls j })
+        (λ j. record s { pool = record s.pool { frame = frame_after access s.frame x; entries = sym table j }; calls = calls j })
     by_entry f i None e q =
         let k1 = goes_on k (λ turn m r. if_none _ _ e (if_some _ _ q r)) in
         let k2 = goes_on k1 (λ turn m r. if_none _ _ (free_slot s h ready.0 (slot_of s.geometry f i)) r) in
         by_size f i (nat_le (s.size f) i) refl q k2
 
-    by_find : (o : Option (ℕ × ℕ)) → find (s.areas t) v ≡ o → (m : State) × TouchMeans s t v access b m × Looks m n
+    by_find : (o : Option (ℕ × ℕ)) → find (s.mappings t) v ≡ o → (m : State) × TouchMeans s t v access b m × Looks m n
     by_find None q =
         finish call.Touch s t last (TouchMeans s t v access) s (ends_so k (λ turn m r. if_none _ _ q r)) is
         (so_none _ _ q (refl, refl)) (λ j. record s { calls = calls j })
-    by_find (Some place) q = by_entry place.0 place.1 (s.table t v) refl q
+    by_find (Some place) q = by_entry place.0 place.1 (s.entries t v) refl q

@@ -44,21 +44,21 @@ reads : {frames : ℕ} {s : Pool} {r : Renaming frames} {turn other : Turn Touch
     → s.pages p.touch.file p.touch.index ≡ Some x → option_map r.to (s.pages p.touch.file p.touch.index) ≡ Some y
     → s.frame x ≡ Placed word → s.frame (r.back y) ≡ Placed word'
     → Goes (touch.Leave (record { touch = p.touch; answer = answer_of p.touch.access word }))
-    (record s { table = put2 s.table t p.touch.vpn (Some x); frame = frame_after p.touch.access s.frame x }) turn new
+    (record s { entries = put2 s.entries t p.touch.vpn (Some x); frame = frame_after p.touch.access s.frame x }) turn new
     → Goes (touch.Leave (record { touch = p.touch; answer = answer_of p.touch.access word' }))
     (record (pool_renamed r s) {
-      table = put2 (λ u v. option_map r.to (s.table u v)) t p.touch.vpn (Some y);
+      entries = put2 (λ u v. option_map r.to (s.entries u v)) t p.touch.vpn (Some y);
       frame = frame_after p.touch.access (λ z. s.frame (r.back z)) y;
     }) other there
     → Follows TouchPhase touch_renamed frames s r turn new other there
 reads {s = s} {r = r} t p x y word word' page page' placed placed' a b =
     let is : y ≡ r.to x = some_same (sym page' ∙ ap (option_map r.to) page) in
     let same = word_renamed r s.frame x word word' placed (ap (λ (z : ℕ). s.frame (r.back z)) (sym is) ∙ placed') in
-    let table = ap (λ (z : ℕ). put2 (λ u v. option_map r.to (s.table u v)) t p.touch.vpn (Some z)) is
-    ∙ put2_map (option_map r.to) s.table t p.touch.vpn (Some x) in
+    let table = ap (λ (z : ℕ). put2 (λ u v. option_map r.to (s.entries u v)) t p.touch.vpn (Some z)) is
+    ∙ put2_map (option_map r.to) s.entries t p.touch.vpn (Some x) in
     let frame = ap (frame_after p.touch.access (λ z. s.frame (r.back z))) is ∙ after_renamed r p.touch.access s.frame x in
     leaf a b (ap (λ (w : ℕ). Moved (touch.Leave (record { touch = p.touch; answer = answer_of p.touch.access w })))
-    same) (λ k. record (pool_renamed r s) { table = table k; frame = frame k }) refl
+    same) (λ k. record (pool_renamed r s) { entries = table k; frame = frame k }) refl
 
 found_row : {frames : ℕ} {s : Pool} {r : Renaming frames} {turn other : Turn TouchPhase} {new there : Pool} (t : ℕ)
     (grant : Bool) (p : Found)
@@ -77,9 +77,9 @@ pub touch_row : {frames : ℕ} {s : Pool} {r : Renaming frames} {turn other : Tu
     → TouchRow (pool_renamed r s) t killed grant (touch_renamed r.to p) other there
     → Follows TouchPhase touch_renamed frames s r turn new other there
 touch_row {s = s} {r = r} t killed grant (touch.Look p) h a b =
-    by_options (find (s.areas t) p.vpn) a b
+    by_options (find (s.mappings t) p.vpn) a b
     (λ _ a b. plain a b refl)
-    (λ place _ a b. by_names _ r.to (s.table t p.vpn) a b
+    (λ place _ a b. by_names _ r.to (s.entries t p.vpn) a b
     (λ _ a b. plain a b refl)
     (λ x _ a b.
     let word = word_renamed r s.frame x a.0 b.0 a.1 b.1 in

@@ -47,7 +47,7 @@ emptied s t f new gone frame = record (pool_of s) {
   size = put s.size f new;
   frame = frame;
   pages = put s.pages f (without_pages (s.pages f) gone);
-  table = without_entries s.areas s.table f gone;
+  entries = without_entries s.mappings s.entries f gone;
 }
 
 -- what a file is truncated from
@@ -55,7 +55,7 @@ record Ready (s : State) (t f : ℕ) : Type 0 where
   slots : (k : ℕ) → s.slots k ≡ None
   unlocked : s.locks f ≡ None
   tasks : 1 ≤ s.geometry.tasks
-  owned : Owned s.geometry.tasks s.table
+  owned : Owned s.geometry.tasks s.entries
   low : (i x : ℕ) → s.pages f i ≡ Some x → i < s.geometry.limit
 
 -- the indices from i on are done with: the slot of i is to be left
@@ -106,7 +106,7 @@ tail_skip limit i r e = count_below-ext (λ k. nat_le i k && r k) (λ k. nat_le 
 abbrev evicted : State → (task : ℕ) → Truncation → (i x : ℕ) → (frame : ℕ → FrameState) → Pool
 evicted s t cut i x frame = record (emptied s t cut.file cut.new (paged_from s cut.file (i + 1)) frame) {
   slots = put s.slots (slot_of s.geometry cut.file i) (Some t);
-  table = λ u. without_index (s.areas u) (without_entries s.areas s.table cut.file (paged_from s cut.file (i + 1)) u) cut.file i;
+  entries = λ u. without_index (s.mappings u) (without_entries s.mappings s.entries cut.file (paged_from s cut.file (i + 1)) u) cut.file i;
   pages = put2 (put s.pages cut.file (without_pages (s.pages cut.file) (paged_from s cut.file (i + 1)))) cut.file i None;
   frame = put frame x Hand;
 }
@@ -122,7 +122,7 @@ evicted_index s t cut i x frame b end h page freed k =
     let gone = paged_from s f (i + 1) in
     let adds = more_paged s f i x page in
     let k1 = goes_on k (λ turn m r. r) in
-    let table = entries_more s.areas s.table f i gone (paged_from s f i) adds in
+    let table = entries_more s.mappings s.entries f i gone (paged_from s f i) adds in
     let pages = pages_more s.pages f i gone (paged_from s f i) adds in
     let frame' = put_put frame x Hand Free in
     let count : pages_from s f i ≡ pages_from s f (i + 1) + 1 =
@@ -142,7 +142,7 @@ evicted_index s t cut i x frame b end h page freed k =
             slots = put s.slots (slot_of s.geometry f i) (Some t);
             frame = frame' j;
             pages = pages j;
-            table = table j;
+            entries = table j;
           }) k1);
     }
 
@@ -188,8 +188,8 @@ one_index s t cut i frame b end h freed k = by_page (s.pages cut.file i) refl
     by_page (Some y) e =
         let f = cut.file in
         let k2 = goes_on k1 (λ turn m r. if_true _ _ (ap is_some (same ∙ e)) r) in
-        let owned = λ (u v x : ℕ) (e : without_entries s.areas s.table f (paged_from s f (i + 1)) u v ≡ Some x).
-        h.owned u v x (entry_kept s.areas s.table f (paged_from s f (i + 1)) u v x e) in
+        let owned = λ (u v x : ℕ) (e : without_entries s.mappings s.entries f (paged_from s f (i + 1)) u v ≡ Some x).
+        h.owned u v x (entry_kept s.mappings s.entries f (paged_from s f (i + 1)) u v x e) in
         let k3 = unmaps (TruncateSteps t) b end _ f i
         (λ k. at.Unmap (record { truncation = cut; index = i; evicted = pages_from s cut.file (i + 1); task = k }))
         (at.Evict (record { truncation = cut; index = i; evicted = pages_from s cut.file (i + 1) }))
@@ -342,12 +342,12 @@ size_cuts s t cut b end h bare k =
         → Leads (TruncateSteps t) b end (emptied s t cut.file cut.new (paged_from s cut.file from) s.frame) phase
     starts from none phase k =
         let pages = pages_none s.pages cut.file (paged_from s cut.file from) (none_above s cut.file from none) in
-        let table = entries_none s.areas s.table cut.file (paged_from s cut.file from) (none_above s cut.file from none) in
+        let table = entries_none s.mappings s.entries cut.file (paged_from s cut.file from) (none_above s cut.file from none) in
         from_pool (λ j. record (pool_of s) {
           locks = put s.locks cut.file (Some t);
           size = put s.size cut.file cut.new;
           pages = sym pages j;
-          table = sym table j;
+          entries = sym table j;
         }) k
 
 -- all indices from one on go, not only those with a page
@@ -372,9 +372,9 @@ all_freed s f new frame h = record {
     left false c e = (let z : false ≡ true = e in absurd (cc))
 
 all_entries : (s : State) (f new : ℕ) → Inv s.geometry s
-    → without_entries s.areas s.table f (paged_from s f new) ≡ without_entries s.areas s.table f (nat_le new)
+    → without_entries s.mappings s.entries f (paged_from s f new) ≡ without_entries s.mappings s.entries f (nat_le new)
 unfolding without_entries
-all_entries s f new h = fun_ext (λ u. fun_ext (λ v. here u v (find (s.areas u) v) (s.table u v) refl refl))
+all_entries s f new h = fun_ext (λ u. fun_ext (λ v. here u v (find (s.mappings u) v) (s.entries u v) refl refl))
   where
     bare : (o : Option ℕ) (c : Bool) (entry : Option ℕ) → (o ≡ None → entry ≡ None)
         → ◌≡◌ {A = Option ℕ} (if c && is_some o then None else entry) (if c then None else entry)
@@ -388,7 +388,7 @@ all_entries s f new h = fun_ext (λ u. fun_ext (λ v. here u v (find (s.areas u)
     ours true c o entry e = bare o c entry (e refl)
     ours false c o entry e = refl
 
-    none_there : (u v : ℕ) (place : ℕ × ℕ) (entry : Option ℕ) → find (s.areas u) v ≡ Some place → s.table u v ≡ entry
+    none_there : (u v : ℕ) (place : ℕ × ℕ) (entry : Option ℕ) → find (s.mappings u) v ≡ Some place → s.entries u v ≡ entry
         → (place.0 == f) ≡ true → s.pages f place.1 ≡ None → entry ≡ None
     none_there u v place None q e is none = refl
     none_there u v place (Some x) q e is none =
@@ -399,7 +399,7 @@ all_entries s f new h = fun_ext (λ u. fun_ext (λ v. here u v (find (s.areas u)
         let z : None ≡ Some x = sym none ∙ (ap (λ (k : ℕ). s.pages k place.1) (sym file) ∙ page) in
         absurd (cc)
 
-    here : (u v : ℕ) (found : Option (ℕ × ℕ)) (entry : Option ℕ) → find (s.areas u) v ≡ found → s.table u v ≡ entry
+    here : (u v : ℕ) (found : Option (ℕ × ℕ)) (entry : Option ℕ) → find (s.mappings u) v ≡ found → s.entries u v ≡ entry
         → ◌≡◌ {A = Option ℕ} (if is_gone f (paged_from s f new) found then None else entry)
         (if is_gone f (nat_le new) found then None else entry)
     here u v None entry q e = refl
@@ -428,7 +428,7 @@ truncate_means s t f new b n h tasks ready (end, last, k, is) =
         pages = put s.pages f (pages j);
         reserved = put s.reserved f (cut_tail (s.reserved f) new);
         resv = s.resv - waiting s f new;
-        table = table j;
+        entries = table j;
       };
       calls = calls j;
     }))

@@ -36,12 +36,12 @@ ExitSteps t s p turn new = ExitRow s t false true p turn new
 pub unmap_means : (s : State) (t base : ℕ) (b : Answer) (n : State) → IsReady s t
     → Comes call.Unmap (UnmapSteps t) s t b n (pool_of s) (unmap.Start (record { base = base }))
     → (m : State) × UnmapMeans s t base b m × Looks m n
-unmap_means s t base b n ready (end, last, k, is) = by_base (is_base (s.areas t) base) refl
+unmap_means s t base b n ready (end, last, k, is) = by_base (is_base (s.mappings t) base) refl
   where
     calls : put s.calls t None ≡ s.calls
     calls = idle_again s t (ready.0 t)
 
-    by_base : (there : Bool) → is_base (s.areas t) base ≡ there → (m : State) × UnmapMeans s t base b m × Looks m n
+    by_base : (there : Bool) → is_base (s.mappings t) base ≡ there → (m : State) × UnmapMeans s t base b m × Looks m n
     by_base true e =
         let k1 = goes_on k (λ turn m r. if_true _ _ e r) in
         let k2 = goes_on k1 (λ turn m r. r) in
@@ -49,8 +49,8 @@ unmap_means s t base b n ready (end, last, k, is) = by_base (is_base (s.areas t)
         finish call.Unmap s t last (UnmapMeans s t base) _ z is (so_true _ _ e (refl, refl))
         (λ j. record s {
           pool = record s.pool {
-            areas = put s.areas t (without (s.areas t) base);
-            table = put s.table t (without_mapping (s.areas t) (s.table t) base);
+            mappings = put s.mappings t (without (s.mappings t) base);
+            entries = put s.entries t (without_mapping (s.mappings t) (s.entries t) base);
           };
           calls = calls j;
         })
@@ -60,11 +60,11 @@ unmap_means s t base b n ready (end, last, k, is) = by_base (is_base (s.areas t)
 
 -- the task has these mappings and entries
 abbrev mapped : State → (task : ℕ) → List Mapping → (ℕ → Option ℕ) → Pool
-mapped s t areas entries = record (pool_of s) { areas = put s.areas t areas; table = put s.table t entries }
+mapped s t mappings entries = record (pool_of s) { mappings = put s.mappings t mappings; entries = put s.entries t entries }
 
 -- each entry lies in a mapping
 abbrev Covered : List Mapping → (ℕ → Option ℕ) → Type 0
-Covered areas entries = (v x : ℕ) → entries v ≡ Some x → find areas v ≢ None
+Covered mappings entries = (v x : ℕ) → entries v ≡ Some x → find mappings v ≢ None
 
 none_left : (entries : ℕ → Option ℕ) → Covered [] entries → entries ≡ (λ _. None)
 none_left entries h = fun_ext (λ v. here v (entries v) refl)
@@ -78,13 +78,13 @@ same_base m ms =
     let e : (m.base == m.base) ≡ true = grind (arith, nat_tests) in
     ap (λ (c : Bool). if c then ms else m ∷ without ms m.base) e
 
-kept_entry : (areas : List Mapping) (entries : ℕ → Option ℕ) (base v x : ℕ) → without_mapping areas entries base v ≡ Some x
-    → (in_mapping areas base v ≡ false) × (entries v ≡ Some x)
+kept_entry : (mappings : List Mapping) (entries : ℕ → Option ℕ) (base v x : ℕ) → without_mapping mappings entries base v ≡ Some x
+    → (in_mapping mappings base v ≡ false) × (entries v ≡ Some x)
 unfolding without_mapping
-kept_entry areas entries base v x e = by_test (in_mapping areas base v) refl e
+kept_entry mappings entries base v x e = by_test (in_mapping mappings base v) refl e
   where
-    by_test : (c : Bool) → in_mapping areas base v ≡ c → ◌≡◌ {A = Option ℕ} (if c then None else entries v) (Some x)
-        → (in_mapping areas base v ≡ false) × (entries v ≡ Some x)
+    by_test : (c : Bool) → in_mapping mappings base v ≡ c → ◌≡◌ {A = Option ℕ} (if c then None else entries v) (Some x)
+        → (in_mapping mappings base v ≡ false) × (entries v ≡ Some x)
     by_test true d e = absurd (cc)
     by_test false d e = (d, e)
 
@@ -104,19 +104,20 @@ clears_first : (s : State) (t : ℕ) (b : Answer) (end : Pool) (m : Mapping) (ms
     → Leads (ExitSteps t) b end (mapped s t (m ∷ ms) entries) (exit.Clear (record { base = m.base }))
     → Leads (ExitSteps t) b end (mapped s t (m ∷ ms) (without_mapping (m ∷ ms) entries m.base)) (exit.Drop (record { base = m.base }))
 clears_first s t b end m ms entries k =
-    let table = ap (λ (list : List Mapping). put (put s.table t entries) t
-    (without_mapping list (put s.table t entries t) m.base)) (put_same s.areas t (m ∷ ms))
-    ∙ set_again s.table t entries (λ e. without_mapping (m ∷ ms) e m.base) in
-    from_pool (λ i. record (pool_of s) { areas = put s.areas t (m ∷ ms); table = table i }) (goes_on k (λ turn m r. r))
+    let table = ap (λ (list : List Mapping). put (put s.entries t entries) t
+    (without_mapping list (put s.entries t entries t) m.base)) (put_same s.mappings t (m ∷ ms))
+    ∙ set_again s.entries t entries (λ e. without_mapping (m ∷ ms) e m.base) in
+    from_pool (λ i. record (pool_of s) { mappings = put s.mappings t (m ∷ ms); entries = table i }) (goes_on k (λ turn m r. r))
 
 -- the mappings after it are left
-first_left : (s : State) (t : ℕ) (m : Mapping) (ms : List Mapping) → first_base (without (put s.areas t (m ∷ ms) t) m.base) ≡ first_base ms
+first_left : (s : State) (t : ℕ) (m : Mapping) (ms : List Mapping)
+    → first_base (without (put s.mappings t (m ∷ ms) t) m.base) ≡ first_base ms
 first_left s t m ms =
-    ap (λ (list : List Mapping). first_base (without list m.base)) (put_same s.areas t (m ∷ ms)) ∙ ap first_base (same_base m ms)
+    ap (λ (list : List Mapping). first_base (without list m.base)) (put_same s.mappings t (m ∷ ms)) ∙ ap first_base (same_base m ms)
 
-areas_left : (s : State) (t : ℕ) (m : Mapping) (ms : List Mapping)
-    → put (put s.areas t (m ∷ ms)) t (without (put s.areas t (m ∷ ms) t) m.base) ≡ put s.areas t ms
-areas_left s t m ms = set_again s.areas t (m ∷ ms) (λ list. without list m.base) ∙ ap (put s.areas t) (same_base m ms)
+mappings_left : (s : State) (t : ℕ) (m : Mapping) (ms : List Mapping)
+    → put (put s.mappings t (m ∷ ms)) t (without (put s.mappings t (m ∷ ms) t) m.base) ≡ put s.mappings t ms
+mappings_left s t m ms = set_again s.mappings t (m ∷ ms) (λ list. without list m.base) ∙ ap (put s.mappings t) (same_base m ms)
 
 -- one mapping after the other goes
 exits : (s : State) (t : ℕ) (b : Answer) (end : Pool) (m : Mapping) (ms : List Mapping) (entries : ℕ → Option ℕ) → Covered (m ∷ ms) entries
@@ -126,40 +127,43 @@ exits s t b end m [] entries h k =
     let k1 = goes_on (clears_first s t b end m [] entries k) (λ turn new r. if_none _ _ (first_left s t m []) r) in
     let z = ends_so k1 (λ turn m r. r) in
     let bare = none_left (without_mapping (m ∷ []) entries m.base) (covers_rest m [] entries h) in
-    let areas = areas_left s t m [] in
-    (z.0, z.1 ∙ (λ i. record (pool_of s) { areas = areas i; table = put s.table t (bare i) }))
+    let mappings = mappings_left s t m [] in
+    (z.0, z.1 ∙ (λ i. record (pool_of s) { mappings = mappings i; entries = put s.entries t (bare i) }))
 exits s t b end m (m' ∷ ms) entries h k =
     let k1 = goes_on (clears_first s t b end m (m' ∷ ms) entries k) (λ turn new r. if_some _ _ (first_left s t m (m' ∷ ms)) r) in
-    let areas = areas_left s t m (m' ∷ ms) in
+    let mappings = mappings_left s t m (m' ∷ ms) in
     exits s t b end m' ms (without_mapping (m ∷ m' ∷ ms) entries m.base) (covers_rest m (m' ∷ ms) entries h)
-    (from_pool (λ i. record (pool_of s) { areas = areas i; table = put s.table t (without_mapping (m ∷ m' ∷ ms) entries m.base) }) k1)
+    (from_pool (λ i. record (pool_of s) {
+      mappings = mappings i;
+      entries = put s.entries t (without_mapping (m ∷ m' ∷ ms) entries m.base);
+    }) k1)
 
 -- an exit from its first phase on
 pub exit_means : (s : State) (t : ℕ) (b : Answer) (n : State) → Inv s.geometry s → IsReady s t
     → Comes call.Exit (ExitSteps t) s t b n (pool_of s) exit.Start → (m : State) × ExitMeans s t b m × Looks m n
 exit_means s t b n h ready (end, last, k, is) =
     let calls = idle_again s t (ready.0 t) in
-    finish call.Exit s t last (ExitMeans s t) _ (by_areas (s.areas t) refl) is (refl, refl)
+    finish call.Exit s t last (ExitMeans s t) _ (by_mappings (s.mappings t) refl) is (refl, refl)
     (λ j. record s {
-      pool = record s.pool { areas = put s.areas t []; table = put s.table t (λ _. None) };
+      pool = record s.pool { mappings = put s.mappings t []; entries = put s.entries t (λ _. None) };
       life = put s.life t Dead;
       calls = calls j;
     })
   where
-    covered : Covered (s.areas t) (s.table t)
+    covered : Covered (s.mappings t) (s.entries t)
     covered v x e none = (let y = h.entries.agree t v x e in let z : None ≡ Some y.0 = sym none ∙ y.1 in absurd (cc))
 
-    by_areas : (areas : List Mapping) → s.areas t ≡ areas → (b ≡ Done) × (end ≡ mapped s t [] (λ _. None))
-    by_areas [] e =
+    by_mappings : (mappings : List Mapping) → s.mappings t ≡ mappings → (b ≡ Done) × (end ≡ mapped s t [] (λ _. None))
+    by_mappings [] e =
         let k1 = goes_on k (λ turn m r. if_none _ _ (ap first_base e) r) in
         let z = ends_so k1 (λ turn m r. r) in
-        let areas = sym (put_known s.areas t [] e) in
-        let table = sym (put_known s.table t (λ _. None)
-        (none_left (s.table t) (subst (λ (list : List Mapping). Covered list (s.table t)) e covered))) in
-        (z.0, z.1 ∙ (λ i. record (pool_of s) { areas = areas i; table = table i }))
-    by_areas (m ∷ ms) e =
+        let mappings = sym (put_known s.mappings t [] e) in
+        let table = sym (put_known s.entries t (λ _. None)
+        (none_left (s.entries t) (subst (λ (list : List Mapping). Covered list (s.entries t)) e covered))) in
+        (z.0, z.1 ∙ (λ i. record (pool_of s) { mappings = mappings i; entries = table i }))
+    by_mappings (m ∷ ms) e =
         let k1 = goes_on k (λ turn m r. if_some _ _ (ap first_base e) r) in
-        let areas = sym (put_known s.areas t (m ∷ ms) e) in
-        let table = sym (put_self s.table t) in
-        exits s t b end m ms (s.table t) (subst (λ (list : List Mapping). Covered list (s.table t)) e covered)
-        (from_pool (λ i. record (pool_of s) { areas = areas i; table = table i }) k1)
+        let mappings = sym (put_known s.mappings t (m ∷ ms) e) in
+        let table = sym (put_self s.entries t) in
+        exits s t b end m ms (s.entries t) (subst (λ (list : List Mapping). Covered list (s.entries t)) e covered)
+        (from_pool (λ i. record (pool_of s) { mappings = mappings i; entries = table i }) k1)

@@ -40,7 +40,7 @@ IsCall t op answer (e ∷ es) = (e.0 ≡ Begin t op) × AreSteps t answer es
 
 -- n is m; nothing is said of spare descriptors, nor of room made for a mapping
 abbrev pub Looks : State → State → Type 0
-Looks m n = n ≡ record m { pool = record m.pool { spare = n.spare; prepared = n.prepared } }
+Looks m n = n ≡ record m { pool = record m.pool { spare = n.spare; ready = n.ready } }
 
 -- this answer, and this state
 abbrev pub Gives : Answer → State → Answer → State → Type 0
@@ -68,7 +68,7 @@ is_bad_range s from len = (len == 0) || nat_lt s.geometry.limit (from + len)
 -- is reserved, resv gains what was missing, size grows to the end of the range: Mapped
 abbrev pub MapMeans : State → (task file from len : ℕ) → Answer → State → Type 0
 MapMeans s t f from len answer m =
-    (found : Option ℕ) × IsRoom s.geometry.space (s.areas t) len found
+    (found : Option ℕ) × IsRoom s.geometry.space (s.mappings t) len found
     × MatchOption found
     (Gives NoAddress s answer m)
     (λ base. MatchBool (nat_lt (available s) (missing (s.reserved f) from (from + len)))
@@ -76,7 +76,7 @@ MapMeans s t f from len answer m =
     (Gives (Mapped base)
     (record s {
       pool = record s.pool {
-        areas = put s.areas t (entered (s.areas t) (record { base = base; file = f; from = from; len = len }));
+        mappings = put s.mappings t (entered (s.mappings t) (record { base = base; file = f; from = from; len = len }));
         reserved = put s.reserved f (add_range (s.reserved f) from (from + len));
         resv = s.resv + missing (s.reserved f) from (from + len);
         size = put s.size f (max (s.size f) (from + len));
@@ -87,13 +87,13 @@ MapMeans s t f from len answer m =
 -- entered at the least base, size grows to the end of the range: Mapped
 abbrev pub MapNoReserveMeans : State → (task file from len : ℕ) → Answer → State → Type 0
 MapNoReserveMeans s t f from len answer m =
-    (found : Option ℕ) × IsRoom s.geometry.space (s.areas t) len found
+    (found : Option ℕ) × IsRoom s.geometry.space (s.mappings t) len found
     × MatchOption found
     (Gives NoAddress s answer m)
     (λ base. Gives (Mapped base)
     (record s {
       pool = record s.pool {
-        areas = put s.areas t (entered (s.areas t) (record { base = base; file = f; from = from; len = len }));
+        mappings = put s.mappings t (entered (s.mappings t) (record { base = base; file = f; from = from; len = len }));
         size = put s.size f (max (s.size f) (from + len));
       };
     }) answer m)
@@ -111,7 +111,7 @@ PageMade s t vpn access f i answer m =
         frame = frame_after access (put s.frame x (Placed 0)) x;
         resv = s.resv - 1;
         pages = put2 s.pages f i (Some x);
-        table = put2 s.table t vpn (Some x);
+        entries = put2 s.entries t vpn (Some x);
       };
     }) answer m)
     (MatchBool (nat_lt 0 (available s))
@@ -122,7 +122,7 @@ PageMade s t vpn access f i answer m =
         frame = frame_after access (put s.frame x (Placed 0)) x;
         reserved = put2 s.reserved f i true;
         pages = put2 s.pages f i (Some x);
-        table = put2 s.table t vpn (Some x);
+        entries = put2 s.entries t vpn (Some x);
       };
     }) answer m)
     (Gives NoFrame s answer m))
@@ -131,7 +131,7 @@ PageMade s t vpn access f i answer m =
 -- has a page: it is read or written, and translated. Else a page is made
 abbrev pub TouchMeans : State → (task vpn : ℕ) → Access → Answer → State → Type 0
 TouchMeans s t vpn access answer m =
-    MatchOption (find (s.areas t) vpn)
+    MatchOption (find (s.mappings t) vpn)
     (Gives Segv s answer m)
     (λ place. MatchBool (nat_le (s.size place.0) place.1)
     (Gives Beyond s answer m)
@@ -139,16 +139,16 @@ TouchMeans s t vpn access answer m =
     (PageMade s t vpn access place.0 place.1 answer m)
     (λ x. (word : ℕ) × (s.frame x ≡ Placed word)
     × Gives (answer_of access word)
-    (record s { pool = record s.pool { frame = frame_after access s.frame x; table = put2 s.table t vpn (Some x) } }) answer m)))
+    (record s { pool = record s.pool { frame = frame_after access s.frame x; entries = put2 s.entries t vpn (Some x) } }) answer m)))
 
 -- Unmap (Linux: `unmap_region`). No mapping with that base: NotMapped. Else it and its entries go: Done
 abbrev pub UnmapMeans : State → (task base : ℕ) → Answer → State → Type 0
 UnmapMeans s t base answer m =
-    MatchBool (is_base (s.areas t) base)
+    MatchBool (is_base (s.mappings t) base)
     (Gives Done (record s {
       pool = record s.pool {
-        areas = put s.areas t (without (s.areas t) base);
-        table = put s.table t (without_mapping (s.areas t) (s.table t) base);
+        mappings = put s.mappings t (without (s.mappings t) base);
+        entries = put s.entries t (without_mapping (s.mappings t) (s.entries t) base);
       };
     }) answer m)
     (Gives NotMapped s answer m)
@@ -157,7 +157,7 @@ UnmapMeans s t base answer m =
 abbrev pub ExitMeans : State → (task : ℕ) → Answer → State → Type 0
 ExitMeans s t answer m =
     Gives Done (record s {
-      pool = record s.pool { areas = put s.areas t []; table = put s.table t (λ _. None) };
+      pool = record s.pool { mappings = put s.mappings t []; entries = put s.entries t (λ _. None) };
       life = put s.life t Dead;
     }) answer m
 
@@ -172,7 +172,7 @@ is_gone f gone (Some place) = (place.0 == f) && gone place.1
 
 -- the entries of all tasks without those that stand for the indices that go
 unfoldable pub without_entries : (ℕ → List Mapping) → (ℕ → ℕ → Option ℕ) → (file : ℕ) → (gone : ℕ → Bool) → ℕ → ℕ → Option ℕ
-without_entries areas table f gone = λ u v. if is_gone f gone (find (areas u) v) then None else table u v
+without_entries mappings table f gone = λ u v. if is_gone f gone (find (mappings u) v) then None else table u v
 
 -- the frames of the pages that go are free; any other frame is where it was
 pub record Freed (pages : ℕ → Option ℕ) (before : ℕ → FrameState) (gone : ℕ → Bool) (frame : ℕ → FrameState) : Type 0 where
@@ -195,7 +195,7 @@ PunchMeans s f from len answer m =
         frame = frame;
         pages = put s.pages f (without_pages (s.pages f) gone);
         reserved = put s.reserved f (λ j. s.reserved f j && not (gone j));
-        table = without_entries s.areas s.table f gone;
+        entries = without_entries s.mappings s.entries f gone;
       };
     }) answer m
 
@@ -215,7 +215,7 @@ TruncateMeans s f new answer m =
         pages = put s.pages f (without_pages (s.pages f) gone);
         reserved = put s.reserved f (cut_tail (s.reserved f) new);
         resv = s.resv - waiting;
-        table = without_entries s.areas s.table f gone;
+        entries = without_entries s.mappings s.entries f gone;
       };
     }) answer m
 

@@ -62,7 +62,7 @@ renamed r s = record s {
   pool = record s.pool {
     frame = λ y. s.frame (r.back y);
     pages = λ file index. option_map r.to (s.pages file index);
-    table = λ task vpn. option_map r.to (s.table task vpn);
+    entries = λ task vpn. option_map r.to (s.entries task vpn);
   };
   calls = λ task. option_map (call_renamed r.to) (s.calls task);
 }

@@ -6,7 +6,7 @@ use Rattle.std.proofs.lemmas.Bool.{ne_eqb}
 use Rattle.std.proofs.lemmas.List.{get_or_default}
 use Rattle.hp_base.specs.Mappings.{in_mapping}
 use Rattle.hp_table.specs.Table.{Table}
-use Rattle.hp_fault.specs.View.{no_table, table_of, areas_of, entries_of}
+use Rattle.hp_fault.specs.View.{no_table, table_of, mappings_by_task, entries_of}
 
 table_read : (xs : List Table) (n t : ℕ) (d : Table) → 1 ≤ t → t ≤ length xs → n ≡ t → d ≡ get_or xs (n - 1) d → d ≡ table_of xs t
 table_read xs n t d low high e is =
@@ -14,9 +14,9 @@ table_read xs n t d low high e is =
     rw q (is ∙ (get_or_default xs (n - 1) d no_table (omega (arith, low, high, e)) ∙ ap (λ (k : ℕ). get_or xs (k - 1) no_table) e))
 
 pub still_cleared : (xs : List Table) (n t base : ℕ) (d : Table) → 1 ≤ t → t ≤ length xs → n ≡ t → d ≡ get_or xs (n - 1) d
-    → ((v : ℕ) → in_mapping (areas_of xs t) base v ≡ true → entries_of xs t v ≡ None) → (v : ℕ)
+    → ((v : ℕ) → in_mapping (mappings_by_task xs t) base v ≡ true → entries_of xs t v ≡ None) → (v : ℕ)
     → IsTrue (in_mapping d.mappings base v) → get d.entries v ≡ None
-unfolding areas_of entries_of
+unfolding mappings_by_task entries_of
 still_cleared xs n t base d low high e is bare v within =
     subst (λ (y : Table). in_mapping y.mappings base v ≡ true → get y.entries v ≡ None)
     (sym (table_read xs n t d low high e is)) (bare v) within

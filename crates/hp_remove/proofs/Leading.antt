@@ -20,13 +20,13 @@ use Rattle.hp_machine.specs.declared.call.Turn.{Turn}
 
 -- where a mapping went, the exit goes on as it starts
 pub drop_row : (s mid new : Pool) (t : ℕ) (p : Drop) (turn : Turn ExitPhase)
-    → mid ≡ record s { areas = put s.areas t (without (s.areas t) p.base) } → ExitStartRow mid t turn new
+    → mid ≡ record s { mappings = put s.mappings t (without (s.mappings t) p.base) } → ExitStartRow mid t turn new
     → ExitDropRow s t p turn new
 drop_row s mid new t p turn e row =
-    let after = record s { areas = put s.areas t (without (s.areas t) p.base) } in
+    let after = record s { mappings = put s.mappings t (without (s.mappings t) p.base) } in
     let there = subst (λ (q : Pool). ExitStartRow q t turn new) e row in
     subst (λ (ms : List Mapping). MatchOption (first_base ms) (Goes exit.Leave after turn new)
-    (λ base. Goes (exit.Clear (record { base = base })) after turn new)) (put_same s.areas t (without (s.areas t) p.base)) there
+    (λ base. Goes (exit.Clear (record { base = base })) after turn new)) (put_same s.mappings t (without (s.mappings t) p.base)) there
 
 -- the size is set, and the top was the larger of the old size and the end of the pages
 pub size_row : (s new : Pool) (p : Size) (turn : Turn TruncatePhase) (top : ℕ)

@@ -16,7 +16,7 @@ use Rattle.hp_fault.specs.Fits.{IsTaskOf, IsFileOf, IsHeld, HasPage}
 
 -- no virtual page of the mapping is translated
 abbrev pub IsCleared : Pool → (task base : ℕ) → Type 0
-IsCleared s t base = (v : ℕ) → in_mapping (s.areas t) base v ≡ true → s.table t v ≡ None
+IsCleared s t base = (v : ℕ) → in_mapping (s.mappings t) base v ≡ true → s.entries t v ≡ None
 
 abbrev pub PunchFits : Pool → (task : ℕ) → PunchPhase → Type 0
 PunchFits s t (punch.Start p) = Unit {0}
@@ -44,7 +44,7 @@ TruncateFits s t (truncate.Free p) = IsHeld s p.held
 TruncateFits s t (truncate.Unslot p) = s.slots (slot_of s.geometry p.truncation.file p.index) ≡ Some t
 TruncateFits s t (truncate.Tail p) =
     IsFileOf s p.truncation.file × (p.evicted ≤ count_within (s.reserved p.truncation.file) p.truncation.new s.geometry.limit)
-TruncateFits s t (truncate.Settle p) = p.surplus ≤ s.resv
+TruncateFits s t (truncate.Settle p) = p.excess ≤ s.resv
 TruncateFits s t (truncate.Leave p) = s.locks p.truncation.file ≡ Some t
 
 abbrev pub UnmapFits : Pool → (task : ℕ) → UnmapPhase → Type 0

@@ -18,7 +18,8 @@ use hp_frames::Held;
 pub fn clear_index(parts: &mut Parts, task: Task, file: File, index: Index)
     requires { IsTaskOf (view parts.old) task }
     ensures after { view parts.new ≡ record (view parts.old) {
-      table = put (view parts.old).table task (without_index ((view parts.old).areas task) ((view parts.old).table task) file index);
+      entries = put (view parts.old).entries task
+          (without_index ((view parts.old).mappings task) ((view parts.old).entries task) file index);
     } }
     ensures sizes { SizesStay (state_of parts.old) (state_of parts.new) }
 {
@@ -57,7 +58,7 @@ pub fn drop_mapping(parts: &mut Parts, task: Task, base: Vpn)
     requires task { IsTaskOf (view parts.old) task }
     requires bare { IsCleared (view parts.old) task base }
     ensures after { view parts.new
-        ≡ record (view parts.old) { areas = put (view parts.old).areas task (without ((view parts.old).areas task) base) } }
+        ≡ record (view parts.old) { mappings = put (view parts.old).mappings task (without ((view parts.old).mappings task) base) } }
     ensures sizes { SizesStay (state_of parts.old) (state_of parts.new) }
 {
     parts.spaces[(task.number() - 1) as usize].drop_mapping(base);

@@ -260,23 +260,17 @@ fn from_tail(parts: &mut Parts, phase: Tail) -> Turn<TruncatePhase>
     } = phase;
     let file = &mut parts.files[truncation.file.number() as usize];
     let removed = file.map.remove_tail(Index::new(truncation.new));
-    let surplus = removed - evicted;
-    Turn::Moved(TruncatePhase::Settle(Settle {
-        truncation,
-        surplus,
-    }))
+    let excess = removed - evicted;
+    Turn::Moved(TruncatePhase::Settle(Settle { truncation, excess }))
 }
 
 fn from_settle(parts: &mut Parts, phase: Settle) -> Turn<TruncatePhase>
-    requires { phase.surplus ≤ (view parts.old).resv }
+    requires { phase.excess ≤ (view parts.old).resv }
     ensures row { TruncateSettleRow (view parts.old) phase result (view parts.new) }
     ensures sizes { SizesStay (state_of parts.old) (state_of parts.new) }
 {
-    let Settle {
-        truncation,
-        surplus,
-    } = phase;
-    parts.bank.settle(surplus);
+    let Settle { truncation, excess } = phase;
+    parts.bank.settle(excess);
     Turn::Moved(TruncatePhase::Leave(Leave { truncation }))
 }
 

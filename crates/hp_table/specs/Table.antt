@@ -6,7 +6,7 @@ use Rattle.std.specs.Coded.{Coded, code_by, coded×, coded_list, coded_bool, cod
 use Rattle.hp_base.specs.declared.mapping.Mapping.{Mapping}
 
 -- the mappings in order of their bases, the frame of each virtual page that is translated, and whether
--- room for one mapping more is prepared
+-- room for one mapping more is ready
 pub record Table : Type 0 where
   pub mappings : List Mapping
   pub entries : FinMap nat_cmp ℕ

@@ -3,7 +3,7 @@ use Rattle.std.specs.Prelude.{length}
 use Rattle.hp_base.specs.Text.{sizes}
 use Rattle.hp_table.specs.Table.{Table}
 use Rattle.hp_fault.specs.State.{state_of}
-use Rattle.hp_fault.specs.View.{areas_of}
+use Rattle.hp_fault.specs.View.{mappings_by_task}
 use Rattle.hp_core.specs.State.{CoreState}
 use Rattle.hp_core.specs.Readers.{config_of, mappings_of}
 use Rattle.hp_core.proofs.Reading.{space_in, space_read}
@@ -23,7 +23,7 @@ index-requires c =
     omega (arith, l)
 
 pub returns : goal.returns
-unfolding mappings_of areas_of
+unfolding mappings_of mappings_by_task
 returns c =
     let s : CoreState = record {
       sizes = sizes c.self.inside.config;
