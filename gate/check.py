@@ -131,7 +131,7 @@ def quick(step: Step, _: list[str]) -> None:
 
 
 def whole() -> list[Step]:
-    """All that has to pass. The edits are tried beside the proofs from nothing, which leave processors idle where a crate waits for another."""
+    """All that has to pass. The edits are tried beside the proofs from nothing, which leave processors idle where crate waits for crate."""
     steps = [Step(name) for name in ("ci", "edits", "examples", "linux")]
     first, second, *others = steps
     with tempfile.TemporaryDirectory(prefix="check-") as room:

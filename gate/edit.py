@@ -28,7 +28,7 @@ class Pair:
 
 @dataclass(frozen=True)
 class Edit:
-    """An edit of a crate: its name, its pairs in their order, and the error that the compiler has to answer, if it is to come that early."""
+    """An edit of a crate: its name, its pairs in their order, and the error that the compiler has to answer, if it is to come then."""
 
     name: str
     pairs: tuple[Pair, ...]
@@ -88,7 +88,7 @@ class Texts:
 
 @dataclass(frozen=True)
 class Reach:
-    """What an edit changes: the functions in which it does, and whether that is in their bodies alone, so that nothing else can fail by it."""
+    """What an edit changes: in which functions, and whether in their bodies alone, so that nothing else can fail by it."""
 
     functions: frozenset[source.Function]
     is_in_bodies: bool

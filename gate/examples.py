@@ -1,6 +1,8 @@
 #!/usr/bin/env python3
-"""Replays each trace of examples/, and compares what is printed with the file NAME.out beside it, what is complained with NAME.err and the status with NAME.status
-(without these files: nothing, and 0)."""
+"""Replays each trace of examples/, and compares what is printed with the file NAME.out beside it.
+
+What is complained is compared with NAME.err, and the status with NAME.status; without these files, with nothing and 0.
+"""
 from __future__ import annotations
 
 import subprocess

@@ -1,5 +1,5 @@
 #!/usr/bin/env python3
-"""Writes docs/INDEX.md: of each phase of each operation its row, the function that does it, the lemma that keeps the invariant, and its edits.
+"""Writes docs/INDEX.md: of each phase its row, the function that does it, the lemma that keeps the invariant, and its edits.
 
 usage: gate/index.py           says whether docs/INDEX.md is what it would write
        gate/index.py --write   writes it
@@ -17,12 +17,16 @@ from try_edits import read_all
 INDEX = TOP / "docs" / "INDEX.md"
 CRATES = TOP / "crates"
 # the crate whose code does an operation's steps
-STEPS = {"touch": "hp_fault", "map": "hp_fault", "alloc": "hp_fault", "punch": "hp_remove", "truncate": "hp_remove", "unmap": "hp_remove", "exit": "hp_remove"}
+STEPS = {
+    **dict.fromkeys(("touch", "map", "alloc"), "hp_fault"),
+    **dict.fromkeys(("punch", "truncate", "unmap", "exit"), "hp_remove"),
+}
 KEEPS = {"unmap": "UnmapKeeps", "exit": "UnmapKeeps"}
 HEAD = """# Where each phase is
 
-One line a phase: its row (in `crates/hp_machine/specs/`), the function that does it (in `crates/hp_fault/src/` or `crates/hp_remove/src/`), the lemma that shows that the
-row keeps the invariant (in `crates/hp_laws/proofs/`; a phase without one of its own is in its operation's `.._row`), and the edits that change that function, each of
+One line a phase: its row (in `crates/hp_machine/specs/`), the function that does it (in `crates/hp_fault/src/`
+or `crates/hp_remove/src/`), the lemma that shows that the row keeps the invariant (in `crates/hp_laws/proofs/`;
+a phase without one of its own is in its operation's `.._row`), and the edits that change that function, each of
 which the prover has to refuse (in the crate's `must-fail/` or `edits/`). Written by `gate/index.py --write`.
 """
 
@@ -84,7 +88,8 @@ def index() -> str:
         for phase in phases(operation):
             name = function_of(operation, phase)
             own = edits[crate].get(source.Function((operation,), None, False, name), [])
-            cells = [phase.lower(), row_of(operation, phase, rows), f"`{operation}::{name}`", lemma_of(operation, phase), ", ".join(f"`{it}`" for it in sorted(own))]
+            tried = ", ".join(f"`{it}`" for it in sorted(own))
+            cells = [phase.lower(), row_of(operation, phase, rows), f"`{operation}::{name}`", lemma_of(operation, phase), tried]
             out.append(f"| {' | '.join(cells)} |\n")
     return "".join(out)
 

@@ -1,4 +1,7 @@
-"""Where the functions of a Rattle source file stand. The files are in the formatter's layout, so an item ends with the brace below its first letter."""
+"""Where the functions of a Rattle source file stand.
+
+The files are in the formatter's layout, so an item ends with the brace below its first letter.
+"""
 from __future__ import annotations
 
 import re
@@ -95,10 +98,8 @@ def functions(path: str, text: str) -> list[tuple[Function, int, int]]:
 def body_of(lines: list[str], first: int, last: int) -> int:
     """The line at which a function's body begins, behind its signature and its clauses."""
     indent = re.match(" *", lines[first])[0]
-    for at in range(first, last + 1):
-        if lines[at] in (f"{indent}{{", f"{indent}{{}}") or re.match(rf"{indent}(\S.*)?[^ ] \{{$", lines[at]) and not lines[at].startswith(f"{indent} "):
-            return at
-    return first
+    begins = re.compile(rf"{indent}(\{{\}}|\{{|\S.*[^ ] \{{)$")
+    return next((at for at in range(first, last + 1) if begins.match(lines[at])), first)
 
 
 def is_in_bodies(path: str, text: str, begin: int, end: int) -> bool:

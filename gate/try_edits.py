@@ -236,7 +236,7 @@ class Lanes:
 
 
 def try_crates(top: Path, proved: Iterable[str], lanes: Lanes) -> Iterator[tuple[str, list[Result], str]]:
-    """Tries the edits of each crate once that is proved, share beside share. Gives of each crate the results and a line on what they took."""
+    """Tries the edits of each crate once that is proved, share beside share. Gives of each crate the results and what they took."""
     def in_lane(share: Share) -> Tried:
         with lanes.free:
             return try_share(top, share, Path(rooms))
@@ -280,7 +280,7 @@ def proved_one_by_one(top: Path, names: list[str]) -> Iterator[str]:
 
 
 def proved_in_order(top: Path) -> Iterator[str]:
-    """Proves all crates, over what earlier checks kept. Gives each as it is proved: the check prints `== CRATE`, and later how that ended."""
+    """Proves all crates, over what earlier checks kept. Gives each as it is proved: `== CRATE` is printed first, and how it ended after."""
     said, crate, known = [], None, crates_of(top)
     with subprocess.Popen(["rt", "all", "check", "--jobs", str(os.cpu_count() or 1)], cwd=top, **QUIETLY) as ran:
         for line in ran.stdout:
