@@ -90,8 +90,10 @@ class Beside:
         step.follow(self.said, self.ran)
 
     def stop(self) -> None:
-        os.killpg(self.ran.pid, signal.SIGKILL)
-        self.ran.wait()
+        """Ends it where it still runs."""
+        if self.ran.poll() is None:
+            os.killpg(self.ran.pid, signal.SIGKILL)
+            self.ran.wait()
 
 
 def ci(step: Step, _: list[str]) -> None:
@@ -138,10 +140,10 @@ def whole() -> list[Step]:
         beside = Beside(Path(room))
         try:
             ci(first, [])
+            first.end()
             if first.failed:
                 print("check: the other steps rest on what is proved, so they were left out")
                 return [first]
-            first.end()
             beside.finish(second)
         finally:
             beside.stop()
