@@ -72,18 +72,15 @@ def python(script: str, *words: str) -> list[str]:
 
 
 class Beside:
-    """The trial of all edits in a copy of the repository, while something else works in the repository itself and goes before it."""
+    """A script of the gate that works in a copy of the repository, while something else works in the repository and goes first."""
 
-    def __init__(self, room: Path) -> None:
-        top = shutil.copytree(TOP, room / "all", ignore=shutil.ignore_patterns(".git"))
-        words = ["nice", *python("try_edits.py", "--beside", str(top))]
-        self.said = (room / "said").open("w+", encoding="utf-8", errors="replace")
-        self.ran = subprocess.Popen(
-            words, cwd=TOP, stdin=subprocess.PIPE, stdout=self.said, env={**os.environ, "TMPDIR": str(room)}, start_new_session=True, **TOLD
-        )
+    def __init__(self, room: Path, script: str, *words: str) -> None:
+        self.said = (room / script).with_suffix(".said").open("w+", encoding="utf-8", errors="replace")
+        own = {"cwd": TOP, "env": {**os.environ, "TMPDIR": str(room)}, "start_new_session": True}
+        self.ran = subprocess.Popen(["nice", *python(script, *words)], stdin=subprocess.PIPE, stdout=self.said, **own, **TOLD)
 
     def finish(self, step: Step) -> None:
-        """Lets it have all processors, and passes on what it tells."""
+        """Tells it by the end of its input that it may have all processors, and passes on what it tells."""
         self.ran.stdin.close()
         self.ran.wait()
         self.said.seek(0)
@@ -102,12 +99,12 @@ def ci(step: Step, _: list[str]) -> None:
 
 def edits(step: Step, words: list[str]) -> None:
     step.run(python("try_edits.py", *words))
-    if not [it for it in words if not it.startswith("-")]:
-        of_the_gate(step)
+    if not crates_of(TOP).keys() & set(words):
+        step.run(python("test_edits.py"))
+        index(step)
 
 
-def of_the_gate(step: Step) -> None:
-    step.run(python("test_edits.py"))
+def index(step: Step) -> None:
     step.run(python("index.py"))
 
 
@@ -136,18 +133,22 @@ def whole() -> list[Step]:
     """All that has to pass. The edits are tried beside the proofs from nothing, which leave processors idle where crate waits for crate."""
     steps = [Step(name) for name in ("ci", "edits", "examples", "linux")]
     first, second, *others = steps
-    with tempfile.TemporaryDirectory(prefix="check-") as room:
-        beside = Beside(Path(room))
+    with tempfile.TemporaryDirectory(prefix="check-") as name:
+        room = Path(name)
+        copy = str(shutil.copytree(TOP, room / "all", ignore=shutil.ignore_patterns(".git")))
+        beside = [Beside(room, "try_edits.py", "--beside", copy), Beside(room, "test_edits.py", copy)]
         try:
             ci(first, [])
             first.end()
             if first.failed:
                 print("check: the other steps rest on what is proved, so they were left out")
                 return [first]
-            beside.finish(second)
+            for it in beside:
+                it.finish(second)
         finally:
-            beside.stop()
-    of_the_gate(second)
+            for it in beside:
+                it.stop()
+    index(second)
     second.end()
     for step in others:
         step.begin()

@@ -2,6 +2,7 @@
 """Tries edits of which each is told apart: one that changes nothing, one whose text isn't there, one that breaks only a callee, ..
 
 They are tried on a copy of the crate hp_frames, whose own edits are left out. What is to be said of each stands in `EXPECTED`.
+An argument names another copy of the repository, in which to prove that crate.
 """
 from __future__ import annotations
 
@@ -31,28 +32,29 @@ EXPECTED = {
 }
 
 
-def repository(room: Path) -> Path:
+def repository(top: Path, room: Path) -> Path:
     """A repository of that crate alone, with the fixtures as its edits."""
-    crates = crates_of(TOP)
-    shutil.copyfile(TOP / "HANDLES", room / "HANDLES")
+    crates = crates_of(top)
+    shutil.copyfile(top / "HANDLES", room / "HANDLES")
     lines = [f"{it}: {' '.join(crates[it])}\n" for it in [*below(CRATE, crates), CRATE]]
     (room / "crates.txt").write_text("".join(lines), encoding="utf-8")
     for it in [*below(CRATE, crates), CRATE]:
-        shutil.copytree(TOP / "crates" / it, room / "crates" / it, ignore=shutil.ignore_patterns("must-fail", "edits", "must-not-compile"))
+        shutil.copytree(top / "crates" / it, room / "crates" / it, ignore=shutil.ignore_patterns("must-fail", "edits", "must-not-compile"))
     for folder in FIXTURES.iterdir():
         shutil.copytree(folder, room / "crates" / CRATE / folder.name)
     return room
 
 
-def main() -> int:
+def main(words: list[str]) -> int:
+    top = Path(words[0]) if words else TOP
     try:
-        list(proved_one_by_one(TOP, [CRATE]))
+        list(proved_one_by_one(top, [CRATE]))
     except NotProved as error:
         print(f"{error}check: the crate isn't proved, so its edits weren't tried")
         return 1
     with tempfile.TemporaryDirectory(prefix="edits-of-edits-") as name:
         room = Path(name)
-        told = {it.name: it.why for _, results, _ in try_crates(repository(room), [CRATE], Lanes(1, 1)) for it in results}
+        told = {it.name: it.why for _, results, _ in try_crates(repository(top, room), [CRATE], Lanes(1, 1)) for it in results}
     wrong = [name for name in sorted({*told, *EXPECTED}) if not told.get(name, "").startswith(EXPECTED.get(name, "?"))]
     for name in wrong:
         print(f"  {name}: said {told.get(name)!r}, to be said {EXPECTED.get(name)!r}")
@@ -61,4 +63,4 @@ def main() -> int:
 
 
 if __name__ == "__main__":
-    sys.exit(main())
+    sys.exit(main(sys.argv[1:]))

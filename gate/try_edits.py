@@ -280,15 +280,20 @@ def proved_one_by_one(top: Path, names: list[str]) -> Iterator[str]:
 
 
 def proved_in_order(top: Path) -> Iterator[str]:
-    """Proves all crates, over what earlier checks kept. Gives each as it is proved: `== CRATE` is printed first, and how it ended after."""
+    """Proves all crates, over what earlier checks kept, and gives each as it is proved.
+
+    The check prints `== CRATE`, and how that ended where anything was to do; at the end `CRATE: ok` of each.
+    """
     said, crate, known = [], None, crates_of(top)
     with subprocess.Popen(["rt", "all", "check", "--jobs", str(os.cpu_count() or 1)], cwd=top, **QUIETLY) as ran:
         for line in ran.stdout:
             said.append(line)
             if line.startswith("== "):
                 crate = line[len("== "):].strip()
-            elif line.startswith("logic=proved ") and crate in known:
-                known.pop(crate)
+            elif line.endswith(": ok\n") and crate == "summary":
+                if known.pop(name := line.removesuffix(": ok\n"), None) is not None:
+                    yield name
+            elif line.startswith("logic=proved ") and known.pop(crate, None) is not None:
                 yield crate
     if ran.returncode or known:
         raise NotProved("".join(said))
