@@ -11,7 +11,7 @@ pub enum ReplayFault {
     #[error("line {0} is not allowed here")]
     BadLine(u32),
     /// The first line is missing, cut, or no header.
-    #[error("line 1 is not a pool header, `pool FRAMES FILES SLOTS TASKS` with 1..=4096 frames, 1..=16 files, 1..=64 slots and 1..=64 tasks")]
+    #[error("line 1 is not a pool header")]
     BadHeader,
     /// The reader answered an error.
     #[error("reading failed")]

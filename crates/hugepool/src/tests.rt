@@ -21,7 +21,7 @@ fn faults_and_statuses(rt: HostRuntime) {
     assert!(rt; out.is_empty());
     assert_eq!(rt;
         faults.as_slice(),
-        b"hugepool: line 1 is not a pool header, `pool FRAMES FILES SLOTS TASKS` with 1..=4096 frames, 1..=16 files, 1..=64 slots and 1..=64 tasks\n".as_slice()
+        b"hugepool: line 1 is not a pool header\n".as_slice()
     );
     let (status, out, faults) = told(
         &rt,
