@@ -25,8 +25,9 @@ use Rattle.hp_machine.specs.declared.exit.ExitPhase.{ExitPhase}
 use Rattle.hp_machine.specs.declared.exit.ExitPhase.TheVariants as exit
 use Rattle.hp_machine.specs.declared.call.Call.{Call}
 use Rattle.hp_machine.specs.declared.call.Call.TheVariants as call
-use Rattle.hp_laws.proofs.Meets.{caller_there, entry_placed, has_page, held_there, pending_spared, pending_there, range_inside}
-use Rattle.hp_laws.proofs.Meets.{settles, stands}
+use Rattle.hp_laws.proofs.Meets.{caller_there, entry_placed, has_page, held_there, pending_spared, pending_there, settles}
+use Rattle.hp_laws.proofs.Meets.{stands}
+use Rattle.hp_laws.proofs.Standing.{below_limit}
 use Rattle.hp_fault.specs.Fits.{MapFits, TouchFits, AllocFits, IsPage}
 use Rattle.hp_remove.specs.Fits.{PunchFits, TruncateFits, UnmapFits, ExitFits, IsCleared}
 use Rattle.hp_core.specs.State.{CoreState, seat_at, calls_of, as_state}
@@ -45,25 +46,25 @@ is_found {A} o x e = ap (λ (c : Option A). is_some c) e
 touch_fits : (s : State) (t : ℕ) (phase : TouchPhase) → IsReached s → s.calls t ≡ Some (call.Touch phase) → TouchFits (pool_of s) t phase
 touch_fits s t (touch.Look p) reached e = (caller_there s t _ reached e, entry_page s t p.vpn (s.entries t p.vpn) reached refl)
 touch_fits s t (touch.Want p) reached e = tt
-touch_fits s t (touch.Locked p) reached e = (stands s t _ reached e).facts.aim.1
-touch_fits s t (touch.Missing p) reached e = let h = stands s t _ reached e in (h.facts.aim.1, h.facts.aim.2)
+touch_fits s t (touch.Locked p) reached e = (stands s t _ reached e).facts.aim.file
+touch_fits s t (touch.Missing p) reached e = let h = stands s t _ reached e in (h.facts.aim.file, h.facts.aim.index)
 touch_fits s t (touch.Changed p) reached e = settles s t _ reached e
 touch_fits s t (touch.Abort p) reached e =
-    let h = stands s t _ reached e in (h.facts.aim.1, pending_there s t _ p.touch.file reached e refl)
+    let h = stands s t _ reached e in (h.facts.aim.file, pending_there s t _ p.touch.file reached e refl)
 touch_fits s t (touch.Taken p) reached e =
-    let h = stands s t _ reached e in (h.facts.aim.1, pending_there s t _ p.touch.file reached e refl)
+    let h = stands s t _ reached e in (h.facts.aim.file, pending_there s t _ p.touch.file reached e refl)
 touch_fits s t (touch.Settle p) reached e = settles s t _ reached e
 touch_fits s t (touch.Committed p) reached e =
     let h = stands s t _ reached e in
-    record { file = h.facts.aim.1; in_limit = h.facts.aim.2; bare = h.facts.bare; held = held_there s t _ p.held reached e refl }
+    record { file = h.facts.aim.file; in_limit = h.facts.aim.index; bare = h.facts.bare; held = held_there s t _ p.held reached e refl }
 touch_fits s t (touch.Restore p) reached e = held_there s t _ p.held reached e refl
 touch_fits s t (touch.Found p) reached e =
     let h = stands s t _ reached e in
     record {
       task = caller_there s t _ reached e;
-      file = h.facts.aim.1;
-      mapped = is_found _ _ h.facts.aim.0;
-      untranslated = h.facts.aim.3;
+      file = h.facts.aim.file;
+      mapped = is_found _ _ h.facts.aim.found;
+      untranslated = h.facts.aim.untranslated;
       page = has_page s p.touch.file p.touch.index reached h.facts.cached;
     }
 touch_fits s t (touch.Leave p) reached e = (stands s t _ reached e).slot
@@ -71,22 +72,22 @@ touch_fits s t (touch.Leave p) reached e = (stands s t _ reached e).slot
 map_fits : (s : State) (t : ℕ) (phase : MapPhase) → IsReached s → s.calls t ≡ Some (call.Map phase) → MapFits (pool_of s) t phase
 map_fits s t (map.Start p) reached e = tt
 map_fits s t (map.Room p) reached e = caller_there s t _ reached e
-map_fits s t (map.Missing p) reached e = let h = stands s t _ reached e in (h.facts.range.0, h.facts.range.1, h.facts.range.2)
+map_fits s t (map.Missing p) reached e = let h = stands s t _ reached e in (h.facts.range.file, h.facts.range.some, h.facts.range.limit)
 map_fits s t (map.Changed p) reached e = tt
 map_fits s t (map.Abort p) reached e =
-    let h = stands s t _ reached e in (h.facts.range.0, pending_there s t _ p.map.file reached e refl)
+    let h = stands s t _ reached e in (h.facts.range.file, pending_there s t _ p.map.file reached e refl)
 map_fits s t (map.Accounted p) reached e =
-    let h = stands s t _ reached e in (h.facts.range.0, pending_there s t _ p.map.file reached e refl)
+    let h = stands s t _ reached e in (h.facts.range.file, pending_there s t _ p.map.file reached e refl)
 map_fits s t (map.Settle p) reached e = settles s t _ reached e
 map_fits s t (map.Enter p) reached e =
     let h = stands s t _ reached e in
     record {
       task = caller_there s t _ reached e;
-      file = h.facts.range.0;
-      some = h.facts.range.1;
-      in_limit = h.facts.range.2;
-      ready = h.facts.based.0;
-      fits = h.facts.based.1;
+      file = h.facts.range.file;
+      some = h.facts.range.some;
+      in_limit = h.facts.range.limit;
+      ready = h.facts.based.ready;
+      fits = h.facts.based.fits;
     }
 map_fits s t (map.Leave p) reached e = (stands s t _ reached e).lock
 
@@ -94,43 +95,43 @@ alloc_fits : (s : State) (t : ℕ) (phase : AllocPhase) → IsReached s → s.ca
 alloc_fits s t (alloc.Start p) reached e = tt
 alloc_fits s t (alloc.Head p) reached e = tt
 alloc_fits s t (alloc.Want p) reached e = tt
-alloc_fits s t (alloc.Locked p) reached e = (stands s t _ reached e).facts.range.0
+alloc_fits s t (alloc.Locked p) reached e = (stands s t _ reached e).facts.aim.file
 alloc_fits s t (alloc.Missing p) reached e =
-    let h = stands s t _ reached e in (h.facts.range.0, range_inside s.geometry _ _ _ _ h.facts.range)
+    let h = stands s t _ reached e in (h.facts.aim.file, below_limit s.geometry _ h.facts.aim)
 alloc_fits s t (alloc.Changed p) reached e = settles s t _ reached e
 alloc_fits s t (alloc.Abort p) reached e =
-    let h = stands s t _ reached e in (h.facts.range.0, pending_there s t _ p.allocation.file reached e refl)
+    let h = stands s t _ reached e in (h.facts.aim.file, pending_there s t _ p.allocation.file reached e refl)
 alloc_fits s t (alloc.Taken p) reached e =
-    let h = stands s t _ reached e in (h.facts.range.0, pending_there s t _ p.allocation.file reached e refl)
+    let h = stands s t _ reached e in (h.facts.aim.file, pending_there s t _ p.allocation.file reached e refl)
 alloc_fits s t (alloc.Settle p) reached e = settles s t _ reached e
 alloc_fits s t (alloc.Committed p) reached e =
     let h = stands s t _ reached e in
     record {
-      file = h.facts.range.0;
-      in_limit = range_inside s.geometry _ _ _ _ h.facts.range;
+      file = h.facts.aim.file;
+      in_limit = below_limit s.geometry _ h.facts.aim;
       bare = h.facts.bare;
       held = held_there s t _ p.held reached e refl;
     }
 alloc_fits s t (alloc.Restore p) reached e = held_there s t _ p.held reached e refl
 alloc_fits s t (alloc.Unslot p) reached e =
     let h = stands s t _ reached e in
-    record { slot = h.slot; in_limit = h.facts.range.3; index = range_inside s.geometry _ _ _ _ h.facts.range }
-alloc_fits s t (alloc.Extend p) reached e = let h = stands s t _ reached e in (h.facts.range.0, h.facts.range.2)
+    record { slot = h.slot; in_limit = h.facts.aim.limit; index = below_limit s.geometry _ h.facts.aim }
+alloc_fits s t (alloc.Extend p) reached e = let h = stands s t _ reached e in (h.facts.range.file, h.facts.range.limit)
 alloc_fits s t (alloc.Leave p) reached e = (stands s t _ reached e).lock
 
 punch_fits : (s : State) (t : ℕ) (phase : PunchPhase) → IsReached s → s.geometry.tasks < 2 ^ 32
     → s.calls t ≡ Some (call.Punch phase) → PunchFits (pool_of s) t phase
 punch_fits s t (punch.Start p) reached few e = tt
 punch_fits s t (punch.Want p) reached few e = tt
-punch_fits s t (punch.Locked p) reached few e = (stands s t _ reached e).facts.range.0
+punch_fits s t (punch.Locked p) reached few e = (stands s t _ reached e).facts.aim.file
 punch_fits s t (punch.Unmap p) reached few e = ((stands s t _ reached e).facts.task, few)
 punch_fits s t (punch.Evict p) reached few e =
-    let h = stands s t _ reached e in (h.facts.range.0, has_page s p.hole.file p.index reached h.facts.cached)
-punch_fits s t (punch.Delete p) reached few e = ((stands s t _ reached e).facts.range.0, pending_spared s p.hole.file reached)
+    let h = stands s t _ reached e in (h.facts.aim.file, has_page s p.hole.file p.index reached h.facts.cached)
+punch_fits s t (punch.Delete p) reached few e = ((stands s t _ reached e).facts.aim.file, pending_spared s p.hole.file reached)
 punch_fits s t (punch.Free p) reached few e = held_there s t _ p.held reached e refl
 punch_fits s t (punch.Unslot p) reached few e =
     let h = stands s t _ reached e in
-    record { slot = h.slot; in_limit = h.facts.range.3; index = range_inside s.geometry _ _ _ _ h.facts.range }
+    record { slot = h.slot; in_limit = h.facts.aim.limit; index = below_limit s.geometry _ h.facts.aim }
 punch_fits s t (punch.Leave p) reached few e = (stands s t _ reached e).lock
 
 -- what was evicted fits in the limit
@@ -142,13 +143,13 @@ truncate_fits : (s : State) (t : ℕ) (phase : TruncatePhase) → IsReached s �
 truncate_fits s t (truncate.Start p) reached few e = tt
 truncate_fits s t (truncate.Size p) reached few e = (stands s t _ reached e).facts.file
 truncate_fits s t (truncate.Want p) reached few e = tt
-truncate_fits s t (truncate.Locked p) reached few e = (stands s t _ reached e).facts.file
+truncate_fits s t (truncate.Locked p) reached few e = (stands s t _ reached e).facts.aim.file
 truncate_fits s t (truncate.Unmap p) reached few e = ((stands s t _ reached e).facts.task, few)
 truncate_fits s t (truncate.Evict p) reached few e =
     let h = stands s t _ reached e in (
-      h.facts.file,
+      h.facts.aim.file,
       has_page s p.truncation.file p.index reached h.facts.cached,
-      few_evicted (s.reserved p.truncation.file) (p.index + 1) s.geometry.limit p.evicted h.facts.lost,
+      few_evicted (s.reserved p.truncation.file) (p.index + 1) s.geometry.limit p.evicted h.facts.aim.lost,
     )
 truncate_fits s t (truncate.Free p) reached few e = held_there s t _ p.held reached e refl
 truncate_fits s t (truncate.Unslot p) reached few e = (stands s t _ reached e).slot

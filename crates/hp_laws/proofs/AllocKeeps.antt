@@ -21,6 +21,7 @@ use Rattle.hp_machine.specs.declared.call.Call.TheVariants as call
 use Rattle.hp_machine.specs.declared.call.Turn.{Turn}
 use Rattle.hp_machine.specs.State.{Pool, State, pool_of, slot_of}
 use Rattle.hp_laws.specs.Sweep.{passed}
+use Rattle.hp_laws.proofs.Standing.{below_limit, in_first, in_next}
 use Rattle.hp_laws.proofs.Invariant
 use Rattle.hp_laws.proofs.Invariant.{Inv, stays}
 use Rattle.hp_laws.proofs.Holding.{leaves_slot, leaves_lock}
@@ -43,7 +44,7 @@ alloc_head s t killed p turn new h l e row =
     (λ is r. so call.Alloc s t _ turn _ new r
     (stays s.geometry s t _
     (Some (call.Alloc (at.Leave (record { allocation = p.allocation; answer = answer.Interrupted })))) h l e refl tt
-    (record { slot = tt; lock = y.lock; facts = record { file = y.facts.range.0 } })))
+    (record { slot = tt; lock = y.lock; facts = record { file = y.facts.aim.file } })))
     (λ alive r. so call.Alloc s t _ turn _ new r
     (stays s.geometry s t _ (Some (call.Alloc (at.Want (record { allocation = p.allocation; index = p.index })))) h
     l e refl tt (record { slot = tt; lock = y.lock; facts = y.facts })))
@@ -57,7 +58,7 @@ alloc_want s t killed p turn new h l e row =
     (λ is r. so call.Alloc s t _ turn _ new r
     (stays s.geometry s t _
     (Some (call.Alloc (at.Leave (record { allocation = p.allocation; answer = answer.Interrupted })))) h l e refl tt
-    (record { slot = tt; lock = y.lock; facts = record { file = y.facts.range.0 } })))
+    (record { slot = tt; lock = y.lock; facts = record { file = y.facts.aim.file } })))
     (λ alive r. want_row call.Alloc s t p.allocation.file p.index (at.Want p)
     (at.Locked (record { allocation = p.allocation; index = p.index })) turn new h l e r refl refl refl refl refl
     (record { slot = put_same s.slots (slot_of s.geometry p.allocation.file p.index) (Some t); lock = y.lock; facts = y.facts }))
@@ -74,7 +75,7 @@ alloc_locked s t p turn new h l e row =
     refl tt (record { slot = y.slot; lock = y.lock; facts = y.facts })))
     (λ none r. so call.Alloc s t _ turn _ new r
     (stays s.geometry s t _ (Some (call.Alloc (at.Missing (record { allocation = p.allocation; index = p.index }))))
-    h l e refl tt (record { slot = y.slot; lock = y.lock; facts = record { range = y.facts.range; bare = no_page _ none } })))
+    h l e refl tt (record { slot = y.slot; lock = y.lock; facts = record { aim = y.facts.aim; bare = no_page _ none } })))
 
 alloc_missing : (s : State) (t : ℕ) (grant : Bool) (p : Missing) (turn : Turn AllocPhase) (new : Pool) → Inv s.geometry s
     → t < s.geometry.tasks + 1 → s.calls t ≡ Some (call.Alloc (at.Missing p)) → AllocMissingRow (pool_of s) grant p turn new
@@ -88,13 +89,13 @@ alloc_missing s t grant p turn new h l e row =
           stays s.geometry s t _
           (Some (call.Alloc (at.Unslot
           (record { allocation = p.allocation; index = p.index; answer = Some answer.NoMemory })))) h l e refl tt
-          (record { slot = y.slot; lock = y.lock; facts = record { range = y.facts.range } });
+          (record { slot = y.slot; lock = y.lock; facts = record { aim = y.facts.aim } });
       same = refl;
       none = refl;
       some = refl;
       balance = refl;
       fill = tt;
-      own = record { slot = y.slot; lock = y.lock; facts = record { range = y.facts.range; bare = y.facts.bare; one = o.0; marked = o.1 } };
+      own = record { slot = y.slot; lock = y.lock; facts = record { aim = y.facts.aim; bare = y.facts.bare; one = o.0; marked = o.1 } };
     })
 
 alloc_changed : (s : State) (t : ℕ) (killed : Bool) (p : Changed) (turn : Turn AllocPhase) (new : Pool) → Inv s.geometry s
@@ -109,7 +110,7 @@ alloc_changed s t killed p turn new h l e row =
     λ b. stays s.geometry s t _
     (Some (call.Alloc (at.Abort
     (record { allocation = p.allocation; index = p.index; pending = p.pending; answer = b })))) h l e refl tt
-    (record { slot = y.slot; lock = y.lock; facts = record { range = y.facts.range; bare = y.facts.bare } }) in
+    (record { slot = y.slot; lock = y.lock; facts = record { aim = y.facts.aim; bare = y.facts.bare } }) in
     by_test killed row
     (λ is r. so call.Alloc s t _ turn _ new r (aborts answer.Interrupted))
     (λ alive r. take_row call.Alloc s t p.pending.missing (at.Changed p) _
@@ -134,8 +135,8 @@ alloc_taken s t p turn new h l e row =
     commit_row call.Alloc s t p.allocation.file p.index p.pending (at.Taken p)
     (at.Settle (record { allocation = p.allocation; index = p.index; held = p.held }))
     (at.Committed (record { allocation = p.allocation; index = p.index; held = p.held })) turn new h l e row (record {
-      file = y.facts.range.0;
-      index = (let a = y.facts.range.2 in let b = y.facts.range.3 in omega arith);
+      file = y.facts.aim.file;
+      index = below_limit s.geometry _ y.facts.aim;
       one = y.facts.one;
       marked = y.facts.marked;
       nobody = λ u a. no_passer s.geometry s t p.allocation.file h y.lock (λ j. ap (λ c. passed c p.allocation.file j) e) u p.index a;
@@ -152,8 +153,8 @@ alloc_taken s t p turn new h l e row =
       next_more = refl;
       fill_settle = tt;
       fill_next = tt;
-      own_settle = record { slot = y.slot; lock = y.lock; facts = record { range = y.facts.range; bare = y.facts.bare; marked = marked } };
-      own_next = record { slot = y.slot; lock = y.lock; facts = record { range = y.facts.range; bare = y.facts.bare; marked = marked } };
+      own_settle = record { slot = y.slot; lock = y.lock; facts = record { aim = y.facts.aim; bare = y.facts.bare; marked = marked } };
+      own_next = record { slot = y.slot; lock = y.lock; facts = record { aim = y.facts.aim; bare = y.facts.bare; marked = marked } };
     })
 
 alloc_committed : (s : State) (t : ℕ) (grant : Bool) (p : Committed) (turn : Turn AllocPhase) (new : Pool) → Inv s.geometry s
@@ -166,10 +167,10 @@ alloc_committed s t grant p turn new h l e row =
     (λ granted r. so call.Alloc s t _ turn _ new r
     (places s.geometry s t _
     (Some (call.Alloc (at.Unslot (record { allocation = p.allocation; index = p.index; answer = None })))) f p.index
-    p.held h l e y.facts.range.0 (let a = y.facts.range.2 in let b = y.facts.range.3 in omega arith) refl refl refl
+    p.held h l e y.facts.aim.file (below_limit s.geometry _ y.facts.aim) refl refl refl
     refl refl refl y.facts.marked y.facts.bare y.slot
     (λ u a. no_passer s.geometry s t f h y.lock (λ j. ap (λ c. passed c f j) e) u p.index a) tt
-    (record { slot = y.slot; lock = y.lock; facts = record { range = y.facts.range } })))
+    (record { slot = y.slot; lock = y.lock; facts = record { aim = y.facts.aim } })))
     (λ denied r. so call.Alloc s t _ turn _ new r
     (stays s.geometry s t _
     (Some (call.Alloc (at.Restore
@@ -191,13 +192,13 @@ alloc_unslot s t p turn new h l e row =
     (record {
       slot = tt;
       lock = y.lock;
-      facts = record { range = (y.facts.range.0, (let a = y.facts.range.1 in omega arith), lt _ _ more, y.facts.range.3) };
+      facts = record { aim = in_next s.geometry _ y.facts.aim (lt _ _ more) };
     })))
     (λ last r. by_test p.allocation.keep r
     (λ keeps r. so call.Alloc s t _ turn _ new r
     (leaves_slot s.geometry s t _
     (Some (call.Alloc (at.Leave (record { allocation = p.allocation; answer = answer.Done })))) f p.index h l e refl
-    refl refl refl y.slot tt (record { slot = tt; lock = y.lock; facts = record { file = y.facts.range.0 } })))
+    refl refl refl y.slot tt (record { slot = tt; lock = y.lock; facts = record { file = y.facts.aim.file } })))
     (λ grows r. so call.Alloc s t _ turn _ new r
     (leaves_slot s.geometry s t _ (Some (call.Alloc (at.Extend (record { allocation = p.allocation })))) f p.index h
     l e refl refl refl refl y.slot tt
@@ -205,17 +206,17 @@ alloc_unslot s t p turn new h l e row =
       slot = tt;
       lock = y.lock;
       facts = record {
-        range = (
-          y.facts.range.0,
-          (let a = y.facts.range.1 in let b = y.facts.range.2 in omega arith),
-          y.facts.range.3,
-        );
+        range = record {
+          file = y.facts.aim.file;
+          some = (let a = y.facts.aim.above in let b = y.facts.aim.below in omega arith);
+          limit = y.facts.aim.limit;
+        };
       };
     })))))
     (λ carried some r. so call.Alloc s t _ turn _ new r
     (leaves_slot s.geometry s t _
     (Some (call.Alloc (at.Leave (record { allocation = p.allocation; answer = carried })))) f p.index h l e refl
-    refl refl refl y.slot tt (record { slot = tt; lock = y.lock; facts = record { file = y.facts.range.0 } })))
+    refl refl refl y.slot tt (record { slot = tt; lock = y.lock; facts = record { file = y.facts.aim.file } })))
 
 pub alloc_row : (s : State) (t : ℕ) (killed grant : Bool) (phase : AllocPhase) (turn : Turn AllocPhase) (new : Pool)
     → Inv s.geometry s → t < s.geometry.tasks + 1 → s.calls t ≡ Some (call.Alloc phase)
@@ -227,7 +228,7 @@ alloc_row s t killed grant (at.Start p) turn new h l e row =
     record {
       slot = tt;
       lock = put_same s.locks p.allocation.file (Some t);
-      facts = record { range = (in_files, omega arith, (let a = o.0 in omega arith), o.1) };
+      facts = record { aim = in_first s.geometry in_files o.0 o.1 };
     })
 alloc_row s t killed grant (at.Head p) turn new h l e row = alloc_head s t killed p turn new h l e row
 alloc_row s t killed grant (at.Want p) turn new h l e row = alloc_want s t killed p turn new h l e row
@@ -240,7 +241,7 @@ alloc_row s t killed grant (at.Abort p) turn new h l e row =
     (closed s.geometry s t _
     (Some (call.Alloc (at.Unslot (record { allocation = p.allocation; index = p.index; answer = Some p.answer }))))
     p.allocation.file h l e refl refl refl refl refl refl tt
-    (record { slot = y.slot; lock = y.lock; facts = record { range = y.facts.range } }))
+    (record { slot = y.slot; lock = y.lock; facts = record { aim = y.facts.aim } }))
 alloc_row s t killed grant (at.Taken p) turn new h l e row = alloc_taken s t p turn new h l e row
 alloc_row s t killed grant (at.Settle p) turn new h l e (low, row) =
     let y = stands_at s t _ h e in
@@ -256,7 +257,7 @@ alloc_row s t killed grant (at.Restore p) turn new h l e row =
     (gives s.geometry s t _
     (Some (call.Alloc (at.Unslot (record { allocation = p.allocation; index = p.index; answer = Some p.answer }))))
     p.held (s.resv + 1) h l e refl refl refl refl refl (omega arith) (omega arith) tt
-    (record { slot = y.slot; lock = y.lock; facts = record { range = y.facts.range } }))
+    (record { slot = y.slot; lock = y.lock; facts = record { aim = y.facts.aim } }))
 alloc_row s t killed grant (at.Unslot p) turn new h l e row = alloc_unslot s t p turn new h l e row
 alloc_row s t killed grant (at.Extend p) turn new h l e row =
     let y = stands_at s t _ h e in
@@ -265,9 +266,9 @@ alloc_row s t killed grant (at.Extend p) turn new h l e row =
     (extends s.geometry s t _
     (Some (call.Alloc (at.Leave (record { allocation = p.allocation; answer = answer.Done })))) f
     (max (s.size f) (p.allocation.from + p.allocation.len)) h l e refl y.lock (omega arith)
-    (let a = h.sizes f in let b = y.facts.range.2 in omega arith)
+    (let a = h.sizes f in let b = y.facts.range.limit in omega arith)
     (no_passer s.geometry s t f h y.lock (λ j. ap (λ c. passed c f j) e)) tt
-    (record { slot = tt; lock = y.lock; facts = record { file = y.facts.range.0 } }))
+    (record { slot = tt; lock = y.lock; facts = record { file = y.facts.range.file } }))
 alloc_row s t killed grant (at.Leave p) turn new h l e row =
     so call.Alloc s t _ turn _ new row
     (leaves_lock s.geometry s t _ p.allocation.file h l e refl refl refl refl refl refl (stands_at s t _ h e).lock (λ k j. refl))

@@ -18,7 +18,7 @@ use Rattle.hp_machine.specs.declared.exit.ExitPhase.TheVariants as exit
 use Rattle.hp_machine.specs.declared.call.Call.{Call}
 use Rattle.hp_machine.specs.declared.call.Call.TheVariants as call
 use Rattle.hp_laws.specs.Enough.{CanSettle}
-use Rattle.hp_laws.proofs.Standing.{Stands}
+use Rattle.hp_laws.proofs.Standing.{below_limit, Stands}
 use Rattle.hp_laws.proofs.Invariant.{Inv, vacant_of}
 use Rattle.hp_laws.proofs.Claims.{only_if, claim, claimed, once}
 
@@ -94,47 +94,47 @@ when false f i e = (let d : false ≡ true = e in cc)
 less_needs : (g : Geometry) (s : State) (t : ℕ) (c : Option Call) → Stands g s t c → less c ≤ need g s c
 less_needs g s t (Some (call.Touch (touch.Taken p))) h =
     one_claim g s (Some (call.Touch (touch.Taken p))) p.touch.file p.touch.index (p.pending.missing == 0)
-    h.facts.aim.1 h.facts.aim.2 (λ d. when (p.pending.missing == 0) p.touch.file p.touch.index d)
+    h.facts.aim.file h.facts.aim.index (λ d. when (p.pending.missing == 0) p.touch.file p.touch.index d)
 less_needs g s t (Some (call.Touch (touch.Committed p))) h =
-    one_claim g s (Some (call.Touch (touch.Committed p))) p.touch.file p.touch.index true h.facts.aim.1 h.facts.aim.2
+    one_claim g s (Some (call.Touch (touch.Committed p))) p.touch.file p.touch.index true h.facts.aim.file h.facts.aim.index
     (λ d. self p.touch.file p.touch.index)
 less_needs g s t (Some (call.Touch (touch.Restore p))) h =
-    one_claim g s (Some (call.Touch (touch.Restore p))) p.touch.file p.touch.index true h.facts.aim.1 h.facts.aim.2
+    one_claim g s (Some (call.Touch (touch.Restore p))) p.touch.file p.touch.index true h.facts.aim.file h.facts.aim.index
     (λ d. self p.touch.file p.touch.index)
 less_needs g s t (Some (call.Alloc (alloc.Taken p))) h =
     one_claim g s (Some (call.Alloc (alloc.Taken p))) p.allocation.file p.index (p.pending.missing == 0)
-    h.facts.range.0 (let a = h.facts.range.2 in let b = h.facts.range.3 in omega arith)
+    h.facts.aim.file (below_limit g _ h.facts.aim)
     (λ d. when (p.pending.missing == 0) p.allocation.file p.index d)
 less_needs g s t (Some (call.Alloc (alloc.Committed p))) h =
-    one_claim g s (Some (call.Alloc (alloc.Committed p))) p.allocation.file p.index true h.facts.range.0
-    (let a = h.facts.range.2 in let b = h.facts.range.3 in omega arith) (λ d. self p.allocation.file p.index)
+    one_claim g s (Some (call.Alloc (alloc.Committed p))) p.allocation.file p.index true h.facts.aim.file
+    (below_limit g _ h.facts.aim) (λ d. self p.allocation.file p.index)
 less_needs g s t (Some (call.Alloc (alloc.Restore p))) h =
-    one_claim g s (Some (call.Alloc (alloc.Restore p))) p.allocation.file p.index true h.facts.range.0
-    (let a = h.facts.range.2 in let b = h.facts.range.3 in omega arith) (λ d. self p.allocation.file p.index)
+    one_claim g s (Some (call.Alloc (alloc.Restore p))) p.allocation.file p.index true h.facts.aim.file
+    (below_limit g _ h.facts.aim) (λ d. self p.allocation.file p.index)
 less_needs g s t (Some (call.Punch (punch.Delete p))) h =
-    one_claim g s (Some (call.Punch (punch.Delete p))) p.hole.file p.index true h.facts.range.0
-    (let a = h.facts.range.2 in let b = h.facts.range.3 in omega arith) (λ d. self p.hole.file p.index)
+    one_claim g s (Some (call.Punch (punch.Delete p))) p.hole.file p.index true h.facts.aim.file
+    (below_limit g _ h.facts.aim) (λ d. self p.hole.file p.index)
 less_needs g s t (Some (call.Punch (punch.Free p))) h =
-    one_claim g s (Some (call.Punch (punch.Free p))) p.hole.file p.index p.denied h.facts.range.0
-    (let a = h.facts.range.2 in let b = h.facts.range.3 in omega arith) (λ d. when p.denied p.hole.file p.index d)
+    one_claim g s (Some (call.Punch (punch.Free p))) p.hole.file p.index p.denied h.facts.aim.file
+    (below_limit g _ h.facts.aim) (λ d. when p.denied p.hole.file p.index d)
 less_needs g s t (Some (call.Truncate (truncate.Want p))) h =
-    tail_needs g s (Some (call.Truncate (truncate.Want p))) p.truncation.file (p.index + 1) p.evicted h.facts.file
-    h.facts.lost (λ j. refl)
+    tail_needs g s (Some (call.Truncate (truncate.Want p))) p.truncation.file (p.index + 1) p.evicted h.facts.aim.file
+    h.facts.aim.lost (λ j. refl)
 less_needs g s t (Some (call.Truncate (truncate.Locked p))) h =
-    tail_needs g s (Some (call.Truncate (truncate.Locked p))) p.truncation.file (p.index + 1) p.evicted h.facts.file
-    h.facts.lost (λ j. refl)
+    tail_needs g s (Some (call.Truncate (truncate.Locked p))) p.truncation.file (p.index + 1) p.evicted h.facts.aim.file
+    h.facts.aim.lost (λ j. refl)
 less_needs g s t (Some (call.Truncate (truncate.Unmap p))) h =
-    tail_needs g s (Some (call.Truncate (truncate.Unmap p))) p.truncation.file (p.index + 1) p.evicted h.facts.file
-    h.facts.lost (λ j. refl)
+    tail_needs g s (Some (call.Truncate (truncate.Unmap p))) p.truncation.file (p.index + 1) p.evicted h.facts.aim.file
+    h.facts.aim.lost (λ j. refl)
 less_needs g s t (Some (call.Truncate (truncate.Evict p))) h =
-    tail_needs g s (Some (call.Truncate (truncate.Evict p))) p.truncation.file (p.index + 1) p.evicted h.facts.file
-    h.facts.lost (λ j. refl)
+    tail_needs g s (Some (call.Truncate (truncate.Evict p))) p.truncation.file (p.index + 1) p.evicted h.facts.aim.file
+    h.facts.aim.lost (λ j. refl)
 less_needs g s t (Some (call.Truncate (truncate.Free p))) h =
-    tail_needs g s (Some (call.Truncate (truncate.Free p))) p.truncation.file (p.index) p.evicted h.facts.file
-    h.facts.lost (λ j. refl)
+    tail_needs g s (Some (call.Truncate (truncate.Free p))) p.truncation.file (p.index) p.evicted h.facts.aim.file
+    h.facts.aim.lost (λ j. refl)
 less_needs g s t (Some (call.Truncate (truncate.Unslot p))) h =
-    tail_needs g s (Some (call.Truncate (truncate.Unslot p))) p.truncation.file (p.index) p.evicted h.facts.file
-    h.facts.lost (λ j. refl)
+    tail_needs g s (Some (call.Truncate (truncate.Unslot p))) p.truncation.file (p.index) p.evicted h.facts.aim.file
+    h.facts.aim.lost (λ j. refl)
 less_needs g s t (Some (call.Truncate (truncate.Tail p))) h =
     tail_needs g s (Some (call.Truncate (truncate.Tail p))) p.truncation.file (p.truncation.new) p.evicted
     h.facts.file h.facts.lost (λ j. refl)
@@ -169,25 +169,25 @@ pub can_settle : (g : Geometry) (s : State) (t : ℕ) (c : Option Call) → Inv 
     → CanSettle s c
 can_settle g s t (Some (call.Touch (touch.Changed p))) k l e h =
     λ z. let o : 1 ≤ need g s (Some (call.Touch (touch.Changed p))) = one_claim g s
-    (Some (call.Touch (touch.Changed p))) p.touch.file p.touch.index true h.facts.aim.1 h.facts.aim.2
+    (Some (call.Touch (touch.Changed p))) p.touch.file p.touch.index true h.facts.aim.file h.facts.aim.index
     (λ d. when (p.pending.missing == 0) p.touch.file p.touch.index (is_zero p.pending.missing z)) in
     let q = enough g s t _ k l e in omega arith
 can_settle g s t (Some (call.Touch (touch.Settle p))) k l e h =
     let o : 1 ≤ need g s (Some (call.Touch (touch.Settle p))) =
-    one_claim g s (Some (call.Touch (touch.Settle p))) p.touch.file p.touch.index true h.facts.aim.1 h.facts.aim.2
+    one_claim g s (Some (call.Touch (touch.Settle p))) p.touch.file p.touch.index true h.facts.aim.file h.facts.aim.index
     (λ d. self p.touch.file p.touch.index) in
     let q = enough g s t _ k l e in
     omega arith
 can_settle g s t (Some (call.Alloc (alloc.Changed p))) k l e h =
     λ z. let o : 1 ≤ need g s (Some (call.Alloc (alloc.Changed p))) = one_claim g s
-    (Some (call.Alloc (alloc.Changed p))) p.allocation.file p.index true h.facts.range.0
-    (let a = h.facts.range.2 in let b = h.facts.range.3 in omega arith)
+    (Some (call.Alloc (alloc.Changed p))) p.allocation.file p.index true h.facts.aim.file
+    (below_limit g _ h.facts.aim)
     (λ d. when (p.pending.missing == 0) p.allocation.file p.index (is_zero p.pending.missing z)) in
     let q = enough g s t _ k l e in omega arith
 can_settle g s t (Some (call.Alloc (alloc.Settle p))) k l e h =
     let o : 1 ≤ need g s (Some (call.Alloc (alloc.Settle p))) =
-    one_claim g s (Some (call.Alloc (alloc.Settle p))) p.allocation.file p.index true h.facts.range.0
-    (let a = h.facts.range.2 in let b = h.facts.range.3 in omega arith) (λ d. self p.allocation.file p.index) in
+    one_claim g s (Some (call.Alloc (alloc.Settle p))) p.allocation.file p.index true h.facts.aim.file
+    (below_limit g _ h.facts.aim) (λ d. self p.allocation.file p.index) in
     let q = enough g s t _ k l e in
     omega arith
 can_settle g s t (Some (call.Map (map.Settle p))) k l e h = let q = enough g s t _ k l e in omega arith

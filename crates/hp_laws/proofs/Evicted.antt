@@ -294,7 +294,7 @@ evicted_stays s t p rest n q reached e run quiet there not_gone =
       | inr over ↦ (let o : After p.truncation true q = subst (CallCuts p.truncation true) there over in
           clash (gone (n.calls t) p.truncation.file p.index)
           (ap (λ (m : Option Call). gone m p.truncation.file p.index) there
-          ∙ over_gone p.truncation p.index q o.0 (o.1 refl) y.facts.index.0) not_gone)
+          ∙ over_gone p.truncation p.index q o.0 (o.1 refl) y.facts.aim.index.0) not_gone)
     ]
   where
     never : false ≡ true → ⊥

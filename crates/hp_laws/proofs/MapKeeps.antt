@@ -80,7 +80,11 @@ map_room s t grant p turn new h l e (found, room, row) =
     (λ granted r. by_test p.map.reserve r
     (λ reserves r. so call.Map s t _ turn _ new r
     (prepares s.geometry s t _ (Some (call.Map (at.Missing (record { map = p.map; base = base })))) h l e refl tt
-    (record { slot = tt; lock = y.lock; facts = record { range = y.facts.range; based = (put_same s.ready t true, fit) } })))
+    (record {
+      slot = tt;
+      lock = y.lock;
+      facts = record { range = y.facts.range; based = record { ready = put_same s.ready t true; fits = fit } };
+    })))
     (λ not r. so call.Map s t _ turn _ new r
     (prepares s.geometry s t _ (Some (call.Map (at.Enter (record { map = p.map; base = base })))) h l e refl tt
     (record {
@@ -88,7 +92,7 @@ map_room s t grant p turn new h l e (found, room, row) =
       lock = y.lock;
       facts = record {
         range = y.facts.range;
-        based = (put_same s.ready t true, fit);
+        based = record { ready = put_same s.ready t true; fits = fit };
         filled = λ d. nothing p.map.reserve not d;
       };
     }))))
@@ -149,7 +153,7 @@ map_accounted s t p turn new h l e row =
     let y = stands_at s t _ h e in
     let f = p.map.file in
     let own = own_missing (s.reserved f) p.map.from p.map.len p.pending y.facts.whole in
-    let low : p.pending.to ≤ s.geometry.limit = (let a = y.facts.whole.1 in let b = y.facts.range.2 in omega arith) in
+    let low : p.pending.to ≤ s.geometry.limit = (let a = y.facts.whole.1 in let b = y.facts.range.limit in omega arith) in
     let nobody : (u j : ℕ) → passed (s.calls u) f j ≡ true → is_within p.pending.from p.pending.to j ≡ true → ⊥ =
     λ u j a w. no_passer s.geometry s t f h y.lock (λ i. ap (λ c. passed c f i) e) u j a in
     let filled = now_filled s f p.map.from p.map.len p.pending y.facts.whole in
@@ -163,12 +167,12 @@ map_accounted s t p turn new h l e row =
       base = p.base;
       excess = p.pending.missing - missing (s.reserved f) p.pending.from p.pending.to;
     })))) f p.pending h l e
-    y.facts.range.0 low refl refl refl refl refl nobody (omega arith) tt
+    y.facts.range.file low refl refl refl refl refl nobody (omega arith) tt
     (record { slot = tt; lock = y.lock; facts = record { range = y.facts.range; based = y.facts.based; filled = filled } })))
     (λ all r. let enough = le _ _ all in let few = y.facts.count in
     so call.Map s t _ turn _ new r
     (commits s.geometry s t _ (Some (call.Map (at.Enter (record { map = p.map; base = p.base })))) f p.pending h l e
-    y.facts.range.0 low refl refl refl refl refl nobody (omega arith) tt
+    y.facts.range.file low refl refl refl refl refl nobody (omega arith) tt
     (record { slot = tt; lock = y.lock; facts = record { range = y.facts.range; based = y.facts.based; filled = λ d. filled } })))
 
 map_settle : (s : State) (t : ℕ) (p : Settle) (turn : Turn MapPhase) (new : Pool) → Inv s.geometry s → t < s.geometry.tasks + 1
@@ -191,7 +195,7 @@ map_enter s t p turn new h l e row =
     (enters_area s.geometry s t _
     (Some (call.Map (at.Leave (record { map = p.map; answer = answer.Mapped p.base }))))
     (record { base = p.base; file = f; from = p.map.from; len = p.map.len }) h l e refl
-    y.facts.range.0 y.facts.range.1 y.facts.range.2 y.facts.based.1 y.lock
+    y.facts.range.file y.facts.range.some y.facts.range.limit y.facts.based.fits y.lock
     (no_passer s.geometry s t f h y.lock (λ i. ap (λ c. passed c f i) e)) tt
     (record {
       slot = tt;
@@ -209,7 +213,11 @@ map_row s t killed grant (at.Start p) turn new h l e row =
     start_row call.Map s t killed p.map.file _ answer.Killed (at.Start p) (at.Room (record { map = p.map })) turn new
     h l e row refl refl refl refl refl refl
     (λ in_files good. let o = good_range s p.map.from p.map.len good in
-    record { slot = tt; lock = put_same s.locks p.map.file (Some t); facts = record { range = (in_files, o.0, o.1) } })
+    record {
+      slot = tt;
+      lock = put_same s.locks p.map.file (Some t);
+      facts = record { range = record { file = in_files; some = o.0; limit = o.1 } };
+    })
 map_row s t killed grant (at.Room p) turn new h l e row = map_room s t grant p turn new h l e row
 map_row s t killed grant (at.Missing p) turn new h l e row = map_missing s t grant p turn new h l e row
 map_row s t killed grant (at.Changed p) turn new h l e row = map_changed s t killed p turn new h l e row

@@ -3,13 +3,13 @@
 use Rattle.std.proofs.Common.{◌≡◌, ◌≢◌, ℕ, ◌<◌, ◌≤◌, refl, ap, ◌∙◌, arith}
 use Rattle.std.specs.Prelude.{false, Option, Some, None}
 use Rattle.hp_frames.specs.declared.frame.FrameState.TheVariants as state
-use Rattle.hp_machine.specs.State.{Geometry, State, free_frames, is_dead}
+use Rattle.hp_machine.specs.State.{State, free_frames, is_dead}
 use Rattle.hp_machine.specs.Events.{IsReached}
 use Rattle.hp_machine.specs.Headline.{Hand, Page}
 use Rattle.hp_machine.specs.Views.{hand, change_in}
 use Rattle.hp_machine.specs.declared.call.Call.{Call}
 use Rattle.hp_laws.specs.Enough.{CanSettle}
-use Rattle.hp_laws.proofs.Standing.{Stands, InRange}
+use Rattle.hp_laws.proofs.Standing.{Stands}
 use Rattle.hp_laws.proofs.Invariant.{page_within}
 use Rattle.hp_laws.proofs.Effects.{has_pending}
 use Rattle.hp_laws.proofs.Shared.{stands_at}
@@ -85,10 +85,6 @@ has_page s f i reached cached = by_page (s.pages f i) refl cached
 -- a page lies below the limit
 pub page_inside : (s : State) (f i x : ℕ) → IsReached s → s.pages f i ≡ Some x → i < s.geometry.limit
 page_inside s f i x reached e = (page_within f i x (always s reached).inv.inside e).1
-
--- so does an index of a range that passed its check
-pub range_inside : (g : Geometry) (f from len i : ℕ) → InRange g f from len i → i < g.limit
-range_inside g f from len i range = let a = range.2 in let b = range.3 in omega arith
 
 -- each change in progress has a spare descriptor
 pub pending_spared : (s : State) (f : ℕ) → IsReached s → s.pending f ≤ s.spare f

@@ -123,8 +123,8 @@ removes_deleted (call.Punch (punch.Delete p)) k j e s t h d =
     let y = stands_at s t _ h d in
     let o = and_both (p.hole.file == k) _ e in
     let same : p.index ≡ j = same_of p.index j o.1 in
-    here p.hole.file p.hole.from p.hole.len k j (same_of p.hole.file k o.0) (let a = y.facts.range.1 in omega arith)
-    (let a = y.facts.range.2 in omega arith)
+    here p.hole.file p.hole.from p.hole.len k j (same_of p.hole.file k o.0) (let a = y.facts.aim.above in omega arith)
+    (let a = y.facts.aim.below in omega arith)
   where
     here : (f from len k j : ℕ) → f ≡ k → from ≤ j → j < from + len → ((f == k) && is_within from (from + len) j) ≡ true
     here f from len k j a b c = grind (arith, nat_tests)

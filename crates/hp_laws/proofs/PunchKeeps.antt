@@ -19,6 +19,7 @@ use Rattle.hp_machine.specs.declared.punch.PunchPhase.TheVariants as at
 use Rattle.hp_machine.specs.declared.call.Call.TheVariants as call
 use Rattle.hp_machine.specs.declared.call.Turn.{Turn}
 use Rattle.hp_machine.specs.State.{Pool, State, pool_of, slot_of}
+use Rattle.hp_laws.proofs.Standing.{below_limit, in_first, in_next}
 use Rattle.hp_laws.proofs.Invariant.{Inv, stays}
 use Rattle.hp_laws.proofs.Holding.{leaves_slot, leaves_lock}
 use Rattle.hp_laws.proofs.Effects.{gives}
@@ -54,7 +55,7 @@ punch_locked s t p turn new h one l e row =
       slot = y.slot;
       lock = y.lock;
       facts = record {
-        range = y.facts.range;
+        aim = y.facts.aim;
         cached = some_page _ page;
         task = (omega arith, omega arith);
         cleared = λ w v x a b c d. absurd (omega arith);
@@ -85,7 +86,7 @@ punch_unmap s t p turn new h l e row =
       slot = y.slot;
       lock = y.lock;
       facts = record {
-        range = y.facts.range;
+        aim = y.facts.aim;
         cached = y.facts.cached;
         task = (omega arith, (let a = lt _ _ more in omega arith));
         cleared = cleared_next s p.task f p.index y.facts.cleared;
@@ -98,7 +99,7 @@ punch_unmap s t p turn new h l e row =
       slot = y.slot;
       lock = y.lock;
       facts = record {
-        range = y.facts.range;
+        aim = y.facts.aim;
         cached = y.facts.cached;
         cleared = λ w v x a b. cleared_next s p.task f p.index y.facts.cleared w v x a (let c = le _ _ last in omega arith);
       };
@@ -113,13 +114,13 @@ punch_evict s t p turn new h l e row =
     let x = row.0 in
     so call.Punch s t _ turn _ new row.2
     (evicts s.geometry s t _ (Some (call.Punch (at.Delete (record { hole = p.hole; index = p.index; held = x }))))
-    p.hole.file p.index x h l e y.facts.range.0 refl refl refl refl refl refl row.1 y.slot
+    p.hole.file p.index x h l e y.facts.aim.file refl refl refl refl refl refl row.1 y.slot
     (λ w v z a d. let o = h.entries.owners w v z a in c w v z o.0 (let b = o.1 in omega arith) a d) tt
     (record {
       slot = y.slot;
       lock = y.lock;
       facts = record {
-        range = y.facts.range;
+        aim = y.facts.aim;
         bare = put2_same s.pages p.hole.file p.index None;
         marked = page_marked s.geometry s p.hole.file p.index x h row.1;
       };
@@ -135,16 +136,16 @@ punch_delete s t grant p turn new h l e row =
     (λ denied r. so call.Punch s t _ turn _ new r
     (stays s.geometry s t _
     (Some (call.Punch (at.Free (record { hole = p.hole; index = p.index; held = p.held; denied = true })))) h l e refl tt
-    (record { slot = y.slot; lock = y.lock; facts = record { range = y.facts.range; bare = y.facts.bare; marked = λ d. y.facts.marked } })))
+    (record { slot = y.slot; lock = y.lock; facts = record { aim = y.facts.aim; bare = y.facts.bare; marked = λ d. y.facts.marked } })))
     (λ done r. so call.Punch s t _ turn _ new r
     (deletes s.geometry s t _
     (Some (call.Punch (at.Free (record { hole = p.hole; index = p.index; held = p.held; denied = false })))) f
-    p.index _ h l e y.facts.range.0 (let a = y.facts.range.2 in let b = y.facts.range.3 in omega arith) refl refl refl refl refl
+    p.index _ h l e y.facts.aim.file (below_limit s.geometry _ y.facts.aim) refl refl refl refl refl
     (spare_left (splits (s.reserved f) p.index) (s.pending f) (s.spare f) (h.spares f)) y.facts.marked y.facts.bare y.slot y.lock tt
     (record {
       slot = y.slot;
       lock = y.lock;
-      facts = record { range = y.facts.range; bare = y.facts.bare; marked = λ d. (let z : false ≡ true = d in absurd (cc)) };
+      facts = record { aim = y.facts.aim; bare = y.facts.bare; marked = λ d. (let z : false ≡ true = d in absurd (cc)) };
     })))
 
 punch_free : (s : State) (t : ℕ) (p : Free) (turn : Turn PunchPhase) (new : Pool) → Inv s.geometry s → t < s.geometry.tasks + 1
@@ -155,7 +156,7 @@ punch_free s t p turn new h l e row =
     so call.Punch s t _ turn _ new row
     (gives s.geometry s t _ (Some (call.Punch (at.Unslot (record { hole = p.hole; index = p.index })))) p.held
     (if p.denied then s.resv + 1 else s.resv) h l e refl refl refl refl refl (balance p.denied s.resv) (few p.denied s.resv) tt
-    (record { slot = y.slot; lock = y.lock; facts = record { range = y.facts.range } }))
+    (record { slot = y.slot; lock = y.lock; facts = record { aim = y.facts.aim } }))
   where
     balance : (b : Bool) (r : ℕ) → ((if b then r + 1 else r) + 0) + 0 ≡ (r + bit b) + 0
     balance true r = omega arith
@@ -177,11 +178,11 @@ punch_unslot s t p turn new h l e row =
     (record {
       slot = tt;
       lock = y.lock;
-      facts = record { range = (y.facts.range.0, (let a = y.facts.range.1 in omega arith), lt _ _ more, y.facts.range.3) };
+      facts = record { aim = in_next s.geometry _ y.facts.aim (lt _ _ more) };
     })))
     (λ last r. so call.Punch s t _ turn _ new r
     (leaves_slot s.geometry s t _ (Some (call.Punch (at.Leave (record { hole = p.hole })))) p.hole.file p.index h l
-    e refl refl refl refl y.slot tt (record { slot = tt; lock = y.lock; facts = record { file = y.facts.range.0 } })))
+    e refl refl refl refl y.slot tt (record { slot = tt; lock = y.lock; facts = record { file = y.facts.aim.file } })))
 
 pub punch_row : (s : State) (t : ℕ) (killed grant : Bool) (phase : PunchPhase) (turn : Turn PunchPhase) (new : Pool)
     → Inv s.geometry s → 1 ≤ t → t < s.geometry.tasks + 1 → s.calls t ≡ Some (call.Punch phase)
@@ -193,7 +194,7 @@ punch_row s t killed grant (at.Start p) turn new h one l e row =
     record {
       slot = tt;
       lock = put_same s.locks p.hole.file (Some t);
-      facts = record { range = (in_files, omega arith, (let a = o.0 in omega arith), o.1) };
+      facts = record { aim = in_first s.geometry in_files o.0 o.1 };
     })
 punch_row s t killed grant (at.Want p) turn new h one l e row =
     let y = stands_at s t _ h e in

@@ -56,7 +56,7 @@ touch_look s t p turn new h l e row =
     (stays s.geometry s t _
     (Some (call.Touch (at.Want
     (record { touch = record { vpn = p.vpn; access = p.access; file = place.0; index = place.1 } })))) h l e refl tt
-    (record { slot = tt; lock = tt; facts = record { aim = (there, k.0, k.1, none) } })))
+    (record { slot = tt; lock = tt; facts = record { aim = record { found = there; file = k.0; index = k.1; untranslated = none } } })))
     (λ x entry r. so call.Touch s t _ turn _ new r.2
     (stays s.geometry (record s { pool = record s.pool { frame = frame_after p.access s.frame x } }) t _ None
     (touches_word s.geometry s p.access x r.0 h r.1) l e refl tt
@@ -150,8 +150,8 @@ touch_taken s t p turn new h l e row =
     commit_row call.Touch s t p.touch.file p.touch.index p.pending (at.Taken p)
     (at.Settle (record { touch = p.touch; held = p.held }))
     (at.Committed (record { touch = p.touch; held = p.held })) turn new h l e row (record {
-      file = y.facts.aim.1;
-      index = y.facts.aim.2;
+      file = y.facts.aim.file;
+      index = y.facts.aim.index;
       one = y.facts.one;
       marked = y.facts.marked;
       nobody = reached_not_passed s.geometry s p.touch.file p.touch.index h (reach_at s t _ h e);
@@ -190,7 +190,7 @@ touch_committed s t grant p turn new h l e row =
     (λ below r. by_test grant r
     (λ granted r. so call.Touch s t _ turn _ new r
     (places s.geometry s t _ (Some (call.Touch (at.Found (record { touch = p.touch })))) f i p.held h l e
-    y.facts.aim.1 y.facts.aim.2 refl refl refl refl refl refl y.facts.marked y.facts.bare y.slot
+    y.facts.aim.file y.facts.aim.index refl refl refl refl refl refl y.facts.marked y.facts.bare y.slot
     (reached_not_passed s.geometry s f i h (reach_at s t _ h e)) tt
     (record {
       slot = y.slot;
@@ -215,7 +215,8 @@ touch_found s t grant p turn new h one l e row =
     (enters_table s.geometry (record s { pool = record s.pool { frame = frame_after p.touch.access s.frame r.0 } })
     t _ (Some (call.Touch (at.Leave (record { touch = p.touch; answer = answer_of p.touch.access r.1 }))))
     p.touch.vpn p.touch.file p.touch.index r.0 (touches_word s.geometry s p.touch.access r.0 r.1 h r.3) one l e refl
-    y.facts.aim.0 r.2 (below_size p.touch.index (s.size p.touch.file) below) y.slot tt (record { slot = y.slot; lock = tt; facts = tt })))
+    y.facts.aim.found r.2 (below_size p.touch.index (s.size p.touch.file) below) y.slot tt
+    (record { slot = y.slot; lock = tt; facts = tt })))
     (λ denied r. so call.Touch s t _ turn _ new r (leaves answer.NoMemory)))
 
 pub touch_row : (s : State) (t : ℕ) (killed grant : Bool) (phase : TouchPhase) (turn : Turn TouchPhase) (new : Pool)

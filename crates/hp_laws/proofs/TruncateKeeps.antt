@@ -122,11 +122,13 @@ truncate_size s t p turn new h l e (end, is_end, row) =
       slot = tt;
       lock = y.lock;
       facts = record {
-        file = y.facts.file;
-        new = y.facts.new;
-        index = (omega arith, omega arith);
-        sized = put_same s.size f to;
-        lost = omega arith;
+        aim = record {
+          file = y.facts.file;
+          new = y.facts.new;
+          index = (omega arith, omega arith);
+          sized = put_same s.size f to;
+          lost = omega arith;
+        };
       };
     })))
     (λ none r. let all : top ≤ to = le _ _ none in
@@ -157,11 +159,7 @@ truncate_locked s t p turn new h one l e row =
       slot = y.slot;
       lock = y.lock;
       facts = record {
-        file = y.facts.file;
-        new = y.facts.new;
-        index = y.facts.index;
-        sized = y.facts.sized;
-        lost = y.facts.lost;
+        aim = y.facts.aim;
         cached = some_page _ page;
         task = (omega arith, omega arith);
         cleared = λ w v x a b c d. absurd (omega arith);
@@ -169,7 +167,7 @@ truncate_locked s t p turn new h one l e row =
     })))
     (λ none r.
     let w = tail_wider s.geometry.limit i (i + 1) (s.reserved f) (omega arith) in
-    let z = y.facts.lost in
+    let z = y.facts.aim.lost in
     so call.Truncate s t _ turn _ new r
     (stays s.geometry s t _
     (Some (call.Truncate (at.Unslot (record { truncation = p.truncation; index = i; evicted = p.evicted })))) h l e refl tt
@@ -177,11 +175,13 @@ truncate_locked s t p turn new h one l e row =
       slot = y.slot;
       lock = y.lock;
       facts = record {
-        file = y.facts.file;
-        new = y.facts.new;
-        index = y.facts.index;
-        sized = y.facts.sized;
-        lost = omega arith;
+        aim = record {
+          file = y.facts.aim.file;
+          new = y.facts.aim.new;
+          index = y.facts.aim.index;
+          sized = y.facts.aim.sized;
+          lost = omega arith;
+        };
         bare = no_page _ none;
       };
     })))
@@ -208,11 +208,7 @@ truncate_unmap s t p turn new h l e row =
       slot = y.slot;
       lock = y.lock;
       facts = record {
-        file = y.facts.file;
-        new = y.facts.new;
-        index = y.facts.index;
-        sized = y.facts.sized;
-        lost = y.facts.lost;
+        aim = y.facts.aim;
         cached = y.facts.cached;
         task = (omega arith, (let a = lt _ _ more in omega arith));
         cleared = cleared_next s p.task f p.index y.facts.cleared;
@@ -226,11 +222,7 @@ truncate_unmap s t p turn new h l e row =
       slot = y.slot;
       lock = y.lock;
       facts = record {
-        file = y.facts.file;
-        new = y.facts.new;
-        index = y.facts.index;
-        sized = y.facts.sized;
-        lost = y.facts.lost;
+        aim = y.facts.aim;
         cached = y.facts.cached;
         cleared = λ w v x a b. cleared_next s p.task f p.index y.facts.cleared w v x a (let c = le _ _ last in omega arith);
       };
@@ -245,22 +237,24 @@ truncate_evict s t p turn new h l e (x, page, row) =
     let f = p.truncation.file in
     let w = tail_next s.geometry.limit p.index (s.reserved f) (page_within f p.index x h.inside page).1
     (page_marked s.geometry s f p.index x h page) in
-    let z = y.facts.lost in
+    let z = y.facts.aim.lost in
     so call.Truncate s t _ turn _ new row
     (evicts s.geometry s t _
     (Some (call.Truncate
     (at.Free (record { truncation = p.truncation; index = p.index; evicted = p.evicted + 1; held = x })))) f p.index
-    x h l e y.facts.file refl refl refl refl refl (omega arith) page y.slot
+    x h l e y.facts.aim.file refl refl refl refl refl (omega arith) page y.slot
     (λ w v z a d. let o = h.entries.owners w v z a in c w v z o.0 (let b = o.1 in omega arith) a d) tt
     (record {
       slot = y.slot;
       lock = y.lock;
       facts = record {
-        file = y.facts.file;
-        new = y.facts.new;
-        index = y.facts.index;
-        sized = y.facts.sized;
-        lost = omega arith;
+        aim = record {
+          file = y.facts.aim.file;
+          new = y.facts.aim.new;
+          index = y.facts.aim.index;
+          sized = y.facts.aim.sized;
+          lost = omega arith;
+        };
         bare = put2_same s.pages f p.index None;
       };
     }))
@@ -277,39 +271,41 @@ truncate_unslot s t p turn new h l e row =
     (λ more r.
     let fewer : to < i = lt _ _ more in
     let back : i ≡ (i - 1) + 1 = omega arith in
-    let low = y.facts.index.1 in
+    let low = y.facts.aim.index.1 in
     so call.Truncate s t _ turn _ new r
     (passes s.geometry s t _
     (Some (call.Truncate (at.Want (record { truncation = p.truncation; index = i - 1; evicted = p.evicted })))) f i
-    to h l e refl refl refl refl refl refl refl refl y.slot y.facts.bare y.facts.sized
+    to h l e refl refl refl refl refl refl refl refl y.slot y.facts.bare y.facts.aim.sized
     (λ k j d. ahead_next f k i j to (i - 1) back d) (λ k j d. passed_next f k i j to (i - 1) back (omega arith) d) (λ k j d. never d)
     (record {
       slot = tt;
       lock = y.lock;
       facts = record {
-        file = y.facts.file;
-        new = y.facts.new;
-        index = (omega arith, omega arith);
-        sized = y.facts.sized;
-        lost = subst (λ (w : ℕ). p.evicted ≤ count_within (s.reserved f) w s.geometry.limit) back y.facts.lost;
+        aim = record {
+          file = y.facts.aim.file;
+          new = y.facts.aim.new;
+          index = (omega arith, omega arith);
+          sized = y.facts.aim.sized;
+          lost = subst (λ (w : ℕ). p.evicted ≤ count_within (s.reserved f) w s.geometry.limit) back y.facts.aim.lost;
+        };
       };
     })))
     (λ last r.
     let all : i ≤ to = le _ _ last in
-    let here : i ≡ to = (let z = y.facts.index.0 in omega arith) in
+    let here : i ≡ to = (let z = y.facts.aim.index.0 in omega arith) in
     so call.Truncate s t _ turn _ new r
     (passes s.geometry s t _
     (Some (call.Truncate (at.Tail (record { truncation = p.truncation; evicted = p.evicted })))) f i to h l e refl
-    refl refl refl refl refl refl refl y.slot y.facts.bare y.facts.sized
+    refl refl refl refl refl refl refl y.slot y.facts.bare y.facts.aim.sized
     (λ k j d. ahead_tail f k i j to all d) (λ k j d. passed_tail f k i j to all d) (λ k j d. never d)
     (record {
       slot = tt;
       lock = y.lock;
       facts = record {
-        file = y.facts.file;
-        new = y.facts.new;
-        sized = y.facts.sized;
-        lost = subst (λ (w : ℕ). p.evicted ≤ count_within (s.reserved f) w s.geometry.limit) here y.facts.lost;
+        file = y.facts.aim.file;
+        new = y.facts.aim.new;
+        sized = y.facts.aim.sized;
+        lost = subst (λ (w : ℕ). p.evicted ≤ count_within (s.reserved f) w s.geometry.limit) here y.facts.aim.lost;
       };
     })))
 
