@@ -40,9 +40,11 @@ entry_page : (s : State) (t v : ℕ) (o : Option ℕ) → IsReached s → s.entr
 entry_page s t v None reached e = tt
 entry_page s t v (Some x) reached e = entry_placed s t v x reached e
 
+-- what is found is there
 is_found : {A : Type 0} (o : Option A) (x : A) → o ≡ Some x → IsSome o
 is_found {A} o x e = ap (λ (c : Option A). is_some c) e
 
+-- a touch's step finds what it takes for granted
 touch_fits : (s : State) (t : ℕ) (phase : TouchPhase) → IsReached s → s.calls t ≡ Some (call.Touch phase) → TouchFits (pool_of s) t phase
 touch_fits s t (touch.Look p) reached e = (caller_there s t _ reached e, entry_page s t p.vpn (s.entries t p.vpn) reached refl)
 touch_fits s t (touch.Want p) reached e = tt
@@ -69,6 +71,7 @@ touch_fits s t (touch.Found p) reached e =
     }
 touch_fits s t (touch.Leave p) reached e = (stands s t _ reached e).slot
 
+-- so does a map's
 map_fits : (s : State) (t : ℕ) (phase : MapPhase) → IsReached s → s.calls t ≡ Some (call.Map phase) → MapFits (pool_of s) t phase
 map_fits s t (map.Start p) reached e = tt
 map_fits s t (map.Room p) reached e = caller_there s t _ reached e
@@ -91,6 +94,7 @@ map_fits s t (map.Enter p) reached e =
     }
 map_fits s t (map.Leave p) reached e = (stands s t _ reached e).lock
 
+-- an allocation's
 alloc_fits : (s : State) (t : ℕ) (phase : AllocPhase) → IsReached s → s.calls t ≡ Some (call.Alloc phase) → AllocFits (pool_of s) t phase
 alloc_fits s t (alloc.Start p) reached e = tt
 alloc_fits s t (alloc.Head p) reached e = tt
@@ -119,6 +123,7 @@ alloc_fits s t (alloc.Unslot p) reached e =
 alloc_fits s t (alloc.Extend p) reached e = let h = stands s t _ reached e in (h.facts.range.file, h.facts.range.limit)
 alloc_fits s t (alloc.Leave p) reached e = (stands s t _ reached e).lock
 
+-- a punch's
 punch_fits : (s : State) (t : ℕ) (phase : PunchPhase) → IsReached s → s.geometry.tasks < 2 ^ 32
     → s.calls t ≡ Some (call.Punch phase) → PunchFits (pool_of s) t phase
 punch_fits s t (punch.Start p) reached few e = tt
@@ -138,6 +143,7 @@ punch_fits s t (punch.Leave p) reached few e = (stands s t _ reached e).lock
 few_evicted : (r : ℕ → Bool) (from limit evicted : ℕ) → evicted ≤ count_within r from limit → evicted ≤ limit
 few_evicted r from limit evicted l = let all = count_within-missing r from limit in omega (arith, all, l)
 
+-- a truncation's
 truncate_fits : (s : State) (t : ℕ) (phase : TruncatePhase) → IsReached s → s.geometry.tasks < 2 ^ 32
     → s.calls t ≡ Some (call.Truncate phase) → TruncateFits (pool_of s) t phase
 truncate_fits s t (truncate.Start p) reached few e = tt
@@ -166,11 +172,13 @@ cleared s t base empty v within = by_entry (s.entries t v) refl
     by_entry None e = e
     by_entry (Some x) e = absurd (true≢false (sym within ∙ empty v x e))
 
+-- an unmap's
 unmap_fits : (s : State) (t : ℕ) (phase : UnmapPhase) → IsReached s → s.calls t ≡ Some (call.Unmap phase) → UnmapFits (pool_of s) t phase
 unmap_fits s t (unmap.Start p) reached e = caller_there s t _ reached e
 unmap_fits s t (unmap.Clear p) reached e = caller_there s t _ reached e
 unmap_fits s t (unmap.Drop p) reached e = (caller_there s t _ reached e, cleared s t p.base (stands s t _ reached e).facts.empty)
 
+-- and an exit's
 exit_fits : (s : State) (t : ℕ) (phase : ExitPhase) → IsReached s → s.calls t ≡ Some (call.Exit phase) → ExitFits (pool_of s) t phase
 exit_fits s t exit.Start reached e = caller_there s t _ reached e
 exit_fits s t (exit.Clear p) reached e = caller_there s t _ reached e
@@ -184,6 +192,7 @@ few_there s kept =
     let few = few_tasks s.sizes.frames s.sizes.files s.sizes.slots s.sizes.tasks kept.limits in
     omega (arith, all, few)
 
+-- so the step of each call in flight
 call_fits : (s : CoreState) (t : ℕ) (c : Call) → IsReached (as_state s) → IsKept s → (as_state s).calls t ≡ Some c → CallFits s.parts t c
 call_fits s t (call.Touch phase) reached kept e = touch_fits (as_state s) t phase reached e
 call_fits s t (call.Map phase) reached kept e = (kept.locks, map_fits (as_state s) t phase reached e)
@@ -193,11 +202,13 @@ call_fits s t (call.Truncate phase) reached kept e = (kept.locks, truncate_fits 
 call_fits s t (call.Unmap phase) reached kept e = unmap_fits (as_state s) t phase reached e
 call_fits s t (call.Exit phase) reached kept e = exit_fits (as_state s) t phase reached e
 
+-- of the call of a task, if it has one
 step_fits : (s : CoreState) (t : ℕ) (o : Option Call) → IsReached (as_state s) → IsKept s → (as_state s).calls t ≡ o
     → IfSome o (λ c. CallFits s.parts t c)
 step_fits s t None reached kept e = tt
 step_fits s t (Some c) reached kept e = call_fits s t c reached kept e
 
+-- and so each event of a sound core
 pub fits_from_sound : (s : CoreState) (e : Event) → IsSound s → EventFits s.parts s.seats e
 unfolding IsSound calls_of
 fits_from_sound s (Begin t op) h = tt

@@ -32,9 +32,11 @@ use Rattle.hp_laws.proofs.Shared.{after, so, by_test, by_option, stands_at, star
 use Rattle.hp_laws.proofs.Shared.{commit_row, one_change, own_reserved}
 use Rattle.hp_laws.proofs.TouchKeeps.{no_page}
 
+-- what the test of a row decides, as an inequality
 lt : (a b : ℕ) → nat_lt a b ≡ true → a < b
 lt a b e = grind (arith, nat_tests)
 
+-- at head it goes on to want, or leaves where a kill is noticed
 alloc_head : (s : State) (t : ℕ) (killed : Bool) (p : Head) (turn : Turn AllocPhase) (new : Pool) → Inv s.geometry s
     → t < s.geometry.tasks + 1 → s.calls t ≡ Some (call.Alloc (at.Head p)) → AllocHeadRow (pool_of s) killed p turn new
     → Inv s.geometry (after call.Alloc s t turn new)
@@ -49,6 +51,7 @@ alloc_head s t killed p turn new h l e row =
     (stays s.geometry s t _ (Some (call.Alloc (at.Want (record { allocation = p.allocation; index = p.index })))) h
     l e refl tt (record { slot = tt; lock = y.lock; facts = y.facts })))
 
+-- at want it takes the slot, waits, or leaves where a kill is noticed
 alloc_want : (s : State) (t : ℕ) (killed : Bool) (p : Want) (turn : Turn AllocPhase) (new : Pool) → Inv s.geometry s
     → t < s.geometry.tasks + 1 → s.calls t ≡ Some (call.Alloc (at.Want p)) → AllocWantRow (pool_of s) t killed p turn new
     → Inv s.geometry (after call.Alloc s t turn new)
@@ -63,6 +66,7 @@ alloc_want s t killed p turn new h l e row =
     (at.Locked (record { allocation = p.allocation; index = p.index })) turn new h l e r refl refl refl refl refl
     (record { slot = put_same s.slots (slot_of s.geometry p.allocation.file p.index) (Some t); lock = y.lock; facts = y.facts }))
 
+-- at locked it passes over an index with a page, and begins to make one where there is none
 alloc_locked : (s : State) (t : ℕ) (p : Locked) (turn : Turn AllocPhase) (new : Pool) → Inv s.geometry s
     → t < s.geometry.tasks + 1 → s.calls t ≡ Some (call.Alloc (at.Locked p)) → AllocLockedRow (pool_of s) p turn new
     → Inv s.geometry (after call.Alloc s t turn new)
@@ -77,6 +81,7 @@ alloc_locked s t p turn new h l e row =
     (stays s.geometry s t _ (Some (call.Alloc (at.Missing (record { allocation = p.allocation; index = p.index }))))
     h l e refl tt (record { slot = y.slot; lock = y.lock; facts = record { aim = y.facts.aim; bare = no_page _ none } })))
 
+-- at missing its change is begun, or denied
 alloc_missing : (s : State) (t : ℕ) (grant : Bool) (p : Missing) (turn : Turn AllocPhase) (new : Pool) → Inv s.geometry s
     → t < s.geometry.tasks + 1 → s.calls t ≡ Some (call.Alloc (at.Missing p)) → AllocMissingRow (pool_of s) grant p turn new
     → Inv s.geometry (after call.Alloc s t turn new)
@@ -98,6 +103,7 @@ alloc_missing s t grant p turn new h l e row =
       own = record { slot = y.slot; lock = y.lock; facts = record { aim = y.facts.aim; bare = y.facts.bare; one = o.0; marked = o.1 } };
     })
 
+-- at changed it takes a frame; it gives the change up where there is none or a kill is noticed
 alloc_changed : (s : State) (t : ℕ) (killed : Bool) (p : Changed) (turn : Turn AllocPhase) (new : Pool) → Inv s.geometry s
     → t < s.geometry.tasks + 1 → s.calls t ≡ Some (call.Alloc (at.Changed p)) → AllocChangedRow (pool_of s) killed p turn new
     → Inv s.geometry (after call.Alloc s t turn new)
@@ -126,6 +132,7 @@ alloc_changed s t killed p turn new h l e row =
       own = λ x. record { slot = y.slot; lock = y.lock; facts = y.facts };
     }))
 
+-- at taken the change is committed; the index is reserved from then on
 alloc_taken : (s : State) (t : ℕ) (p : Taken) (turn : Turn AllocPhase) (new : Pool) → Inv s.geometry s → t < s.geometry.tasks + 1
     → s.calls t ≡ Some (call.Alloc (at.Taken p)) → AllocTakenRow (pool_of s) p turn new
     → Inv s.geometry (after call.Alloc s t turn new)
@@ -157,6 +164,7 @@ alloc_taken s t p turn new h l e row =
       own_next = record { slot = y.slot; lock = y.lock; facts = record { aim = y.facts.aim; bare = y.facts.bare; marked = marked } };
     })
 
+-- at committed the frame becomes the page, or is given back where that is denied
 alloc_committed : (s : State) (t : ℕ) (grant : Bool) (p : Committed) (turn : Turn AllocPhase) (new : Pool) → Inv s.geometry s
     → t < s.geometry.tasks + 1 → s.calls t ≡ Some (call.Alloc (at.Committed p)) → AllocCommittedRow (pool_of s) grant p turn new
     → Inv s.geometry (after call.Alloc s t turn new)
@@ -177,6 +185,7 @@ alloc_committed s t grant p turn new h l e row =
     (record { allocation = p.allocation; index = p.index; held = p.held; answer = answer.NoMemory })))) h l e refl
     tt (record { slot = y.slot; lock = y.lock; facts = y.facts })))
 
+-- at unslot it leaves the slot, for the next index, for the size, or for its end
 alloc_unslot : (s : State) (t : ℕ) (p : Unslot) (turn : Turn AllocPhase) (new : Pool) → Inv s.geometry s
     → t < s.geometry.tasks + 1 → s.calls t ≡ Some (call.Alloc (at.Unslot p)) → AllocUnslotRow (pool_of s) p turn new
     → Inv s.geometry (after call.Alloc s t turn new)
@@ -218,6 +227,7 @@ alloc_unslot s t p turn new h l e row =
     (Some (call.Alloc (at.Leave (record { allocation = p.allocation; answer = carried })))) f p.index h l e refl
     refl refl refl y.slot tt (record { slot = tt; lock = y.lock; facts = record { file = y.facts.aim.file } })))
 
+-- so each row of an allocation keeps the invariant
 pub alloc_row : (s : State) (t : ℕ) (killed grant : Bool) (phase : AllocPhase) (turn : Turn AllocPhase) (new : Pool)
     → Inv s.geometry s → t < s.geometry.tasks + 1 → s.calls t ≡ Some (call.Alloc phase)
     → AllocRow (pool_of s) t killed grant phase turn new → Inv s.geometry (after call.Alloc s t turn new)

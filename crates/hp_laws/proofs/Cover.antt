@@ -26,6 +26,7 @@ use Rattle.hp_laws.proofs.Claims.{only_if, claim, claimed, once}
 abbrev need : Geometry → State → Option Call → ℕ
 need g s c = total g.files (λ f. total g.limit (λ j. bit (claim s.reserved c f j)))
 
+-- since no index is claimed twice, all claims together are at most the reserved indices without a page
 all_needs : (g : Geometry) (s : State) → Inv g s → total (g.tasks + 1) (λ t. need g s (s.calls t)) ≤ vacant_of g s.reserved s.pages
 unfolding vacant
 all_needs g s h =
@@ -55,9 +56,11 @@ all_needs g s h =
         let d = count_below-total (λ j. s.reserved f j && is_none (s.pages f j)) g.limit in
         omega arith
 
+-- an index passes the test for itself
 self : (f i : ℕ) → ((f == f) && (i == i)) ≡ true
 self f i = grind (arith, nat_tests)
 
+-- a call that claims an index needs one at least
 one_claim : (g : Geometry) (s : State) (c : Option Call) (f i : ℕ) (b : Bool) → f < g.files → i < g.limit
     → (b ≡ true → claim s.reserved c f i ≡ true) → bit b ≤ need g s c
 one_claim g s c f i false l m e = omega arith
@@ -69,6 +72,7 @@ one_claim g s c f i true l m e =
     let d : bit (claim s.reserved c f i) ≡ 1 = ap bit (e refl) in
     omega arith
 
+-- a truncation that claims a tail needs as many as are reserved there
 tail_needs : (g : Geometry) (s : State) (c : Option Call) (f from n : ℕ) → f < g.files → n ≤ count_within (s.reserved f) from g.limit
     → ((j : ℕ) → claim s.reserved c f j ≡ ((f == f) && (nat_le from j && s.reserved f j))) → n ≤ need g s c
 unfolding count_within
@@ -86,6 +90,7 @@ tail_needs g s c f from n l m e =
     drop_same true = grind (arith, nat_tests)
     drop_same false = grind (arith, nat_tests)
 
+-- an index under a test is there where the test holds
 when : (b : Bool) (f i : ℕ) → b ≡ true → is_there (only_if b (f, i)) f i ≡ true
 when true f i e = self f i
 when false f i e = (let d : false ≡ true = e in cc)
@@ -162,9 +167,11 @@ enough g s t c h l e =
     let w : s.resv + total n (λ u. less (s.calls u)) ≡ vacant_of g s.reserved s.pages + total n (λ u. more (s.calls u)) = h.count in
     omega arith
 
+-- a number that is 0 passes the test for it
 is_zero : (m : ℕ) → m ≡ 0 → (m == 0) ≡ true
 is_zero m e = grind (arith, nat_tests)
 
+-- so the count has what a call's next step takes from it, in each phase that lowers it
 pub can_settle : (g : Geometry) (s : State) (t : ℕ) (c : Option Call) → Inv g s → t < g.tasks + 1 → s.calls t ≡ c → Stands g s t c
     → CanSettle s c
 can_settle g s t (Some (call.Touch (touch.Changed p))) k l e h =

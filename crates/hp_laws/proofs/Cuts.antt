@@ -29,10 +29,12 @@ reach_cases s t b f j P e r low other own = elim r [
   ]
 ]
 
+-- after a call goes on, another call is ahead of an index as before
 new_other : (calls : ℕ → Option Call) (t u : ℕ) (c : Option Call) (size : ℕ → ℕ) (f j : ℕ) → u ≢ t → ahead (calls u) f j ≡ true
     → Reached size (put (λ (w : ℕ). ahead (calls w)) t (ahead c)) f j
 new_other calls t u c size f j d p = inr (u, ap (λ (m : ℕ → ℕ → Bool). m f j) (put_other (λ (w : ℕ). ahead (calls w)) t (ahead c) u d) ∙ p)
 
+-- and the one that went on is where it now stands
 new_own : (calls : ℕ → Option Call) (t : ℕ) (c : Option Call) (size : ℕ → ℕ) (f j : ℕ) → ahead c f j ≡ true
     → Reached size (put (λ (w : ℕ). ahead (calls w)) t (ahead c)) f j
 new_own calls t c size f j p = inr (t, ap (λ (m : ℕ → ℕ → Bool). m f j) (put_same (λ (w : ℕ). ahead (calls w)) t (ahead c)) ∙ p)
@@ -62,6 +64,7 @@ same_holders g s t b c h e same =
 other_file : (g : Geometry) (s : State) (t u k f : ℕ) → Inv g s → HasLock s t f → u ≢ t → locked_file (s.calls u) ≡ Some k → k ≢ f
 other_file g s t u k f h held d e = λ q. d (same_holder u t (s.locks f) (ap s.locks (sym q) ∙ locks_file g s u k h e) held)
 
+-- a lock that another task holds is that of another file
 other_lock : (s : State) (t u k f : ℕ) → HasLock s t f → u ≢ t → s.locks k ≡ Some u → k ≢ f
 other_lock s t u k f held d e = λ q. d (same_holder u t (s.locks f) (ap s.locks (sym q) ∙ e) held)
 
@@ -225,6 +228,7 @@ passes g s t b c f i new h l e same_lock some none same_hand same_change balance
         let q : ◌≡◌ {A = Option (ℕ × ℕ)} None (Some k) = sym no_b ∙ (ap fills (sym e) ∙ (ap (λ (m : ℕ). fills (s.calls m)) (sym d) ∙ p)) in
         absurd (cc)
 
+-- what holds after, where it can only have been lost, held before
 was_true : (b c : Bool) → (b ≡ false → c ≡ false) → c ≡ true → b ≡ true
 was_true true c h e = refl
 was_true false c h e = (let z : false ≡ true = sym (h refl) ∙ e in absurd (cc))

@@ -42,6 +42,7 @@ free_change f x n v l =
     let b : bit (is_free (put f x v x)) ≡ bit (is_free v) = ap (λ (m : FrameState). bit (is_free m)) (put_same f x v) in
     omega arith
 
+-- a frame that stays free, or stays in use, leaves the number of free frames
 pub free_same : (f : ℕ → FrameState) (x n : ℕ) (v : FrameState) → is_free v ≡ is_free (f x) → free_frames (put f x v) n ≡ free_frames f n
 unfolding free_frames
 free_same f x n v e = count_below-ext (λ j. is_free (put f x v j)) (λ j. is_free (f j)) n (λ j l. elim (same_or_other j x) [
@@ -100,9 +101,11 @@ rebalances g s t b c r h l e same same_held same_hand same_change balance enough
       own = own;
     })
 
+-- a call without an open change is counted for no file
 opens_none : (c : Option Call) (k : ℕ) → change_in c ≡ None → opens k c ≡ 0
 opens_none c k e = ap (λ (o : Option ℕ). elim o [ None ↦ 0 | Some j ↦ bit (j == k) ]) e
 
+-- a call with one is counted for its file alone
 opens_some : (c : Option Call) (f k : ℕ) → change_in c ≡ Some f → opens k c ≡ bit (f == k)
 opens_some c f k e = ap (λ (o : Option ℕ). elim o [ None ↦ 0 | Some j ↦ bit (j == k) ]) e
 
@@ -169,6 +172,7 @@ has_pending g s t b f h l e some =
     same : (k : ℕ) → (k == k) ≡ true
     same k = grind (arith, nat_tests)
 
+-- a count that goes down by one at a file loses what one call adds there
 lowered : (p : ℕ → ℕ) (f k m n : ℕ) → 1 ≤ p f → m ≡ bit (f == k) → n ≡ 0 → put p f (p f - 1) k + m ≡ p k + n
 lowered p f k m n l x y = grind (arith, nat_tests, put_tells)
 
@@ -205,6 +209,7 @@ closed g s t b c f h l e same same_held same_hand some none balance fill own =
     less_pending : (p q : ℕ → ℕ) (f k : ℕ) → p k ≤ q k → put p f (p f - 1) k ≤ q k
     less_pending p q f k l = grind (arith, put_tells)
 
+-- adding a range to a file's reserved indices takes none out
 pub grown_keeps : (r : ℕ → ℕ → Bool) (f from to k j : ℕ) → r k j ≡ true → put r f (add_range (r f) from to) k j ≡ true
 grown_keeps r f from to k j a = elim (same_or_other k f) [
   | inl d ↦ ap (λ (m : ℕ). put r f (add_range (r f) from to) m j) d
@@ -223,6 +228,7 @@ still_gone r f from to k j h a = elim (same_or_other k f) [
   | inr d ↦ ap (λ (m : ℕ → Bool). m j) (put_other r f (add_range (r f) from to) k d) ∙ a
 ]
 
+-- an index of a range lies below any limit that the range keeps to
 low_index : (from to j limit : ℕ) → to ≤ limit → is_within from to j ≡ true → j < limit
 low_index from to j limit l e = grind (arith, nat_tests)
 
@@ -256,6 +262,7 @@ gone_passed (Some (call.Unmap (unmap.Start _))) k j e = let d : false ≡ true =
 gone_passed (Some (call.Exit exit.Start)) k j e = let d : false ≡ true = e in absurd (cc)
 gone_passed c k j e = let d : false ≡ true = e in absurd (cc)
 
+-- what implies something false is false
 unless : (b d : Bool) → (b ≡ true → d ≡ true) → d ≡ false → b ≡ false
 unless true d h e = sym (h refl) ∙ e
 unless false d h e = refl

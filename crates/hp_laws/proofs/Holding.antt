@@ -11,6 +11,7 @@ use Rattle.hp_laws.proofs.Standing.{HasSlot, HasLock, Stands}
 use Rattle.hp_laws.proofs.Staying.{stands_after}
 use Rattle.hp_laws.proofs.Invariant.{Reached, Holders, Inv, goes_on, goes_as, put_known, place_same, same_opens, sweeps, to}
 
+-- equal options have equal values
 pub some_same : {A : Type 0} {a b : A} → Some a ≡ Some b → a ≡ b
 some_same e = cc
 
@@ -18,6 +19,7 @@ some_same e = cc
 holds_other : {A : Type 0} (held : ℕ → Option A) (t u : ℕ) (k : A) → held t ≡ None → held u ≡ Some k → u ≢ t
 holds_other {A} held t u k none some = λ d. (let x : ◌≡◌ {A = Option A} None (Some k) = sym none ∙ (ap held (sym d) ∙ some) in absurd (cc))
 
+-- who holds what stays told right: where a free slot is taken
 slot_taken_holders : (g : Geometry) (slots locks : ℕ → Option ℕ) (held : ℕ → Option (ℕ × ℕ)) (locked : ℕ → Option ℕ) (t f i : ℕ)
     → Holders g slots locks held locked → held t ≡ None
     → Holders g (put slots (slot_of g f i) (Some t)) locks (put held t (Some (f, i))) locked
@@ -29,6 +31,7 @@ slot_taken_holders g slots locks held locked t f i h none = record {
   lock = h.lock;
 }
 
+-- where a slot is left
 slot_left_holders : (g : Geometry) (slots locks : ℕ → Option ℕ) (held : ℕ → Option (ℕ × ℕ)) (locked : ℕ → Option ℕ) (t f i : ℕ)
     → Holders g slots locks held locked → held t ≡ Some (f, i)
     → Holders g (put slots (slot_of g f i) None) locks (put held t None) locked
@@ -45,6 +48,7 @@ slot_left_holders g slots locks held locked t f i h some = record {
   lock = h.lock;
 }
 
+-- where a free lock is taken
 lock_taken_holders : (g : Geometry) (slots locks : ℕ → Option ℕ) (held : ℕ → Option (ℕ × ℕ)) (locked : ℕ → Option ℕ) (t f : ℕ)
     → Holders g slots locks held locked → locked t ≡ None
     → Holders g slots (put locks f (Some t)) held (put locked t (Some f))
@@ -56,6 +60,7 @@ lock_taken_holders g slots locks held locked t f h none = record {
   ];
 }
 
+-- and where a lock is left
 lock_left_holders : (g : Geometry) (slots locks : ℕ → Option ℕ) (held : ℕ → Option (ℕ × ℕ)) (locked : ℕ → Option ℕ) (t f : ℕ)
     → Holders g slots locks held locked → locked t ≡ Some f
     → Holders g slots (put locks f None) held (put locked t None)
@@ -120,6 +125,7 @@ takes_slot g s t b c f i h l e free same same_lock none some fill own = goes_as 
     still : (u k : ℕ) → s.slots k ≡ Some u → put s.slots (slot_of g f i) (Some t) k ≡ Some u
     still u k a = grind (arith, put_tells)
 
+-- so of the calls, where one leaves its slot and keeps its lock
 pub left_holders : (g : Geometry) (s : State) (t : ℕ) (b c : Option Call) (f i : ℕ) → Inv g s → s.calls t ≡ b
     → locked_file c ≡ locked_file b → slot_held b ≡ Some (f, i) → slot_held c ≡ None
     → Holders g (put s.slots (slot_of g f i) None) s.locks (put (λ (u : ℕ). slot_held (s.calls u)) t (slot_held c))
@@ -133,6 +139,7 @@ left_holders g s t b c f i h e same_lock some none =
     (slot_left_holders g s.slots s.locks (λ u. slot_held (s.calls u)) (λ u. locked_file (s.calls u)) t f i h.holders
     (ap slot_held e ∙ some)))
 
+-- what other calls stand on stays where a slot is left: theirs is another
 pub left_stands : (g : Geometry) (s : State) (t f i : ℕ) → Inv g s → HasSlot g s t f i → (u : ℕ) → u ≢ t
     → Stands g (record s { pool = record s.pool { slots = put s.slots (slot_of g f i) None } }) u (s.calls u)
 left_stands g s t f i h held u d =

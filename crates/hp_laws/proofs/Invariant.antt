@@ -19,6 +19,7 @@ use Rattle.hp_laws.proofs.Standing.{Stands}
 abbrev pub vacant_of : Geometry → (ℕ → ℕ → Bool) → (ℕ → ℕ → Option ℕ) → ℕ
 vacant_of g reserved pages = total g.files (λ f. vacant g.limit (reserved f) (pages f))
 
+-- a sum over the calls of all tasks
 abbrev pub sum_of : Geometry → (Option Call → ℕ) → (ℕ → Option Call) → ℕ
 sum_of g v calls = total (g.tasks + 1) (λ u. v (calls u))
 
@@ -63,6 +64,7 @@ pub record Holders (g : Geometry) (slots locks : ℕ → Option ℕ) (held : ℕ
   pub slot : (k u : ℕ) → slots k ≡ Some u → (place : ℕ × ℕ) × (held u ≡ Some place) × (slot_of g place.0 place.1 ≡ k)
   pub lock : (f u : ℕ) → locks f ≡ Some u → locked u ≡ Some f
 
+-- what every row keeps of a state
 pub record Inv (g : Geometry) (s : State) : Type 0 where
   pub geometry : s.geometry ≡ g
   pub count : s.resv + sum_of g less s.calls ≡ vacant_of g s.reserved s.pages + sum_of g more s.calls
@@ -118,10 +120,12 @@ count_after n calls t b c resv vac resv' vac' l e h d =
     let y : total n (λ u. more (put calls t c u)) + more b ≡ total n (λ u. more (calls u)) + more c = sum_after more n calls t b c l e in
     omega arith
 
+-- what holds of the value, if there is one, may be said more weakly
 pub if_weaker : {A : Type 0} {P Q : A → Type 0} (o : Option A) → ((a : A) → o ≡ Some a → P a → Q a) → IfSome o P → IfSome o Q
 if_weaker None f h = tt
 if_weaker (Some a) f h = f a refl h
 
+-- to put what is there changes nothing
 pub put_known : {A : Type 0} (f : ℕ → A) (k : ℕ) (v : A) → f k ≡ v → put f k v ≡ f
 put_known {A} f k v e = fun_ext (λ j. elim (same_or_other j k) [
   | inl d ↦ subst (λ (w : ℕ). put f k v w ≡ f w) (sym d) (put_same f k v ∙ sym e)
@@ -154,6 +158,7 @@ pub record GoesOn (g : Geometry) (s n : State) (t : ℕ) (b c : Option Call) (ah
   pub others : (u : ℕ) → u ≢ t → Stands g n u (s.calls u)
   pub own : Stands g n t c
 
+-- where a call goes on and the rest changes as said, the invariant is kept
 pub goes_on : (g : Geometry) (s n : State) (t : ℕ) (b c : Option Call) → Inv g s → t < g.tasks + 1 → s.calls t ≡ b
     → GoesOn g s n t b c (put (λ (u : ℕ). ahead (s.calls u)) t (ahead c))
     (put (λ (u : ℕ). passed (s.calls u)) t (passed c)) (put (λ (u : ℕ). gone (s.calls u)) t (gone c))
@@ -222,6 +227,7 @@ seen c = (less c, more c, hand c, change_in c, sweeps c, holds c)
 abbrev pub GoesAs : Geometry → State → State → ℕ → Option Call → Option Call → (ℕ → Option (ℕ × ℕ)) → (ℕ → Option ℕ) → Type 0
 GoesAs g s n t b c held locked = GoesOn g s n t b c (λ u. ahead (s.calls u)) (λ u. passed (s.calls u)) (λ u. gone (s.calls u)) held locked
 
+-- the same where the call stands to truncations as it did
 pub goes_as : (g : Geometry) (s n : State) (t : ℕ) (b c : Option Call) → Inv g s → t < g.tasks + 1 → s.calls t ≡ b → sweeps c ≡ sweeps b
     → GoesAs g s n t b c (put (λ (u : ℕ). slot_held (s.calls u)) t (slot_held c))
     (put (λ (u : ℕ). locked_file (s.calls u)) t (locked_file c))
@@ -243,6 +249,7 @@ goes_as g s n t b c h l e same p =
 abbrev pub Goes : Geometry → State → State → ℕ → Option Call → Option Call → Type 0
 Goes g s n t b c = GoesAs g s n t b c (λ u. slot_held (s.calls u)) (λ u. locked_file (s.calls u))
 
+-- and holds what it did
 pub goes : (g : Geometry) (s n : State) (t : ℕ) (b c : Option Call) → Inv g s → t < g.tasks + 1 → s.calls t ≡ b
     → sweeps c ≡ sweeps b → holds c ≡ holds b → Goes g s n t b c → Inv g (record n { calls = put s.calls t c })
 goes g s n t b c h l e same same_held p =

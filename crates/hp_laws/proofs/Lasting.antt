@@ -23,6 +23,7 @@ use Rattle.hp_laws.proofs.Shared.{by_test, by_option}
 use Rattle.hp_laws.proofs.Runs.{Always, always, row_keeps}
 use Rattle.hp_laws.proofs.Serving.{TurnWell, at_leaf, sure_commit, own_or_same}
 
+-- where the call ends, any answer will do
 abbrev Any : Answer → Type 0
 Any a = Unit {0}
 
@@ -43,21 +44,26 @@ Past i (alloc.Unslot p) = (i ≤ p.index) × (p.index ≡ i → p.answer ≢ Som
 Past i (alloc.Extend p) = Unit {0}
 Past i (alloc.Leave p) = Unit {0}
 
+-- an answer that is carried is one
 same_answer : {a b : Answer} → Some a ≡ Some b → a ≡ b
 same_answer e = cc
 
+-- past an index is at least at it
 low : (i k : ℕ) → i + 1 ≤ k → i ≤ k
 low i k h = omega arith
 
+-- past an index isn't at it
 beyond : {P : Type 0} (i k : ℕ) → i + 1 ≤ k → k ≡ i → P
 beyond i k h e = absurd (omega arith)
 
+-- a change that missed nothing passes the test for that
 none_missing : {P : Type 0} (m : ℕ) → m ≡ 0 → (m == 0) ≡ false → P
 none_missing m e d = absurd (never m e d)
   where
     never : (m : ℕ) → m ≡ 0 → (m == 0) ≡ false → ⊥
     never m e d = grind (arith, nat_tests)
 
+-- each row of the allocation leaves it at the index or past it, for want of no frame
 past_turn : (s : State) (t : ℕ) (killed grant : Bool) (i : ℕ) (phase : AllocPhase) (turn : Turn AllocPhase) (new : Pool)
     → Past i phase → AllocRow (pool_of s) t killed grant phase turn new → TurnWell AllocPhase (Past i) Any turn
 past_turn s t killed grant i (alloc.Start p) turn new h row = absurd h
@@ -97,16 +103,19 @@ past_turn s t killed grant i (alloc.Unslot p) turn new h row = by_option p.answe
 past_turn s t killed grant i (alloc.Extend p) turn new h row = at_leaf (Past i) Any _ turn row.0 tt
 past_turn s t killed grant i (alloc.Leave p) turn new h row = at_leaf (Past i) Any _ turn row.0 tt
 
+-- the same of the task's call, over or in flight
 abbrev CallPast : ℕ → Option Call → Type 0
 CallPast i None = Unit {0}
 CallPast i (Some (call.Alloc phase)) = Past i phase
 CallPast i (Some other) = ⊥
 
+-- so does the call that the turn leaves
 next_past : (i : ℕ) (turn : Turn AllocPhase) → TurnWell AllocPhase (Past i) Any turn → CallPast i (left call.Alloc turn)
 next_past i (Moved p) h = h
 next_past i (Blocked p u) h = h
 next_past i (Ended a) h = tt
 
+-- and each step of it
 past_call : (s : State) (t : ℕ) (killed grant : Bool) (i : ℕ) (c : Call) (o : Outcome) (pool : Pool) (next : Option Call)
     → CallPast i (Some c) → CallRow (pool_of s) t killed grant c o pool next → CallPast i next
 unfolding CallRow
@@ -119,6 +128,7 @@ past_call s t killed grant i (call.Truncate p) o pool next w row = absurd w
 past_call s t killed grant i (call.Unmap p) o pool next w row = absurd w
 past_call s t killed grant i (call.Exit p) o pool next w row = absurd w
 
+-- and any event that begins no call of the task
 past_row : (s : State) (t i : ℕ) (event : Event) (o : Outcome) (n : State) → Always s → is_begun t event o ≡ 0
     → CallPast i (s.calls t) → Row s event o n → CallPast i (n.calls t)
 past_row s t i event o n h quiet w row = own_or_same s t event o n (CallPast i (n.calls t)) h quiet row
@@ -126,6 +136,7 @@ past_row s t i event o n h quiet w row = own_or_same s t event o n (CallPast i (
     (λ grant c pool next is e r d. subst (λ (m : State). CallPast i (m.calls t)) (sym d) (subst (CallPast i) (sym (put_same s.calls t next))
     (past_call s t (is_killed (s.life t)) grant i c o pool next (subst (CallPast i) e w) r)))
 
+-- so over a run that begins none
 past_run : (t i : ℕ) (s : State) (es : List (Event × Outcome)) (n : State) → Run s es n → Always s → calls_begun t es ≡ 0
     → CallPast i (s.calls t) → CallPast i (n.calls t)
 past_run t i s [] n r h quiet w = subst (λ (m : State). CallPast i (m.calls t)) (sym r) w

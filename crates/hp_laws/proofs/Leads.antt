@@ -47,26 +47,32 @@ use Rattle.hp_laws.proofs.Meets.{HasPage, settles, stands, has_page, entry_place
 abbrev Leads : {P : Type 0} → (Turn P → Pool → Type 0) → Type 0
 Leads {P} row = (turn : Turn P) × (new : Pool) × row turn new
 
+-- a row that goes on to a phase applies
 goes : {P : Type 0} (phase : P) (after : Pool) → Leads (Goes phase after)
 goes phase after = (Moved phase, after, (refl, refl))
 
+-- so does one that ends the call
 ends : {P : Type 0} (a : Answer) (after : Pool) → (turn : Turn P) × (new : Pool) × Ends a after turn new
 ends a after = (Ended a, after, (refl, refl))
 
+-- a row by a test applies where each of its cases does
 test : {P : Type 0} {A B : Turn P → Pool → Type 0} (b : Bool) → (b ≡ true → Leads A) → (b ≡ false → Leads B)
     → Leads (λ turn new. MatchBool b (A turn new) (B turn new))
 test true a b = a refl
 test false a b = b refl
 
+-- so does one by an option
 option : {P X : Type 0} {A : Turn P → Pool → Type 0} {B : X → Turn P → Pool → Type 0} (o : Option X) → (o ≡ None → Leads A)
     → ((x : X) → o ≡ Some x → Leads (B x)) → Leads (λ turn new. MatchOption o (A turn new) (λ x. B x turn new))
 option None a b = a refl
 option (Some x) a b = b x refl
 
+-- a row that asks for something applies where that is there
 witness : {P X : Type 0} {Q : X → Type 0} {A : X → Turn P → Pool → Type 0} (x : X) → Q x → Leads (A x)
     → Leads (λ turn new. (y : X) × Q y × A y turn new)
 witness x q (turn, new, row) = (turn, new, (x, q, row))
 
+-- the rows that operations share apply in every state: at the start, where a lock is taken
 start : {P : Type 0} (s : Pool) (t : ℕ) (killed : Bool) (f : ℕ) (bad : Bool) (at_kill : Answer) (here next : P)
     → Leads (StartRow s t killed f bad at_kill here next)
 start s t killed f bad at_kill here next =
@@ -75,16 +81,20 @@ start s t killed f bad at_kill here next =
     (λ _. test killed (λ _. ends at_kill s)
     (λ _. option (s.locks f) (λ _. goes next _) (λ u _. (Blocked here u, s, (refl, refl))))))
 
+-- where a slot is taken
 want : {P : Type 0} (s : Pool) (t f i : ℕ) (here next : P) → Leads (WantSlotRow s t f i here next)
 want s t f i here next = option (s.slots (slot_of s.geometry f i)) (λ _. goes next _) (λ u _. (Blocked here u, s, (refl, refl)))
 
+-- where a change is begun
 change : {P : Type 0} (s : Pool) (grant : Bool) (f from to : ℕ) (denied : P) (changed : Change → P)
     → Leads (ChangeRow s grant f from to denied changed)
 change s grant f from to denied changed = test ((s.spare f == s.pending f) && not grant) (λ _. goes denied s) (λ _. goes _ _)
 
+-- and where one is committed
 commit : {P : Type 0} (s : Pool) (f : ℕ) (c : Change) (settle next : P) → Leads (CommitRow s f c settle next)
 commit s f c settle next = test (nat_lt (missing (s.reserved f) c.from c.to) c.missing) (λ _. goes settle _) (λ _. goes next _)
 
+-- a frame that counts as free is free
 free_is : (frame : FrameState) → is_free frame ≡ true → frame ≡ state.Free
 free_is state.Free e = refl
 free_is state.Hand e = (let d : false ≡ true = e in absurd (cc))
@@ -95,9 +105,11 @@ some_free : (frame : ℕ → FrameState) (frames : ℕ) → 1 ≤ free_frames fr
 unfolding free_frames
 some_free frame frames l = let o = some_member frames (λ x. is_free (frame x)) l in (o.0, free_is (frame o.0) o.1)
 
+-- a number that passes the test for 0 is 0
 is_nil : (m : ℕ) → (m == 0) ≡ true → m ≡ 0
 is_nil m e = grind (arith, nat_tests)
 
+-- a take applies where the reserve count is covered by free frames, and isn't 0 where it takes a reserved one
 take : {P : Type 0} (s : State) (m : ℕ) (no_frame : P) (taken : ℕ → P) → s.resv ≤ free_frames s.frame s.frames
     → (m ≡ 0 → 1 ≤ s.resv) → Leads (TakeRow (pool_of s) m no_frame taken)
 take s m no_frame taken covered reserved =
@@ -110,12 +122,15 @@ take s m no_frame taken covered reserved =
     more : (a b : ℕ) → (a == b) ≡ false → b ≤ a → 1 ≤ a
     more a b e l = grind (arith, nat_tests)
 
+-- the clearing of one task's entries applies in every state
 unmap_index : {P : Type 0} (s : Pool) (k f i : ℕ) (more last : P) → Leads (UnmapIndexRow s k f i more last)
 unmap_index s k f i more last = test (nat_lt k s.geometry.tasks) (λ _. goes more _) (λ _. goes last _)
 
+-- an eviction applies where the index has a page
 evict : {P : Type 0} (s : State) (f i : ℕ) (next : ℕ → P) → HasPage s f i → Leads (EvictRow (pool_of s) f i next)
 evict s f i next (x, page, placed) = (Moved (next x), _, (x, page, (refl, refl)))
 
+-- the pages of a file end somewhere
 some_end : (s : State) (f : ℕ) → IsReached s → (end : ℕ) × IsPagesEnd (s.pages f) end
 some_end s f reached =
     let o = last_used s.geometry.limit (s.pages f) in
@@ -130,6 +145,7 @@ some_end s f reached =
     clear top p i true d l = p i l (grind (arith, nat_tests))
     clear top p i false d l = beyond i (s.pages f i) (grind (arith, nat_tests)) refl
 
+-- a touch can go on from each phase in every reached state
 touch_leads : (s : State) (t : ℕ) (killed grant : Bool) (phase : TouchPhase) → IsReached s → s.calls t ≡ Some (call.Touch phase)
     → Leads (TouchRow (pool_of s) t killed grant phase)
 touch_leads s t killed grant (touch.Look p) reached e =
@@ -161,6 +177,7 @@ touch_leads s t killed grant (touch.Found p) reached e =
     (λ _. goes _ (pool_of s)))
 touch_leads s t killed grant (touch.Leave p) reached e = ends _ _
 
+-- so can a map
 map_leads : (s : State) (t : ℕ) (killed grant : Bool) (phase : MapPhase) → IsReached s → s.calls t ≡ Some (call.Map phase)
     → Leads (MapRow (pool_of s) t killed grant phase)
 map_leads s t killed grant (map.Start p) reached e = start (pool_of s) t killed p.map.file _ _ _ _
@@ -181,6 +198,7 @@ map_leads s t killed grant (map.Settle p) reached e = (Moved _, _, (settles s t 
 map_leads s t killed grant (map.Enter p) reached e = goes _ _
 map_leads s t killed grant (map.Leave p) reached e = ends _ _
 
+-- so can an allocation
 alloc_leads : (s : State) (t : ℕ) (killed grant : Bool) (phase : AllocPhase) → IsReached s → s.calls t ≡ Some (call.Alloc phase)
     → Leads (AllocRow (pool_of s) t killed grant phase)
 alloc_leads s t killed grant (alloc.Start p) reached e = start (pool_of s) t killed p.allocation.file _ _ _ _
@@ -205,6 +223,7 @@ alloc_leads s t killed grant (alloc.Unslot p) reached e =
 alloc_leads s t killed grant (alloc.Extend p) reached e = goes _ _
 alloc_leads s t killed grant (alloc.Leave p) reached e = ends _ _
 
+-- so can a punch
 punch_leads : (s : State) (t : ℕ) (killed grant : Bool) (phase : PunchPhase) → IsReached s → s.calls t ≡ Some (call.Punch phase)
     → Leads (PunchRow (pool_of s) t killed grant phase)
 punch_leads s t killed grant (punch.Start p) reached e = start (pool_of s) t killed p.hole.file _ _ _ _
@@ -222,6 +241,7 @@ punch_leads s t killed grant (punch.Unslot p) reached e =
     test (nat_lt (p.index + 1) (p.hole.from + p.hole.len)) (λ _. goes _ _) (λ _. goes _ _)
 punch_leads s t killed grant (punch.Leave p) reached e = ends _ _
 
+-- so can a truncation
 truncate_leads : (s : State) (t : ℕ) (killed grant : Bool) (phase : TruncatePhase) → IsReached s → s.calls t ≡ Some (call.Truncate phase)
     → Leads (TruncateRow (pool_of s) t killed grant phase)
 truncate_leads s t killed grant (truncate.Start p) reached e = start (pool_of s) t killed p.truncation.file _ _ _ _
@@ -240,17 +260,20 @@ truncate_leads s t killed grant (truncate.Tail p) reached e = goes _ _
 truncate_leads s t killed grant (truncate.Settle p) reached e = (Moved _, _, (settles s t _ reached e, (refl, refl)))
 truncate_leads s t killed grant (truncate.Leave p) reached e = ends _ _
 
+-- an unmap can go on in every state
 unmap_leads : (s : State) (t : ℕ) (killed grant : Bool) (phase : UnmapPhase) → Leads (UnmapRow (pool_of s) t killed grant phase)
 unmap_leads s t killed grant (unmap.Start p) = test (is_base (s.mappings t) p.base) (λ _. goes _ (pool_of s)) (λ _. ends _ (pool_of s))
 unmap_leads s t killed grant (unmap.Clear p) = goes _ _
 unmap_leads s t killed grant (unmap.Drop p) = ends _ _
 
+-- so can an exit
 exit_leads : (s : State) (t : ℕ) (killed grant : Bool) (phase : ExitPhase) → Leads (ExitRow (pool_of s) t killed grant phase)
 exit_leads s t killed grant exit.Start = option (first_base (s.mappings t)) (λ _. goes _ (pool_of s)) (λ base _. goes _ (pool_of s))
 exit_leads s t killed grant (exit.Clear p) = goes _ _
 exit_leads s t killed grant (exit.Drop p) = option (first_base (without (s.mappings t) p.base)) (λ _. goes _ _) (λ base _. goes _ _)
 exit_leads s t killed grant exit.Leave = ends _ (pool_of s)
 
+-- so each call in flight has a row
 call_leads : (s : State) (t : ℕ) (killed grant : Bool) (c : Call) → IsReached s → s.calls t ≡ Some c
     → (o : Outcome) × (new : Pool) × (next : Option Call) × CallRow (pool_of s) t killed grant c o new next
 unfolding CallRow
@@ -276,17 +299,20 @@ call_leads s t killed grant (call.Exit p) reached e =
     let r = exit_leads s t killed grant p in
     (told call.Exit r.0, r.1, left call.Exit r.0, (r.0, r.2, refl, refl))
 
+-- an event's row by a test applies where each of its cases does
 by_bool : {A B : Outcome → State → Type 0} (b : Bool) → (b ≡ true → (o : Outcome) × (n : State) × A o n)
     → (b ≡ false → (o : Outcome) × (n : State) × B o n) → (o : Outcome) × (n : State) × MatchBool b (A o n) (B o n)
 by_bool true a b = a refl
 by_bool false a b = b refl
 
+-- so does one by the call in flight
 by_call : {A : Outcome → State → Type 0} {B : Call → Outcome → State → Type 0} (c : Option Call)
     → (c ≡ None → (o : Outcome) × (n : State) × A o n) → ((x : Call) → c ≡ Some x → (o : Outcome) × (n : State) × B x o n)
     → (o : Outcome) × (n : State) × MatchOption c (A o n) (λ x. B x o n)
 by_call None a b = a refl
 by_call (Some x) a b = b x refl
 
+-- each event has an outcome and a state after it, in every reached state
 pub no_dead_ends : (s : State) (event : Event) → IsReached s → (o : Outcome) × (after : State) × Row s event o after
 unfolding BeginRow StepRow KillRow
 no_dead_ends s (Begin t p) reached =

@@ -37,6 +37,7 @@ use Rattle.hp_laws.proofs.Shared.{after, so, by_test, by_option, stands_at, star
 nothing : {A : Type 0} (b : Bool) → b ≡ false → b ≡ true → A
 nothing b e d = let z : false ≡ true = sym e ∙ d in absurd (cc)
 
+-- no more is missing of a range than its length
 missing_few : (r : ℕ → Bool) (from len : ℕ) → missing r from (from + len) ≤ len
 missing_few r from len = let a = count_within-missing r from (from + len) in omega arith
 
@@ -47,13 +48,16 @@ now_filled s f from len change whole j w =
     ∙ add_range_has (s.reserved f) change.from change.to j
     (ap (λ (m : ℕ). is_within m change.to j) whole.0 ∙ (ap (λ (m : ℕ). is_within from m j) whole.1 ∙ w))
 
+-- what is missing of a map's change is what is missing of its range
 own_missing : (r : ℕ → Bool) (from len : ℕ) (change : Change) → IsWhole change from len
     → missing r change.from change.to ≡ missing r from (from + len)
 own_missing r from len change whole = ap (λ (k : ℕ). missing r k change.to) whole.0 ∙ ap (missing r from) whole.1
 
+-- what the test of a row decides, as an inequality: where it holds
 lt : (a b : ℕ) → nat_lt a b ≡ true → a < b
 lt a b e = grind (arith, nat_tests)
 
+-- and where it fails
 le : (a b : ℕ) → nat_lt a b ≡ false → b ≤ a
 le a b e = grind (arith, nat_tests)
 
@@ -64,6 +68,7 @@ left_stands : (s : State) (t : ℕ) (map : MapRequest) (b : Answer) → HasLock 
 left_stands s t map b held range e =
     record { slot = tt; lock = held; facts = record { range = range; mapped = λ d. nothing (is_mapped b) e d } }
 
+-- at room it finds its base and makes room ready, or leaves where there is none or it is denied
 map_room : (s : State) (t : ℕ) (grant : Bool) (p : Room) (turn : Turn MapPhase) (new : Pool) → Inv s.geometry s
     → t < s.geometry.tasks + 1 → s.calls t ≡ Some (call.Map (at.Room p)) → MapRoomRow (pool_of s) t grant p turn new
     → Inv s.geometry (after call.Map s t turn new)
@@ -100,6 +105,7 @@ map_room s t grant p turn new h l e (found, room, row) =
     (stays s.geometry s t _ (Some (call.Map (leave answer.NoMemory))) h l e refl tt
     (left_stands s t p.map answer.NoMemory y.lock y.facts.range refl))))
 
+-- at missing its change is begun, or denied
 map_missing : (s : State) (t : ℕ) (grant : Bool) (p : Missing) (turn : Turn MapPhase) (new : Pool) → Inv s.geometry s
     → t < s.geometry.tasks + 1 → s.calls t ≡ Some (call.Map (at.Missing p)) → MapMissingRow (pool_of s) grant p turn new
     → Inv s.geometry (after call.Map s t turn new)
@@ -125,6 +131,7 @@ map_missing s t grant p turn new h l e row =
           };
     })
 
+-- at changed it counts what is missing; it gives the change up where that is too much or a kill is noticed
 map_changed : (s : State) (t : ℕ) (killed : Bool) (p : Changed) (turn : Turn MapPhase) (new : Pool) → Inv s.geometry s
     → t < s.geometry.tasks + 1 → s.calls t ≡ Some (call.Map (at.Changed p)) → MapChangedRow (pool_of s) killed p turn new
     → Inv s.geometry (after call.Map s t turn new)
@@ -146,6 +153,7 @@ map_changed s t killed p turn new h l e row =
     (s.resv + p.pending.missing) h l e refl refl refl refl (omega arith) (let z = h.enough in omega arith) tt
     (record { slot = tt; lock = y.lock; facts = y.facts }))))
 
+-- at accounted the change is committed; from then on the whole range is reserved
 map_accounted : (s : State) (t : ℕ) (p : Accounted) (turn : Turn MapPhase) (new : Pool) → Inv s.geometry s
     → t < s.geometry.tasks + 1 → s.calls t ≡ Some (call.Map (at.Accounted p)) → MapAccountedRow (pool_of s) p turn new
     → Inv s.geometry (after call.Map s t turn new)
@@ -175,6 +183,7 @@ map_accounted s t p turn new h l e row =
     y.facts.range.file low refl refl refl refl refl nobody (omega arith) tt
     (record { slot = tt; lock = y.lock; facts = record { range = y.facts.range; based = y.facts.based; filled = λ d. filled } })))
 
+-- at settle it gives back what it counted too much
 map_settle : (s : State) (t : ℕ) (p : Settle) (turn : Turn MapPhase) (new : Pool) → Inv s.geometry s → t < s.geometry.tasks + 1
     → s.calls t ≡ Some (call.Map (at.Settle p)) → MapSettleRow (pool_of s) p turn new
     → Inv s.geometry (after call.Map s t turn new)
@@ -185,6 +194,7 @@ map_settle s t p turn new h l e (low, row) =
     (s.resv - p.excess) h l e refl refl refl refl (omega arith) (let z = h.enough in omega arith) tt
     (record { slot = tt; lock = y.lock; facts = record { range = y.facts.range; based = y.facts.based; filled = λ d. y.facts.filled } }))
 
+-- at enter its mapping is entered and the file grows
 map_enter : (s : State) (t : ℕ) (p : Enter) (turn : Turn MapPhase) (new : Pool) → Inv s.geometry s → t < s.geometry.tasks + 1
     → s.calls t ≡ Some (call.Map (at.Enter p)) → MapEnterRow (pool_of s) t p turn new
     → Inv s.geometry (after call.Map s t turn new)
@@ -206,6 +216,7 @@ map_enter s t p turn new h l e row =
     grown : (size : ℕ → ℕ) (f m : ℕ) → m ≤ put size f (max (size f) m) f
     grown size f m = let a : put size f (max (size f) m) f ≡ max (size f) m = put_same size f (max (size f) m) in omega arith
 
+-- so each row of a map keeps the invariant
 pub map_row : (s : State) (t : ℕ) (killed grant : Bool) (phase : MapPhase) (turn : Turn MapPhase) (new : Pool) → Inv s.geometry s
     → t < s.geometry.tasks + 1 → s.calls t ≡ Some (call.Map phase) → MapRow (pool_of s) t killed grant phase turn new
     → Inv s.geometry (after call.Map s t turn new)

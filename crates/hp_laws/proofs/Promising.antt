@@ -32,12 +32,15 @@ use Rattle.hp_laws.proofs.Invariant.{Inv}
 use Rattle.hp_laws.proofs.Shared.{by_test, by_option, stands_at}
 use Rattle.hp_laws.proofs.StepsLeft.{deletes}
 
+-- what is false is not so
 pub never : {P : Type 0} → false ≡ true → P
 never e = absurd (cc)
 
+-- a test has one outcome
 pub clash : {P : Type 0} (b : Bool) → b ≡ true → b ≡ false → P
 clash b e d = (let z : true ≡ false = sym e ∙ d in absurd (cc))
 
+-- the range of a punch, in each phase
 abbrev pub hole_of : PunchPhase → Hole
 hole_of (punch.Start p) = p.hole
 hole_of (punch.Want p) = p.hole
@@ -49,10 +52,12 @@ hole_of (punch.Free p) = p.hole
 hole_of (punch.Unslot p) = p.hole
 hole_of (punch.Leave p) = p.hole
 
+-- the punch has taken the file's lock
 abbrev pub past_punch : PunchPhase → Bool
 past_punch (punch.Start p) = false
 past_punch other = true
 
+-- the truncation has taken the file's lock
 abbrev pub past_truncate : TruncatePhase → Bool
 past_truncate (truncate.Start p) = false
 past_truncate other = true
@@ -71,16 +76,20 @@ KeptAt s k j = (s.reserved k j ≡ true) × (j < s.size k) × ((u : ℕ) → rem
 abbrev pub Kept : State → List Moment → Type 0
 Kept s ms = (k j : ℕ) → IsPromised k j ms → KeptAt s k j
 
+-- both of two tests that hold together hold
 pub and_both : (a b : Bool) → (a && b) ≡ true → (a ≡ true) × (b ≡ true)
 and_both true b e = (refl, e)
 and_both false b e = never e
 
+-- an equality test that holds is an equation
 pub same_of : (a b : ℕ) → (a == b) ≡ true → a ≡ b
 same_of a b e = grind (arith, nat_tests)
 
+-- a test for a file says which file it is
 file_of : (f k : ℕ) (b : Bool) → ((f == k) && b) ≡ true → Some f ≡ Some k
 file_of f k b e = ap (λ (m : ℕ). Some m) (same_of f k (and_both (f == k) b e).0)
 
+-- a punch past its start holds the lock of its file
 hole_locked : (phase : PunchPhase) → past_punch phase ≡ true → locked_file (Some (call.Punch phase)) ≡ Some (hole_of phase).file
 hole_locked (punch.Start p) e = never e
 hole_locked (punch.Want p) e = refl
@@ -92,6 +101,7 @@ hole_locked (punch.Free p) e = refl
 hole_locked (punch.Unslot p) e = refl
 hole_locked (punch.Leave p) e = refl
 
+-- so does a truncation
 cut_locked : (phase : TruncatePhase) → past_truncate phase ≡ true
     → locked_file (Some (call.Truncate phase)) ≡ Some (truncation_of phase).file
 cut_locked (truncate.Start p) e = never e
@@ -131,12 +141,15 @@ removes_deleted (call.Punch (punch.Delete p)) k j e s t h d =
 removes_deleted (call.Truncate (truncate.Tail p)) k j e s t h d = e
 removes_deleted c k j e s t h d = never e
 
+-- a turn that moved, moved to one phase
 moved_is : {P : Type 0} {p q : P} {turn : Turn P} → turn ≡ Moved p → turn ≡ Moved q → q ≡ p
 moved_is {P} {p} {q} e d = (let z : ◌≡◌ {A = Turn P} (Moved q) (Moved p) = sym d ∙ e in cc)
 
+-- and has not ended
 not_ended : {P Q : Type 0} {q : P} {a : Answer} {turn : Turn P} → turn ≡ Ended a → turn ≡ Moved q → Q
 not_ended {P} {q = q} {a = a} e d = (let z : ◌≡◌ {A = Turn P} (Moved q) (Ended a) = sym d ∙ e in absurd (cc))
 
+-- nor is it blocked
 not_blocked : {P Q : Type 0} {p q : P} {u : ℕ} {turn : Turn P} → turn ≡ Blocked p u → turn ≡ Moved q → Q
 not_blocked {P} {p = p} {q = q} {u = u} e d = (let z : ◌≡◌ {A = Turn P} (Moved q) (Blocked p u) = sym d ∙ e in absurd (cc))
 
@@ -199,6 +212,7 @@ truncate_cut s t killed grant (truncate.Leave p) q turn new row d = not_ended ro
 abbrev pub Removes : Call → Outcome → ℕ → ℕ → Type 0
 Removes c o k j = (removes (Some c) k j ≡ true) ⊎ ((phase : Phase) × (o ≡ outcome.Moved phase) × (can_take_back (Some c) k j ≡ true))
 
+-- a punch that removes an index after a move did so before, or has just taken its lock
 punch_removes : (phase q : PunchPhase) (k j : ℕ) → hole_of q ≡ hole_of phase → removes (Some (call.Punch q)) k j ≡ true
     → Removes (call.Punch phase) (outcome.Moved (word_of (call.Punch q))) k j
 punch_removes (punch.Start p) q k j same e =
@@ -212,6 +226,7 @@ punch_removes (punch.Free p) q k j same e = inl (ap (λ (m : Hole). in_hole m k 
 punch_removes (punch.Unslot p) q k j same e = inl (ap (λ (m : Hole). in_hole m k j) (sym same) ∙ (and_both (past_punch q) _ e).1)
 punch_removes (punch.Leave p) q k j same e = inl (ap (λ (m : Hole). in_hole m k j) (sym same) ∙ (and_both (past_punch q) _ e).1)
 
+-- so with a truncation
 truncate_removes : (phase q : TruncatePhase) (k j : ℕ) → truncation_of q ≡ truncation_of phase
     → removes (Some (call.Truncate q)) k j ≡ true → Removes (call.Truncate phase) (outcome.Moved (word_of (call.Truncate q))) k j
 truncate_removes (truncate.Start p) q k j same e =
@@ -237,6 +252,7 @@ truncate_removes (truncate.Settle p) q k j same e =
 truncate_removes (truncate.Leave p) q k j same e =
     inl (ap (λ (m : Truncation). is_cut m k j) (sym same) ∙ (and_both (past_truncate q) _ e).1)
 
+-- so by the rows of a punch, where it isn't blocked
 punch_next : (s : State) (t : ℕ) (killed grant : Bool) (phase : PunchPhase) (turn : Turn PunchPhase) (new : Pool) (k j : ℕ)
     → PunchRow (pool_of s) t killed grant phase turn new → ((u : ℕ) → told call.Punch turn ≡ outcome.Blocked u → ⊥)
     → removes (left call.Punch turn) k j ≡ true → Removes (call.Punch phase) (told call.Punch turn) k j
@@ -245,6 +261,7 @@ punch_next s t killed grant phase (Moved q) new k j row free e =
 punch_next s t killed grant phase (Blocked q u) new k j row free e = absurd (free u refl)
 punch_next s t killed grant phase (Ended a) new k j row free e = never e
 
+-- and by those of a truncation
 truncate_next : (s : State) (t : ℕ) (killed grant : Bool) (phase : TruncatePhase) (turn : Turn TruncatePhase) (new : Pool) (k j : ℕ)
     → TruncateRow (pool_of s) t killed grant phase turn new → ((u : ℕ) → told call.Truncate turn ≡ outcome.Blocked u → ⊥)
     → removes (left call.Truncate turn) k j ≡ true → Removes (call.Truncate phase) (told call.Truncate turn) k j
@@ -253,6 +270,7 @@ truncate_next s t killed grant phase (Moved q) new k j row free e =
 truncate_next s t killed grant phase (Blocked q u) new k j row free e = absurd (free u refl)
 truncate_next s t killed grant phase (Ended a) new k j row free e = never e
 
+-- a call of another operation removes nothing after any turn
 quiet_next : {P : Type 0} (call : P → Call) (turn : Turn P) (k j : ℕ) → ((p : P) → removes (Some (call p)) k j ≡ false)
     → removes (left call turn) k j ≡ false
 quiet_next call (Moved p) k j h = h p

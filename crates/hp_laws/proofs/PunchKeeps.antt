@@ -28,9 +28,11 @@ use Rattle.hp_laws.proofs.Removals.{evicts, deletes, page_marked}
 use Rattle.hp_laws.proofs.Shared.{after, so, by_test, stands_at, start_row, good_range, want_row}
 use Rattle.hp_laws.proofs.TouchKeeps.{some_page}
 
+-- what the test of a row decides, as an inequality: where it holds
 lt : (a b : ℕ) → nat_lt a b ≡ true → a < b
 lt a b e = grind (arith, nat_tests)
 
+-- and where it fails
 le : (a b : ℕ) → nat_lt a b ≡ false → b ≤ a
 le a b e = grind (arith, nat_tests)
 
@@ -43,6 +45,7 @@ spare_left true pending spare l = here (nat_lt pending spare) refl
     here false e = l
 spare_left false pending spare l = l
 
+-- at locked it goes on to clear an index with a page, and passes over one without
 punch_locked : (s : State) (t : ℕ) (p : Locked) (turn : Turn PunchPhase) (new : Pool) → Inv s.geometry s → 1 ≤ t
     → t < s.geometry.tasks + 1 → s.calls t ≡ Some (call.Punch (at.Locked p)) → PunchLockedRow (pool_of s) p turn new
     → Inv s.geometry (after call.Punch s t turn new)
@@ -65,6 +68,7 @@ punch_locked s t p turn new h one l e row =
     (stays s.geometry s t _ (Some (call.Punch (at.Unslot (record { hole = p.hole; index = p.index })))) h l e refl
     tt (record { slot = y.slot; lock = y.lock; facts = y.facts })))
 
+-- at unmap it clears one task's entries, and goes on to the next task or to evict
 punch_unmap : (s : State) (t : ℕ) (p : Unmap) (turn : Turn PunchPhase) (new : Pool) → Inv s.geometry s → t < s.geometry.tasks + 1
     → s.calls t ≡ Some (call.Punch (at.Unmap p)) → PunchUnmapRow (pool_of s) p turn new
     → Inv s.geometry (after call.Punch s t turn new)
@@ -105,6 +109,7 @@ punch_unmap s t p turn new h l e row =
       };
     })))
 
+-- at evict the page goes into its hand
 punch_evict : (s : State) (t : ℕ) (p : Evict) (turn : Turn PunchPhase) (new : Pool) → Inv s.geometry s → t < s.geometry.tasks + 1
     → s.calls t ≡ Some (call.Punch (at.Evict p)) → PunchEvictRow (pool_of s) p turn new
     → Inv s.geometry (after call.Punch s t turn new)
@@ -126,6 +131,7 @@ punch_evict s t p turn new h l e row =
       };
     }))
 
+-- at delete the index is taken out of the reserved ones, or that is denied
 punch_delete : (s : State) (t : ℕ) (grant : Bool) (p : Delete) (turn : Turn PunchPhase) (new : Pool) → Inv s.geometry s
     → t < s.geometry.tasks + 1 → s.calls t ≡ Some (call.Punch (at.Delete p)) → PunchDeleteRow (pool_of s) grant p turn new
     → Inv s.geometry (after call.Punch s t turn new)
@@ -148,6 +154,7 @@ punch_delete s t grant p turn new h l e row =
       facts = record { aim = y.facts.aim; bare = y.facts.bare; marked = λ d. (let z : false ≡ true = d in absurd (cc)) };
     })))
 
+-- at free the frame is given back, and with it the reservation where the delete was denied
 punch_free : (s : State) (t : ℕ) (p : Free) (turn : Turn PunchPhase) (new : Pool) → Inv s.geometry s → t < s.geometry.tasks + 1
     → s.calls t ≡ Some (call.Punch (at.Free p)) → PunchFreeRow (pool_of s) p turn new
     → Inv s.geometry (after call.Punch s t turn new)
@@ -166,6 +173,7 @@ punch_free s t p turn new h l e row =
     few true r = omega arith
     few false r = omega arith
 
+-- at unslot it leaves the slot, for the next index or for its end
 punch_unslot : (s : State) (t : ℕ) (p : Unslot) (turn : Turn PunchPhase) (new : Pool) → Inv s.geometry s
     → t < s.geometry.tasks + 1 → s.calls t ≡ Some (call.Punch (at.Unslot p)) → PunchUnslotRow (pool_of s) p turn new
     → Inv s.geometry (after call.Punch s t turn new)
@@ -184,6 +192,7 @@ punch_unslot s t p turn new h l e row =
     (leaves_slot s.geometry s t _ (Some (call.Punch (at.Leave (record { hole = p.hole })))) p.hole.file p.index h l
     e refl refl refl refl y.slot tt (record { slot = tt; lock = y.lock; facts = record { file = y.facts.aim.file } })))
 
+-- so each row of a punch keeps the invariant
 pub punch_row : (s : State) (t : ℕ) (killed grant : Bool) (phase : PunchPhase) (turn : Turn PunchPhase) (new : Pool)
     → Inv s.geometry s → 1 ≤ t → t < s.geometry.tasks + 1 → s.calls t ≡ Some (call.Punch phase)
     → PunchRow (pool_of s) t killed grant phase turn new → Inv s.geometry (after call.Punch s t turn new)

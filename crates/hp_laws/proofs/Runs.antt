@@ -65,6 +65,7 @@ life_set g s lives h =
       stands = h.stands;
     }
 
+-- a call that begins keeps the invariant: its first phase stands on nothing
 first_keeps : (s : State) (t : ℕ) (o : Op) → Inv s.geometry s → t < s.geometry.tasks + 1 → s.calls t ≡ None
     → Inv s.geometry (Invariant.to s t (Some (first o)))
 first_keeps s t (op.Map f from len) h l e = stays s.geometry s t None _ h l e refl tt (record { slot = tt; lock = tt; facts = tt })
@@ -145,6 +146,7 @@ lives_on tasks lives calls t c next h e = here c next refl
 in_state : (a b : State) → b ≡ a → Always a → Always b
 in_state a b e h = subst Always (sym e) h
 
+-- each row keeps what every event keeps
 pub row_keeps : (s : State) (event : Event) (o : Outcome) (n : State) → Always s → Row s event o n → Always n
 unfolding BeginRow StepRow KillRow
 row_keeps s (Begin t p) o n h row =
@@ -206,6 +208,7 @@ row_keeps s (Kill t) o n h row =
     not_dead life.Killed e = refl
     not_dead life.Dead e = (let z : false ≡ true = e in cc)
 
+-- so does each run
 pub run_keeps : (s : State) (es : List (Event × Outcome)) (n : State) → Always s → Run s es n → Always n
 run_keeps s [] n h r = subst Always (sym r) h
 run_keeps s (e ∷ es) n h r = run_keeps r.0 es n (row_keeps s e.0 e.1 r.0 h r.1) r.2
@@ -240,16 +243,20 @@ opening_place frames = record {
     within x (Hand t) a = (let d : ◌≡◌ {A = Option ℕ} None (Some x) = a in absurd (cc))
     within x (Page f i) a = (let d : ◌≡◌ {A = Option ℕ} None (Some x) = a in absurd (cc))
 
+-- an empty option has no value
 no_value : {A P : Type 0} {x : A} → ◌≡◌ {A = Option A} None (Some x) → P
 no_value d = absurd (cc)
 
+-- what is false is not so
 never : {P : Type 0} → false ≡ true → P
 never d = absurd (cc)
 
+-- where nothing is reserved, nothing reserved is without a page
 nothing_vacant : (limit : ℕ) → vacant limit (λ _. false) (λ _. None) ≡ 0
 unfolding vacant
 nothing_vacant limit = count_below_none _ limit (λ k l. refl)
 
+-- the state in which a pool opens is well
 pub opens_well : (g : Geometry) (frames : ℕ) → Always (opening g frames)
 opens_well g frames = record {
   inv = record {
@@ -285,6 +292,7 @@ opens_well g frames = record {
 pub always : (s : State) → IsReached s → Always s
 always s reached = run_keeps (opening s.geometry s.frames) reached.0 s (opens_well s.geometry s.frames) reached.1
 
+-- so the headline holds in every reached state
 pub headline : (s : State) → IsReached s → Headline s
 headline s reached =
     let h = (always s reached).inv in

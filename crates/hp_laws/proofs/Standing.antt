@@ -27,6 +27,7 @@ use Rattle.hp_machine.specs.declared.call.Call.TheVariants as call
 abbrev pub HasSlot : Geometry → State → (task file index : ℕ) → Type 0
 HasSlot g s u f i = s.slots (slot_of g f i) ≡ Some u
 
+-- and the lock of the file
 abbrev pub HasLock : State → (task file : ℕ) → Type 0
 HasLock s u f = s.locks f ≡ Some u
 
@@ -90,6 +91,7 @@ IsFilled s f from len = (j : ℕ) → is_within from (from + len) j ≡ true →
 abbrev pub ClearedBelow : State → (task file index : ℕ) → Type 0
 ClearedBelow s n f i = (t v x : ℕ) → 1 ≤ t → t < n → s.entries t v ≡ Some x → find (s.mappings t) v ≡ Some (f, i) → ⊥
 
+-- the answer tells where the mapping begins
 abbrev pub is_mapped : Answer → Bool
 is_mapped (answer.Mapped base) = true
 is_mapped other = false
@@ -148,16 +150,19 @@ IsEmptied s u b = record {
   empty : (v x : ℕ) → s.entries u v ≡ Some x → in_mapping (s.mappings u) b v ≡ false;
 }
 
--- What holds beside the slot and the lock, a line a phase: first what the phases of an operation aim at
+-- what an allocation aims at, at an index
 abbrev pub alloc_aim : Geometry → Allocation → (index : ℕ) → Type 0
 alloc_aim g a i = InRange g a.file a.from a.len i
 
+-- and a punch
 abbrev pub punch_aim : Geometry → Hole → (index : ℕ) → Type 0
 punch_aim g h i = InRange g h.file h.from h.len i
 
+-- the range of a map passed its check
 abbrev pub map_range : Geometry → MapRequest → Type 0
 map_range g m = IsRange g m.file m.from m.len
 
+-- what holds of a call beside its slot and its lock, a line a phase
 abbrev pub Facts : Geometry → State → (task : ℕ) → Option Call → Type 0
 Facts g s u (Some (call.Touch (touch.Want p))) = AtIndex (Aimed g s u p.touch)
 Facts g s u (Some (call.Touch (touch.Locked p))) = AtIndex (Aimed g s u p.touch)

@@ -18,6 +18,7 @@ use Rattle.hp_laws.proofs.Invariant.{AllWithin, Reached, Inv, goes, place_same, 
 use Rattle.hp_laws.proofs.Holding.{some_same}
 use Rattle.hp_laws.proofs.Passing.{same_holder}
 
+-- the mappings lie within their files, where one that does is entered
 within_entered : (g : Geometry) (ms : List Mapping) (a : Mapping) → a.file < g.files → a.from + a.len ≤ g.limit → AllWithin g ms
     → AllWithin g (entered ms a)
 within_entered g [] a l m h = (l, m, tt)
@@ -27,6 +28,7 @@ within_entered g (b ∷ ms) a l m h = here (nat_lt a.base b.base) (within_entere
     here true rest = (l, m, (h.0, h.1, h.2))
     here false rest = (h.0, h.1, rest)
 
+-- and where one is taken away
 within_without : (g : Geometry) (ms : List Mapping) (base : ℕ) → AllWithin g ms → AllWithin g (without ms base)
 within_without g [] base h = tt
 within_without g (a ∷ ms) base h = here (within_without g ms base h.2) (a.base == base)
@@ -53,6 +55,7 @@ find_within g (a ∷ ms) v k h e = here (covers a v) refl (find_within g ms v k 
     here true d rest p = subst (λ (m : ℕ × ℕ). (m.0 < g.files) × (m.1 < g.limit)) (some_same p) (h.0, low d)
     here false d rest p = rest p
 
+-- what is below a size, or ahead of a truncation, is so where sizes have grown
 reached_more : (size more : ℕ → ℕ) (a : ℕ → ℕ → ℕ → Bool) (f i : ℕ) → size f ≤ more f → Reached size a f i → Reached more a f i
 reached_more size more a f i l r = elim r [ inl d ↦ inl (omega arith) | inr d ↦ inr d ]
 
@@ -167,12 +170,14 @@ grown_size size f new k l = elim (put_tells size f new k) [
   | inr q ↦ (let z = q.1 in omega arith)
 ]
 
+-- a file whose lock another task holds keeps its size where this one's changes
 other_size : (s : State) (t u f k new : ℕ) → u ≢ t → HasLock s t f → s.locks k ≡ Some u → put s.size f new k ≡ s.size k
 other_size s t u f k new d held y = elim (put_tells s.size f new k) [
   | inl q ↦ absurd (d (same_holder u t (s.locks f) (ap s.locks (sym q.0) ∙ y) held))
   | inr q ↦ q.1
 ]
 
+-- sizes stay within the limit, where one is set within it
 low_size : (size : ℕ → ℕ) (f new limit k : ℕ) → new ≤ limit → size k ≤ limit → put size f new k ≤ limit
 low_size size f new limit k a b = grind (arith, put_tells)
 
@@ -354,6 +359,7 @@ entries_go g s table h kept = record {
       }) (h.stands u);
 }
 
+-- what is there after a filter was there before, and passed it
 cond_kept : (b : Bool) (o : Option ℕ) (x : ℕ) → (if b then None else o) ≡ Some x → (b ≡ false) × (o ≡ Some x)
 cond_kept true o x e = (let d : ◌≡◌ {A = Option ℕ} None (Some x) = e in absurd (cc))
 cond_kept false o x e = (refl, e)
@@ -369,22 +375,26 @@ filtered table k out row w v x each e = elim (same_or_other w k) [
   | inr d ↦ (sym (ap (λ (m : ℕ → Option ℕ). m v) (put_other table k row w d)) ∙ e, λ q. absurd (d q))
 ]
 
+-- clearing an index, entry by entry
 index_each : (ms : List Mapping) (row : ℕ → Option ℕ) (f i z : ℕ)
     → without_index ms row f i z ≡ (if is_there (find ms z) f i then None else row z)
 unfolding without_index
 index_each ms row f i z = refl
 
+-- clearing a mapping, entry by entry
 mapping_each : (ms : List Mapping) (row : ℕ → Option ℕ) (base z : ℕ)
     → without_mapping ms row base z ≡ (if in_mapping ms base z then None else row z)
 unfolding without_mapping
 mapping_each ms row base z = refl
 
+-- an entry that is left after one task's entries of an index are cleared was there, and is none of these
 pub clear_kept : (s : State) (k f i w v x : ℕ) → put s.entries k (without_index (s.mappings k) (s.entries k) f i) w v ≡ Some x
     → (s.entries w v ≡ Some x) × (w ≡ k → is_there (find (s.mappings k) v) f i ≡ false)
 clear_kept s k f i w v x e =
     filtered s.entries k (λ z. is_there (find (s.mappings k) z) f i) (without_index (s.mappings k) (s.entries k) f i) w v x
     (index_each (s.mappings k) (s.entries k) f i) e
 
+-- what is found is there
 there_same : (f i : ℕ) (o : Option (ℕ × ℕ)) → o ≡ Some (f, i) → is_there o f i ≡ true
 there_same f i o e = ap (λ (q : Option (ℕ × ℕ)). is_there q f i) e ∙ both f i
   where
@@ -419,6 +429,7 @@ emptied s t base w v x e =
     filtered s.entries t (λ z. in_mapping (s.mappings t) base z) (without_mapping (s.mappings t) (s.entries t) base) w v x
     (mapping_each (s.mappings t) (s.entries t) base) e
 
+-- clearing a mapping's entries keeps the invariant
 pub empties : (g : Geometry) (s : State) (t base : ℕ) → Inv g s
     → Inv g (record s { pool = record s.pool { entries = put s.entries t (without_mapping (s.mappings t) (s.entries t) base) } })
 empties g s t base h =

@@ -31,27 +31,35 @@ use Rattle.hp_laws.proofs.Cuts.{cuts, passes, cuts_tail}
 use Rattle.hp_laws.proofs.Shared.{after, so, by_test, stands_at, start_row, want_row}
 use Rattle.hp_laws.proofs.TouchKeeps.{some_page, no_page}
 
+-- what the test of a row decides, as an inequality: where it holds
 lt : (a b : ℕ) → nat_lt a b ≡ true → a < b
 lt a b e = grind (arith, nat_tests)
 
+-- and where it fails
 le : (a b : ℕ) → nat_lt a b ≡ false → b ≤ a
 le a b e = grind (arith, nat_tests)
 
+-- what is false is not so
 never : {A : Type 0} → false ≡ true → A
 never e = absurd (cc)
 
+-- an index up to another of its file passes the test for that
 up_to : (f i j : ℕ) → j ≤ i → ((f == f) && nat_le j i) ≡ true
 up_to f i j l = grind (arith, nat_tests)
 
+-- one from another on passes the test for that
 from_on : (f new j : ℕ) → new ≤ j → ((f == f) && nat_le new j) ≡ true
 from_on f new j l = grind (arith, nat_tests)
 
+-- what the test for above says
 is_above : (f k i j : ℕ) → ((f == k) && nat_lt i j) ≡ true → (k ≡ f) × (i + 1 ≤ j)
 is_above f k i j e = (grind (arith, nat_tests), grind (arith, nat_tests))
 
+-- an index above another of its file passes that test
 above : (f k i j : ℕ) → k ≡ f → i + 1 ≤ j → ((f == k) && nat_lt i j) ≡ true
 above f k i j d l = grind (arith, nat_tests)
 
+-- what the test for up to says
 is_up_to : (f k i j : ℕ) → ((f == k) && nat_le j i) ≡ true → (k ≡ f) × (j ≤ i)
 is_up_to f k i j e = (grind (arith, nat_tests), grind (arith, nat_tests))
 
@@ -63,12 +71,14 @@ ahead_next f k i j new next d e =
     let z : j ≤ i = o.1 in
     (o.0, elim (eqb_tells j i) [ inl q ↦ inl q.1 | inr q ↦ (let y : j ≢ i = q.1 in inr (inr (up_to f next j (omega arith)))) ])
 
+-- what was ahead at the last index is that index, or below the new size
 ahead_tail : (f k i j new : ℕ) → i ≤ new → ((f == k) && nat_le j i) ≡ true → (k ≡ f) × ((j ≡ i) ⊎ ((j < new) ⊎ (false ≡ true)))
 ahead_tail f k i j new d e =
     let o = is_up_to f k i j e in
     let z : j ≤ i = o.1 in
     (o.0, elim (eqb_tells j i) [ inl q ↦ inl q.1 | inr q ↦ (let y : j ≢ i = q.1 in inr (inl (omega arith))) ])
 
+-- what is passed after an index was passed before it, or is that index
 passed_next : (f k i j new next : ℕ) → i ≡ next + 1 → new ≤ next → ((f == k) && nat_lt next j) ≡ true
     → (((f == k) && nat_lt i j) ≡ true) ⊎ ((k ≡ f) × (j ≡ i) × (new ≤ j))
 passed_next f k i j new next d l e =
@@ -80,6 +90,7 @@ passed_next f k i j new next d l e =
           (let y : j ≢ i = q.1 in inl (above f k i j o.0 (omega arith)))
     ]
 
+-- what is passed after the last index was passed before it, or is that index
 passed_tail : (f k i j new : ℕ) → i ≤ new → ((f == k) && nat_le new j) ≡ true
     → (((f == k) && nat_lt i j) ≡ true) ⊎ ((k ≡ f) × (j ≡ i) × (new ≤ j))
 passed_tail f k i j new l e =
@@ -99,6 +110,8 @@ end_low s f end h is_end = is_end.1 s.geometry.limit (λ i l. none i l (s.pages 
     none i l None e = e
     none i l (Some x) e = (let z = (page_within f i x h.inside e).1 in absurd (omega arith))
 
+-- at size the size is set, and it goes on down from the highest index with a page or below the old size, if that is
+-- cut off
 truncate_size : (s : State) (t : ℕ) (p : Size) (turn : Turn TruncatePhase) (new : Pool) → Inv s.geometry s
     → t < s.geometry.tasks + 1 → s.calls t ≡ Some (call.Truncate (at.Size p)) → TruncateSizeRow (pool_of s) p turn new
     → Inv s.geometry (after call.Truncate s t turn new)
@@ -143,6 +156,7 @@ truncate_size s t p turn new h l e (end, is_end, row) =
       facts = record { file = y.facts.file; new = y.facts.new; sized = put_same s.size f to; lost = omega arith };
     })))
 
+-- at locked it goes on to clear an index with a page, and passes over one without
 truncate_locked : (s : State) (t : ℕ) (p : Locked) (turn : Turn TruncatePhase) (new : Pool) → Inv s.geometry s → 1 ≤ t
     → t < s.geometry.tasks + 1 → s.calls t ≡ Some (call.Truncate (at.Locked p)) → TruncateLockedRow (pool_of s) p turn new
     → Inv s.geometry (after call.Truncate s t turn new)
@@ -186,6 +200,7 @@ truncate_locked s t p turn new h one l e row =
       };
     })))
 
+-- at unmap it clears one task's entries, and goes on to the next task or to evict
 truncate_unmap : (s : State) (t : ℕ) (p : Unmap) (turn : Turn TruncatePhase) (new : Pool) → Inv s.geometry s
     → t < s.geometry.tasks + 1 → s.calls t ≡ Some (call.Truncate (at.Unmap p)) → TruncateUnmapRow (pool_of s) p turn new
     → Inv s.geometry (after call.Truncate s t turn new)
@@ -228,6 +243,7 @@ truncate_unmap s t p turn new h l e row =
       };
     })))
 
+-- at evict the page goes into its hand, and it owes one more
 truncate_evict : (s : State) (t : ℕ) (p : Evict) (turn : Turn TruncatePhase) (new : Pool) → Inv s.geometry s
     → t < s.geometry.tasks + 1 → s.calls t ≡ Some (call.Truncate (at.Evict p)) → TruncateEvictRow (pool_of s) p turn new
     → Inv s.geometry (after call.Truncate s t turn new)
@@ -259,6 +275,7 @@ truncate_evict s t p turn new h l e (x, page, row) =
       };
     }))
 
+-- at unslot it leaves the slot, for the next index down or for its tail
 truncate_unslot : (s : State) (t : ℕ) (p : Unslot) (turn : Turn TruncatePhase) (new : Pool) → Inv s.geometry s
     → t < s.geometry.tasks + 1 → s.calls t ≡ Some (call.Truncate (at.Unslot p)) → TruncateUnslotRow (pool_of s) p turn new
     → Inv s.geometry (after call.Truncate s t turn new)
@@ -309,6 +326,7 @@ truncate_unslot s t p turn new h l e row =
       };
     })))
 
+-- so each row of a truncation keeps the invariant
 pub truncate_row : (s : State) (t : ℕ) (killed grant : Bool) (phase : TruncatePhase) (turn : Turn TruncatePhase) (new : Pool)
     → Inv s.geometry s → 1 ≤ t → t < s.geometry.tasks + 1 → s.calls t ≡ Some (call.Truncate phase)
     → TruncateRow (pool_of s) t killed grant phase turn new → Inv s.geometry (after call.Truncate s t turn new)

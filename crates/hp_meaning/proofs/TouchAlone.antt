@@ -66,6 +66,7 @@ changing s t f i =
       spare = put s.spare f (max (s.spare f) (s.pending f + 1));
     }
 
+-- the change of the one index
 abbrev change_of : State → (file index : ℕ) → Change
 change_of s f i = record { from = i; to = i + 1; missing = missing (s.reserved f) i (i + 1) }
 
@@ -82,6 +83,7 @@ record Paged (s : State) (t : ℕ) (touch : Touch) (b : Answer) (x resv : ℕ) (
     entries = put2 s.entries t touch.vpn (Some x);
   }
 
+-- a frame has one word
 placed_same : {x y : ℕ} → Placed x ≡ Placed y → x ≡ y
 placed_same e = cc
 
