@@ -516,8 +516,11 @@ names s t None sound e =
     λ grant holder new row. nobody holder (sym e ∙ sym (step_held s t grant (outcome.Blocked holder) (as_state new) sound row.0))
 
 -- so the reader tells exactly whom the task waits for
-pub waits : (s : CoreState) (t : ℕ) (o : Option ℕ) → IsSound s → o ≡ task_blocker s.parts (seat_at s.seats t) → WaitsFor s t o
-waits s t o sound e = names s t o sound (sym e)
+pub waits : {inside seen : CoreState} (t : ℕ) (o : Option ℕ) → inside ≡ seen → IsSound inside
+    → o ≡ task_blocker inside.parts (seat_at seen.seats t) → WaitsFor seen t o
+waits {inside} t o same sound e =
+    let here = e ∙ ap (λ (s : CoreState). task_blocker inside.parts (seat_at s.seats t)) (sym same) in
+    subst (λ (s : CoreState). WaitsFor s t o) same (names inside t o sound (sym here))
 
 -- a sound core has a lock for each file
 pub locks_fit : (s : CoreState) → IsSound s → IsSized s.parts
