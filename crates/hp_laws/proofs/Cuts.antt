@@ -12,7 +12,7 @@ use Rattle.hp_machine.specs.Views.{less, more, hand, change_in, locked_file, slo
 use Rattle.hp_machine.specs.declared.call.Call.{Call}
 use Rattle.hp_laws.specs.Sweep.{fills, ahead, passed, gone}
 use Rattle.hp_laws.proofs.Standing.{HasSlot, HasLock, Stands}
-use Rattle.hp_laws.proofs.Staying.{stands_after}
+use Rattle.hp_laws.proofs.Staying.{same_tables, stands_after}
 use Rattle.hp_laws.proofs.Invariant.{Reached, Swept, Holders, Inv, goes_on, put_known, vacant_of, place_same, same_opens, holds}
 use Rattle.hp_laws.proofs.Invariant.{to, if_weaker}
 use Rattle.hp_laws.proofs.Holding.{some_same, left_holders, left_stands}
@@ -80,10 +80,8 @@ pub cuts : (g : Geometry) (s : State) (t : ℕ) (b c : Option Call) (f new top :
     → Inv g (to (record s { pool = record s.pool { size = put s.size f new } }) t c)
 cuts g s t b c f new top h l e same_held same_hand same_change balance held low size_low bare none_ahead covers passes
     no_fill none_gone own = goes_on g s n t b c h l e (record {
-      geometry = h.geometry;
+      areas = h.areas;
       entries = h.entries;
-      ranges = h.ranges;
-      spread = h.spread;
       inside = h.inside;
       spares = h.spares;
       enough = h.enough;
@@ -121,13 +119,12 @@ cuts g s t b c f new top h l e same_held same_hand same_change balance held low 
           λ u d. stands_after g s n u (s.calls u)
           (record {
             slot = λ k a. a;
-            page = λ k j a. refl;
-            mark = λ k j a w r. r;
-            translated = λ k j a w v y p q. (y, p, q);
-            lock = λ k a. (a, put_other s.size f new k (other_lock s t u k f held d a), λ j r. r);
-            mappings = refl;
-            ready = refl;
-            entries = λ v y p. (y, p);
+            files = record {
+              page = λ k j a. refl;
+              mark = λ k j a w r. r;
+              lock = λ k a. (a, put_other s.size f new k (other_lock s t u k f held d a), λ j r. r);
+            };
+            tables = same_tables;
           }) (h.stands u);
       own = own;
     })
@@ -158,10 +155,8 @@ pub passes : (g : Geometry) (s : State) (t : ℕ) (b c : Option Call) (f i new :
     → Inv g (to (record s { pool = record s.pool { slots = put s.slots (slot_of g f i) None } }) t c)
 passes g s t b c f i new h l e same_lock some none same_hand same_change balance no_b no_c held bare sized aheads
     passing none_gone own = goes_on g s n t b c h l e (record {
-      geometry = h.geometry;
+      areas = h.areas;
       entries = h.entries;
-      ranges = h.ranges;
-      spread = h.spread;
       inside = h.inside;
       sizes = h.sizes;
       spares = h.spares;
@@ -243,10 +238,8 @@ pub cuts_tail : (g : Geometry) (s : State) (t : ℕ) (b c : Option Call) (f new 
     → Inv g (to (record s { pool = record s.pool { reserved = put s.reserved f (cut_tail (s.reserved f) new) } }) t c)
 cuts_tail g s t b c f new h l e in_files same_ahead same_passed goners same_held same_hand same_change no_fill balance
     held passing own = goes_on g s n t b c h l e (record {
-      geometry = h.geometry;
+      areas = h.areas;
       entries = h.entries;
-      ranges = h.ranges;
-      spread = h.spread;
       sizes = h.sizes;
       spares = h.spares;
       enough = h.enough;
@@ -291,18 +284,17 @@ cuts_tail g s t b c f new h l e in_files same_ahead same_passed goners same_held
           λ u d. stands_after g s n u (s.calls u)
           (record {
             slot = λ k a. a;
-            page = λ k j a. refl;
-            mark = λ k j a w r. kept u d k j w r;
-            translated = λ k j a w v y p q. (y, p, q);
-            lock = λ k a. (
-              a,
-              refl,
-              λ j r. ap (λ (m : ℕ → Bool). m j)
-                  (put_other s.reserved f (cut_tail (s.reserved f) new) k (other_lock s t u k f held d a)) ∙ r,
-            );
-            mappings = refl;
-            ready = refl;
-            entries = λ v y p. (y, p);
+            files = record {
+              page = λ k j a. refl;
+              mark = λ k j a w r. kept u d k j w r;
+              lock = λ k a. (
+                a,
+                refl,
+                λ j r. ap (λ (m : ℕ → Bool). m j)
+                    (put_other s.reserved f (cut_tail (s.reserved f) new) k (other_lock s t u k f held d a)) ∙ r,
+              );
+            };
+            tables = same_tables;
           }) (h.stands u);
       own = own;
     })

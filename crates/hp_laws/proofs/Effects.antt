@@ -29,7 +29,7 @@ use Rattle.hp_machine.specs.declared.call.Call.TheVariants as call
 use Rattle.hp_laws.specs.Sweep.{fills, ahead, passed, gone}
 use Rattle.hp_laws.proofs.Moves.{Placing, takes_frame, gives_frame, places_frame, writes_frame}
 use Rattle.hp_laws.proofs.Standing.{HasSlot, Stands}
-use Rattle.hp_laws.proofs.Staying.{stands_after}
+use Rattle.hp_laws.proofs.Staying.{same_tables, stands_after}
 use Rattle.hp_laws.proofs.Invariant.{Reached, Inv, goes, vacant_of, sum_of, place_same, same_opens, sweeps, holds, to}
 use Rattle.hp_laws.proofs.Holding.{some_same}
 
@@ -55,11 +55,9 @@ pub touches_word : (g : Geometry) (s : State) (access : Access) (x word : ℕ) �
     → Inv g (record s { pool = record s.pool { frame = frame_after access s.frame x } })
 touches_word g s Load x word h e = h
 touches_word g s (Store new) x word h e = record {
-  geometry = h.geometry;
+  areas = h.areas;
   count = h.count;
   entries = h.entries;
-  ranges = h.ranges;
-  spread = h.spread;
   inside = h.inside;
   sweep = h.sweep;
   reach = h.reach;
@@ -82,10 +80,8 @@ pub rebalances : (g : Geometry) (s : State) (t : ℕ) (b c : Option Call) (r : �
     → Inv g (to (record s { pool = record s.pool { resv = r } }) t c)
 rebalances g s t b c r h l e same same_held same_hand same_change balance enough fill own =
     goes g s (record s { pool = record s.pool { resv = r } }) t b c h l e same same_held (record {
-      geometry = h.geometry;
+      areas = h.areas;
       entries = h.entries;
-      ranges = h.ranges;
-      spread = h.spread;
       inside = h.inside;
       sweep = h.sweep;
       reach = h.reach;
@@ -127,10 +123,8 @@ opened g s t b c f h l e same same_held same_hand none some balance fill own =
         spare = put s.spare f (max (s.spare f) (s.pending f + 1));
       };
     }) t b c h l e same same_held (record {
-      geometry = h.geometry;
+      areas = h.areas;
       entries = h.entries;
-      ranges = h.ranges;
-      spread = h.spread;
       inside = h.inside;
       sweep = h.sweep;
       reach = h.reach;
@@ -185,10 +179,8 @@ pub closed : (g : Geometry) (s : State) (t : ℕ) (b c : Option Call) (f : ℕ) 
 closed g s t b c f h l e same same_held same_hand some none balance fill own =
     goes g s (record s { pool = record s.pool { pending = put s.pending f (s.pending f - 1) } }) t b c h l e same
     same_held (record {
-      geometry = h.geometry;
+      areas = h.areas;
       entries = h.entries;
-      ranges = h.ranges;
-      spread = h.spread;
       inside = h.inside;
       sweep = h.sweep;
       reach = h.reach;
@@ -306,10 +298,8 @@ pub commits : (g : Geometry) (s : State) (t : ℕ) (b c : Option Call) (f : ℕ)
     → Inv g (to (committing s f change) t c)
 commits g s t b c f change h l e in_files low same same_held same_hand some none nobody balance fill own =
     goes g s (committing s f change) t b c h l e same same_held (record {
-      geometry = h.geometry;
+      areas = h.areas;
       entries = h.entries;
-      ranges = h.ranges;
-      spread = h.spread;
       reach = h.reach;
       fill = fill;
       sizes = h.sizes;
@@ -341,13 +331,12 @@ commits g s t b c f change h l e in_files low same same_held same_hand some none
           λ u d. stands_after g s (committing s f change) u (s.calls u)
           (record {
             slot = λ k a. a;
-            page = λ k j a. refl;
-            mark = λ k j a w. grown_keeps s.reserved f change.from change.to k j;
-            translated = λ k j a w v x p q. (x, p, q);
-            lock = λ k a. (a, refl, λ j. grown_keeps s.reserved f change.from change.to k j);
-            mappings = refl;
-            ready = refl;
-            entries = λ v x p. (x, p);
+            files = record {
+              page = λ k j a. refl;
+              mark = λ k j a w. grown_keeps s.reserved f change.from change.to k j;
+              lock = λ k a. (a, refl, λ j. grown_keeps s.reserved f change.from change.to k j);
+            };
+            tables = same_tables;
           }) (h.stands u);
       own = own;
       changes =
@@ -377,10 +366,8 @@ pub takes : (g : Geometry) (s : State) (t : ℕ) (b c : Option Call) (x r : ℕ)
     → Inv g (to (record s { pool = record s.pool { frame = put s.frame x state.Hand; resv = r } }) t c)
 takes g s t b c x r h l e free same same_held none some same_change balance enough fill own =
     goes g s (record s { pool = record s.pool { frame = put s.frame x state.Hand; resv = r } }) t b c h l e same same_held (record {
-      geometry = h.geometry;
+      areas = h.areas;
       entries = h.entries;
-      ranges = h.ranges;
-      spread = h.spread;
       inside = h.inside;
       sweep = h.sweep;
       reach = h.reach;
@@ -409,10 +396,8 @@ pub gives : (g : Geometry) (s : State) (t : ℕ) (b c : Option Call) (x r : ℕ)
     → Inv g (to (record s { pool = record s.pool { frame = put s.frame x state.Free; resv = r } }) t c)
 gives g s t b c x r h l e same same_held some none same_change balance enough fill own =
     goes g s (record s { pool = record s.pool { frame = put s.frame x state.Free; resv = r } }) t b c h l e same same_held (record {
-      geometry = h.geometry;
+      areas = h.areas;
       entries = h.entries;
-      ranges = h.ranges;
-      spread = h.spread;
       inside = h.inside;
       sweep = h.sweep;
       reach = h.reach;
@@ -446,9 +431,7 @@ pub places : (g : Geometry) (s : State) (t : ℕ) (b c : Option Call) (f i x : �
     → Inv g (to (record s { pool = record s.pool { pages = put2 s.pages f i (Some x); frame = put s.frame x (state.Placed 0) } }) t c)
 places g s t b c f i x h l e in_files in_limit same same_held some none same_change balance marked bare held nobody fill own =
     goes g s n t b c h l e same same_held (record {
-      geometry = h.geometry;
-      ranges = h.ranges;
-      spread = h.spread;
+      areas = h.areas;
       reach = h.reach;
       fill = fill;
       sizes = h.sizes;
@@ -484,13 +467,12 @@ places g s t b c f i x h l e in_files in_limit same same_held some none same_cha
           λ u d. stands_after g s n u (s.calls u)
           (record {
             slot = λ k a. a;
-            page = λ k j a. other u d k j a;
-            mark = λ k j a w r. r;
-            translated = λ k j a w v y p q. (y, p, q);
-            lock = λ k a. (a, refl, λ j r. r);
-            mappings = refl;
-            ready = refl;
-            entries = λ v y p. (y, p);
+            files = record {
+              page = λ k j a. other u d k j a;
+              mark = λ k j a w r. r;
+              lock = λ k a. (a, refl, λ j r. r);
+            };
+            tables = same_tables;
           }) (h.stands u);
       own = own;
     })

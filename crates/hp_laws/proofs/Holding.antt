@@ -8,7 +8,7 @@ use Rattle.hp_machine.specs.Views.{less, more, hand, change_in, slot_held, locke
 use Rattle.hp_machine.specs.declared.call.Call.{Call}
 use Rattle.hp_laws.specs.Sweep.{fills, ahead, passed, gone}
 use Rattle.hp_laws.proofs.Standing.{HasSlot, HasLock, Stands}
-use Rattle.hp_laws.proofs.Staying.{stands_after}
+use Rattle.hp_laws.proofs.Staying.{same_files, same_tables, stands_after}
 use Rattle.hp_laws.proofs.Invariant.{Reached, Holders, Inv, goes_on, goes_as, put_known, place_same, same_opens, sweeps, to}
 
 -- equal options have equal values
@@ -83,13 +83,11 @@ pub takes_slot : (g : Geometry) (s : State) (t : ℕ) (b c : Option Call) (f i :
     → Stands g (record s { pool = record s.pool { slots = put s.slots (slot_of g f i) (Some t) } }) t c
     → Inv g (to (record s { pool = record s.pool { slots = put s.slots (slot_of g f i) (Some t) } }) t c)
 takes_slot g s t b c f i h l e free same same_lock none some fill own = goes_as g s n t b c h l e (ap (λ p. p.4) same) (record {
-  geometry = h.geometry;
+  areas = h.areas;
   count = (let x : less c ≡ less b = ap (λ p. p.0) same in let y : more c ≡ more b = ap (λ p. p.1) same in omega arith);
   enough = h.enough;
   place = place_same g s t b c h e (ap (λ p. p.2) same);
   entries = h.entries;
-  ranges = h.ranges;
-  spread = h.spread;
   inside = h.inside;
   sweep = h.sweep;
   reach = h.reach;
@@ -108,13 +106,8 @@ takes_slot g s t b c f i h l e free same same_lock none some fill own = goes_as 
       λ u d. stands_after g s n u (s.calls u)
       (record {
         slot = still u;
-        page = λ k j a. refl;
-        mark = λ k j a w r. r;
-        translated = λ k j a w v x p q. (x, p, q);
-        lock = λ k a. (a, refl, λ j r. r);
-        mappings = refl;
-        ready = refl;
-        entries = λ v x p. (x, p);
+        files = same_files;
+        tables = same_tables;
       }) (h.stands u);
   own = own;
 })
@@ -146,13 +139,8 @@ left_stands g s t f i h held u d =
     stands_after g s n u (s.calls u)
     (record {
       slot = still;
-      page = λ k j a. refl;
-      mark = λ k j a w r. r;
-      translated = λ k j a w v x p q. (x, p, q);
-      lock = λ k a. (a, refl, λ j r. r);
-      mappings = refl;
-      ready = refl;
-      entries = λ v x p. (x, p);
+      files = same_files;
+      tables = same_tables;
     }) (h.stands u)
   where
     n : State
@@ -171,13 +159,11 @@ pub leaves_slot : (g : Geometry) (s : State) (t : ℕ) (b c : Option Call) (f i 
     → Stands g (record s { pool = record s.pool { slots = put s.slots (slot_of g f i) None } }) t c
     → Inv g (to (record s { pool = record s.pool { slots = put s.slots (slot_of g f i) None } }) t c)
 leaves_slot g s t b c f i h l e same same_lock some none held fill own = goes_as g s n t b c h l e (ap (λ p. p.4) same) (record {
-  geometry = h.geometry;
+  areas = h.areas;
   count = (let x : less c ≡ less b = ap (λ p. p.0) same in let y : more c ≡ more b = ap (λ p. p.1) same in omega arith);
   enough = h.enough;
   place = place_same g s t b c h e (ap (λ p. p.2) same);
   entries = h.entries;
-  ranges = h.ranges;
-  spread = h.spread;
   inside = h.inside;
   sweep = h.sweep;
   reach = h.reach;
@@ -199,13 +185,11 @@ pub takes_lock : (g : Geometry) (s : State) (t : ℕ) (b c : Option Call) (f : �
     → Stands g (record s { pool = record s.pool { locks = put s.locks f (Some t) } }) t c
     → Inv g (to (record s { pool = record s.pool { locks = put s.locks f (Some t) } }) t c)
 takes_lock g s t b c f h l e free same same_slot none some fill own = goes_as g s n t b c h l e (ap (λ p. p.4) same) (record {
-  geometry = h.geometry;
+  areas = h.areas;
   count = (let x : less c ≡ less b = ap (λ p. p.0) same in let y : more c ≡ more b = ap (λ p. p.1) same in omega arith);
   enough = h.enough;
   place = place_same g s t b c h e (ap (λ p. p.2) same);
   entries = h.entries;
-  ranges = h.ranges;
-  spread = h.spread;
   inside = h.inside;
   sweep = h.sweep;
   reach = h.reach;
@@ -225,13 +209,12 @@ takes_lock g s t b c f h l e free same same_slot none some fill own = goes_as g 
       λ u d. stands_after g s n u (s.calls u)
       (record {
         slot = λ k a. a;
-        page = λ k j a. refl;
-        mark = λ k j a w r. r;
-        translated = λ k j a w v x p q. (x, p, q);
-        lock = λ k a. (still u k a, refl, λ j r. r);
-        mappings = refl;
-        ready = refl;
-        entries = λ v x p. (x, p);
+        files = record {
+          page = λ k j a. refl;
+          mark = λ k j a w r. r;
+          lock = λ k a. (still u k a, refl, λ j r. r);
+        };
+        tables = same_tables;
       }) (h.stands u);
   own = own;
 })
@@ -248,13 +231,11 @@ pub leaves_lock : (g : Geometry) (s : State) (t : ℕ) (b : Option Call) (f : �
     → ((k j : ℕ) → ahead b k j ≡ false)
     → Inv g (to (record s { pool = record s.pool { locks = put s.locks f None } }) t None)
 leaves_lock g s t b f h l e no_less no_more no_hand no_change no_slot some held none_ahead = goes_on g s n t b None h l e (record {
-  geometry = h.geometry;
+  areas = h.areas;
   count = omega arith;
   enough = h.enough;
   place = place_same g s t b None h e (sym no_hand);
   entries = h.entries;
-  ranges = h.ranges;
-  spread = h.spread;
   inside = h.inside;
   sizes = h.sizes;
   sweep = record {
@@ -282,13 +263,12 @@ leaves_lock g s t b f h l e no_less no_more no_hand no_change no_slot some held 
       λ u d. stands_after g s n u (s.calls u)
       (record {
         slot = λ k a. a;
-        page = λ k j a. refl;
-        mark = λ k j a w r. r;
-        translated = λ k j a w v x p q. (x, p, q);
-        lock = λ k a. (still u d k a, refl, λ j r. r);
-        mappings = refl;
-        ready = refl;
-        entries = λ v x p. (x, p);
+        files = record {
+          page = λ k j a. refl;
+          mark = λ k j a w r. r;
+          lock = λ k a. (still u d k a, refl, λ j r. r);
+        };
+        tables = same_tables;
       }) (h.stands u);
   own = record { slot = tt; lock = tt; facts = tt };
 })

@@ -48,13 +48,11 @@ pub record Always (s : State) : Type 0 where
 life_set : (g : Geometry) (s : State) (lives : ℕ → Life) → Inv g s → Inv g (record s { life = lives })
 life_set g s lives h =
     record {
-      geometry = h.geometry;
+      areas = h.areas;
       count = h.count;
       enough = h.enough;
       place = h.place;
       entries = h.entries;
-      ranges = h.ranges;
-      spread = h.spread;
       inside = h.inside;
       sweep = h.sweep;
       reach = h.reach;
@@ -260,7 +258,7 @@ nothing_vacant limit = count_below_none _ limit (λ k l. refl)
 pub opens_well : (g : Geometry) (frames : ℕ) → Always (opening g frames)
 opens_well g frames = record {
   inv = record {
-    geometry = refl;
+    areas = record { geometry = refl; ranges = λ t. tt; spread = λ t. omega arith };
     count = (
         let a : total (g.tasks + 1) (λ _. 0) ≡ 0 = total_none (g.tasks + 1) in
         let c : total g.files (λ f. vacant g.limit (λ _. false) (λ _. None)) ≡ 0 =
@@ -269,8 +267,6 @@ opens_well g frames = record {
     enough = omega arith;
     place = record { one = opening_place frames; hands = λ t x d. no_value d; pages = λ f i x d. no_value d };
     entries = record { agree = λ t v x d. no_value d; owners = λ t v x d. no_value d };
-    ranges = λ t. tt;
-    spread = λ t. omega arith;
     inside = record { bare = λ f i d. refl; within = λ f i d. never d };
     sweep = record { below = λ t v x f i d e. no_value d; past = λ u f j d. never d; gone = λ u f j d. never d };
     reach = λ w. tt;

@@ -1,12 +1,12 @@
 -- A call goes on standing where what it stands on stays.
 use Rattle.std.proofs.Common.{◌≡◌, ◌≢◌, ℕ, ◌+◌, ◌≤◌, refl, ap, sym, ◌∙◌, arith, inl, inr, ◌⊎◌}
-use Rattle.std.specs.Prelude.{true, Option, Some, None, IfSome, List}
+use Rattle.std.specs.Prelude.{Bool, true, Option, Some, None, IfSome, List}
 use Rattle.hp_base.specs.Indices.{count_within}
 use Rattle.hp_base.specs.Mappings.{find, fits, is_base, in_mapping}
 use Rattle.hp_base.specs.declared.mapping.Mapping.{Mapping}
 use Rattle.hp_base.proofs.Sets.{missing_fewer, tail_more}
 use Rattle.hp_region.specs.Change.{Change}
-use Rattle.hp_machine.specs.State.{Geometry, State}
+use Rattle.hp_machine.specs.State.{Geometry, State, slot_of}
 use Rattle.hp_machine.specs.Views.{slot_held, locked_file}
 use Rattle.hp_machine.specs.declared.touch.Touch.{Touch}
 use Rattle.hp_machine.specs.declared.touch.TouchPhase.TheVariants as touch
@@ -24,18 +24,43 @@ use Rattle.hp_laws.specs.Sweep.{fills}
 use Rattle.hp_laws.proofs.Standing.{HasSlot, HasLock, Aimed, InSweep, IsBased, IsCounted, IsEmptied, ClearedBelow, Facts, Stands}
 use Rattle.hp_laws.proofs.Standing.{AtBare, AtMarked, AtChange, AtClearing, AtCleared}
 
+-- what stays of files, of which task u's call c may stand on what lies at its slot or under its lock
+pub record FilesKeep (g : Geometry) (slots locks locks_after : ℕ → Option ℕ) (size size_after : ℕ → ℕ)
+    (reserved reserved_after : ℕ → ℕ → Bool) (pages pages_after : ℕ → ℕ → Option ℕ) (u : ℕ) (c : Option Call) : Type 0 where
+  pub page : (f i : ℕ) → slots (slot_of g f i) ≡ Some u → pages_after f i ≡ pages f i
+  pub mark : (f i : ℕ) → slots (slot_of g f i) ≡ Some u → (fills c ≡ Some (f, i)) ⊎ (locked_file c ≡ Some f)
+      → reserved f i ≡ true → reserved_after f i ≡ true
+  pub lock : (f : ℕ) → locks f ≡ Some u → (locks_after f ≡ Some u) × (size_after f ≡ size f)
+      × ((j : ℕ) → reserved f j ≡ true → reserved_after f j ≡ true)
+
+-- all of it where a step leaves files and locks alone
+pub same_files : {g : Geometry} {slots locks : ℕ → Option ℕ} {size : ℕ → ℕ} {reserved : ℕ → ℕ → Bool} {pages : ℕ → ℕ → Option ℕ}
+    {u : ℕ} {c : Option Call}
+    → FilesKeep g slots locks locks size size reserved reserved pages pages u c
+same_files = record { page = λ f i a. refl; mark = λ f i a w r. r; lock = λ f a. (a, refl, λ j r. r) }
+
+-- what stays of tasks: what is translated at the slot, and task u's own mappings and entries
+pub record TablesKeep (g : Geometry) (slots : ℕ → Option ℕ) (areas areas_after : ℕ → List Mapping)
+    (prepared prepared_after : ℕ → Bool) (table table_after : ℕ → ℕ → Option ℕ) (u : ℕ) : Type 0 where
+  pub translated : (f i : ℕ) → slots (slot_of g f i) ≡ Some u → (t v x : ℕ) → table_after t v ≡ Some x
+      → find (areas_after t) v ≡ Some (f, i) → (y : ℕ) × (table t v ≡ Some y) × (find (areas t) v ≡ Some (f, i))
+  pub mappings : areas_after u ≡ areas u
+  pub ready : prepared_after u ≡ prepared u
+  pub entries : (v x : ℕ) → table_after u v ≡ Some x → (y : ℕ) × (table u v ≡ Some y)
+
+-- all of it where a step leaves mappings and entries alone
+pub same_tables : {g : Geometry} {slots : ℕ → Option ℕ} {mappings : ℕ → List Mapping} {ready : ℕ → Bool} {entries : ℕ → ℕ → Option ℕ}
+    {u : ℕ}
+    → TablesKeep g slots mappings mappings ready ready entries entries u
+same_tables = record { translated = λ f i a t v x p q. (x, p, q); mappings = refl; ready = refl; entries = λ v x p. (x, p) }
+
 -- what stays, from s to n, of what the task's call c may stand on
 pub record Keeps (g : Geometry) (s n : State) (u : ℕ) (c : Option Call) : Type 0 where
   pub slot : (k : ℕ) → s.slots k ≡ Some u → n.slots k ≡ Some u
-  pub page : (f i : ℕ) → HasSlot g s u f i → n.pages f i ≡ s.pages f i
-  pub mark : (f i : ℕ) → HasSlot g s u f i → (fills c ≡ Some (f, i)) ⊎ (locked_file c ≡ Some f) → s.reserved f i ≡ true
-      → n.reserved f i ≡ true
-  pub translated : (f i : ℕ) → HasSlot g s u f i → (t v x : ℕ) → n.entries t v ≡ Some x → find (n.mappings t) v ≡ Some (f, i)
-      → (y : ℕ) × (s.entries t v ≡ Some y) × (find (s.mappings t) v ≡ Some (f, i))
-  pub lock : (f : ℕ) → HasLock s u f → HasLock n u f × (n.size f ≡ s.size f) × ((j : ℕ) → s.reserved f j ≡ true → n.reserved f j ≡ true)
-  pub mappings : n.mappings u ≡ s.mappings u
-  pub ready : n.ready u ≡ s.ready u
-  pub entries : (v x : ℕ) → n.entries u v ≡ Some x → (y : ℕ) × (s.entries u v ≡ Some y)
+  pub files : FilesKeep g s.slots s.locks n.locks s.size n.size s.reserved n.reserved s.pages n.pages u c
+  pub open files use *
+  pub tables : TablesKeep g s.slots s.mappings n.mappings s.ready n.ready s.entries n.entries u
+  pub open tables use *
 
 -- an entry that isn't there stays so where no entry comes
 none_still : (a b : Option ℕ) → ((x : ℕ) → b ≡ Some x → (y : ℕ) × (a ≡ Some y)) → a ≡ None → b ≡ None

@@ -13,7 +13,7 @@ use Rattle.hp_machine.specs.Views.{less, more}
 use Rattle.hp_machine.specs.declared.call.Call.{Call}
 use Rattle.hp_laws.specs.Sweep.{fills, ahead, passed}
 use Rattle.hp_laws.proofs.Standing.{HasSlot, HasLock, ClearedBelow, Stands}
-use Rattle.hp_laws.proofs.Staying.{stands_after}
+use Rattle.hp_laws.proofs.Staying.{same_files, same_tables, stands_after}
 use Rattle.hp_laws.proofs.Invariant.{AllWithin, Reached, Inv, goes, place_same, same_opens, seen, to, if_weaker}
 use Rattle.hp_laws.proofs.Holding.{some_same}
 use Rattle.hp_laws.proofs.Passing.{same_holder}
@@ -68,9 +68,7 @@ pub enters_table : (g : Geometry) (s : State) (t : ℕ) (b c : Option Call) (v f
     → Inv g (to (record s { pool = record s.pool { entries = put2 s.entries t v (Some x) } }) t c)
 enters_table g s t b c v f i x h one l e same there page low held fill own =
     goes g s n t b c h l e (ap (λ p. p.4) same) (ap (λ p. p.5) same) (record {
-      geometry = h.geometry;
-      ranges = h.ranges;
-      spread = h.spread;
+      areas = h.areas;
       inside = h.inside;
       reach = h.reach;
       fill = fill;
@@ -101,17 +99,17 @@ enters_table g s t b c v f i x h one l e same there page low held fill own =
       changes = same_opens s.pending b c (ap (λ p. p.3) same);
       others = λ u d. stands_after g s n u (s.calls u) (record {
         slot = λ k a. a;
-        page = λ k j a. refl;
-        mark = λ k j a w r. r;
-        translated = λ k j a w z m p q. elim (put2_tells s.entries t v (Some x) w z) [
-          | inl o ↦ absurd (d (slot_there u (k, j)
-              (sym q ∙ (ap (λ (r : ℕ). find (s.mappings r) z) o.0 ∙ (ap (find (s.mappings t)) o.1 ∙ there))) a))
-          | inr o ↦ (m, sym o.1 ∙ p, q)
-        ];
-        lock = λ k a. (a, refl, λ j r. r);
-        mappings = refl;
-        ready = refl;
-        entries = λ w m a. (m, sym (ap (λ (r : ℕ → Option ℕ). r w) (put_other s.entries t (put (s.entries t) v (Some x)) u d)) ∙ a);
+        files = same_files;
+        tables = record {
+          translated = λ k j a w z m p q. elim (put2_tells s.entries t v (Some x) w z) [
+            | inl o ↦ absurd (d (slot_there u (k, j)
+                (sym q ∙ (ap (λ (r : ℕ). find (s.mappings r) z) o.0 ∙ (ap (find (s.mappings t)) o.1 ∙ there))) a))
+            | inr o ↦ (m, sym o.1 ∙ p, q)
+          ];
+          mappings = refl;
+          ready = refl;
+          entries = λ w m a. (m, sym (ap (λ (r : ℕ → Option ℕ). r w) (put_other s.entries t (put (s.entries t) v (Some x)) u d)) ∙ a);
+        };
       }) (h.stands u);
       own = own;
     })
@@ -133,10 +131,8 @@ pub prepares : (g : Geometry) (s : State) (t : ℕ) (b c : Option Call) → Inv 
 prepares g s t b c h l e same fill own =
     goes g s (record s { pool = record s.pool { ready = put s.ready t true } }) t b c h l e (ap (λ p. p.4) same)
     (ap (λ p. p.5) same) (record {
-      geometry = h.geometry;
+      areas = h.areas;
       entries = h.entries;
-      ranges = h.ranges;
-      spread = h.spread;
       inside = h.inside;
       sweep = h.sweep;
       reach = h.reach;
@@ -152,13 +148,13 @@ prepares g s t b c h l e same fill own =
           λ u d. stands_after g s (record s { pool = record s.pool { ready = put s.ready t true } }) u (s.calls u)
           (record {
             slot = λ k a. a;
-            page = λ k j a. refl;
-            mark = λ k j a w r. r;
-            translated = λ k j a w v y p q. (y, p, q);
-            lock = λ k a. (a, refl, λ j r. r);
-            mappings = refl;
-            ready = put_other s.ready t true u d;
-            entries = λ v y p. (y, p);
+            files = same_files;
+            tables = record {
+              translated = λ k j a w v y p q. (y, p, q);
+              mappings = refl;
+              ready = put_other s.ready t true u d;
+              entries = λ v y p. (y, p);
+            };
           }) (h.stands u);
       own = own;
     })
@@ -190,10 +186,8 @@ pub extends : (g : Geometry) (s : State) (t : ℕ) (b c : Option Call) (f new : 
     → Inv g (to (record s { pool = record s.pool { size = put s.size f new } }) t c)
 extends g s t b c f new h l e same held grows low nobody fill own =
     goes g s n t b c h l e (ap (λ p. p.4) same) (ap (λ p. p.5) same) (record {
-      geometry = h.geometry;
+      areas = h.areas;
       entries = h.entries;
-      ranges = h.ranges;
-      spread = h.spread;
       inside = h.inside;
       spares = h.spares;
       holders = h.holders;
@@ -225,13 +219,12 @@ extends g s t b c f new h l e same held grows low nobody fill own =
           λ u d. stands_after g s n u (s.calls u)
           (record {
             slot = λ k a. a;
-            page = λ k j a. refl;
-            mark = λ k j a w r. r;
-            translated = λ k j a w v y p q. (y, p, q);
-            lock = λ k a. (a, other_size s t u f k new d held a, λ j r. r);
-            mappings = refl;
-            ready = refl;
-            entries = λ v y p. (y, p);
+            files = record {
+              page = λ k j a. refl;
+              mark = λ k j a w r. r;
+              lock = λ k a. (a, other_size s t u f k new d held a, λ j r. r);
+            };
+            tables = same_tables;
           }) (h.stands u);
       own = own;
     })
@@ -258,7 +251,19 @@ pub enters_area : (g : Geometry) (s : State) (t : ℕ) (b c : Option Call) (a : 
     → Stands g (entering s t a) t c → Inv g (to (entering s t a) t c)
 enters_area g s t b c a h l e same in_files some in_limit clear held nobody fill own =
     goes g s n t b c h l e (ap (λ p. p.4) same) (ap (λ p. p.5) same) (record {
-      geometry = h.geometry;
+      areas = record {
+        geometry = h.geometry;
+        ranges = λ w. elim (same_or_other w t) [
+          | inl q ↦ subst (AllWithin g) (sym (ap n.mappings q ∙ put_same s.mappings t (entered (s.mappings t) a)))
+              (within_entered g (s.mappings t) a in_files in_limit (h.ranges t))
+          | inr q ↦ subst (AllWithin g) (sym (put_other s.mappings t (entered (s.mappings t) a) w q)) (h.ranges w)
+        ];
+        spread = λ w. elim (same_or_other w t) [
+          | inl q ↦ subst (IsSpread g.space 0) (sym (ap n.mappings q ∙ put_same s.mappings t (entered (s.mappings t) a)))
+              (entered_spread g.space 0 (s.mappings t) a (h.spread t) apart.1 (omega arith) some apart.0)
+          | inr q ↦ subst (IsSpread g.space 0) (sym (put_other s.mappings t (entered (s.mappings t) a) w q)) (h.spread w)
+        ];
+      };
       inside = h.inside;
       spares = h.spares;
       holders = h.holders;
@@ -266,16 +271,6 @@ enters_area g s t b c a h l e same in_files some in_limit clear held nobody fill
       count = (let y : less c ≡ less b = ap (λ p. p.0) same in let z : more c ≡ more b = ap (λ p. p.1) same in omega arith);
       place = place_same g s t b c h e (ap (λ p. p.2) same);
       entries = record { owners = h.entries.owners; agree = λ w v x d. let o = h.entries.agree w v x d in (o.0, kept w v o.0 o.1, o.2) };
-      ranges = λ w. elim (same_or_other w t) [
-        | inl q ↦ subst (AllWithin g) (sym (ap n.mappings q ∙ put_same s.mappings t (entered (s.mappings t) a)))
-            (within_entered g (s.mappings t) a in_files in_limit (h.ranges t))
-        | inr q ↦ subst (AllWithin g) (sym (put_other s.mappings t (entered (s.mappings t) a) w q)) (h.ranges w)
-      ];
-      spread = λ w. elim (same_or_other w t) [
-        | inl q ↦ subst (IsSpread g.space 0) (sym (ap n.mappings q ∙ put_same s.mappings t (entered (s.mappings t) a)))
-            (entered_spread g.space 0 (s.mappings t) a (h.spread t) apart.1 (omega arith) some apart.0)
-        | inr q ↦ subst (IsSpread g.space 0) (sym (put_other s.mappings t (entered (s.mappings t) a) w q)) (h.spread w)
-      ];
       sweep = record {
         below = λ w v x f i d y. let o = h.entries.agree w v x d in
             reached_more s.size n.size (λ u. ahead (s.calls u)) f i (larger f)
@@ -299,13 +294,17 @@ enters_area g s t b c a h l e same in_files some in_limit clear held nobody fill
       changes = same_opens s.pending b c (ap (λ p. p.3) same);
       others = λ u d. stands_after g s n u (s.calls u) (record {
         slot = λ k x. x;
-        page = λ k j x. refl;
-        mark = λ k j x w r. r;
-        translated = λ k j x w v z p q. let o = h.entries.agree w v z p in (z, p, o.1 ∙ (sym (kept w v o.0 o.1) ∙ q));
-        lock = λ f y. (y, other_size s t u a.file f (max (s.size a.file) (a.from + a.len)) d held y, λ j r. r);
-        mappings = put_other s.mappings t (entered (s.mappings t) a) u d;
-        ready = put_other s.ready t false u d;
-        entries = λ v y p. (y, p);
+        files = record {
+          page = λ k j x. refl;
+          mark = λ k j x w r. r;
+          lock = λ f y. (y, other_size s t u a.file f (max (s.size a.file) (a.from + a.len)) d held y, λ j r. r);
+        };
+        tables = record {
+          translated = λ k j x w v z p q. let o = h.entries.agree w v z p in (z, p, o.1 ∙ (sym (kept w v o.0 o.1) ∙ q));
+          mappings = put_other s.mappings t (entered (s.mappings t) a) u d;
+          ready = put_other s.ready t false u d;
+          entries = λ v y p. (y, p);
+        };
       }) (h.stands u);
       own = own;
     })
@@ -331,12 +330,10 @@ enters_area g s t b c a h l e same in_files some in_limit clear held nobody fill
 pub entries_go : (g : Geometry) (s : State) (table : ℕ → ℕ → Option ℕ) → Inv g s
     → ((w v x : ℕ) → table w v ≡ Some x → s.entries w v ≡ Some x) → Inv g (record s { pool = record s.pool { entries = table } })
 entries_go g s table h kept = record {
-  geometry = h.geometry;
+  areas = h.areas;
   count = h.count;
   enough = h.enough;
   place = h.place;
-  ranges = h.ranges;
-  spread = h.spread;
   inside = h.inside;
   reach = h.reach;
   sizes = h.sizes;
@@ -349,13 +346,13 @@ entries_go g s table h kept = record {
       λ u. stands_after g s (record s { pool = record s.pool { entries = table } }) u (s.calls u)
       (record {
         slot = λ k a. a;
-        page = λ k j a. refl;
-        mark = λ k j a w r. r;
-        translated = λ k j a w v x p q. (x, kept w v x p, q);
-        lock = λ k a. (a, refl, λ j r. r);
-        mappings = refl;
-        ready = refl;
-        entries = λ v x p. (x, kept u v x p);
+        files = same_files;
+        tables = record {
+          translated = λ k j a w v x p q. (x, kept w v x p, q);
+          mappings = refl;
+          ready = refl;
+          entries = λ v x p. (x, kept u v x p);
+        };
       }) (h.stands u);
 }
 
@@ -442,7 +439,19 @@ pub drops : (g : Geometry) (s : State) (t : ℕ) (b c : Option Call) (base : ℕ
     → Stands g (record s { pool = record s.pool { mappings = put s.mappings t (without (s.mappings t) base) } }) t c
     → Inv g (to (record s { pool = record s.pool { mappings = put s.mappings t (without (s.mappings t) base) } }) t c)
 drops g s t b c base h l e same clear fill own = goes g s n t b c h l e (ap (λ p. p.4) same) (ap (λ p. p.5) same) (record {
-  geometry = h.geometry;
+  areas = record {
+    geometry = h.geometry;
+    ranges = λ w. elim (same_or_other w t) [
+      | inl q ↦ subst (AllWithin g) (sym (ap n.mappings q ∙ put_same s.mappings t (without (s.mappings t) base)))
+          (within_without g (s.mappings t) base (h.ranges t))
+      | inr q ↦ subst (AllWithin g) (sym (put_other s.mappings t (without (s.mappings t) base) w q)) (h.ranges w)
+    ];
+    spread = λ w. elim (same_or_other w t) [
+      | inl q ↦ subst (IsSpread g.space 0) (sym (ap n.mappings q ∙ put_same s.mappings t (without (s.mappings t) base)))
+          (without_spread g.space 0 (s.mappings t) base (h.spread t))
+      | inr q ↦ subst (IsSpread g.space 0) (sym (put_other s.mappings t (without (s.mappings t) base) w q)) (h.spread w)
+    ];
+  };
   inside = h.inside;
   reach = h.reach;
   fill = fill;
@@ -453,16 +462,6 @@ drops g s t b c base h l e same clear fill own = goes g s n t b c h l e (ap (λ 
   count = (let y : less c ≡ less b = ap (λ p. p.0) same in let z : more c ≡ more b = ap (λ p. p.1) same in omega arith);
   place = place_same g s t b c h e (ap (λ p. p.2) same);
   entries = record { owners = h.entries.owners; agree = λ w v x d. let o = h.entries.agree w v x d in (o.0, same_find w v x d ∙ o.1, o.2) };
-  ranges = λ w. elim (same_or_other w t) [
-    | inl q ↦ subst (AllWithin g) (sym (ap n.mappings q ∙ put_same s.mappings t (without (s.mappings t) base)))
-        (within_without g (s.mappings t) base (h.ranges t))
-    | inr q ↦ subst (AllWithin g) (sym (put_other s.mappings t (without (s.mappings t) base) w q)) (h.ranges w)
-  ];
-  spread = λ w. elim (same_or_other w t) [
-    | inl q ↦ subst (IsSpread g.space 0) (sym (ap n.mappings q ∙ put_same s.mappings t (without (s.mappings t) base)))
-        (without_spread g.space 0 (s.mappings t) base (h.spread t))
-    | inr q ↦ subst (IsSpread g.space 0) (sym (put_other s.mappings t (without (s.mappings t) base) w q)) (h.spread w)
-  ];
   sweep =
       record {
         below = λ w v x f i d y. h.sweep.below w v x f i d (sym (same_find w v x d) ∙ y);
@@ -472,13 +471,13 @@ drops g s t b c base h l e same clear fill own = goes g s n t b c h l e (ap (λ 
   changes = same_opens s.pending b c (ap (λ p. p.3) same);
   others = λ u d. stands_after g s n u (s.calls u) (record {
     slot = λ k a. a;
-    page = λ k j a. refl;
-    mark = λ k j a w r. r;
-    translated = λ k j a w v z p q. (z, p, sym (same_find w v z p) ∙ q);
-    lock = λ k a. (a, refl, λ j r. r);
-    mappings = put_other s.mappings t (without (s.mappings t) base) u d;
-    ready = refl;
-    entries = λ v y p. (y, p);
+    files = same_files;
+    tables = record {
+      translated = λ k j a w v z p q. (z, p, sym (same_find w v z p) ∙ q);
+      mappings = put_other s.mappings t (without (s.mappings t) base) u d;
+      ready = refl;
+      entries = λ v y p. (y, p);
+    };
   }) (h.stands u);
   own = own;
 })
