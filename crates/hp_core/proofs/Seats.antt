@@ -9,7 +9,7 @@ use Rattle.std.proofs.lemmas.Grind.{common_steps}
 use Rattle.std.proofs.lemmas.List.{get_or-set_same, get_or-set_other}
 use Rattle.hp_base.specs.Numbers.{put}
 use Rattle.hp_base.specs.declared.event.Op.{Op}
-use Rattle.hp_base.proofs.Puts.{put_same, put_other, put_self, same_or_other}
+use Rattle.hp_base.proofs.Puts.{put_same, put_other, same_or_other}
 use Rattle.hp_machine.specs.State.{is_alive, is_killed, is_dead}
 use Rattle.hp_machine.specs.Events.{BeginRow, StepRow, KillRow, CallRow, first, is_exit, lives_after}
 use Rattle.hp_machine.specs.declared.call.Call.{Call}
@@ -19,6 +19,7 @@ use Rattle.hp_machine.specs.declared.outcome.Life.TheVariants.{Alive, Killed, De
 use Rattle.hp_machine.specs.declared.outcome.Outcome.{Outcome}
 use Rattle.hp_machine.specs.declared.outcome.Outcome.TheVariants as outcome
 use Rattle.hp_machine.specs.declared.outcome.Refusal.TheVariants as refusal
+use Rattle.hp_laws.proofs.Invariant.{put_known}
 use Rattle.hp_fault.specs.State.{PartsState}
 use Rattle.hp_fault.specs.View.{pool_of}
 use Rattle.hp_core.specs.declared.seat.Seat.{Seat}
@@ -71,10 +72,6 @@ pub lives_set : (seats : List Seat) (t : ℕ) (y : Seat) → 1 ≤ t → t ≤ l
     → lives_of (with_seat seats t y) ≡ put (lives_of seats) t y.life
 unfolding lives_of
 lives_set seats t y low high = seen_set (λ (s : Seat). s.life) seats t y low high
-
--- to put what is there changes nothing
-put_known : {A : Type 0} (f : ℕ → A) (k : ℕ) (v : A) → f k ≡ v → put f k v ≡ f
-put_known {A} f k v e = subst (λ (w : A). put f k w ≡ f) e (put_self f k)
 
 -- a write that keeps the task's life keeps all lives
 pub lives_same : (seats : List Seat) (t : ℕ) (y : Seat) → 1 ≤ t → t ≤ length seats → y.life ≡ (seat_at seats t).life

@@ -1,7 +1,6 @@
 -- Each row of an allocation keeps the invariant.
 use Rattle.std.proofs.Common.{◌≡◌, ℕ, ◌+◌, ◌-◌, ◌<◌, refl, ap, arith}
-use Rattle.std.specs.Prelude.{Bool, true, nat_lt, max, is_some, Some, None}
-use Rattle.std.proofs.lemmas.Bool.Decides.{nat_tests}
+use Rattle.std.specs.Prelude.{Bool, nat_lt, max, is_some, Some, None}
 use Rattle.hp_base.specs.declared.answer.Answer.{Answer}
 use Rattle.hp_base.specs.declared.answer.Answer.TheVariants as answer
 use Rattle.hp_base.proofs.Puts.{put_same}
@@ -21,6 +20,7 @@ use Rattle.hp_machine.specs.declared.call.Call.TheVariants as call
 use Rattle.hp_machine.specs.declared.call.Turn.{Turn}
 use Rattle.hp_machine.specs.State.{Pool, State, pool_of, slot_of}
 use Rattle.hp_laws.specs.Sweep.{passed}
+use Rattle.hp_laws.proofs.Deciding.{lt}
 use Rattle.hp_laws.proofs.Standing.{below_limit, in_first, in_next}
 use Rattle.hp_laws.proofs.Invariant
 use Rattle.hp_laws.proofs.Invariant.{Inv, stays}
@@ -31,10 +31,6 @@ use Rattle.hp_laws.proofs.Tables.{extends}
 use Rattle.hp_laws.proofs.Shared.{after, so, by_test, by_option, stands_at, start_row, good_range, want_row, change_row, take_row}
 use Rattle.hp_laws.proofs.Shared.{commit_row, one_change, own_reserved}
 use Rattle.hp_laws.proofs.TouchKeeps.{no_page}
-
--- what the test of a row decides, as an inequality
-lt : (a b : ℕ) → nat_lt a b ≡ true → a < b
-lt a b e = grind (arith, nat_tests)
 
 -- at head it goes on to want, or leaves where a kill is noticed
 alloc_head : (s : State) (t : ℕ) (killed : Bool) (p : Head) (turn : Turn AllocPhase) (new : Pool) → Inv s.geometry s

@@ -17,9 +17,9 @@ use Rattle.hp_laws.specs.Enough.{CanSettle}
 use Rattle.hp_laws.specs.Protocol.{ChangesAreCalls, SparesSuffice, PagesAreReserved, LiesWithin, is_bare, HandsApart}
 use Rattle.hp_laws.specs.Protocol.{BareWhereMade, works_at, PassedIsBare}
 use Rattle.hp_laws.specs.Sweep.{fills, ahead}
+use Rattle.hp_laws.proofs.Deciding.{some_same}
 use Rattle.hp_laws.proofs.Standing.{Stands}
 use Rattle.hp_laws.proofs.Invariant.{Reached, Inv, page_within}
-use Rattle.hp_laws.proofs.Holding.{some_same}
 use Rattle.hp_laws.proofs.Passing.{holds_slot, locks_file, passed_locked, reached_not_passed, same_holder}
 use Rattle.hp_laws.proofs.Removals.{page_marked}
 use Rattle.hp_laws.proofs.Cover.{can_settle}

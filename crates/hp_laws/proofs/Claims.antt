@@ -13,9 +13,9 @@ use Rattle.hp_machine.specs.declared.truncate.TruncatePhase.TheVariants as trunc
 use Rattle.hp_machine.specs.declared.call.Call.{Call}
 use Rattle.hp_machine.specs.declared.call.Call.TheVariants as call
 use Rattle.hp_laws.specs.Sweep.{fills, ahead, passed}
+use Rattle.hp_laws.proofs.Deciding.{same_of, never, some_same}
 use Rattle.hp_laws.proofs.Standing.{HasSlot, HasLock, Stands}
 use Rattle.hp_laws.proofs.Invariant.{Reached, Inv}
-use Rattle.hp_laws.proofs.Holding.{some_same}
 use Rattle.hp_laws.proofs.Passing.{locks_file, passed_locked, reached_not_passed, same_holder}
 
 -- the value where the test holds, else nothing
@@ -69,10 +69,6 @@ and_left false b e = (let d : false ≡ true = e in cc)
 and_right : (a b : Bool) → (a && b) ≡ true → b ≡ true
 and_right true b e = e
 and_right false b e = (let d : false ≡ true = e in absurd (cc))
-
--- an equality test that holds is an equation
-same_of : (a b : ℕ) → (a == b) ≡ true → a ≡ b
-same_of a b e = grind (arith, nat_tests)
 
 -- where the test for an index holds, the option is that index
 there_is : (o : Option (ℕ × ℕ)) (f j : ℕ) → is_there o f j ≡ true → o ≡ Some (f, j)
@@ -199,10 +195,6 @@ by_place g s t k i c f j h e o held bare locked above_it = elim (same_or_other j
   }
   | inr d ↦ by_passed g s t c f j h e (above_it o.0 (let z = o.1 in omega arith)) o.2
 ]
-
--- a phase that claims nothing has no claim
-never : {P : Type 0} → false ≡ true → P
-never e = absurd (cc)
 
 -- a claim means in each phase that the index is reserved, bare, and the call's own
 pub claimed : (g : Geometry) (s : State) (t : ℕ) (c : Option Call) (f j : ℕ) → Inv g s → s.calls t ≡ c → Stands g s t c

@@ -11,11 +11,12 @@ use Rattle.hp_machine.specs.State.{Geometry, State, slot_of}
 use Rattle.hp_machine.specs.Views.{less, more, hand, change_in, locked_file, slot_held}
 use Rattle.hp_machine.specs.declared.call.Call.{Call}
 use Rattle.hp_laws.specs.Sweep.{fills, ahead, passed, gone}
+use Rattle.hp_laws.proofs.Deciding.{some_same}
 use Rattle.hp_laws.proofs.Standing.{HasSlot, HasLock, Stands}
 use Rattle.hp_laws.proofs.Staying.{same_tables, stands_after}
 use Rattle.hp_laws.proofs.Invariant.{Reached, Swept, Holders, Inv, goes_on, put_known, vacant_of, place_same, same_opens, holds}
 use Rattle.hp_laws.proofs.Invariant.{to, if_weaker}
-use Rattle.hp_laws.proofs.Holding.{some_same, left_holders, left_stands}
+use Rattle.hp_laws.proofs.Holding.{left_holders, left_stands}
 use Rattle.hp_laws.proofs.Passing.{locks_file, holds_slot, fills_slot, passed_locked, reached_not_passed, same_holder}
 
 -- what was reached, by who sees to it

@@ -44,7 +44,7 @@ use Rattle.hp_machine.specs.declared.call.Call.TheVariants as call
 use Rattle.hp_machine.specs.declared.call.Turn.{Turn}
 use Rattle.hp_machine.specs.declared.call.Turn.TheVariants.{Moved}
 use Rattle.hp_machine.specs.declared.outcome.Outcome.{Outcome}
-use Rattle.hp_laws.proofs.Holding.{some_same}
+use Rattle.hp_laws.proofs.Deciding.{clash, some_same}
 use Rattle.hp_laws.proofs.Reading.{step_of}
 use Rattle.hp_laws.proofs.Shared.{by_test}
 
@@ -207,10 +207,6 @@ abbrev Parted : {P : Type 0} → (R Q : Turn P → Pool → Type 0) → Type 0
 Parted {P} R Q =
     (turn others : Turn P) (new news : Pool) → R turn new → Q others news
     → (q : P) × (other : P) × (turn ≡ Moved q) × (others ≡ Moved other) × (q ≢ other)
-
--- a test has one outcome
-clash : (b : Bool) → b ≡ true → b ≡ false → ⊥
-clash b e d = (let z : true ≡ false = sym e ∙ d in absurd (cc))
 
 -- a conjunction with false fails
 never : (b : Bool) → (b && false) ≡ false

@@ -27,11 +27,11 @@ use Rattle.hp_machine.specs.declared.exit.ExitPhase.TheVariants as exit
 use Rattle.hp_machine.specs.declared.call.Call.{Call}
 use Rattle.hp_machine.specs.declared.call.Call.TheVariants as call
 use Rattle.hp_laws.specs.Sweep.{fills, ahead, passed, gone}
+use Rattle.hp_laws.proofs.Deciding.{some_same}
 use Rattle.hp_laws.proofs.Moves.{Placing, takes_frame, gives_frame, places_frame, writes_frame}
 use Rattle.hp_laws.proofs.Standing.{HasSlot, Stands}
 use Rattle.hp_laws.proofs.Staying.{same_tables, stands_after}
 use Rattle.hp_laws.proofs.Invariant.{Reached, Inv, goes, vacant_of, sum_of, place_same, same_opens, sweeps, holds, to}
-use Rattle.hp_laws.proofs.Holding.{some_same}
 
 -- the number of free frames, where one changes
 pub free_change : (f : ℕ → FrameState) (x n : ℕ) (v : FrameState) → x < n

@@ -25,6 +25,7 @@ use Rattle.hp_machine.specs.declared.call.Turn.TheVariants.{Moved, Blocked, Ende
 use Rattle.hp_machine.specs.Views.{locked_file}
 use Rattle.hp_laws.specs.Bounds.{is_begun, calls_begun}
 use Rattle.hp_laws.specs.Sweep.{gone}
+use Rattle.hp_laws.proofs.Deciding.{clash}
 use Rattle.hp_laws.proofs.Standing.{HasLock}
 use Rattle.hp_laws.proofs.Passing.{same_holder, locks_file}
 use Rattle.hp_laws.proofs.Shared.{by_test, by_option, stands_at}
@@ -211,10 +212,6 @@ where_it_stands cut (Some (call.Alloc p)) h = absurd h
 where_it_stands cut (Some (call.Punch p)) h = absurd h
 where_it_stands cut (Some (call.Unmap p)) h = absurd h
 where_it_stands cut (Some (call.Exit p)) h = absurd h
-
--- a test has one outcome
-clash : {P : Type 0} (b : Bool) → b ≡ true → b ≡ false → P
-clash b e d = (let z : true ≡ false = sym e ∙ d in absurd (cc))
 
 -- at its tail it gets over
 tail_step : (s : State) (t : ℕ) (cut : Truncation) (grant : Bool) (phase : TruncatePhase) (o : Outcome) (n : State) (i : ℕ)

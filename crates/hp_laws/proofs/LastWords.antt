@@ -30,6 +30,7 @@ use Rattle.hp_machine.specs.declared.call.Turn.{Turn}
 use Rattle.hp_machine.specs.declared.call.Turn.TheVariants.{Moved, Ended}
 use Rattle.hp_laws.specs.Histories.{Moment}
 use Rattle.hp_laws.specs.Words.{Wrote, Sets}
+use Rattle.hp_laws.proofs.Deciding.{some_same}
 use Rattle.hp_laws.proofs.Invariant.{Inv}
 use Rattle.hp_laws.proofs.Moves.{other_page}
 use Rattle.hp_laws.proofs.Shared.{by_test, by_option}
@@ -128,10 +129,6 @@ stores_tell s event o n f i x old word h page was pages frame wrote only k j y w
 same_task : {t u : ℕ} {a b : Bool} → Step t a ≡ Step u b → u ≡ t
 same_task e = cc
 
--- a task has one call in flight
-some_call : {a b : Call} → Some a ≡ Some b → a ≡ b
-some_call e = cc
-
 -- which call a store is written by
 stored_by : (s : State) (t : ℕ) (grant : Bool) (c : Call) (o : Outcome) (n : State) → s.calls t ≡ Some c → (P : Type 0)
     → (f i v : ℕ) → Wrote f i (moment s (Step t grant) o n) v
@@ -142,9 +139,9 @@ stored_by : (s : State) (t : ℕ) (grant : Bool) (c : Call) (o : Outcome) (n : S
     → P
 stored_by s t grant c o n e P f i v wrote look found = elim wrote [
   | inl w ↦ (let d : w.0 ≡ t = same_task w.3 in
-      look w.2 (some_call (sym e ∙ (ap s.calls (sym d) ∙ w.4))) w.5 (ap (λ (m : ℕ). find (s.mappings m) w.2.vpn) (sym d) ∙ w.6) w.7)
+      look w.2 (some_same (sym e ∙ (ap s.calls (sym d) ∙ w.4))) w.5 (ap (λ (m : ℕ). find (s.mappings m) w.2.vpn) (sym d) ∙ w.6) w.7)
   | inr w ↦ (let d : w.0 ≡ t = same_task w.3 in
-      found w.2 (some_call (sym e ∙ (ap s.calls (sym d) ∙ w.4))) w.5 w.6 w.7 (ap n.calls (sym d) ∙ w.8))
+      found w.2 (some_same (sym e ∙ (ap s.calls (sym d) ∙ w.4))) w.5 w.6 w.7 (ap n.calls (sym d) ∙ w.8))
 ]
 
 -- a call that isn't a touch at look or found writes no word
@@ -159,7 +156,7 @@ quiet_refused : (s : State) (event : Event) (why : Refusal) (o : Outcome) (n : S
 quiet_refused s event why o n e d f i v wrote = elim wrote [
   | inl w ↦ (let z : outcome.Refused why ≡ outcome.Ended answer.Done = sym e ∙ w.7 in cc)
   | inr w ↦ (let z : call.Touch (touch.Found w.2) ≡ call.Touch
-      (touch.Leave (record { touch = w.2.touch; answer = answer.Done })) = some_call
+      (touch.Leave (record { touch = w.2.touch; answer = answer.Done })) = some_same
       (sym w.4 ∙ (ap (λ (m : State). m.calls w.0) (sym d) ∙ w.8)) in cc)
 ]
 

@@ -41,6 +41,7 @@ use Rattle.hp_machine.specs.declared.call.Call.{Call}
 use Rattle.hp_machine.specs.declared.call.Call.TheVariants as call
 use Rattle.hp_machine.specs.declared.call.Turn.{Turn}
 use Rattle.hp_machine.specs.declared.call.Turn.TheVariants.{Moved, Blocked, Ended}
+use Rattle.hp_laws.proofs.Deciding.{is_nil}
 use Rattle.hp_laws.proofs.Meets.{HasPage, settles, stands, has_page, entry_placed, resv_covered, page_inside}
 
 -- some turn and some state after it meet the row
@@ -104,10 +105,6 @@ free_is (state.Placed w) e = (let d : false ≡ true = e in absurd (cc))
 some_free : (frame : ℕ → FrameState) (frames : ℕ) → 1 ≤ free_frames frame frames → (x : ℕ) × (frame x ≡ state.Free)
 unfolding free_frames
 some_free frame frames l = let o = some_member frames (λ x. is_free (frame x)) l in (o.0, free_is (frame o.0) o.1)
-
--- a number that passes the test for 0 is 0
-is_nil : (m : ℕ) → (m == 0) ≡ true → m ≡ 0
-is_nil m e = grind (arith, nat_tests)
 
 -- a take applies where the reserve count is covered by free frames, and isn't 0 where it takes a reserved one
 take : {P : Type 0} (s : State) (m : ℕ) (no_frame : P) (taken : ℕ → P) → s.resv ≤ free_frames s.frame s.frames

@@ -1,5 +1,5 @@
 -- A reserved index goes only under the file lock, and a truncation that is over leaves nothing.
-use Rattle.std.proofs.Common.{◌≡◌, ℕ, ◌+◌, ◌≤◌, refl, ap, sym, ◌∙◌, subst, arith, inl, inr, ◌⊎◌}
+use Rattle.std.proofs.Common.{◌≡◌, ℕ, ◌+◌, refl, ap, sym, ◌∙◌, subst, arith, inl, inr, ◌⊎◌}
 use Rattle.std.specs.Prelude.{Bool, true, false, ◌&&◌, ◌||◌, ◌==◌, nat_le, nat_lt, max, is_some, Option, Some}
 use Rattle.std.proofs.lemmas.Bool.Decides.{nat_tests}
 use Rattle.hp_base.specs.Indices.{is_within}
@@ -32,6 +32,7 @@ use Rattle.hp_machine.specs.declared.call.Turn.TheVariants.{Moved, Blocked, Ende
 use Rattle.hp_machine.specs.Views.{locked_file}
 use Rattle.hp_laws.specs.Sweep.{ahead, passed, gone}
 use Rattle.hp_laws.specs.Protocol.{is_covered, counts_on, works_at, GoesUnderLock, truncation_of, IsCut}
+use Rattle.hp_laws.proofs.Deciding.{from_on, never, clash, some_same}
 use Rattle.hp_laws.proofs.Standing.{HasSlot, HasLock, Stands, IsOne}
 use Rattle.hp_laws.proofs.Invariant.{Inv}
 use Rattle.hp_laws.proofs.Passing.{ahead_locked, locks_file, holds_slot, same_holder}
@@ -44,10 +45,6 @@ use Rattle.hp_laws.proofs.Reading.{begin_cases, step_cases, kill_cases, call_ste
 -- two tests for equal numbers are two equations
 same_pair : (a b f i : ℕ) → ((a == f) && (b == i)) ≡ true → (a ≡ f) × (b ≡ i)
 same_pair a b f i e = (grind (arith, nat_tests), grind (arith, nat_tests))
-
--- the case of a frame in the hand, where there is none
-never : {k f m i : ℕ} → false ≡ true → (k ≡ f) × (m ≡ i)
-never e = absurd (cc)
 
 -- two equations make one of pairs
 of_pair : {k m f i : ℕ} → (k ≡ f) × (m ≡ i) → ◌≡◌ {A = Option (ℕ × ℕ)} (Some (k, m)) (Some (f, i))
@@ -151,10 +148,6 @@ unless_counted : (b : Bool) → (b ≡ true → ⊥) → b ≡ false
 unless_counted true h = absurd (h refl)
 unless_counted false h = refl
 
--- a test has one outcome
-clash : {P : Type 0} (b : Bool) → b ≡ true → b ≡ false → P
-clash b e d = (let z : true ≡ false = sym e ∙ d in absurd (cc))
-
 -- a reserved index that is reserved no more was taken out by a holder of the lock, and nobody counts on it
 pub goes_under : (s : State) (event : Event) (o : Outcome) (n : State) (f i : ℕ) → Always s → Row s event o n
     → s.reserved f i ≡ true → n.reserved f i ≡ false → GoesUnderLock s event f i
@@ -248,10 +241,6 @@ done_row s t killed grant (truncate.Tail p) turn new P row d f = not_moved turn 
 done_row s t killed grant (truncate.Settle p) turn new P (low, row) d f = not_moved turn _ _ row.0 d
 done_row s t killed grant (truncate.Leave p) turn new P row d f = f p refl row.1
 
--- an index from the new size on passes the test for that
-from_on : (f new j : ℕ) → new ≤ j → ((f == f) && nat_le new j) ≡ true
-from_on f new j l = grind (arith, nat_tests)
-
 -- nothing is left where a truncation leaves
 cut_at : (s : State) (t : ℕ) (p : Leave) → Inv s.geometry s → s.calls t ≡ Some (call.Truncate (truncate.Leave p))
     → IsCut s p.truncation.file p.truncation.new
@@ -292,10 +281,6 @@ done_call s t killed grant phase o pool next h e (turn, row, tells, leaves) is =
     (subst (λ (m : Pool). IsCut (with_pool s m) p.truncation.file p.truncation.new) (sym d)
     (cut_at s t p h (e ∙ ap (λ (m : TruncatePhase). Some (call.Truncate m)) q))))
 
--- a task has one call in flight
-same_call : {a b : Call} → Some a ≡ Some b → a ≡ b
-same_call e = cc
-
 -- after a truncation has ended with done nothing is left from its new size on
 pub truncation_leaves_nothing : (s : State) (t : ℕ) (grant : Bool) (phase : TruncatePhase) (n : State) → IsReached s
     → s.calls t ≡ Some (call.Truncate phase) → Row s (Step t grant) (outcome.Ended answer.Done) n
@@ -307,4 +292,4 @@ truncation_leaves_nothing s t grant phase n reached e row =
     subst (λ (m : State). IsCut m (truncation_of phase).file (truncation_of phase).new) (sym d)
     (done_call s t (is_killed (s.life t)) grant phase (outcome.Ended answer.Done) pool next (always s reached).inv e
     (subst (λ (m : Call). CallRow (pool_of s) t (is_killed (s.life t)) grant m (outcome.Ended answer.Done) pool
-    next) (same_call (sym some ∙ e)) r) refl))
+    next) (some_same (sym some ∙ e)) r) refl))

@@ -1,7 +1,6 @@
 -- Each row of a map keeps the invariant.
 use Rattle.std.proofs.Common.{◌≡◌, ℕ, ◌+◌, ◌-◌, ◌<◌, ◌≤◌, refl, ap, sym, ◌∙◌, subst, arith}
 use Rattle.std.specs.Prelude.{Bool, true, false, nat_lt, max, Some}
-use Rattle.std.proofs.lemmas.Bool.Decides.{nat_tests}
 use Rattle.hp_base.specs.Numbers.{put}
 use Rattle.hp_base.specs.Indices.{is_within, missing, add_range}
 use Rattle.hp_base.specs.Mappings.{IsRoom}
@@ -25,6 +24,7 @@ use Rattle.hp_machine.specs.declared.map.MapPhase.TheVariants as at
 use Rattle.hp_machine.specs.declared.call.Call.TheVariants as call
 use Rattle.hp_machine.specs.declared.call.Turn.{Turn}
 use Rattle.hp_laws.specs.Sweep.{passed}
+use Rattle.hp_laws.proofs.Deciding.{lt, le}
 use Rattle.hp_laws.proofs.Standing.{HasLock, IsFilled, IsRange, IsWhole, Stands, is_mapped}
 use Rattle.hp_laws.proofs.Invariant.{Inv, stays}
 use Rattle.hp_laws.proofs.Holding.{leaves_lock}
@@ -52,14 +52,6 @@ now_filled s f from len change whole j w =
 own_missing : (r : ℕ → Bool) (from len : ℕ) (change : Change) → IsWhole change from len
     → missing r change.from change.to ≡ missing r from (from + len)
 own_missing r from len change whole = ap (λ (k : ℕ). missing r k change.to) whole.0 ∙ ap (missing r from) whole.1
-
--- what the test of a row decides, as an inequality: where it holds
-lt : (a b : ℕ) → nat_lt a b ≡ true → a < b
-lt a b e = grind (arith, nat_tests)
-
--- and where it fails
-le : (a b : ℕ) → nat_lt a b ≡ false → b ≤ a
-le a b e = grind (arith, nat_tests)
 
 -- what the map stands on when it leaves with an answer that tells no mapping
 left_stands : (s : State) (t : ℕ) (map : MapRequest) (b : Answer) → HasLock s t map.file

@@ -1,6 +1,6 @@
 -- A truncation holds its file's lock while it passes the indices, so there is one at a time.
 use Rattle.std.proofs.Common.{◌≡◌, ℕ, ◌≤◌, ap, sym, ◌∙◌, subst, arith, inl, inr}
-use Rattle.std.specs.Prelude.{Bool, true, false, Option, Some, None, IfSome, ◌==◌, ◌&&◌, nat_le, nat_lt}
+use Rattle.std.specs.Prelude.{true, false, Option, Some, None, IfSome, ◌==◌, ◌&&◌, nat_le, nat_lt}
 use Rattle.std.proofs.lemmas.Bool.Decides.{nat_tests}
 use Rattle.hp_machine.specs.State.{Geometry, State}
 use Rattle.hp_machine.specs.Views.{locked_file, slot_held}
@@ -14,12 +14,9 @@ use Rattle.hp_machine.specs.declared.exit.ExitPhase.TheVariants as exit
 use Rattle.hp_machine.specs.declared.call.Call.{Call}
 use Rattle.hp_machine.specs.declared.call.Call.TheVariants as call
 use Rattle.hp_laws.specs.Sweep.{fills, ahead, passed}
+use Rattle.hp_laws.proofs.Deciding.{file_told}
 use Rattle.hp_laws.proofs.Standing.{HasSlot, HasLock}
 use Rattle.hp_laws.proofs.Invariant.{Inv, Reached}
-
--- a test for a file says which file it is
-same_file : (f k : ℕ) (b : Bool) → ((f == k) && b) ≡ true → Some f ≡ Some k
-same_file f k b e = let d : f ≡ k = grind (arith, nat_tests) in ap (λ (m : ℕ). Some m) d
 
 -- an index isn't both up to another and above it
 not_both : (f k i j : ℕ) → ((f == k) && nat_le j i) ≡ true → ((f == k) && nat_lt i j) ≡ true → ⊥
@@ -27,15 +24,15 @@ not_both f k i j a b = grind (arith, nat_tests)
 
 -- a truncation that has passed an index holds the lock of its file
 pub passed_locked : (c : Option Call) (k j : ℕ) → passed c k j ≡ true → locked_file c ≡ Some k
-passed_locked (Some (call.Truncate (truncate.Want p))) k j e = same_file p.truncation.file k _ e
-passed_locked (Some (call.Truncate (truncate.Locked p))) k j e = same_file p.truncation.file k _ e
-passed_locked (Some (call.Truncate (truncate.Unmap p))) k j e = same_file p.truncation.file k _ e
-passed_locked (Some (call.Truncate (truncate.Evict p))) k j e = same_file p.truncation.file k _ e
-passed_locked (Some (call.Truncate (truncate.Free p))) k j e = same_file p.truncation.file k _ e
-passed_locked (Some (call.Truncate (truncate.Unslot p))) k j e = same_file p.truncation.file k _ e
-passed_locked (Some (call.Truncate (truncate.Tail p))) k j e = same_file p.truncation.file k _ e
-passed_locked (Some (call.Truncate (truncate.Settle p))) k j e = same_file p.truncation.file k _ e
-passed_locked (Some (call.Truncate (truncate.Leave p))) k j e = same_file p.truncation.file k _ e
+passed_locked (Some (call.Truncate (truncate.Want p))) k j e = file_told p.truncation.file k _ e
+passed_locked (Some (call.Truncate (truncate.Locked p))) k j e = file_told p.truncation.file k _ e
+passed_locked (Some (call.Truncate (truncate.Unmap p))) k j e = file_told p.truncation.file k _ e
+passed_locked (Some (call.Truncate (truncate.Evict p))) k j e = file_told p.truncation.file k _ e
+passed_locked (Some (call.Truncate (truncate.Free p))) k j e = file_told p.truncation.file k _ e
+passed_locked (Some (call.Truncate (truncate.Unslot p))) k j e = file_told p.truncation.file k _ e
+passed_locked (Some (call.Truncate (truncate.Tail p))) k j e = file_told p.truncation.file k _ e
+passed_locked (Some (call.Truncate (truncate.Settle p))) k j e = file_told p.truncation.file k _ e
+passed_locked (Some (call.Truncate (truncate.Leave p))) k j e = file_told p.truncation.file k _ e
 passed_locked (Some (call.Touch (touch.Look _))) k j e = let d : false ≡ true = e in cc
 passed_locked (Some (call.Map (map.Start _))) k j e = let d : false ≡ true = e in cc
 passed_locked (Some (call.Alloc (alloc.Start _))) k j e = let d : false ≡ true = e in cc
@@ -46,12 +43,12 @@ passed_locked c k j e = let d : false ≡ true = e in cc
 
 -- so does one that has yet to pass it
 pub ahead_locked : (c : Option Call) (k j : ℕ) → ahead c k j ≡ true → locked_file c ≡ Some k
-ahead_locked (Some (call.Truncate (truncate.Want p))) k j e = same_file p.truncation.file k _ e
-ahead_locked (Some (call.Truncate (truncate.Locked p))) k j e = same_file p.truncation.file k _ e
-ahead_locked (Some (call.Truncate (truncate.Unmap p))) k j e = same_file p.truncation.file k _ e
-ahead_locked (Some (call.Truncate (truncate.Evict p))) k j e = same_file p.truncation.file k _ e
-ahead_locked (Some (call.Truncate (truncate.Free p))) k j e = same_file p.truncation.file k _ e
-ahead_locked (Some (call.Truncate (truncate.Unslot p))) k j e = same_file p.truncation.file k _ e
+ahead_locked (Some (call.Truncate (truncate.Want p))) k j e = file_told p.truncation.file k _ e
+ahead_locked (Some (call.Truncate (truncate.Locked p))) k j e = file_told p.truncation.file k _ e
+ahead_locked (Some (call.Truncate (truncate.Unmap p))) k j e = file_told p.truncation.file k _ e
+ahead_locked (Some (call.Truncate (truncate.Evict p))) k j e = file_told p.truncation.file k _ e
+ahead_locked (Some (call.Truncate (truncate.Free p))) k j e = file_told p.truncation.file k _ e
+ahead_locked (Some (call.Truncate (truncate.Unslot p))) k j e = file_told p.truncation.file k _ e
 ahead_locked (Some (call.Touch (touch.Look _))) k j e = let d : false ≡ true = e in cc
 ahead_locked (Some (call.Map (map.Start _))) k j e = let d : false ≡ true = e in cc
 ahead_locked (Some (call.Alloc (alloc.Start _))) k j e = let d : false ≡ true = e in cc

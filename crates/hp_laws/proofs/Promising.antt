@@ -28,17 +28,11 @@ use Rattle.hp_laws.specs.Bounds.{sizes}
 use Rattle.hp_laws.specs.Protocol.{truncation_of}
 use Rattle.hp_laws.specs.Histories.{Moment}
 use Rattle.hp_laws.specs.Promises.{in_hole, is_cut, can_take_back, IsPromised}
+use Rattle.hp_base.proofs.Spaces.{both_true}
+use Rattle.hp_laws.proofs.Deciding.{same_of, file_told, never, clash}
 use Rattle.hp_laws.proofs.Invariant.{Inv}
 use Rattle.hp_laws.proofs.Shared.{by_test, by_option, stands_at}
 use Rattle.hp_laws.proofs.StepsLeft.{deletes}
-
--- what is false is not so
-pub never : {P : Type 0} → false ≡ true → P
-never e = absurd (cc)
-
--- a test has one outcome
-pub clash : {P : Type 0} (b : Bool) → b ≡ true → b ≡ false → P
-clash b e d = (let z : true ≡ false = sym e ∙ d in absurd (cc))
 
 -- the range of a punch, in each phase
 abbrev pub hole_of : PunchPhase → Hole
@@ -76,19 +70,6 @@ KeptAt s k j = (s.reserved k j ≡ true) × (j < s.size k) × ((u : ℕ) → rem
 abbrev pub Kept : State → List Moment → Type 0
 Kept s ms = (k j : ℕ) → IsPromised k j ms → KeptAt s k j
 
--- both of two tests that hold together hold
-pub and_both : (a b : Bool) → (a && b) ≡ true → (a ≡ true) × (b ≡ true)
-and_both true b e = (refl, e)
-and_both false b e = never e
-
--- an equality test that holds is an equation
-pub same_of : (a b : ℕ) → (a == b) ≡ true → a ≡ b
-same_of a b e = grind (arith, nat_tests)
-
--- a test for a file says which file it is
-file_of : (f k : ℕ) (b : Bool) → ((f == k) && b) ≡ true → Some f ≡ Some k
-file_of f k b e = ap (λ (m : ℕ). Some m) (same_of f k (and_both (f == k) b e).0)
-
 -- a punch past its start holds the lock of its file
 hole_locked : (phase : PunchPhase) → past_punch phase ≡ true → locked_file (Some (call.Punch phase)) ≡ Some (hole_of phase).file
 hole_locked (punch.Start p) e = never e
@@ -119,11 +100,11 @@ cut_locked (truncate.Leave p) e = refl
 -- who removes an index holds the file's lock
 pub removes_locked : (c : Option Call) (k j : ℕ) → removes c k j ≡ true → locked_file c ≡ Some k
 removes_locked (Some (call.Punch phase)) k j e =
-    let o = and_both (past_punch phase) _ e in
-    hole_locked phase o.0 ∙ file_of (hole_of phase).file k _ o.1
+    let o = both_true (past_punch phase) _ e in
+    hole_locked phase o.0 ∙ file_told (hole_of phase).file k _ o.1
 removes_locked (Some (call.Truncate phase)) k j e =
-    let o = and_both (past_truncate phase) _ e in
-    cut_locked phase o.0 ∙ file_of (truncation_of phase).file k _ o.1
+    let o = both_true (past_truncate phase) _ e in
+    cut_locked phase o.0 ∙ file_told (truncation_of phase).file k _ o.1
 removes_locked c k j e = never e
 
 -- what the next step takes out is removed
@@ -131,7 +112,7 @@ pub removes_deleted : (c : Call) (k j : ℕ) → deletes (Some c) k j ≡ true �
     → s.calls t ≡ Some c → removes (Some c) k j ≡ true
 removes_deleted (call.Punch (punch.Delete p)) k j e s t h d =
     let y = stands_at s t _ h d in
-    let o = and_both (p.hole.file == k) _ e in
+    let o = both_true (p.hole.file == k) _ e in
     let same : p.index ≡ j = same_of p.index j o.1 in
     here p.hole.file p.hole.from p.hole.len k j (same_of p.hole.file k o.0) (let a = y.facts.aim.above in omega arith)
     (let a = y.facts.aim.below in omega arith)
@@ -216,41 +197,41 @@ Removes c o k j = (removes (Some c) k j ≡ true) ⊎ ((phase : Phase) × (o ≡
 punch_removes : (phase q : PunchPhase) (k j : ℕ) → hole_of q ≡ hole_of phase → removes (Some (call.Punch q)) k j ≡ true
     → Removes (call.Punch phase) (outcome.Moved (word_of (call.Punch q))) k j
 punch_removes (punch.Start p) q k j same e =
-    inr (word_of (call.Punch q), refl, ap (λ (m : Hole). in_hole m k j) (sym same) ∙ (and_both (past_punch q) _ e).1)
-punch_removes (punch.Want p) q k j same e = inl (ap (λ (m : Hole). in_hole m k j) (sym same) ∙ (and_both (past_punch q) _ e).1)
-punch_removes (punch.Locked p) q k j same e = inl (ap (λ (m : Hole). in_hole m k j) (sym same) ∙ (and_both (past_punch q) _ e).1)
-punch_removes (punch.Unmap p) q k j same e = inl (ap (λ (m : Hole). in_hole m k j) (sym same) ∙ (and_both (past_punch q) _ e).1)
-punch_removes (punch.Evict p) q k j same e = inl (ap (λ (m : Hole). in_hole m k j) (sym same) ∙ (and_both (past_punch q) _ e).1)
-punch_removes (punch.Delete p) q k j same e = inl (ap (λ (m : Hole). in_hole m k j) (sym same) ∙ (and_both (past_punch q) _ e).1)
-punch_removes (punch.Free p) q k j same e = inl (ap (λ (m : Hole). in_hole m k j) (sym same) ∙ (and_both (past_punch q) _ e).1)
-punch_removes (punch.Unslot p) q k j same e = inl (ap (λ (m : Hole). in_hole m k j) (sym same) ∙ (and_both (past_punch q) _ e).1)
-punch_removes (punch.Leave p) q k j same e = inl (ap (λ (m : Hole). in_hole m k j) (sym same) ∙ (and_both (past_punch q) _ e).1)
+    inr (word_of (call.Punch q), refl, ap (λ (m : Hole). in_hole m k j) (sym same) ∙ (both_true (past_punch q) _ e).1)
+punch_removes (punch.Want p) q k j same e = inl (ap (λ (m : Hole). in_hole m k j) (sym same) ∙ (both_true (past_punch q) _ e).1)
+punch_removes (punch.Locked p) q k j same e = inl (ap (λ (m : Hole). in_hole m k j) (sym same) ∙ (both_true (past_punch q) _ e).1)
+punch_removes (punch.Unmap p) q k j same e = inl (ap (λ (m : Hole). in_hole m k j) (sym same) ∙ (both_true (past_punch q) _ e).1)
+punch_removes (punch.Evict p) q k j same e = inl (ap (λ (m : Hole). in_hole m k j) (sym same) ∙ (both_true (past_punch q) _ e).1)
+punch_removes (punch.Delete p) q k j same e = inl (ap (λ (m : Hole). in_hole m k j) (sym same) ∙ (both_true (past_punch q) _ e).1)
+punch_removes (punch.Free p) q k j same e = inl (ap (λ (m : Hole). in_hole m k j) (sym same) ∙ (both_true (past_punch q) _ e).1)
+punch_removes (punch.Unslot p) q k j same e = inl (ap (λ (m : Hole). in_hole m k j) (sym same) ∙ (both_true (past_punch q) _ e).1)
+punch_removes (punch.Leave p) q k j same e = inl (ap (λ (m : Hole). in_hole m k j) (sym same) ∙ (both_true (past_punch q) _ e).1)
 
 -- so with a truncation
 truncate_removes : (phase q : TruncatePhase) (k j : ℕ) → truncation_of q ≡ truncation_of phase
     → removes (Some (call.Truncate q)) k j ≡ true → Removes (call.Truncate phase) (outcome.Moved (word_of (call.Truncate q))) k j
 truncate_removes (truncate.Start p) q k j same e =
-    inr (word_of (call.Truncate q), refl, ap (λ (m : Truncation). is_cut m k j) (sym same) ∙ (and_both (past_truncate q) _ e).1)
+    inr (word_of (call.Truncate q), refl, ap (λ (m : Truncation). is_cut m k j) (sym same) ∙ (both_true (past_truncate q) _ e).1)
 truncate_removes (truncate.Size p) q k j same e =
-    inl (ap (λ (m : Truncation). is_cut m k j) (sym same) ∙ (and_both (past_truncate q) _ e).1)
+    inl (ap (λ (m : Truncation). is_cut m k j) (sym same) ∙ (both_true (past_truncate q) _ e).1)
 truncate_removes (truncate.Want p) q k j same e =
-    inl (ap (λ (m : Truncation). is_cut m k j) (sym same) ∙ (and_both (past_truncate q) _ e).1)
+    inl (ap (λ (m : Truncation). is_cut m k j) (sym same) ∙ (both_true (past_truncate q) _ e).1)
 truncate_removes (truncate.Locked p) q k j same e =
-    inl (ap (λ (m : Truncation). is_cut m k j) (sym same) ∙ (and_both (past_truncate q) _ e).1)
+    inl (ap (λ (m : Truncation). is_cut m k j) (sym same) ∙ (both_true (past_truncate q) _ e).1)
 truncate_removes (truncate.Unmap p) q k j same e =
-    inl (ap (λ (m : Truncation). is_cut m k j) (sym same) ∙ (and_both (past_truncate q) _ e).1)
+    inl (ap (λ (m : Truncation). is_cut m k j) (sym same) ∙ (both_true (past_truncate q) _ e).1)
 truncate_removes (truncate.Evict p) q k j same e =
-    inl (ap (λ (m : Truncation). is_cut m k j) (sym same) ∙ (and_both (past_truncate q) _ e).1)
+    inl (ap (λ (m : Truncation). is_cut m k j) (sym same) ∙ (both_true (past_truncate q) _ e).1)
 truncate_removes (truncate.Free p) q k j same e =
-    inl (ap (λ (m : Truncation). is_cut m k j) (sym same) ∙ (and_both (past_truncate q) _ e).1)
+    inl (ap (λ (m : Truncation). is_cut m k j) (sym same) ∙ (both_true (past_truncate q) _ e).1)
 truncate_removes (truncate.Unslot p) q k j same e =
-    inl (ap (λ (m : Truncation). is_cut m k j) (sym same) ∙ (and_both (past_truncate q) _ e).1)
+    inl (ap (λ (m : Truncation). is_cut m k j) (sym same) ∙ (both_true (past_truncate q) _ e).1)
 truncate_removes (truncate.Tail p) q k j same e =
-    inl (ap (λ (m : Truncation). is_cut m k j) (sym same) ∙ (and_both (past_truncate q) _ e).1)
+    inl (ap (λ (m : Truncation). is_cut m k j) (sym same) ∙ (both_true (past_truncate q) _ e).1)
 truncate_removes (truncate.Settle p) q k j same e =
-    inl (ap (λ (m : Truncation). is_cut m k j) (sym same) ∙ (and_both (past_truncate q) _ e).1)
+    inl (ap (λ (m : Truncation). is_cut m k j) (sym same) ∙ (both_true (past_truncate q) _ e).1)
 truncate_removes (truncate.Leave p) q k j same e =
-    inl (ap (λ (m : Truncation). is_cut m k j) (sym same) ∙ (and_both (past_truncate q) _ e).1)
+    inl (ap (λ (m : Truncation). is_cut m k j) (sym same) ∙ (both_true (past_truncate q) _ e).1)
 
 -- so by the rows of a punch, where it isn't blocked
 punch_next : (s : State) (t : ℕ) (killed grant : Bool) (phase : PunchPhase) (turn : Turn PunchPhase) (new : Pool) (k j : ℕ)

@@ -19,6 +19,7 @@ use Rattle.hp_machine.specs.declared.punch.PunchPhase.TheVariants as at
 use Rattle.hp_machine.specs.declared.call.Call.TheVariants as call
 use Rattle.hp_machine.specs.declared.call.Turn.{Turn}
 use Rattle.hp_machine.specs.State.{Pool, State, pool_of, slot_of}
+use Rattle.hp_laws.proofs.Deciding.{lt, le}
 use Rattle.hp_laws.proofs.Standing.{below_limit, in_first, in_next}
 use Rattle.hp_laws.proofs.Invariant.{Inv, stays}
 use Rattle.hp_laws.proofs.Holding.{leaves_slot, leaves_lock}
@@ -27,14 +28,6 @@ use Rattle.hp_laws.proofs.Tables.{clears, cleared_next}
 use Rattle.hp_laws.proofs.Removals.{evicts, deletes, page_marked}
 use Rattle.hp_laws.proofs.Shared.{after, so, by_test, stands_at, start_row, good_range, want_row}
 use Rattle.hp_laws.proofs.TouchKeeps.{some_page}
-
--- what the test of a row decides, as an inequality: where it holds
-lt : (a b : ℕ) → nat_lt a b ≡ true → a < b
-lt a b e = grind (arith, nat_tests)
-
--- and where it fails
-le : (a b : ℕ) → nat_lt a b ≡ false → b ≤ a
-le a b e = grind (arith, nat_tests)
 
 -- a split leaves a spare for each change
 spare_left : (b : Bool) (pending spare : ℕ) → pending ≤ spare → pending ≤ (if b && nat_lt pending spare then spare - 1 else spare)

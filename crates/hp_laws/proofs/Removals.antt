@@ -12,11 +12,11 @@ use Rattle.hp_machine.specs.State.{Geometry, State, slot_of, is_free, free_frame
 use Rattle.hp_machine.specs.Views.{less, more, hand, change_in}
 use Rattle.hp_machine.specs.declared.call.Call.{Call}
 use Rattle.hp_laws.specs.Sweep.{fills, ahead}
+use Rattle.hp_laws.proofs.Deciding.{some_same}
 use Rattle.hp_laws.proofs.Moves.{Placing, evicts_frame}
 use Rattle.hp_laws.proofs.Standing.{HasSlot, HasLock, Stands}
 use Rattle.hp_laws.proofs.Staying.{same_tables, stands_after}
 use Rattle.hp_laws.proofs.Invariant.{Reached, Inv, page_within, goes, vacant_of, place_same, same_opens, sweeps, holds, to}
-use Rattle.hp_laws.proofs.Holding.{some_same}
 use Rattle.hp_laws.proofs.Effects.{free_same}
 
 -- a page lies where the index is reserved

@@ -23,6 +23,7 @@ use Rattle.hp_machine.specs.declared.outcome.Outcome.{Outcome}
 use Rattle.hp_machine.specs.declared.call.Call.{Call}
 use Rattle.hp_machine.specs.declared.call.Call.TheVariants as call
 use Rattle.hp_machine.specs.declared.call.Turn.{Turn}
+use Rattle.hp_laws.proofs.Deciding.{never}
 use Rattle.hp_laws.proofs.Invariant
 use Rattle.hp_laws.proofs.Invariant.{Inv, stays, to}
 use Rattle.hp_laws.proofs.Passing.{ahead_locked, locks_file}
@@ -244,10 +245,6 @@ opening_place frames = record {
 -- an empty option has no value
 no_value : {A P : Type 0} {x : A} → ◌≡◌ {A = Option A} None (Some x) → P
 no_value d = absurd (cc)
-
--- what is false is not so
-never : {P : Type 0} → false ≡ true → P
-never d = absurd (cc)
 
 -- where nothing is reserved, nothing reserved is without a page
 nothing_vacant : (limit : ℕ) → vacant limit (λ _. false) (λ _. None) ≡ 0

@@ -39,6 +39,7 @@ use Rattle.hp_machine.specs.declared.call.Turn.TheVariants.{Blocked}
 use Rattle.hp_laws.specs.Bounds.{is_begun, calls_begun}
 use Rattle.hp_laws.specs.Histories.{Moment, History, in_order}
 use Rattle.hp_laws.specs.Promises.{IsPromised, IsUndisturbed, IsServed}
+use Rattle.hp_laws.proofs.Deciding.{nil_passes, clash}
 use Rattle.hp_laws.proofs.Shared.{by_test, by_option}
 use Rattle.hp_laws.proofs.Runs.{Always, always, row_keeps}
 use Rattle.hp_laws.proofs.Reading.{begin_cases, step_cases, step_of}
@@ -148,10 +149,6 @@ Well ms f i (touch.Leave p) = IsServed p.answer
 served : (a : Access) (w : ℕ) → IsServed (answer_of a w)
 served Load w = inl (w, refl)
 served (Store n) w = inr refl
-
--- a test has one outcome
-clash : {P : Type 0} (b : Bool) → b ≡ true → b ≡ false → P
-clash b e d = (let z : true ≡ false = sym e ∙ d in absurd (cc))
 
 -- a touch of an index below the size isn't beyond it
 not_beyond : {P : Type 0} (s : State) (p : Touch) (f i : ℕ) → At p f i → i < s.size f → nat_le (s.size p.file) p.index ≡ true → P
@@ -322,13 +319,6 @@ promised_served g frames ends later begins past t p look f i b h quiet is begun 
         let now = starts_well begins.before t p look f i begins.outcome begins.after e there alive begun (row at.1) in
         subst (λ (m : State). Goes m t f i) at.0 now
 
--- a change that missed nothing passes the test for that
-not_some : {P : Type 0} (m : ℕ) → m ≡ 0 → (m == 0) ≡ false → P
-not_some m e d = absurd (never m e d)
-  where
-    never : (m : ℕ) → m ≡ 0 → (m == 0) ≡ false → ⊥
-    never m e d = grind (arith, nat_tests)
-
 -- a touch whose change missed nothing takes a free frame in its next step, unless it notices a kill: by its row
 touch_call_takes : (s : State) (t : ℕ) (killed grant : Bool) (p : Changed.Changed) (o : Outcome) (pool : Pool) (next : Option Call)
     → killed ≡ false → p.pending.missing ≡ 0 → CallRow (pool_of s) t killed grant (call.Touch (touch.Changed p)) o pool next
@@ -339,7 +329,7 @@ touch_call_takes s t killed grant p o pool next alive none (turn, row, tells, le
     (λ is r. clash killed is alive)
     (λ _ r. by_test (p.pending.missing == 0) r
     (λ _ r. (r.0, r.1, tells ∙ ap (told call.Touch) r.3.0, leaves ∙ ap (left call.Touch) r.3.0))
-    (λ some r. not_some p.pending.missing none some))
+    (λ some r. nil_passes p.pending.missing none some))
 
 -- and so in every reached state
 pub touch_takes : (s : State) (t : ℕ) (grant : Bool) (p : Changed.Changed) (o : Outcome) (n : State) → IsReached s
@@ -364,7 +354,7 @@ alloc_call_takes s t killed grant p o pool next alive none (turn, row, tells, le
     (λ is r. clash killed is alive)
     (λ _ r. by_test (p.pending.missing == 0) r
     (λ _ r. (r.0, r.1, tells ∙ ap (told call.Alloc) r.3.0, leaves ∙ ap (left call.Alloc) r.3.0))
-    (λ some r. not_some p.pending.missing none some))
+    (λ some r. nil_passes p.pending.missing none some))
 
 -- and so in every reached state
 pub alloc_takes : (s : State) (t : ℕ) (grant : Bool) (p : alloc_changed.Changed) (o : Outcome) (n : State) → IsReached s

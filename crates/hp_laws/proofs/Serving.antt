@@ -35,10 +35,6 @@ use Rattle.hp_laws.proofs.Shared.{by_test}
 use Rattle.hp_laws.proofs.Runs.{Always}
 use Rattle.hp_laws.proofs.Reading.{begin_cases, step_cases, kill_cases, call_steps}
 
--- what is false is not so
-never : {P : Type 0} → false ≡ true → P
-never e = absurd (cc)
-
 -- a turn where a kill isn't noticed
 abbrev pub TurnWell : (P : Type 0) → (P → Type 0) → (Answer → Type 0) → Turn P → Type 0
 TurnWell P on ends (Moved p) = on p

@@ -15,6 +15,7 @@ use Rattle.hp_machine.specs.Views.{less, more, hand, change_in, locked_file, slo
 use Rattle.hp_machine.specs.declared.call.Call.{Call}
 use Rattle.hp_machine.specs.declared.call.Turn.{Turn}
 use Rattle.hp_laws.specs.Sweep.{fills, ahead, passed}
+use Rattle.hp_laws.proofs.Deciding.{is_nil, not_nil}
 use Rattle.hp_laws.proofs.Standing.{IsOne, Stands}
 use Rattle.hp_laws.proofs.Invariant
 use Rattle.hp_laws.proofs.Invariant.{Reached, Inv, sweeps, holds, seen, stays, to}
@@ -141,14 +142,6 @@ change_row call s t grant f from to here denied changed turn new h l e row y =
     (λ isnt r. so call s t _ turn _ new r
     (opened s.geometry s t (Some (call here)) _ f h l e (ap (λ p. p.0) y.same) (ap (λ p. p.1) y.same)
     (ap (λ p. p.2) y.same) y.none y.some y.balance y.fill y.own))
-
--- a number that passes the test for 0 is 0
-pub is_nil : (m : ℕ) → (m == 0) ≡ true → m ≡ 0
-is_nil m e = grind (arith, nat_tests)
-
--- and one that fails it is 1 or more
-pub not_nil : (m : ℕ) → (m == 0) ≡ false → 1 ≤ m
-not_nil m e = grind (arith, nat_tests)
 
 -- where the free frames aren't as many as the reserve count, there is one more than that
 free_left : (s : State) → Inv s.geometry s → (frees (pool_of s) == s.resv) ≡ false → s.resv + 1 ≤ free_frames s.frame s.frames

@@ -12,10 +12,10 @@ use Rattle.hp_machine.specs.State.{Geometry, State, slot_of}
 use Rattle.hp_machine.specs.Views.{less, more}
 use Rattle.hp_machine.specs.declared.call.Call.{Call}
 use Rattle.hp_laws.specs.Sweep.{fills, ahead, passed}
+use Rattle.hp_laws.proofs.Deciding.{some_same}
 use Rattle.hp_laws.proofs.Standing.{HasSlot, HasLock, ClearedBelow, Stands}
 use Rattle.hp_laws.proofs.Staying.{same_files, same_tables, stands_after}
 use Rattle.hp_laws.proofs.Invariant.{AllWithin, Reached, Inv, goes, place_same, same_opens, seen, to, if_weaker}
-use Rattle.hp_laws.proofs.Holding.{some_same}
 use Rattle.hp_laws.proofs.Passing.{same_holder}
 
 -- the mappings lie within their files, where one that does is entered

@@ -22,6 +22,7 @@ use Rattle.hp_machine.specs.declared.truncate.TruncatePhase.TheVariants as at
 use Rattle.hp_machine.specs.declared.call.Call.TheVariants as call
 use Rattle.hp_machine.specs.declared.call.Turn.{Turn}
 use Rattle.hp_laws.specs.Sweep.{passed}
+use Rattle.hp_laws.proofs.Deciding.{lt, le, from_on, never}
 use Rattle.hp_laws.proofs.Invariant.{Inv, page_within, stays}
 use Rattle.hp_laws.proofs.Holding.{leaves_lock}
 use Rattle.hp_laws.proofs.Effects.{rebalances, gives}
@@ -31,25 +32,9 @@ use Rattle.hp_laws.proofs.Cuts.{cuts, passes, cuts_tail}
 use Rattle.hp_laws.proofs.Shared.{after, so, by_test, stands_at, start_row, want_row}
 use Rattle.hp_laws.proofs.TouchKeeps.{some_page, no_page}
 
--- what the test of a row decides, as an inequality: where it holds
-lt : (a b : ℕ) → nat_lt a b ≡ true → a < b
-lt a b e = grind (arith, nat_tests)
-
--- and where it fails
-le : (a b : ℕ) → nat_lt a b ≡ false → b ≤ a
-le a b e = grind (arith, nat_tests)
-
--- what is false is not so
-never : {A : Type 0} → false ≡ true → A
-never e = absurd (cc)
-
 -- an index up to another of its file passes the test for that
 up_to : (f i j : ℕ) → j ≤ i → ((f == f) && nat_le j i) ≡ true
 up_to f i j l = grind (arith, nat_tests)
-
--- one from another on passes the test for that
-from_on : (f new j : ℕ) → new ≤ j → ((f == f) && nat_le new j) ≡ true
-from_on f new j l = grind (arith, nat_tests)
 
 -- what the test for above says
 is_above : (f k i j : ℕ) → ((f == k) && nat_lt i j) ≡ true → (k ≡ f) × (i + 1 ≤ j)

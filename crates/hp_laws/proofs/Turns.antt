@@ -43,6 +43,7 @@ use Rattle.hp_machine.specs.declared.alloc.Unslot.{Unslot}
 use Rattle.hp_machine.specs.declared.call.Turn.{Turn}
 use Rattle.hp_machine.specs.declared.call.Turn.TheVariants.{Moved, Blocked, Ended}
 use Rattle.hp_laws.specs.Bounds.{times, sizes, IsTop, WaitsFor}
+use Rattle.hp_laws.proofs.Deciding.{lt, le}
 use Rattle.hp_laws.proofs.StepsLeft.{steps_left, unslot_left, deletes}
 use Rattle.hp_laws.proofs.Invariant.{Inv}
 use Rattle.hp_laws.proofs.Effects.{grown_keeps}
@@ -209,14 +210,6 @@ sized call s t top f new_size here wanted turn there new e goes mappings reserve
       ];
       nearer = nearer;
     })
-
--- what the test of a row decides, as an inequality: where it holds
-lt : (a b : ℕ) → nat_lt a b ≡ true → a < b
-lt a b e = grind (arith, nat_tests)
-
--- and where it fails
-le : (a b : ℕ) → nat_lt a b ≡ false → b ≤ a
-le a b e = grind (arith, nat_tests)
 
 -- one more of something is that much more
 times_next : (n m k : ℕ) → n ≡ m + 1 → times n k ≡ times m k + k

@@ -28,8 +28,8 @@ use Rattle.hp_machine.specs.declared.call.Call.TheVariants as call
 use Rattle.hp_laws.specs.Bounds.{most_steps, is_own, own_steps, is_begun, calls_begun, sizes, IsTop, SetsSize, SweepsFrom}
 use Rattle.hp_laws.specs.Bounds.{WaitsFor, HoldsUp, IsUnblocked}
 use Rattle.hp_laws.specs.Histories.{Moment, History, in_order}
+use Rattle.hp_laws.proofs.Deciding.{some_same}
 use Rattle.hp_laws.proofs.StepsLeft.{steps_left}
-use Rattle.hp_laws.proofs.Holding.{some_same}
 use Rattle.hp_laws.proofs.Runs.{Always, always, call_keeps}
 use Rattle.hp_laws.proofs.Reading.{begin_cases, step_cases, kill_cases, Gone, Steps, call_steps, same_state}
 use Rattle.hp_laws.proofs.Histories.{begun_more, history_well}

@@ -15,7 +15,7 @@ use Rattle.hp_machine.specs.Parts.{UnmapIndexRow}
 use Rattle.hp_machine.specs.declared.call.Turn.{Turn}
 use Rattle.hp_laws.proofs.Invariant.{put_known}
 use Rattle.hp_meaning.specs.Meaning.{without_pages, is_gone, without_entries, Freed}
-use Rattle.hp_meaning.proofs.Names.{some_same}
+use Rattle.hp_laws.proofs.Deciding.{some_same}
 use Rattle.hp_meaning.proofs.Idle.{and_true, and_false}
 use Rattle.hp_meaning.proofs.Alone.{if_true, if_false, Leads, goes_on, from_pool, put_put}
 

@@ -12,7 +12,7 @@ use Rattle.hp_frames.specs.declared.frame.FrameState.TheVariants.{Free, Hand, Pl
 use Rattle.hp_machine.specs.State.{is_free, free_frames}
 use Rattle.hp_laws.proofs.Effects.{free_change}
 use Rattle.hp_meaning.specs.Meaning.{Filled}
-use Rattle.hp_meaning.proofs.Names.{some_same}
+use Rattle.hp_laws.proofs.Deciding.{some_same}
 use Rattle.hp_meaning.proofs.Alone.{put_put}
 
 -- one more index of a range counts, or doesn't

@@ -74,10 +74,6 @@ pub map_agrees : {A : Type 0} (p q : A → A) (o : Option A) → ((x : A) → o 
 map_agrees p q None h = refl
 map_agrees p q (Some x) h = ap (λ y. Some y) (h x refl)
 
--- equal options have equal values
-pub some_same : {A : Type 0} {a b : A} → Some a ≡ Some b → a ≡ b
-some_same e = cc
-
 -- an option that is renamed is there where it was
 pub some_renamed : (to : ℕ → ℕ) (o : Option ℕ) → is_some (option_map to o) ≡ is_some o
 some_renamed to None = refl

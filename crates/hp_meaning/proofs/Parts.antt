@@ -18,7 +18,8 @@ use Rattle.hp_machine.specs.Parts.{UnmapIndexRow, EvictRow, cleared}
 use Rattle.hp_machine.specs.declared.call.Turn.{Turn}
 use Rattle.hp_machine.specs.declared.call.Turn.TheVariants.{Moved, Blocked, Ended}
 use Rattle.hp_meaning.specs.Renaming.{Renaming}
-use Rattle.hp_meaning.proofs.Names.{count_renamed, put_map, put2_map, put_renamed, map_agrees, some_same, turned, turned_first}
+use Rattle.hp_laws.proofs.Deciding.{some_same}
+use Rattle.hp_meaning.proofs.Names.{count_renamed, put_map, put2_map, put_renamed, map_agrees, turned, turned_first}
 use Rattle.hp_meaning.proofs.Names.{turned_other, turned_back}
 
 -- the pool with its frames renamed

@@ -23,7 +23,7 @@ use Rattle.hp_machine.specs.declared.call.Turn.{Turn}
 use Rattle.hp_laws.proofs.Invariant.{Inv}
 use Rattle.hp_laws.proofs.Shared.{by_test}
 use Rattle.hp_meaning.specs.Meaning.{IsReady, Looks, available, PageMade, TouchMeans}
-use Rattle.hp_meaning.proofs.Names.{some_same}
+use Rattle.hp_laws.proofs.Deciding.{some_same}
 use Rattle.hp_meaning.proofs.Alone.{if_true, if_false, if_none, if_some, Leads, next, moves, stops, goes_on, ends_so, over, Comes, put_put}
 use Rattle.hp_meaning.proofs.Idle.{so_true, so_false, so_none, so_some, finish, idle_again, free_slot, translated_low, put_back}
 use Rattle.hp_meaning.proofs.Idle.{pending_back, put2_self, range_one, not_below_itself, and_false}

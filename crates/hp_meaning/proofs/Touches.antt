@@ -20,7 +20,8 @@ use Rattle.hp_machine.specs.declared.alloc.AllocPhase.TheVariants as alloc
 use Rattle.hp_machine.specs.declared.call.Turn.{Turn}
 use Rattle.hp_machine.specs.declared.call.Turn.TheVariants.{Moved, Ended}
 use Rattle.hp_meaning.specs.Renaming.{Renaming, touch_renamed, alloc_renamed}
-use Rattle.hp_meaning.proofs.Names.{put_renamed, put2_map, some_same, some_renamed}
+use Rattle.hp_laws.proofs.Deciding.{some_same}
+use Rattle.hp_meaning.proofs.Names.{put_renamed, put2_map, some_renamed}
 use Rattle.hp_meaning.proofs.Parts.{pool_renamed, Used, Follows, leaf, plain, by_tests, by_like_tests, by_options, by_names}
 use Rattle.hp_meaning.proofs.Parts.{start_row, want_row, change_row, commit_row, settle_row, take_row, placed_renamed}
 use Rattle.hp_meaning.proofs.Parts.{freed_renamed}

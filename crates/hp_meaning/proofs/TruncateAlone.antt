@@ -23,7 +23,7 @@ use Rattle.hp_machine.specs.declared.call.Turn.{Turn}
 use Rattle.hp_laws.proofs.Invariant.{Inv, page_within}
 use Rattle.hp_laws.proofs.Shared.{by_test}
 use Rattle.hp_meaning.specs.Meaning.{IsReady, Looks, Checked, without_pages, is_gone, without_entries, Freed, TruncateMeans}
-use Rattle.hp_meaning.proofs.Names.{some_same}
+use Rattle.hp_laws.proofs.Deciding.{some_same}
 use Rattle.hp_meaning.proofs.Alone.{if_true, if_false, if_none, Leads, next, moves, goes_on, ends_so, from_pool, put_put, Comes}
 use Rattle.hp_meaning.proofs.Idle.{finish, idle_again, free_slot, free_lock, put_back, and_false, checked}
 use Rattle.hp_meaning.proofs.Emptying.{Adds, Owned, page_kept, pages_none, entries_none, entry_kept, freed_none, pages_more}
