@@ -32,6 +32,7 @@ MachineSays = (g : Geometry) (frames : ℕ) (es fs : List (Event × Outcome)) (s
     → rows.Run (rows.opening g frames) es s → rows.Run (rows.opening g frames) fs n → events_of fs ≡ events_of es
     → (fs ≡ es) × Alike frames s n
 
+-- so two cores of one config to which the same happened told the same, and are equal up to names of frames
 pub frames_hidden : MachineSays → (config : Config) → FramesDontShow config
 unfolding Run IsOpening
 frames_hidden says config a b s n events told other open_a open_b run_a run_b =

@@ -53,6 +53,7 @@ pages_told : (s : CoreState) (f : ℕ) (file : FilePicture) → IsFilePicture (a
     → All (λ page. (as_state s).pages f page.0 ≡ Some page.1) file.pages.items
 pages_told s f file is = λ k d within. sym (is.pages (get_or file.pages.items k d).0) ∙ find_at file.pages.items k d is.in_order within
 
+-- the picture of a file has its regions and pages in order, and within the limits
 file_shaped : (s : CoreState) (f : ℕ) (file : FilePicture) → IsFilePicture (as_state s) f file → IsFileShaped file
 file_shaped s f file is = record {
   regions =
@@ -85,10 +86,12 @@ is_one : (b : Bool) → 0 < bit b → b ≡ true
 is_one true some = refl
 is_one false some = absurd (omega (arith, some))
 
+-- a test that finds a number found that number
 that_is : (x : ℕ) (o : Option ℕ) → is_that x o ≡ true → o ≡ Some x
 that_is x None e = (let d : false ≡ true = e in absurd (cc))
 that_is x (Some y) e = ap (λ (z : ℕ). Some z) (eqb-true y x e)
 
+-- a test that finds a place found that place
 there_is : (f i : ℕ) (o : Option (ℕ × ℕ)) → is_there o f i ≡ true → o ≡ Some (f, i)
 there_is f i None e = (let d : false ≡ true = e in absurd (cc))
 there_is f i (Some place) e =
@@ -133,6 +136,8 @@ page_told s e h is =
     let place : (e.1, e.2) ≡ a.0 = ap (λ (o : Option (ℕ × ℕ)). unwrap_or o (e.1, e.2)) same in
     ap (λ (q : ℕ × ℕ). (as_state s).pages q.0 q.1) place ∙ a.2
 
+-- a picture of a sound core is shaped as one: its files are, and each entry is of a file that is told, at an index below
+-- the limit
 shaped : (s : CoreState) (p : Picture) → IsSound s → IsPicture s p → IsShaped p
 shaped s p h is = record {
   files = each_file s p IsFileShaped is (λ f file of. file_shaped s f file of);
@@ -155,6 +160,7 @@ file_told s p f h l = elim (slice_get_cases p.files.items f).1 [
   | inr past ↦ absurd (omega (arith, h.as_many, l, past.0))
 ]
 
+-- each translation that is told agrees with the pages that are told
 agrees : (s : CoreState) (p : Picture) → IsSound s → IsPicture s p → Agrees p
 agrees s p h is = λ k d within. of_entry (get_or p.tables.items k d) (told s p is k d within)
   where
@@ -165,6 +171,7 @@ agrees s p h is = λ k d within. of_entry (get_or p.tables.items k d) (told s p 
         let told = file_told s p e.1 is (file_there s e.1 e.2 e.3 page) in
         rw told.1 (found_entry e.2 e.3 told.0.pages.items (told.2.pages e.2 ∙ page))
 
+-- and lies below the size of its file, where that isn't locked
 below : (s : CoreState) (p : Picture) → IsSound s → IsPicture s p → IsBelow p
 below s p h is = λ k d within. of_entry (get_or p.tables.items k d) (told s p is k d within)
   where
@@ -180,10 +187,12 @@ below s p h is = λ k d within. of_entry (get_or p.tables.items k d) (told s p i
         let low = (head_of s h).below e.0 of.0 e.3 e.1 e.2 of.1 of.2 (unlocked ((as_state s).locks e.1) (sym told.2.locked ∙ idle)) in
         omega (arith, low, told.2.size))
 
+-- an option is empty where it has no value
 not_some : (o : Option ℕ) → not (is_some o) ≡ is_none o
 not_some None = refl
 not_some (Some x) = refl
 
+-- a file's picture has as many reserved indices without a page as the file
 vacant_same : (s : CoreState) (f : ℕ) (file : FilePicture) → IsFilePicture (as_state s) f file
     → vacant_of file ≡ vacant LIMIT ((as_state s).reserved f) ((as_state s).pages f)
 unfolding vacant_of vacant
@@ -194,6 +203,7 @@ vacant_same s f file is =
     ap (λ (b : Bool). b && not (has_page file.pages.items i)) (is.reserved i)
     ∙ ap (λ (b : Bool). (as_state s).reserved f i && b) (ap not page ∙ not_some ((as_state s).pages f i)))
 
+-- so have all together
 vacant_all : (s : CoreState) (p : Picture) → IsPicture s p → vacant_in p ≡ head.vacant_in (as_state s)
 vacant_all s p is =
     let of_files : ℕ → ℕ = λ f. vacant LIMIT ((as_state s).reserved f) ((as_state s).pages f) in
@@ -201,9 +211,11 @@ vacant_all s p is =
     (λ f within d. vacant_same s f (get_or p.files.items f d) (is.files f (omega (arith, is.as_many, within)) d))
     ∙ ap (λ (n : ℕ). total n of_files) is.as_many
 
+-- a sum on both sides is a difference, with its sign
 signed : (r v less more : ℕ) → r + less ≡ v + more → pos r ≡ pos v +ℤ (pos more -ℤ pos less)
 signed r v less more h = grind (arith, ints, h)
 
+-- the reserve count that is told is right, and at most the free frames
 counts : (s : CoreState) (p : Picture) → IsSound s → IsPicture s p → IsCounted p
 unfolding owed_of resv_of free_of
 counts s p h is =
@@ -221,15 +233,18 @@ counts s p h is =
 abbrev IsPlaced : CoreState → ℕ → Place → Type 0
 IsPlaced s x q = IsAt (as_state s).frame (λ t. hand ((as_state s).calls t)) (as_state s).pages x q
 
+-- a frame has one place
 alone : (s : CoreState) (x : ℕ) (q r : Place) → IsSound s → IsPlaced s x q → IsPlaced s x r → q ≡ r
 alone s x q r h a b =
     same_place (as_state s).frames (as_state s).frame (λ t. hand ((as_state s).calls t)) (as_state s).pages
     (head_of s h).place x q r a b
 
+-- a test counts once at most
 bit_one : (b : Bool) → bit b ≤ 1
 bit_one true = omega arith
 bit_one false = omega arith
 
+-- a frame that counts as free is free
 free_is : (f : FrameState) → is_free f ≡ true → f ≡ frame.Free
 free_is frame.Free e = refl
 free_is frame.Hand e = (let d : false ≡ true = e in absurd (cc))
@@ -239,6 +254,7 @@ free_is (frame.Placed word) e = (let d : false ≡ true = e in absurd (cc))
 free_at : (s : CoreState) (p : Picture) (x : ℕ) → IsPicture s p → 0 < times_in p.free.items x → IsPlaced s x Free
 free_at s p x is some = free_is ((as_state s).frame x) (is_one (is_free ((as_state s).frame x)) (omega (arith, some, is.free x)))
 
+-- a frame is told as free once at most
 free_once : (s : CoreState) (p : Picture) (x : ℕ) → IsPicture s p → times_in p.free.items x ≤ 1
 free_once s p x is = omega (arith, is.free x, bit_one (is_free ((as_state s).frame x)))
 
@@ -253,6 +269,7 @@ hand_at s p x is some =
 placing : (s : CoreState) → IsSound s → Placing (as_state s).frames (as_state s).frame (λ t. hand ((as_state s).calls t)) (as_state s).pages
 placing s h = (always (as_state s) (reached_of s h)).inv.place
 
+-- and in a hand once at most
 hand_once : (s : CoreState) (p : Picture) (x : ℕ) → IsSound s → IsPicture s p → times_in p.hands.items x ≤ 1
 hand_once s p x h is =
     let holds : ℕ → Bool = λ t. is_that x (hand ((as_state s).calls t)) in
@@ -276,6 +293,7 @@ page_of s f x file is some =
     counted (λ (page : ℕ × ℕ). page.1) (λ y. (i : ℕ) × ((as_state s).pages f i ≡ Some y)) x file.pages.items
     (λ k d within. ((get_or file.pages.items k d).0, pages_told s f file is k d within)) some
 
+-- a frame that is told as a page is one
 page_at : (s : CoreState) (p : Picture) (x : ℕ) → IsPicture s p → 0 < sum_by (λ file. pages_in file.pages.items x) p.files.items
     → (place : ℕ × ℕ) × IsPlaced s x (Page place.0 place.1)
 page_at s p x is some =
@@ -304,6 +322,7 @@ once_in_file s f x file h is =
         pages_told s f file is k d within
         ∙ ap (λ (y : ℕ). Some y) (eqb-true (get_or file.pages.items k d).1 x (passed ((get_or file.pages.items k d).1 == x) some))
 
+-- and as a page once at most
 page_once : (s : CoreState) (p : Picture) (x : ℕ) → IsSound s → IsPicture s p
     → sum_by (λ file. pages_in file.pages.items x) p.files.items ≤ 1
 page_once s p x h is =
@@ -323,6 +342,7 @@ few_places (suc a) zero zero la lb lc ab ac bc = omega (arith, la)
 few_places (suc a) zero (suc c) la lb lc ab ac bc = absurd (ac (omega arith) (omega arith))
 few_places (suc a) (suc b) c la lb lc ab ac bc = absurd (ab (omega arith) (omega arith))
 
+-- so each frame is told in one place at most
 one_place : (s : CoreState) (p : Picture) → IsSound s → IsPicture s p → IsOnePlace p
 unfolding place_count
 one_place s p h is =
@@ -342,5 +362,6 @@ one_place s p h is =
     apart : {t f i : ℕ} → Hand t ≡ Page f i → ⊥
     apart e = cc
 
+-- an audit finds nothing wrong with a picture of a sound core
 pub right_of : (s : CoreState) (p : Picture) → IsSound s → IsPicture s p → IsRight p
 right_of s p h is = (shaped s p h is, agrees s p h is, one_place s p h is, below s p h is, counts s p h is)

@@ -39,6 +39,7 @@ use Rattle.hp_core.proofs.Rows.{Done}
 use Rattle.hp_core.proofs.Seats.{by_test, by_option}
 use Rattle.hp_core.proofs.Steps.{event_row, with_fields}
 
+-- nothing is asked of what isn't told as blocked
 told_any : (o : Outcome) → IfToldBlocked o (Unit {0})
 told_any outcome.Begun = tt
 told_any (outcome.Moved p) = tt
@@ -47,6 +48,7 @@ told_any (outcome.Ended a) = tt
 told_any outcome.Marked = tt
 told_any (outcome.Refused why) = tt
 
+-- a turn that waits where something is wanted is told so
 told_by_turn : {P : Type 0} (inflight : P → Call) (here : P) (Q : Type 0) (w : Want) (turn : Turn P)
     → IfWanting w (IfBlocked turn (λ again. (again ≡ here) × Q))
     → IfToldBlocked (rows.told inflight turn) (IfWanting w (Q × (rows.left inflight turn ≡ Some (inflight here))))
@@ -93,6 +95,7 @@ unguarded Nothing Q (inr f) h = (let d : ◌≡◌ {A = Option ℕ} None (Some f
 unguarded (Lock f) Q some h = h
 unguarded (Slot f i) Q some h = h
 
+-- what holds of calls that want something holds of one that wants a slot or a lock
 wanting : (o : Option Call) (Q : Type 0) → ((k : ℕ × ℕ) × (wants_slot o ≡ Some k)) ⊎ ((f : ℕ) × (wants_lock o ≡ Some f))
     → IfSome o (λ c. IfWanting (standing c).wants Q) → Q
 wanting None Q (inl k) h = (let d : ◌≡◌ {A = Option (ℕ × ℕ)} None (Some k.0) = k.1 in absurd (cc))
@@ -105,6 +108,7 @@ wants_of : (s : State) (u t : ℕ) → HoldsUp s u t
 wants_of s u t (inl h) = inl (h.0, h.2)
 wants_of s u t (inr h) = inr (h.0, h.1)
 
+-- what a turn tells is no refusal
 not_refused : {P X : Type 0} (inflight : P → Call) (turn : Turn P) (why : Refusal) (o : Outcome) → o ≡ outcome.Refused why
     → o ≡ rows.told inflight turn → X
 not_refused inflight (Moved p) why o e d =
@@ -126,9 +130,11 @@ call_not_refused s t killed grant (call.Truncate p) o new next why (turn, row, t
 call_not_refused s t killed grant (call.Unmap p) o new next why (turn, row, tells, leaves) e = not_refused call.Unmap turn why o e tells
 call_not_refused s t killed grant (call.Exit p) o new next why (turn, row, tells, leaves) e = not_refused call.Exit turn why o e tells
 
+-- a refusal isn't told as begun
 not_begun : {X : Type 0} (o : Outcome) (why : Refusal) → o ≡ outcome.Refused why → o ≡ outcome.Begun → X
 not_begun o why e d = (let z : outcome.Refused why ≡ outcome.Begun = sym e ∙ d in absurd (cc))
 
+-- nor as marked
 not_marked : {X : Type 0} (o : Outcome) (why : Refusal) → o ≡ outcome.Refused why → o ≡ outcome.Marked → X
 not_marked o why e d = (let z : outcome.Refused why ≡ outcome.Marked = sym e ∙ d in absurd (cc))
 
@@ -164,6 +170,7 @@ blocked_same s (Step t grant) u after new h fits row stays =
     (event_row s.parts after s.seats new (Step t grant) (outcome.Blocked u) fits row) in
     wanting (seat_at s.seats t).call ((after ≡ s.parts) × (new ≡ s.seats)) (wants_of (as_state s) u t held.2) stays
 
+-- a core with the parts and the seats that it had is that core
 same_fields : (s : CoreState) (after : PartsState) (new : List Seat) → (after ≡ s.parts) × (new ≡ s.seats) → with_fields s after new ≡ s
 same_fields s after new e = λ i. record { sizes = s.sizes; parts = e.0 i; seats = e.1 i }
 
@@ -183,6 +190,7 @@ idle_result s event (Ok (outcome.Blocked u)) after new h fits row stays =
 idle_result s event (Ok (outcome.Refused why)) after new h fits row stays =
     λ _. same_fields s after new (refused_same s.parts after s.seats new event (outcome.Refused why) why row refl)
 
+-- what is asked of a blocked outcome may be asked more weakly
 told_map : {P Q : Type 0} (o : Outcome) → (P → Q) → IfToldBlocked o P → IfToldBlocked o Q
 told_map outcome.Begun f h = tt
 told_map (outcome.Moved p) f h = tt
@@ -191,6 +199,7 @@ told_map (outcome.Ended a) f h = tt
 told_map outcome.Marked f h = tt
 told_map (outcome.Refused why) f h = tt
 
+-- so may what is asked of a call that wants something
 want_map : {P Q : Type 0} (w : Want) → (P → Q) → IfWanting w P → IfWanting w Q
 want_map Nothing f h = tt
 want_map (Lock k) f h = f h

@@ -21,6 +21,7 @@ use Rattle.hp_fault.proofs.Laws.{frame_at_is}
 use Rattle.hp_fault.specs.View.{no_table, table_of}
 use Rattle.hp_core.specs.Copies.{translations, all_translations}
 
+-- a frame that isn't there counts as one in a hand
 frame_at_none : (xs : List FrameState) (x : ℕ) → slice_get xs x ≡ None → frame_at xs x ≡ Hand
 unfolding frame_at
 frame_at_none xs x e = sym (unwrap_or-slice_get xs x Hand) ∙ ap (λ (o : Option FrameState). unwrap_or o Hand) e
@@ -99,6 +100,7 @@ free_same fr n xs ys taken is before x =
     onto true = refl
     onto false = refl
 
+-- a frame beyond the list isn't free
 pub past_none : (xs : List FrameState) (x : ℕ) → length xs ≤ x → is_free (frame_at xs x) ≡ false
 unfolding frame_at
 past_none xs x l = ap (λ (y : FrameState). is_free y) (get_or-eq_default xs Hand l)
@@ -116,10 +118,12 @@ free_all frames n xs all before x = before x ∙ elim (cases_lt x n) [
     off true = refl
     off false = refl
 
+-- no frame is looked at yet
 pub count_zero : (fr : ℕ → Bool) → 0 ≡ count_below fr 0
 unfolding count_below
 count_zero fr = refl
 
+-- a frame that is looked at counts where it is free
 pub count_more : (fr : ℕ → Bool) (n a b : ℕ) (t : Bool) → fr n ≡ t → a ≡ count_below fr n → b ≡ a + cond t 1 0 → b ≡ count_below fr (n + 1)
 unfolding count_below
 count_more fr n a b t is before more = rw (add-one, is) (more ∙ ap (λ (k : ℕ). k + cond t 1 0) before)

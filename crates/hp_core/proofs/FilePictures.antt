@@ -18,9 +18,11 @@ use Rattle.hp_core.specs.State.{CoreState, as_state}
 use Rattle.hp_core.specs.Copies.{IsCopy}
 use Rattle.hp_core.specs.Pictures.{IsFilePicture}
 
+-- a region as a picture tells it
 abbrev pair_of : Region → ℕ × ℕ
 pair_of r = (r.from, r.to)
 
+-- what the pictured regions have is what the regions have
 reserved_same : (rs : List Region) (i : ℕ) → is_reserved (map pair_of rs) i ≡ is_member rs i
 reserved_same [] i = refl
 reserved_same (r ∷ rs) i = ap (λ (b : Bool). is_within r.from r.to i || b) (reserved_same rs i)
@@ -39,6 +41,7 @@ above low (r ∷ rs) apart =
     (All-weaker (λ (s : Region). r.to + 1 ≤ s.from) (λ (s : Region). low ≤ s.from)
     (λ s l. (let a = apart.0 in let b = apart.1 in omega (arith, a, b, l))) rs (above (r.to + 1) rs apart.3))
 
+-- regions that are apart are so in the picture
 apart_pairs : (low : ℕ) (rs : List Region) → IsApartFrom low rs → AllPairs (λ region other. region.1 < other.0) (map pair_of rs)
 apart_pairs low [] apart = λ i j d l within. absurd (omega arith)
 apart_pairs low (r ∷ rs) apart =
@@ -48,10 +51,12 @@ apart_pairs low (r ∷ rs) apart =
     (above (r.to + 1) rs apart.3) in
     AllPairs-cons R (r.from, r.to) (map pair_of rs) (All-map (R (r.from, r.to)) pair_of rs later) (apart_pairs (r.to + 1) rs apart.3)
 
+-- a test that is said to hold passes
 to_test : (b : Bool) → T b → IsTrue b
 to_test true is = refl
 to_test false is = absurd is
 
+-- so a copy of a file is its picture
 pub file_picture_of : (s : CoreState) (f : ℕ) (p : FilePicture)
     → IsCopy (get_or s.parts.files f no_file) (is_some (holder_of s.parts.locks f)) p → IsFilePicture (as_state s) f p
 unfolding sizes_of sets_of pages_of holders_of

@@ -8,10 +8,12 @@ use Rattle.hp_core.specs.Sound.{IsSound}
 use Rattle.hp_base.specs.declared.limits.TheConstants.{LIMIT, VPNS}
 use Rattle.hp_core.specs.Runs.{IsOfConfig, Headline}
 
+-- a run reached the state of a sound core
 pub reached_of : (s : CoreState) → IsSound s → IsReached (as_state s)
 unfolding IsSound
 reached_of s h = h.0
 
+-- so the headline holds of it
 pub headline_of : (s : CoreState) → IsSound s → Headline s
 unfolding IsSound Headline
 headline_of s h = runs.headline (as_state s) h.0

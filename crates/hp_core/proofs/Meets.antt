@@ -1,5 +1,5 @@
--- What a step takes for granted holds of every core: each of its facts is one of every state that the
--- machine reaches.
+-- What a step takes for granted (`TouchFits` and its like, phase by phase) holds of every core: each of these facts
+-- is one of every state that the machine reaches.
 use Rattle.std.proofs.Common.{◌≡◌, ℕ, ◌+◌, ◌<◌, ◌≤◌, ◌^◌, refl, ap, sym, ◌∙◌, true≢false, arith}
 use Rattle.std.specs.Prelude.{Bool, false, Option, Some, None, IfSome, IsSome, is_some}
 use Rattle.hp_base.specs.Indices.{count_within}
@@ -25,131 +25,143 @@ use Rattle.hp_machine.specs.declared.exit.ExitPhase.{ExitPhase}
 use Rattle.hp_machine.specs.declared.exit.ExitPhase.TheVariants as exit
 use Rattle.hp_machine.specs.declared.call.Call.{Call}
 use Rattle.hp_machine.specs.declared.call.Call.TheVariants as call
-use Rattle.hp_laws.proofs.Meets.{task_there, busy_lives, entry_placed, touch_stands, map_stands}
-use Rattle.hp_laws.proofs.Meets as laws
-use Rattle.hp_fault.specs.Fits.{MapFits, TouchFits, AllocFits, IsTaskOf, IsPage, HasPage}
+use Rattle.hp_laws.proofs.Meets.{caller_there, entry_placed, has_page, held_there, pending_spared, pending_there, settles}
+use Rattle.hp_laws.proofs.Meets.{stands}
+use Rattle.hp_laws.proofs.Standing.{below_limit}
+use Rattle.hp_fault.specs.Fits.{MapFits, TouchFits, AllocFits, IsPage}
 use Rattle.hp_remove.specs.Fits.{PunchFits, TruncateFits, UnmapFits, ExitFits, IsCleared}
 use Rattle.hp_core.specs.State.{CoreState, seat_at, calls_of, as_state}
 use Rattle.hp_core.specs.Fits.{CallFits, EventFits}
 use Rattle.hp_core.specs.Sound.{IsSound, IsKept}
 use Rattle.hp_core.proofs.Reading.{few_tasks}
 
--- a task with a call in flight is there
-is_task : (s : State) (t : ℕ) (c : Call) → IsReached s → s.calls t ≡ Some c → IsTaskOf (pool_of s) t
-is_task s t c reached e = task_there s t reached (busy_lives s t c reached e)
-
 -- an entry's frame is a page's
 entry_page : (s : State) (t v : ℕ) (o : Option ℕ) → IsReached s → s.entries t v ≡ o → IfSome o (λ x. IsPage (pool_of s) x)
 entry_page s t v None reached e = tt
-entry_page s t v (Some x) reached e = let h = entry_placed s t v x reached e in (h.2, (h.0, h.1))
+entry_page s t v (Some x) reached e = entry_placed s t v x reached e
 
+-- what is found is there
 is_found : {A : Type 0} (o : Option A) (x : A) → o ≡ Some x → IsSome o
 is_found {A} o x e = ap (λ (c : Option A). is_some c) e
 
+-- a touch's step finds what it takes for granted
 touch_fits : (s : State) (t : ℕ) (phase : TouchPhase) → IsReached s → s.calls t ≡ Some (call.Touch phase) → TouchFits (pool_of s) t phase
-touch_fits s t (touch.Look p) reached e = (is_task s t _ reached e, entry_page s t p.vpn (s.entries t p.vpn) reached refl)
+touch_fits s t (touch.Look p) reached e = (caller_there s t _ reached e, entry_page s t p.vpn (s.entries t p.vpn) reached refl)
 touch_fits s t (touch.Want p) reached e = tt
-touch_fits s t (touch.Locked p) reached e = (touch_stands s t _ reached e).file
-touch_fits s t (touch.Missing p) reached e = let h = touch_stands s t _ reached e in (h.file, h.index)
-touch_fits s t (touch.Changed p) reached e = (touch_stands s t _ reached e).enough
-touch_fits s t (touch.Abort p) reached e = let h = touch_stands s t _ reached e in (h.file, h.pending)
-touch_fits s t (touch.Taken p) reached e = let h = touch_stands s t _ reached e in (h.file, h.pending)
-touch_fits s t (touch.Settle p) reached e = (touch_stands s t _ reached e).enough
+touch_fits s t (touch.Locked p) reached e = (stands s t _ reached e).facts.aim.file
+touch_fits s t (touch.Missing p) reached e = let h = stands s t _ reached e in (h.facts.aim.file, h.facts.aim.index)
+touch_fits s t (touch.Changed p) reached e = settles s t _ reached e
+touch_fits s t (touch.Abort p) reached e =
+    let h = stands s t _ reached e in (h.facts.aim.file, pending_there s t _ p.touch.file reached e refl)
+touch_fits s t (touch.Taken p) reached e =
+    let h = stands s t _ reached e in (h.facts.aim.file, pending_there s t _ p.touch.file reached e refl)
+touch_fits s t (touch.Settle p) reached e = settles s t _ reached e
 touch_fits s t (touch.Committed p) reached e =
-    let h = touch_stands s t _ reached e in
-    record { file = h.file; in_limit = h.index; bare = h.bare; held = (h.hand.1, h.hand.0) }
-touch_fits s t (touch.Restore p) reached e = let h = touch_stands s t _ reached e in (h.hand.1, h.hand.0)
+    let h = stands s t _ reached e in
+    record { file = h.facts.aim.file; in_limit = h.facts.aim.index; bare = h.facts.bare; held = held_there s t _ p.held reached e refl }
+touch_fits s t (touch.Restore p) reached e = held_there s t _ p.held reached e refl
 touch_fits s t (touch.Found p) reached e =
-    let h = touch_stands s t _ reached e in
+    let h = stands s t _ reached e in
     record {
-      task = is_task s t _ reached e;
-      file = h.file;
-      mapped = is_found _ _ h.found;
-      untranslated = h.untranslated;
-      page = (h.page.0, h.page.2, (h.page.4, (h.page.1, h.page.3)));
+      task = caller_there s t _ reached e;
+      file = h.facts.aim.file;
+      mapped = is_found _ _ h.facts.aim.found;
+      untranslated = h.facts.aim.untranslated;
+      page = has_page s p.touch.file p.touch.index reached h.facts.cached;
     }
-touch_fits s t (touch.Leave p) reached e = (touch_stands s t _ reached e).slot
+touch_fits s t (touch.Leave p) reached e = (stands s t _ reached e).slot
 
+-- so does a map's
 map_fits : (s : State) (t : ℕ) (phase : MapPhase) → IsReached s → s.calls t ≡ Some (call.Map phase) → MapFits (pool_of s) t phase
 map_fits s t (map.Start p) reached e = tt
-map_fits s t (map.Room p) reached e = is_task s t _ reached e
-map_fits s t (map.Missing p) reached e = let h = map_stands s t _ reached e in (h.file, h.some, h.range)
+map_fits s t (map.Room p) reached e = caller_there s t _ reached e
+map_fits s t (map.Missing p) reached e = let h = stands s t _ reached e in (h.facts.range.file, h.facts.range.some, h.facts.range.limit)
 map_fits s t (map.Changed p) reached e = tt
-map_fits s t (map.Abort p) reached e = let h = map_stands s t _ reached e in (h.file, h.pending)
-map_fits s t (map.Accounted p) reached e = let h = map_stands s t _ reached e in (h.file, h.pending)
-map_fits s t (map.Settle p) reached e = (map_stands s t _ reached e).enough
+map_fits s t (map.Abort p) reached e =
+    let h = stands s t _ reached e in (h.facts.range.file, pending_there s t _ p.map.file reached e refl)
+map_fits s t (map.Accounted p) reached e =
+    let h = stands s t _ reached e in (h.facts.range.file, pending_there s t _ p.map.file reached e refl)
+map_fits s t (map.Settle p) reached e = settles s t _ reached e
 map_fits s t (map.Enter p) reached e =
-    let h = map_stands s t _ reached e in
+    let h = stands s t _ reached e in
     record {
-      task = is_task s t _ reached e;
-      file = h.file;
-      some = h.some;
-      in_limit = h.range;
-      ready = h.ready;
-      fits = h.fits;
+      task = caller_there s t _ reached e;
+      file = h.facts.range.file;
+      some = h.facts.range.some;
+      in_limit = h.facts.range.limit;
+      ready = h.facts.based.ready;
+      fits = h.facts.based.fits;
     }
-map_fits s t (map.Leave p) reached e = (map_stands s t _ reached e).lock
+map_fits s t (map.Leave p) reached e = (stands s t _ reached e).lock
 
--- the page of an index, as a step asks for it
-page_at : (s : State) (f i : ℕ) → laws.HasPage s f i → HasPage (pool_of s) f i
-page_at s f i h = (h.0, h.2, (h.4, (h.1, h.3)))
-
+-- an allocation's
 alloc_fits : (s : State) (t : ℕ) (phase : AllocPhase) → IsReached s → s.calls t ≡ Some (call.Alloc phase) → AllocFits (pool_of s) t phase
 alloc_fits s t (alloc.Start p) reached e = tt
 alloc_fits s t (alloc.Head p) reached e = tt
 alloc_fits s t (alloc.Want p) reached e = tt
-alloc_fits s t (alloc.Locked p) reached e = (laws.alloc_stands s t _ reached e).file
-alloc_fits s t (alloc.Missing p) reached e = let h = laws.alloc_stands s t _ reached e in (h.file, h.index)
-alloc_fits s t (alloc.Changed p) reached e = (laws.alloc_stands s t _ reached e).enough
-alloc_fits s t (alloc.Abort p) reached e = let h = laws.alloc_stands s t _ reached e in (h.file, h.pending)
-alloc_fits s t (alloc.Taken p) reached e = let h = laws.alloc_stands s t _ reached e in (h.file, h.pending)
-alloc_fits s t (alloc.Settle p) reached e = (laws.alloc_stands s t _ reached e).enough
+alloc_fits s t (alloc.Locked p) reached e = (stands s t _ reached e).facts.aim.file
+alloc_fits s t (alloc.Missing p) reached e =
+    let h = stands s t _ reached e in (h.facts.aim.file, below_limit s.geometry _ h.facts.aim)
+alloc_fits s t (alloc.Changed p) reached e = settles s t _ reached e
+alloc_fits s t (alloc.Abort p) reached e =
+    let h = stands s t _ reached e in (h.facts.aim.file, pending_there s t _ p.allocation.file reached e refl)
+alloc_fits s t (alloc.Taken p) reached e =
+    let h = stands s t _ reached e in (h.facts.aim.file, pending_there s t _ p.allocation.file reached e refl)
+alloc_fits s t (alloc.Settle p) reached e = settles s t _ reached e
 alloc_fits s t (alloc.Committed p) reached e =
-    let h = laws.alloc_stands s t _ reached e in
-    record { file = h.file; in_limit = h.index; bare = h.bare; held = (h.hand.1, h.hand.0) }
-alloc_fits s t (alloc.Restore p) reached e = let h = laws.alloc_stands s t _ reached e in (h.hand.1, h.hand.0)
+    let h = stands s t _ reached e in
+    record {
+      file = h.facts.aim.file;
+      in_limit = below_limit s.geometry _ h.facts.aim;
+      bare = h.facts.bare;
+      held = held_there s t _ p.held reached e refl;
+    }
+alloc_fits s t (alloc.Restore p) reached e = held_there s t _ p.held reached e refl
 alloc_fits s t (alloc.Unslot p) reached e =
-    let h = laws.alloc_stands s t _ reached e in
-    record { slot = h.slot; in_limit = h.range; index = h.index }
-alloc_fits s t (alloc.Extend p) reached e = let h = laws.alloc_stands s t _ reached e in (h.file, h.range)
-alloc_fits s t (alloc.Leave p) reached e = (laws.alloc_stands s t _ reached e).lock
+    let h = stands s t _ reached e in
+    record { slot = h.slot; in_limit = h.facts.aim.limit; index = below_limit s.geometry _ h.facts.aim }
+alloc_fits s t (alloc.Extend p) reached e = let h = stands s t _ reached e in (h.facts.range.file, h.facts.range.limit)
+alloc_fits s t (alloc.Leave p) reached e = (stands s t _ reached e).lock
 
+-- a punch's
 punch_fits : (s : State) (t : ℕ) (phase : PunchPhase) → IsReached s → s.geometry.tasks < 2 ^ 32
     → s.calls t ≡ Some (call.Punch phase) → PunchFits (pool_of s) t phase
 punch_fits s t (punch.Start p) reached few e = tt
 punch_fits s t (punch.Want p) reached few e = tt
-punch_fits s t (punch.Locked p) reached few e = (laws.punch_stands s t _ reached e).file
-punch_fits s t (punch.Unmap p) reached few e = ((laws.punch_stands s t _ reached e).task, few)
-punch_fits s t (punch.Evict p) reached few e = let h = laws.punch_stands s t _ reached e in (h.file, page_at s p.hole.file p.index h.page)
-punch_fits s t (punch.Delete p) reached few e = ((laws.punch_stands s t _ reached e).file, laws.pending_spared s p.hole.file reached)
-punch_fits s t (punch.Free p) reached few e = let h = laws.punch_stands s t _ reached e in (h.hand.1, h.hand.0)
+punch_fits s t (punch.Locked p) reached few e = (stands s t _ reached e).facts.aim.file
+punch_fits s t (punch.Unmap p) reached few e = ((stands s t _ reached e).facts.task, few)
+punch_fits s t (punch.Evict p) reached few e =
+    let h = stands s t _ reached e in (h.facts.aim.file, has_page s p.hole.file p.index reached h.facts.cached)
+punch_fits s t (punch.Delete p) reached few e = ((stands s t _ reached e).facts.aim.file, pending_spared s p.hole.file reached)
+punch_fits s t (punch.Free p) reached few e = held_there s t _ p.held reached e refl
 punch_fits s t (punch.Unslot p) reached few e =
-    let h = laws.punch_stands s t _ reached e in
-    record { slot = h.slot; in_limit = h.range; index = h.index }
-punch_fits s t (punch.Leave p) reached few e = (laws.punch_stands s t _ reached e).lock
+    let h = stands s t _ reached e in
+    record { slot = h.slot; in_limit = h.facts.aim.limit; index = below_limit s.geometry _ h.facts.aim }
+punch_fits s t (punch.Leave p) reached few e = (stands s t _ reached e).lock
 
 -- what was evicted fits in the limit
 few_evicted : (r : ℕ → Bool) (from limit evicted : ℕ) → evicted ≤ count_within r from limit → evicted ≤ limit
 few_evicted r from limit evicted l = let all = count_within-missing r from limit in omega (arith, all, l)
 
+-- a truncation's
 truncate_fits : (s : State) (t : ℕ) (phase : TruncatePhase) → IsReached s → s.geometry.tasks < 2 ^ 32
     → s.calls t ≡ Some (call.Truncate phase) → TruncateFits (pool_of s) t phase
 truncate_fits s t (truncate.Start p) reached few e = tt
-truncate_fits s t (truncate.Size p) reached few e = (laws.truncate_stands s t _ reached e).file
+truncate_fits s t (truncate.Size p) reached few e = (stands s t _ reached e).facts.file
 truncate_fits s t (truncate.Want p) reached few e = tt
-truncate_fits s t (truncate.Locked p) reached few e = (laws.truncate_stands s t _ reached e).file
-truncate_fits s t (truncate.Unmap p) reached few e = ((laws.truncate_stands s t _ reached e).task, few)
+truncate_fits s t (truncate.Locked p) reached few e = (stands s t _ reached e).facts.aim.file
+truncate_fits s t (truncate.Unmap p) reached few e = ((stands s t _ reached e).facts.task, few)
 truncate_fits s t (truncate.Evict p) reached few e =
-    let h = laws.truncate_stands s t _ reached e in (
-      h.file,
-      page_at s p.truncation.file p.index h.page,
-      few_evicted (s.reserved p.truncation.file) (p.index + 1) s.geometry.limit p.evicted h.evicted,
+    let h = stands s t _ reached e in (
+      h.facts.aim.file,
+      has_page s p.truncation.file p.index reached h.facts.cached,
+      few_evicted (s.reserved p.truncation.file) (p.index + 1) s.geometry.limit p.evicted h.facts.aim.lost,
     )
-truncate_fits s t (truncate.Free p) reached few e = let h = laws.truncate_stands s t _ reached e in (h.hand.1, h.hand.0)
-truncate_fits s t (truncate.Unslot p) reached few e = (laws.truncate_stands s t _ reached e).slot
-truncate_fits s t (truncate.Tail p) reached few e = let h = laws.truncate_stands s t _ reached e in (h.file, h.evicted)
-truncate_fits s t (truncate.Settle p) reached few e = (laws.truncate_stands s t _ reached e).enough
-truncate_fits s t (truncate.Leave p) reached few e = (laws.truncate_stands s t _ reached e).lock
+truncate_fits s t (truncate.Free p) reached few e = held_there s t _ p.held reached e refl
+truncate_fits s t (truncate.Unslot p) reached few e = (stands s t _ reached e).slot
+truncate_fits s t (truncate.Tail p) reached few e = let h = stands s t _ reached e in (h.facts.file, h.facts.lost)
+truncate_fits s t (truncate.Settle p) reached few e = settles s t _ reached e
+truncate_fits s t (truncate.Leave p) reached few e = (stands s t _ reached e).lock
 
 -- a mapping whose entries were cleared has none
 cleared : (s : State) (t base : ℕ) → ((v x : ℕ) → s.entries t v ≡ Some x → in_mapping (s.mappings t) base v ≡ false)
@@ -160,15 +172,17 @@ cleared s t base empty v within = by_entry (s.entries t v) refl
     by_entry None e = e
     by_entry (Some x) e = absurd (true≢false (sym within ∙ empty v x e))
 
+-- an unmap's
 unmap_fits : (s : State) (t : ℕ) (phase : UnmapPhase) → IsReached s → s.calls t ≡ Some (call.Unmap phase) → UnmapFits (pool_of s) t phase
-unmap_fits s t (unmap.Start p) reached e = is_task s t _ reached e
-unmap_fits s t (unmap.Clear p) reached e = is_task s t _ reached e
-unmap_fits s t (unmap.Drop p) reached e = (is_task s t _ reached e, cleared s t p.base (laws.unmap_stands s t _ reached e).empty)
+unmap_fits s t (unmap.Start p) reached e = caller_there s t _ reached e
+unmap_fits s t (unmap.Clear p) reached e = caller_there s t _ reached e
+unmap_fits s t (unmap.Drop p) reached e = (caller_there s t _ reached e, cleared s t p.base (stands s t _ reached e).facts.empty)
 
+-- and an exit's
 exit_fits : (s : State) (t : ℕ) (phase : ExitPhase) → IsReached s → s.calls t ≡ Some (call.Exit phase) → ExitFits (pool_of s) t phase
-exit_fits s t exit.Start reached e = is_task s t _ reached e
-exit_fits s t (exit.Clear p) reached e = is_task s t _ reached e
-exit_fits s t (exit.Drop p) reached e = (is_task s t _ reached e, cleared s t p.base (laws.exit_stands s t _ reached e).empty)
+exit_fits s t exit.Start reached e = caller_there s t _ reached e
+exit_fits s t (exit.Clear p) reached e = caller_there s t _ reached e
+exit_fits s t (exit.Drop p) reached e = (caller_there s t _ reached e, cleared s t p.base (stands s t _ reached e).facts.empty)
 exit_fits s t exit.Leave reached e = tt
 
 -- tasks are few
@@ -178,6 +192,7 @@ few_there s kept =
     let few = few_tasks s.sizes.frames s.sizes.files s.sizes.slots s.sizes.tasks kept.limits in
     omega (arith, all, few)
 
+-- so the step of each call in flight
 call_fits : (s : CoreState) (t : ℕ) (c : Call) → IsReached (as_state s) → IsKept s → (as_state s).calls t ≡ Some c → CallFits s.parts t c
 call_fits s t (call.Touch phase) reached kept e = touch_fits (as_state s) t phase reached e
 call_fits s t (call.Map phase) reached kept e = (kept.locks, map_fits (as_state s) t phase reached e)
@@ -187,11 +202,13 @@ call_fits s t (call.Truncate phase) reached kept e = (kept.locks, truncate_fits 
 call_fits s t (call.Unmap phase) reached kept e = unmap_fits (as_state s) t phase reached e
 call_fits s t (call.Exit phase) reached kept e = exit_fits (as_state s) t phase reached e
 
+-- of the call of a task, if it has one
 step_fits : (s : CoreState) (t : ℕ) (o : Option Call) → IsReached (as_state s) → IsKept s → (as_state s).calls t ≡ o
     → IfSome o (λ c. CallFits s.parts t c)
 step_fits s t None reached kept e = tt
 step_fits s t (Some c) reached kept e = call_fits s t c reached kept e
 
+-- and so each event of a sound core
 pub fits_from_sound : (s : CoreState) (e : Event) → IsSound s → EventFits s.parts s.seats e
 unfolding IsSound calls_of
 fits_from_sound s (Begin t op) h = tt

@@ -34,6 +34,7 @@ use Rattle.hp_core.specs.Runs.{IsOpening, geometry}
 same_at : {A : Type 0} (a : A) (xs : List A) → All (λ x. x ≡ a) xs → (i : ℕ) → get_or xs i a ≡ a
 same_at {A} a xs h i = elim (cases_lt i (length xs)) [ inl l ↦ All-get_or (λ (x : A). x ≡ a) xs i a l h | inr l ↦ get_or-eq_default xs a l ]
 
+-- each task's table is as at first
 same_table : (xs : List Table) → All (λ x. x ≡ no_table) xs → (t : ℕ) → table_of xs t ≡ no_table
 same_table xs h t = elim (same_or_other t 0) [
   | inl e ↦ rw e refl
@@ -48,6 +49,7 @@ copies_at {A} a d n i = elim (cases_lt i n) [
       ∙ (let q : nat_lt i n ≡ false = grind (arith, nat_tests, l) in rw q refl)
 ]
 
+-- a list of one thing has that thing at each place, where it is the default, too
 same_copies : {A : Type 0} (a : A) (n i : ℕ) → get_or (replicate n a) i a ≡ a
 same_copies {A} a n i = elim (cases_lt i n) [
   | inl l ↦ get_or-replicate n i a a l
@@ -68,6 +70,7 @@ vacant_life xs h t = elim (same_or_other t 0) [
   ])
 ]
 
+-- and it has no call
 vacant_call : (xs : List Seat) → All IsVacant xs → (t : ℕ) → (seat_at xs t).call ≡ None
 vacant_call xs h t = elim (same_or_other t 0) [
   | inl e ↦ rw e refl

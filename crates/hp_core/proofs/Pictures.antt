@@ -42,6 +42,7 @@ given_times {X} h x ys = count_by-filter_map (λ frame. frame == x) h ys ∙ (λ
     as_bit None = refl
     as_bit (Some y) = cond_bit (y == x)
 
+-- a frame is told in hands as often as calls have it
 hands_of : (s : CoreState) (hands : List ℕ) (x : ℕ) → IsSound s → hands ≡ filter_map (λ seat. hand seat.call) s.seats
     → count_by (λ frame. frame == x) hands ≡ total ((as_state s).geometry.tasks + 1) (λ t. bit (is_that x (hand ((as_state s).calls t))))
 unfolding IsSound
@@ -51,6 +52,7 @@ hands_of s hands x h is =
     ∙ (given_times (λ (seat : Seat). hand seat.call) x s.seats
     ∙ sum_is (λ (call : Option Call). bit (is_that x (hand call))) s.seats (length s.parts.spaces) refl n)
 
+-- a sound core has at most 16 files
 pub few_files : (s : CoreState) → IsSound s → length s.parts.files ≤ 16
 unfolding IsSound
 few_files s h =
@@ -60,6 +62,7 @@ few_files s h =
     few : (a b c d : ℕ) → IsWithinLimits a b c d → b ≤ 16
     few a b c d h = grind (arith, nat_tests, h)
 
+-- and at most 64 tasks
 pub few_spaces : (s : CoreState) → IsSound s → length s.parts.spaces ≤ 64
 unfolding IsSound
 few_spaces s h =
@@ -78,6 +81,7 @@ pub record AreCopies (s : CoreState) (p : Picture) : Type 0 where
       → HoldsAt (IsCopy (get_or s.parts.files f no_file) (is_some (holder_of s.parts.locks f))) p.files.items f
   pub tables : p.tables.items ≡ all_translations s.parts.spaces (length s.parts.spaces)
 
+-- so what is copied of a sound core is its picture
 pub picture_of : (s : CoreState) (p : Picture) → IsSound s → AreCopies s p → IsPicture s p
 unfolding free_of
 picture_of s p h c =

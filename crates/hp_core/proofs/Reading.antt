@@ -1,5 +1,5 @@
 -- What the readers read: a file, a space, a seat of a sound core.
-use Rattle.std.proofs.Common.{◌≡◌, ℕ, ◌-◌, ◌<◌, ◌≤◌, length, get_or, ◌∙◌, ap, arith}
+use Rattle.std.proofs.Common.{◌≡◌, ℕ, ◌-◌, ◌<◌, ◌≤◌, length, get_or, ◌∙◌, ap, sym, subst, arith}
 use Rattle.std.specs.Prelude.{false, ◌==◌}
 use Rattle.std.proofs.lemmas.Bool.{ne_eqb}
 use Rattle.std.proofs.lemmas.Bool.Decides.{nat_tests}
@@ -13,40 +13,68 @@ use Rattle.hp_core.specs.State.{CoreState, seat_at, no_seat}
 use Rattle.hp_core.specs.Sound.{IsSound}
 use Rattle.hp_core.specs.Readers.{config_of}
 
-pub file_in : (s : CoreState) (n file : ℕ) → IsSound s → n ≡ file → file < (config_of s).files → n < length s.parts.files
+-- A reader knows the core's fields, and is asked about the state that the core is seen as: `inside` and `seen`, which are
+-- one. A file within the config has its place in the list
+pub file_in : {inside seen : CoreState} {n file : ℕ} → inside ≡ seen → IsSound inside → n ≡ file → file < (config_of seen).files
+    → n < length inside.parts.files
 unfolding IsSound config_of
-file_in s n file h e l = let k = h.1.files in omega (arith, k, l, e)
+file_in {inside} {file = file} same h e l =
+    let k = h.1.files in
+    let low : file < inside.sizes.files = subst (λ (s : CoreState). file < s.sizes.files) (sym same) l in
+    omega (arith, k, low, e)
 
-pub file_read : (s : CoreState) (n file : ℕ) (y : FileState) → IsSound s → n ≡ file → file < (config_of s).files
-    → y ≡ get_or s.parts.files n y → y ≡ get_or s.parts.files file no_file
-file_read s n file y h e l is =
-    is ∙ (get_or_default s.parts.files n y no_file (file_in s n file h e l) ∙ ap (λ (k : ℕ). get_or s.parts.files k no_file) e)
+-- and what is read there is the machine's file
+pub file_read : {inside seen : CoreState} {n file : ℕ} {y : FileState} → inside ≡ seen → IsSound inside → n ≡ file
+    → file < (config_of seen).files → y ≡ get_or inside.parts.files n y → y ≡ get_or seen.parts.files file no_file
+file_read {inside} {n = n} {file = file} {y = y} same h e l is =
+    is ∙ (get_or_default inside.parts.files n y no_file (file_in same h e l)
+    ∙ (ap (λ (k : ℕ). get_or inside.parts.files k no_file) e ∙ ap (λ (s : CoreState). get_or s.parts.files file no_file) same))
 
-pub space_in : (s : CoreState) (n task : ℕ) → IsSound s → n ≡ task → 1 ≤ task → task ≤ (config_of s).tasks → n - 1 < length s.parts.spaces
-unfolding IsSound config_of
-space_in s n task h e low high = let k = h.1.spaces in omega (arith, k, low, high, e)
+-- a task within the config lies within the sizes
+task_in : {inside seen : CoreState} {task : ℕ} → inside ≡ seen → task ≤ (config_of seen).tasks → task ≤ inside.sizes.tasks
+unfolding config_of
+task_in {task = task} same high = subst (λ (s : CoreState). task ≤ s.sizes.tasks) (sym same) high
 
-pub space_read : (s : CoreState) (n task : ℕ) (y : Table) → IsSound s → n ≡ task → 1 ≤ task → task ≤ (config_of s).tasks
-    → y ≡ get_or s.parts.spaces (n - 1) y → y ≡ table_of s.parts.spaces task
-space_read s n task y h e low high is =
+-- it has a space
+pub space_in : {inside seen : CoreState} {n task : ℕ} → inside ≡ seen → IsSound inside → n ≡ task → 1 ≤ task
+    → task ≤ (config_of seen).tasks → n - 1 < length inside.parts.spaces
+unfolding IsSound
+space_in {task = task} same h e low high =
+    let k = h.1.spaces in
+    let within = task_in {task = task} same high in
+    omega (arith, k, low, within, e)
+
+-- and what is read there is the machine's table of the task
+pub space_read : {inside seen : CoreState} {n task : ℕ} {y : Table} → inside ≡ seen → IsSound inside → n ≡ task → 1 ≤ task
+    → task ≤ (config_of seen).tasks → y ≡ get_or inside.parts.spaces (n - 1) y → y ≡ table_of seen.parts.spaces task
+space_read {inside} {n = n} {task = task} {y = y} same h e low high is =
     let q : (task == 0) ≡ false = ne_eqb task 0 (λ z. omega (arith, z, low)) in
-    rw q (is ∙ (get_or_default s.parts.spaces (n - 1) y no_table (space_in s n task h e low high)
-    ∙ ap (λ (k : ℕ). get_or s.parts.spaces (k - 1) no_table) e))
+    rw q (is ∙ (get_or_default inside.parts.spaces (n - 1) y no_table (space_in same h e low high)
+    ∙ (ap (λ (k : ℕ). get_or inside.parts.spaces (k - 1) no_table) e
+    ∙ ap (λ (s : CoreState). get_or s.parts.spaces (task - 1) no_table) same)))
 
-pub seat_in : (s : CoreState) (n task : ℕ) → IsSound s → n ≡ task → 1 ≤ task → task ≤ (config_of s).tasks → n - 1 < length s.seats
-unfolding IsSound config_of
-seat_in s n task h e low high = let k = h.1.seats in omega (arith, k, low, high, e)
+-- it has a seat
+pub seat_in : {inside seen : CoreState} {n task : ℕ} → inside ≡ seen → IsSound inside → n ≡ task → 1 ≤ task
+    → task ≤ (config_of seen).tasks → n - 1 < length inside.seats
+unfolding IsSound
+seat_in {task = task} same h e low high =
+    let k = h.1.seats in
+    let within = task_in {task = task} same high in
+    omega (arith, k, low, within, e)
 
-pub seat_read : (s : CoreState) (n task : ℕ) (y : Seat) → IsSound s → n ≡ task → 1 ≤ task → task ≤ (config_of s).tasks
-    → y ≡ get_or s.seats (n - 1) y → y ≡ seat_at s.seats task
-seat_read s n task y h e low high is =
+-- and what is read there is the machine's
+pub seat_read : {inside seen : CoreState} {n task : ℕ} {y : Seat} → inside ≡ seen → IsSound inside → n ≡ task → 1 ≤ task
+    → task ≤ (config_of seen).tasks → y ≡ get_or inside.seats (n - 1) y → y ≡ seat_at seen.seats task
+seat_read {inside} {n = n} {task = task} {y = y} same h e low high is =
     let q : (task == 0) ≡ false = ne_eqb task 0 (λ z. omega (arith, z, low)) in
-    rw q (is ∙ (get_or_default s.seats (n - 1) y no_seat (seat_in s n task h e low high)
-    ∙ ap (λ (k : ℕ). get_or s.seats (k - 1) no_seat) e))
+    rw q (is ∙ (get_or_default inside.seats (n - 1) y no_seat (seat_in same h e low high)
+    ∙ (ap (λ (k : ℕ). get_or inside.seats (k - 1) no_seat) e ∙ ap (λ (s : CoreState). get_or s.seats (task - 1) no_seat) same)))
 
+-- the limits allow 64 tasks at most
 pub few_tasks : (a b c d : ℕ) → IsWithinLimits a b c d → d ≤ 64
 few_tasks a b c d h = grind (arith, nat_tests, h)
 
+-- so a sound core has at most 64 seats
 pub few_seats : (s : CoreState) → IsSound s → length s.seats ≤ 64
 unfolding IsSound
 few_seats s h =

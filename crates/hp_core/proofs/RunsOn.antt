@@ -18,6 +18,7 @@ pub run_none : (s : CoreState) → Run s [] [] s
 unfolding Run
 run_none s = (refl, refl, refl)
 
+-- lists of one length that each get one more are put together with one more
 zip_more : (es : List Event) (os : List Outcome) (e : Event) (o : Outcome) → length os ≡ length es
     → zip (es ++ e ∷ []) (os ++ o ∷ []) ≡ zip es os ++ (e, o) ∷ []
 zip_more [] [] e o l = refl
@@ -25,6 +26,7 @@ zip_more [] (p ∷ os) e o l = absurd (omega (arith, l))
 zip_more (d ∷ es) [] e o l = absurd (omega (arith, l))
 zip_more (d ∷ es) (p ∷ os) e o l = ap (λ (zs : List (Event × Outcome)). (d, p) ∷ zs) (zip_more es os e o (omega (arith, l)))
 
+-- a list with one more is longer by one
 longer : {A : Type 0} (xs : List A) (x : A) → length (xs ++ x ∷ []) ≡ length xs + 1
 longer xs x = grind (arith, common_steps)
 
@@ -40,13 +42,16 @@ run_more s mid new es os e o run row =
       row.1 ∙ run.2,
     )
 
+-- a run tells one outcome for each event
 pub run_long : (s new : CoreState) (es : List Event) (os : List Outcome) → Run s es os new → length os ≡ length es
 unfolding Run
 run_long s new es os run = run.1
 
+-- at the start of the loop nothing happened
 pub ran_none : (s : CoreState) (os : List Outcome) → os ≡ [] → Run s [] os s
 ran_none s os e = subst (λ (xs : List Outcome). Run s [] xs s) (sym e) (run_none s)
 
+-- a round of the loop is one more event of the run
 pub ran_next : (s mid new : CoreState) (es : List Event) (i : ℕ) (os more : List Outcome) (e : Event) (o : Outcome)
     → i < length es → e ≡ get_or es i e → more ≡ os ++ o ∷ [] → Run s (take i es) os mid → Row mid e o new
     → Run s (take (i + 1) es) more new
@@ -56,15 +61,19 @@ ran_next s mid new es i os more e o within is longer run row =
     (sym (take_more es i e within ∙ ap (λ (x : Event). take i es ++ x ∷ []) (sym is)))
     (run_more s mid new (take i es) os e o run row))
 
+-- the first i of a list are i, where it has as many
 taken : {A : Type 0} (xs : List A) (i : ℕ) → i ≤ length xs → length (take i xs) ≡ i
 taken xs i l = grind (arith, common_steps)
 
+-- after i events of the loop i outcomes are told
 pub told_long : (s new : CoreState) (es : List Event) (i : ℕ) (os : List Outcome) → i ≤ length es → Run s (take i es) os new → length os ≡ i
 told_long s new es i os within run = run_long s new (take i es) os run ∙ taken es i within
 
+-- at the end of the loop all events happened
 pub ran_all : (s new : CoreState) (es : List Event) (i : ℕ) (os : List Outcome) → length es ≤ i → Run s (take i es) os new → Run s es os new
 ran_all s new es i os past run = subst (λ (xs : List Event). Run s xs os new) (take_all i es past) run
 
+-- where it stopped those happened of which the outcome is told
 pub ran_stopped : (s mid new : CoreState) (es : List Event) (i n : ℕ) (os : List Outcome) → i ≤ length es → n ≡ length os
     → new ≡ mid → Run s (take i es) os mid → (x : List Outcome) × Run s (take n es) x new
 ran_stopped s mid new es i n os within long same run = (

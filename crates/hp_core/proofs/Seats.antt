@@ -9,7 +9,7 @@ use Rattle.std.proofs.lemmas.Grind.{common_steps}
 use Rattle.std.proofs.lemmas.List.{get_or-set_same, get_or-set_other}
 use Rattle.hp_base.specs.Numbers.{put}
 use Rattle.hp_base.specs.declared.event.Op.{Op}
-use Rattle.hp_base.proofs.Puts.{put_same, put_other, put_self, same_or_other}
+use Rattle.hp_base.proofs.Puts.{put_same, put_other, same_or_other}
 use Rattle.hp_machine.specs.State.{is_alive, is_killed, is_dead}
 use Rattle.hp_machine.specs.Events.{BeginRow, StepRow, KillRow, CallRow, first, is_exit, lives_after}
 use Rattle.hp_machine.specs.declared.call.Call.{Call}
@@ -19,6 +19,7 @@ use Rattle.hp_machine.specs.declared.outcome.Life.TheVariants.{Alive, Killed, De
 use Rattle.hp_machine.specs.declared.outcome.Outcome.{Outcome}
 use Rattle.hp_machine.specs.declared.outcome.Outcome.TheVariants as outcome
 use Rattle.hp_machine.specs.declared.outcome.Refusal.TheVariants as refusal
+use Rattle.hp_laws.proofs.Invariant.{put_known}
 use Rattle.hp_fault.specs.State.{PartsState}
 use Rattle.hp_fault.specs.View.{pool_of}
 use Rattle.hp_core.specs.declared.seat.Seat.{Seat}
@@ -40,9 +41,11 @@ seated seats t alive = elim (same_or_other t 0) [
   ]
 ]
 
+-- the seat that is written is what was written
 pub at_seat : (seats : List Seat) (t : ℕ) (y : Seat) → 1 ≤ t → t ≤ length seats → seat_at (with_seat seats t y) t ≡ y
 at_seat seats t y low high = grind (arith, common_steps, nat_tests, get_or-set_same)
 
+-- each other seat is as it was
 pub off_seat : (seats : List Seat) (t : ℕ) (y : Seat) (j : ℕ) → 1 ≤ t → j ≢ t → seat_at (with_seat seats t y) j ≡ seat_at seats j
 off_seat seats t y j low h = elim (same_or_other j 0) [
   | inl e ↦ rw e refl
@@ -58,24 +61,25 @@ seen_set {B} v seats t y low high = fun_ext (λ j. elim (same_or_other j t) [
   | inr h ↦ ap v (off_seat seats t y j low h) ∙ sym (put_other (λ (k : ℕ). v (seat_at seats k)) t (v y) j h)
 ])
 
+-- so the calls that the machine sees change at that task
 pub calls_set : (seats : List Seat) (t : ℕ) (y : Seat) → 1 ≤ t → t ≤ length seats
     → calls_of (with_seat seats t y) ≡ put (calls_of seats) t y.call
 unfolding calls_of
 calls_set seats t y low high = seen_set (λ (s : Seat). s.call) seats t y low high
 
+-- and the lives
 pub lives_set : (seats : List Seat) (t : ℕ) (y : Seat) → 1 ≤ t → t ≤ length seats
     → lives_of (with_seat seats t y) ≡ put (lives_of seats) t y.life
 unfolding lives_of
 lives_set seats t y low high = seen_set (λ (s : Seat). s.life) seats t y low high
 
-put_known : {A : Type 0} (f : ℕ → A) (k : ℕ) (v : A) → f k ≡ v → put f k v ≡ f
-put_known {A} f k v e = subst (λ (w : A). put f k w ≡ f) e (put_self f k)
-
+-- a write that keeps the task's life keeps all lives
 pub lives_same : (seats : List Seat) (t : ℕ) (y : Seat) → 1 ≤ t → t ≤ length seats → y.life ≡ (seat_at seats t).life
     → lives_of (with_seat seats t y) ≡ lives_of seats
 unfolding lives_of
 lives_same seats t y low high same = lives_set seats t y low high ∙ put_known (lives_of seats) t y.life (sym same)
 
+-- and one that keeps its call all calls
 pub calls_same : (seats : List Seat) (t : ℕ) (y : Seat) → 1 ≤ t → t ≤ length seats → y.call ≡ (seat_at seats t).call
     → calls_of (with_seat seats t y) ≡ calls_of seats
 unfolding calls_of
@@ -86,15 +90,18 @@ map_test : {P Q X Y : Type 0} (b : Bool) → (b ≡ true → P → X) → (b ≡
 map_test true first second m = first refl m
 map_test false first second m = second refl m
 
+-- so with an option
 map_option : {A P X : Type 0} {Q Y : A → Type 0} (o : Option A) → (o ≡ None → P → X) → ((x : A) → o ≡ Some x → Q x → Y x)
     → MatchOption o P Q → MatchOption o X Y
 map_option None none some m = none refl m
 map_option (Some x) none some m = some x refl m
 
+-- what follows from a row by a test, from either case
 pub by_test : {P Q X : Type 0} (b : Bool) → MatchBool b P Q → (b ≡ true → P → X) → (b ≡ false → Q → X) → X
 by_test true m first second = first refl m
 by_test false m first second = second refl m
 
+-- and from one by an option
 pub by_option : {A P X : Type 0} {Q : A → Type 0} (o : Option A) → MatchOption o P Q → (o ≡ None → P → X)
     → ((x : A) → o ≡ Some x → Q x → X) → X
 by_option None m none some = none refl m
@@ -104,12 +111,15 @@ by_option (Some x) m none some = some x refl m
 at_true : (P Q : Type 0) (b : Bool) → b ≡ true → P → MatchBool b P Q
 at_true P Q b e p = subst (λ (c : Bool). MatchBool c P Q) (sym e) p
 
+-- where the test fails
 pub at_false : (P Q : Type 0) (b : Bool) → b ≡ false → Q → MatchBool b P Q
 at_false P Q b e q = subst (λ (c : Bool). MatchBool c P Q) (sym e) q
 
+-- so with an option: where it is empty
 at_none : {A : Type 0} (P : Type 0) (Q : A → Type 0) (o : Option A) → o ≡ None → P → MatchOption o P Q
 at_none {A} P Q o e p = subst (λ (c : Option A). MatchOption c P Q) (sym e) p
 
+-- and where it has a value
 pub at_some : {A : Type 0} (P : Type 0) (Q : A → Type 0) (o : Option A) (x : A) → o ≡ Some x → Q x → MatchOption o P Q
 at_some {A} P Q o x e q = subst (λ (c : Option A). MatchOption c P Q) (sym e) q
 
@@ -170,6 +180,7 @@ pub dead_row : (p : PartsState) (seats : List Seat) (t : ℕ) (grant : Bool) →
 unfolding StepRow lives_of calls_of
 dead_row p seats t grant dead = at_true _ _ _ dead (refl, refl)
 
+-- and so is that of an alive task without a call
 pub idle_row : (p : PartsState) (seats : List Seat) (t : ℕ) (grant : Bool) → is_dead (seat_at seats t).life ≡ false
     → (seat_at seats t).call ≡ None → StepRow (state_with p seats) t grant (outcome.Refused refusal.Idle) (state_with p seats)
 unfolding StepRow lives_of calls_of

@@ -17,9 +17,11 @@ use Rattle.hp_core.specs.Sound.{IsSound}
 use Rattle.hp_core.specs.Runs.{Row}
 use Rattle.hp_core.proofs.Seats.{begin_row, kill_row, dead_row, idle_row, step_row, by_test, by_option}
 
+-- what holds of the value, if there is one, holds of the one that is there
 pub if_some : {A : Type 0} (P : A → Type 0) (o : Option A) (x : A) → o ≡ Some x → IfSome o P → P x
 if_some {A} P o x e h = subst (λ (c : Option A). IfSome c P) e h
 
+-- a step of the seats is one of the machine
 step_is : (p after : PartsState) (seats new : List Seat) (t : ℕ) (grant : Bool) (told : Outcome)
     → EventFits p seats (Step t grant) → StepSeats p seats t grant told after new
     → rows.StepRow (state_with p seats) t grant told (state_with after new)
@@ -58,6 +60,7 @@ pub run_on : (s mid new : State) (es : List (Event × Outcome)) (e : Event) (tol
 run_on s mid new [] e told run row = (new, subst (λ (z : State). rows.Row z e told new) run row, refl)
 run_on s mid new (x ∷ es) e told run row = (run.0, run.1, run_on run.0 mid new es e told run.2 row)
 
+-- the state after an event is reached, where the one before it is
 reached_after : (s new : State) (e : Event) (told : Outcome) → rows.IsReached s → rows.Row s e told new
     → new.geometry ≡ s.geometry → new.frames ≡ s.frames → rows.IsReached new
 reached_after s new e told reached row same long = (
@@ -71,9 +74,11 @@ reached_after s new e told reached row same long = (
 abbrev pub Stepped : CoreState → Event → Outcome → PartsState → List Seat → Type 0
 Stepped s e told after new = EventSeats s.parts s.seats e told after new × SizesStay s.parts after × (length new ≡ length s.seats)
 
+-- the core with these parts and seats
 abbrev pub with_fields : CoreState → PartsState → List Seat → CoreState
 with_fields s after new = record { sizes = s.sizes; parts = after; seats = new }
 
+-- so an event keeps the core sound
 sound_after : (s : CoreState) (e : Event) (told : Outcome) (after : PartsState) (new : List Seat) → IsSound s
     → EventFits s.parts s.seats e → Stepped s e told after new → IsSound (with_fields s after new)
 unfolding IsSound

@@ -13,6 +13,7 @@ use Rattle.hp_core.specs.Readers.{owed_of}
 use Rattle.hp_core.specs.State.{CoreState, seat_at, no_seat, as_state, calls_of}
 use Rattle.hp_core.specs.Sound.{IsSound}
 
+-- tasks are counted from 1, seats from 0
 seat_next : (xs : List Seat) (k : ℕ) → seat_at xs (suc k) ≡ get_or xs k no_seat
 seat_next xs k =
     let q : (suc k == 0) ≡ false = ne_eqb (suc k) 0 (λ z. omega (arith, z)) in
@@ -32,6 +33,7 @@ sum_upto f xs none (suc k) l =
     ∙ (next ∙ (ap (λ (n : ℕ). n + f (get_or xs k no_seat).call) before
     ∙ ap (λ (y : Seat). total (suc k) (λ t. f (seat_at xs t).call) + f y.call) (sym (seat_next xs k))))
 
+-- a sum over the seats is that over all tasks
 pub sum_is : (f : Option Call → ℕ) (xs : List Seat) (n : ℕ) → f None ≡ 0 → n ≡ length xs
     → sum_by (λ seat. f seat.call) xs ≡ total (n + 1) (λ t. f (calls_of xs t))
 unfolding calls_of
@@ -41,6 +43,7 @@ sum_is f xs n none e =
     sym (ap (λ (ys : List Seat). sum_by (λ (seat : Seat). f seat.call) ys) whole)
     ∙ (all ∙ ap (λ (k : ℕ). total k (λ t. f (seat_at xs t).call)) (omega (arith, e)))
 
+-- so is what all calls owe
 pub owed_is : (s : CoreState) (seats : List Seat) (a b : ℕ) → IsSound s → seats ≡ s.seats
     → b ≡ sum_by (λ seat. less seat.call) seats → a ≡ sum_by (λ seat. more seat.call) seats → (pos a -ℤ pos b) ≡ owed_of s
 unfolding IsSound owed_of

@@ -50,6 +50,7 @@ not_told_as t u f i x mappings other e = by_place (find mappings e.0)
     by_place None = refl
     by_place (Some place) = grind (arith, nat_tests, other)
 
+-- a test that is said to hold passes
 to_test : (b : Bool) → T b → b ≡ true
 to_test true is = refl
 to_test false is = absurd is

@@ -57,6 +57,7 @@ held_up (Moved p) = None
 held_up (Blocked p holder) = Some holder
 held_up (Ended a) = None
 
+-- the holder that an outcome names
 abbrev pub told_of : Outcome → Option ℕ
 told_of (outcome.Blocked holder) = Some holder
 told_of other = None
@@ -74,12 +75,15 @@ start_held false false true o turn s new a b c next here taken r = ap held_up r.
 start_held false false false None turn s new a b c next here taken r = ap held_up r.0
 start_held false false false (Some h) turn s new a b c next here taken r = ap held_up r.0
 
+-- equal options have equal values
 same_holder : (k h : ℕ) → ◌≡◌ {A = Option ℕ} (Some k) (Some h) → k ≡ h
 same_holder k h e = ap (λ (o : Option ℕ). elim o [ None ↦ k | Some x ↦ x ]) e
 
+-- where nobody is named, nobody holds it up
 nobody : {A : Type 0} (h : ℕ) → ◌≡◌ {A = Option ℕ} None (Some h) → A
 nobody {A} h e = absurd (true≢false (ap (λ (o : Option ℕ). elim o [ None ↦ true | Some x ↦ false ]) e))
 
+-- where the reader names the holder of a lock, the turn at a call's start that waits for it is a row
 start_blocks : {P : Type 0} (x y z : Bool) (o : Option ℕ) (h : ℕ) (s : Pool) (a b c : Answer) (next here : P) (taken : Pool)
     → (if x || y || z then None else o) ≡ Some h
     → MatchBool x ((Blocked here h ≡ Ended a) × (s ≡ s))
@@ -98,12 +102,14 @@ moves : {P : Type 0} (b : Bool) (turn : Turn P) (first second new : Pool) (x y :
 moves true turn first second new x y r = ap held_up r.0
 moves false turn first second new x y r = ap held_up r.0
 
+-- a row of two tests that always moves waits for nobody, the second test in the second case
 moves_on : {P : Type 0} (a b : Bool) (turn : Turn P) (first second third new : Pool) (x y z : P)
     → MatchBool a ((turn ≡ Moved x) × (new ≡ first)) (MatchBool b ((turn ≡ Moved y) × (new ≡ second)) ((turn ≡ Moved z) × (new ≡ third)))
     → held_up turn ≡ None
 moves_on true b turn first second third new x y z r = ap held_up r.0
 moves_on false b turn first second third new x y z r = moves b turn second third new y z r
 
+-- or in the first
 moves_in : {P : Type 0} (a b : Bool) (turn : Turn P) (first second third new : Pool) (x y z : P)
     → MatchBool a (MatchBool b ((turn ≡ Moved y) × (new ≡ second)) ((turn ≡ Moved z) × (new ≡ third))) ((turn ≡ Moved x) × (new ≡ first))
     → held_up turn ≡ None
@@ -156,6 +162,7 @@ want_blocks true o h s taken At next here e = nobody h e
 want_blocks false None h s taken At next here e = nobody h e
 want_blocks false (Some k) h s taken At next here e = (ap (λ (u : ℕ). Blocked here u) (sym (same_holder k h e)), refl)
 
+-- a row that takes a frame waits for nobody, where its takes don't
 take_cases : {P : Type 0} (none all : Bool) (turn : Turn P) (s new : Pool) (no_frame : P) (Reserved Unreserved : Type 0)
     → MatchBool none Reserved (MatchBool all ((turn ≡ Moved no_frame) × (new ≡ s)) Unreserved) → (Reserved → held_up turn ≡ None)
     → (Unreserved → held_up turn ≡ None) → held_up turn ≡ None
@@ -181,6 +188,7 @@ look_held None entry turn s new a next Reads r reads = ap held_up r.0
 look_held (Some k) None turn s new a next Reads r reads = ap held_up r.0
 look_held (Some k) (Some x) turn s new a next Reads r reads = reads x r
 
+-- so a touch that found its page, where its reading doesn't
 found_held : {P : Type 0} (a b : Bool) (turn : Turn P) (s new : Pool) (x z : P) (Reads : Type 0)
     → MatchBool a ((turn ≡ Moved x) × (new ≡ s)) (MatchBool b Reads ((turn ≡ Moved z) × (new ≡ s)))
     → (Reads → held_up turn ≡ None) → held_up turn ≡ None
@@ -289,6 +297,7 @@ alloc_held p t killed grant (alloc.Unslot q) turn new row =
 alloc_held p t killed grant (alloc.Extend q) turn new row = ap held_up row.0
 alloc_held p t killed grant (alloc.Leave q) turn new row = ap held_up row.0
 
+-- and where the reader names someone, the turn that waits for it is a row
 alloc_blocks : (p : PartsState) (t : ℕ) (killed grant : Bool) (phase : AllocPhase) (h : ℕ) → alloc_blocker p killed phase ≡ Some h
     → AllocRow (pool_of p) t killed grant phase (Blocked phase h) (pool_of p)
 unfolding holders_of
@@ -331,6 +340,7 @@ punch_held p t killed grant (punch.Free q) turn new row = ap held_up row.0
 punch_held p t killed grant (punch.Unslot q) turn new row = moves _ turn _ _ new _ _ row
 punch_held p t killed grant (punch.Leave q) turn new row = ap held_up row.0
 
+-- and where the reader names someone, the turn that waits for it is a row
 punch_blocks : (p : PartsState) (t : ℕ) (killed grant : Bool) (phase : PunchPhase) (h : ℕ) → punch_blocker p killed phase ≡ Some h
     → PunchRow (pool_of p) t killed grant phase (Blocked phase h) (pool_of p)
 unfolding holders_of
@@ -369,6 +379,7 @@ truncate_held p t killed grant (truncate.Tail q) turn new row = ap held_up row.0
 truncate_held p t killed grant (truncate.Settle q) turn new row = ap held_up row.1.0
 truncate_held p t killed grant (truncate.Leave q) turn new row = ap held_up row.0
 
+-- and where the reader names someone, the turn that waits for it is a row
 truncate_blocks : (p : PartsState) (t : ℕ) (killed grant : Bool) (phase : TruncatePhase) (h : ℕ)
     → truncate_blocker p killed phase ≡ Some h → TruncateRow (pool_of p) t killed grant phase (Blocked phase h) (pool_of p)
 unfolding holders_of
@@ -396,12 +407,14 @@ moves_or_ends : {P : Type 0} (b : Bool) (turn : Turn P) (s new : Pool) (x : P) (
 moves_or_ends true turn s new x a r = ap held_up r.0
 moves_or_ends false turn s new x a r = ap held_up r.0
 
+-- an unmap's turn names nobody
 unmap_held : (p : PartsState) (t : ℕ) (killed grant : Bool) (phase : UnmapPhase) (turn : Turn UnmapPhase) (new : Pool)
     → UnmapRow (pool_of p) t killed grant phase turn new → held_up turn ≡ None
 unmap_held p t killed grant (unmap.Start q) turn new row = moves_or_ends _ turn _ new _ _ row
 unmap_held p t killed grant (unmap.Clear q) turn new row = ap held_up row.0
 unmap_held p t killed grant (unmap.Drop q) turn new row = ap held_up row.0
 
+-- nor does an exit's
 exit_held : (p : PartsState) (t : ℕ) (killed grant : Bool) (phase : ExitPhase) (turn : Turn ExitPhase) (new : Pool)
     → ExitRow (pool_of p) t killed grant phase turn new → held_up turn ≡ None
 exit_held p t killed grant exit.Start turn new row = leads_on _ turn _ new _ _ row
@@ -409,11 +422,13 @@ exit_held p t killed grant (exit.Clear q) turn new row = ap held_up row.0
 exit_held p t killed grant (exit.Drop q) turn new row = leads_on _ turn _ new _ _ row
 exit_held p t killed grant exit.Leave turn new row = ap held_up row.0
 
+-- what a turn tells names the holder that it waits for
 told_held : {P : Type 0} (inflight : P → Call) (turn : Turn P) → told_of (rows.told inflight turn) ≡ held_up turn
 told_held inflight (Moved p) = refl
 told_held inflight (Blocked p h) = refl
 told_held inflight (Ended a) = refl
 
+-- so a call's step is held up by whom the reader names
 call_held : (p : PartsState) (t : ℕ) (killed grant : Bool) (inflight : Call) (told : Outcome) (new : Pool) (next : Option Call)
     → rows.CallRow (pool_of p) t killed grant inflight told new next → told_of told ≡ call_blocker p killed inflight
 unfolding rows.CallRow
@@ -432,6 +447,7 @@ call_held p t killed grant (call.Unmap phase) told new next row =
 call_held p t killed grant (call.Exit phase) told new next row =
     ap told_of row.2 ∙ (told_held call.Exit row.0 ∙ exit_held p t killed grant phase row.0 new row.1)
 
+-- and where the reader names someone, the step that waits for it is a row
 call_blocks : (p : PartsState) (t : ℕ) (killed grant : Bool) (inflight : Call) (h : ℕ) → call_blocker p killed inflight ≡ Some h
     → rows.CallRow (pool_of p) t killed grant inflight (outcome.Blocked h) (pool_of p) (Some inflight)
 unfolding rows.CallRow
@@ -454,6 +470,7 @@ step_held s t grant told new h row =
     (λ none r. ap told_of r.0 ∙ rw (alive, none) refl)
     (λ inflight some r. call_held s.parts t _ grant inflight told r.0 r.1 r.2 ∙ rw (alive, some) refl))
 
+-- where the reader names someone, the task isn't dead and its call waits
 blocker_parts : (p : PartsState) (dead killed : Bool) (o : Option Call) (h : ℕ)
     → (if dead then None else seat_call_blocker p killed o) ≡ Some h
     → (dead ≡ false) × ((inflight : Call) × (o ≡ Some inflight) × (call_blocker p killed inflight ≡ Some h))
@@ -461,6 +478,7 @@ blocker_parts p true killed o h e = nobody h e
 blocker_parts p false killed None h e = nobody h e
 blocker_parts p false killed (Some c) h e = (refl, (c, refl, e))
 
+-- a task whose call goes on lives on
 lives_on : (lives : ℕ → Life) (t : ℕ) (inflight next : Call) → rows.lives_after lives t inflight (Some next) ≡ lives
 lives_on lives t (call.Map phase) next = refl
 lives_on lives t (call.Touch phase) next = refl
@@ -470,9 +488,11 @@ lives_on lives t (call.Truncate phase) next = refl
 lives_on lives t (call.Unmap phase) next = refl
 lives_on lives t (call.Exit phase) next = refl
 
+-- to put the call that a task has changes nothing
 same_calls : (calls : ℕ → Option Call) (t : ℕ) (inflight : Call) → calls t ≡ Some inflight → put calls t (Some inflight) ≡ calls
 same_calls calls t inflight e = subst (λ (o : Option Call). put calls t o ≡ calls) e (put_self calls t)
 
+-- where the reader names someone, the event that waits for it is a row of the machine
 step_blocks : (s : CoreState) (t : ℕ) (grant : Bool) (h : ℕ) → task_blocker s.parts (seat_at s.seats t) ≡ Some h
     → rows.StepRow (as_state s) t grant (outcome.Blocked h) (as_state s)
 unfolding rows.StepRow lives_of calls_of
@@ -495,9 +515,14 @@ names s t (Some h) sound e = λ grant. (step_blocks s t grant h e, refl)
 names s t None sound e =
     λ grant holder new row. nobody holder (sym e ∙ sym (step_held s t grant (outcome.Blocked holder) (as_state new) sound row.0))
 
-pub waits : (s : CoreState) (t : ℕ) (o : Option ℕ) → IsSound s → o ≡ task_blocker s.parts (seat_at s.seats t) → WaitsFor s t o
-waits s t o sound e = names s t o sound (sym e)
+-- so the reader tells exactly whom the task waits for
+pub waits : {inside seen : CoreState} (t : ℕ) (o : Option ℕ) → inside ≡ seen → IsSound inside
+    → o ≡ task_blocker inside.parts (seat_at seen.seats t) → WaitsFor seen t o
+waits {inside} t o same sound e =
+    let here = e ∙ ap (λ (s : CoreState). task_blocker inside.parts (seat_at s.seats t)) (sym same) in
+    subst (λ (s : CoreState). WaitsFor s t o) same (names inside t o sound (sym here))
 
+-- a sound core has a lock for each file
 pub locks_fit : (s : CoreState) → IsSound s → IsSized s.parts
 unfolding IsSound
 locks_fit s h = h.1.locks

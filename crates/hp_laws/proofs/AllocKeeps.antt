@@ -1,7 +1,6 @@
 -- Each row of an allocation keeps the invariant.
 use Rattle.std.proofs.Common.{◌≡◌, ℕ, ◌+◌, ◌-◌, ◌<◌, refl, ap, arith}
-use Rattle.std.specs.Prelude.{Bool, true, nat_lt, max, is_some, Some, None}
-use Rattle.std.proofs.lemmas.Bool.Decides.{nat_tests}
+use Rattle.std.specs.Prelude.{Bool, nat_lt, max, is_some, Some, None}
 use Rattle.hp_base.specs.declared.answer.Answer.{Answer}
 use Rattle.hp_base.specs.declared.answer.Answer.TheVariants as answer
 use Rattle.hp_base.proofs.Puts.{put_same}
@@ -21,6 +20,8 @@ use Rattle.hp_machine.specs.declared.call.Call.TheVariants as call
 use Rattle.hp_machine.specs.declared.call.Turn.{Turn}
 use Rattle.hp_machine.specs.State.{Pool, State, pool_of, slot_of}
 use Rattle.hp_laws.specs.Sweep.{passed}
+use Rattle.hp_laws.proofs.Deciding.{lt}
+use Rattle.hp_laws.proofs.Standing.{below_limit, in_first, in_next}
 use Rattle.hp_laws.proofs.Invariant
 use Rattle.hp_laws.proofs.Invariant.{Inv, stays}
 use Rattle.hp_laws.proofs.Holding.{leaves_slot, leaves_lock}
@@ -31,9 +32,7 @@ use Rattle.hp_laws.proofs.Shared.{after, so, by_test, by_option, stands_at, star
 use Rattle.hp_laws.proofs.Shared.{commit_row, one_change, own_reserved}
 use Rattle.hp_laws.proofs.TouchKeeps.{no_page}
 
-lt : (a b : ℕ) → nat_lt a b ≡ true → a < b
-lt a b e = grind (arith, nat_tests)
-
+-- at head it goes on to want, or leaves where a kill is noticed
 alloc_head : (s : State) (t : ℕ) (killed : Bool) (p : Head) (turn : Turn AllocPhase) (new : Pool) → Inv s.geometry s
     → t < s.geometry.tasks + 1 → s.calls t ≡ Some (call.Alloc (at.Head p)) → AllocHeadRow (pool_of s) killed p turn new
     → Inv s.geometry (after call.Alloc s t turn new)
@@ -43,11 +42,12 @@ alloc_head s t killed p turn new h l e row =
     (λ is r. so call.Alloc s t _ turn _ new r
     (stays s.geometry s t _
     (Some (call.Alloc (at.Leave (record { allocation = p.allocation; answer = answer.Interrupted })))) h l e refl tt
-    (record { slot = tt; lock = y.lock; facts = record { file = y.facts.range.0 } })))
+    (record { slot = tt; lock = y.lock; facts = record { file = y.facts.aim.file } })))
     (λ alive r. so call.Alloc s t _ turn _ new r
     (stays s.geometry s t _ (Some (call.Alloc (at.Want (record { allocation = p.allocation; index = p.index })))) h
     l e refl tt (record { slot = tt; lock = y.lock; facts = y.facts })))
 
+-- at want it takes the slot, waits, or leaves where a kill is noticed
 alloc_want : (s : State) (t : ℕ) (killed : Bool) (p : Want) (turn : Turn AllocPhase) (new : Pool) → Inv s.geometry s
     → t < s.geometry.tasks + 1 → s.calls t ≡ Some (call.Alloc (at.Want p)) → AllocWantRow (pool_of s) t killed p turn new
     → Inv s.geometry (after call.Alloc s t turn new)
@@ -57,11 +57,12 @@ alloc_want s t killed p turn new h l e row =
     (λ is r. so call.Alloc s t _ turn _ new r
     (stays s.geometry s t _
     (Some (call.Alloc (at.Leave (record { allocation = p.allocation; answer = answer.Interrupted })))) h l e refl tt
-    (record { slot = tt; lock = y.lock; facts = record { file = y.facts.range.0 } })))
+    (record { slot = tt; lock = y.lock; facts = record { file = y.facts.aim.file } })))
     (λ alive r. want_row call.Alloc s t p.allocation.file p.index (at.Want p)
     (at.Locked (record { allocation = p.allocation; index = p.index })) turn new h l e r refl refl refl refl refl
     (record { slot = put_same s.slots (slot_of s.geometry p.allocation.file p.index) (Some t); lock = y.lock; facts = y.facts }))
 
+-- at locked it passes over an index with a page, and begins to make one where there is none
 alloc_locked : (s : State) (t : ℕ) (p : Locked) (turn : Turn AllocPhase) (new : Pool) → Inv s.geometry s
     → t < s.geometry.tasks + 1 → s.calls t ≡ Some (call.Alloc (at.Locked p)) → AllocLockedRow (pool_of s) p turn new
     → Inv s.geometry (after call.Alloc s t turn new)
@@ -74,8 +75,9 @@ alloc_locked s t p turn new h l e row =
     refl tt (record { slot = y.slot; lock = y.lock; facts = y.facts })))
     (λ none r. so call.Alloc s t _ turn _ new r
     (stays s.geometry s t _ (Some (call.Alloc (at.Missing (record { allocation = p.allocation; index = p.index }))))
-    h l e refl tt (record { slot = y.slot; lock = y.lock; facts = record { range = y.facts.range; bare = no_page _ none } })))
+    h l e refl tt (record { slot = y.slot; lock = y.lock; facts = record { aim = y.facts.aim; bare = no_page _ none } })))
 
+-- at missing its change is begun, or denied
 alloc_missing : (s : State) (t : ℕ) (grant : Bool) (p : Missing) (turn : Turn AllocPhase) (new : Pool) → Inv s.geometry s
     → t < s.geometry.tasks + 1 → s.calls t ≡ Some (call.Alloc (at.Missing p)) → AllocMissingRow (pool_of s) grant p turn new
     → Inv s.geometry (after call.Alloc s t turn new)
@@ -88,15 +90,16 @@ alloc_missing s t grant p turn new h l e row =
           stays s.geometry s t _
           (Some (call.Alloc (at.Unslot
           (record { allocation = p.allocation; index = p.index; answer = Some answer.NoMemory })))) h l e refl tt
-          (record { slot = y.slot; lock = y.lock; facts = record { range = y.facts.range } });
+          (record { slot = y.slot; lock = y.lock; facts = record { aim = y.facts.aim } });
       same = refl;
       none = refl;
       some = refl;
       balance = refl;
       fill = tt;
-      own = record { slot = y.slot; lock = y.lock; facts = record { range = y.facts.range; bare = y.facts.bare; one = o.0; marked = o.1 } };
+      own = record { slot = y.slot; lock = y.lock; facts = record { aim = y.facts.aim; bare = y.facts.bare; one = o.0; marked = o.1 } };
     })
 
+-- at changed it takes a frame; it gives the change up where there is none or a kill is noticed
 alloc_changed : (s : State) (t : ℕ) (killed : Bool) (p : Changed) (turn : Turn AllocPhase) (new : Pool) → Inv s.geometry s
     → t < s.geometry.tasks + 1 → s.calls t ≡ Some (call.Alloc (at.Changed p)) → AllocChangedRow (pool_of s) killed p turn new
     → Inv s.geometry (after call.Alloc s t turn new)
@@ -109,7 +112,7 @@ alloc_changed s t killed p turn new h l e row =
     λ b. stays s.geometry s t _
     (Some (call.Alloc (at.Abort
     (record { allocation = p.allocation; index = p.index; pending = p.pending; answer = b })))) h l e refl tt
-    (record { slot = y.slot; lock = y.lock; facts = record { range = y.facts.range; bare = y.facts.bare } }) in
+    (record { slot = y.slot; lock = y.lock; facts = record { aim = y.facts.aim; bare = y.facts.bare } }) in
     by_test killed row
     (λ is r. so call.Alloc s t _ turn _ new r (aborts answer.Interrupted))
     (λ alive r. take_row call.Alloc s t p.pending.missing (at.Changed p) _
@@ -125,6 +128,7 @@ alloc_changed s t killed p turn new h l e row =
       own = λ x. record { slot = y.slot; lock = y.lock; facts = y.facts };
     }))
 
+-- at taken the change is committed; the index is reserved from then on
 alloc_taken : (s : State) (t : ℕ) (p : Taken) (turn : Turn AllocPhase) (new : Pool) → Inv s.geometry s → t < s.geometry.tasks + 1
     → s.calls t ≡ Some (call.Alloc (at.Taken p)) → AllocTakenRow (pool_of s) p turn new
     → Inv s.geometry (after call.Alloc s t turn new)
@@ -134,8 +138,8 @@ alloc_taken s t p turn new h l e row =
     commit_row call.Alloc s t p.allocation.file p.index p.pending (at.Taken p)
     (at.Settle (record { allocation = p.allocation; index = p.index; held = p.held }))
     (at.Committed (record { allocation = p.allocation; index = p.index; held = p.held })) turn new h l e row (record {
-      file = y.facts.range.0;
-      index = (let a = y.facts.range.2 in let b = y.facts.range.3 in omega arith);
+      file = y.facts.aim.file;
+      index = below_limit s.geometry _ y.facts.aim;
       one = y.facts.one;
       marked = y.facts.marked;
       nobody = λ u a. no_passer s.geometry s t p.allocation.file h y.lock (λ j. ap (λ c. passed c p.allocation.file j) e) u p.index a;
@@ -152,10 +156,11 @@ alloc_taken s t p turn new h l e row =
       next_more = refl;
       fill_settle = tt;
       fill_next = tt;
-      own_settle = record { slot = y.slot; lock = y.lock; facts = record { range = y.facts.range; bare = y.facts.bare; marked = marked } };
-      own_next = record { slot = y.slot; lock = y.lock; facts = record { range = y.facts.range; bare = y.facts.bare; marked = marked } };
+      own_settle = record { slot = y.slot; lock = y.lock; facts = record { aim = y.facts.aim; bare = y.facts.bare; marked = marked } };
+      own_next = record { slot = y.slot; lock = y.lock; facts = record { aim = y.facts.aim; bare = y.facts.bare; marked = marked } };
     })
 
+-- at committed the frame becomes the page, or is given back where that is denied
 alloc_committed : (s : State) (t : ℕ) (grant : Bool) (p : Committed) (turn : Turn AllocPhase) (new : Pool) → Inv s.geometry s
     → t < s.geometry.tasks + 1 → s.calls t ≡ Some (call.Alloc (at.Committed p)) → AllocCommittedRow (pool_of s) grant p turn new
     → Inv s.geometry (after call.Alloc s t turn new)
@@ -166,16 +171,17 @@ alloc_committed s t grant p turn new h l e row =
     (λ granted r. so call.Alloc s t _ turn _ new r
     (places s.geometry s t _
     (Some (call.Alloc (at.Unslot (record { allocation = p.allocation; index = p.index; answer = None })))) f p.index
-    p.held h l e y.facts.range.0 (let a = y.facts.range.2 in let b = y.facts.range.3 in omega arith) refl refl refl
+    p.held h l e y.facts.aim.file (below_limit s.geometry _ y.facts.aim) refl refl refl
     refl refl refl y.facts.marked y.facts.bare y.slot
     (λ u a. no_passer s.geometry s t f h y.lock (λ j. ap (λ c. passed c f j) e) u p.index a) tt
-    (record { slot = y.slot; lock = y.lock; facts = record { range = y.facts.range } })))
+    (record { slot = y.slot; lock = y.lock; facts = record { aim = y.facts.aim } })))
     (λ denied r. so call.Alloc s t _ turn _ new r
     (stays s.geometry s t _
     (Some (call.Alloc (at.Restore
     (record { allocation = p.allocation; index = p.index; held = p.held; answer = answer.NoMemory })))) h l e refl
     tt (record { slot = y.slot; lock = y.lock; facts = y.facts })))
 
+-- at unslot it leaves the slot, for the next index, for the size, or for its end
 alloc_unslot : (s : State) (t : ℕ) (p : Unslot) (turn : Turn AllocPhase) (new : Pool) → Inv s.geometry s
     → t < s.geometry.tasks + 1 → s.calls t ≡ Some (call.Alloc (at.Unslot p)) → AllocUnslotRow (pool_of s) p turn new
     → Inv s.geometry (after call.Alloc s t turn new)
@@ -191,13 +197,13 @@ alloc_unslot s t p turn new h l e row =
     (record {
       slot = tt;
       lock = y.lock;
-      facts = record { range = (y.facts.range.0, (let a = y.facts.range.1 in omega arith), lt _ _ more, y.facts.range.3) };
+      facts = record { aim = in_next s.geometry _ y.facts.aim (lt _ _ more) };
     })))
     (λ last r. by_test p.allocation.keep r
     (λ keeps r. so call.Alloc s t _ turn _ new r
     (leaves_slot s.geometry s t _
     (Some (call.Alloc (at.Leave (record { allocation = p.allocation; answer = answer.Done })))) f p.index h l e refl
-    refl refl refl y.slot tt (record { slot = tt; lock = y.lock; facts = record { file = y.facts.range.0 } })))
+    refl refl refl y.slot tt (record { slot = tt; lock = y.lock; facts = record { file = y.facts.aim.file } })))
     (λ grows r. so call.Alloc s t _ turn _ new r
     (leaves_slot s.geometry s t _ (Some (call.Alloc (at.Extend (record { allocation = p.allocation })))) f p.index h
     l e refl refl refl refl y.slot tt
@@ -205,18 +211,19 @@ alloc_unslot s t p turn new h l e row =
       slot = tt;
       lock = y.lock;
       facts = record {
-        range = (
-          y.facts.range.0,
-          (let a = y.facts.range.1 in let b = y.facts.range.2 in omega arith),
-          y.facts.range.3,
-        );
+        range = record {
+          file = y.facts.aim.file;
+          some = (let a = y.facts.aim.above in let b = y.facts.aim.below in omega arith);
+          limit = y.facts.aim.limit;
+        };
       };
     })))))
     (λ carried some r. so call.Alloc s t _ turn _ new r
     (leaves_slot s.geometry s t _
     (Some (call.Alloc (at.Leave (record { allocation = p.allocation; answer = carried })))) f p.index h l e refl
-    refl refl refl y.slot tt (record { slot = tt; lock = y.lock; facts = record { file = y.facts.range.0 } })))
+    refl refl refl y.slot tt (record { slot = tt; lock = y.lock; facts = record { file = y.facts.aim.file } })))
 
+-- so each row of an allocation keeps the invariant
 pub alloc_row : (s : State) (t : ℕ) (killed grant : Bool) (phase : AllocPhase) (turn : Turn AllocPhase) (new : Pool)
     → Inv s.geometry s → t < s.geometry.tasks + 1 → s.calls t ≡ Some (call.Alloc phase)
     → AllocRow (pool_of s) t killed grant phase turn new → Inv s.geometry (after call.Alloc s t turn new)
@@ -227,7 +234,7 @@ alloc_row s t killed grant (at.Start p) turn new h l e row =
     record {
       slot = tt;
       lock = put_same s.locks p.allocation.file (Some t);
-      facts = record { range = (in_files, omega arith, (let a = o.0 in omega arith), o.1) };
+      facts = record { aim = in_first s.geometry in_files o.0 o.1 };
     })
 alloc_row s t killed grant (at.Head p) turn new h l e row = alloc_head s t killed p turn new h l e row
 alloc_row s t killed grant (at.Want p) turn new h l e row = alloc_want s t killed p turn new h l e row
@@ -240,7 +247,7 @@ alloc_row s t killed grant (at.Abort p) turn new h l e row =
     (closed s.geometry s t _
     (Some (call.Alloc (at.Unslot (record { allocation = p.allocation; index = p.index; answer = Some p.answer }))))
     p.allocation.file h l e refl refl refl refl refl refl tt
-    (record { slot = y.slot; lock = y.lock; facts = record { range = y.facts.range } }))
+    (record { slot = y.slot; lock = y.lock; facts = record { aim = y.facts.aim } }))
 alloc_row s t killed grant (at.Taken p) turn new h l e row = alloc_taken s t p turn new h l e row
 alloc_row s t killed grant (at.Settle p) turn new h l e (low, row) =
     let y = stands_at s t _ h e in
@@ -256,7 +263,7 @@ alloc_row s t killed grant (at.Restore p) turn new h l e row =
     (gives s.geometry s t _
     (Some (call.Alloc (at.Unslot (record { allocation = p.allocation; index = p.index; answer = Some p.answer }))))
     p.held (s.resv + 1) h l e refl refl refl refl refl (omega arith) (omega arith) tt
-    (record { slot = y.slot; lock = y.lock; facts = record { range = y.facts.range } }))
+    (record { slot = y.slot; lock = y.lock; facts = record { aim = y.facts.aim } }))
 alloc_row s t killed grant (at.Unslot p) turn new h l e row = alloc_unslot s t p turn new h l e row
 alloc_row s t killed grant (at.Extend p) turn new h l e row =
     let y = stands_at s t _ h e in
@@ -265,9 +272,9 @@ alloc_row s t killed grant (at.Extend p) turn new h l e row =
     (extends s.geometry s t _
     (Some (call.Alloc (at.Leave (record { allocation = p.allocation; answer = answer.Done })))) f
     (max (s.size f) (p.allocation.from + p.allocation.len)) h l e refl y.lock (omega arith)
-    (let a = h.sizes f in let b = y.facts.range.2 in omega arith)
+    (let a = h.sizes f in let b = y.facts.range.limit in omega arith)
     (no_passer s.geometry s t f h y.lock (λ j. ap (λ c. passed c f j) e)) tt
-    (record { slot = tt; lock = y.lock; facts = record { file = y.facts.range.0 } }))
+    (record { slot = tt; lock = y.lock; facts = record { file = y.facts.range.file } }))
 alloc_row s t killed grant (at.Leave p) turn new h l e row =
     so call.Alloc s t _ turn _ new row
     (leaves_lock s.geometry s t _ p.allocation.file h l e refl refl refl refl refl refl (stands_at s t _ h e).lock (λ k j. refl))

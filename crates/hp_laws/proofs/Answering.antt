@@ -47,6 +47,7 @@ use Rattle.hp_machine.specs.declared.call.Turn.TheVariants.{Moved, Blocked, Ende
 use Rattle.hp_laws.specs.Bounds.{is_begun}
 use Rattle.hp_laws.specs.Histories.{Moment, History, in_order}
 use Rattle.hp_laws.specs.Words.{Read, ReadTheLastWord}
+use Rattle.hp_laws.proofs.Deciding.{some_same}
 use Rattle.hp_laws.proofs.Shared.{by_test, by_option}
 use Rattle.hp_laws.proofs.Runs.{Always}
 use Rattle.hp_laws.proofs.Reading.{begin_cases}
@@ -138,10 +139,6 @@ map_words s t killed grant (map.Settle p) turn new w (low, row) = leaf call.Map 
 map_words s t killed grant (map.Enter p) turn new w row = leaf call.Map w _ _ turn row.0 (λ e. absurd (cc))
 map_words s t killed grant (map.Leave p) turn new w row = leaf call.Map w _ _ turn row.0 (λ e. e)
 
--- two answers, by what may be one
-same_answer : {a b : Answer} → Some a ≡ Some b → a ≡ b
-same_answer e = cc
-
 -- so did an allocation
 alloc_words : (s : State) (t : ℕ) (killed grant : Bool) (phase : AllocPhase) (turn : Turn AllocPhase) (new : Pool) (w : ℕ)
     → AllocRow (pool_of s) t killed grant phase turn new → Yields call.Alloc w (Carries (Some (call.Alloc phase)) w) turn
@@ -166,14 +163,14 @@ alloc_words s t killed grant (alloc.Changed p) turn new w row = by_test killed r
     (λ _ r. take_words call.Alloc w _ s p.pending.missing _
     (λ x. alloc.Taken (record { allocation = p.allocation; index = p.index; pending = p.pending; held = x })) turn new r (λ e. absurd (cc))
     (λ x e. absurd e))
-alloc_words s t killed grant (alloc.Abort p) turn new w row = leaf call.Alloc w _ _ turn row.0 (λ e. same_answer e)
+alloc_words s t killed grant (alloc.Abort p) turn new w row = leaf call.Alloc w _ _ turn row.0 (λ e. some_same e)
 alloc_words s t killed grant (alloc.Taken p) turn new w row =
     commit_words call.Alloc w _ s p.allocation.file p.pending.from p.pending.to p.pending.missing _ _ turn new row (λ e. absurd e)
     (λ e. absurd e)
 alloc_words s t killed grant (alloc.Settle p) turn new w (low, row) = leaf call.Alloc w _ _ turn row.0 (λ e. absurd e)
 alloc_words s t killed grant (alloc.Committed p) turn new w row =
     by_test grant row (λ _ r. leaf call.Alloc w _ _ turn r.0 (λ e. absurd (cc))) (λ _ r. leaf call.Alloc w _ _ turn r.0 (λ e. absurd (cc)))
-alloc_words s t killed grant (alloc.Restore p) turn new w row = leaf call.Alloc w _ _ turn row.0 (λ e. same_answer e)
+alloc_words s t killed grant (alloc.Restore p) turn new w row = leaf call.Alloc w _ _ turn row.0 (λ e. some_same e)
 alloc_words s t killed grant (alloc.Unslot p) turn new w row = by_option p.answer row
     (λ _ r. by_test (nat_lt (p.index + 1) (p.allocation.from + p.allocation.len)) r
     (λ _ r. leaf call.Alloc w _ _ turn r.0 (λ e. absurd e))

@@ -17,31 +17,37 @@ use Rattle.hp_laws.specs.Enough.{CanSettle}
 use Rattle.hp_laws.specs.Protocol.{ChangesAreCalls, SparesSuffice, PagesAreReserved, LiesWithin, is_bare, HandsApart}
 use Rattle.hp_laws.specs.Protocol.{BareWhereMade, works_at, PassedIsBare}
 use Rattle.hp_laws.specs.Sweep.{fills, ahead}
+use Rattle.hp_laws.proofs.Deciding.{some_same}
 use Rattle.hp_laws.proofs.Standing.{Stands}
 use Rattle.hp_laws.proofs.Invariant.{Reached, Inv, page_within}
-use Rattle.hp_laws.proofs.Holding.{some_same}
 use Rattle.hp_laws.proofs.Passing.{holds_slot, locks_file, passed_locked, reached_not_passed, same_holder}
 use Rattle.hp_laws.proofs.Removals.{page_marked}
 use Rattle.hp_laws.proofs.Cover.{can_settle}
 use Rattle.hp_laws.proofs.Runs.{Always, always}
 
+-- in every reached state a call finds in the count what its next step takes from it
 pub never_short : (s : State) (t : ℕ) → IsReached s → t ≤ s.geometry.tasks → CanSettle s (s.calls t)
 never_short s t reached l = let h = (always s reached).inv in can_settle s.geometry s t (s.calls t) h (omega arith) refl (h.stands t)
 
+-- each file has as many changes pending as calls that have one open there
 pub changes_are_calls : (s : State) → IsReached s → ChangesAreCalls s
 changes_are_calls s reached = (always s reached).inv.changes
 
+-- and a spare descriptor for each
 pub spares_suffice : (s : State) → IsReached s → SparesSuffice s
 spares_suffice s reached = (always s reached).inv.spares
 
+-- an index that has a page is reserved
 pub pages_are_reserved : (s : State) → IsReached s → PagesAreReserved s
 pages_are_reserved s reached f i x e = page_marked s.geometry s f i x (always s reached).inv e
 
+-- what is reserved or has a page lies below the limit, in a file that is there
 pub lies_within : (s : State) → IsReached s → LiesWithin s
 lies_within s reached =
     let h = (always s reached).inv in
     record { reserved = h.inside.within; cached = λ f i x e. page_within f i x h.inside e }
 
+-- a call with a frame in its hand holds a slot
 hand_slot : (c : Option Call) (x : ℕ) → hand c ≡ Some x → (k : ℕ × ℕ) × (slot_held c ≡ Some k)
 hand_slot (Some (call.Touch (touch.Taken p))) x e = ((p.touch.file, p.touch.index), refl)
 hand_slot (Some (call.Touch (touch.Settle p))) x e = ((p.touch.file, p.touch.index), refl)
@@ -59,6 +65,7 @@ hand_slot (Some (call.Unmap (unmap.Start _))) x e = (let d : ◌≡◌ {A = Opti
 hand_slot (Some (call.Exit exit.Start)) x e = (let d : ◌≡◌ {A = Option ℕ} None (Some x) = e in absurd (cc))
 hand_slot c x e = (let d : ◌≡◌ {A = Option ℕ} None (Some x) = e in absurd (cc))
 
+-- two calls with a frame in hand hold the slots of different indices, for a slot has one holder
 pub hands_apart : (s : State) → IsReached s → HandsApart s
 hands_apart s reached t u x y d a b =
     let h = (always s reached).inv in
@@ -72,6 +79,7 @@ hands_apart s reached t u x y d a b =
           (ap (λ (m : ℕ × ℕ). s.slots (slot_of s.geometry m.0 m.1)) e ∙ holds_slot s.geometry s u j.0 h j.1)),
     )
 
+-- where a call's phase says that the index whose slot it holds has no page, it has none
 bare_at : (g : Geometry) (s : State) (t : ℕ) (c : Option Call) (k : ℕ × ℕ) → Stands g s t c → is_bare c ≡ true
     → slot_held c ≡ Some k → s.pages k.0 k.1 ≡ None
 bare_at g s t (Some (call.Touch (touch.Missing p))) k h b e = subst (λ (m : ℕ × ℕ). s.pages m.0 m.1 ≡ None) (some_same e) h.facts.bare
@@ -97,9 +105,11 @@ bare_at g s t (Some (call.Unmap (unmap.Start _))) k h b e = (let d : false ≡ t
 bare_at g s t (Some (call.Exit exit.Start)) k h b e = (let d : false ≡ true = b in absurd (cc))
 bare_at g s t c k h b e = (let d : false ≡ true = b in absurd (cc))
 
+-- so in each state that keeps what every event keeps
 bare_made : (s : State) → Always s → BareWhereMade s
 bare_made s h t k b e = bare_at s.geometry s t (s.calls t) k (h.inv.stands t) b e
 
+-- and in every reached one: a page is made, or was taken away, only where there is none
 pub bare_where_made : (s : State) → IsReached s → BareWhereMade s
 bare_where_made s reached = bare_made s (always s reached)
 
@@ -129,10 +139,12 @@ works g s u (Some (call.Unmap (unmap.Start _))) k h e = (let d : ◌≡◌ {A = 
 works g s u (Some (call.Exit exit.Start)) k h e = (let d : ◌≡◌ {A = Option (ℕ × ℕ)} None (Some k) = e in absurd (cc))
 works g s u c k h e = (let d : ◌≡◌ {A = Option (ℕ × ℕ)} None (Some k) = e in absurd (cc))
 
+-- an index which a touch fills is below the size, or a truncation has yet to pass it
 pub reach_of : (g : Geometry) (s : State) (u : ℕ) (k : ℕ × ℕ) → Inv g s → fills (s.calls u) ≡ Some k
     → Reached s.size (λ w. ahead (s.calls w)) k.0 k.1
 reach_of g s u k h e = subst (λ (o : Option (ℕ × ℕ)). IfSome o (λ k. Reached s.size (λ w. ahead (s.calls w)) k.0 k.1)) e (h.reach u)
 
+-- an index that a truncation passed has no page, and no other call works there
 pub passed_bare : (s : State) → Always s → PassedIsBare s
 passed_bare s all t f j cases =
     let h = all.inv in
@@ -156,5 +168,6 @@ passed_bare s all t f j cases =
       )
     ]
 
+-- so in every reached state
 pub passed_is_bare : (s : State) → IsReached s → PassedIsBare s
 passed_is_bare s reached = passed_bare s (always s reached)

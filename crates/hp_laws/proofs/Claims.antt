@@ -13,11 +13,12 @@ use Rattle.hp_machine.specs.declared.truncate.TruncatePhase.TheVariants as trunc
 use Rattle.hp_machine.specs.declared.call.Call.{Call}
 use Rattle.hp_machine.specs.declared.call.Call.TheVariants as call
 use Rattle.hp_laws.specs.Sweep.{fills, ahead, passed}
+use Rattle.hp_laws.proofs.Deciding.{same_of, never, some_same}
 use Rattle.hp_laws.proofs.Standing.{HasSlot, HasLock, Stands}
 use Rattle.hp_laws.proofs.Invariant.{Reached, Inv}
-use Rattle.hp_laws.proofs.Holding.{some_same}
 use Rattle.hp_laws.proofs.Passing.{locks_file, passed_locked, reached_not_passed, same_holder}
 
+-- the value where the test holds, else nothing
 abbrev pub only_if : {A : Type 0} → Bool → A → Option A
 only_if true x = Some x
 only_if false x = None
@@ -49,6 +50,7 @@ tail_from (Some (call.Truncate (truncate.Unslot p))) = Some (p.truncation.file, 
 tail_from (Some (call.Truncate (truncate.Tail p))) = Some (p.truncation.file, p.truncation.new)
 tail_from other = None
 
+-- the index is reserved, and in the tail that begins there
 abbrev in_tail : Option (ℕ × ℕ) → (ℕ → ℕ → Bool) → (file index : ℕ) → Bool
 in_tail None r f j = false
 in_tail (Some k) r f j = (k.0 == f) && (nat_le k.1 j && r f j)
@@ -58,17 +60,17 @@ abbrev pub claim : (ℕ → ℕ → Bool) → Option Call → (file index : ℕ)
 claim r (Some (call.Truncate p)) f j = in_tail (tail_from (Some (call.Truncate p))) r f j
 claim r c f j = is_there (counts_at c) f j
 
+-- the parts of a conjunction of tests: the first
 and_left : (a b : Bool) → (a && b) ≡ true → a ≡ true
 and_left true b e = refl
 and_left false b e = (let d : false ≡ true = e in cc)
 
+-- and the second
 and_right : (a b : Bool) → (a && b) ≡ true → b ≡ true
 and_right true b e = e
 and_right false b e = (let d : false ≡ true = e in absurd (cc))
 
-same_of : (a b : ℕ) → (a == b) ≡ true → a ≡ b
-same_of a b e = grind (arith, nat_tests)
-
+-- where the test for an index holds, the option is that index
 there_is : (o : Option (ℕ × ℕ)) (f j : ℕ) → is_there o f j ≡ true → o ≡ Some (f, j)
 there_is None f j e = (let d : false ≡ true = e in cc)
 there_is (Some k) f j e =
@@ -76,6 +78,7 @@ there_is (Some k) f j e =
     let b : k.1 ≡ j = same_of k.1 j (and_right (k.0 == f) (k.1 == j) e) in
     ap (λ (m : ℕ). Some (m, k.1)) a ∙ ap (λ (m : ℕ). Some (f, m)) b
 
+-- what is there under a test, is there because the test holds
 only_of : (b : Bool) (x k : ℕ × ℕ) → only_if b x ≡ Some k → (b ≡ true) × (x ≡ k)
 only_of true x k e = (refl, some_same e)
 only_of false x k e = (let d : ◌≡◌ {A = Option (ℕ × ℕ)} None (Some k) = e in absurd (cc))
@@ -87,6 +90,7 @@ record CountsAt (g : Geometry) (s : State) (t : ℕ) (c : Option Call) (k : ℕ 
   slot : HasSlot g s t k.0 k.1
   who : (fills c ≡ Some k) ⊎ HasLock s t k.0
 
+-- where a call counts on an index, its facts say that the index is reserved and bare and who holds it
 counted : (g : Geometry) (s : State) (t : ℕ) (c : Option Call) (k : ℕ × ℕ) → Stands g s t c → counts_at c ≡ Some k → CountsAt g s t c k
 counted g s t (Some (call.Touch (touch.Changed p))) k h e =
     let o = only_of (p.pending.missing == 0) (p.touch.file, p.touch.index) k e in
@@ -142,12 +146,14 @@ pub record Claimed (g : Geometry) (s : State) (t : ℕ) (c : Option Call) (f j :
   pub bare : s.pages f j ≡ None
   pub owns : Owns g s t c f j
 
+-- so a claim by the one index is what a claim means
 by_index : (g : Geometry) (s : State) (t : ℕ) (c : Option Call) (f j : ℕ) → Stands g s t c → is_there (counts_at c) f j ≡ true
     → Claimed g s t c f j
 by_index g s t c f j h e =
     let o = counted g s t c (f, j) h (there_is (counts_at c) f j e) in
     record { marked = o.marked; bare = o.bare; owns = inl (o.slot, o.who) }
 
+-- what the test for a tail says: the file, the place, and that the index is reserved
 tail_claim : (k f from j : ℕ) (r : Bool) → ((k == f) && (nat_le from j && r)) ≡ true → (k ≡ f) × (from ≤ j) × (r ≡ true)
 tail_claim k f from j r e =
     let a = and_right (k == f) _ e in
@@ -156,12 +162,15 @@ tail_claim k f from j r e =
     from_on : nat_le from j ≡ true → from ≤ j
     from_on e = grind (arith, nat_tests)
 
+-- an index above another of its file passes the test for that
 above : (k f i j : ℕ) → k ≡ f → i + 1 ≤ j → ((k == f) && nat_lt i j) ≡ true
 above k f i j d l = grind (arith, nat_tests)
 
+-- and one from another on the test for this
 on_from : (k f i j : ℕ) → k ≡ f → i ≤ j → ((k == f) && nat_le i j) ≡ true
 on_from k f i j d l = grind (arith, nat_tests)
 
+-- an index that a truncation passed and that is reserved is claimed by it: it has no page, and the lock is held
 by_passed : (g : Geometry) (s : State) (t : ℕ) (c : Option Call) (f j : ℕ) → Inv g s → s.calls t ≡ c → passed c f j ≡ true
     → s.reserved f j ≡ true → Claimed g s t c f j
 by_passed g s t c f j h e p r = record {
@@ -187,9 +196,7 @@ by_place g s t k i c f j h e o held bare locked above_it = elim (same_or_other j
   | inr d ↦ by_passed g s t c f j h e (above_it o.0 (let z = o.1 in omega arith)) o.2
 ]
 
-never : {P : Type 0} → false ≡ true → P
-never e = absurd (cc)
-
+-- a claim means in each phase that the index is reserved, bare, and the call's own
 pub claimed : (g : Geometry) (s : State) (t : ℕ) (c : Option Call) (f j : ℕ) → Inv g s → s.calls t ≡ c → Stands g s t c
     → claim s.reserved c f j ≡ true → Claimed g s t c f j
 claimed g s t (Some (call.Truncate (truncate.Start p))) f j h e y q = never q
@@ -225,6 +232,7 @@ claimed g s t (Some (call.Punch p)) f j h e y q = by_index g s t _ f j y q
 claimed g s t (Some (call.Unmap p)) f j h e y q = by_index g s t _ f j y q
 claimed g s t (Some (call.Exit p)) f j h e y q = by_index g s t _ f j y q
 
+-- no truncation has passed an index which a touch fills
 fills_not_passed : {P : Type 0} (g : Geometry) (s : State) (t u f j : ℕ) → Inv g s → fills (s.calls t) ≡ Some (f, j)
     → passed (s.calls u) f j ≡ true → P
 fills_not_passed g s t u f j h a p =

@@ -18,7 +18,7 @@ use Rattle.hp_machine.specs.declared.exit.ExitPhase.TheVariants as exit
 use Rattle.hp_machine.specs.declared.call.Call.{Call}
 use Rattle.hp_machine.specs.declared.call.Call.TheVariants as call
 use Rattle.hp_laws.specs.Enough.{CanSettle}
-use Rattle.hp_laws.proofs.Standing.{Stands}
+use Rattle.hp_laws.proofs.Standing.{below_limit, Stands}
 use Rattle.hp_laws.proofs.Invariant.{Inv, vacant_of}
 use Rattle.hp_laws.proofs.Claims.{only_if, claim, claimed, once}
 
@@ -26,6 +26,7 @@ use Rattle.hp_laws.proofs.Claims.{only_if, claim, claimed, once}
 abbrev need : Geometry → State → Option Call → ℕ
 need g s c = total g.files (λ f. total g.limit (λ j. bit (claim s.reserved c f j)))
 
+-- since no index is claimed twice, all claims together are at most the reserved indices without a page
 all_needs : (g : Geometry) (s : State) → Inv g s → total (g.tasks + 1) (λ t. need g s (s.calls t)) ≤ vacant_of g s.reserved s.pages
 unfolding vacant
 all_needs g s h =
@@ -55,9 +56,11 @@ all_needs g s h =
         let d = count_below-total (λ j. s.reserved f j && is_none (s.pages f j)) g.limit in
         omega arith
 
+-- an index passes the test for itself
 self : (f i : ℕ) → ((f == f) && (i == i)) ≡ true
 self f i = grind (arith, nat_tests)
 
+-- a call that claims an index needs one at least
 one_claim : (g : Geometry) (s : State) (c : Option Call) (f i : ℕ) (b : Bool) → f < g.files → i < g.limit
     → (b ≡ true → claim s.reserved c f i ≡ true) → bit b ≤ need g s c
 one_claim g s c f i false l m e = omega arith
@@ -69,6 +72,7 @@ one_claim g s c f i true l m e =
     let d : bit (claim s.reserved c f i) ≡ 1 = ap bit (e refl) in
     omega arith
 
+-- a truncation that claims a tail needs as many as are reserved there
 tail_needs : (g : Geometry) (s : State) (c : Option Call) (f from n : ℕ) → f < g.files → n ≤ count_within (s.reserved f) from g.limit
     → ((j : ℕ) → claim s.reserved c f j ≡ ((f == f) && (nat_le from j && s.reserved f j))) → n ≤ need g s c
 unfolding count_within
@@ -86,6 +90,7 @@ tail_needs g s c f from n l m e =
     drop_same true = grind (arith, nat_tests)
     drop_same false = grind (arith, nat_tests)
 
+-- an index under a test is there where the test holds
 when : (b : Bool) (f i : ℕ) → b ≡ true → is_there (only_if b (f, i)) f i ≡ true
 when true f i e = self f i
 when false f i e = (let d : false ≡ true = e in cc)
@@ -94,47 +99,47 @@ when false f i e = (let d : false ≡ true = e in cc)
 less_needs : (g : Geometry) (s : State) (t : ℕ) (c : Option Call) → Stands g s t c → less c ≤ need g s c
 less_needs g s t (Some (call.Touch (touch.Taken p))) h =
     one_claim g s (Some (call.Touch (touch.Taken p))) p.touch.file p.touch.index (p.pending.missing == 0)
-    h.facts.aim.1 h.facts.aim.2 (λ d. when (p.pending.missing == 0) p.touch.file p.touch.index d)
+    h.facts.aim.file h.facts.aim.index (λ d. when (p.pending.missing == 0) p.touch.file p.touch.index d)
 less_needs g s t (Some (call.Touch (touch.Committed p))) h =
-    one_claim g s (Some (call.Touch (touch.Committed p))) p.touch.file p.touch.index true h.facts.aim.1 h.facts.aim.2
+    one_claim g s (Some (call.Touch (touch.Committed p))) p.touch.file p.touch.index true h.facts.aim.file h.facts.aim.index
     (λ d. self p.touch.file p.touch.index)
 less_needs g s t (Some (call.Touch (touch.Restore p))) h =
-    one_claim g s (Some (call.Touch (touch.Restore p))) p.touch.file p.touch.index true h.facts.aim.1 h.facts.aim.2
+    one_claim g s (Some (call.Touch (touch.Restore p))) p.touch.file p.touch.index true h.facts.aim.file h.facts.aim.index
     (λ d. self p.touch.file p.touch.index)
 less_needs g s t (Some (call.Alloc (alloc.Taken p))) h =
     one_claim g s (Some (call.Alloc (alloc.Taken p))) p.allocation.file p.index (p.pending.missing == 0)
-    h.facts.range.0 (let a = h.facts.range.2 in let b = h.facts.range.3 in omega arith)
+    h.facts.aim.file (below_limit g _ h.facts.aim)
     (λ d. when (p.pending.missing == 0) p.allocation.file p.index d)
 less_needs g s t (Some (call.Alloc (alloc.Committed p))) h =
-    one_claim g s (Some (call.Alloc (alloc.Committed p))) p.allocation.file p.index true h.facts.range.0
-    (let a = h.facts.range.2 in let b = h.facts.range.3 in omega arith) (λ d. self p.allocation.file p.index)
+    one_claim g s (Some (call.Alloc (alloc.Committed p))) p.allocation.file p.index true h.facts.aim.file
+    (below_limit g _ h.facts.aim) (λ d. self p.allocation.file p.index)
 less_needs g s t (Some (call.Alloc (alloc.Restore p))) h =
-    one_claim g s (Some (call.Alloc (alloc.Restore p))) p.allocation.file p.index true h.facts.range.0
-    (let a = h.facts.range.2 in let b = h.facts.range.3 in omega arith) (λ d. self p.allocation.file p.index)
+    one_claim g s (Some (call.Alloc (alloc.Restore p))) p.allocation.file p.index true h.facts.aim.file
+    (below_limit g _ h.facts.aim) (λ d. self p.allocation.file p.index)
 less_needs g s t (Some (call.Punch (punch.Delete p))) h =
-    one_claim g s (Some (call.Punch (punch.Delete p))) p.hole.file p.index true h.facts.range.0
-    (let a = h.facts.range.2 in let b = h.facts.range.3 in omega arith) (λ d. self p.hole.file p.index)
+    one_claim g s (Some (call.Punch (punch.Delete p))) p.hole.file p.index true h.facts.aim.file
+    (below_limit g _ h.facts.aim) (λ d. self p.hole.file p.index)
 less_needs g s t (Some (call.Punch (punch.Free p))) h =
-    one_claim g s (Some (call.Punch (punch.Free p))) p.hole.file p.index p.denied h.facts.range.0
-    (let a = h.facts.range.2 in let b = h.facts.range.3 in omega arith) (λ d. when p.denied p.hole.file p.index d)
+    one_claim g s (Some (call.Punch (punch.Free p))) p.hole.file p.index p.denied h.facts.aim.file
+    (below_limit g _ h.facts.aim) (λ d. when p.denied p.hole.file p.index d)
 less_needs g s t (Some (call.Truncate (truncate.Want p))) h =
-    tail_needs g s (Some (call.Truncate (truncate.Want p))) p.truncation.file (p.index + 1) p.evicted h.facts.file
-    h.facts.lost (λ j. refl)
+    tail_needs g s (Some (call.Truncate (truncate.Want p))) p.truncation.file (p.index + 1) p.evicted h.facts.aim.file
+    h.facts.aim.lost (λ j. refl)
 less_needs g s t (Some (call.Truncate (truncate.Locked p))) h =
-    tail_needs g s (Some (call.Truncate (truncate.Locked p))) p.truncation.file (p.index + 1) p.evicted h.facts.file
-    h.facts.lost (λ j. refl)
+    tail_needs g s (Some (call.Truncate (truncate.Locked p))) p.truncation.file (p.index + 1) p.evicted h.facts.aim.file
+    h.facts.aim.lost (λ j. refl)
 less_needs g s t (Some (call.Truncate (truncate.Unmap p))) h =
-    tail_needs g s (Some (call.Truncate (truncate.Unmap p))) p.truncation.file (p.index + 1) p.evicted h.facts.file
-    h.facts.lost (λ j. refl)
+    tail_needs g s (Some (call.Truncate (truncate.Unmap p))) p.truncation.file (p.index + 1) p.evicted h.facts.aim.file
+    h.facts.aim.lost (λ j. refl)
 less_needs g s t (Some (call.Truncate (truncate.Evict p))) h =
-    tail_needs g s (Some (call.Truncate (truncate.Evict p))) p.truncation.file (p.index + 1) p.evicted h.facts.file
-    h.facts.lost (λ j. refl)
+    tail_needs g s (Some (call.Truncate (truncate.Evict p))) p.truncation.file (p.index + 1) p.evicted h.facts.aim.file
+    h.facts.aim.lost (λ j. refl)
 less_needs g s t (Some (call.Truncate (truncate.Free p))) h =
-    tail_needs g s (Some (call.Truncate (truncate.Free p))) p.truncation.file (p.index) p.evicted h.facts.file
-    h.facts.lost (λ j. refl)
+    tail_needs g s (Some (call.Truncate (truncate.Free p))) p.truncation.file (p.index) p.evicted h.facts.aim.file
+    h.facts.aim.lost (λ j. refl)
 less_needs g s t (Some (call.Truncate (truncate.Unslot p))) h =
-    tail_needs g s (Some (call.Truncate (truncate.Unslot p))) p.truncation.file (p.index) p.evicted h.facts.file
-    h.facts.lost (λ j. refl)
+    tail_needs g s (Some (call.Truncate (truncate.Unslot p))) p.truncation.file (p.index) p.evicted h.facts.aim.file
+    h.facts.aim.lost (λ j. refl)
 less_needs g s t (Some (call.Truncate (truncate.Tail p))) h =
     tail_needs g s (Some (call.Truncate (truncate.Tail p))) p.truncation.file (p.truncation.new) p.evicted
     h.facts.file h.facts.lost (λ j. refl)
@@ -162,32 +167,34 @@ enough g s t c h l e =
     let w : s.resv + total n (λ u. less (s.calls u)) ≡ vacant_of g s.reserved s.pages + total n (λ u. more (s.calls u)) = h.count in
     omega arith
 
+-- a number that is 0 passes the test for it
 is_zero : (m : ℕ) → m ≡ 0 → (m == 0) ≡ true
 is_zero m e = grind (arith, nat_tests)
 
+-- so the count has what a call's next step takes from it, in each phase that lowers it
 pub can_settle : (g : Geometry) (s : State) (t : ℕ) (c : Option Call) → Inv g s → t < g.tasks + 1 → s.calls t ≡ c → Stands g s t c
     → CanSettle s c
 can_settle g s t (Some (call.Touch (touch.Changed p))) k l e h =
     λ z. let o : 1 ≤ need g s (Some (call.Touch (touch.Changed p))) = one_claim g s
-    (Some (call.Touch (touch.Changed p))) p.touch.file p.touch.index true h.facts.aim.1 h.facts.aim.2
+    (Some (call.Touch (touch.Changed p))) p.touch.file p.touch.index true h.facts.aim.file h.facts.aim.index
     (λ d. when (p.pending.missing == 0) p.touch.file p.touch.index (is_zero p.pending.missing z)) in
     let q = enough g s t _ k l e in omega arith
 can_settle g s t (Some (call.Touch (touch.Settle p))) k l e h =
     let o : 1 ≤ need g s (Some (call.Touch (touch.Settle p))) =
-    one_claim g s (Some (call.Touch (touch.Settle p))) p.touch.file p.touch.index true h.facts.aim.1 h.facts.aim.2
+    one_claim g s (Some (call.Touch (touch.Settle p))) p.touch.file p.touch.index true h.facts.aim.file h.facts.aim.index
     (λ d. self p.touch.file p.touch.index) in
     let q = enough g s t _ k l e in
     omega arith
 can_settle g s t (Some (call.Alloc (alloc.Changed p))) k l e h =
     λ z. let o : 1 ≤ need g s (Some (call.Alloc (alloc.Changed p))) = one_claim g s
-    (Some (call.Alloc (alloc.Changed p))) p.allocation.file p.index true h.facts.range.0
-    (let a = h.facts.range.2 in let b = h.facts.range.3 in omega arith)
+    (Some (call.Alloc (alloc.Changed p))) p.allocation.file p.index true h.facts.aim.file
+    (below_limit g _ h.facts.aim)
     (λ d. when (p.pending.missing == 0) p.allocation.file p.index (is_zero p.pending.missing z)) in
     let q = enough g s t _ k l e in omega arith
 can_settle g s t (Some (call.Alloc (alloc.Settle p))) k l e h =
     let o : 1 ≤ need g s (Some (call.Alloc (alloc.Settle p))) =
-    one_claim g s (Some (call.Alloc (alloc.Settle p))) p.allocation.file p.index true h.facts.range.0
-    (let a = h.facts.range.2 in let b = h.facts.range.3 in omega arith) (λ d. self p.allocation.file p.index) in
+    one_claim g s (Some (call.Alloc (alloc.Settle p))) p.allocation.file p.index true h.facts.aim.file
+    (below_limit g _ h.facts.aim) (λ d. self p.allocation.file p.index) in
     let q = enough g s t _ k l e in
     omega arith
 can_settle g s t (Some (call.Map (map.Settle p))) k l e h = let q = enough g s t _ k l e in omega arith

@@ -11,11 +11,12 @@ use Rattle.hp_machine.specs.State.{Geometry, State, slot_of}
 use Rattle.hp_machine.specs.Views.{less, more, hand, change_in, locked_file, slot_held}
 use Rattle.hp_machine.specs.declared.call.Call.{Call}
 use Rattle.hp_laws.specs.Sweep.{fills, ahead, passed, gone}
+use Rattle.hp_laws.proofs.Deciding.{some_same}
 use Rattle.hp_laws.proofs.Standing.{HasSlot, HasLock, Stands}
-use Rattle.hp_laws.proofs.Staying.{stands_after}
+use Rattle.hp_laws.proofs.Staying.{same_tables, stands_after}
 use Rattle.hp_laws.proofs.Invariant.{Reached, Swept, Holders, Inv, goes_on, put_known, vacant_of, place_same, same_opens, holds}
 use Rattle.hp_laws.proofs.Invariant.{to, if_weaker}
-use Rattle.hp_laws.proofs.Holding.{some_same, left_holders, left_stands}
+use Rattle.hp_laws.proofs.Holding.{left_holders, left_stands}
 use Rattle.hp_laws.proofs.Passing.{locks_file, holds_slot, fills_slot, passed_locked, reached_not_passed, same_holder}
 
 -- what was reached, by who sees to it
@@ -29,10 +30,12 @@ reach_cases s t b f j P e r low other own = elim r [
   ]
 ]
 
+-- after a call goes on, another call is ahead of an index as before
 new_other : (calls : ℕ → Option Call) (t u : ℕ) (c : Option Call) (size : ℕ → ℕ) (f j : ℕ) → u ≢ t → ahead (calls u) f j ≡ true
     → Reached size (put (λ (w : ℕ). ahead (calls w)) t (ahead c)) f j
 new_other calls t u c size f j d p = inr (u, ap (λ (m : ℕ → ℕ → Bool). m f j) (put_other (λ (w : ℕ). ahead (calls w)) t (ahead c) u d) ∙ p)
 
+-- and the one that went on is where it now stands
 new_own : (calls : ℕ → Option Call) (t : ℕ) (c : Option Call) (size : ℕ → ℕ) (f j : ℕ) → ahead c f j ≡ true
     → Reached size (put (λ (w : ℕ). ahead (calls w)) t (ahead c)) f j
 new_own calls t c size f j p = inr (t, ap (λ (m : ℕ → ℕ → Bool). m f j) (put_same (λ (w : ℕ). ahead (calls w)) t (ahead c)) ∙ p)
@@ -62,6 +65,7 @@ same_holders g s t b c h e same =
 other_file : (g : Geometry) (s : State) (t u k f : ℕ) → Inv g s → HasLock s t f → u ≢ t → locked_file (s.calls u) ≡ Some k → k ≢ f
 other_file g s t u k f h held d e = λ q. d (same_holder u t (s.locks f) (ap s.locks (sym q) ∙ locks_file g s u k h e) held)
 
+-- a lock that another task holds is that of another file
 other_lock : (s : State) (t u k f : ℕ) → HasLock s t f → u ≢ t → s.locks k ≡ Some u → k ≢ f
 other_lock s t u k f held d e = λ q. d (same_holder u t (s.locks f) (ap s.locks (sym q) ∙ e) held)
 
@@ -77,10 +81,8 @@ pub cuts : (g : Geometry) (s : State) (t : ℕ) (b c : Option Call) (f new top :
     → Inv g (to (record s { pool = record s.pool { size = put s.size f new } }) t c)
 cuts g s t b c f new top h l e same_held same_hand same_change balance held low size_low bare none_ahead covers passes
     no_fill none_gone own = goes_on g s n t b c h l e (record {
-      geometry = h.geometry;
+      areas = h.areas;
       entries = h.entries;
-      ranges = h.ranges;
-      spread = h.spread;
       inside = h.inside;
       spares = h.spares;
       enough = h.enough;
@@ -118,13 +120,12 @@ cuts g s t b c f new top h l e same_held same_hand same_change balance held low 
           λ u d. stands_after g s n u (s.calls u)
           (record {
             slot = λ k a. a;
-            page = λ k j a. refl;
-            mark = λ k j a w r. r;
-            translated = λ k j a w v y p q. (y, p, q);
-            lock = λ k a. (a, put_other s.size f new k (other_lock s t u k f held d a), λ j r. r);
-            mappings = refl;
-            ready = refl;
-            entries = λ v y p. (y, p);
+            files = record {
+              page = λ k j a. refl;
+              mark = λ k j a w r. r;
+              lock = λ k a. (a, put_other s.size f new k (other_lock s t u k f held d a), λ j r. r);
+            };
+            tables = same_tables;
           }) (h.stands u);
       own = own;
     })
@@ -155,10 +156,8 @@ pub passes : (g : Geometry) (s : State) (t : ℕ) (b c : Option Call) (f i new :
     → Inv g (to (record s { pool = record s.pool { slots = put s.slots (slot_of g f i) None } }) t c)
 passes g s t b c f i new h l e same_lock some none same_hand same_change balance no_b no_c held bare sized aheads
     passing none_gone own = goes_on g s n t b c h l e (record {
-      geometry = h.geometry;
+      areas = h.areas;
       entries = h.entries;
-      ranges = h.ranges;
-      spread = h.spread;
       inside = h.inside;
       sizes = h.sizes;
       spares = h.spares;
@@ -225,6 +224,7 @@ passes g s t b c f i new h l e same_lock some none same_hand same_change balance
         let q : ◌≡◌ {A = Option (ℕ × ℕ)} None (Some k) = sym no_b ∙ (ap fills (sym e) ∙ (ap (λ (m : ℕ). fills (s.calls m)) (sym d) ∙ p)) in
         absurd (cc)
 
+-- what holds after, where it can only have been lost, held before
 was_true : (b c : Bool) → (b ≡ false → c ≡ false) → c ≡ true → b ≡ true
 was_true true c h e = refl
 was_true false c h e = (let z : false ≡ true = sym (h refl) ∙ e in absurd (cc))
@@ -239,10 +239,8 @@ pub cuts_tail : (g : Geometry) (s : State) (t : ℕ) (b c : Option Call) (f new 
     → Inv g (to (record s { pool = record s.pool { reserved = put s.reserved f (cut_tail (s.reserved f) new) } }) t c)
 cuts_tail g s t b c f new h l e in_files same_ahead same_passed goners same_held same_hand same_change no_fill balance
     held passing own = goes_on g s n t b c h l e (record {
-      geometry = h.geometry;
+      areas = h.areas;
       entries = h.entries;
-      ranges = h.ranges;
-      spread = h.spread;
       sizes = h.sizes;
       spares = h.spares;
       enough = h.enough;
@@ -287,18 +285,17 @@ cuts_tail g s t b c f new h l e in_files same_ahead same_passed goners same_held
           λ u d. stands_after g s n u (s.calls u)
           (record {
             slot = λ k a. a;
-            page = λ k j a. refl;
-            mark = λ k j a w r. kept u d k j w r;
-            translated = λ k j a w v y p q. (y, p, q);
-            lock = λ k a. (
-              a,
-              refl,
-              λ j r. ap (λ (m : ℕ → Bool). m j)
-                  (put_other s.reserved f (cut_tail (s.reserved f) new) k (other_lock s t u k f held d a)) ∙ r,
-            );
-            mappings = refl;
-            ready = refl;
-            entries = λ v y p. (y, p);
+            files = record {
+              page = λ k j a. refl;
+              mark = λ k j a w r. kept u d k j w r;
+              lock = λ k a. (
+                a,
+                refl,
+                λ j r. ap (λ (m : ℕ → Bool). m j)
+                    (put_other s.reserved f (cut_tail (s.reserved f) new) k (other_lock s t u k f held d a)) ∙ r,
+              );
+            };
+            tables = same_tables;
           }) (h.stands u);
       own = own;
     })

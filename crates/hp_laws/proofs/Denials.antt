@@ -44,13 +44,15 @@ use Rattle.hp_machine.specs.declared.call.Call.TheVariants as call
 use Rattle.hp_machine.specs.declared.call.Turn.{Turn}
 use Rattle.hp_machine.specs.declared.call.Turn.TheVariants.{Moved}
 use Rattle.hp_machine.specs.declared.outcome.Outcome.{Outcome}
-use Rattle.hp_laws.proofs.Holding.{some_same}
+use Rattle.hp_laws.proofs.Deciding.{clash, some_same}
 use Rattle.hp_laws.proofs.Reading.{step_of}
 use Rattle.hp_laws.proofs.Shared.{by_test}
 
+-- a statement is equivalent to itself
 alike : {A : Type 0} → A ↔ A
 alike = (λ a. a, λ a. a)
 
+-- with a spare descriptor left a denied change is a granted one
 change_same : {P : Type 0} (s : Pool) (f from to : ℕ) (denied : P) (changed : Change → P) (turn : Turn P) (new : Pool)
     → ¬ (s.spare f ≡ s.pending f)
     → ChangeRow s false f from to denied changed turn new ↔ ChangeRow s true f from to denied changed turn new
@@ -58,9 +60,11 @@ change_same s f from to denied changed turn new unwanted =
     let q : (s.spare f == s.pending f) ≡ false = ne_eqb (s.spare f) (s.pending f) unwanted in
     rw q alike
 
+-- an index that isn't below the size is at or above it, as the row's test says
 at_or_above : (i n : ℕ) → ¬ (i < n) → nat_le n i ≡ true
 at_or_above i n unwanted = grind (arith, nat_tests, unwanted)
 
+-- a touch's row that wants no growth is the same denied and granted
 touch_same : (s : Pool) (t : ℕ) (killed : Bool) (p : TouchPhase) (turn : Turn TouchPhase) (new : Pool) → ¬ touch_wants s p
     → TouchRow s t killed false p turn new ↔ TouchRow s t killed true p turn new
 touch_same s t killed (touch.Missing p) turn new unwanted =
@@ -77,6 +81,7 @@ by_room : {A : Type 0} {B C : ℕ → Type 0} (I : Option ℕ → Type 0) → ((
 by_room I unwanted (None, is, row) = (None, is, row)
 by_room I unwanted (Some base, is, row) = absurd (unwanted base is)
 
+-- so is a map's
 map_same : (s : Pool) (t : ℕ) (killed : Bool) (p : MapPhase) (turn : Turn MapPhase) (new : Pool) → ¬ map_wants s t p
     → MapRow s t killed false p turn new ↔ MapRow s t killed true p turn new
 map_same s t killed (map.Room p) turn new unwanted =
@@ -88,6 +93,7 @@ map_same s t killed (map.Missing p) turn new unwanted =
     (λ change. map.Changed (record { map = p.map; base = p.base; pending = change })) turn new unwanted
 map_same s t killed p turn new unwanted = alike
 
+-- so is an allocation's
 alloc_same : (s : Pool) (t : ℕ) (killed : Bool) (p : AllocPhase) (turn : Turn AllocPhase) (new : Pool) → ¬ alloc_wants s p
     → AllocRow s t killed false p turn new ↔ AllocRow s t killed true p turn new
 alloc_same s t killed (alloc.Missing p) turn new unwanted =
@@ -97,16 +103,19 @@ alloc_same s t killed (alloc.Missing p) turn new unwanted =
 alloc_same s t killed (alloc.Committed p) turn new unwanted = absurd (unwanted tt)
 alloc_same s t killed p turn new unwanted = alike
 
+-- where the tests don't both hold nothing is denied
 not_both : (a b grant : Bool) → ¬ ((a ≡ true) × (b ≡ true)) → (a && b && grant) ≡ false
 not_both false b grant unwanted = refl
 not_both true false grant unwanted = refl
 not_both true true grant unwanted = absurd (unwanted (refl, refl))
 
+-- two tests that both fail choose the same case
 match_off : (P Q : Type 0) (x y : Bool) → x ≡ false → y ≡ false → MatchBool x P Q ↔ MatchBool y P Q
 match_off P Q true y e d = absurd (cc)
 match_off P Q false true e d = absurd (cc)
 match_off P Q false false e d = alike
 
+-- a punch's row that wants no growth is the same denied and granted
 punch_same : (s : Pool) (t : ℕ) (killed : Bool) (p : PunchPhase) (turn : Turn PunchPhase) (new : Pool) → ¬ punch_wants s p
     → PunchRow s t killed false p turn new ↔ PunchRow s t killed true p turn new
 punch_same s t killed (punch.Delete p) turn new unwanted =
@@ -117,25 +126,30 @@ punch_same s t killed (punch.Delete p) turn new unwanted =
     match_off _ _ (a && b && not false) (a && b && not true) (not_both a b true off) (not_both a b false off)
 punch_same s t killed p turn new unwanted = alike
 
+-- the rows of truncations, unmaps and exits never look at the grant: first of truncations
 truncate_same : (s : Pool) (t : ℕ) (killed : Bool) (p : TruncatePhase) (turn : Turn TruncatePhase) (new : Pool)
     → TruncateRow s t killed false p turn new ↔ TruncateRow s t killed true p turn new
 truncate_same s t killed (truncate.Start p) turn new = alike
 truncate_same s t killed p turn new = alike
 
+-- of unmaps
 unmap_same : (s : Pool) (t : ℕ) (killed : Bool) (p : UnmapPhase) (turn : Turn UnmapPhase) (new : Pool)
     → UnmapRow s t killed false p turn new ↔ UnmapRow s t killed true p turn new
 unmap_same s t killed (unmap.Start p) turn new = alike
 unmap_same s t killed p turn new = alike
 
+-- and of exits
 exit_same : (s : Pool) (t : ℕ) (killed : Bool) (p : ExitPhase) (turn : Turn ExitPhase) (new : Pool)
     → ExitRow s t killed false p turn new ↔ ExitRow s t killed true p turn new
 exit_same s t killed exit.Start turn new = alike
 exit_same s t killed p turn new = alike
 
+-- rows that are equivalent by turn are so as steps of the call
 turn_same : {P : Type 0} (call : P → Call) (R Q : Turn P → Pool → Type 0) (o : Outcome) (new : Pool) (next : Option Call)
     → ((turn : Turn P) → R turn new ↔ Q turn new) → TurnRow call R o new next ↔ TurnRow call Q o new next
 turn_same call R Q o new next same = (λ r. (r.0, (same r.0).0 r.1, r.2, r.3), λ r. (r.0, (same r.0).1 r.1, r.2, r.3))
 
+-- so of each call that wants no growth
 call_same : (s : Pool) (t : ℕ) (killed : Bool) (c : Call) (o : Outcome) (new : Pool) (next : Option Call) → ¬ Wants s t c
     → CallRow s t killed false c o new next ↔ CallRow s t killed true c o new next
 unfolding CallRow
@@ -161,10 +175,12 @@ call_same s t killed (call.Exit p) o new next unwanted =
     turn_same call.Exit (ExitRow s t killed false p) (ExitRow s t killed true p) o new next
     (λ turn. exit_same s t killed p turn new)
 
+-- the same said of the task's call in flight
 in_call : (R Q : Call → Type 0) (I : Type 0) (m : Option Call) (c : Call) → m ≡ Some c → R c ↔ Q c → MatchOption m I R ↔ MatchOption m I Q
 in_call R Q I None c is same = (let d : ◌≡◌ {A = Option Call} None (Some c) = is in absurd (cc))
 in_call R Q I (Some b) c is same = subst (λ (z : Call). R z ↔ Q z) (sym (some_same is)) same
 
+-- and of a task that isn't dead
 in_life : (I P Q : Type 0) (dead : Bool) → P ↔ Q → MatchBool dead I P ↔ MatchBool dead I Q
 in_life I P Q true same = alike
 in_life I P Q false same = same
@@ -192,13 +208,12 @@ Parted {P} R Q =
     (turn others : Turn P) (new news : Pool) → R turn new → Q others news
     → (q : P) × (other : P) × (turn ≡ Moved q) × (others ≡ Moved other) × (q ≢ other)
 
-clash : (b : Bool) → b ≡ true → b ≡ false → ⊥
-clash b e d = (let z : true ≡ false = sym e ∙ d in absurd (cc))
-
+-- a conjunction with false fails
 never : (b : Bool) → (b && false) ≡ false
 never true = refl
 never false = refl
 
+-- without a spare descriptor a denied change and a granted one move to different phases
 change_other : {P : Type 0} (s : Pool) (f from to : ℕ) (denied : P) (changed : Change → P) → s.spare f ≡ s.pending f
     → ((change : Change) → denied ≢ changed change)
     → Parted (ChangeRow s false f from to denied changed) (ChangeRow s true f from to denied changed)
@@ -210,6 +225,7 @@ change_other s f from to denied changed e apart = λ turn others new news r q.
     (λ _ b. (denied, changed _, a.0, b.0, apart _)))
     (λ off _. absurd (clash (same && true) (ap (λ (b : Bool). b && true) (eq-eqb (s.spare f) (s.pending f) e)) off))
 
+-- an index below the size fails the test for at or above it
 below_size : (i n : ℕ) → i < n → nat_le n i ≡ false
 below_size i n l = grind (arith, nat_tests, l)
 
@@ -218,6 +234,7 @@ abbrev answer_at : TouchPhase → Answer
 answer_at (touch.Leave p) = p.answer
 answer_at p = answer.Done
 
+-- where a touch's row wants growth, denied and granted part
 touch_other : (s : Pool) (t : ℕ) (killed : Bool) (p : TouchPhase) → touch_wants s p
     → Parted (TouchRow s t killed false p) (TouchRow s t killed true p)
 touch_other s t killed (touch.Missing p) wants =
@@ -243,10 +260,12 @@ touch_other s t killed (touch.Found p) wants = λ turn others new news r q.
     told (Store new) word e = (let d : answer.NoMemory ≡ answer.Done = ap answer_at e in absurd (cc))
 touch_other s t killed p wants = absurd wants
 
+-- room can't be both there and not there
 none_fits : (space len : ℕ) (mappings : List Mapping) → IsRoom space mappings len None
     → (base : ℕ) × IsRoom space mappings len (Some base) → ⊥
 none_fits space len mappings none some = clash (fits space mappings some.0 len) some.1.0 (none some.0)
 
+-- where a map's row wants growth, denied and granted part
 map_other : (s : Pool) (t : ℕ) (killed : Bool) (p : MapPhase) → map_wants s t p
     → Parted (MapRow s t killed false p) (MapRow s t killed true p)
 map_other s t killed (map.Room p) wants = λ turn others new news r q. by_found r q
@@ -263,6 +282,7 @@ map_other s t killed (map.Missing p) wants =
     (λ change. map.Changed (record { map = p.map; base = p.base; pending = change })) wants (λ change e. cc)
 map_other s t killed p wants = absurd wants
 
+-- so with an allocation's
 alloc_other : (s : Pool) (t : ℕ) (killed : Bool) (p : AllocPhase) → alloc_wants s p
     → Parted (AllocRow s t killed false p) (AllocRow s t killed true p)
 alloc_other s t killed (alloc.Missing p) wants =
@@ -272,11 +292,13 @@ alloc_other s t killed (alloc.Missing p) wants =
 alloc_other s t killed (alloc.Committed p) wants = λ turn others new news r q. (_, _, r.0, q.0, λ e. cc)
 alloc_other s t killed p wants = absurd wants
 
+-- where both tests hold a delete that isn't granted is denied
 both : (a b : Bool) → a ≡ true → b ≡ true → (a && b && true) ≡ true
 both true true e d = refl
 both true false e d = absurd (cc)
 both false b e d = absurd (cc)
 
+-- and a granted one never is
 never_both : (a b : Bool) → (a && b && false) ≡ false
 never_both true b = never b
 never_both false b = refl
@@ -286,6 +308,7 @@ abbrev is_denied : PunchPhase → Bool
 is_denied (punch.Free p) = p.denied
 is_denied p = true
 
+-- where a punch's delete wants growth, denied and granted part by what they carry on
 punch_other : (s : Pool) (t : ℕ) (killed : Bool) (p : PunchPhase) → punch_wants s p
     → Parted (PunchRow s t killed false p) (PunchRow s t killed true p)
 punch_other s t killed (punch.Delete p) wants = λ turn others new news r q.
@@ -299,6 +322,7 @@ punch_other s t killed (punch.Delete p) wants = λ turn others new news r q.
     (λ off _. absurd (clash (a && b && true) (both a b wants.0 (le-leb (s.spare f) (s.pending f) wants.1)) off))
 punch_other s t killed p wants = absurd wants
 
+-- turns to different phases leave different calls
 turn_other : {P : Type 0} (call : P → Call) (R Q : Turn P → Pool → Type 0) (o told : Outcome) (new news : Pool) (next nexts : Option Call)
     → ((a b : P) → call a ≡ call b → a ≡ b) → Parted R Q → TurnRow call R o new next → TurnRow call Q told news nexts
     → next ≢ nexts
@@ -306,6 +330,7 @@ turn_other call R Q o told new news next nexts one parted r q = λ same.
     let w = parted r.0 q.0 new news r.1 q.1 in
     w.4 (one w.0 w.1 (some_same (sym (r.3 ∙ ap (left call) w.2) ∙ (same ∙ (q.3 ∙ ap (left call) w.3)))))
 
+-- so each call that wants growth is left at another place by a denied step
 call_other : (s : Pool) (t : ℕ) (killed : Bool) (c : Call) (o told : Outcome) (new news : Pool) (next nexts : Option Call)
     → Wants s t c → CallRow s t killed false c o new next → CallRow s t killed true c told news nexts → next ≢ nexts
 unfolding CallRow

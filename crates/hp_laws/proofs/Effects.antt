@@ -27,11 +27,11 @@ use Rattle.hp_machine.specs.declared.exit.ExitPhase.TheVariants as exit
 use Rattle.hp_machine.specs.declared.call.Call.{Call}
 use Rattle.hp_machine.specs.declared.call.Call.TheVariants as call
 use Rattle.hp_laws.specs.Sweep.{fills, ahead, passed, gone}
+use Rattle.hp_laws.proofs.Deciding.{some_same}
 use Rattle.hp_laws.proofs.Moves.{Placing, takes_frame, gives_frame, places_frame, writes_frame}
 use Rattle.hp_laws.proofs.Standing.{HasSlot, Stands}
-use Rattle.hp_laws.proofs.Staying.{stands_after}
+use Rattle.hp_laws.proofs.Staying.{same_tables, stands_after}
 use Rattle.hp_laws.proofs.Invariant.{Reached, Inv, goes, vacant_of, sum_of, place_same, same_opens, sweeps, holds, to}
-use Rattle.hp_laws.proofs.Holding.{some_same}
 
 -- the number of free frames, where one changes
 pub free_change : (f : ℕ → FrameState) (x n : ℕ) (v : FrameState) → x < n
@@ -42,6 +42,7 @@ free_change f x n v l =
     let b : bit (is_free (put f x v x)) ≡ bit (is_free v) = ap (λ (m : FrameState). bit (is_free m)) (put_same f x v) in
     omega arith
 
+-- a frame that stays free, or stays in use, leaves the number of free frames
 pub free_same : (f : ℕ → FrameState) (x n : ℕ) (v : FrameState) → is_free v ≡ is_free (f x) → free_frames (put f x v) n ≡ free_frames f n
 unfolding free_frames
 free_same f x n v e = count_below-ext (λ j. is_free (put f x v j)) (λ j. is_free (f j)) n (λ j l. elim (same_or_other j x) [
@@ -54,11 +55,9 @@ pub touches_word : (g : Geometry) (s : State) (access : Access) (x word : ℕ) �
     → Inv g (record s { pool = record s.pool { frame = frame_after access s.frame x } })
 touches_word g s Load x word h e = h
 touches_word g s (Store new) x word h e = record {
-  geometry = h.geometry;
+  areas = h.areas;
   count = h.count;
   entries = h.entries;
-  ranges = h.ranges;
-  spread = h.spread;
   inside = h.inside;
   sweep = h.sweep;
   reach = h.reach;
@@ -81,10 +80,8 @@ pub rebalances : (g : Geometry) (s : State) (t : ℕ) (b c : Option Call) (r : �
     → Inv g (to (record s { pool = record s.pool { resv = r } }) t c)
 rebalances g s t b c r h l e same same_held same_hand same_change balance enough fill own =
     goes g s (record s { pool = record s.pool { resv = r } }) t b c h l e same same_held (record {
-      geometry = h.geometry;
+      areas = h.areas;
       entries = h.entries;
-      ranges = h.ranges;
-      spread = h.spread;
       inside = h.inside;
       sweep = h.sweep;
       reach = h.reach;
@@ -100,9 +97,11 @@ rebalances g s t b c r h l e same same_held same_hand same_change balance enough
       own = own;
     })
 
+-- a call without an open change is counted for no file
 opens_none : (c : Option Call) (k : ℕ) → change_in c ≡ None → opens k c ≡ 0
 opens_none c k e = ap (λ (o : Option ℕ). elim o [ None ↦ 0 | Some j ↦ bit (j == k) ]) e
 
+-- a call with one is counted for its file alone
 opens_some : (c : Option Call) (f k : ℕ) → change_in c ≡ Some f → opens k c ≡ bit (f == k)
 opens_some c f k e = ap (λ (o : Option ℕ). elim o [ None ↦ 0 | Some j ↦ bit (j == k) ]) e
 
@@ -124,10 +123,8 @@ opened g s t b c f h l e same same_held same_hand none some balance fill own =
         spare = put s.spare f (max (s.spare f) (s.pending f + 1));
       };
     }) t b c h l e same same_held (record {
-      geometry = h.geometry;
+      areas = h.areas;
       entries = h.entries;
-      ranges = h.ranges;
-      spread = h.spread;
       inside = h.inside;
       sweep = h.sweep;
       reach = h.reach;
@@ -169,6 +166,7 @@ has_pending g s t b f h l e some =
     same : (k : ℕ) → (k == k) ≡ true
     same k = grind (arith, nat_tests)
 
+-- a count that goes down by one at a file loses what one call adds there
 lowered : (p : ℕ → ℕ) (f k m n : ℕ) → 1 ≤ p f → m ≡ bit (f == k) → n ≡ 0 → put p f (p f - 1) k + m ≡ p k + n
 lowered p f k m n l x y = grind (arith, nat_tests, put_tells)
 
@@ -181,10 +179,8 @@ pub closed : (g : Geometry) (s : State) (t : ℕ) (b c : Option Call) (f : ℕ) 
 closed g s t b c f h l e same same_held same_hand some none balance fill own =
     goes g s (record s { pool = record s.pool { pending = put s.pending f (s.pending f - 1) } }) t b c h l e same
     same_held (record {
-      geometry = h.geometry;
+      areas = h.areas;
       entries = h.entries;
-      ranges = h.ranges;
-      spread = h.spread;
       inside = h.inside;
       sweep = h.sweep;
       reach = h.reach;
@@ -205,6 +201,7 @@ closed g s t b c f h l e same same_held same_hand some none balance fill own =
     less_pending : (p q : ℕ → ℕ) (f k : ℕ) → p k ≤ q k → put p f (p f - 1) k ≤ q k
     less_pending p q f k l = grind (arith, put_tells)
 
+-- adding a range to a file's reserved indices takes none out
 pub grown_keeps : (r : ℕ → ℕ → Bool) (f from to k j : ℕ) → r k j ≡ true → put r f (add_range (r f) from to) k j ≡ true
 grown_keeps r f from to k j a = elim (same_or_other k f) [
   | inl d ↦ ap (λ (m : ℕ). put r f (add_range (r f) from to) m j) d
@@ -223,6 +220,7 @@ still_gone r f from to k j h a = elim (same_or_other k f) [
   | inr d ↦ ap (λ (m : ℕ → Bool). m j) (put_other r f (add_range (r f) from to) k d) ∙ a
 ]
 
+-- an index of a range lies below any limit that the range keeps to
 low_index : (from to j limit : ℕ) → to ≤ limit → is_within from to j ≡ true → j < limit
 low_index from to j limit l e = grind (arith, nat_tests)
 
@@ -256,6 +254,7 @@ gone_passed (Some (call.Unmap (unmap.Start _))) k j e = let d : false ≡ true =
 gone_passed (Some (call.Exit exit.Start)) k j e = let d : false ≡ true = e in absurd (cc)
 gone_passed c k j e = let d : false ≡ true = e in absurd (cc)
 
+-- what implies something false is false
 unless : (b d : Bool) → (b ≡ true → d ≡ true) → d ≡ false → b ≡ false
 unless true d h e = sym (h refl) ∙ e
 unless false d h e = refl
@@ -299,10 +298,8 @@ pub commits : (g : Geometry) (s : State) (t : ℕ) (b c : Option Call) (f : ℕ)
     → Inv g (to (committing s f change) t c)
 commits g s t b c f change h l e in_files low same same_held same_hand some none nobody balance fill own =
     goes g s (committing s f change) t b c h l e same same_held (record {
-      geometry = h.geometry;
+      areas = h.areas;
       entries = h.entries;
-      ranges = h.ranges;
-      spread = h.spread;
       reach = h.reach;
       fill = fill;
       sizes = h.sizes;
@@ -334,13 +331,12 @@ commits g s t b c f change h l e in_files low same same_held same_hand some none
           λ u d. stands_after g s (committing s f change) u (s.calls u)
           (record {
             slot = λ k a. a;
-            page = λ k j a. refl;
-            mark = λ k j a w. grown_keeps s.reserved f change.from change.to k j;
-            translated = λ k j a w v x p q. (x, p, q);
-            lock = λ k a. (a, refl, λ j. grown_keeps s.reserved f change.from change.to k j);
-            mappings = refl;
-            ready = refl;
-            entries = λ v x p. (x, p);
+            files = record {
+              page = λ k j a. refl;
+              mark = λ k j a w. grown_keeps s.reserved f change.from change.to k j;
+              lock = λ k a. (a, refl, λ j. grown_keeps s.reserved f change.from change.to k j);
+            };
+            tables = same_tables;
           }) (h.stands u);
       own = own;
       changes =
@@ -370,10 +366,8 @@ pub takes : (g : Geometry) (s : State) (t : ℕ) (b c : Option Call) (x r : ℕ)
     → Inv g (to (record s { pool = record s.pool { frame = put s.frame x state.Hand; resv = r } }) t c)
 takes g s t b c x r h l e free same same_held none some same_change balance enough fill own =
     goes g s (record s { pool = record s.pool { frame = put s.frame x state.Hand; resv = r } }) t b c h l e same same_held (record {
-      geometry = h.geometry;
+      areas = h.areas;
       entries = h.entries;
-      ranges = h.ranges;
-      spread = h.spread;
       inside = h.inside;
       sweep = h.sweep;
       reach = h.reach;
@@ -402,10 +396,8 @@ pub gives : (g : Geometry) (s : State) (t : ℕ) (b c : Option Call) (x r : ℕ)
     → Inv g (to (record s { pool = record s.pool { frame = put s.frame x state.Free; resv = r } }) t c)
 gives g s t b c x r h l e same same_held some none same_change balance enough fill own =
     goes g s (record s { pool = record s.pool { frame = put s.frame x state.Free; resv = r } }) t b c h l e same same_held (record {
-      geometry = h.geometry;
+      areas = h.areas;
       entries = h.entries;
-      ranges = h.ranges;
-      spread = h.spread;
       inside = h.inside;
       sweep = h.sweep;
       reach = h.reach;
@@ -439,9 +431,7 @@ pub places : (g : Geometry) (s : State) (t : ℕ) (b c : Option Call) (f i x : �
     → Inv g (to (record s { pool = record s.pool { pages = put2 s.pages f i (Some x); frame = put s.frame x (state.Placed 0) } }) t c)
 places g s t b c f i x h l e in_files in_limit same same_held some none same_change balance marked bare held nobody fill own =
     goes g s n t b c h l e same same_held (record {
-      geometry = h.geometry;
-      ranges = h.ranges;
-      spread = h.spread;
+      areas = h.areas;
       reach = h.reach;
       fill = fill;
       sizes = h.sizes;
@@ -477,13 +467,12 @@ places g s t b c f i x h l e in_files in_limit same same_held some none same_cha
           λ u d. stands_after g s n u (s.calls u)
           (record {
             slot = λ k a. a;
-            page = λ k j a. other u d k j a;
-            mark = λ k j a w r. r;
-            translated = λ k j a w v y p q. (y, p, q);
-            lock = λ k a. (a, refl, λ j r. r);
-            mappings = refl;
-            ready = refl;
-            entries = λ v y p. (y, p);
+            files = record {
+              page = λ k j a. other u d k j a;
+              mark = λ k j a w r. r;
+              lock = λ k a. (a, refl, λ j r. r);
+            };
+            tables = same_tables;
           }) (h.stands u);
       own = own;
     })

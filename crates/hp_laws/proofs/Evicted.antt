@@ -25,6 +25,7 @@ use Rattle.hp_machine.specs.declared.call.Turn.TheVariants.{Moved, Blocked, Ende
 use Rattle.hp_machine.specs.Views.{locked_file}
 use Rattle.hp_laws.specs.Bounds.{is_begun, calls_begun}
 use Rattle.hp_laws.specs.Sweep.{gone}
+use Rattle.hp_laws.proofs.Deciding.{clash}
 use Rattle.hp_laws.proofs.Standing.{HasLock}
 use Rattle.hp_laws.proofs.Passing.{same_holder, locks_file}
 use Rattle.hp_laws.proofs.Shared.{by_test, by_option, stands_at}
@@ -34,6 +35,7 @@ use Rattle.hp_laws.proofs.Losing.{goes_under}
 use Rattle.hp_laws.proofs.Reading.{step_cases}
 use Rattle.hp_laws.proofs.Serving.{TurnWell, at_leaf, own_or_same}
 
+-- where the call ends, any answer will do
 abbrev Any : Answer → Type 0
 Any a = Unit {0}
 
@@ -51,6 +53,7 @@ Cutting cut (truncate.Tail p) = p.truncation ≡ cut
 Cutting cut (truncate.Settle p) = p.truncation ≡ cut
 Cutting cut (truncate.Leave p) = p.truncation ≡ cut
 
+-- the truncation has taken its tail out
 abbrev is_over : TruncatePhase → Bool
 is_over (truncate.Start p) = false
 is_over (truncate.Size p) = false
@@ -68,14 +71,17 @@ is_over (truncate.Leave p) = true
 abbrev After : Truncation → (is_cut : Bool) → TruncatePhase → Type 0
 After cut is_cut phase = Cutting cut phase × (is_cut ≡ true → is_over phase ≡ true)
 
+-- the phase whose step takes the tail out
 abbrev is_tail : Phase → Bool
 is_tail word.Tail = true
 is_tail other = false
 
+-- neither of two tests holds, so there is no such case
 neither : {P : Type 0} → (false ≡ true) ⊎ (false ≡ true) → P
 neither (inl e) = absurd (cc)
 neither (inr e) = absurd (cc)
 
+-- each row of the truncation leaves it at its place or a later one, over only after the tail
 cut_turn : (s : State) (t : ℕ) (killed grant : Bool) (cut : Truncation) (b : Bool) (phase : TruncatePhase)
     (turn : Turn TruncatePhase) (new : Pool)
     → Cutting cut phase → (b ≡ true → (is_over phase ≡ true) ⊎ (is_tail (word_of (call.Truncate phase)) ≡ true))
@@ -108,17 +114,20 @@ CallCuts cut b None = Unit {0}
 CallCuts cut b (Some (call.Truncate phase)) = After cut b phase
 CallCuts cut b (Some other) = ⊥
 
+-- so does the call that the turn leaves
 next_cuts : (cut : Truncation) (b : Bool) (turn : Turn TruncatePhase) → TurnWell TruncatePhase (After cut b) Any turn
     → CallCuts cut b (left call.Truncate turn)
 next_cuts cut b (Moved p) h = h
 next_cuts cut b (Blocked p u) h = h
 next_cuts cut b (Ended a) h = tt
 
+-- where the call is to count as over, it was over or its next step is the tail
 abbrev IsCutBy : Bool → Option Call → Type 0
 IsCutBy b None = Unit {0}
 IsCutBy b (Some (call.Truncate phase)) = b ≡ true → (is_over phase ≡ true) ⊎ (is_tail (word_of (call.Truncate phase)) ≡ true)
 IsCutBy b (Some other) = Unit {0}
 
+-- a step of that call leaves the truncation, or what is left of it
 cut_call : (s : State) (t : ℕ) (killed grant : Bool) (cut : Truncation) (a b : Bool) (c : Call) (o : Outcome)
     (pool : Pool) (next : Option Call)
     → CallCuts cut a (Some c) → IsCutBy b (Some c) → CallRow (pool_of s) t killed grant c o pool next → CallCuts cut b next
@@ -132,6 +141,7 @@ cut_call s t killed grant cut a b (call.Punch p) o pool next w was row = absurd 
 cut_call s t killed grant cut a b (call.Unmap p) o pool next w was row = absurd w
 cut_call s t killed grant cut a b (call.Exit p) o pool next w was row = absurd w
 
+-- and any event that begins no call of the task does
 cut_row : (s : State) (t : ℕ) (cut : Truncation) (b : Bool) (event : Event) (o : Outcome) (n : State) → Always s
     → is_begun t event o ≡ 0 → CallCuts cut b (s.calls t) → Row s event o n → CallCuts cut b (n.calls t)
 cut_row s t cut b event o n h quiet w row = own_or_same s t event o n (CallCuts cut b (n.calls t)) h quiet row
@@ -188,6 +198,7 @@ data Standing (cut : Truncation) (c : Option Call) : Type 0 where
   Over : CallCuts cut true c → Standing cut c
   Holds : (phase : TruncatePhase) → c ≡ Some (call.Truncate phase) → Cutting cut phase → is_over phase ≡ false → Standing cut c
 
+-- the truncation is on its way, or over
 where_it_stands : (cut : Truncation) (c : Option Call) → CallCuts cut false c → Standing cut c
 where_it_stands cut None h = Over tt
 where_it_stands cut (Some (call.Truncate phase)) h = by_end (is_over phase) refl
@@ -201,9 +212,6 @@ where_it_stands cut (Some (call.Alloc p)) h = absurd h
 where_it_stands cut (Some (call.Punch p)) h = absurd h
 where_it_stands cut (Some (call.Unmap p)) h = absurd h
 where_it_stands cut (Some (call.Exit p)) h = absurd h
-
-clash : {P : Type 0} (b : Bool) → b ≡ true → b ≡ false → P
-clash b e d = (let z : true ≡ false = sym e ∙ d in absurd (cc))
 
 -- at its tail it gets over
 tail_step : (s : State) (t : ℕ) (cut : Truncation) (grant : Bool) (phase : TruncatePhase) (o : Outcome) (n : State) (i : ℕ)
@@ -249,6 +257,7 @@ kept_row s t cut i event o n h quiet w row a = by_mark (n.reserved cut.file i) r
     by_mark true e = inl e
     by_mark false e = inr (goes e (where_it_stands cut (s.calls t) w))
 
+-- over a run that begins no call of the task, a reserved index stays so until the tail is out
 kept_run : (t : ℕ) (cut : Truncation) (i : ℕ) (s : State) (es : List (Event × Outcome)) (n : State) → Run s es n → Always s
     → calls_begun t es ≡ 0 → CallCuts cut false (s.calls t)
     → (s.reserved cut.file i ≡ true) ⊎ CallCuts cut true (s.calls t)
@@ -294,7 +303,7 @@ evicted_stays s t p rest n q reached e run quiet there not_gone =
       | inr over ↦ (let o : After p.truncation true q = subst (CallCuts p.truncation true) there over in
           clash (gone (n.calls t) p.truncation.file p.index)
           (ap (λ (m : Option Call). gone m p.truncation.file p.index) there
-          ∙ over_gone p.truncation p.index q o.0 (o.1 refl) y.facts.index.0) not_gone)
+          ∙ over_gone p.truncation p.index q o.0 (o.1 refl) y.facts.aim.index.0) not_gone)
     ]
   where
     never : false ≡ true → ⊥

@@ -38,6 +38,7 @@ IsLast f i ms w = LastWord f i ms w × ((v : ℕ) → LastWord f i ms v → v �
 abbrev pub Holds : List Moment → State → Type 0
 Holds ms s = (f i x w : ℕ) → s.pages f i ≡ Some x → s.frame x ≡ state.Placed w → IsLast f i ms w
 
+-- an event that tells each page's word keeps it the last one made there
 holds_after : (s : State) (event : Event) (o : Outcome) (n : State) (ms : List Moment) → Tells s event o n → Holds ms s
     → Holds (moment s event o n ∷ ms) n
 holds_after s event o n ms tells holds f i x w a b = elim (tells f i x w a b) [
@@ -45,9 +46,11 @@ holds_after s event o n ms tells holds f i x w a b = elim (tells f i x w a b) [
   | inr k ↦ (let o = holds f i x w k.1 k.2 in (inr (k.0, o.0), λ v l. elim l [ inl z ↦ absurd (k.0 v z) | inr z ↦ o.1 v z.1 ]))
 ]
 
+-- no page is there
 no_page : {P : Type 0} (x : ℕ) → ◌≡◌ {A = Option ℕ} None (Some x) → P
 no_page x e = absurd (cc)
 
+-- so each page holds its last word after every history
 pub history_holds : (g : Geometry) (frames : ℕ) (ms : List Moment) (s : State) → History g frames ms s → Always s × Holds ms s
 history_holds g frames [] s h =
     (subst Always (sym h) (opens_well g frames), λ f i x w a b. no_page x (sym (ap (λ (m : State). m.pages f i) h) ∙ a))
@@ -62,9 +65,11 @@ history_holds g frames (m ∷ ms) s h =
 abbrev Reads : State → (f i w : ℕ) → Type 0
 Reads s f i w = (x : ℕ) × (s.pages f i ≡ Some x) × (s.frame x ≡ state.Placed w)
 
+-- the answer of a load is its word
 ended_word : {a w : ℕ} → outcome.Ended (answer.Word a) ≡ outcome.Ended (answer.Word w) → a ≡ w
 ended_word e = cc
 
+-- a load that ends as it looks read the page that its entry names
 look_reads : (s : State) (t : ℕ) (killed grant : Bool) (p : Look) (o : Outcome) (pool : Pool) (next : Option Call) (f i w : ℕ)
     → Inv s.geometry s → CallRow (pool_of s) t killed grant (call.Touch (touch.Look p)) o pool next
     → p.access ≡ Load → find (s.mappings t) p.vpn ≡ Some (f, i) → o ≡ outcome.Ended (answer.Word w) → Reads s f i w
@@ -86,12 +91,15 @@ look_reads s t killed grant p o pool next f i w h (turn, row, tells, leaves) loa
     pair_of : {a b : ℕ × ℕ} → Some a ≡ Some b → a ≡ b
     pair_of z = cc
 
+-- what a touch leaves with is what it carries
 same_leave : {a b : Leave} → Some (call.Touch (touch.Leave a)) ≡ Some (call.Touch (touch.Leave b)) → a ≡ b
 same_leave z = cc
 
+-- an answer of a word tells that word
 same_word : {a b : ℕ} → answer.Word a ≡ answer.Word b → a ≡ b
 same_word z = cc
 
+-- a load that found its page read it
 found_reads : (s : State) (t : ℕ) (killed grant : Bool) (p : Found) (o : Outcome) (pool : Pool) (next : Option Call) (w : ℕ)
     → CallRow (pool_of s) t killed grant (call.Touch (touch.Found p)) o pool next
     → p.touch.access ≡ Load → next ≡ Some (call.Touch (touch.Leave (record { touch = p.touch; answer = answer.Word w })))
@@ -109,6 +117,7 @@ found_reads s t killed grant p o pool next w (turn, row, tells, leaves) loads is
     (λ _ r. (let z : answer.NoMemory ≡ answer.Word w = ap (λ (m : Leave). m.answer)
     (same_leave (sym (leaves ∙ ap (left call.Touch) r.0) ∙ is)) in absurd (cc))))
 
+-- each step that reads for a load reads a page that is there
 read_page : (m : Moment) (f i w : ℕ) → Always m.before → Row m.before m.event m.outcome m.after → Read f i m w → Reads m.before f i w
 read_page m f i w h row read = elim read [
   | inl r ↦ (let s : State = m.before in
@@ -141,6 +150,7 @@ goes_on g frames ms s (e ∷ es) n h r =
     let k = goes_on g frames (moment s e.0 e.1 r.0 ∷ ms) r.0 es n (refl, r.1, h) r.2 in
     (k.0, k.1, k.2 ∙ append_assoc (in_order ms) (e ∷ []) es)
 
+-- a run is a history: its events with the states around them
 pub run_history : (g : Geometry) (frames : ℕ) (es : List (Event × Outcome)) (s : State) → Run (opening g frames) es s
     → (ms : List Moment) × History g frames ms s × (in_order ms ≡ es)
 run_history g frames es s r = goes_on g frames [] (opening g frames) es s refl r

@@ -7,17 +7,16 @@ use Rattle.hp_machine.specs.State.{Geometry, State, slot_of}
 use Rattle.hp_machine.specs.Views.{less, more, hand, change_in, slot_held, locked_file}
 use Rattle.hp_machine.specs.declared.call.Call.{Call}
 use Rattle.hp_laws.specs.Sweep.{fills, ahead, passed, gone}
+use Rattle.hp_laws.proofs.Deciding.{some_same}
 use Rattle.hp_laws.proofs.Standing.{HasSlot, HasLock, Stands}
-use Rattle.hp_laws.proofs.Staying.{stands_after}
+use Rattle.hp_laws.proofs.Staying.{same_files, same_tables, stands_after}
 use Rattle.hp_laws.proofs.Invariant.{Reached, Holders, Inv, goes_on, goes_as, put_known, place_same, same_opens, sweeps, to}
-
-pub some_same : {A : Type 0} {a b : A} → Some a ≡ Some b → a ≡ b
-some_same e = cc
 
 -- one that holds something isn't one that holds nothing
 holds_other : {A : Type 0} (held : ℕ → Option A) (t u : ℕ) (k : A) → held t ≡ None → held u ≡ Some k → u ≢ t
 holds_other {A} held t u k none some = λ d. (let x : ◌≡◌ {A = Option A} None (Some k) = sym none ∙ (ap held (sym d) ∙ some) in absurd (cc))
 
+-- who holds what stays told right: where a free slot is taken
 slot_taken_holders : (g : Geometry) (slots locks : ℕ → Option ℕ) (held : ℕ → Option (ℕ × ℕ)) (locked : ℕ → Option ℕ) (t f i : ℕ)
     → Holders g slots locks held locked → held t ≡ None
     → Holders g (put slots (slot_of g f i) (Some t)) locks (put held t (Some (f, i))) locked
@@ -29,6 +28,7 @@ slot_taken_holders g slots locks held locked t f i h none = record {
   lock = h.lock;
 }
 
+-- where a slot is left
 slot_left_holders : (g : Geometry) (slots locks : ℕ → Option ℕ) (held : ℕ → Option (ℕ × ℕ)) (locked : ℕ → Option ℕ) (t f i : ℕ)
     → Holders g slots locks held locked → held t ≡ Some (f, i)
     → Holders g (put slots (slot_of g f i) None) locks (put held t None) locked
@@ -45,6 +45,7 @@ slot_left_holders g slots locks held locked t f i h some = record {
   lock = h.lock;
 }
 
+-- where a free lock is taken
 lock_taken_holders : (g : Geometry) (slots locks : ℕ → Option ℕ) (held : ℕ → Option (ℕ × ℕ)) (locked : ℕ → Option ℕ) (t f : ℕ)
     → Holders g slots locks held locked → locked t ≡ None
     → Holders g slots (put locks f (Some t)) held (put locked t (Some f))
@@ -56,6 +57,7 @@ lock_taken_holders g slots locks held locked t f h none = record {
   ];
 }
 
+-- and where a lock is left
 lock_left_holders : (g : Geometry) (slots locks : ℕ → Option ℕ) (held : ℕ → Option (ℕ × ℕ)) (locked : ℕ → Option ℕ) (t f : ℕ)
     → Holders g slots locks held locked → locked t ≡ Some f
     → Holders g slots (put locks f None) held (put locked t None)
@@ -78,13 +80,11 @@ pub takes_slot : (g : Geometry) (s : State) (t : ℕ) (b c : Option Call) (f i :
     → Stands g (record s { pool = record s.pool { slots = put s.slots (slot_of g f i) (Some t) } }) t c
     → Inv g (to (record s { pool = record s.pool { slots = put s.slots (slot_of g f i) (Some t) } }) t c)
 takes_slot g s t b c f i h l e free same same_lock none some fill own = goes_as g s n t b c h l e (ap (λ p. p.4) same) (record {
-  geometry = h.geometry;
+  areas = h.areas;
   count = (let x : less c ≡ less b = ap (λ p. p.0) same in let y : more c ≡ more b = ap (λ p. p.1) same in omega arith);
   enough = h.enough;
   place = place_same g s t b c h e (ap (λ p. p.2) same);
   entries = h.entries;
-  ranges = h.ranges;
-  spread = h.spread;
   inside = h.inside;
   sweep = h.sweep;
   reach = h.reach;
@@ -103,13 +103,8 @@ takes_slot g s t b c f i h l e free same same_lock none some fill own = goes_as 
       λ u d. stands_after g s n u (s.calls u)
       (record {
         slot = still u;
-        page = λ k j a. refl;
-        mark = λ k j a w r. r;
-        translated = λ k j a w v x p q. (x, p, q);
-        lock = λ k a. (a, refl, λ j r. r);
-        mappings = refl;
-        ready = refl;
-        entries = λ v x p. (x, p);
+        files = same_files;
+        tables = same_tables;
       }) (h.stands u);
   own = own;
 })
@@ -120,6 +115,7 @@ takes_slot g s t b c f i h l e free same same_lock none some fill own = goes_as 
     still : (u k : ℕ) → s.slots k ≡ Some u → put s.slots (slot_of g f i) (Some t) k ≡ Some u
     still u k a = grind (arith, put_tells)
 
+-- so of the calls, where one leaves its slot and keeps its lock
 pub left_holders : (g : Geometry) (s : State) (t : ℕ) (b c : Option Call) (f i : ℕ) → Inv g s → s.calls t ≡ b
     → locked_file c ≡ locked_file b → slot_held b ≡ Some (f, i) → slot_held c ≡ None
     → Holders g (put s.slots (slot_of g f i) None) s.locks (put (λ (u : ℕ). slot_held (s.calls u)) t (slot_held c))
@@ -133,19 +129,15 @@ left_holders g s t b c f i h e same_lock some none =
     (slot_left_holders g s.slots s.locks (λ u. slot_held (s.calls u)) (λ u. locked_file (s.calls u)) t f i h.holders
     (ap slot_held e ∙ some)))
 
+-- what other calls stand on stays where a slot is left: theirs is another
 pub left_stands : (g : Geometry) (s : State) (t f i : ℕ) → Inv g s → HasSlot g s t f i → (u : ℕ) → u ≢ t
     → Stands g (record s { pool = record s.pool { slots = put s.slots (slot_of g f i) None } }) u (s.calls u)
 left_stands g s t f i h held u d =
     stands_after g s n u (s.calls u)
     (record {
       slot = still;
-      page = λ k j a. refl;
-      mark = λ k j a w r. r;
-      translated = λ k j a w v x p q. (x, p, q);
-      lock = λ k a. (a, refl, λ j r. r);
-      mappings = refl;
-      ready = refl;
-      entries = λ v x p. (x, p);
+      files = same_files;
+      tables = same_tables;
     }) (h.stands u)
   where
     n : State
@@ -164,13 +156,11 @@ pub leaves_slot : (g : Geometry) (s : State) (t : ℕ) (b c : Option Call) (f i 
     → Stands g (record s { pool = record s.pool { slots = put s.slots (slot_of g f i) None } }) t c
     → Inv g (to (record s { pool = record s.pool { slots = put s.slots (slot_of g f i) None } }) t c)
 leaves_slot g s t b c f i h l e same same_lock some none held fill own = goes_as g s n t b c h l e (ap (λ p. p.4) same) (record {
-  geometry = h.geometry;
+  areas = h.areas;
   count = (let x : less c ≡ less b = ap (λ p. p.0) same in let y : more c ≡ more b = ap (λ p. p.1) same in omega arith);
   enough = h.enough;
   place = place_same g s t b c h e (ap (λ p. p.2) same);
   entries = h.entries;
-  ranges = h.ranges;
-  spread = h.spread;
   inside = h.inside;
   sweep = h.sweep;
   reach = h.reach;
@@ -192,13 +182,11 @@ pub takes_lock : (g : Geometry) (s : State) (t : ℕ) (b c : Option Call) (f : �
     → Stands g (record s { pool = record s.pool { locks = put s.locks f (Some t) } }) t c
     → Inv g (to (record s { pool = record s.pool { locks = put s.locks f (Some t) } }) t c)
 takes_lock g s t b c f h l e free same same_slot none some fill own = goes_as g s n t b c h l e (ap (λ p. p.4) same) (record {
-  geometry = h.geometry;
+  areas = h.areas;
   count = (let x : less c ≡ less b = ap (λ p. p.0) same in let y : more c ≡ more b = ap (λ p. p.1) same in omega arith);
   enough = h.enough;
   place = place_same g s t b c h e (ap (λ p. p.2) same);
   entries = h.entries;
-  ranges = h.ranges;
-  spread = h.spread;
   inside = h.inside;
   sweep = h.sweep;
   reach = h.reach;
@@ -218,13 +206,12 @@ takes_lock g s t b c f h l e free same same_slot none some fill own = goes_as g 
       λ u d. stands_after g s n u (s.calls u)
       (record {
         slot = λ k a. a;
-        page = λ k j a. refl;
-        mark = λ k j a w r. r;
-        translated = λ k j a w v x p q. (x, p, q);
-        lock = λ k a. (still u k a, refl, λ j r. r);
-        mappings = refl;
-        ready = refl;
-        entries = λ v x p. (x, p);
+        files = record {
+          page = λ k j a. refl;
+          mark = λ k j a w r. r;
+          lock = λ k a. (still u k a, refl, λ j r. r);
+        };
+        tables = same_tables;
       }) (h.stands u);
   own = own;
 })
@@ -241,13 +228,11 @@ pub leaves_lock : (g : Geometry) (s : State) (t : ℕ) (b : Option Call) (f : �
     → ((k j : ℕ) → ahead b k j ≡ false)
     → Inv g (to (record s { pool = record s.pool { locks = put s.locks f None } }) t None)
 leaves_lock g s t b f h l e no_less no_more no_hand no_change no_slot some held none_ahead = goes_on g s n t b None h l e (record {
-  geometry = h.geometry;
+  areas = h.areas;
   count = omega arith;
   enough = h.enough;
   place = place_same g s t b None h e (sym no_hand);
   entries = h.entries;
-  ranges = h.ranges;
-  spread = h.spread;
   inside = h.inside;
   sizes = h.sizes;
   sweep = record {
@@ -275,13 +260,12 @@ leaves_lock g s t b f h l e no_less no_more no_hand no_change no_slot some held 
       λ u d. stands_after g s n u (s.calls u)
       (record {
         slot = λ k a. a;
-        page = λ k j a. refl;
-        mark = λ k j a w r. r;
-        translated = λ k j a w v x p q. (x, p, q);
-        lock = λ k a. (still u d k a, refl, λ j r. r);
-        mappings = refl;
-        ready = refl;
-        entries = λ v x p. (x, p);
+        files = record {
+          page = λ k j a. refl;
+          mark = λ k j a w r. r;
+          lock = λ k a. (still u d k a, refl, λ j r. r);
+        };
+        tables = same_tables;
       }) (h.stands u);
   own = record { slot = tt; lock = tt; facts = tt };
 })

@@ -19,6 +19,7 @@ use Rattle.hp_laws.proofs.Standing.{Stands}
 abbrev pub vacant_of : Geometry → (ℕ → ℕ → Bool) → (ℕ → ℕ → Option ℕ) → ℕ
 vacant_of g reserved pages = total g.files (λ f. vacant g.limit (reserved f) (pages f))
 
+-- a sum over the calls of all tasks
 abbrev pub sum_of : Geometry → (Option Call → ℕ) → (ℕ → Option Call) → ℕ
 sum_of g v calls = total (g.tasks + 1) (λ u. v (calls u))
 
@@ -63,14 +64,20 @@ pub record Holders (g : Geometry) (slots locks : ℕ → Option ℕ) (held : ℕ
   pub slot : (k u : ℕ) → slots k ≡ Some u → (place : ℕ × ℕ) × (held u ≡ Some place) × (slot_of g place.0 place.1 ≡ k)
   pub lock : (f u : ℕ) → locks f ≡ Some u → locked u ≡ Some f
 
+-- the measures never change; each task's mappings lie within their files, in order and apart
+pub record Areas (g measures : Geometry) (mappings : ℕ → List Mapping) : Type 0 where
+  pub geometry : measures ≡ g
+  pub ranges : (t : ℕ) → AllWithin g (mappings t)
+  pub spread : (t : ℕ) → IsSpread g.space 0 (mappings t)
+
+-- what every row keeps of a state
 pub record Inv (g : Geometry) (s : State) : Type 0 where
-  pub geometry : s.geometry ≡ g
+  pub areas : Areas g s.geometry s.mappings
+  pub open areas use *
   pub count : s.resv + sum_of g less s.calls ≡ vacant_of g s.reserved s.pages + sum_of g more s.calls
   pub enough : s.resv ≤ free_frames s.frame s.frames
   pub place : Placing s.frames s.frame (λ u. hand (s.calls u)) s.pages
   pub entries : Entries g.tasks s.mappings s.entries s.pages
-  pub ranges : (t : ℕ) → AllWithin g (s.mappings t)
-  pub spread : (t : ℕ) → IsSpread g.space 0 (s.mappings t)
   pub inside : Inside g s.reserved s.pages
   pub sweep : Swept s.size s.reserved s.pages s.mappings s.entries (λ u. ahead (s.calls u)) (λ u. passed (s.calls u))
       (λ u. gone (s.calls u))
@@ -118,10 +125,12 @@ count_after n calls t b c resv vac resv' vac' l e h d =
     let y : total n (λ u. more (put calls t c u)) + more b ≡ total n (λ u. more (calls u)) + more c = sum_after more n calls t b c l e in
     omega arith
 
+-- what holds of the value, if there is one, may be said more weakly
 pub if_weaker : {A : Type 0} {P Q : A → Type 0} (o : Option A) → ((a : A) → o ≡ Some a → P a → Q a) → IfSome o P → IfSome o Q
 if_weaker None f h = tt
 if_weaker (Some a) f h = f a refl h
 
+-- to put what is there changes nothing
 pub put_known : {A : Type 0} (f : ℕ → A) (k : ℕ) (v : A) → f k ≡ v → put f k v ≡ f
 put_known {A} f k v e = fun_ext (λ j. elim (same_or_other j k) [
   | inl d ↦ subst (λ (w : ℕ). put f k v w ≡ f w) (sym d) (put_same f k v ∙ sym e)
@@ -136,13 +145,11 @@ to s t c = record s { calls = put s.calls t c }
 -- `aheads` and so on is what is seen of the calls then.
 pub record GoesOn (g : Geometry) (s n : State) (t : ℕ) (b c : Option Call) (aheads passes gones : ℕ → ℕ → ℕ → Bool)
     (held : ℕ → Option (ℕ × ℕ)) (locked : ℕ → Option ℕ) : Type 0 where
-  pub geometry : n.geometry ≡ g
+  pub areas : Areas g n.geometry n.mappings
   pub count : (n.resv + less c) + (vacant_of g s.reserved s.pages + more b) ≡ (s.resv + less b) + (vacant_of g n.reserved n.pages + more c)
   pub enough : n.resv ≤ free_frames n.frame n.frames
   pub place : Placing n.frames n.frame (put (λ (u : ℕ). hand (s.calls u)) t (hand c)) n.pages
   pub entries : Entries g.tasks n.mappings n.entries n.pages
-  pub ranges : (u : ℕ) → AllWithin g (n.mappings u)
-  pub spread : (u : ℕ) → IsSpread g.space 0 (n.mappings u)
   pub inside : Inside g n.reserved n.pages
   pub sweep : Swept n.size n.reserved n.pages n.mappings n.entries aheads passes gones
   pub reach : (w : ℕ) → IfSome (fills (s.calls w)) (λ k. Reached n.size aheads k.0 k.1)
@@ -154,6 +161,7 @@ pub record GoesOn (g : Geometry) (s n : State) (t : ℕ) (b c : Option Call) (ah
   pub others : (u : ℕ) → u ≢ t → Stands g n u (s.calls u)
   pub own : Stands g n t c
 
+-- where a call goes on and the rest changes as said, the invariant is kept
 pub goes_on : (g : Geometry) (s n : State) (t : ℕ) (b c : Option Call) → Inv g s → t < g.tasks + 1 → s.calls t ≡ b
     → GoesOn g s n t b c (put (λ (u : ℕ). ahead (s.calls u)) t (ahead c))
     (put (λ (u : ℕ). passed (s.calls u)) t (passed c)) (put (λ (u : ℕ). gone (s.calls u)) t (gone c))
@@ -162,15 +170,13 @@ pub goes_on : (g : Geometry) (s n : State) (t : ℕ) (b c : Option Call) → Inv
 goes_on g s n t b c h l e p =
     let aheads = sym (view_put ahead s.calls t c) in
     record {
-      geometry = p.geometry;
+      areas = p.areas;
       count =
           count_after (g.tasks + 1) s.calls t b c s.resv (vacant_of g s.reserved s.pages) n.resv
           (vacant_of g n.reserved n.pages) l e h.count p.count;
       enough = p.enough;
       place = subst (λ (hs : ℕ → Option ℕ). Placing n.frames n.frame hs n.pages) (sym (view_put hand s.calls t c)) p.place;
       entries = p.entries;
-      ranges = p.ranges;
-      spread = p.spread;
       inside = p.inside;
       sweep =
           subst (λ (a : ℕ → ℕ → ℕ → Bool). Swept n.size n.reserved n.pages n.mappings n.entries a
@@ -222,6 +228,7 @@ seen c = (less c, more c, hand c, change_in c, sweeps c, holds c)
 abbrev pub GoesAs : Geometry → State → State → ℕ → Option Call → Option Call → (ℕ → Option (ℕ × ℕ)) → (ℕ → Option ℕ) → Type 0
 GoesAs g s n t b c held locked = GoesOn g s n t b c (λ u. ahead (s.calls u)) (λ u. passed (s.calls u)) (λ u. gone (s.calls u)) held locked
 
+-- so the invariant is kept
 pub goes_as : (g : Geometry) (s n : State) (t : ℕ) (b c : Option Call) → Inv g s → t < g.tasks + 1 → s.calls t ≡ b → sweeps c ≡ sweeps b
     → GoesAs g s n t b c (put (λ (u : ℕ). slot_held (s.calls u)) t (slot_held c))
     (put (λ (u : ℕ). locked_file (s.calls u)) t (locked_file c))
@@ -243,6 +250,7 @@ goes_as g s n t b c h l e same p =
 abbrev pub Goes : Geometry → State → State → ℕ → Option Call → Option Call → Type 0
 Goes g s n t b c = GoesAs g s n t b c (λ u. slot_held (s.calls u)) (λ u. locked_file (s.calls u))
 
+-- so the invariant is kept
 pub goes : (g : Geometry) (s n : State) (t : ℕ) (b c : Option Call) → Inv g s → t < g.tasks + 1 → s.calls t ≡ b
     → sweeps c ≡ sweeps b → holds c ≡ holds b → Goes g s n t b c → Inv g (record n { calls = put s.calls t c })
 goes g s n t b c h l e same same_held p =
@@ -269,13 +277,11 @@ same_opens pending b c same f = ap (λ (o : Option ℕ). pending f + elim o [ No
 pub stays : (g : Geometry) (s : State) (t : ℕ) (b c : Option Call) → Inv g s → t < g.tasks + 1 → s.calls t ≡ b → seen c ≡ seen b
     → IfSome (fills c) (λ k. Reached s.size (λ u. ahead (s.calls u)) k.0 k.1) → Stands g s t c → Inv g (to s t c)
 stays g s t b c h l e same fill own = goes g s s t b c h l e (ap (λ p. p.4) same) (ap (λ p. p.5) same) (record {
-  geometry = h.geometry;
+  areas = h.areas;
   count = (let x : less c ≡ less b = ap (λ p. p.0) same in let y : more c ≡ more b = ap (λ p. p.1) same in omega arith);
   enough = h.enough;
   place = place_same g s t b c h e (ap (λ p. p.2) same);
   entries = h.entries;
-  ranges = h.ranges;
-  spread = h.spread;
   inside = h.inside;
   sweep = h.sweep;
   reach = h.reach;

@@ -23,14 +23,15 @@ use Rattle.hp_machine.specs.declared.call.Call.{Call}
 use Rattle.hp_machine.specs.declared.call.Call.TheVariants as call
 use Rattle.hp_laws.specs.Histories.{Moment, History}
 use Rattle.hp_laws.specs.Promises.{in_map, can_promise, can_take_back, IsPromised}
+use Rattle.hp_base.proofs.Spaces.{both_true}
+use Rattle.hp_laws.proofs.Deciding.{same_of, never, clash}
 use Rattle.hp_laws.proofs.Standing.{is_mapped}
 use Rattle.hp_laws.proofs.Invariant.{Inv}
 use Rattle.hp_laws.proofs.Passing.{locks_file, same_holder}
 use Rattle.hp_laws.proofs.Shared.{stands_at}
 use Rattle.hp_laws.proofs.Runs.{Always}
 use Rattle.hp_laws.proofs.Reading.{begin_cases, step_cases, kill_cases, call_steps, same_state}
-use Rattle.hp_laws.proofs.Promising.{removes, removes_locked, removes_deleted, next_removes, size_set, KeptAt, Kept, never, clash}
-use Rattle.hp_laws.proofs.Promising.{and_both, same_of}
+use Rattle.hp_laws.proofs.Promising.{removes, removes_locked, removes_deleted, next_removes, size_set, KeptAt, Kept}
 use Rattle.hp_laws.proofs.LastWords.{moment}
 use Rattle.hp_laws.proofs.Histories.{history_well}
 
@@ -63,7 +64,7 @@ mapped_call : (s : State) (t : ℕ) (killed grant : Bool) (p : Leave) (o : Outco
 unfolding CallRow
 mapped_call s t killed grant p o pool next base k j h e (turn, row, tells, leaves) is reserves within =
     let mapped : p.answer ≡ answer.Mapped base = same (sym (tells ∙ ap (told call.Map) row.0) ∙ is) in
-    let place = and_both (p.map.file == k) _ within in
+    let place = both_true (p.map.file == k) _ within in
     let x = mapped_at s t p base k j h e mapped reserves (same_of p.map.file k place.0) place.1 in (
       leaves ∙ ap (left call.Map) row.0,
       ap (λ (m : Pool). m.reserved k j) row.1 ∙ x.0,
@@ -77,7 +78,7 @@ mapped_call s t killed grant p o pool next base k j h e (turn, row, tells, leave
 -- a call that can promise an index is a map that reserves, at its leave
 promising : (c : Call) (k j : ℕ) → can_promise (Some c) k j ≡ true → (p : Leave) × (c ≡ call.Map (map.Leave p)) × (p.map.reserve ≡ true)
     × (in_map p.map k j ≡ true)
-promising (call.Map (map.Leave p)) k j e = let o = and_both p.map.reserve _ e in (p, refl, o.0, o.1)
+promising (call.Map (map.Leave p)) k j e = let o = both_true p.map.reserve _ e in (p, refl, o.0, o.1)
 promising c k j e = never e
 
 -- one index is kept by a step

@@ -30,6 +30,7 @@ use Rattle.hp_machine.specs.declared.call.Turn.{Turn}
 use Rattle.hp_machine.specs.declared.call.Turn.TheVariants.{Moved, Ended}
 use Rattle.hp_laws.specs.Histories.{Moment}
 use Rattle.hp_laws.specs.Words.{Wrote, Sets}
+use Rattle.hp_laws.proofs.Deciding.{some_same}
 use Rattle.hp_laws.proofs.Invariant.{Inv}
 use Rattle.hp_laws.proofs.Moves.{other_page}
 use Rattle.hp_laws.proofs.Shared.{by_test, by_option}
@@ -37,6 +38,7 @@ use Rattle.hp_laws.proofs.Runs.{Always}
 use Rattle.hp_laws.proofs.Reading.{begin_cases, step_cases, kill_cases}
 use Rattle.hp_laws.proofs.Paging.{Shrinks, PlacesOne, reads, call_pages}
 
+-- an event with its outcome and the states around it
 abbrev pub moment : State → Event → Outcome → State → Moment
 moment s event o n = record { before = s; event = event; outcome = o; after = n }
 
@@ -50,9 +52,11 @@ Tells s event o n = (f i x w : ℕ) → n.pages f i ≡ Some x → n.frame x ≡
 abbrev Silent : State → Event → Outcome → State → Type 0
 Silent s event o n = (f i v : ℕ) → Wrote f i (moment s event o n) v → ⊥
 
+-- an option isn't both empty and not
 none_some : {A P : Type 0} {x : A} (o : Option A) → o ≡ None → o ≡ Some x → P
 none_some {A} {x = x} o e d = (let z : ◌≡◌ {A = Option A} None (Some x) = sym e ∙ d in absurd (cc))
 
+-- where no store wrote, an index with a page has no new word
 not_set : (s : State) (event : Event) (o : Outcome) (n : State) (f i x : ℕ) → Silent s event o n → s.pages f i ≡ Some x → (v : ℕ)
     → Sets f i (moment s event o n) v → ⊥
 not_set s event o n f i x quiet page v sets = elim sets [ inl w ↦ quiet f i v w | inr p ↦ none_some (s.pages f i) p.0.0 page ]
@@ -64,12 +68,15 @@ shrinks_tell s event o n new pages frame quiet h f i x w a b =
     let k = h f i x w (sym (ap (λ (m : ℕ → ℕ → Option ℕ). m f i) pages) ∙ a) (sym (ap (λ (m : ℕ → FrameState). m x) frame) ∙ b) in
     inr (not_set s event o n f i x quiet k.0, k.0, k.1)
 
+-- a frame has one word
 same_word : {a b : ℕ} → state.Placed a ≡ state.Placed b → a ≡ b
 same_word e = cc
 
+-- an index has one page
 same_frame : {a b : ℕ} → Some a ≡ Some b → a ≡ b
 same_frame e = cc
 
+-- where one page is placed and no store writes, its word is 0 and the others keep theirs
 places_tell : (s : State) (event : Event) (o : Outcome) (n : State) (new : Pool) → Inv s.geometry s → n.pages ≡ new.pages
     → n.frame ≡ new.frame → Silent s event o n → PlacesOne s new → Tells s event o n
 places_tell s event o n new h pages frame quiet (f, i, x, new_pages, new_frame, bare, held) k j y w a b =
@@ -118,11 +125,9 @@ stores_tell s event o n f i x old word h page was pages frame wrote only k j y w
       )
     ]
 
+-- a step is of one task
 same_task : {t u : ℕ} {a b : Bool} → Step t a ≡ Step u b → u ≡ t
 same_task e = cc
-
-some_call : {a b : Call} → Some a ≡ Some b → a ≡ b
-some_call e = cc
 
 -- which call a store is written by
 stored_by : (s : State) (t : ℕ) (grant : Bool) (c : Call) (o : Outcome) (n : State) → s.calls t ≡ Some c → (P : Type 0)
@@ -134,11 +139,12 @@ stored_by : (s : State) (t : ℕ) (grant : Bool) (c : Call) (o : Outcome) (n : S
     → P
 stored_by s t grant c o n e P f i v wrote look found = elim wrote [
   | inl w ↦ (let d : w.0 ≡ t = same_task w.3 in
-      look w.2 (some_call (sym e ∙ (ap s.calls (sym d) ∙ w.4))) w.5 (ap (λ (m : ℕ). find (s.mappings m) w.2.vpn) (sym d) ∙ w.6) w.7)
+      look w.2 (some_same (sym e ∙ (ap s.calls (sym d) ∙ w.4))) w.5 (ap (λ (m : ℕ). find (s.mappings m) w.2.vpn) (sym d) ∙ w.6) w.7)
   | inr w ↦ (let d : w.0 ≡ t = same_task w.3 in
-      found w.2 (some_call (sym e ∙ (ap s.calls (sym d) ∙ w.4))) w.5 w.6 w.7 (ap n.calls (sym d) ∙ w.8))
+      found w.2 (some_same (sym e ∙ (ap s.calls (sym d) ∙ w.4))) w.5 w.6 w.7 (ap n.calls (sym d) ∙ w.8))
 ]
 
+-- a call that isn't a touch at look or found writes no word
 quiet_call : (s : State) (t : ℕ) (grant : Bool) (c : Call) (o : Outcome) (n : State) → s.calls t ≡ Some c → reads c ≡ false
     → Silent s (Step t grant) o n
 quiet_call s t grant c o n e quiet f i v wrote = stored_by s t grant c o n e ⊥ f i v wrote
@@ -150,10 +156,11 @@ quiet_refused : (s : State) (event : Event) (why : Refusal) (o : Outcome) (n : S
 quiet_refused s event why o n e d f i v wrote = elim wrote [
   | inl w ↦ (let z : outcome.Refused why ≡ outcome.Ended answer.Done = sym e ∙ w.7 in cc)
   | inr w ↦ (let z : call.Touch (touch.Found w.2) ≡ call.Touch
-      (touch.Leave (record { touch = w.2.touch; answer = answer.Done })) = some_call
+      (touch.Leave (record { touch = w.2.touch; answer = answer.Done })) = some_same
       (sym w.4 ∙ (ap (λ (m : State). m.calls w.0) (sym d) ∙ w.8)) in cc)
 ]
 
+-- where pages and frames stay and no store writes, each page keeps its word
 self_tells : (s : State) (event : Event) (o : Outcome) (n : State) → n.pages ≡ s.pages → n.frame ≡ s.frame → Silent s event o n
     → Tells s event o n
 self_tells s event o n pages frame quiet = shrinks_tell s event o n (pool_of s) pages frame quiet (λ f i x w a b. (a, b))
@@ -297,6 +304,7 @@ found_tells s t grant p turn pool o n h e row next pages frame =
         same_store : {a b : ℕ} → Store a ≡ Store b → a ≡ b
         same_store z = cc
 
+-- so of each call that doesn't read or write, by what its rows do to the pages
 by_pages : (s : State) (t : ℕ) (killed grant : Bool) (c : Call) (o : Outcome) (pool : Pool) (next : Option Call) (n : State)
     → reads c ≡ false → Inv s.geometry s → s.calls t ≡ Some c → CallRow (pool_of s) t killed grant c o pool next
     → n.pages ≡ pool.pages → n.frame ≡ pool.frame → Tells s (Step t grant) o n
@@ -305,6 +313,7 @@ by_pages s t killed grant c o pool next n quiet h e row pages frame = elim (call
   | inr k ↦ places_tell s (Step t grant) o n pool h pages frame (quiet_call s t grant c o n e quiet) k
 ]
 
+-- each step of a call makes the word of a page the last one made there
 step_tells : (s : State) (t : ℕ) (killed grant : Bool) (c : Call) (o : Outcome) (pool : Pool) (next : Option Call) (n : State)
     → Inv s.geometry s → s.calls t ≡ Some c → CallRow (pool_of s) t killed grant c o pool next → n.calls t ≡ next
     → n.pages ≡ pool.pages → n.frame ≡ pool.frame → Tells s (Step t grant) o n
@@ -346,6 +355,7 @@ step_tells s t killed grant (call.Unmap p) o pool next n h e row calls pages fra
 step_tells s t killed grant (call.Exit p) o pool next n h e row calls pages frame =
     by_pages s t killed grant (call.Exit p) o pool next n refl h e row pages frame
 
+-- and so does each event
 pub row_tells : (s : State) (event : Event) (o : Outcome) (n : State) → Always s → Row s event o n → Tells s event o n
 row_tells s (Begin u p) o n h row = begin_cases s u p o n (Tells s (Begin u p) o n) row
     (λ why e d. self_tells s (Begin u p) o n (ap (λ (m : State). m.pages) d) (ap (λ (m : State). m.frame) d)

@@ -1,7 +1,6 @@
 -- An allocation whose change found nothing missing at an index gets past that index for want of no frame.
 use Rattle.std.proofs.Common.{◌≡◌, ◌≢◌, ℕ, ◌+◌, ◌≤◌, sym, subst, arith}
-use Rattle.std.specs.Prelude.{Bool, false, not, ◌&&◌, ◌==◌, nat_lt, is_some, Option, Some, None, List, [], ◌∷◌}
-use Rattle.std.proofs.lemmas.Bool.Decides.{nat_tests}
+use Rattle.std.specs.Prelude.{Bool, not, ◌&&◌, ◌==◌, nat_lt, is_some, Option, Some, None, List, [], ◌∷◌}
 use Rattle.hp_base.specs.declared.answer.Answer.{Answer}
 use Rattle.hp_base.specs.declared.answer.Answer.TheVariants as answer
 use Rattle.hp_base.specs.declared.event.Event.{Event}
@@ -19,10 +18,12 @@ use Rattle.hp_machine.specs.declared.call.Call.TheVariants as call
 use Rattle.hp_machine.specs.declared.call.Turn.{Turn}
 use Rattle.hp_machine.specs.declared.call.Turn.TheVariants.{Moved, Blocked, Ended}
 use Rattle.hp_laws.specs.Bounds.{is_begun, calls_begun}
+use Rattle.hp_laws.proofs.Deciding.{nil_passes, some_same}
 use Rattle.hp_laws.proofs.Shared.{by_test, by_option}
 use Rattle.hp_laws.proofs.Runs.{Always, always, row_keeps}
 use Rattle.hp_laws.proofs.Serving.{TurnWell, at_leaf, sure_commit, own_or_same}
 
+-- where the call ends, any answer will do
 abbrev Any : Answer → Type 0
 Any a = Unit {0}
 
@@ -43,21 +44,15 @@ Past i (alloc.Unslot p) = (i ≤ p.index) × (p.index ≡ i → p.answer ≢ Som
 Past i (alloc.Extend p) = Unit {0}
 Past i (alloc.Leave p) = Unit {0}
 
-same_answer : {a b : Answer} → Some a ≡ Some b → a ≡ b
-same_answer e = cc
-
+-- past an index is at least at it
 low : (i k : ℕ) → i + 1 ≤ k → i ≤ k
 low i k h = omega arith
 
+-- past an index isn't at it
 beyond : {P : Type 0} (i k : ℕ) → i + 1 ≤ k → k ≡ i → P
 beyond i k h e = absurd (omega arith)
 
-none_missing : {P : Type 0} (m : ℕ) → m ≡ 0 → (m == 0) ≡ false → P
-none_missing m e d = absurd (never m e d)
-  where
-    never : (m : ℕ) → m ≡ 0 → (m == 0) ≡ false → ⊥
-    never m e d = grind (arith, nat_tests)
-
+-- each row of the allocation leaves it at the index or past it, for want of no frame
 past_turn : (s : State) (t : ℕ) (killed grant : Bool) (i : ℕ) (phase : AllocPhase) (turn : Turn AllocPhase) (new : Pool)
     → Past i phase → AllocRow (pool_of s) t killed grant phase turn new → TurnWell AllocPhase (Past i) Any turn
 past_turn s t killed grant i (alloc.Start p) turn new h row = absurd h
@@ -79,16 +74,16 @@ past_turn s t killed grant i (alloc.Changed p) turn new h row = by_test killed r
     (λ _ r. by_test (p.pending.missing == 0) r
     (λ _ r. at_leaf (Past i) Any _ turn r.3.0 h.0)
     (λ some r. by_test (frees (pool_of s) == s.resv) r
-    (λ _ r. at_leaf (Past i) Any _ turn r.0 (h.0, λ e. none_missing p.pending.missing (h.1 e) some))
+    (λ _ r. at_leaf (Past i) Any _ turn r.0 (h.0, λ e. nil_passes p.pending.missing (h.1 e) some))
     (λ _ r. at_leaf (Past i) Any _ turn r.2.0 h.0)))
-past_turn s t killed grant i (alloc.Abort p) turn new h row = at_leaf (Past i) Any _ turn row.0 (h.0, λ e z. h.1 e (same_answer z))
+past_turn s t killed grant i (alloc.Abort p) turn new h row = at_leaf (Past i) Any _ turn row.0 (h.0, λ e z. h.1 e (some_same z))
 past_turn s t killed grant i (alloc.Taken p) turn new h row =
     sure_commit (Past i) Any s p.allocation.file p.pending.from p.pending.to p.pending.missing _ _ turn new row h h
 past_turn s t killed grant i (alloc.Settle p) turn new h (some, row) = at_leaf (Past i) Any _ turn row.0 h
 past_turn s t killed grant i (alloc.Committed p) turn new h row = by_test grant row
     (λ _ r. at_leaf (Past i) Any _ turn r.0 (h, λ e z. cc))
     (λ _ r. at_leaf (Past i) Any _ turn r.0 (h, λ e z. cc))
-past_turn s t killed grant i (alloc.Restore p) turn new h row = at_leaf (Past i) Any _ turn row.0 (h.0, λ e z. h.1 e (same_answer z))
+past_turn s t killed grant i (alloc.Restore p) turn new h row = at_leaf (Past i) Any _ turn row.0 (h.0, λ e z. h.1 e (some_same z))
 past_turn s t killed grant i (alloc.Unslot p) turn new h row = by_option p.answer row
     (λ _ r. by_test (nat_lt (p.index + 1) (p.allocation.from + p.allocation.len)) r
     (λ _ r. at_leaf (Past i) Any _ turn r.0 (omega arith))
@@ -97,16 +92,19 @@ past_turn s t killed grant i (alloc.Unslot p) turn new h row = by_option p.answe
 past_turn s t killed grant i (alloc.Extend p) turn new h row = at_leaf (Past i) Any _ turn row.0 tt
 past_turn s t killed grant i (alloc.Leave p) turn new h row = at_leaf (Past i) Any _ turn row.0 tt
 
+-- the same of the task's call, over or in flight
 abbrev CallPast : ℕ → Option Call → Type 0
 CallPast i None = Unit {0}
 CallPast i (Some (call.Alloc phase)) = Past i phase
 CallPast i (Some other) = ⊥
 
+-- so does the call that the turn leaves
 next_past : (i : ℕ) (turn : Turn AllocPhase) → TurnWell AllocPhase (Past i) Any turn → CallPast i (left call.Alloc turn)
 next_past i (Moved p) h = h
 next_past i (Blocked p u) h = h
 next_past i (Ended a) h = tt
 
+-- and each step of it
 past_call : (s : State) (t : ℕ) (killed grant : Bool) (i : ℕ) (c : Call) (o : Outcome) (pool : Pool) (next : Option Call)
     → CallPast i (Some c) → CallRow (pool_of s) t killed grant c o pool next → CallPast i next
 unfolding CallRow
@@ -119,6 +117,7 @@ past_call s t killed grant i (call.Truncate p) o pool next w row = absurd w
 past_call s t killed grant i (call.Unmap p) o pool next w row = absurd w
 past_call s t killed grant i (call.Exit p) o pool next w row = absurd w
 
+-- and any event that begins no call of the task
 past_row : (s : State) (t i : ℕ) (event : Event) (o : Outcome) (n : State) → Always s → is_begun t event o ≡ 0
     → CallPast i (s.calls t) → Row s event o n → CallPast i (n.calls t)
 past_row s t i event o n h quiet w row = own_or_same s t event o n (CallPast i (n.calls t)) h quiet row
@@ -126,6 +125,7 @@ past_row s t i event o n h quiet w row = own_or_same s t event o n (CallPast i (
     (λ grant c pool next is e r d. subst (λ (m : State). CallPast i (m.calls t)) (sym d) (subst (CallPast i) (sym (put_same s.calls t next))
     (past_call s t (is_killed (s.life t)) grant i c o pool next (subst (CallPast i) e w) r)))
 
+-- so over a run that begins none
 past_run : (t i : ℕ) (s : State) (es : List (Event × Outcome)) (n : State) → Run s es n → Always s → calls_begun t es ≡ 0
     → CallPast i (s.calls t) → CallPast i (n.calls t)
 past_run t i s [] n r h quiet w = subst (λ (m : State). CallPast i (m.calls t)) (sym r) w

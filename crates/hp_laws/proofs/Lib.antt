@@ -4,6 +4,7 @@ pub mod Apart
 pub mod Claims
 pub mod Cover
 pub mod Cuts
+pub mod Deciding
 pub mod Denials
 pub mod Effects
 pub mod Evicted

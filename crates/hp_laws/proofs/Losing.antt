@@ -1,5 +1,5 @@
 -- A reserved index goes only under the file lock, and a truncation that is over leaves nothing.
-use Rattle.std.proofs.Common.{◌≡◌, ℕ, ◌+◌, ◌≤◌, refl, ap, sym, ◌∙◌, subst, arith, inl, inr, ◌⊎◌}
+use Rattle.std.proofs.Common.{◌≡◌, ℕ, ◌+◌, refl, ap, sym, ◌∙◌, subst, arith, inl, inr, ◌⊎◌}
 use Rattle.std.specs.Prelude.{Bool, true, false, ◌&&◌, ◌||◌, ◌==◌, nat_le, nat_lt, max, is_some, Option, Some}
 use Rattle.std.proofs.lemmas.Bool.Decides.{nat_tests}
 use Rattle.hp_base.specs.Indices.{is_within}
@@ -32,6 +32,7 @@ use Rattle.hp_machine.specs.declared.call.Turn.TheVariants.{Moved, Blocked, Ende
 use Rattle.hp_machine.specs.Views.{locked_file}
 use Rattle.hp_laws.specs.Sweep.{ahead, passed, gone}
 use Rattle.hp_laws.specs.Protocol.{is_covered, counts_on, works_at, GoesUnderLock, truncation_of, IsCut}
+use Rattle.hp_laws.proofs.Deciding.{from_on, never, clash, some_same}
 use Rattle.hp_laws.proofs.Standing.{HasSlot, HasLock, Stands, IsOne}
 use Rattle.hp_laws.proofs.Invariant.{Inv}
 use Rattle.hp_laws.proofs.Passing.{ahead_locked, locks_file, holds_slot, same_holder}
@@ -41,28 +42,31 @@ use Rattle.hp_laws.proofs.Runs.{Always, always}
 use Rattle.hp_laws.proofs.Apart.{works, passed_bare}
 use Rattle.hp_laws.proofs.Reading.{begin_cases, step_cases, kill_cases, call_steps}
 
+-- two tests for equal numbers are two equations
 same_pair : (a b f i : ℕ) → ((a == f) && (b == i)) ≡ true → (a ≡ f) × (b ≡ i)
 same_pair a b f i e = (grind (arith, nat_tests), grind (arith, nat_tests))
 
-never : {k f m i : ℕ} → false ≡ true → (k ≡ f) × (m ≡ i)
-never e = absurd (cc)
-
+-- two equations make one of pairs
 of_pair : {k m f i : ℕ} → (k ≡ f) × (m ≡ i) → ◌≡◌ {A = Option (ℕ × ℕ)} (Some (k, m)) (Some (f, i))
 of_pair {k} {m} {f} {i} d =
     let a : ◌≡◌ {A = Option (ℕ × ℕ)} (Some (k, m)) (Some (f, m)) = ap (λ (z : ℕ). Some (z, m)) d.0 in
     let b : ◌≡◌ {A = Option (ℕ × ℕ)} (Some (f, m)) (Some (f, i)) = ap (λ (z : ℕ). Some (f, z)) d.1 in
     a ∙ b
 
+-- so do two tests
 pair_of : (k m f i : ℕ) → ((k == f) && (m == i)) ≡ true → ◌≡◌ {A = Option (ℕ × ℕ)} (Some (k, m)) (Some (f, i))
 pair_of k m f i e = of_pair (same_pair k m f i e)
 
+-- a change of one index covers that one alone
 within_one : (from to k m f i : ℕ) → from ≡ m → to ≡ m + 1 → ((k == f) && is_within from to i) ≡ true → (k ≡ f) × (m ≡ i)
 within_one from to k m f i a b e = (grind (arith, nat_tests), grind (arith, nat_tests))
 
+-- one of two tests that hold as a disjunction holds
 either : (a b : Bool) → (a || b) ≡ true → (a ≡ true) ⊎ (b ≡ true)
 either true b e = inl refl
 either false b e = inr e
 
+-- a test for a file says which file it is, whichever case holds: in both cases
 file_of : (k f : ℕ) (b c : Bool) → (((k == f) && b) || ((k == f) && c)) ≡ true → Some k ≡ Some f
 file_of k f b c e = ap (λ (m : ℕ). Some m) (of (either ((k == f) && b) ((k == f) && c) e))
   where
@@ -70,6 +74,7 @@ file_of k f b c e = ap (λ (m : ℕ). Some m) (of (either ((k == f) && b) ((k ==
     of (inl a) = grind (arith, nat_tests)
     of (inr a) = grind (arith, nat_tests)
 
+-- in the first alone
 file_left : (k f : ℕ) (b : Bool) → (((k == f) && b) || false) ≡ true → Some k ≡ Some f
 file_left k f b e = ap (λ (m : ℕ). Some m) (of (either ((k == f) && b) false e))
   where
@@ -77,6 +82,7 @@ file_left k f b e = ap (λ (m : ℕ). Some m) (of (either ((k == f) && b) false 
     of (inl a) = grind (arith, nat_tests)
     of (inr a) = absurd (cc)
 
+-- and in one
 file_right : (k f : ℕ) (b : Bool) → ((k == f) && b) ≡ true → Some k ≡ Some f
 file_right k f b e = let d : k ≡ f = grind (arith, nat_tests) in ap (λ (m : ℕ). Some m) d
 
@@ -92,6 +98,7 @@ one_covers change k m f i b one other e = elim (either (is_covered (Counts k cha
 abbrev CountsOn : Option Call → (file index : ℕ) → Type 0
 CountsOn c f i = (works_at c ≡ Some (f, i)) ⊎ (locked_file c ≡ Some f)
 
+-- a call that counts on an index holds its slot, or the lock of its file, by its facts
 counts_works : (g : Geometry) (s : State) (u : ℕ) (c : Option Call) (f i : ℕ) → Stands g s u c → counts_on c f i ≡ true → CountsOn c f i
 counts_works g s u (Some (call.Touch (touch.Changed p))) f i h e =
     inl (one_covers p.pending p.touch.file p.touch.index f i false h.facts.one never e)
@@ -113,6 +120,7 @@ counts_works g s u (Some (call.Unmap (unmap.Start _))) f i h e = let d : false �
 counts_works g s u (Some (call.Exit exit.Start)) f i h e = let d : false ≡ true = e in absurd (cc)
 counts_works g s u c f i h e = let d : false ≡ true = e in absurd (cc)
 
+-- a test for a tail says the file
 same_from : (a b f i : ℕ) → ((a == f) && nat_le b i) ≡ true → a ≡ f
 same_from a b f i e = grind (arith, nat_tests)
 
@@ -122,6 +130,7 @@ Deletes s t c f i =
     HasLock s t f × ((word_of c ≡ word.Delete) ⊎ (word_of c ≡ word.Tail))
     × ((passed (Some c) f i ≡ true) ⊎ HasSlot s.geometry s t f i)
 
+-- a call whose next step takes an index out holds the lock of its file, and the slot or a passed index
 deleter : (s : State) (t : ℕ) (c : Call) (f i : ℕ) → Stands s.geometry s t (Some c) → deletes (Some c) f i ≡ true → Deletes s t c f i
 deleter s t (call.Punch (punch.Delete p)) f i y e =
     let o = same_pair p.hole.file p.index f i e in (
@@ -134,13 +143,12 @@ deleter s t (call.Truncate (truncate.Tail p)) f i y e =
     (ap s.locks (sym (same_from p.truncation.file p.truncation.new f i e)) ∙ y.lock, inr refl, inl e)
 deleter s t c f i y e = (let d : false ≡ true = e in absurd (cc))
 
+-- what can't be counted on isn't
 unless_counted : (b : Bool) → (b ≡ true → ⊥) → b ≡ false
 unless_counted true h = absurd (h refl)
 unless_counted false h = refl
 
-clash : {P : Type 0} (b : Bool) → b ≡ true → b ≡ false → P
-clash b e d = (let z : true ≡ false = sym e ∙ d in absurd (cc))
-
+-- a reserved index that is reserved no more was taken out by a holder of the lock, and nobody counts on it
 pub goes_under : (s : State) (event : Event) (o : Outcome) (n : State) (f i : ℕ) → Always s → Row s event o n
     → s.reserved f i ≡ true → n.reserved f i ≡ false → GoesUnderLock s event f i
 goes_under s (Begin u p) o n f i h row a b = begin_cases s u p o n (GoesUnderLock s (Begin u p) f i) row
@@ -183,19 +191,23 @@ goes_under s (Step t grant) o n f i h row a b = step_cases s t grant o n (GoesUn
       ]
     ])
 
+-- so in every reached state
 pub goes_under_lock : (s : State) (event : Event) (o : Outcome) (n : State) (f i : ℕ) → IsReached s → Row s event o n
     → s.reserved f i ≡ true → n.reserved f i ≡ false → GoesUnderLock s event f i
 goes_under_lock s event o n f i reached row a b = goes_under s event o n f i (always s reached) row a b
 
+-- an answer that isn't done isn't done
 not_done : {P Q : Type 0} (turn : Turn P) (a : Answer) → (turn ≡ Ended a) → (a ≡ answer.Done → ⊥) → turn ≡ Ended answer.Done → Q
 not_done {P} turn a e other d = absurd (other (same (sym e ∙ d)))
   where
     same : {a b : Answer} → ◌≡◌ {A = Turn P} (Ended a) (Ended b) → a ≡ b
     same z = cc
 
+-- a turn that moved has not ended
 not_moved : {P Q : Type 0} (turn : Turn P) (p : P) (a : Answer) → turn ≡ Moved p → turn ≡ Ended a → Q
 not_moved {P} turn p a e d = (let z : ◌≡◌ {A = Turn P} (Moved p) (Ended a) = sym e ∙ d in absurd (cc))
 
+-- nor has one that is blocked
 not_blocked : {P Q : Type 0} (turn : Turn P) (p : P) (u : ℕ) (a : Answer) → turn ≡ Blocked p u → turn ≡ Ended a → Q
 not_blocked {P} turn p u a e d = (let z : ◌≡◌ {A = Turn P} (Blocked p u) (Ended a) = sym e ∙ d in absurd (cc))
 
@@ -229,9 +241,6 @@ done_row s t killed grant (truncate.Tail p) turn new P row d f = not_moved turn 
 done_row s t killed grant (truncate.Settle p) turn new P (low, row) d f = not_moved turn _ _ row.0 d
 done_row s t killed grant (truncate.Leave p) turn new P row d f = f p refl row.1
 
-from_on : (f new j : ℕ) → new ≤ j → ((f == f) && nat_le new j) ≡ true
-from_on f new j l = grind (arith, nat_tests)
-
 -- nothing is left where a truncation leaves
 cut_at : (s : State) (t : ℕ) (p : Leave) → Inv s.geometry s → s.calls t ≡ Some (call.Truncate (truncate.Leave p))
     → IsCut s p.truncation.file p.truncation.new
@@ -251,6 +260,7 @@ cut_at s t p h e =
       reserved = λ j l. h.sweep.gone t f j (ap (λ (k : Option Call). gone k f j) e ∙ from_on f new j l);
     }
 
+-- a truncation that tells done has ended with it
 told_done : (turn : Turn TruncatePhase) → outcome.Ended answer.Done ≡ told call.Truncate turn → turn ≡ Ended answer.Done
 told_done (Moved p) e = (let z : outcome.Ended answer.Done ≡ outcome.Moved (word_of (call.Truncate p)) = e in absurd (cc))
 told_done (Blocked p u) e = (let z : outcome.Ended answer.Done ≡ outcome.Blocked u = e in absurd (cc))
@@ -259,6 +269,7 @@ told_done (Ended a) e = ap (λ (b : Answer). Ended b) (same (sym e))
     same : {a b : Answer} → outcome.Ended a ≡ outcome.Ended b → a ≡ b
     same z = cc
 
+-- so the state after is cut at the new size
 done_call : (s : State) (t : ℕ) (killed grant : Bool) (phase : TruncatePhase) (o : Outcome) (pool : Pool) (next : Option Call)
     → Inv s.geometry s → s.calls t ≡ Some (call.Truncate phase)
     → CallRow (pool_of s) t killed grant (call.Truncate phase) o pool next → o ≡ outcome.Ended answer.Done
@@ -270,9 +281,7 @@ done_call s t killed grant phase o pool next h e (turn, row, tells, leaves) is =
     (subst (λ (m : Pool). IsCut (with_pool s m) p.truncation.file p.truncation.new) (sym d)
     (cut_at s t p h (e ∙ ap (λ (m : TruncatePhase). Some (call.Truncate m)) q))))
 
-same_call : {a b : Call} → Some a ≡ Some b → a ≡ b
-same_call e = cc
-
+-- after a truncation has ended with done nothing is left from its new size on
 pub truncation_leaves_nothing : (s : State) (t : ℕ) (grant : Bool) (phase : TruncatePhase) (n : State) → IsReached s
     → s.calls t ≡ Some (call.Truncate phase) → Row s (Step t grant) (outcome.Ended answer.Done) n
     → IsCut n (truncation_of phase).file (truncation_of phase).new
@@ -283,4 +292,4 @@ truncation_leaves_nothing s t grant phase n reached e row =
     subst (λ (m : State). IsCut m (truncation_of phase).file (truncation_of phase).new) (sym d)
     (done_call s t (is_killed (s.life t)) grant phase (outcome.Ended answer.Done) pool next (always s reached).inv e
     (subst (λ (m : Call). CallRow (pool_of s) t (is_killed (s.life t)) grant m (outcome.Ended answer.Done) pool
-    next) (same_call (sym some ∙ e)) r) refl))
+    next) (some_same (sym some ∙ e)) r) refl))

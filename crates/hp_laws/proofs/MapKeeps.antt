@@ -1,7 +1,6 @@
 -- Each row of a map keeps the invariant.
 use Rattle.std.proofs.Common.{◌≡◌, ℕ, ◌+◌, ◌-◌, ◌<◌, ◌≤◌, refl, ap, sym, ◌∙◌, subst, arith}
 use Rattle.std.specs.Prelude.{Bool, true, false, nat_lt, max, Some}
-use Rattle.std.proofs.lemmas.Bool.Decides.{nat_tests}
 use Rattle.hp_base.specs.Numbers.{put}
 use Rattle.hp_base.specs.Indices.{is_within, missing, add_range}
 use Rattle.hp_base.specs.Mappings.{IsRoom}
@@ -25,6 +24,7 @@ use Rattle.hp_machine.specs.declared.map.MapPhase.TheVariants as at
 use Rattle.hp_machine.specs.declared.call.Call.TheVariants as call
 use Rattle.hp_machine.specs.declared.call.Turn.{Turn}
 use Rattle.hp_laws.specs.Sweep.{passed}
+use Rattle.hp_laws.proofs.Deciding.{lt, le}
 use Rattle.hp_laws.proofs.Standing.{HasLock, IsFilled, IsRange, IsWhole, Stands, is_mapped}
 use Rattle.hp_laws.proofs.Invariant.{Inv, stays}
 use Rattle.hp_laws.proofs.Holding.{leaves_lock}
@@ -37,6 +37,7 @@ use Rattle.hp_laws.proofs.Shared.{after, so, by_test, by_option, stands_at, star
 nothing : {A : Type 0} (b : Bool) → b ≡ false → b ≡ true → A
 nothing b e d = let z : false ≡ true = sym e ∙ d in absurd (cc)
 
+-- no more is missing of a range than its length
 missing_few : (r : ℕ → Bool) (from len : ℕ) → missing r from (from + len) ≤ len
 missing_few r from len = let a = count_within-missing r from (from + len) in omega arith
 
@@ -47,15 +48,10 @@ now_filled s f from len change whole j w =
     ∙ add_range_has (s.reserved f) change.from change.to j
     (ap (λ (m : ℕ). is_within m change.to j) whole.0 ∙ (ap (λ (m : ℕ). is_within from m j) whole.1 ∙ w))
 
+-- what is missing of a map's change is what is missing of its range
 own_missing : (r : ℕ → Bool) (from len : ℕ) (change : Change) → IsWhole change from len
     → missing r change.from change.to ≡ missing r from (from + len)
 own_missing r from len change whole = ap (λ (k : ℕ). missing r k change.to) whole.0 ∙ ap (missing r from) whole.1
-
-lt : (a b : ℕ) → nat_lt a b ≡ true → a < b
-lt a b e = grind (arith, nat_tests)
-
-le : (a b : ℕ) → nat_lt a b ≡ false → b ≤ a
-le a b e = grind (arith, nat_tests)
 
 -- what the map stands on when it leaves with an answer that tells no mapping
 left_stands : (s : State) (t : ℕ) (map : MapRequest) (b : Answer) → HasLock s t map.file
@@ -64,6 +60,7 @@ left_stands : (s : State) (t : ℕ) (map : MapRequest) (b : Answer) → HasLock 
 left_stands s t map b held range e =
     record { slot = tt; lock = held; facts = record { range = range; mapped = λ d. nothing (is_mapped b) e d } }
 
+-- at room it finds its base and makes room ready, or leaves where there is none or it is denied
 map_room : (s : State) (t : ℕ) (grant : Bool) (p : Room) (turn : Turn MapPhase) (new : Pool) → Inv s.geometry s
     → t < s.geometry.tasks + 1 → s.calls t ≡ Some (call.Map (at.Room p)) → MapRoomRow (pool_of s) t grant p turn new
     → Inv s.geometry (after call.Map s t turn new)
@@ -80,7 +77,11 @@ map_room s t grant p turn new h l e (found, room, row) =
     (λ granted r. by_test p.map.reserve r
     (λ reserves r. so call.Map s t _ turn _ new r
     (prepares s.geometry s t _ (Some (call.Map (at.Missing (record { map = p.map; base = base })))) h l e refl tt
-    (record { slot = tt; lock = y.lock; facts = record { range = y.facts.range; based = (put_same s.ready t true, fit) } })))
+    (record {
+      slot = tt;
+      lock = y.lock;
+      facts = record { range = y.facts.range; based = record { ready = put_same s.ready t true; fits = fit } };
+    })))
     (λ not r. so call.Map s t _ turn _ new r
     (prepares s.geometry s t _ (Some (call.Map (at.Enter (record { map = p.map; base = base })))) h l e refl tt
     (record {
@@ -88,7 +89,7 @@ map_room s t grant p turn new h l e (found, room, row) =
       lock = y.lock;
       facts = record {
         range = y.facts.range;
-        based = (put_same s.ready t true, fit);
+        based = record { ready = put_same s.ready t true; fits = fit };
         filled = λ d. nothing p.map.reserve not d;
       };
     }))))
@@ -96,6 +97,7 @@ map_room s t grant p turn new h l e (found, room, row) =
     (stays s.geometry s t _ (Some (call.Map (leave answer.NoMemory))) h l e refl tt
     (left_stands s t p.map answer.NoMemory y.lock y.facts.range refl))))
 
+-- at missing its change is begun, or denied
 map_missing : (s : State) (t : ℕ) (grant : Bool) (p : Missing) (turn : Turn MapPhase) (new : Pool) → Inv s.geometry s
     → t < s.geometry.tasks + 1 → s.calls t ≡ Some (call.Map (at.Missing p)) → MapMissingRow (pool_of s) grant p turn new
     → Inv s.geometry (after call.Map s t turn new)
@@ -121,6 +123,7 @@ map_missing s t grant p turn new h l e row =
           };
     })
 
+-- at changed it counts what is missing; it gives the change up where that is too much or a kill is noticed
 map_changed : (s : State) (t : ℕ) (killed : Bool) (p : Changed) (turn : Turn MapPhase) (new : Pool) → Inv s.geometry s
     → t < s.geometry.tasks + 1 → s.calls t ≡ Some (call.Map (at.Changed p)) → MapChangedRow (pool_of s) killed p turn new
     → Inv s.geometry (after call.Map s t turn new)
@@ -142,6 +145,7 @@ map_changed s t killed p turn new h l e row =
     (s.resv + p.pending.missing) h l e refl refl refl refl (omega arith) (let z = h.enough in omega arith) tt
     (record { slot = tt; lock = y.lock; facts = y.facts }))))
 
+-- at accounted the change is committed; from then on the whole range is reserved
 map_accounted : (s : State) (t : ℕ) (p : Accounted) (turn : Turn MapPhase) (new : Pool) → Inv s.geometry s
     → t < s.geometry.tasks + 1 → s.calls t ≡ Some (call.Map (at.Accounted p)) → MapAccountedRow (pool_of s) p turn new
     → Inv s.geometry (after call.Map s t turn new)
@@ -149,7 +153,7 @@ map_accounted s t p turn new h l e row =
     let y = stands_at s t _ h e in
     let f = p.map.file in
     let own = own_missing (s.reserved f) p.map.from p.map.len p.pending y.facts.whole in
-    let low : p.pending.to ≤ s.geometry.limit = (let a = y.facts.whole.1 in let b = y.facts.range.2 in omega arith) in
+    let low : p.pending.to ≤ s.geometry.limit = (let a = y.facts.whole.1 in let b = y.facts.range.limit in omega arith) in
     let nobody : (u j : ℕ) → passed (s.calls u) f j ≡ true → is_within p.pending.from p.pending.to j ≡ true → ⊥ =
     λ u j a w. no_passer s.geometry s t f h y.lock (λ i. ap (λ c. passed c f i) e) u j a in
     let filled = now_filled s f p.map.from p.map.len p.pending y.facts.whole in
@@ -163,14 +167,15 @@ map_accounted s t p turn new h l e row =
       base = p.base;
       excess = p.pending.missing - missing (s.reserved f) p.pending.from p.pending.to;
     })))) f p.pending h l e
-    y.facts.range.0 low refl refl refl refl refl nobody (omega arith) tt
+    y.facts.range.file low refl refl refl refl refl nobody (omega arith) tt
     (record { slot = tt; lock = y.lock; facts = record { range = y.facts.range; based = y.facts.based; filled = filled } })))
     (λ all r. let enough = le _ _ all in let few = y.facts.count in
     so call.Map s t _ turn _ new r
     (commits s.geometry s t _ (Some (call.Map (at.Enter (record { map = p.map; base = p.base })))) f p.pending h l e
-    y.facts.range.0 low refl refl refl refl refl nobody (omega arith) tt
+    y.facts.range.file low refl refl refl refl refl nobody (omega arith) tt
     (record { slot = tt; lock = y.lock; facts = record { range = y.facts.range; based = y.facts.based; filled = λ d. filled } })))
 
+-- at settle it gives back what it counted too much
 map_settle : (s : State) (t : ℕ) (p : Settle) (turn : Turn MapPhase) (new : Pool) → Inv s.geometry s → t < s.geometry.tasks + 1
     → s.calls t ≡ Some (call.Map (at.Settle p)) → MapSettleRow (pool_of s) p turn new
     → Inv s.geometry (after call.Map s t turn new)
@@ -181,6 +186,7 @@ map_settle s t p turn new h l e (low, row) =
     (s.resv - p.excess) h l e refl refl refl refl (omega arith) (let z = h.enough in omega arith) tt
     (record { slot = tt; lock = y.lock; facts = record { range = y.facts.range; based = y.facts.based; filled = λ d. y.facts.filled } }))
 
+-- at enter its mapping is entered and the file grows
 map_enter : (s : State) (t : ℕ) (p : Enter) (turn : Turn MapPhase) (new : Pool) → Inv s.geometry s → t < s.geometry.tasks + 1
     → s.calls t ≡ Some (call.Map (at.Enter p)) → MapEnterRow (pool_of s) t p turn new
     → Inv s.geometry (after call.Map s t turn new)
@@ -191,7 +197,7 @@ map_enter s t p turn new h l e row =
     (enters_area s.geometry s t _
     (Some (call.Map (at.Leave (record { map = p.map; answer = answer.Mapped p.base }))))
     (record { base = p.base; file = f; from = p.map.from; len = p.map.len }) h l e refl
-    y.facts.range.0 y.facts.range.1 y.facts.range.2 y.facts.based.1 y.lock
+    y.facts.range.file y.facts.range.some y.facts.range.limit y.facts.based.fits y.lock
     (no_passer s.geometry s t f h y.lock (λ i. ap (λ c. passed c f i) e)) tt
     (record {
       slot = tt;
@@ -202,6 +208,7 @@ map_enter s t p turn new h l e row =
     grown : (size : ℕ → ℕ) (f m : ℕ) → m ≤ put size f (max (size f) m) f
     grown size f m = let a : put size f (max (size f) m) f ≡ max (size f) m = put_same size f (max (size f) m) in omega arith
 
+-- so each row of a map keeps the invariant
 pub map_row : (s : State) (t : ℕ) (killed grant : Bool) (phase : MapPhase) (turn : Turn MapPhase) (new : Pool) → Inv s.geometry s
     → t < s.geometry.tasks + 1 → s.calls t ≡ Some (call.Map phase) → MapRow (pool_of s) t killed grant phase turn new
     → Inv s.geometry (after call.Map s t turn new)
@@ -209,7 +216,11 @@ map_row s t killed grant (at.Start p) turn new h l e row =
     start_row call.Map s t killed p.map.file _ answer.Killed (at.Start p) (at.Room (record { map = p.map })) turn new
     h l e row refl refl refl refl refl refl
     (λ in_files good. let o = good_range s p.map.from p.map.len good in
-    record { slot = tt; lock = put_same s.locks p.map.file (Some t); facts = record { range = (in_files, o.0, o.1) } })
+    record {
+      slot = tt;
+      lock = put_same s.locks p.map.file (Some t);
+      facts = record { range = record { file = in_files; some = o.0; limit = o.1 } };
+    })
 map_row s t killed grant (at.Room p) turn new h l e row = map_room s t grant p turn new h l e row
 map_row s t killed grant (at.Missing p) turn new h l e row = map_missing s t grant p turn new h l e row
 map_row s t killed grant (at.Changed p) turn new h l e row = map_changed s t killed p turn new h l e row

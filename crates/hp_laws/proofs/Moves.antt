@@ -34,6 +34,7 @@ same_place n states hands pages h x p q a b =
     let o = h.one x (h.real x p a) in
     o.2 p a ∙ sym (o.2 q b)
 
+-- a free frame that is taken is nowhere but in the hand
 take_only : (states : ℕ → FrameState) (hands : ℕ → Option ℕ) (pages : ℕ → ℕ → Option ℕ) (t x : ℕ)
     → ((q : Place) → IsAt states hands pages x q → q ≡ Free) → (r : Place)
     → IsAt (put states x state.Hand) (put hands t (Some x)) pages x r → r ≡ Hand t
@@ -41,18 +42,21 @@ take_only states hands pages t x h Free a = grind (arith, put_tells)
 take_only states hands pages t x h (Hand u) a = let b = h (Hand u) in grind (arith, put_tells)
 take_only states hands pages t x h (Page f i) a = let b : Page f i ≡ Free = h (Page f i) a in cc
 
+-- each other frame is where it was, and nowhere else
 take_back : (states : ℕ → FrameState) (hands : ℕ → Option ℕ) (pages : ℕ → ℕ → Option ℕ) (t x y : ℕ) (r : Place) → y ≢ x
     → IsAt (put states x state.Hand) (put hands t (Some x)) pages y r → IsAt states hands pages y r
 take_back states hands pages t x y Free h a = grind (arith, put_tells)
 take_back states hands pages t x y (Hand u) h a = grind (arith, put_tells)
 take_back states hands pages t x y (Page f i) h a = a
 
+-- and still there
 take_on : (states : ℕ → FrameState) (hands : ℕ → Option ℕ) (pages : ℕ → ℕ → Option ℕ) (t x y : ℕ) (r : Place) → hands t ≡ None
     → y ≢ x → IsAt states hands pages y r → IsAt (put states x state.Hand) (put hands t (Some x)) pages y r
 take_on states hands pages t x y Free e h a = grind (arith, put_tells)
 take_on states hands pages t x y (Hand u) e h a = grind (arith, put_tells)
 take_on states hands pages t x y (Page f i) e h a = a
 
+-- so each frame is in one place, where a free one is taken
 pub taken : (n : ℕ) (states : ℕ → FrameState) (hands : ℕ → Option ℕ) (pages : ℕ → ℕ → Option ℕ) (t x : ℕ)
     → OnePlace n states hands pages → hands t ≡ None → states x ≡ state.Free
     → OnePlace n (put states x state.Hand) (put hands t (Some x)) pages
@@ -62,6 +66,7 @@ taken n states hands pages t x h e a =
     (λ y r d i. take_back states hands pages t x y r d i)
     (λ y r d i. take_on states hands pages t x y r e d i)
 
+-- a frame that is placed is nowhere but at its index
 place_only : (states : ℕ → FrameState) (hands : ℕ → Option ℕ) (pages : ℕ → ℕ → Option ℕ) (t f i x : ℕ)
     → ((q : Place) → IsAt states hands pages x q → q ≡ Hand t) → (r : Place)
     → IsAt (put states x (state.Placed 0)) (put hands t None) (put2 pages f i (Some x)) x r → r ≡ Page f i
@@ -69,12 +74,14 @@ place_only states hands pages t f i x h Free a = grind (arith, put_tells)
 place_only states hands pages t f i x h (Hand u) a = let b = h (Hand u) in grind (arith, put_tells)
 place_only states hands pages t f i x h (Page k j) a = let b = h (Page k j) in grind (arith, put2_tells)
 
+-- each other frame is where it was, and nowhere else
 place_back : (states : ℕ → FrameState) (hands : ℕ → Option ℕ) (pages : ℕ → ℕ → Option ℕ) (t f i x y : ℕ) (r : Place) → y ≢ x
     → IsAt (put states x (state.Placed 0)) (put hands t None) (put2 pages f i (Some x)) y r → IsAt states hands pages y r
 place_back states hands pages t f i x y Free h a = grind (arith, put_tells)
 place_back states hands pages t f i x y (Hand u) h a = grind (arith, put_tells)
 place_back states hands pages t f i x y (Page k j) h a = grind (arith, put2_tells)
 
+-- and still there
 place_on : (states : ℕ → FrameState) (hands : ℕ → Option ℕ) (pages : ℕ → ℕ → Option ℕ) (t f i x y : ℕ) (r : Place)
     → hands t ≡ Some x → pages f i ≡ None → y ≢ x → IsAt states hands pages y r
     → IsAt (put states x (state.Placed 0)) (put hands t None) (put2 pages f i (Some x)) y r
@@ -82,6 +89,7 @@ place_on states hands pages t f i x y Free e d h a = grind (arith, put_tells)
 place_on states hands pages t f i x y (Hand u) e d h a = grind (arith, put_tells)
 place_on states hands pages t f i x y (Page k j) e d h a = grind (arith, put2_tells)
 
+-- so each frame is in one place, where one is placed
 pub placed : (n : ℕ) (states : ℕ → FrameState) (hands : ℕ → Option ℕ) (pages : ℕ → ℕ → Option ℕ) (t f i x : ℕ)
     → OnePlace n states hands pages → hands t ≡ Some x → pages f i ≡ None
     → OnePlace n (put states x (state.Placed 0)) (put hands t None) (put2 pages f i (Some x))
@@ -92,6 +100,7 @@ placed n states hands pages t f i x h e d =
     (λ y r b a. place_back states hands pages t f i x y r b a)
     (λ y r b a. place_on states hands pages t f i x y r e d b a)
 
+-- a frame that is freed is nowhere but among the free ones
 give_only : (states : ℕ → FrameState) (hands : ℕ → Option ℕ) (pages : ℕ → ℕ → Option ℕ) (t x : ℕ)
     → ((q : Place) → IsAt states hands pages x q → q ≡ Hand t) → (r : Place)
     → IsAt (put states x state.Free) (put hands t None) pages x r → r ≡ Free
@@ -99,18 +108,21 @@ give_only states hands pages t x h Free a = refl
 give_only states hands pages t x h (Hand u) a = let b = h (Hand u) in grind (arith, put_tells)
 give_only states hands pages t x h (Page k j) a = let b : Page k j ≡ Hand t = h (Page k j) a in cc
 
+-- each other frame is where it was, and nowhere else
 give_back : (states : ℕ → FrameState) (hands : ℕ → Option ℕ) (pages : ℕ → ℕ → Option ℕ) (t x y : ℕ) (r : Place) → y ≢ x
     → IsAt (put states x state.Free) (put hands t None) pages y r → IsAt states hands pages y r
 give_back states hands pages t x y Free h a = grind (arith, put_tells)
 give_back states hands pages t x y (Hand u) h a = grind (arith, put_tells)
 give_back states hands pages t x y (Page k j) h a = a
 
+-- and still there
 give_on : (states : ℕ → FrameState) (hands : ℕ → Option ℕ) (pages : ℕ → ℕ → Option ℕ) (t x y : ℕ) (r : Place) → hands t ≡ Some x
     → y ≢ x → IsAt states hands pages y r → IsAt (put states x state.Free) (put hands t None) pages y r
 give_on states hands pages t x y Free e h a = grind (arith, put_tells)
 give_on states hands pages t x y (Hand u) e h a = grind (arith, put_tells)
 give_on states hands pages t x y (Page k j) e h a = a
 
+-- so each frame is in one place, where one is freed
 pub given : (n : ℕ) (states : ℕ → FrameState) (hands : ℕ → Option ℕ) (pages : ℕ → ℕ → Option ℕ) (t x : ℕ)
     → OnePlace n states hands pages → hands t ≡ Some x → OnePlace n (put states x state.Free) (put hands t None) pages
 given n states hands pages t x h e =
@@ -119,6 +131,7 @@ given n states hands pages t x h e =
     (λ y r b a. give_back states hands pages t x y r b a)
     (λ y r b a. give_on states hands pages t x y r e b a)
 
+-- a frame that is taken from its page is nowhere but in the hand
 evict_only : (states : ℕ → FrameState) (hands : ℕ → Option ℕ) (pages : ℕ → ℕ → Option ℕ) (t f i x : ℕ)
     → ((q : Place) → IsAt states hands pages x q → q ≡ Page f i) → (r : Place)
     → IsAt (put states x state.Hand) (put hands t (Some x)) (put2 pages f i None) x r → r ≡ Hand t
@@ -126,12 +139,14 @@ evict_only states hands pages t f i x h Free a = grind (arith, put_tells)
 evict_only states hands pages t f i x h (Hand u) a = let b = h (Hand u) in grind (arith, put_tells)
 evict_only states hands pages t f i x h (Page k j) a = let b = h (Page k j) in grind (arith, put2_tells)
 
+-- each other frame is where it was, and nowhere else
 evict_back : (states : ℕ → FrameState) (hands : ℕ → Option ℕ) (pages : ℕ → ℕ → Option ℕ) (t f i x y : ℕ) (r : Place) → y ≢ x
     → IsAt (put states x state.Hand) (put hands t (Some x)) (put2 pages f i None) y r → IsAt states hands pages y r
 evict_back states hands pages t f i x y Free h a = grind (arith, put_tells)
 evict_back states hands pages t f i x y (Hand u) h a = grind (arith, put_tells)
 evict_back states hands pages t f i x y (Page k j) h a = grind (arith, put2_tells)
 
+-- and still there
 evict_on : (states : ℕ → FrameState) (hands : ℕ → Option ℕ) (pages : ℕ → ℕ → Option ℕ) (t f i x y : ℕ) (r : Place)
     → hands t ≡ None → pages f i ≡ Some x → y ≢ x → IsAt states hands pages y r
     → IsAt (put states x state.Hand) (put hands t (Some x)) (put2 pages f i None) y r
@@ -139,6 +154,7 @@ evict_on states hands pages t f i x y Free e d h a = grind (arith, put_tells)
 evict_on states hands pages t f i x y (Hand u) e d h a = grind (arith, put_tells)
 evict_on states hands pages t f i x y (Page k j) e d h a = grind (arith, put2_tells)
 
+-- so each frame is in one place, where a page is taken away
 pub evicted : (n : ℕ) (states : ℕ → FrameState) (hands : ℕ → Option ℕ) (pages : ℕ → ℕ → Option ℕ) (t f i x : ℕ)
     → OnePlace n states hands pages → hands t ≡ None → pages f i ≡ Some x
     → OnePlace n (put states x state.Hand) (put hands t (Some x)) (put2 pages f i None)
@@ -155,6 +171,7 @@ pub record Placing (frames : ℕ) (states : ℕ → FrameState) (held : ℕ → 
   pub hands : (t x : ℕ) → held t ≡ Some x → states x ≡ state.Hand
   pub pages : (f i x : ℕ) → paged f i ≡ Some x → (word : ℕ) × (states x ≡ state.Placed word)
 
+-- the whole placing is kept: where a free frame is taken into an empty hand
 pub takes_frame : (n : ℕ) (states : ℕ → FrameState) (hands : ℕ → Option ℕ) (pages : ℕ → ℕ → Option ℕ) (t x : ℕ)
     → Placing n states hands pages → hands t ≡ None → states x ≡ state.Free
     → Placing n (put states x state.Hand) (put hands t (Some x)) pages
@@ -181,6 +198,7 @@ other_hand n states hands pages t u x h e d = same_task (same_place n states han
     same_task : {a b : ℕ} → Hand a ≡ Hand b → a ≡ b
     same_task p = cc
 
+-- a frame is the page of one index
 pub other_page : (n : ℕ) (states : ℕ → FrameState) (hands : ℕ → Option ℕ) (pages : ℕ → ℕ → Option ℕ) (f i k j x : ℕ)
     → Placing n states hands pages → pages f i ≡ Some x → pages k j ≡ Some x → (k ≡ f) × (j ≡ i)
 other_page n states hands pages f i k j x h e d =
@@ -193,6 +211,7 @@ other_page n states hands pages f i k j x h e d =
     index : {a b c d : ℕ} → Page a b ≡ Page c d → b ≡ d
     index p = cc
 
+-- where the frame in a hand becomes a page
 pub places_frame : (n : ℕ) (states : ℕ → FrameState) (hands : ℕ → Option ℕ) (pages : ℕ → ℕ → Option ℕ) (t f i x : ℕ)
     → Placing n states hands pages → hands t ≡ Some x → pages f i ≡ None
     → Placing n (put states x (state.Placed 0)) (put hands t None) (put2 pages f i (Some x))
@@ -222,6 +241,7 @@ places_frame n states hands pages t f i x h e d = record {
         same : (a b : ℕ) → Some a ≡ Some b → b ≡ a
         same a b p = cc
 
+-- where it is freed
 pub gives_frame : (n : ℕ) (states : ℕ → FrameState) (hands : ℕ → Option ℕ) (pages : ℕ → ℕ → Option ℕ) (t x : ℕ)
     → Placing n states hands pages → hands t ≡ Some x → Placing n (put states x state.Free) (put hands t None) pages
 gives_frame n states hands pages t x h e = record {
@@ -243,6 +263,7 @@ gives_frame n states hands pages t x h e = record {
           (λ o. z.0 (other_hand n states hands pages t u x h e (a ∙ ap (λ (m : ℕ). Some m) o))) ∙ h.hands u y a)
     ]
 
+-- and where a page is taken into an empty hand
 pub evicts_frame : (n : ℕ) (states : ℕ → FrameState) (hands : ℕ → Option ℕ) (pages : ℕ → ℕ → Option ℕ) (t f i x : ℕ)
     → Placing n states hands pages → hands t ≡ None → pages f i ≡ Some x
     → Placing n (put states x state.Hand) (put hands t (Some x)) (put2 pages f i None)

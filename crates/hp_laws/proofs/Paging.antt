@@ -52,9 +52,11 @@ PlacesOne s new =
     (f i x : ℕ) × (new.pages ≡ put2 s.pages f i (Some x)) × (new.frame ≡ put s.frame x (state.Placed 0))
     × (s.pages f i ≡ None) × (s.frame x ≡ state.Hand)
 
+-- one of the two: all that a row does to the pages and their words, but a touch's that reads or writes one
 abbrev pub Pages : State → Pool → Type 0
 Pages s new = Shrinks s new ⊎ PlacesOne s new
 
+-- a leaf that leaves pages and frames alone does so
 same : (s : State) (there new : Pool) → new ≡ there → there.pages ≡ s.pages → there.frame ≡ s.frame → Pages s new
 same s there new e pages frame =
     inl (λ f i x w a b. (
@@ -74,12 +76,15 @@ moves s there new x v e pages frame not_placed = inl (λ f i y w a b. (
       ]),
 ))
 
+-- a frame in a hand has no word
 hand_not_placed : (w : ℕ) → state.Hand ≡ state.Placed w → ⊥
 hand_not_placed w e = cc
 
+-- nor has a free one
 free_not_placed : (w : ℕ) → state.Free ≡ state.Placed w → ⊥
 free_not_placed w e = cc
 
+-- each row that operations share does no more to the pages: taking a lock
 start_pages : {P : Type 0} (s : State) (t : ℕ) (killed : Bool) (f : ℕ) (bad : Bool) (at_kill : Answer) (here next : P)
     (turn : Turn P) (new : Pool)
     → StartRow (pool_of s) t killed f bad at_kill here next turn new → Pages s new
@@ -89,16 +94,19 @@ start_pages s t killed f bad at_kill here next turn new row =
     (λ _ r. by_test killed r (λ _ r. same s _ new r.1 refl refl)
     (λ _ r. by_option (s.locks f) r (λ _ r. same s _ new r.1 refl refl) (λ u _ r. same s _ new r.1 refl refl))))
 
+-- taking a slot
 want_pages : {P : Type 0} (s : State) (t f i : ℕ) (here next : P) (turn : Turn P) (new : Pool)
     → WantSlotRow (pool_of s) t f i here next turn new → Pages s new
 want_pages s t f i here next turn new row =
     by_option (s.slots (slot_of s.geometry f i)) row (λ _ r. same s _ new r.1 refl refl) (λ u _ r. same s _ new r.1 refl refl)
 
+-- beginning a change
 change_pages : {P : Type 0} (s : State) (grant : Bool) (f from to : ℕ) (denied : P) (changed : Change → P) (turn : Turn P) (new : Pool)
     → ChangeRow (pool_of s) grant f from to denied changed turn new → Pages s new
 change_pages s grant f from to denied changed turn new row =
     by_test ((s.spare f == s.pending f) && not grant) row (λ _ r. same s _ new r.1 refl refl) (λ _ r. same s _ new r.1 refl refl)
 
+-- taking a frame
 take_pages : {P : Type 0} (s : State) (m : ℕ) (no_frame : P) (taken : ℕ → P) (turn : Turn P) (new : Pool)
     → TakeRow (pool_of s) m no_frame taken turn new → Pages s new
 take_pages s m no_frame taken turn new row =
@@ -106,17 +114,20 @@ take_pages s m no_frame taken turn new row =
     (λ _ r. by_test (frees (pool_of s) == s.resv) r (λ _ r. same s _ new r.1 refl refl)
     (λ _ r. moves s _ new r.0 state.Hand r.2.1 refl refl hand_not_placed))
 
+-- committing a change
 commit_pages : {P : Type 0} (s : State) (f : ℕ) (c : Change) (settle next : P) (turn : Turn P) (new : Pool)
     → CommitRow (pool_of s) f c settle next turn new → Pages s new
 commit_pages s f c settle next turn new row =
     by_test (nat_lt (missing (s.reserved f) c.from c.to) c.missing) row (λ _ r. same s _ new r.1 refl refl)
     (λ _ r. same s _ new r.1 refl refl)
 
+-- clearing one task's entries
 unmap_index_pages : {P : Type 0} (s : State) (k f i : ℕ) (more last : P) (turn : Turn P) (new : Pool)
     → UnmapIndexRow (pool_of s) k f i more last turn new → Pages s new
 unmap_index_pages s k f i more last turn new row =
     by_test (nat_lt k s.geometry.tasks) row (λ _ r. same s _ new r.1 refl refl) (λ _ r. same s _ new r.1 refl refl)
 
+-- and an eviction, where one page goes
 evict_pages : {P : Type 0} (s : State) (f i : ℕ) (next : ℕ → P) (turn : Turn P) (new : Pool)
     → EvictRow (pool_of s) f i next turn new → Pages s new
 evict_pages s f i next turn new (x, page, row) = inl (λ k j y w a b.
@@ -130,6 +141,7 @@ evict_pages s f i next turn new (x, page, row) = inl (λ k j y w a b.
       (elim (put_tells s.frame x state.Hand y) [ inl q ↦ absurd (hand_not_placed w (sym q.1 ∙ d)) | inr q ↦ sym q.1 ∙ d ]),
     ))
 
+-- placing the frame in a hand makes one page more, with word 0
 places : (s : State) (t f i x : ℕ) (new there : Pool) → new ≡ there → there.pages ≡ put2 s.pages f i (Some x)
     → there.frame ≡ put s.frame x (state.Placed 0) → s.pages f i ≡ None → s.frame x ≡ state.Hand → Pages s new
 places s t f i x new there e pages frame bare hand =
@@ -141,6 +153,7 @@ is_reader (touch.Look p) = true
 is_reader (touch.Found p) = true
 is_reader other = false
 
+-- so no row of a touch does more, but those that read or write a word
 pub touch_pages : (s : State) (t : ℕ) (killed grant : Bool) (phase : TouchPhase) (turn : Turn TouchPhase) (new : Pool)
     → is_reader phase ≡ false → Inv s.geometry s → s.calls t ≡ Some (call.Touch phase)
     → TouchRow (pool_of s) t killed grant phase turn new → Pages s new
@@ -170,6 +183,7 @@ touch_pages s t killed grant (touch.Restore p) turn new reads h e row = moves s 
 touch_pages s t killed grant (touch.Found p) turn new reads h e row = (let d : true ≡ false = reads in absurd (cc))
 touch_pages s t killed grant (touch.Leave p) turn new reads h e row = same s _ new row.1 refl refl
 
+-- no row of a map
 map_pages : (s : State) (t : ℕ) (killed grant : Bool) (phase : MapPhase) (turn : Turn MapPhase) (new : Pool) → Inv s.geometry s
     → s.calls t ≡ Some (call.Map phase) → MapRow (pool_of s) t killed grant phase turn new → Pages s new
 map_pages s t killed grant (map.Start p) turn new h e row = start_pages s t killed p.map.file _ _ _ _ turn new row
@@ -193,6 +207,7 @@ map_pages s t killed grant (map.Settle p) turn new h e (low, row) = same s _ new
 map_pages s t killed grant (map.Enter p) turn new h e row = same s _ new row.1 refl refl
 map_pages s t killed grant (map.Leave p) turn new h e row = same s _ new row.1 refl refl
 
+-- of an allocation
 alloc_pages : (s : State) (t : ℕ) (killed grant : Bool) (phase : AllocPhase) (turn : Turn AllocPhase) (new : Pool)
     → Inv s.geometry s → s.calls t ≡ Some (call.Alloc phase) → AllocRow (pool_of s) t killed grant phase turn new → Pages s new
 alloc_pages s t killed grant (alloc.Start p) turn new h e row = start_pages s t killed p.allocation.file _ _ _ _ turn new row
@@ -226,6 +241,7 @@ alloc_pages s t killed grant (alloc.Unslot p) turn new h e row =
 alloc_pages s t killed grant (alloc.Extend p) turn new h e row = same s _ new row.1 refl refl
 alloc_pages s t killed grant (alloc.Leave p) turn new h e row = same s _ new row.1 refl refl
 
+-- of a punch
 punch_pages : (s : State) (t : ℕ) (killed grant : Bool) (phase : PunchPhase) (turn : Turn PunchPhase) (new : Pool)
     → Inv s.geometry s → s.calls t ≡ Some (call.Punch phase) → PunchRow (pool_of s) t killed grant phase turn new → Pages s new
 punch_pages s t killed grant (punch.Start p) turn new h e row = start_pages s t killed p.hole.file _ _ _ _ turn new row
@@ -244,6 +260,7 @@ punch_pages s t killed grant (punch.Unslot p) turn new h e row =
     (λ _ r. same s _ new r.1 refl refl)
 punch_pages s t killed grant (punch.Leave p) turn new h e row = same s _ new row.1 refl refl
 
+-- of a truncation
 truncate_pages : (s : State) (t : ℕ) (killed grant : Bool) (phase : TruncatePhase) (turn : Turn TruncatePhase) (new : Pool)
     → Inv s.geometry s → s.calls t ≡ Some (call.Truncate phase) → TruncateRow (pool_of s) t killed grant phase turn new
     → Pages s new
@@ -266,6 +283,7 @@ truncate_pages s t killed grant (truncate.Tail p) turn new h e row = same s _ ne
 truncate_pages s t killed grant (truncate.Settle p) turn new h e (low, row) = same s _ new row.1 refl refl
 truncate_pages s t killed grant (truncate.Leave p) turn new h e row = same s _ new row.1 refl refl
 
+-- of an unmap
 unmap_pages : (s : State) (t : ℕ) (killed grant : Bool) (phase : UnmapPhase) (turn : Turn UnmapPhase) (new : Pool)
     → Inv s.geometry s → s.calls t ≡ Some (call.Unmap phase) → UnmapRow (pool_of s) t killed grant phase turn new → Pages s new
 unmap_pages s t killed grant (unmap.Start p) turn new h e row =
@@ -273,6 +291,7 @@ unmap_pages s t killed grant (unmap.Start p) turn new h e row =
 unmap_pages s t killed grant (unmap.Clear p) turn new h e row = same s _ new row.1 refl refl
 unmap_pages s t killed grant (unmap.Drop p) turn new h e row = same s _ new row.1 refl refl
 
+-- or of an exit
 exit_pages : (s : State) (t : ℕ) (killed grant : Bool) (phase : ExitPhase) (turn : Turn ExitPhase) (new : Pool) → Inv s.geometry s
     → s.calls t ≡ Some (call.Exit phase) → ExitRow (pool_of s) t killed grant phase turn new → Pages s new
 exit_pages s t killed grant exit.Start turn new h e row =
@@ -288,6 +307,7 @@ abbrev pub reads : Call → Bool
 reads (call.Touch phase) = is_reader phase
 reads other = false
 
+-- so no step of a call does, but of a touch that reads or writes
 pub call_pages : (s : State) (t : ℕ) (killed grant : Bool) (c : Call) (o : Outcome) (new : Pool) (next : Option Call)
     → reads c ≡ false → Inv s.geometry s → s.calls t ≡ Some c → CallRow (pool_of s) t killed grant c o new next → Pages s new
 unfolding CallRow

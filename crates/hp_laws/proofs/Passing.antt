@@ -1,6 +1,6 @@
 -- A truncation holds its file's lock while it passes the indices, so there is one at a time.
 use Rattle.std.proofs.Common.{◌≡◌, ℕ, ◌≤◌, ap, sym, ◌∙◌, subst, arith, inl, inr}
-use Rattle.std.specs.Prelude.{Bool, true, false, Option, Some, None, IfSome, ◌==◌, ◌&&◌, nat_le, nat_lt}
+use Rattle.std.specs.Prelude.{true, false, Option, Some, None, IfSome, ◌==◌, ◌&&◌, nat_le, nat_lt}
 use Rattle.std.proofs.lemmas.Bool.Decides.{nat_tests}
 use Rattle.hp_machine.specs.State.{Geometry, State}
 use Rattle.hp_machine.specs.Views.{locked_file, slot_held}
@@ -14,25 +14,25 @@ use Rattle.hp_machine.specs.declared.exit.ExitPhase.TheVariants as exit
 use Rattle.hp_machine.specs.declared.call.Call.{Call}
 use Rattle.hp_machine.specs.declared.call.Call.TheVariants as call
 use Rattle.hp_laws.specs.Sweep.{fills, ahead, passed}
+use Rattle.hp_laws.proofs.Deciding.{file_told}
 use Rattle.hp_laws.proofs.Standing.{HasSlot, HasLock}
 use Rattle.hp_laws.proofs.Invariant.{Inv, Reached}
 
-same_file : (f k : ℕ) (b : Bool) → ((f == k) && b) ≡ true → Some f ≡ Some k
-same_file f k b e = let d : f ≡ k = grind (arith, nat_tests) in ap (λ (m : ℕ). Some m) d
-
+-- an index isn't both up to another and above it
 not_both : (f k i j : ℕ) → ((f == k) && nat_le j i) ≡ true → ((f == k) && nat_lt i j) ≡ true → ⊥
 not_both f k i j a b = grind (arith, nat_tests)
 
+-- a truncation that has passed an index holds the lock of its file
 pub passed_locked : (c : Option Call) (k j : ℕ) → passed c k j ≡ true → locked_file c ≡ Some k
-passed_locked (Some (call.Truncate (truncate.Want p))) k j e = same_file p.truncation.file k _ e
-passed_locked (Some (call.Truncate (truncate.Locked p))) k j e = same_file p.truncation.file k _ e
-passed_locked (Some (call.Truncate (truncate.Unmap p))) k j e = same_file p.truncation.file k _ e
-passed_locked (Some (call.Truncate (truncate.Evict p))) k j e = same_file p.truncation.file k _ e
-passed_locked (Some (call.Truncate (truncate.Free p))) k j e = same_file p.truncation.file k _ e
-passed_locked (Some (call.Truncate (truncate.Unslot p))) k j e = same_file p.truncation.file k _ e
-passed_locked (Some (call.Truncate (truncate.Tail p))) k j e = same_file p.truncation.file k _ e
-passed_locked (Some (call.Truncate (truncate.Settle p))) k j e = same_file p.truncation.file k _ e
-passed_locked (Some (call.Truncate (truncate.Leave p))) k j e = same_file p.truncation.file k _ e
+passed_locked (Some (call.Truncate (truncate.Want p))) k j e = file_told p.truncation.file k _ e
+passed_locked (Some (call.Truncate (truncate.Locked p))) k j e = file_told p.truncation.file k _ e
+passed_locked (Some (call.Truncate (truncate.Unmap p))) k j e = file_told p.truncation.file k _ e
+passed_locked (Some (call.Truncate (truncate.Evict p))) k j e = file_told p.truncation.file k _ e
+passed_locked (Some (call.Truncate (truncate.Free p))) k j e = file_told p.truncation.file k _ e
+passed_locked (Some (call.Truncate (truncate.Unslot p))) k j e = file_told p.truncation.file k _ e
+passed_locked (Some (call.Truncate (truncate.Tail p))) k j e = file_told p.truncation.file k _ e
+passed_locked (Some (call.Truncate (truncate.Settle p))) k j e = file_told p.truncation.file k _ e
+passed_locked (Some (call.Truncate (truncate.Leave p))) k j e = file_told p.truncation.file k _ e
 passed_locked (Some (call.Touch (touch.Look _))) k j e = let d : false ≡ true = e in cc
 passed_locked (Some (call.Map (map.Start _))) k j e = let d : false ≡ true = e in cc
 passed_locked (Some (call.Alloc (alloc.Start _))) k j e = let d : false ≡ true = e in cc
@@ -41,13 +41,14 @@ passed_locked (Some (call.Unmap (unmap.Start _))) k j e = let d : false ≡ true
 passed_locked (Some (call.Exit exit.Start)) k j e = let d : false ≡ true = e in cc
 passed_locked c k j e = let d : false ≡ true = e in cc
 
+-- so does one that has yet to pass it
 pub ahead_locked : (c : Option Call) (k j : ℕ) → ahead c k j ≡ true → locked_file c ≡ Some k
-ahead_locked (Some (call.Truncate (truncate.Want p))) k j e = same_file p.truncation.file k _ e
-ahead_locked (Some (call.Truncate (truncate.Locked p))) k j e = same_file p.truncation.file k _ e
-ahead_locked (Some (call.Truncate (truncate.Unmap p))) k j e = same_file p.truncation.file k _ e
-ahead_locked (Some (call.Truncate (truncate.Evict p))) k j e = same_file p.truncation.file k _ e
-ahead_locked (Some (call.Truncate (truncate.Free p))) k j e = same_file p.truncation.file k _ e
-ahead_locked (Some (call.Truncate (truncate.Unslot p))) k j e = same_file p.truncation.file k _ e
+ahead_locked (Some (call.Truncate (truncate.Want p))) k j e = file_told p.truncation.file k _ e
+ahead_locked (Some (call.Truncate (truncate.Locked p))) k j e = file_told p.truncation.file k _ e
+ahead_locked (Some (call.Truncate (truncate.Unmap p))) k j e = file_told p.truncation.file k _ e
+ahead_locked (Some (call.Truncate (truncate.Evict p))) k j e = file_told p.truncation.file k _ e
+ahead_locked (Some (call.Truncate (truncate.Free p))) k j e = file_told p.truncation.file k _ e
+ahead_locked (Some (call.Truncate (truncate.Unslot p))) k j e = file_told p.truncation.file k _ e
 ahead_locked (Some (call.Touch (touch.Look _))) k j e = let d : false ≡ true = e in cc
 ahead_locked (Some (call.Map (map.Start _))) k j e = let d : false ≡ true = e in cc
 ahead_locked (Some (call.Alloc (alloc.Start _))) k j e = let d : false ≡ true = e in cc
@@ -56,6 +57,7 @@ ahead_locked (Some (call.Unmap (unmap.Start _))) k j e = let d : false ≡ true 
 ahead_locked (Some (call.Exit exit.Start)) k j e = let d : false ≡ true = e in cc
 ahead_locked c k j e = let d : false ≡ true = e in cc
 
+-- no truncation has both passed an index and yet to pass it
 pub ahead_or_passed : (c : Option Call) (k j : ℕ) → ahead c k j ≡ true → passed c k j ≡ true → ⊥
 ahead_or_passed (Some (call.Truncate (truncate.Want p))) k j a b = not_both p.truncation.file k p.index j a b
 ahead_or_passed (Some (call.Truncate (truncate.Locked p))) k j a b = not_both p.truncation.file k p.index j a b
@@ -71,6 +73,7 @@ ahead_or_passed (Some (call.Unmap (unmap.Start _))) k j a b = let d : false ≡ 
 ahead_or_passed (Some (call.Exit exit.Start)) k j a b = let d : false ≡ true = a in cc
 ahead_or_passed c k j a b = let d : false ≡ true = a in cc
 
+-- a touch that fills an index holds its slot
 pub fills_slot : (c : Option Call) (k : ℕ × ℕ) → fills c ≡ Some k → slot_held c ≡ Some k
 fills_slot (Some (call.Touch (touch.Missing p))) k e = e
 fills_slot (Some (call.Touch (touch.Changed p))) k e = e
@@ -91,9 +94,11 @@ fills_slot c k e = let d : ◌≡◌ {A = Option (ℕ × ℕ)} None (Some k) = e
 pub locks_file : (g : Geometry) (s : State) (u f : ℕ) → Inv g s → locked_file (s.calls u) ≡ Some f → HasLock s u f
 locks_file g s u f h e = subst (λ (o : Option ℕ). IfSome o (λ file. HasLock s u file)) e (h.stands u).lock
 
+-- a call whose phase says that it holds a slot does hold it
 pub holds_slot : (g : Geometry) (s : State) (u : ℕ) (k : ℕ × ℕ) → Inv g s → slot_held (s.calls u) ≡ Some k → HasSlot g s u k.0 k.1
 holds_slot g s u k h e = subst (λ (o : Option (ℕ × ℕ)). IfSome o (λ place. HasSlot g s u place.0 place.1)) e (h.stands u).slot
 
+-- a slot, or a lock, has one holder
 pub same_holder : (a b : ℕ) (o : Option ℕ) → o ≡ Some a → o ≡ Some b → a ≡ b
 same_holder a b o d e = cc
 

@@ -28,16 +28,13 @@ use Rattle.hp_laws.specs.Bounds.{sizes}
 use Rattle.hp_laws.specs.Protocol.{truncation_of}
 use Rattle.hp_laws.specs.Histories.{Moment}
 use Rattle.hp_laws.specs.Promises.{in_hole, is_cut, can_take_back, IsPromised}
+use Rattle.hp_base.proofs.Spaces.{both_true}
+use Rattle.hp_laws.proofs.Deciding.{same_of, file_told, never, clash}
 use Rattle.hp_laws.proofs.Invariant.{Inv}
 use Rattle.hp_laws.proofs.Shared.{by_test, by_option, stands_at}
 use Rattle.hp_laws.proofs.StepsLeft.{deletes}
 
-pub never : {P : Type 0} → false ≡ true → P
-never e = absurd (cc)
-
-pub clash : {P : Type 0} (b : Bool) → b ≡ true → b ≡ false → P
-clash b e d = (let z : true ≡ false = sym e ∙ d in absurd (cc))
-
+-- the range of a punch, in each phase
 abbrev pub hole_of : PunchPhase → Hole
 hole_of (punch.Start p) = p.hole
 hole_of (punch.Want p) = p.hole
@@ -49,10 +46,12 @@ hole_of (punch.Free p) = p.hole
 hole_of (punch.Unslot p) = p.hole
 hole_of (punch.Leave p) = p.hole
 
+-- the punch has taken the file's lock
 abbrev pub past_punch : PunchPhase → Bool
 past_punch (punch.Start p) = false
 past_punch other = true
 
+-- the truncation has taken the file's lock
 abbrev pub past_truncate : TruncatePhase → Bool
 past_truncate (truncate.Start p) = false
 past_truncate other = true
@@ -71,16 +70,7 @@ KeptAt s k j = (s.reserved k j ≡ true) × (j < s.size k) × ((u : ℕ) → rem
 abbrev pub Kept : State → List Moment → Type 0
 Kept s ms = (k j : ℕ) → IsPromised k j ms → KeptAt s k j
 
-pub and_both : (a b : Bool) → (a && b) ≡ true → (a ≡ true) × (b ≡ true)
-and_both true b e = (refl, e)
-and_both false b e = never e
-
-pub same_of : (a b : ℕ) → (a == b) ≡ true → a ≡ b
-same_of a b e = grind (arith, nat_tests)
-
-file_of : (f k : ℕ) (b : Bool) → ((f == k) && b) ≡ true → Some f ≡ Some k
-file_of f k b e = ap (λ (m : ℕ). Some m) (same_of f k (and_both (f == k) b e).0)
-
+-- a punch past its start holds the lock of its file
 hole_locked : (phase : PunchPhase) → past_punch phase ≡ true → locked_file (Some (call.Punch phase)) ≡ Some (hole_of phase).file
 hole_locked (punch.Start p) e = never e
 hole_locked (punch.Want p) e = refl
@@ -92,6 +82,7 @@ hole_locked (punch.Free p) e = refl
 hole_locked (punch.Unslot p) e = refl
 hole_locked (punch.Leave p) e = refl
 
+-- so does a truncation
 cut_locked : (phase : TruncatePhase) → past_truncate phase ≡ true
     → locked_file (Some (call.Truncate phase)) ≡ Some (truncation_of phase).file
 cut_locked (truncate.Start p) e = never e
@@ -109,11 +100,11 @@ cut_locked (truncate.Leave p) e = refl
 -- who removes an index holds the file's lock
 pub removes_locked : (c : Option Call) (k j : ℕ) → removes c k j ≡ true → locked_file c ≡ Some k
 removes_locked (Some (call.Punch phase)) k j e =
-    let o = and_both (past_punch phase) _ e in
-    hole_locked phase o.0 ∙ file_of (hole_of phase).file k _ o.1
+    let o = both_true (past_punch phase) _ e in
+    hole_locked phase o.0 ∙ file_told (hole_of phase).file k _ o.1
 removes_locked (Some (call.Truncate phase)) k j e =
-    let o = and_both (past_truncate phase) _ e in
-    cut_locked phase o.0 ∙ file_of (truncation_of phase).file k _ o.1
+    let o = both_true (past_truncate phase) _ e in
+    cut_locked phase o.0 ∙ file_told (truncation_of phase).file k _ o.1
 removes_locked c k j e = never e
 
 -- what the next step takes out is removed
@@ -121,22 +112,25 @@ pub removes_deleted : (c : Call) (k j : ℕ) → deletes (Some c) k j ≡ true �
     → s.calls t ≡ Some c → removes (Some c) k j ≡ true
 removes_deleted (call.Punch (punch.Delete p)) k j e s t h d =
     let y = stands_at s t _ h d in
-    let o = and_both (p.hole.file == k) _ e in
+    let o = both_true (p.hole.file == k) _ e in
     let same : p.index ≡ j = same_of p.index j o.1 in
-    here p.hole.file p.hole.from p.hole.len k j (same_of p.hole.file k o.0) (let a = y.facts.range.1 in omega arith)
-    (let a = y.facts.range.2 in omega arith)
+    here p.hole.file p.hole.from p.hole.len k j (same_of p.hole.file k o.0) (let a = y.facts.aim.above in omega arith)
+    (let a = y.facts.aim.below in omega arith)
   where
     here : (f from len k j : ℕ) → f ≡ k → from ≤ j → j < from + len → ((f == k) && is_within from (from + len) j) ≡ true
     here f from len k j a b c = grind (arith, nat_tests)
 removes_deleted (call.Truncate (truncate.Tail p)) k j e s t h d = e
 removes_deleted c k j e s t h d = never e
 
+-- a turn that moved, moved to one phase
 moved_is : {P : Type 0} {p q : P} {turn : Turn P} → turn ≡ Moved p → turn ≡ Moved q → q ≡ p
 moved_is {P} {p} {q} e d = (let z : ◌≡◌ {A = Turn P} (Moved q) (Moved p) = sym d ∙ e in cc)
 
+-- and has not ended
 not_ended : {P Q : Type 0} {q : P} {a : Answer} {turn : Turn P} → turn ≡ Ended a → turn ≡ Moved q → Q
 not_ended {P} {q = q} {a = a} e d = (let z : ◌≡◌ {A = Turn P} (Moved q) (Ended a) = sym d ∙ e in absurd (cc))
 
+-- nor is it blocked
 not_blocked : {P Q : Type 0} {p q : P} {u : ℕ} {turn : Turn P} → turn ≡ Blocked p u → turn ≡ Moved q → Q
 not_blocked {P} {p = p} {q = q} {u = u} e d = (let z : ◌≡◌ {A = Turn P} (Moved q) (Blocked p u) = sym d ∙ e in absurd (cc))
 
@@ -199,44 +193,47 @@ truncate_cut s t killed grant (truncate.Leave p) q turn new row d = not_ended ro
 abbrev pub Removes : Call → Outcome → ℕ → ℕ → Type 0
 Removes c o k j = (removes (Some c) k j ≡ true) ⊎ ((phase : Phase) × (o ≡ outcome.Moved phase) × (can_take_back (Some c) k j ≡ true))
 
+-- a punch that removes an index after a move did so before, or has just taken its lock
 punch_removes : (phase q : PunchPhase) (k j : ℕ) → hole_of q ≡ hole_of phase → removes (Some (call.Punch q)) k j ≡ true
     → Removes (call.Punch phase) (outcome.Moved (word_of (call.Punch q))) k j
 punch_removes (punch.Start p) q k j same e =
-    inr (word_of (call.Punch q), refl, ap (λ (m : Hole). in_hole m k j) (sym same) ∙ (and_both (past_punch q) _ e).1)
-punch_removes (punch.Want p) q k j same e = inl (ap (λ (m : Hole). in_hole m k j) (sym same) ∙ (and_both (past_punch q) _ e).1)
-punch_removes (punch.Locked p) q k j same e = inl (ap (λ (m : Hole). in_hole m k j) (sym same) ∙ (and_both (past_punch q) _ e).1)
-punch_removes (punch.Unmap p) q k j same e = inl (ap (λ (m : Hole). in_hole m k j) (sym same) ∙ (and_both (past_punch q) _ e).1)
-punch_removes (punch.Evict p) q k j same e = inl (ap (λ (m : Hole). in_hole m k j) (sym same) ∙ (and_both (past_punch q) _ e).1)
-punch_removes (punch.Delete p) q k j same e = inl (ap (λ (m : Hole). in_hole m k j) (sym same) ∙ (and_both (past_punch q) _ e).1)
-punch_removes (punch.Free p) q k j same e = inl (ap (λ (m : Hole). in_hole m k j) (sym same) ∙ (and_both (past_punch q) _ e).1)
-punch_removes (punch.Unslot p) q k j same e = inl (ap (λ (m : Hole). in_hole m k j) (sym same) ∙ (and_both (past_punch q) _ e).1)
-punch_removes (punch.Leave p) q k j same e = inl (ap (λ (m : Hole). in_hole m k j) (sym same) ∙ (and_both (past_punch q) _ e).1)
+    inr (word_of (call.Punch q), refl, ap (λ (m : Hole). in_hole m k j) (sym same) ∙ (both_true (past_punch q) _ e).1)
+punch_removes (punch.Want p) q k j same e = inl (ap (λ (m : Hole). in_hole m k j) (sym same) ∙ (both_true (past_punch q) _ e).1)
+punch_removes (punch.Locked p) q k j same e = inl (ap (λ (m : Hole). in_hole m k j) (sym same) ∙ (both_true (past_punch q) _ e).1)
+punch_removes (punch.Unmap p) q k j same e = inl (ap (λ (m : Hole). in_hole m k j) (sym same) ∙ (both_true (past_punch q) _ e).1)
+punch_removes (punch.Evict p) q k j same e = inl (ap (λ (m : Hole). in_hole m k j) (sym same) ∙ (both_true (past_punch q) _ e).1)
+punch_removes (punch.Delete p) q k j same e = inl (ap (λ (m : Hole). in_hole m k j) (sym same) ∙ (both_true (past_punch q) _ e).1)
+punch_removes (punch.Free p) q k j same e = inl (ap (λ (m : Hole). in_hole m k j) (sym same) ∙ (both_true (past_punch q) _ e).1)
+punch_removes (punch.Unslot p) q k j same e = inl (ap (λ (m : Hole). in_hole m k j) (sym same) ∙ (both_true (past_punch q) _ e).1)
+punch_removes (punch.Leave p) q k j same e = inl (ap (λ (m : Hole). in_hole m k j) (sym same) ∙ (both_true (past_punch q) _ e).1)
 
+-- so with a truncation
 truncate_removes : (phase q : TruncatePhase) (k j : ℕ) → truncation_of q ≡ truncation_of phase
     → removes (Some (call.Truncate q)) k j ≡ true → Removes (call.Truncate phase) (outcome.Moved (word_of (call.Truncate q))) k j
 truncate_removes (truncate.Start p) q k j same e =
-    inr (word_of (call.Truncate q), refl, ap (λ (m : Truncation). is_cut m k j) (sym same) ∙ (and_both (past_truncate q) _ e).1)
+    inr (word_of (call.Truncate q), refl, ap (λ (m : Truncation). is_cut m k j) (sym same) ∙ (both_true (past_truncate q) _ e).1)
 truncate_removes (truncate.Size p) q k j same e =
-    inl (ap (λ (m : Truncation). is_cut m k j) (sym same) ∙ (and_both (past_truncate q) _ e).1)
+    inl (ap (λ (m : Truncation). is_cut m k j) (sym same) ∙ (both_true (past_truncate q) _ e).1)
 truncate_removes (truncate.Want p) q k j same e =
-    inl (ap (λ (m : Truncation). is_cut m k j) (sym same) ∙ (and_both (past_truncate q) _ e).1)
+    inl (ap (λ (m : Truncation). is_cut m k j) (sym same) ∙ (both_true (past_truncate q) _ e).1)
 truncate_removes (truncate.Locked p) q k j same e =
-    inl (ap (λ (m : Truncation). is_cut m k j) (sym same) ∙ (and_both (past_truncate q) _ e).1)
+    inl (ap (λ (m : Truncation). is_cut m k j) (sym same) ∙ (both_true (past_truncate q) _ e).1)
 truncate_removes (truncate.Unmap p) q k j same e =
-    inl (ap (λ (m : Truncation). is_cut m k j) (sym same) ∙ (and_both (past_truncate q) _ e).1)
+    inl (ap (λ (m : Truncation). is_cut m k j) (sym same) ∙ (both_true (past_truncate q) _ e).1)
 truncate_removes (truncate.Evict p) q k j same e =
-    inl (ap (λ (m : Truncation). is_cut m k j) (sym same) ∙ (and_both (past_truncate q) _ e).1)
+    inl (ap (λ (m : Truncation). is_cut m k j) (sym same) ∙ (both_true (past_truncate q) _ e).1)
 truncate_removes (truncate.Free p) q k j same e =
-    inl (ap (λ (m : Truncation). is_cut m k j) (sym same) ∙ (and_both (past_truncate q) _ e).1)
+    inl (ap (λ (m : Truncation). is_cut m k j) (sym same) ∙ (both_true (past_truncate q) _ e).1)
 truncate_removes (truncate.Unslot p) q k j same e =
-    inl (ap (λ (m : Truncation). is_cut m k j) (sym same) ∙ (and_both (past_truncate q) _ e).1)
+    inl (ap (λ (m : Truncation). is_cut m k j) (sym same) ∙ (both_true (past_truncate q) _ e).1)
 truncate_removes (truncate.Tail p) q k j same e =
-    inl (ap (λ (m : Truncation). is_cut m k j) (sym same) ∙ (and_both (past_truncate q) _ e).1)
+    inl (ap (λ (m : Truncation). is_cut m k j) (sym same) ∙ (both_true (past_truncate q) _ e).1)
 truncate_removes (truncate.Settle p) q k j same e =
-    inl (ap (λ (m : Truncation). is_cut m k j) (sym same) ∙ (and_both (past_truncate q) _ e).1)
+    inl (ap (λ (m : Truncation). is_cut m k j) (sym same) ∙ (both_true (past_truncate q) _ e).1)
 truncate_removes (truncate.Leave p) q k j same e =
-    inl (ap (λ (m : Truncation). is_cut m k j) (sym same) ∙ (and_both (past_truncate q) _ e).1)
+    inl (ap (λ (m : Truncation). is_cut m k j) (sym same) ∙ (both_true (past_truncate q) _ e).1)
 
+-- so by the rows of a punch, where it isn't blocked
 punch_next : (s : State) (t : ℕ) (killed grant : Bool) (phase : PunchPhase) (turn : Turn PunchPhase) (new : Pool) (k j : ℕ)
     → PunchRow (pool_of s) t killed grant phase turn new → ((u : ℕ) → told call.Punch turn ≡ outcome.Blocked u → ⊥)
     → removes (left call.Punch turn) k j ≡ true → Removes (call.Punch phase) (told call.Punch turn) k j
@@ -245,6 +242,7 @@ punch_next s t killed grant phase (Moved q) new k j row free e =
 punch_next s t killed grant phase (Blocked q u) new k j row free e = absurd (free u refl)
 punch_next s t killed grant phase (Ended a) new k j row free e = never e
 
+-- and by those of a truncation
 truncate_next : (s : State) (t : ℕ) (killed grant : Bool) (phase : TruncatePhase) (turn : Turn TruncatePhase) (new : Pool) (k j : ℕ)
     → TruncateRow (pool_of s) t killed grant phase turn new → ((u : ℕ) → told call.Truncate turn ≡ outcome.Blocked u → ⊥)
     → removes (left call.Truncate turn) k j ≡ true → Removes (call.Truncate phase) (told call.Truncate turn) k j
@@ -253,6 +251,7 @@ truncate_next s t killed grant phase (Moved q) new k j row free e =
 truncate_next s t killed grant phase (Blocked q u) new k j row free e = absurd (free u refl)
 truncate_next s t killed grant phase (Ended a) new k j row free e = never e
 
+-- a call of another operation removes nothing after any turn
 quiet_next : {P : Type 0} (call : P → Call) (turn : Turn P) (k j : ℕ) → ((p : P) → removes (Some (call p)) k j ≡ false)
     → removes (left call turn) k j ≡ false
 quiet_next call (Moved p) k j h = h p

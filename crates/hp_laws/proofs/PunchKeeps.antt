@@ -19,6 +19,8 @@ use Rattle.hp_machine.specs.declared.punch.PunchPhase.TheVariants as at
 use Rattle.hp_machine.specs.declared.call.Call.TheVariants as call
 use Rattle.hp_machine.specs.declared.call.Turn.{Turn}
 use Rattle.hp_machine.specs.State.{Pool, State, pool_of, slot_of}
+use Rattle.hp_laws.proofs.Deciding.{lt, le}
+use Rattle.hp_laws.proofs.Standing.{below_limit, in_first, in_next}
 use Rattle.hp_laws.proofs.Invariant.{Inv, stays}
 use Rattle.hp_laws.proofs.Holding.{leaves_slot, leaves_lock}
 use Rattle.hp_laws.proofs.Effects.{gives}
@@ -26,12 +28,6 @@ use Rattle.hp_laws.proofs.Tables.{clears, cleared_next}
 use Rattle.hp_laws.proofs.Removals.{evicts, deletes, page_marked}
 use Rattle.hp_laws.proofs.Shared.{after, so, by_test, stands_at, start_row, good_range, want_row}
 use Rattle.hp_laws.proofs.TouchKeeps.{some_page}
-
-lt : (a b : ℕ) → nat_lt a b ≡ true → a < b
-lt a b e = grind (arith, nat_tests)
-
-le : (a b : ℕ) → nat_lt a b ≡ false → b ≤ a
-le a b e = grind (arith, nat_tests)
 
 -- a split leaves a spare for each change
 spare_left : (b : Bool) (pending spare : ℕ) → pending ≤ spare → pending ≤ (if b && nat_lt pending spare then spare - 1 else spare)
@@ -42,6 +38,7 @@ spare_left true pending spare l = here (nat_lt pending spare) refl
     here false e = l
 spare_left false pending spare l = l
 
+-- at locked it goes on to clear an index with a page, and passes over one without
 punch_locked : (s : State) (t : ℕ) (p : Locked) (turn : Turn PunchPhase) (new : Pool) → Inv s.geometry s → 1 ≤ t
     → t < s.geometry.tasks + 1 → s.calls t ≡ Some (call.Punch (at.Locked p)) → PunchLockedRow (pool_of s) p turn new
     → Inv s.geometry (after call.Punch s t turn new)
@@ -54,7 +51,7 @@ punch_locked s t p turn new h one l e row =
       slot = y.slot;
       lock = y.lock;
       facts = record {
-        range = y.facts.range;
+        aim = y.facts.aim;
         cached = some_page _ page;
         task = (omega arith, omega arith);
         cleared = λ w v x a b c d. absurd (omega arith);
@@ -64,6 +61,7 @@ punch_locked s t p turn new h one l e row =
     (stays s.geometry s t _ (Some (call.Punch (at.Unslot (record { hole = p.hole; index = p.index })))) h l e refl
     tt (record { slot = y.slot; lock = y.lock; facts = y.facts })))
 
+-- at unmap it clears one task's entries, and goes on to the next task or to evict
 punch_unmap : (s : State) (t : ℕ) (p : Unmap) (turn : Turn PunchPhase) (new : Pool) → Inv s.geometry s → t < s.geometry.tasks + 1
     → s.calls t ≡ Some (call.Punch (at.Unmap p)) → PunchUnmapRow (pool_of s) p turn new
     → Inv s.geometry (after call.Punch s t turn new)
@@ -85,7 +83,7 @@ punch_unmap s t p turn new h l e row =
       slot = y.slot;
       lock = y.lock;
       facts = record {
-        range = y.facts.range;
+        aim = y.facts.aim;
         cached = y.facts.cached;
         task = (omega arith, (let a = lt _ _ more in omega arith));
         cleared = cleared_next s p.task f p.index y.facts.cleared;
@@ -98,12 +96,13 @@ punch_unmap s t p turn new h l e row =
       slot = y.slot;
       lock = y.lock;
       facts = record {
-        range = y.facts.range;
+        aim = y.facts.aim;
         cached = y.facts.cached;
         cleared = λ w v x a b. cleared_next s p.task f p.index y.facts.cleared w v x a (let c = le _ _ last in omega arith);
       };
     })))
 
+-- at evict the page goes into its hand
 punch_evict : (s : State) (t : ℕ) (p : Evict) (turn : Turn PunchPhase) (new : Pool) → Inv s.geometry s → t < s.geometry.tasks + 1
     → s.calls t ≡ Some (call.Punch (at.Evict p)) → PunchEvictRow (pool_of s) p turn new
     → Inv s.geometry (after call.Punch s t turn new)
@@ -113,18 +112,19 @@ punch_evict s t p turn new h l e row =
     let x = row.0 in
     so call.Punch s t _ turn _ new row.2
     (evicts s.geometry s t _ (Some (call.Punch (at.Delete (record { hole = p.hole; index = p.index; held = x }))))
-    p.hole.file p.index x h l e y.facts.range.0 refl refl refl refl refl refl row.1 y.slot
+    p.hole.file p.index x h l e y.facts.aim.file refl refl refl refl refl refl row.1 y.slot
     (λ w v z a d. let o = h.entries.owners w v z a in c w v z o.0 (let b = o.1 in omega arith) a d) tt
     (record {
       slot = y.slot;
       lock = y.lock;
       facts = record {
-        range = y.facts.range;
+        aim = y.facts.aim;
         bare = put2_same s.pages p.hole.file p.index None;
         marked = page_marked s.geometry s p.hole.file p.index x h row.1;
       };
     }))
 
+-- at delete the index is taken out of the reserved ones, or that is denied
 punch_delete : (s : State) (t : ℕ) (grant : Bool) (p : Delete) (turn : Turn PunchPhase) (new : Pool) → Inv s.geometry s
     → t < s.geometry.tasks + 1 → s.calls t ≡ Some (call.Punch (at.Delete p)) → PunchDeleteRow (pool_of s) grant p turn new
     → Inv s.geometry (after call.Punch s t turn new)
@@ -135,18 +135,19 @@ punch_delete s t grant p turn new h l e row =
     (λ denied r. so call.Punch s t _ turn _ new r
     (stays s.geometry s t _
     (Some (call.Punch (at.Free (record { hole = p.hole; index = p.index; held = p.held; denied = true })))) h l e refl tt
-    (record { slot = y.slot; lock = y.lock; facts = record { range = y.facts.range; bare = y.facts.bare; marked = λ d. y.facts.marked } })))
+    (record { slot = y.slot; lock = y.lock; facts = record { aim = y.facts.aim; bare = y.facts.bare; marked = λ d. y.facts.marked } })))
     (λ done r. so call.Punch s t _ turn _ new r
     (deletes s.geometry s t _
     (Some (call.Punch (at.Free (record { hole = p.hole; index = p.index; held = p.held; denied = false })))) f
-    p.index _ h l e y.facts.range.0 (let a = y.facts.range.2 in let b = y.facts.range.3 in omega arith) refl refl refl refl refl
+    p.index _ h l e y.facts.aim.file (below_limit s.geometry _ y.facts.aim) refl refl refl refl refl
     (spare_left (splits (s.reserved f) p.index) (s.pending f) (s.spare f) (h.spares f)) y.facts.marked y.facts.bare y.slot y.lock tt
     (record {
       slot = y.slot;
       lock = y.lock;
-      facts = record { range = y.facts.range; bare = y.facts.bare; marked = λ d. (let z : false ≡ true = d in absurd (cc)) };
+      facts = record { aim = y.facts.aim; bare = y.facts.bare; marked = λ d. (let z : false ≡ true = d in absurd (cc)) };
     })))
 
+-- at free the frame is given back, and with it the reservation where the delete was denied
 punch_free : (s : State) (t : ℕ) (p : Free) (turn : Turn PunchPhase) (new : Pool) → Inv s.geometry s → t < s.geometry.tasks + 1
     → s.calls t ≡ Some (call.Punch (at.Free p)) → PunchFreeRow (pool_of s) p turn new
     → Inv s.geometry (after call.Punch s t turn new)
@@ -155,7 +156,7 @@ punch_free s t p turn new h l e row =
     so call.Punch s t _ turn _ new row
     (gives s.geometry s t _ (Some (call.Punch (at.Unslot (record { hole = p.hole; index = p.index })))) p.held
     (if p.denied then s.resv + 1 else s.resv) h l e refl refl refl refl refl (balance p.denied s.resv) (few p.denied s.resv) tt
-    (record { slot = y.slot; lock = y.lock; facts = record { range = y.facts.range } }))
+    (record { slot = y.slot; lock = y.lock; facts = record { aim = y.facts.aim } }))
   where
     balance : (b : Bool) (r : ℕ) → ((if b then r + 1 else r) + 0) + 0 ≡ (r + bit b) + 0
     balance true r = omega arith
@@ -165,6 +166,7 @@ punch_free s t p turn new h l e row =
     few true r = omega arith
     few false r = omega arith
 
+-- at unslot it leaves the slot, for the next index or for its end
 punch_unslot : (s : State) (t : ℕ) (p : Unslot) (turn : Turn PunchPhase) (new : Pool) → Inv s.geometry s
     → t < s.geometry.tasks + 1 → s.calls t ≡ Some (call.Punch (at.Unslot p)) → PunchUnslotRow (pool_of s) p turn new
     → Inv s.geometry (after call.Punch s t turn new)
@@ -177,12 +179,13 @@ punch_unslot s t p turn new h l e row =
     (record {
       slot = tt;
       lock = y.lock;
-      facts = record { range = (y.facts.range.0, (let a = y.facts.range.1 in omega arith), lt _ _ more, y.facts.range.3) };
+      facts = record { aim = in_next s.geometry _ y.facts.aim (lt _ _ more) };
     })))
     (λ last r. so call.Punch s t _ turn _ new r
     (leaves_slot s.geometry s t _ (Some (call.Punch (at.Leave (record { hole = p.hole })))) p.hole.file p.index h l
-    e refl refl refl refl y.slot tt (record { slot = tt; lock = y.lock; facts = record { file = y.facts.range.0 } })))
+    e refl refl refl refl y.slot tt (record { slot = tt; lock = y.lock; facts = record { file = y.facts.aim.file } })))
 
+-- so each row of a punch keeps the invariant
 pub punch_row : (s : State) (t : ℕ) (killed grant : Bool) (phase : PunchPhase) (turn : Turn PunchPhase) (new : Pool)
     → Inv s.geometry s → 1 ≤ t → t < s.geometry.tasks + 1 → s.calls t ≡ Some (call.Punch phase)
     → PunchRow (pool_of s) t killed grant phase turn new → Inv s.geometry (after call.Punch s t turn new)
@@ -193,7 +196,7 @@ punch_row s t killed grant (at.Start p) turn new h one l e row =
     record {
       slot = tt;
       lock = put_same s.locks p.hole.file (Some t);
-      facts = record { range = (in_files, omega arith, (let a = o.0 in omega arith), o.1) };
+      facts = record { aim = in_first s.geometry in_files o.0 o.1 };
     })
 punch_row s t killed grant (at.Want p) turn new h one l e row =
     let y = stands_at s t _ h e in

@@ -95,12 +95,14 @@ abbrev pub Steps : State → (t top : ℕ) → Call → Outcome → Pool → Opt
 Steps s t top c o new next =
     ((u : ℕ) × (o ≡ outcome.Blocked u) × (new ≡ pool_of s) × (next ≡ Some c) × WaitsFor s (Some c) u) ⊎ Gone s t top c o new next
 
+-- a turn that isn't blocked tells no block
 unblocked : {P : Type 0} (call : P → Call) (turn : Turn P) (o : Outcome) → o ≡ told call turn → is_blocked turn ≡ false → (u : ℕ)
     → o ≡ outcome.Blocked u → ⊥
 unblocked call (Moved p) o e free u d = (let z : outcome.Moved (word_of (call p)) ≡ outcome.Blocked u = sym e ∙ d in absurd (cc))
 unblocked call (Blocked p holder) o e free u d = (let z : true ≡ false = free in absurd (cc))
 unblocked call (Ended a) o e free u d = (let z : outcome.Ended a ≡ outcome.Blocked u = sym e ∙ d in absurd (cc))
 
+-- a turn that tells a phase leaves a call that stands there
 word_there : {P : Type 0} (call : P → Call) (turn : Turn P) (o : Outcome) (next : Option Call) → o ≡ told call turn
     → next ≡ left call turn → (p : Phase) → o ≡ outcome.Moved p → (d : Call) × (next ≡ Some d) × (word_of d ≡ p)
 word_there call (Moved q) o next e l p d = (call q, l, same (sym e ∙ d))
@@ -110,6 +112,7 @@ word_there call (Moved q) o next e l p d = (call q, l, same (sym e ∙ d))
 word_there call (Blocked q holder) o next e l p d = (let z : outcome.Blocked holder ≡ outcome.Moved p = sym e ∙ d in absurd (cc))
 word_there call (Ended a) o next e l p d = (let z : outcome.Ended a ≡ outcome.Moved p = sym e ∙ d in absurd (cc))
 
+-- a turn that goes on, ends or waits does so as a step of its call
 of_turn : {P : Type 0} (call : P → Call) (s : State) (t top : ℕ) (here : P) (turn : Turn P) (o : Outcome) (new : Pool) (next : Option Call)
     → Turned call s t top here turn new → o ≡ told call turn → next ≡ left call turn → Steps s t top (call here) o new next
 of_turn call s t top here turn o new next h e l = elim h [
@@ -126,6 +129,7 @@ of_turn call s t top here turn o new next h e l = elim h [
   })
 ]
 
+-- so by the rows of each operation
 pub call_steps : (s : State) (t top : ℕ) (killed grant : Bool) (c : Call) (o : Outcome) (new : Pool) (next : Option Call)
     → Inv s.geometry s → 1 ≤ t → t < s.geometry.tasks + 1 → s.calls t ≡ Some c → CallRow (pool_of s) t killed grant c o new next
     → Steps s t top c o new next
@@ -145,6 +149,7 @@ call_steps s t top killed grant (call.Unmap p) o new next h one l e (turn, row, 
 call_steps s t top killed grant (call.Exit p) o new next h one l e (turn, row, tells, leaves) =
     of_turn call.Exit s t top p turn o new next (exit_turn s t top killed grant p turn new h e row) tells leaves
 
+-- a task dies only where its call is left with nothing
 pub lives_some : (lives : ℕ → Life) (t : ℕ) (c d : Call) → lives_after lives t c (Some d) ≡ lives
 lives_some lives t (call.Touch p) d = refl
 lives_some lives t (call.Map p) d = refl

@@ -12,11 +12,11 @@ use Rattle.hp_machine.specs.State.{Geometry, State, slot_of, is_free, free_frame
 use Rattle.hp_machine.specs.Views.{less, more, hand, change_in}
 use Rattle.hp_machine.specs.declared.call.Call.{Call}
 use Rattle.hp_laws.specs.Sweep.{fills, ahead}
+use Rattle.hp_laws.proofs.Deciding.{some_same}
 use Rattle.hp_laws.proofs.Moves.{Placing, evicts_frame}
 use Rattle.hp_laws.proofs.Standing.{HasSlot, HasLock, Stands}
-use Rattle.hp_laws.proofs.Staying.{stands_after}
+use Rattle.hp_laws.proofs.Staying.{same_tables, stands_after}
 use Rattle.hp_laws.proofs.Invariant.{Reached, Inv, page_within, goes, vacant_of, place_same, same_opens, sweeps, holds, to}
-use Rattle.hp_laws.proofs.Holding.{some_same}
 use Rattle.hp_laws.proofs.Effects.{free_same}
 
 -- a page lies where the index is reserved
@@ -38,9 +38,7 @@ pub evicts : (g : Geometry) (s : State) (t : ℕ) (b c : Option Call) (f i x : �
     → Inv g (to (record s { pool = record s.pool { pages = put2 s.pages f i None; frame = put s.frame x state.Hand } }) t c)
 evicts g s t b c f i x h l e in_files same same_held none some same_change balance page held cleared fill own =
     goes g s n t b c h l e same same_held (record {
-      geometry = h.geometry;
-      ranges = h.ranges;
-      spread = h.spread;
+      areas = h.areas;
       reach = h.reach;
       fill = fill;
       sizes = h.sizes;
@@ -77,13 +75,12 @@ evicts g s t b c f i x h l e in_files same same_held none some same_change balan
           λ u d. stands_after g s n u (s.calls u)
           (record {
             slot = λ k a. a;
-            page = λ k j a. other u d k j a;
-            mark = λ k j a w r. r;
-            translated = λ k j a w v y p q. (y, p, q);
-            lock = λ k a. (a, refl, λ j r. r);
-            mappings = refl;
-            ready = refl;
-            entries = λ v y p. (y, p);
+            files = record {
+              page = λ k j a. other u d k j a;
+              mark = λ k j a w r. r;
+              lock = λ k a. (a, refl, λ j r. r);
+            };
+            tables = same_tables;
           }) (h.stands u);
       own = own;
     })
@@ -137,10 +134,8 @@ pub deletes : (g : Geometry) (s : State) (t : ℕ) (b c : Option Call) (f i spar
     → Inv g (to (record s { pool = record s.pool { reserved = put2 s.reserved f i false; spare = put s.spare f spare } }) t c)
 deletes g s t b c f i spare h l e in_files in_limit same same_held same_hand same_change balance spares marked bare
     held locked fill own = goes g s n t b c h l e same same_held (record {
-      geometry = h.geometry;
+      areas = h.areas;
       entries = h.entries;
-      ranges = h.ranges;
-      spread = h.spread;
       reach = h.reach;
       fill = fill;
       sizes = h.sizes;
@@ -170,13 +165,12 @@ deletes g s t b c f i spare h l e in_files in_limit same same_held same_hand sam
           λ u d. stands_after g s n u (s.calls u)
           (record {
             slot = λ k a. a;
-            page = λ k j a. refl;
-            mark = λ k j a w z. other_slot u d k j a ∙ z;
-            translated = λ k j a w v y p q. (y, p, q);
-            lock = λ k a. (a, refl, λ j z. other_lock u d k j a ∙ z);
-            mappings = refl;
-            ready = refl;
-            entries = λ v y p. (y, p);
+            files = record {
+              page = λ k j a. refl;
+              mark = λ k j a w z. other_slot u d k j a ∙ z;
+              lock = λ k a. (a, refl, λ j z. other_lock u d k j a ∙ z);
+            };
+            tables = same_tables;
           }) (h.stands u);
       own = own;
     })

@@ -23,6 +23,7 @@ use Rattle.hp_machine.specs.declared.outcome.Outcome.{Outcome}
 use Rattle.hp_machine.specs.declared.call.Call.{Call}
 use Rattle.hp_machine.specs.declared.call.Call.TheVariants as call
 use Rattle.hp_machine.specs.declared.call.Turn.{Turn}
+use Rattle.hp_laws.proofs.Deciding.{never}
 use Rattle.hp_laws.proofs.Invariant
 use Rattle.hp_laws.proofs.Invariant.{Inv, stays, to}
 use Rattle.hp_laws.proofs.Passing.{ahead_locked, locks_file}
@@ -48,13 +49,11 @@ pub record Always (s : State) : Type 0 where
 life_set : (g : Geometry) (s : State) (lives : ℕ → Life) → Inv g s → Inv g (record s { life = lives })
 life_set g s lives h =
     record {
-      geometry = h.geometry;
+      areas = h.areas;
       count = h.count;
       enough = h.enough;
       place = h.place;
       entries = h.entries;
-      ranges = h.ranges;
-      spread = h.spread;
       inside = h.inside;
       sweep = h.sweep;
       reach = h.reach;
@@ -65,6 +64,7 @@ life_set g s lives h =
       stands = h.stands;
     }
 
+-- a call that begins keeps the invariant: its first phase stands on nothing
 first_keeps : (s : State) (t : ℕ) (o : Op) → Inv s.geometry s → t < s.geometry.tasks + 1 → s.calls t ≡ None
     → Inv s.geometry (Invariant.to s t (Some (first o)))
 first_keeps s t (op.Map f from len) h l e = stays s.geometry s t None _ h l e refl tt (record { slot = tt; lock = tt; facts = tt })
@@ -145,6 +145,7 @@ lives_on tasks lives calls t c next h e = here c next refl
 in_state : (a b : State) → b ≡ a → Always a → Always b
 in_state a b e h = subst Always (sym e) h
 
+-- each row keeps what every event keeps
 pub row_keeps : (s : State) (event : Event) (o : Outcome) (n : State) → Always s → Row s event o n → Always n
 unfolding BeginRow StepRow KillRow
 row_keeps s (Begin t p) o n h row =
@@ -206,6 +207,7 @@ row_keeps s (Kill t) o n h row =
     not_dead life.Killed e = refl
     not_dead life.Dead e = (let z : false ≡ true = e in cc)
 
+-- so does each run
 pub run_keeps : (s : State) (es : List (Event × Outcome)) (n : State) → Always s → Run s es n → Always n
 run_keeps s [] n h r = subst Always (sym r) h
 run_keeps s (e ∷ es) n h r = run_keeps r.0 es n (row_keeps s e.0 e.1 r.0 h r.1) r.2
@@ -240,20 +242,20 @@ opening_place frames = record {
     within x (Hand t) a = (let d : ◌≡◌ {A = Option ℕ} None (Some x) = a in absurd (cc))
     within x (Page f i) a = (let d : ◌≡◌ {A = Option ℕ} None (Some x) = a in absurd (cc))
 
+-- an empty option has no value
 no_value : {A P : Type 0} {x : A} → ◌≡◌ {A = Option A} None (Some x) → P
 no_value d = absurd (cc)
 
-never : {P : Type 0} → false ≡ true → P
-never d = absurd (cc)
-
+-- where nothing is reserved, nothing reserved is without a page
 nothing_vacant : (limit : ℕ) → vacant limit (λ _. false) (λ _. None) ≡ 0
 unfolding vacant
 nothing_vacant limit = count_below_none _ limit (λ k l. refl)
 
+-- the state in which a pool opens is well
 pub opens_well : (g : Geometry) (frames : ℕ) → Always (opening g frames)
 opens_well g frames = record {
   inv = record {
-    geometry = refl;
+    areas = record { geometry = refl; ranges = λ t. tt; spread = λ t. omega arith };
     count = (
         let a : total (g.tasks + 1) (λ _. 0) ≡ 0 = total_none (g.tasks + 1) in
         let c : total g.files (λ f. vacant g.limit (λ _. false) (λ _. None)) ≡ 0 =
@@ -262,8 +264,6 @@ opens_well g frames = record {
     enough = omega arith;
     place = record { one = opening_place frames; hands = λ t x d. no_value d; pages = λ f i x d. no_value d };
     entries = record { agree = λ t v x d. no_value d; owners = λ t v x d. no_value d };
-    ranges = λ t. tt;
-    spread = λ t. omega arith;
     inside = record { bare = λ f i d. refl; within = λ f i d. never d };
     sweep = record { below = λ t v x f i d e. no_value d; past = λ u f j d. never d; gone = λ u f j d. never d };
     reach = λ w. tt;
@@ -285,6 +285,7 @@ opens_well g frames = record {
 pub always : (s : State) → IsReached s → Always s
 always s reached = run_keeps (opening s.geometry s.frames) reached.0 s (opens_well s.geometry s.frames) reached.1
 
+-- so the headline holds in every reached state
 pub headline : (s : State) → IsReached s → Headline s
 headline s reached =
     let h = (always s reached).inv in

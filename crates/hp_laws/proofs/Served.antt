@@ -39,6 +39,7 @@ use Rattle.hp_machine.specs.declared.call.Turn.TheVariants.{Blocked}
 use Rattle.hp_laws.specs.Bounds.{is_begun, calls_begun}
 use Rattle.hp_laws.specs.Histories.{Moment, History, in_order}
 use Rattle.hp_laws.specs.Promises.{IsPromised, IsUndisturbed, IsServed}
+use Rattle.hp_laws.proofs.Deciding.{nil_passes, clash}
 use Rattle.hp_laws.proofs.Shared.{by_test, by_option}
 use Rattle.hp_laws.proofs.Runs.{Always, always, row_keeps}
 use Rattle.hp_laws.proofs.Reading.{begin_cases, step_cases, step_of}
@@ -47,6 +48,7 @@ use Rattle.hp_laws.proofs.Keeping.{promised_kept}
 use Rattle.hp_laws.proofs.Serving.{TurnWell, at_leaf, takes, Sure, Isnt, sure_turn, sure_missing, missing_none, sure_commit}
 use Rattle.hp_laws.proofs.Serving.{CallWell, touch_call, own_or_same}
 
+-- a touch in flight is at one phase
 same_touch : {a b : TouchPhase} → call.Touch a ≡ call.Touch b → a ≡ b
 same_touch e = cc
 
@@ -60,15 +62,18 @@ sure_row s t event o n h quiet w row = own_or_same s t event o n (CallWell Sure 
     (touch_call s t (is_killed (s.life t)) grant Sure Sure Isnt c o pool next
     (λ phase turn q k r. sure_turn s t (is_killed (s.life t)) grant phase turn pool k r) (subst (CallWell Sure) e w) r).0))
 
+-- a sure touch stays sure over a run in which its task begins no call
 sure_run : (t : ℕ) (s : State) (es : List (Event × Outcome)) (n : State) → Run s es n → Always s → calls_begun t es ≡ 0
     → CallWell Sure (s.calls t) → CallWell Sure (n.calls t) × Always n
 sure_run t s [] n r h quiet w = (subst (λ (m : State). CallWell Sure (m.calls t)) (sym r) w, subst Always (sym r) h)
 sure_run t s (e ∷ es) n r h quiet w =
     sure_run t r.0 es n r.2 (row_keeps s e.0 e.1 r.0 h r.1) (omega arith) (sure_row s t e.0 e.1 r.0 h (omega arith) w r.1)
 
+-- what has ended wasn't refused
 ends_not_refused : {P : Type 0} (b : Answer) (why : Refusal) → outcome.Ended b ≡ outcome.Refused why → P
 ends_not_refused b why e = absurd (cc)
 
+-- a sure touch doesn't end for want of a frame
 sure_end : (s : State) (t : ℕ) (grant : Bool) (b : Answer) (n : State) → CallWell Sure (s.calls t)
     → Row s (Step t grant) (outcome.Ended b) n → b ≢ answer.NoFrame
 sure_end s t grant b n w row = step_cases s t grant (outcome.Ended b) n (b ≢ answer.NoFrame) row
@@ -140,13 +145,12 @@ Well ms f i (touch.Restore p) = ⊥
 Well ms f i (touch.Found p) = At p.touch f i
 Well ms f i (touch.Leave p) = IsServed p.answer
 
+-- the answer of an access that finds its page serves it
 served : (a : Access) (w : ℕ) → IsServed (answer_of a w)
 served Load w = inl (w, refl)
 served (Store n) w = inr refl
 
-clash : {P : Type 0} (b : Bool) → b ≡ true → b ≡ false → P
-clash b e d = (let z : true ≡ false = sym e ∙ d in absurd (cc))
-
+-- a touch of an index below the size isn't beyond it
 not_beyond : {P : Type 0} (s : State) (p : Touch) (f i : ℕ) → At p f i → i < s.size f → nat_le (s.size p.file) p.index ≡ true → P
 not_beyond s p f i at low e =
     let same : s.size p.file ≡ s.size f = ap s.size at.0 in
@@ -156,13 +160,16 @@ not_beyond s p f i at low e =
     beyond : (size i : ℕ) → nat_le size i ≡ true → i < size → ⊥
     beyond size i e l = grind (arith, nat_tests)
 
+-- equal places have one file and one index
 same_place : (a b : ℕ × ℕ) → Some a ≡ Some b → (a.0 ≡ b.0) × (a.1 ≡ b.1)
 same_place a b e = let o : a ≡ b = cc in (ap (λ (m : ℕ × ℕ). m.0) o, ap (λ (m : ℕ × ℕ). m.1) o)
 
+-- a granted step isn't denied
 not_denied : (b : Bool) → (b && not true) ≡ true → ⊥
 not_denied true e = (let d : false ≡ true = e in absurd (cc))
 not_denied false e = (let d : false ≡ true = e in absurd (cc))
 
+-- a touch that goes well goes on so, or is served, where its index is reserved and nothing is denied or killed
 touch_well : (s : State) (t : ℕ) (killed : Bool) (ms : List Mapping) (f i : ℕ) (phase : TouchPhase) (turn : Turn TouchPhase) (new : Pool)
     → killed ≡ false → s.reserved f i ≡ true → i < s.size f → Well (s.mappings t) f i phase
     → TouchRow (pool_of s) t killed true phase turn new → TurnWell TouchPhase (Well ms f i) IsServed turn
@@ -205,6 +212,7 @@ touch_well s t killed ms f i (touch.Found p) turn new alive marked low w row = b
     (λ _ r. at_leaf (Well ms f i) IsServed _ turn r.4.0 (served p.touch.access r.1))
 touch_well s t killed ms f i (touch.Leave p) turn new alive marked low w row = at_leaf (Well ms f i) IsServed _ turn row.0 w
 
+-- a task that is alive isn't killed
 alive_unkilled : (l : Life) → l ≡ life.Alive → is_killed l ≡ false
 alive_unkilled l e = ap is_killed e
 
@@ -219,9 +227,11 @@ touch_lives on lives t (call.Truncate p) next w = absurd w
 touch_lives on lives t (call.Unmap p) next w = absurd w
 touch_lives on lives t (call.Exit p) next w = absurd w
 
+-- the task lives, and its touch goes well
 abbrev Goes : State → (t f i : ℕ) → Type 0
 Goes s t f i = CallWell (Well (s.mappings t) f i) (s.calls t) × (s.life t ≡ life.Alive)
 
+-- so it goes on over each event but a denied step and a kill of the task
 well_row : (s : State) (t f i : ℕ) (event : Event) (o : Outcome) (n : State) → Always s → is_begun t event o ≡ 0
     → event ≢ Step t false → event ≢ Kill t → s.reserved f i ≡ true → i < s.size f → Goes s t f i → Row s event o n → Goes n t f i
 well_row s t f i event o n h quiet grants lives marked low w row = own_or_same s t event o n (Goes n t f i) h quiet row
@@ -263,6 +273,7 @@ well_later g frames t f i past (m ∷ later) s h start quiet calm =
     (well_row m.before t f i m.event m.outcome m.after (history_well g frames (later ++ past) m.before h.2)
     (omega arith) calm.1 calm.2 k.0 k.1 w h.1)
 
+-- a touch that goes well ends served
 well_end : (s : State) (t f i : ℕ) (b : Answer) (n : State) → Goes s t f i → s.reserved f i ≡ true → i < s.size f
     → Row s (Step t true) (outcome.Ended b) n → IsServed b
 well_end s t f i b n w marked low row = step_cases s t true (outcome.Ended b) n (IsServed b) row
@@ -308,12 +319,7 @@ promised_served g frames ends later begins past t p look f i b h quiet is begun 
         let now = starts_well begins.before t p look f i begins.outcome begins.after e there alive begun (row at.1) in
         subst (λ (m : State). Goes m t f i) at.0 now
 
-not_some : {P : Type 0} (m : ℕ) → m ≡ 0 → (m == 0) ≡ false → P
-not_some m e d = absurd (never m e d)
-  where
-    never : (m : ℕ) → m ≡ 0 → (m == 0) ≡ false → ⊥
-    never m e d = grind (arith, nat_tests)
-
+-- a touch whose change missed nothing takes a free frame in its next step, unless it notices a kill: by its row
 touch_call_takes : (s : State) (t : ℕ) (killed grant : Bool) (p : Changed.Changed) (o : Outcome) (pool : Pool) (next : Option Call)
     → killed ≡ false → p.pending.missing ≡ 0 → CallRow (pool_of s) t killed grant (call.Touch (touch.Changed p)) o pool next
     → (x : ℕ) × (s.frame x ≡ state.Free) × (o ≡ outcome.Moved word.Taken)
@@ -323,8 +329,9 @@ touch_call_takes s t killed grant p o pool next alive none (turn, row, tells, le
     (λ is r. clash killed is alive)
     (λ _ r. by_test (p.pending.missing == 0) r
     (λ _ r. (r.0, r.1, tells ∙ ap (told call.Touch) r.3.0, leaves ∙ ap (left call.Touch) r.3.0))
-    (λ some r. not_some p.pending.missing none some))
+    (λ some r. nil_passes p.pending.missing none some))
 
+-- and so in every reached state
 pub touch_takes : (s : State) (t : ℕ) (grant : Bool) (p : Changed.Changed) (o : Outcome) (n : State) → IsReached s
     → s.calls t ≡ Some (call.Touch (touch.Changed p)) → p.pending.missing ≡ 0 → is_killed (s.life t) ≡ false
     → Row s (Step t grant) o n
@@ -336,6 +343,7 @@ touch_takes s t grant p o n reached e none alive row =
     let x = touch_call_takes s t (is_killed (s.life t)) grant p o step.0 step.1 alive none step.2 in
     (x.0, x.1, x.2, ap (λ (m : State). m.calls t) step.3 ∙ (put_same s.calls t step.1 ∙ x.3))
 
+-- the same of an allocation: by its row
 alloc_call_takes : (s : State) (t : ℕ) (killed grant : Bool) (p : alloc_changed.Changed) (o : Outcome) (pool : Pool) (next : Option Call)
     → killed ≡ false → p.pending.missing ≡ 0 → CallRow (pool_of s) t killed grant (call.Alloc (alloc.Changed p)) o pool next
     → (x : ℕ) × (s.frame x ≡ state.Free) × (o ≡ outcome.Moved word.Taken)
@@ -346,8 +354,9 @@ alloc_call_takes s t killed grant p o pool next alive none (turn, row, tells, le
     (λ is r. clash killed is alive)
     (λ _ r. by_test (p.pending.missing == 0) r
     (λ _ r. (r.0, r.1, tells ∙ ap (told call.Alloc) r.3.0, leaves ∙ ap (left call.Alloc) r.3.0))
-    (λ some r. not_some p.pending.missing none some))
+    (λ some r. nil_passes p.pending.missing none some))
 
+-- and so in every reached state
 pub alloc_takes : (s : State) (t : ℕ) (grant : Bool) (p : alloc_changed.Changed) (o : Outcome) (n : State) → IsReached s
     → s.calls t ≡ Some (call.Alloc (alloc.Changed p)) → p.pending.missing ≡ 0 → is_killed (s.life t) ≡ false
     → Row s (Step t grant) o n

@@ -35,15 +35,13 @@ use Rattle.hp_laws.proofs.Shared.{by_test}
 use Rattle.hp_laws.proofs.Runs.{Always}
 use Rattle.hp_laws.proofs.Reading.{begin_cases, step_cases, kill_cases, call_steps}
 
-never : {P : Type 0} → false ≡ true → P
-never e = absurd (cc)
-
 -- a turn where a kill isn't noticed
 abbrev pub TurnWell : (P : Type 0) → (P → Type 0) → (Answer → Type 0) → Turn P → Type 0
 TurnWell P on ends (Moved p) = on p
 TurnWell P on ends (Blocked p u) = on p
 TurnWell P on ends (Ended a) = ends a
 
+-- what holds of the turn that a row wants holds of the turn that it gives
 pub at_leaf : {P : Type 0} (on : P → Type 0) (ends : Answer → Type 0) (wanted turn : Turn P) → turn ≡ wanted
     → TurnWell P on ends wanted → TurnWell P on ends turn
 at_leaf {P} on ends wanted turn e h = subst (TurnWell P on ends) (sym e) h
@@ -76,13 +74,16 @@ Sure (touch.Restore p) = p.answer ≢ answer.NoFrame
 Sure (touch.Found p) = Unit {0}
 Sure (touch.Leave p) = p.answer ≢ answer.NoFrame
 
+-- the answer is any but that there is no frame
 abbrev pub Isnt : Answer → Type 0
 Isnt a = a ≢ answer.NoFrame
 
+-- an access that finds its page answers no want of a frame
 pub answers : (a : Access) (w : ℕ) → answer_of a w ≢ answer.NoFrame
 answers Load w = λ e. cc
 answers (Store n) w = λ e. cc
 
+-- a commit leads to one of two phases, whatever is missing
 pub sure_commit : {P : Type 0} (on : P → Type 0) (ends : Answer → Type 0) (s : State) (f from to m : ℕ)
     (settle next : P) (turn : Turn P) (new : Pool)
     → CommitRow (pool_of s) f (record { from = from; to = to; missing = m }) settle next turn new → on settle → on next
@@ -91,6 +92,7 @@ sure_commit on ends s f from to m settle next turn new row a b =
     by_test (nat_lt (missing (s.reserved f) from to) m) row (λ _ r. at_leaf on ends _ turn r.0 a)
     (λ _ r. at_leaf on ends _ turn r.0 b)
 
+-- a sure touch goes on to be sure, or ends with any answer but the want of a frame
 pub sure_turn : (s : State) (t : ℕ) (killed grant : Bool) (phase : TouchPhase) (turn : Turn TouchPhase) (new : Pool) → Sure phase
     → TouchRow (pool_of s) t killed grant phase turn new → TurnWell TouchPhase Sure Isnt turn
 sure_turn s t killed grant (touch.Look p) turn new h row = absurd h
@@ -119,6 +121,7 @@ sure_turn s t killed grant (touch.Leave p) turn new h row = at_leaf Sure Isnt _ 
 pub missing_none : (r : ℕ → Bool) (i : ℕ) → r i ≡ true → missing r i (i + 1) ≡ 0
 missing_none r i e = missing_one r i ∙ ap (λ (b : Bool). bit (not b)) e
 
+-- a touch whose index is reserved as it begins its change is sure then, where the change isn't denied
 pub sure_missing : (s : State) (t : ℕ) (killed grant : Bool) (p : Missing) (turn : Turn TouchPhase) (new : Pool)
     → s.reserved p.touch.file p.touch.index ≡ true → TouchRow (pool_of s) t killed grant (touch.Missing p) turn new
     → TurnWell TouchPhase Sure Isnt turn
@@ -132,12 +135,14 @@ CallWell on None = Unit {0}
 CallWell on (Some (call.Touch phase)) = on phase
 CallWell on (Some other) = ⊥
 
+-- what holds after a turn holds of the call that it leaves
 next_well : (on : TouchPhase → Type 0) (ends : Answer → Type 0) (turn : Turn TouchPhase) → TurnWell TouchPhase on ends turn
     → CallWell on (left call.Touch turn)
 next_well on ends (Moved p) h = h
 next_well on ends (Blocked p u) h = h
 next_well on ends (Ended a) h = tt
 
+-- and of the answer that it tells
 end_well : (on : TouchPhase → Type 0) (ends : Answer → Type 0) (turn : Turn TouchPhase) (b : Answer)
     → TurnWell TouchPhase on ends turn → outcome.Ended b ≡ told call.Touch turn → ends b
 end_well on ends (Moved p) b h e = (let z : outcome.Ended b ≡ outcome.Moved (word_of (call.Touch p)) = e in absurd (cc))
@@ -165,6 +170,7 @@ touch_call s t killed grant on from ends (call.Truncate p) o pool next h w row =
 touch_call s t killed grant on from ends (call.Unmap p) o pool next h w row = absurd w
 touch_call s t killed grant on from ends (call.Exit p) o pool next h w row = absurd w
 
+-- an event that begins no call of a task isn't a begin of it
 not_begun : {P : Type 0} (t u : ℕ) (p : Op) (o : Outcome) → is_begun t (Begin u p) o ≡ 0 → o ≡ outcome.Begun → u ≡ t → P
 not_begun t u p o quiet e d =
     (let a : is_begun t (Begin u p) o ≡ 1 = ap (is_begun t (Begin u p)) e

@@ -15,6 +15,7 @@ use Rattle.hp_machine.specs.Views.{less, more, hand, change_in, locked_file, slo
 use Rattle.hp_machine.specs.declared.call.Call.{Call}
 use Rattle.hp_machine.specs.declared.call.Turn.{Turn}
 use Rattle.hp_laws.specs.Sweep.{fills, ahead, passed}
+use Rattle.hp_laws.proofs.Deciding.{is_nil, not_nil}
 use Rattle.hp_laws.proofs.Standing.{IsOne, Stands}
 use Rattle.hp_laws.proofs.Invariant
 use Rattle.hp_laws.proofs.Invariant.{Reached, Inv, sweeps, holds, seen, stays, to}
@@ -33,10 +34,12 @@ so {P} call s t wanted turn there new e h = subst (λ (p : Turn P × Pool). Inv 
     pair : turn ≡ wanted → new ≡ there → ◌≡◌ {A = Turn P × Pool} (turn, new) (wanted, there)
     pair a b = cc
 
+-- a row by a test is taken apart: by what the test decides
 pub by_test : {A B C : Type 0} (b : Bool) → MatchBool b A B → (b ≡ true → A → C) → (b ≡ false → B → C) → C
 by_test true m on off = on refl m
 by_test false m on off = off refl m
 
+-- and one by an option, by what is there
 pub by_option : {A : Type 0} {P : Type 0} {Q : A → Type 0} {C : Type 0} (o : Option A) → MatchOption o P Q → (o ≡ None → P → C)
     → ((a : A) → o ≡ Some a → Q a → C) → C
 by_option None m off on = off refl m
@@ -50,6 +53,7 @@ idle g s t = record { slot = tt; lock = tt; facts = tt }
 pub stands_at : (s : State) (t : ℕ) (c : Option Call) → Inv s.geometry s → s.calls t ≡ c → Stands s.geometry s t c
 stands_at s t c h e = subst (Stands s.geometry s t) e (h.stands t)
 
+-- the index that the call fills is reached
 pub reach_at : (s : State) (t : ℕ) (c : Option Call) → Inv s.geometry s → s.calls t ≡ c
     → IfSome (fills c) (λ k. Reached s.size (λ u. ahead (s.calls u)) k.0 k.1)
 reach_at s t c h e = subst (λ d. IfSome (fills d) (λ k. Reached s.size (λ u. ahead (s.calls u)) k.0 k.1)) e (h.reach t)
@@ -58,9 +62,11 @@ reach_at s t c h e = subst (λ d. IfSome (fills d) (λ k. Reached s.size (λ u. 
 pub waits : (s : State) (t : ℕ) (c : Option Call) → Inv s.geometry s → t < s.geometry.tasks + 1 → s.calls t ≡ c → Inv s.geometry (to s t c)
 waits s t c h l e = stays s.geometry s t c c h l e refl (reach_at s t c h e) (stands_at s t c h e)
 
+-- a call that fills none has nothing to reach
 no_fill : (s : State) (c : Option Call) → fills c ≡ None → IfSome (fills c) (λ k. Reached s.size (λ u. ahead (s.calls u)) k.0 k.1)
 no_fill s c e = subst (λ (o : Option (ℕ × ℕ)). IfSome o (λ k. Reached s.size (λ u. ahead (s.calls u)) k.0 k.1)) (sym e) tt
 
+-- a call that takes its file's lock, waits for it, or ends keeps the invariant
 pub start_row : {P : Type 0} (call : P → Call) (s : State) (t : ℕ) (killed : Bool) (f : ℕ) (bad : Bool)
     (at_kill : Answer) (here next : P) (turn : Turn P) (new : Pool)
     → Inv s.geometry s → t < s.geometry.tasks + 1 → s.calls t ≡ Some (call here)
@@ -88,9 +94,11 @@ start_row call s t killed f bad at_kill here next turn new h l e row none same s
     below : (f n : ℕ) → nat_le n f ≡ false → f < n
     below f n d = grind (arith, nat_tests)
 
+-- a range that passes its check is not empty, and lies within the limit
 pub good_range : (s : State) (from len : ℕ) → is_bad_range (pool_of s) from len ≡ false → (1 ≤ len) × (from + len ≤ s.geometry.limit)
 good_range s from len e = (grind (arith, nat_tests), grind (arith, nat_tests))
 
+-- a call that takes a slot or waits for it keeps the invariant
 pub want_row : {P : Type 0} (call : P → Call) (s : State) (t f i : ℕ) (here next : P) (turn : Turn P) (new : Pool)
     → Inv s.geometry s → t < s.geometry.tasks + 1 → s.calls t ≡ Some (call here) → WantSlotRow (pool_of s) t f i here next turn new
     → shown (Some (call next)) ≡ shown (Some (call here)) → locked_file (Some (call next)) ≡ locked_file (Some (call here))
@@ -135,12 +143,7 @@ change_row call s t grant f from to here denied changed turn new h l e row y =
     (opened s.geometry s t (Some (call here)) _ f h l e (ap (λ p. p.0) y.same) (ap (λ p. p.1) y.same)
     (ap (λ p. p.2) y.same) y.none y.some y.balance y.fill y.own))
 
-pub is_nil : (m : ℕ) → (m == 0) ≡ true → m ≡ 0
-is_nil m e = grind (arith, nat_tests)
-
-pub not_nil : (m : ℕ) → (m == 0) ≡ false → 1 ≤ m
-not_nil m e = grind (arith, nat_tests)
-
+-- where the free frames aren't as many as the reserve count, there is one more than that
 free_left : (s : State) → Inv s.geometry s → (frees (pool_of s) == s.resv) ≡ false → s.resv + 1 ≤ free_frames s.frame s.frames
 free_left s h e = let d : free_frames s.frame s.frames ≢ s.resv = differ _ _ e in let z = h.enough in omega arith
   where
@@ -188,6 +191,7 @@ own_reserved s f i change one =
     inside : (from to i : ℕ) → from ≡ i → to ≡ i + 1 → is_within from to i ≡ true
     inside from to i a b = grind (arith, nat_tests)
 
+-- a change of one index misses it exactly where it isn't reserved
 pub own_missing : (r : ℕ → Bool) (change : Change) (i : ℕ) → IsOne change i → missing r change.from change.to ≡ bit (not (r i))
 own_missing r change i one = ap (λ (k : ℕ). missing r k change.to) one.0 ∙ (ap (missing r i) one.1 ∙ missing_one r i)
 

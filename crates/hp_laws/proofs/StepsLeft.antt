@@ -17,6 +17,8 @@ abbrev pub unslot_left : {A : Type 0} → Option A → ℕ → ℕ
 unslot_left None more = more
 unslot_left (Some a) more = 2
 
+-- at most so many steps move or end the call from here on; `m` is the number of its task's mappings, `top` the end of
+-- what a truncation goes through
 abbrev pub steps_left : Geometry → (mappings top : ℕ) → Option Call → ℕ
 steps_left g m top None = 0
 steps_left g m top (Some (call.Touch (touch.Look p))) = 10

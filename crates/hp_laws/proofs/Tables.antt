@@ -12,12 +12,13 @@ use Rattle.hp_machine.specs.State.{Geometry, State, slot_of}
 use Rattle.hp_machine.specs.Views.{less, more}
 use Rattle.hp_machine.specs.declared.call.Call.{Call}
 use Rattle.hp_laws.specs.Sweep.{fills, ahead, passed}
+use Rattle.hp_laws.proofs.Deciding.{some_same}
 use Rattle.hp_laws.proofs.Standing.{HasSlot, HasLock, ClearedBelow, Stands}
-use Rattle.hp_laws.proofs.Staying.{stands_after}
+use Rattle.hp_laws.proofs.Staying.{same_files, same_tables, stands_after}
 use Rattle.hp_laws.proofs.Invariant.{AllWithin, Reached, Inv, goes, place_same, same_opens, seen, to, if_weaker}
-use Rattle.hp_laws.proofs.Holding.{some_same}
 use Rattle.hp_laws.proofs.Passing.{same_holder}
 
+-- the mappings lie within their files, where one that does is entered
 within_entered : (g : Geometry) (ms : List Mapping) (a : Mapping) → a.file < g.files → a.from + a.len ≤ g.limit → AllWithin g ms
     → AllWithin g (entered ms a)
 within_entered g [] a l m h = (l, m, tt)
@@ -27,6 +28,7 @@ within_entered g (b ∷ ms) a l m h = here (nat_lt a.base b.base) (within_entere
     here true rest = (l, m, (h.0, h.1, h.2))
     here false rest = (h.0, h.1, rest)
 
+-- and where one is taken away
 within_without : (g : Geometry) (ms : List Mapping) (base : ℕ) → AllWithin g ms → AllWithin g (without ms base)
 within_without g [] base h = tt
 within_without g (a ∷ ms) base h = here (within_without g ms base h.2) (a.base == base)
@@ -53,6 +55,7 @@ find_within g (a ∷ ms) v k h e = here (covers a v) refl (find_within g ms v k 
     here true d rest p = subst (λ (m : ℕ × ℕ). (m.0 < g.files) × (m.1 < g.limit)) (some_same p) (h.0, low d)
     here false d rest p = rest p
 
+-- what is below a size, or ahead of a truncation, is so where sizes have grown
 reached_more : (size more : ℕ → ℕ) (a : ℕ → ℕ → ℕ → Bool) (f i : ℕ) → size f ≤ more f → Reached size a f i → Reached more a f i
 reached_more size more a f i l r = elim r [ inl d ↦ inl (omega arith) | inr d ↦ inr d ]
 
@@ -65,9 +68,7 @@ pub enters_table : (g : Geometry) (s : State) (t : ℕ) (b c : Option Call) (v f
     → Inv g (to (record s { pool = record s.pool { entries = put2 s.entries t v (Some x) } }) t c)
 enters_table g s t b c v f i x h one l e same there page low held fill own =
     goes g s n t b c h l e (ap (λ p. p.4) same) (ap (λ p. p.5) same) (record {
-      geometry = h.geometry;
-      ranges = h.ranges;
-      spread = h.spread;
+      areas = h.areas;
       inside = h.inside;
       reach = h.reach;
       fill = fill;
@@ -98,17 +99,17 @@ enters_table g s t b c v f i x h one l e same there page low held fill own =
       changes = same_opens s.pending b c (ap (λ p. p.3) same);
       others = λ u d. stands_after g s n u (s.calls u) (record {
         slot = λ k a. a;
-        page = λ k j a. refl;
-        mark = λ k j a w r. r;
-        translated = λ k j a w z m p q. elim (put2_tells s.entries t v (Some x) w z) [
-          | inl o ↦ absurd (d (slot_there u (k, j)
-              (sym q ∙ (ap (λ (r : ℕ). find (s.mappings r) z) o.0 ∙ (ap (find (s.mappings t)) o.1 ∙ there))) a))
-          | inr o ↦ (m, sym o.1 ∙ p, q)
-        ];
-        lock = λ k a. (a, refl, λ j r. r);
-        mappings = refl;
-        ready = refl;
-        entries = λ w m a. (m, sym (ap (λ (r : ℕ → Option ℕ). r w) (put_other s.entries t (put (s.entries t) v (Some x)) u d)) ∙ a);
+        files = same_files;
+        tables = record {
+          translated = λ k j a w z m p q. elim (put2_tells s.entries t v (Some x) w z) [
+            | inl o ↦ absurd (d (slot_there u (k, j)
+                (sym q ∙ (ap (λ (r : ℕ). find (s.mappings r) z) o.0 ∙ (ap (find (s.mappings t)) o.1 ∙ there))) a))
+            | inr o ↦ (m, sym o.1 ∙ p, q)
+          ];
+          mappings = refl;
+          ready = refl;
+          entries = λ w m a. (m, sym (ap (λ (r : ℕ → Option ℕ). r w) (put_other s.entries t (put (s.entries t) v (Some x)) u d)) ∙ a);
+        };
       }) (h.stands u);
       own = own;
     })
@@ -130,10 +131,8 @@ pub prepares : (g : Geometry) (s : State) (t : ℕ) (b c : Option Call) → Inv 
 prepares g s t b c h l e same fill own =
     goes g s (record s { pool = record s.pool { ready = put s.ready t true } }) t b c h l e (ap (λ p. p.4) same)
     (ap (λ p. p.5) same) (record {
-      geometry = h.geometry;
+      areas = h.areas;
       entries = h.entries;
-      ranges = h.ranges;
-      spread = h.spread;
       inside = h.inside;
       sweep = h.sweep;
       reach = h.reach;
@@ -149,13 +148,13 @@ prepares g s t b c h l e same fill own =
           λ u d. stands_after g s (record s { pool = record s.pool { ready = put s.ready t true } }) u (s.calls u)
           (record {
             slot = λ k a. a;
-            page = λ k j a. refl;
-            mark = λ k j a w r. r;
-            translated = λ k j a w v y p q. (y, p, q);
-            lock = λ k a. (a, refl, λ j r. r);
-            mappings = refl;
-            ready = put_other s.ready t true u d;
-            entries = λ v y p. (y, p);
+            files = same_files;
+            tables = record {
+              translated = λ k j a w v y p q. (y, p, q);
+              mappings = refl;
+              ready = put_other s.ready t true u d;
+              entries = λ v y p. (y, p);
+            };
           }) (h.stands u);
       own = own;
     })
@@ -167,12 +166,14 @@ grown_size size f new k l = elim (put_tells size f new k) [
   | inr q ↦ (let z = q.1 in omega arith)
 ]
 
+-- a file whose lock another task holds keeps its size where this one's changes
 other_size : (s : State) (t u f k new : ℕ) → u ≢ t → HasLock s t f → s.locks k ≡ Some u → put s.size f new k ≡ s.size k
 other_size s t u f k new d held y = elim (put_tells s.size f new k) [
   | inl q ↦ absurd (d (same_holder u t (s.locks f) (ap s.locks (sym q.0) ∙ y) held))
   | inr q ↦ q.1
 ]
 
+-- sizes stay within the limit, where one is set within it
 low_size : (size : ℕ → ℕ) (f new limit k : ℕ) → new ≤ limit → size k ≤ limit → put size f new k ≤ limit
 low_size size f new limit k a b = grind (arith, put_tells)
 
@@ -185,10 +186,8 @@ pub extends : (g : Geometry) (s : State) (t : ℕ) (b c : Option Call) (f new : 
     → Inv g (to (record s { pool = record s.pool { size = put s.size f new } }) t c)
 extends g s t b c f new h l e same held grows low nobody fill own =
     goes g s n t b c h l e (ap (λ p. p.4) same) (ap (λ p. p.5) same) (record {
-      geometry = h.geometry;
+      areas = h.areas;
       entries = h.entries;
-      ranges = h.ranges;
-      spread = h.spread;
       inside = h.inside;
       spares = h.spares;
       holders = h.holders;
@@ -220,13 +219,12 @@ extends g s t b c f new h l e same held grows low nobody fill own =
           λ u d. stands_after g s n u (s.calls u)
           (record {
             slot = λ k a. a;
-            page = λ k j a. refl;
-            mark = λ k j a w r. r;
-            translated = λ k j a w v y p q. (y, p, q);
-            lock = λ k a. (a, other_size s t u f k new d held a, λ j r. r);
-            mappings = refl;
-            ready = refl;
-            entries = λ v y p. (y, p);
+            files = record {
+              page = λ k j a. refl;
+              mark = λ k j a w r. r;
+              lock = λ k a. (a, other_size s t u f k new d held a, λ j r. r);
+            };
+            tables = same_tables;
           }) (h.stands u);
       own = own;
     })
@@ -253,7 +251,19 @@ pub enters_area : (g : Geometry) (s : State) (t : ℕ) (b c : Option Call) (a : 
     → Stands g (entering s t a) t c → Inv g (to (entering s t a) t c)
 enters_area g s t b c a h l e same in_files some in_limit clear held nobody fill own =
     goes g s n t b c h l e (ap (λ p. p.4) same) (ap (λ p. p.5) same) (record {
-      geometry = h.geometry;
+      areas = record {
+        geometry = h.geometry;
+        ranges = λ w. elim (same_or_other w t) [
+          | inl q ↦ subst (AllWithin g) (sym (ap n.mappings q ∙ put_same s.mappings t (entered (s.mappings t) a)))
+              (within_entered g (s.mappings t) a in_files in_limit (h.ranges t))
+          | inr q ↦ subst (AllWithin g) (sym (put_other s.mappings t (entered (s.mappings t) a) w q)) (h.ranges w)
+        ];
+        spread = λ w. elim (same_or_other w t) [
+          | inl q ↦ subst (IsSpread g.space 0) (sym (ap n.mappings q ∙ put_same s.mappings t (entered (s.mappings t) a)))
+              (entered_spread g.space 0 (s.mappings t) a (h.spread t) apart.1 (omega arith) some apart.0)
+          | inr q ↦ subst (IsSpread g.space 0) (sym (put_other s.mappings t (entered (s.mappings t) a) w q)) (h.spread w)
+        ];
+      };
       inside = h.inside;
       spares = h.spares;
       holders = h.holders;
@@ -261,16 +271,6 @@ enters_area g s t b c a h l e same in_files some in_limit clear held nobody fill
       count = (let y : less c ≡ less b = ap (λ p. p.0) same in let z : more c ≡ more b = ap (λ p. p.1) same in omega arith);
       place = place_same g s t b c h e (ap (λ p. p.2) same);
       entries = record { owners = h.entries.owners; agree = λ w v x d. let o = h.entries.agree w v x d in (o.0, kept w v o.0 o.1, o.2) };
-      ranges = λ w. elim (same_or_other w t) [
-        | inl q ↦ subst (AllWithin g) (sym (ap n.mappings q ∙ put_same s.mappings t (entered (s.mappings t) a)))
-            (within_entered g (s.mappings t) a in_files in_limit (h.ranges t))
-        | inr q ↦ subst (AllWithin g) (sym (put_other s.mappings t (entered (s.mappings t) a) w q)) (h.ranges w)
-      ];
-      spread = λ w. elim (same_or_other w t) [
-        | inl q ↦ subst (IsSpread g.space 0) (sym (ap n.mappings q ∙ put_same s.mappings t (entered (s.mappings t) a)))
-            (entered_spread g.space 0 (s.mappings t) a (h.spread t) apart.1 (omega arith) some apart.0)
-        | inr q ↦ subst (IsSpread g.space 0) (sym (put_other s.mappings t (entered (s.mappings t) a) w q)) (h.spread w)
-      ];
       sweep = record {
         below = λ w v x f i d y. let o = h.entries.agree w v x d in
             reached_more s.size n.size (λ u. ahead (s.calls u)) f i (larger f)
@@ -294,13 +294,17 @@ enters_area g s t b c a h l e same in_files some in_limit clear held nobody fill
       changes = same_opens s.pending b c (ap (λ p. p.3) same);
       others = λ u d. stands_after g s n u (s.calls u) (record {
         slot = λ k x. x;
-        page = λ k j x. refl;
-        mark = λ k j x w r. r;
-        translated = λ k j x w v z p q. let o = h.entries.agree w v z p in (z, p, o.1 ∙ (sym (kept w v o.0 o.1) ∙ q));
-        lock = λ f y. (y, other_size s t u a.file f (max (s.size a.file) (a.from + a.len)) d held y, λ j r. r);
-        mappings = put_other s.mappings t (entered (s.mappings t) a) u d;
-        ready = put_other s.ready t false u d;
-        entries = λ v y p. (y, p);
+        files = record {
+          page = λ k j x. refl;
+          mark = λ k j x w r. r;
+          lock = λ f y. (y, other_size s t u a.file f (max (s.size a.file) (a.from + a.len)) d held y, λ j r. r);
+        };
+        tables = record {
+          translated = λ k j x w v z p q. let o = h.entries.agree w v z p in (z, p, o.1 ∙ (sym (kept w v o.0 o.1) ∙ q));
+          mappings = put_other s.mappings t (entered (s.mappings t) a) u d;
+          ready = put_other s.ready t false u d;
+          entries = λ v y p. (y, p);
+        };
       }) (h.stands u);
       own = own;
     })
@@ -326,12 +330,10 @@ enters_area g s t b c a h l e same in_files some in_limit clear held nobody fill
 pub entries_go : (g : Geometry) (s : State) (table : ℕ → ℕ → Option ℕ) → Inv g s
     → ((w v x : ℕ) → table w v ≡ Some x → s.entries w v ≡ Some x) → Inv g (record s { pool = record s.pool { entries = table } })
 entries_go g s table h kept = record {
-  geometry = h.geometry;
+  areas = h.areas;
   count = h.count;
   enough = h.enough;
   place = h.place;
-  ranges = h.ranges;
-  spread = h.spread;
   inside = h.inside;
   reach = h.reach;
   sizes = h.sizes;
@@ -344,16 +346,17 @@ entries_go g s table h kept = record {
       λ u. stands_after g s (record s { pool = record s.pool { entries = table } }) u (s.calls u)
       (record {
         slot = λ k a. a;
-        page = λ k j a. refl;
-        mark = λ k j a w r. r;
-        translated = λ k j a w v x p q. (x, kept w v x p, q);
-        lock = λ k a. (a, refl, λ j r. r);
-        mappings = refl;
-        ready = refl;
-        entries = λ v x p. (x, kept u v x p);
+        files = same_files;
+        tables = record {
+          translated = λ k j a w v x p q. (x, kept w v x p, q);
+          mappings = refl;
+          ready = refl;
+          entries = λ v x p. (x, kept u v x p);
+        };
       }) (h.stands u);
 }
 
+-- what is there after a filter was there before, and passed it
 cond_kept : (b : Bool) (o : Option ℕ) (x : ℕ) → (if b then None else o) ≡ Some x → (b ≡ false) × (o ≡ Some x)
 cond_kept true o x e = (let d : ◌≡◌ {A = Option ℕ} None (Some x) = e in absurd (cc))
 cond_kept false o x e = (refl, e)
@@ -369,22 +372,26 @@ filtered table k out row w v x each e = elim (same_or_other w k) [
   | inr d ↦ (sym (ap (λ (m : ℕ → Option ℕ). m v) (put_other table k row w d)) ∙ e, λ q. absurd (d q))
 ]
 
+-- clearing an index, entry by entry
 index_each : (ms : List Mapping) (row : ℕ → Option ℕ) (f i z : ℕ)
     → without_index ms row f i z ≡ (if is_there (find ms z) f i then None else row z)
 unfolding without_index
 index_each ms row f i z = refl
 
+-- clearing a mapping, entry by entry
 mapping_each : (ms : List Mapping) (row : ℕ → Option ℕ) (base z : ℕ)
     → without_mapping ms row base z ≡ (if in_mapping ms base z then None else row z)
 unfolding without_mapping
 mapping_each ms row base z = refl
 
+-- an entry that is left after one task's entries of an index are cleared was there, and is none of these
 pub clear_kept : (s : State) (k f i w v x : ℕ) → put s.entries k (without_index (s.mappings k) (s.entries k) f i) w v ≡ Some x
     → (s.entries w v ≡ Some x) × (w ≡ k → is_there (find (s.mappings k) v) f i ≡ false)
 clear_kept s k f i w v x e =
     filtered s.entries k (λ z. is_there (find (s.mappings k) z) f i) (without_index (s.mappings k) (s.entries k) f i) w v x
     (index_each (s.mappings k) (s.entries k) f i) e
 
+-- what is found is there
 there_same : (f i : ℕ) (o : Option (ℕ × ℕ)) → o ≡ Some (f, i) → is_there o f i ≡ true
 there_same f i o e = ap (λ (q : Option (ℕ × ℕ)). is_there q f i) e ∙ both f i
   where
@@ -419,6 +426,7 @@ emptied s t base w v x e =
     filtered s.entries t (λ z. in_mapping (s.mappings t) base z) (without_mapping (s.mappings t) (s.entries t) base) w v x
     (mapping_each (s.mappings t) (s.entries t) base) e
 
+-- clearing a mapping's entries keeps the invariant
 pub empties : (g : Geometry) (s : State) (t base : ℕ) → Inv g s
     → Inv g (record s { pool = record s.pool { entries = put s.entries t (without_mapping (s.mappings t) (s.entries t) base) } })
 empties g s t base h =
@@ -431,7 +439,19 @@ pub drops : (g : Geometry) (s : State) (t : ℕ) (b c : Option Call) (base : ℕ
     → Stands g (record s { pool = record s.pool { mappings = put s.mappings t (without (s.mappings t) base) } }) t c
     → Inv g (to (record s { pool = record s.pool { mappings = put s.mappings t (without (s.mappings t) base) } }) t c)
 drops g s t b c base h l e same clear fill own = goes g s n t b c h l e (ap (λ p. p.4) same) (ap (λ p. p.5) same) (record {
-  geometry = h.geometry;
+  areas = record {
+    geometry = h.geometry;
+    ranges = λ w. elim (same_or_other w t) [
+      | inl q ↦ subst (AllWithin g) (sym (ap n.mappings q ∙ put_same s.mappings t (without (s.mappings t) base)))
+          (within_without g (s.mappings t) base (h.ranges t))
+      | inr q ↦ subst (AllWithin g) (sym (put_other s.mappings t (without (s.mappings t) base) w q)) (h.ranges w)
+    ];
+    spread = λ w. elim (same_or_other w t) [
+      | inl q ↦ subst (IsSpread g.space 0) (sym (ap n.mappings q ∙ put_same s.mappings t (without (s.mappings t) base)))
+          (without_spread g.space 0 (s.mappings t) base (h.spread t))
+      | inr q ↦ subst (IsSpread g.space 0) (sym (put_other s.mappings t (without (s.mappings t) base) w q)) (h.spread w)
+    ];
+  };
   inside = h.inside;
   reach = h.reach;
   fill = fill;
@@ -442,16 +462,6 @@ drops g s t b c base h l e same clear fill own = goes g s n t b c h l e (ap (λ 
   count = (let y : less c ≡ less b = ap (λ p. p.0) same in let z : more c ≡ more b = ap (λ p. p.1) same in omega arith);
   place = place_same g s t b c h e (ap (λ p. p.2) same);
   entries = record { owners = h.entries.owners; agree = λ w v x d. let o = h.entries.agree w v x d in (o.0, same_find w v x d ∙ o.1, o.2) };
-  ranges = λ w. elim (same_or_other w t) [
-    | inl q ↦ subst (AllWithin g) (sym (ap n.mappings q ∙ put_same s.mappings t (without (s.mappings t) base)))
-        (within_without g (s.mappings t) base (h.ranges t))
-    | inr q ↦ subst (AllWithin g) (sym (put_other s.mappings t (without (s.mappings t) base) w q)) (h.ranges w)
-  ];
-  spread = λ w. elim (same_or_other w t) [
-    | inl q ↦ subst (IsSpread g.space 0) (sym (ap n.mappings q ∙ put_same s.mappings t (without (s.mappings t) base)))
-        (without_spread g.space 0 (s.mappings t) base (h.spread t))
-    | inr q ↦ subst (IsSpread g.space 0) (sym (put_other s.mappings t (without (s.mappings t) base) w q)) (h.spread w)
-  ];
   sweep =
       record {
         below = λ w v x f i d y. h.sweep.below w v x f i d (sym (same_find w v x d) ∙ y);
@@ -461,13 +471,13 @@ drops g s t b c base h l e same clear fill own = goes g s n t b c h l e (ap (λ 
   changes = same_opens s.pending b c (ap (λ p. p.3) same);
   others = λ u d. stands_after g s n u (s.calls u) (record {
     slot = λ k a. a;
-    page = λ k j a. refl;
-    mark = λ k j a w r. r;
-    translated = λ k j a w v z p q. (z, p, sym (same_find w v z p) ∙ q);
-    lock = λ k a. (a, refl, λ j r. r);
-    mappings = put_other s.mappings t (without (s.mappings t) base) u d;
-    ready = refl;
-    entries = λ v y p. (y, p);
+    files = same_files;
+    tables = record {
+      translated = λ k j a w v z p q. (z, p, sym (same_find w v z p) ∙ q);
+      mappings = put_other s.mappings t (without (s.mappings t) base) u d;
+      ready = refl;
+      entries = λ v y p. (y, p);
+    };
   }) (h.stands u);
   own = own;
 })

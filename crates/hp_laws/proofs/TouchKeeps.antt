@@ -31,19 +31,24 @@ use Rattle.hp_laws.proofs.Tables.{find_within, enters_table}
 use Rattle.hp_laws.proofs.Shared.{after, so, by_test, by_option, idle, stands_at, reach_at, want_row, change_row, take_row}
 use Rattle.hp_laws.proofs.Shared.{commit_row, one_change, own_reserved}
 
+-- an option with a value isn't empty
 pub not_none : (o : Option ℕ) (x : ℕ) → o ≡ Some x → o ≢ None
 not_none o x e = λ d. (let q : Some x ≡ None = sym e ∙ d in cc)
 
+-- a page that the test finds is there
 pub some_page : (o : Option ℕ) → is_some o ≡ true → o ≢ None
 some_page o e = λ d. (let q : false ≡ true = sym (ap (λ (x : Option ℕ). is_some x) d) ∙ e in cc)
 
+-- and one that it doesn't find isn't
 pub no_page : (o : Option ℕ) → is_some o ≡ false → o ≡ None
 no_page None e = refl
 no_page (Some x) e = (let q : true ≡ false = e in cc)
 
+-- an index that fails the test for at or above the size is below it
 below_size : (i size : ℕ) → nat_le size i ≡ false → i < size
 below_size i size e = grind (arith, nat_tests)
 
+-- at look it answers where its virtual page has an entry or no mapping, else goes on to want
 touch_look : (s : State) (t : ℕ) (p : Look) (turn : Turn TouchPhase) (new : Pool) → Inv s.geometry s → t < s.geometry.tasks + 1
     → s.calls t ≡ Some (call.Touch (at.Look p)) → TouchLookRow (pool_of s) t p turn new
     → Inv s.geometry (after call.Touch s t turn new)
@@ -56,12 +61,13 @@ touch_look s t p turn new h l e row =
     (stays s.geometry s t _
     (Some (call.Touch (at.Want
     (record { touch = record { vpn = p.vpn; access = p.access; file = place.0; index = place.1 } })))) h l e refl tt
-    (record { slot = tt; lock = tt; facts = record { aim = (there, k.0, k.1, none) } })))
+    (record { slot = tt; lock = tt; facts = record { aim = record { found = there; file = k.0; index = k.1; untranslated = none } } })))
     (λ x entry r. so call.Touch s t _ turn _ new r.2
     (stays s.geometry (record s { pool = record s.pool { frame = frame_after p.access s.frame x } }) t _ None
     (touches_word s.geometry s p.access x r.0 h r.1) l e refl tt
     (idle s.geometry (record s { pool = record s.pool { frame = frame_after p.access s.frame x } }) t))))
 
+-- at want it takes the slot, waits, or ends where a kill is noticed
 touch_want : (s : State) (t : ℕ) (killed : Bool) (p : Want) (turn : Turn TouchPhase) (new : Pool) → Inv s.geometry s
     → t < s.geometry.tasks + 1 → s.calls t ≡ Some (call.Touch (at.Want p)) → TouchWantRow (pool_of s) t killed p turn new
     → Inv s.geometry (after call.Touch s t turn new)
@@ -76,6 +82,7 @@ touch_want s t killed p turn new h l e row =
       facts = (stands_at s t _ h e).facts;
     }))
 
+-- at locked it leaves an index beyond the size, uses a page, and begins to make one where there is none
 touch_locked : (s : State) (t : ℕ) (p : Locked) (turn : Turn TouchPhase) (new : Pool) → Inv s.geometry s
     → t < s.geometry.tasks + 1 → s.calls t ≡ Some (call.Touch (at.Locked p)) → TouchLockedRow (pool_of s) p turn new
     → Inv s.geometry (after call.Touch s t turn new)
@@ -96,6 +103,7 @@ touch_locked s t p turn new h l e row =
     (inl (below_size i (s.size f) below))
     (record { slot = y.slot; lock = tt; facts = record { aim = y.facts.aim; bare = no_page (s.pages f i) none } }))))
 
+-- at missing its change is begun, or denied
 touch_missing : (s : State) (t : ℕ) (grant : Bool) (p : Missing) (turn : Turn TouchPhase) (new : Pool) → Inv s.geometry s
     → t < s.geometry.tasks + 1 → s.calls t ≡ Some (call.Touch (at.Missing p)) → TouchMissingRow (pool_of s) grant p turn new
     → Inv s.geometry (after call.Touch s t turn new)
@@ -115,6 +123,7 @@ touch_missing s t grant p turn new h l e row =
       own = record { slot = y.slot; lock = tt; facts = record { aim = y.facts.aim; bare = y.facts.bare; one = o.0; marked = o.1 } };
     })
 
+-- at changed it takes a frame; it gives the change up where there is none or a kill is noticed
 touch_changed : (s : State) (t : ℕ) (killed : Bool) (p : Changed) (turn : Turn TouchPhase) (new : Pool) → Inv s.geometry s
     → t < s.geometry.tasks + 1 → s.calls t ≡ Some (call.Touch (at.Changed p)) → TouchChangedRow (pool_of s) killed p turn new
     → Inv s.geometry (after call.Touch s t turn new)
@@ -141,6 +150,7 @@ touch_changed s t killed p turn new h l e row =
       own = λ x. record { slot = y.slot; lock = tt; facts = y.facts };
     }))
 
+-- at taken the change is committed; the index is reserved from then on
 touch_taken : (s : State) (t : ℕ) (p : Taken) (turn : Turn TouchPhase) (new : Pool) → Inv s.geometry s → t < s.geometry.tasks + 1
     → s.calls t ≡ Some (call.Touch (at.Taken p)) → TouchTakenRow (pool_of s) p turn new
     → Inv s.geometry (after call.Touch s t turn new)
@@ -150,8 +160,8 @@ touch_taken s t p turn new h l e row =
     commit_row call.Touch s t p.touch.file p.touch.index p.pending (at.Taken p)
     (at.Settle (record { touch = p.touch; held = p.held }))
     (at.Committed (record { touch = p.touch; held = p.held })) turn new h l e row (record {
-      file = y.facts.aim.1;
-      index = y.facts.aim.2;
+      file = y.facts.aim.file;
+      index = y.facts.aim.index;
       one = y.facts.one;
       marked = y.facts.marked;
       nobody = reached_not_passed s.geometry s p.touch.file p.touch.index h (reach_at s t _ h e);
@@ -172,6 +182,7 @@ touch_taken s t p turn new h l e row =
       own_next = record { slot = y.slot; lock = tt; facts = record { aim = y.facts.aim; bare = y.facts.bare; marked = marked } };
     })
 
+-- at committed the frame becomes the page, or is given back where the size was lowered or that is denied
 touch_committed : (s : State) (t : ℕ) (grant : Bool) (p : Committed) (turn : Turn TouchPhase) (new : Pool) → Inv s.geometry s
     → t < s.geometry.tasks + 1 → s.calls t ≡ Some (call.Touch (at.Committed p)) → TouchCommittedRow (pool_of s) grant p turn new
     → Inv s.geometry (after call.Touch s t turn new)
@@ -190,7 +201,7 @@ touch_committed s t grant p turn new h l e row =
     (λ below r. by_test grant r
     (λ granted r. so call.Touch s t _ turn _ new r
     (places s.geometry s t _ (Some (call.Touch (at.Found (record { touch = p.touch })))) f i p.held h l e
-    y.facts.aim.1 y.facts.aim.2 refl refl refl refl refl refl y.facts.marked y.facts.bare y.slot
+    y.facts.aim.file y.facts.aim.index refl refl refl refl refl refl y.facts.marked y.facts.bare y.slot
     (reached_not_passed s.geometry s f i h (reach_at s t _ h e)) tt
     (record {
       slot = y.slot;
@@ -199,6 +210,7 @@ touch_committed s t grant p turn new h l e row =
     })))
     (λ denied r. so call.Touch s t _ turn _ new r (restores answer.NoMemory)))
 
+-- at found the entry is written and the word read or written, or the touch leaves with nothing done
 touch_found : (s : State) (t : ℕ) (grant : Bool) (p : Found) (turn : Turn TouchPhase) (new : Pool) → Inv s.geometry s → 1 ≤ t
     → t < s.geometry.tasks + 1 → s.calls t ≡ Some (call.Touch (at.Found p)) → TouchFoundRow (pool_of s) t grant p turn new
     → Inv s.geometry (after call.Touch s t turn new)
@@ -215,9 +227,11 @@ touch_found s t grant p turn new h one l e row =
     (enters_table s.geometry (record s { pool = record s.pool { frame = frame_after p.touch.access s.frame r.0 } })
     t _ (Some (call.Touch (at.Leave (record { touch = p.touch; answer = answer_of p.touch.access r.1 }))))
     p.touch.vpn p.touch.file p.touch.index r.0 (touches_word s.geometry s p.touch.access r.0 r.1 h r.3) one l e refl
-    y.facts.aim.0 r.2 (below_size p.touch.index (s.size p.touch.file) below) y.slot tt (record { slot = y.slot; lock = tt; facts = tt })))
+    y.facts.aim.found r.2 (below_size p.touch.index (s.size p.touch.file) below) y.slot tt
+    (record { slot = y.slot; lock = tt; facts = tt })))
     (λ denied r. so call.Touch s t _ turn _ new r (leaves answer.NoMemory)))
 
+-- so each row of a touch keeps the invariant
 pub touch_row : (s : State) (t : ℕ) (killed grant : Bool) (phase : TouchPhase) (turn : Turn TouchPhase) (new : Pool)
     → Inv s.geometry s → 1 ≤ t → t < s.geometry.tasks + 1 → s.calls t ≡ Some (call.Touch phase)
     → TouchRow (pool_of s) t killed grant phase turn new → Inv s.geometry (after call.Touch s t turn new)

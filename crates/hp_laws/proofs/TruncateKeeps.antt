@@ -22,6 +22,7 @@ use Rattle.hp_machine.specs.declared.truncate.TruncatePhase.TheVariants as at
 use Rattle.hp_machine.specs.declared.call.Call.TheVariants as call
 use Rattle.hp_machine.specs.declared.call.Turn.{Turn}
 use Rattle.hp_laws.specs.Sweep.{passed}
+use Rattle.hp_laws.proofs.Deciding.{lt, le, from_on, never}
 use Rattle.hp_laws.proofs.Invariant.{Inv, page_within, stays}
 use Rattle.hp_laws.proofs.Holding.{leaves_lock}
 use Rattle.hp_laws.proofs.Effects.{rebalances, gives}
@@ -31,27 +32,19 @@ use Rattle.hp_laws.proofs.Cuts.{cuts, passes, cuts_tail}
 use Rattle.hp_laws.proofs.Shared.{after, so, by_test, stands_at, start_row, want_row}
 use Rattle.hp_laws.proofs.TouchKeeps.{some_page, no_page}
 
-lt : (a b : ℕ) → nat_lt a b ≡ true → a < b
-lt a b e = grind (arith, nat_tests)
-
-le : (a b : ℕ) → nat_lt a b ≡ false → b ≤ a
-le a b e = grind (arith, nat_tests)
-
-never : {A : Type 0} → false ≡ true → A
-never e = absurd (cc)
-
+-- an index up to another of its file passes the test for that
 up_to : (f i j : ℕ) → j ≤ i → ((f == f) && nat_le j i) ≡ true
 up_to f i j l = grind (arith, nat_tests)
 
-from_on : (f new j : ℕ) → new ≤ j → ((f == f) && nat_le new j) ≡ true
-from_on f new j l = grind (arith, nat_tests)
-
+-- what the test for above says
 is_above : (f k i j : ℕ) → ((f == k) && nat_lt i j) ≡ true → (k ≡ f) × (i + 1 ≤ j)
 is_above f k i j e = (grind (arith, nat_tests), grind (arith, nat_tests))
 
+-- an index above another of its file passes that test
 above : (f k i j : ℕ) → k ≡ f → i + 1 ≤ j → ((f == k) && nat_lt i j) ≡ true
 above f k i j d l = grind (arith, nat_tests)
 
+-- what the test for up to says
 is_up_to : (f k i j : ℕ) → ((f == k) && nat_le j i) ≡ true → (k ≡ f) × (j ≤ i)
 is_up_to f k i j e = (grind (arith, nat_tests), grind (arith, nat_tests))
 
@@ -63,12 +56,14 @@ ahead_next f k i j new next d e =
     let z : j ≤ i = o.1 in
     (o.0, elim (eqb_tells j i) [ inl q ↦ inl q.1 | inr q ↦ (let y : j ≢ i = q.1 in inr (inr (up_to f next j (omega arith)))) ])
 
+-- what was ahead at the last index is that index, or below the new size
 ahead_tail : (f k i j new : ℕ) → i ≤ new → ((f == k) && nat_le j i) ≡ true → (k ≡ f) × ((j ≡ i) ⊎ ((j < new) ⊎ (false ≡ true)))
 ahead_tail f k i j new d e =
     let o = is_up_to f k i j e in
     let z : j ≤ i = o.1 in
     (o.0, elim (eqb_tells j i) [ inl q ↦ inl q.1 | inr q ↦ (let y : j ≢ i = q.1 in inr (inl (omega arith))) ])
 
+-- what is passed after an index was passed before it, or is that index
 passed_next : (f k i j new next : ℕ) → i ≡ next + 1 → new ≤ next → ((f == k) && nat_lt next j) ≡ true
     → (((f == k) && nat_lt i j) ≡ true) ⊎ ((k ≡ f) × (j ≡ i) × (new ≤ j))
 passed_next f k i j new next d l e =
@@ -80,6 +75,7 @@ passed_next f k i j new next d l e =
           (let y : j ≢ i = q.1 in inl (above f k i j o.0 (omega arith)))
     ]
 
+-- what is passed after the last index was passed before it, or is that index
 passed_tail : (f k i j new : ℕ) → i ≤ new → ((f == k) && nat_le new j) ≡ true
     → (((f == k) && nat_lt i j) ≡ true) ⊎ ((k ≡ f) × (j ≡ i) × (new ≤ j))
 passed_tail f k i j new l e =
@@ -99,6 +95,8 @@ end_low s f end h is_end = is_end.1 s.geometry.limit (λ i l. none i l (s.pages 
     none i l None e = e
     none i l (Some x) e = (let z = (page_within f i x h.inside e).1 in absurd (omega arith))
 
+-- at size the size is set, and it goes on down from the highest index with a page or below the old size, if that is
+-- cut off
 truncate_size : (s : State) (t : ℕ) (p : Size) (turn : Turn TruncatePhase) (new : Pool) → Inv s.geometry s
     → t < s.geometry.tasks + 1 → s.calls t ≡ Some (call.Truncate (at.Size p)) → TruncateSizeRow (pool_of s) p turn new
     → Inv s.geometry (after call.Truncate s t turn new)
@@ -122,11 +120,13 @@ truncate_size s t p turn new h l e (end, is_end, row) =
       slot = tt;
       lock = y.lock;
       facts = record {
-        file = y.facts.file;
-        new = y.facts.new;
-        index = (omega arith, omega arith);
-        sized = put_same s.size f to;
-        lost = omega arith;
+        aim = record {
+          file = y.facts.file;
+          new = y.facts.new;
+          index = (omega arith, omega arith);
+          sized = put_same s.size f to;
+          lost = omega arith;
+        };
       };
     })))
     (λ none r. let all : top ≤ to = le _ _ none in
@@ -141,6 +141,7 @@ truncate_size s t p turn new h l e (end, is_end, row) =
       facts = record { file = y.facts.file; new = y.facts.new; sized = put_same s.size f to; lost = omega arith };
     })))
 
+-- at locked it goes on to clear an index with a page, and passes over one without
 truncate_locked : (s : State) (t : ℕ) (p : Locked) (turn : Turn TruncatePhase) (new : Pool) → Inv s.geometry s → 1 ≤ t
     → t < s.geometry.tasks + 1 → s.calls t ≡ Some (call.Truncate (at.Locked p)) → TruncateLockedRow (pool_of s) p turn new
     → Inv s.geometry (after call.Truncate s t turn new)
@@ -157,11 +158,7 @@ truncate_locked s t p turn new h one l e row =
       slot = y.slot;
       lock = y.lock;
       facts = record {
-        file = y.facts.file;
-        new = y.facts.new;
-        index = y.facts.index;
-        sized = y.facts.sized;
-        lost = y.facts.lost;
+        aim = y.facts.aim;
         cached = some_page _ page;
         task = (omega arith, omega arith);
         cleared = λ w v x a b c d. absurd (omega arith);
@@ -169,7 +166,7 @@ truncate_locked s t p turn new h one l e row =
     })))
     (λ none r.
     let w = tail_wider s.geometry.limit i (i + 1) (s.reserved f) (omega arith) in
-    let z = y.facts.lost in
+    let z = y.facts.aim.lost in
     so call.Truncate s t _ turn _ new r
     (stays s.geometry s t _
     (Some (call.Truncate (at.Unslot (record { truncation = p.truncation; index = i; evicted = p.evicted })))) h l e refl tt
@@ -177,15 +174,18 @@ truncate_locked s t p turn new h one l e row =
       slot = y.slot;
       lock = y.lock;
       facts = record {
-        file = y.facts.file;
-        new = y.facts.new;
-        index = y.facts.index;
-        sized = y.facts.sized;
-        lost = omega arith;
+        aim = record {
+          file = y.facts.aim.file;
+          new = y.facts.aim.new;
+          index = y.facts.aim.index;
+          sized = y.facts.aim.sized;
+          lost = omega arith;
+        };
         bare = no_page _ none;
       };
     })))
 
+-- at unmap it clears one task's entries, and goes on to the next task or to evict
 truncate_unmap : (s : State) (t : ℕ) (p : Unmap) (turn : Turn TruncatePhase) (new : Pool) → Inv s.geometry s
     → t < s.geometry.tasks + 1 → s.calls t ≡ Some (call.Truncate (at.Unmap p)) → TruncateUnmapRow (pool_of s) p turn new
     → Inv s.geometry (after call.Truncate s t turn new)
@@ -208,11 +208,7 @@ truncate_unmap s t p turn new h l e row =
       slot = y.slot;
       lock = y.lock;
       facts = record {
-        file = y.facts.file;
-        new = y.facts.new;
-        index = y.facts.index;
-        sized = y.facts.sized;
-        lost = y.facts.lost;
+        aim = y.facts.aim;
         cached = y.facts.cached;
         task = (omega arith, (let a = lt _ _ more in omega arith));
         cleared = cleared_next s p.task f p.index y.facts.cleared;
@@ -226,16 +222,13 @@ truncate_unmap s t p turn new h l e row =
       slot = y.slot;
       lock = y.lock;
       facts = record {
-        file = y.facts.file;
-        new = y.facts.new;
-        index = y.facts.index;
-        sized = y.facts.sized;
-        lost = y.facts.lost;
+        aim = y.facts.aim;
         cached = y.facts.cached;
         cleared = λ w v x a b. cleared_next s p.task f p.index y.facts.cleared w v x a (let c = le _ _ last in omega arith);
       };
     })))
 
+-- at evict the page goes into its hand, and it owes one more
 truncate_evict : (s : State) (t : ℕ) (p : Evict) (turn : Turn TruncatePhase) (new : Pool) → Inv s.geometry s
     → t < s.geometry.tasks + 1 → s.calls t ≡ Some (call.Truncate (at.Evict p)) → TruncateEvictRow (pool_of s) p turn new
     → Inv s.geometry (after call.Truncate s t turn new)
@@ -245,26 +238,29 @@ truncate_evict s t p turn new h l e (x, page, row) =
     let f = p.truncation.file in
     let w = tail_next s.geometry.limit p.index (s.reserved f) (page_within f p.index x h.inside page).1
     (page_marked s.geometry s f p.index x h page) in
-    let z = y.facts.lost in
+    let z = y.facts.aim.lost in
     so call.Truncate s t _ turn _ new row
     (evicts s.geometry s t _
     (Some (call.Truncate
     (at.Free (record { truncation = p.truncation; index = p.index; evicted = p.evicted + 1; held = x })))) f p.index
-    x h l e y.facts.file refl refl refl refl refl (omega arith) page y.slot
+    x h l e y.facts.aim.file refl refl refl refl refl (omega arith) page y.slot
     (λ w v z a d. let o = h.entries.owners w v z a in c w v z o.0 (let b = o.1 in omega arith) a d) tt
     (record {
       slot = y.slot;
       lock = y.lock;
       facts = record {
-        file = y.facts.file;
-        new = y.facts.new;
-        index = y.facts.index;
-        sized = y.facts.sized;
-        lost = omega arith;
+        aim = record {
+          file = y.facts.aim.file;
+          new = y.facts.aim.new;
+          index = y.facts.aim.index;
+          sized = y.facts.aim.sized;
+          lost = omega arith;
+        };
         bare = put2_same s.pages f p.index None;
       };
     }))
 
+-- at unslot it leaves the slot, for the next index down or for its tail
 truncate_unslot : (s : State) (t : ℕ) (p : Unslot) (turn : Turn TruncatePhase) (new : Pool) → Inv s.geometry s
     → t < s.geometry.tasks + 1 → s.calls t ≡ Some (call.Truncate (at.Unslot p)) → TruncateUnslotRow (pool_of s) p turn new
     → Inv s.geometry (after call.Truncate s t turn new)
@@ -277,42 +273,45 @@ truncate_unslot s t p turn new h l e row =
     (λ more r.
     let fewer : to < i = lt _ _ more in
     let back : i ≡ (i - 1) + 1 = omega arith in
-    let low = y.facts.index.1 in
+    let low = y.facts.aim.index.1 in
     so call.Truncate s t _ turn _ new r
     (passes s.geometry s t _
     (Some (call.Truncate (at.Want (record { truncation = p.truncation; index = i - 1; evicted = p.evicted })))) f i
-    to h l e refl refl refl refl refl refl refl refl y.slot y.facts.bare y.facts.sized
+    to h l e refl refl refl refl refl refl refl refl y.slot y.facts.bare y.facts.aim.sized
     (λ k j d. ahead_next f k i j to (i - 1) back d) (λ k j d. passed_next f k i j to (i - 1) back (omega arith) d) (λ k j d. never d)
     (record {
       slot = tt;
       lock = y.lock;
       facts = record {
-        file = y.facts.file;
-        new = y.facts.new;
-        index = (omega arith, omega arith);
-        sized = y.facts.sized;
-        lost = subst (λ (w : ℕ). p.evicted ≤ count_within (s.reserved f) w s.geometry.limit) back y.facts.lost;
+        aim = record {
+          file = y.facts.aim.file;
+          new = y.facts.aim.new;
+          index = (omega arith, omega arith);
+          sized = y.facts.aim.sized;
+          lost = subst (λ (w : ℕ). p.evicted ≤ count_within (s.reserved f) w s.geometry.limit) back y.facts.aim.lost;
+        };
       };
     })))
     (λ last r.
     let all : i ≤ to = le _ _ last in
-    let here : i ≡ to = (let z = y.facts.index.0 in omega arith) in
+    let here : i ≡ to = (let z = y.facts.aim.index.0 in omega arith) in
     so call.Truncate s t _ turn _ new r
     (passes s.geometry s t _
     (Some (call.Truncate (at.Tail (record { truncation = p.truncation; evicted = p.evicted })))) f i to h l e refl
-    refl refl refl refl refl refl refl y.slot y.facts.bare y.facts.sized
+    refl refl refl refl refl refl refl y.slot y.facts.bare y.facts.aim.sized
     (λ k j d. ahead_tail f k i j to all d) (λ k j d. passed_tail f k i j to all d) (λ k j d. never d)
     (record {
       slot = tt;
       lock = y.lock;
       facts = record {
-        file = y.facts.file;
-        new = y.facts.new;
-        sized = y.facts.sized;
-        lost = subst (λ (w : ℕ). p.evicted ≤ count_within (s.reserved f) w s.geometry.limit) here y.facts.lost;
+        file = y.facts.aim.file;
+        new = y.facts.aim.new;
+        sized = y.facts.aim.sized;
+        lost = subst (λ (w : ℕ). p.evicted ≤ count_within (s.reserved f) w s.geometry.limit) here y.facts.aim.lost;
       };
     })))
 
+-- so each row of a truncation keeps the invariant
 pub truncate_row : (s : State) (t : ℕ) (killed grant : Bool) (phase : TruncatePhase) (turn : Turn TruncatePhase) (new : Pool)
     → Inv s.geometry s → 1 ≤ t → t < s.geometry.tasks + 1 → s.calls t ≡ Some (call.Truncate phase)
     → TruncateRow (pool_of s) t killed grant phase turn new → Inv s.geometry (after call.Truncate s t turn new)

@@ -43,12 +43,14 @@ use Rattle.hp_machine.specs.declared.alloc.Unslot.{Unslot}
 use Rattle.hp_machine.specs.declared.call.Turn.{Turn}
 use Rattle.hp_machine.specs.declared.call.Turn.TheVariants.{Moved, Blocked, Ended}
 use Rattle.hp_laws.specs.Bounds.{times, sizes, IsTop, WaitsFor}
+use Rattle.hp_laws.proofs.Deciding.{lt, le}
 use Rattle.hp_laws.proofs.StepsLeft.{steps_left, unslot_left, deletes}
 use Rattle.hp_laws.proofs.Invariant.{Inv}
 use Rattle.hp_laws.proofs.Effects.{grown_keeps}
 use Rattle.hp_laws.proofs.Tables.{grown_size}
 use Rattle.hp_laws.proofs.Shared.{by_test, by_option, stands_at, good_range}
 
+-- the turn waits
 abbrev pub is_blocked : {P : Type 0} → Turn P → Bool
 is_blocked (Moved p) = false
 is_blocked (Blocked p holder) = true
@@ -98,13 +100,16 @@ plain call s t top here wanted turn there new e goes mappings reserved size near
           (nearer (length (s.mappings t)));
     })
 
+-- the turn leaves the call at least one step fewer
 abbrev Nearer : {P : Type 0} → (P → Call) → State → ℕ → P → Turn P → Type 0
 Nearer call s top here turn = (m : ℕ) → steps_left s.geometry m top (left call turn) + 1 ≤ steps_left s.geometry m top (Some (call here))
 
+-- a row that waits for a holder is a turn that waits
 waiting : {P : Type 0} (call : P → Call) (s : State) (t top : ℕ) (here : P) (turn : Turn P) (new : Pool) (u : ℕ)
     → (turn ≡ Blocked here u) × (new ≡ pool_of s) → WaitsFor s (Some (call here)) u → Turned call s t top here turn new
 waiting call s t top here turn new u e w = inl (u, e.0, e.1, w)
 
+-- what the rows that operations share do: where a lock is taken
 start_turn : {P : Type 0} (call : P → Call) (s : State) (t top : ℕ) (killed : Bool) (f : ℕ) (bad : Bool)
     (at_kill : Answer) (here next : P) (turn : Turn P) (new : Pool)
     → StartRow (pool_of s) t killed f bad at_kill here next turn new
@@ -123,6 +128,7 @@ start_turn {P} call s t top killed f bad at_kill here next turn new row wants ne
     (λ _ r. plain call s t top here _ turn _ new r refl refl refl refl (nearer good))
     (λ u held r. waiting call s t top here turn new u r (inr (f, wants, held))))))
 
+-- where a slot is taken
 want_turn : {P : Type 0} (call : P → Call) (s : State) (t top f i : ℕ) (here next : P) (turn : Turn P) (new : Pool)
     → WantSlotRow (pool_of s) t f i here next turn new
     → wants_slot (Some (call here)) ≡ Some (f, i) → Nearer call s top here (Moved next) → Turned call s t top here turn new
@@ -131,6 +137,7 @@ want_turn call s t top f i here next turn new row wants nearer =
     (λ _ r. plain call s t top here _ turn _ new r refl refl refl refl nearer)
     (λ u held r. waiting call s t top here turn new u r (inl ((f, i), wants, held)))
 
+-- where a change is begun
 change_turn : {P : Type 0} (call : P → Call) (s : State) (t top : ℕ) (grant : Bool) (f from to : ℕ) (here denied : P)
     (changed : Change → P) (turn : Turn P) (new : Pool)
     → ChangeRow (pool_of s) grant f from to denied changed turn new
@@ -141,6 +148,7 @@ change_turn call s t top grant f from to here denied changed turn new row nearer
     (λ _ r. plain call s t top here _ turn _ new r refl refl refl refl nearer)
     (λ _ r. plain call s t top here _ turn _ new r refl refl refl refl (nearer_changed _))
 
+-- where a frame is taken
 take_turn : {P : Type 0} (call : P → Call) (s : State) (t top m : ℕ) (here no_frame : P) (taken : ℕ → P) (turn : Turn P) (new : Pool)
     → TakeRow (pool_of s) m no_frame taken turn new
     → Nearer call s top here (Moved no_frame) → ((x : ℕ) → Nearer call s top here (Moved (taken x))) → Turned call s t top here turn new
@@ -169,6 +177,7 @@ adds call s t top f c here wanted turn there new e goes mappings reserved size n
           (nearer (length (s.mappings t)));
     })
 
+-- and where a change is committed
 commit_turn : {P : Type 0} (call : P → Call) (s : State) (t top f : ℕ) (c : Change) (here settle next : P) (turn : Turn P) (new : Pool)
     → CommitRow (pool_of s) f c settle next turn new
     → Nearer call s top here (Moved settle) → Nearer call s top here (Moved next) → Turned call s t top here turn new
@@ -202,12 +211,7 @@ sized call s t top f new_size here wanted turn there new e goes mappings reserve
       nearer = nearer;
     })
 
-lt : (a b : ℕ) → nat_lt a b ≡ true → a < b
-lt a b e = grind (arith, nat_tests)
-
-le : (a b : ℕ) → nat_lt a b ≡ false → b ≤ a
-le a b e = grind (arith, nat_tests)
-
+-- one more of something is that much more
 times_next : (n m k : ℕ) → n ≡ m + 1 → times n k ≡ times m k + k
 unfolding times
 times_next n m k e = ap (λ (j : ℕ). j * k) e ∙ grown m k
@@ -219,12 +223,16 @@ times_next n m k e = ap (λ (j : ℕ). j * k) e ∙ grown m k
 first_left : (from len k : ℕ) → 1 ≤ len → times len k ≡ times (from + len - (from + 1)) k + k
 first_left from len k l = times_next len (from + len - (from + 1)) k (omega arith)
 
+-- equal places pass the test for that
 both : (a b c d : ℕ) → a ≡ c → b ≡ d → ((a == c) && (b == d)) ≡ true
 both a b c d e f = grind (arith, nat_tests)
 
+-- an index from another on passes the test for that
 here_on : (a b c d : ℕ) → a ≡ c → b ≤ d → ((a == c) && nat_le b d) ≡ true
 here_on a b c d e f = grind (arith, nat_tests)
 
+-- each row of a touch goes on with fewer steps left, ends it, or waits, and says what it did to sizes and reserved
+-- indices
 pub touch_turn : (s : State) (t top : ℕ) (killed grant : Bool) (phase : TouchPhase) (turn : Turn TouchPhase) (new : Pool)
     → Inv s.geometry s → s.calls t ≡ Some (call.Touch phase) → TouchRow (pool_of s) t killed grant phase turn new
     → Turned call.Touch s t top phase turn new
@@ -275,6 +283,7 @@ touch_turn s t top killed grant (touch.Found p) turn new h e row =
 touch_turn s t top killed grant (touch.Leave p) turn new h e row =
     plain call.Touch s t top (touch.Leave p) _ turn _ new row refl refl refl refl (λ m. omega arith)
 
+-- so does each row of a map
 pub map_turn : (s : State) (t top : ℕ) (killed grant : Bool) (phase : MapPhase) (turn : Turn MapPhase) (new : Pool)
     → Inv s.geometry s → s.calls t ≡ Some (call.Map phase) → MapRow (pool_of s) t killed grant phase turn new
     → Turned call.Map s t top phase turn new
@@ -310,12 +319,15 @@ map_turn s t top killed grant (map.Enter p) turn new h e row =
 map_turn s t top killed grant (map.Leave p) turn new h e row =
     plain call.Map s t top (map.Leave p) _ turn _ new row refl refl refl refl (λ m. omega arith)
 
+-- an allocation that carries no answer has as many steps left as its range says
 left_none : {A : Type 0} (o : Option A) (n k : ℕ) → o ≡ None → k ≤ n → k ≤ unslot_left o n
 left_none o n k e l = subst (λ (m : Option _). k ≤ unslot_left m n) (sym e) l
 
+-- one that carries an answer has two steps left
 left_some : {A : Type 0} (o : Option A) (a : A) (n : ℕ) → o ≡ Some a → 2 ≤ unslot_left o n
 left_some o a n e = subst (λ (m : Option _). 2 ≤ unslot_left m n) (sym e) (omega arith)
 
+-- an allocation's unslot does so, at an index, at the last and with an answer
 alloc_unslot : (s : State) (t top : ℕ) (p : Unslot) (turn : Turn AllocPhase) (new : Pool) → Inv s.geometry s
     → s.calls t ≡ Some (call.Alloc (alloc.Unslot p)) → AllocUnslotRow (pool_of s) p turn new
     → Turned call.Alloc s t top (alloc.Unslot p) turn new
@@ -335,6 +347,7 @@ alloc_unslot s t top p turn new h e row =
     (λ m. left_none p.answer (left + 3) _ none (omega arith)))))
     (λ a some r. plain call.Alloc s t top (alloc.Unslot p) _ turn _ new r refl refl refl refl (λ m. left_some p.answer a (left + 3) some))
 
+-- so does each row of an allocation
 pub alloc_turn : (s : State) (t top : ℕ) (killed grant : Bool) (phase : AllocPhase) (turn : Turn AllocPhase) (new : Pool)
     → Inv s.geometry s → s.calls t ≡ Some (call.Alloc phase) → AllocRow (pool_of s) t killed grant phase turn new
     → Turned call.Alloc s t top phase turn new
@@ -381,6 +394,7 @@ alloc_turn s t top killed grant (alloc.Extend p) turn new h e row =
 alloc_turn s t top killed grant (alloc.Leave p) turn new h e row =
     plain call.Alloc s t top (alloc.Leave p) _ turn _ new row refl refl refl refl (λ m. omega arith)
 
+-- of a punch
 pub punch_turn : (s : State) (t top : ℕ) (killed grant : Bool) (phase : PunchPhase) (turn : Turn PunchPhase) (new : Pool)
     → Inv s.geometry s → 1 ≤ t → t < s.geometry.tasks + 1 → s.calls t ≡ Some (call.Punch phase)
     → PunchRow (pool_of s) t killed grant phase turn new → Turned call.Punch s t top phase turn new
@@ -433,6 +447,7 @@ punch_turn s t top killed grant (punch.Leave p) turn new h one l e row =
 same_end : (pages : ℕ → Option ℕ) (a b : ℕ) → IsPagesEnd pages a → IsPagesEnd pages b → a ≡ b
 same_end pages a b p q = let x : a ≤ b = p.1 b q.0 in let y : b ≤ a = q.1 a p.0 in omega arith
 
+-- of a truncation
 pub truncate_turn : (s : State) (t top : ℕ) (killed grant : Bool) (phase : TruncatePhase) (turn : Turn TruncatePhase) (new : Pool)
     → Inv s.geometry s → 1 ≤ t → t < s.geometry.tasks + 1 → s.calls t ≡ Some (call.Truncate phase)
     → TruncateRow (pool_of s) t killed grant phase turn new → Turned call.Truncate s t top phase turn new
@@ -499,6 +514,7 @@ truncate_turn s t top killed grant (truncate.Settle p) turn new h one l e (low, 
 truncate_turn s t top killed grant (truncate.Leave p) turn new h one l e row =
     plain call.Truncate s t top (truncate.Leave p) _ turn _ new row refl refl refl refl (λ m. omega arith)
 
+-- of an unmap
 pub unmap_turn : (s : State) (t top : ℕ) (killed grant : Bool) (phase : UnmapPhase) (turn : Turn UnmapPhase) (new : Pool)
     → UnmapRow (pool_of s) t killed grant phase turn new → Turned call.Unmap s t top phase turn new
 unmap_turn s t top killed grant (unmap.Start p) turn new row =
@@ -527,11 +543,13 @@ fewer (m ∷ ms) base e = here (m.base == base) (λ d. fewer ms base d) e
     here true rest d = omega arith
     here false rest d = let z = rest d in omega arith
 
+-- where a mapping is taken away, the task has one fewer
 fewer_at : (s : State) (t base : ℕ) → is_base (s.mappings t) base ≡ true
     → length (put s.mappings t (without (s.mappings t) base) t) + 1 ≡ length (s.mappings t)
 fewer_at s t base e =
     ap (λ (m : List Mapping). length m + 1) (put_same s.mappings t (without (s.mappings t) base)) ∙ fewer (s.mappings t) base e
 
+-- and of an exit
 pub exit_turn : (s : State) (t top : ℕ) (killed grant : Bool) (phase : ExitPhase) (turn : Turn ExitPhase) (new : Pool)
     → Inv s.geometry s → s.calls t ≡ Some (call.Exit phase) → ExitRow (pool_of s) t killed grant phase turn new
     → Turned call.Exit s t top phase turn new

@@ -19,6 +19,7 @@ use Rattle.hp_laws.proofs.Invariant.{Inv, stays}
 use Rattle.hp_laws.proofs.Tables.{emptied, empties, drops}
 use Rattle.hp_laws.proofs.Shared.{after, so, by_test, by_option, idle, stands_at}
 
+-- each row of an unmap keeps the invariant
 pub unmap_row : (s : State) (t : ℕ) (killed grant : Bool) (phase : UnmapPhase) (turn : Turn UnmapPhase) (new : Pool)
     → Inv s.geometry s → t < s.geometry.tasks + 1 → s.calls t ≡ Some (call.Unmap phase)
     → UnmapRow (pool_of s) t killed grant phase turn new → Inv s.geometry (after call.Unmap s t turn new)
@@ -47,6 +48,7 @@ unmap_row s t killed grant (unmap.Drop p) turn new h l e row =
     (drops s.geometry s t _ None p.base h l e refl (stands_at s t _ h e).facts.empty tt
     (record { slot = tt; lock = tt; facts = tt }))
 
+-- and each row of an exit
 pub exit_row : (s : State) (t : ℕ) (killed grant : Bool) (phase : ExitPhase) (turn : Turn ExitPhase) (new : Pool)
     → Inv s.geometry s → t < s.geometry.tasks + 1 → s.calls t ≡ Some (call.Exit phase)
     → ExitRow (pool_of s) t killed grant phase turn new → Inv s.geometry (after call.Exit s t turn new)

@@ -28,15 +28,17 @@ use Rattle.hp_machine.specs.declared.call.Call.TheVariants as call
 use Rattle.hp_laws.specs.Bounds.{most_steps, is_own, own_steps, is_begun, calls_begun, sizes, IsTop, SetsSize, SweepsFrom}
 use Rattle.hp_laws.specs.Bounds.{WaitsFor, HoldsUp, IsUnblocked}
 use Rattle.hp_laws.specs.Histories.{Moment, History, in_order}
+use Rattle.hp_laws.proofs.Deciding.{some_same}
 use Rattle.hp_laws.proofs.StepsLeft.{steps_left}
-use Rattle.hp_laws.proofs.Holding.{some_same}
 use Rattle.hp_laws.proofs.Runs.{Always, always, call_keeps}
 use Rattle.hp_laws.proofs.Reading.{begin_cases, step_cases, kill_cases, Gone, Steps, call_steps, same_state}
 use Rattle.hp_laws.proofs.Histories.{begun_more, history_well}
 
+-- an option isn't both empty and not
 none_some : {A P : Type 0} (o : Option A) (a : A) → o ≡ None → o ≡ Some a → P
 none_some {A} o a d e = (let c : ◌≡◌ {A = Option A} None (Some a) = sym d ∙ e in absurd (cc))
 
+-- a call that waits for a slot holds none, and waits for no lock
 wants_no_slot : (c : Option Call) (k : ℕ × ℕ) → wants_slot c ≡ Some k → (slot_held c ≡ None) × (wants_lock c ≡ None)
 wants_no_slot (Some (call.Touch (touch.Want p))) k e = (refl, refl)
 wants_no_slot (Some (call.Alloc (alloc.Want p))) k e = (refl, refl)
@@ -47,6 +49,7 @@ wants_no_slot (Some (call.Unmap (unmap.Start _))) k e = none_some None k refl e
 wants_no_slot (Some (call.Exit exit.Start)) k e = none_some None k refl e
 wants_no_slot c k e = none_some None k refl e
 
+-- a call that waits for a lock holds no slot and no lock
 wants_nothing : (c : Option Call) (f : ℕ) → wants_lock c ≡ Some f → (slot_held c ≡ None) × (locked_file c ≡ None)
 wants_nothing (Some (call.Map (map.Start p))) k e = (refl, refl)
 wants_nothing (Some (call.Alloc (alloc.Start p))) k e = (refl, refl)
@@ -65,12 +68,15 @@ stepped s t top grant c o pool next h lives e row =
     let is = h.lives.there t lives in
     call_steps s t top (is_killed (s.life t)) grant c o pool next h.inv is.0 (let a = is.1 in omega arith) e row
 
+-- what is refused doesn't move
 refused_moves : {P : Type 0} (o : Outcome) (why : Refusal) (p : Phase) → o ≡ outcome.Refused why → o ≡ outcome.Moved p → P
 refused_moves o why p e d = (let z : outcome.Refused why ≡ outcome.Moved p = sym e ∙ d in absurd (cc))
 
+-- nor is it blocked
 refused_blocks : {P : Type 0} (o : Outcome) (why : Refusal) (u : ℕ) → o ≡ outcome.Refused why → o ≡ outcome.Blocked u → P
 refused_blocks o why u e d = (let z : outcome.Refused why ≡ outcome.Blocked u = sym e ∙ d in absurd (cc))
 
+-- a block names one holder
 same_holder : {a b : ℕ} → outcome.Blocked a ≡ outcome.Blocked b → a ≡ b
 same_holder e = cc
 
@@ -87,12 +93,14 @@ waits s t grant u n reached row = step_cases s t grant (outcome.Blocked u) n ((n
       | inr w ↦ absurd (w.free u refl)
     ])
 
+-- who holds what a call waits for has a call in flight that holds it
 holds_up : (s : State) (t u : ℕ) → IsReached s → WaitsFor s (s.calls t) u → HoldsUp s u t
 holds_up s t u reached w = let h = (always s reached).inv.holders in elim w [
   | inl k ↦ (let o = h.slot (slot_of s.geometry k.0.0 k.0.1) u k.2 in inl (k.0, o.0, k.1, o.1, o.2))
   | inr f ↦ inr (f.0, f.1, h.lock f.0 u f.2)
 ]
 
+-- and is another task
 other_holder : (s : State) (t u : ℕ) → HoldsUp s u t → u ≢ t
 other_holder s t u w d = elim w [
   | inl k ↦ none_some (slot_held (s.calls t)) k.1 (wants_no_slot (s.calls t) k.0 k.2).0
@@ -101,6 +109,7 @@ other_holder s t u w d = elim w [
       (ap (λ (m : ℕ). locked_file (s.calls m)) (sym d) ∙ f.2)
 ]
 
+-- so a blocked step changes nothing, and waits for another task that holds what it wants
 pub blocked_by_holder : (s : State) (t : ℕ) (grant : Bool) (u : ℕ) (n : State) → IsReached s
     → Row s (Step t grant) (outcome.Blocked u) n → (n ≡ s) × (u ≢ t) × HoldsUp s u t
 blocked_by_holder s t grant u n reached row =
@@ -108,12 +117,14 @@ blocked_by_holder s t grant u n reached row =
     let b = holds_up s t u reached a.1 in
     (a.0, other_holder s t u b, b)
 
+-- a call that holds a slot is never blocked
 pub slot_holder_free : (s : State) (t : ℕ) (k : ℕ × ℕ) → IsReached s → slot_held (s.calls t) ≡ Some k → IsUnblocked s t
 slot_holder_free s t k reached e grant u n row = elim (waits s t grant u n reached row).1 [
   | inl o ↦ none_some (slot_held (s.calls t)) k (wants_no_slot (s.calls t) o.0 o.1).0 e
   | inr o ↦ none_some (slot_held (s.calls t)) k (wants_nothing (s.calls t) o.0 o.1).0 e
 ]
 
+-- a call that holds a lock is blocked only by one that holds a slot
 pub lock_holder_waits : (s : State) (t f : ℕ) (grant : Bool) (u : ℕ) (n : State) → IsReached s → locked_file (s.calls t) ≡ Some f
     → Row s (Step t grant) (outcome.Blocked u) n → (k : ℕ × ℕ) × (slot_held (s.calls u) ≡ Some k)
 lock_holder_waits s t f grant u n reached e row = elim (blocked_by_holder s t grant u n reached row).2 [
@@ -127,6 +138,7 @@ Stuck s t =
     IsUnblocked s t ⊎ (((u : ℕ) × (k : ℕ × ℕ) × (slot_held (s.calls u) ≡ Some k))
     ⊎ ((u f : ℕ) × (wants_lock (s.calls t) ≡ Some f) × (locked_file (s.calls u) ≡ Some f)))
 
+-- the next step of a task is free, or some call holds a slot, or the task waits for the holder of a lock
 free_or_behind : (s : State) (t : ℕ) → IsReached s → Stuck s t
 free_or_behind s t reached = slot (wants_slot (s.calls t)) refl
   where
@@ -158,13 +170,16 @@ free_or_behind s t reached = slot (wants_slot (s.calls t)) refl
         ])
         holder (Some u) d = (let o = (always s reached).inv.holders.slot (slot_of s.geometry k.0 k.1) u d in inr (inl (u, o.0, o.1)))
 
+-- a call that isn't none is some call
 busy : (c : Option Call) → c ≢ None → (d : Call) × (c ≡ Some d)
 busy None e = absurd (e refl)
 busy (Some d) e = (d, refl)
 
+-- a task that holds a slot has a call
 busy_slot : (c : Option Call) (k : ℕ × ℕ) → slot_held c ≡ Some k → (d : Call) × (c ≡ Some d)
 busy_slot c k e = busy c (λ d. none_some (slot_held c) k (ap slot_held d) e)
 
+-- and so has one that holds a lock
 busy_lock : (c : Option Call) (f : ℕ) → locked_file c ≡ Some f → (d : Call) × (c ≡ Some d)
 busy_lock c f e = busy c (λ d. none_some (locked_file c) f (ap locked_file d) e)
 
@@ -172,6 +187,7 @@ busy_lock c f e = busy c (λ d. none_some (locked_file c) f (ap locked_file d) e
 abbrev Goes : State → Type 0
 Goes s = (u : ℕ) × (c : Call) × (s.calls u ≡ Some c) × (is_dead (s.life u) ≡ false) × IsUnblocked s u
 
+-- where a call is in flight, one can go on
 pub some_call_goes_on : (s : State) (t : ℕ) (c : Call) → IsReached s → s.calls t ≡ Some c → Goes s
 some_call_goes_on s t c reached e = elim (free_or_behind s t reached) [
   | inl free ↦ (t, c, e, (always s reached).lives.busy t c e, free)
@@ -206,22 +222,26 @@ moved_tells s t grant p n reached row = step_cases s t grant (outcome.Moved p) n
 abbrev left : ℕ → ℕ → State → ℕ
 left t top s = steps_left s.geometry (length (s.mappings t)) top (s.calls t)
 
+-- a task counts as itself once
 bit_same : (t : ℕ) → bit (t == t) ≡ 1
 bit_same t = ap bit (same t)
   where
     same : (k : ℕ) → (k == k) ≡ true
     same k = grind (arith, nat_tests)
 
+-- a test counts once at most
 bit_few : (b : Bool) → bit b ≤ 1
 bit_few true = omega arith
 bit_few false = omega arith
 
+-- another task doesn't count
 bit_other : (t u : ℕ) → u ≢ t → bit (u == t) ≡ 0
 bit_other t u d = ap bit (other u t d)
   where
     other : (u t : ℕ) → u ≢ t → (u == t) ≡ false
     other u t d = grind (arith, nat_tests)
 
+-- a step counts once at most as the task's own
 one_own : (t u : ℕ) (grant : Bool) (o : Outcome) → is_own t (Step u grant) o ≤ 1
 one_own t u grant (outcome.Moved p) = bit_few (u == t)
 one_own t u grant (outcome.Ended b) = bit_few (u == t)
@@ -230,6 +250,7 @@ one_own t u grant outcome.Marked = omega arith
 one_own t u grant (outcome.Blocked w) = omega arith
 one_own t u grant (outcome.Refused w) = omega arith
 
+-- a step of another task doesn't
 none_own : (t u : ℕ) (grant : Bool) (o : Outcome) → u ≢ t → is_own t (Step u grant) o ≡ 0
 none_own t u grant (outcome.Moved p) d = bit_other t u d
 none_own t u grant (outcome.Ended b) d = bit_other t u d
@@ -242,6 +263,7 @@ none_own t u grant (outcome.Refused w) d = refl
 abbrev Counts : ℕ → ℕ → State → Event → Outcome → State → Type 0
 Counts t top s event o n = is_own t event o + left t top n ≤ left t top s
 
+-- an event that isn't the task's own and changes nothing leaves it as many steps
 same_counts : (t top : ℕ) (s n : State) (event : Event) (o : Outcome) → is_own t event o ≡ 0 → n ≡ s → Counts t top s event o n
 same_counts t top s n event o a d = let b : left t top n ≡ left t top s = ap (left t top) d in omega arith
 
@@ -256,6 +278,7 @@ left_after s t u top grant c o pool next n h lives e row d =
     let k = call_keeps s u (is_killed (s.life u)) grant c o pool next h.inv is.0 (let a = is.1 in omega arith) e row in
     ap (left t top) d ∙ ap (λ (m : Geometry). steps_left m (length (pool.mappings t)) top (put s.calls u next t)) k.geometry
 
+-- each event leaves the task's call as many steps fewer as it counts for
 row_counts : (s : State) (t top : ℕ) (event : Event) (o : Outcome) (n : State) → Always s → is_begun t event o ≡ 0
     → ((grant : Bool) → event ≡ Step t grant → IfSome (sizes (s.calls t)) (λ f. IsTop s f top)) → Row s event o n
     → Counts t top s event o n
@@ -336,6 +359,7 @@ later_counts g frames t top past (m ∷ later) s h quiet tops =
     let c : left t top m.after ≡ left t top s = ap (left t top) h.0 in
     (k.0, k.1, omega arith)
 
+-- a call that begins has the steps that its operation makes at most
 left_first : (g : Geometry) (p : Op) (m top : ℕ) → steps_left g m top (Some (first p)) ≡ most_steps g p m top
 left_first g (op.Map f from len) m top = refl
 left_first g (op.MapNoReserve f from len) m top = refl

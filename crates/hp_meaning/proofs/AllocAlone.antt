@@ -152,6 +152,7 @@ changing s t a i pages frame resv spare = record (paged s t a.file a.from i page
 abbrev reserved_at : State → (file from i : ℕ) → ℕ → Bool
 reserved_at s f from i = put s.reserved f (add_range (s.reserved f) from i) f
 
+-- the change of the index i, where [from, i) is done with
 abbrev change_of : State → Allocation → (i : ℕ) → Change
 change_of s a i = record { from = i; to = i + 1; missing = missing (reserved_at s a.file a.from i) i (i + 1) }
 
@@ -315,6 +316,7 @@ record PagedTo (s : State) (t f from to : ℕ) (size : ℕ → ℕ) (end : Pool)
   upto : Upto s f from to pages frame resv
   ends : end ≡ record (paged s t f from to pages frame resv spare) { locks = s.locks; size = size }
 
+-- the sizes after the allocation: grown to the end of its range, unless it keeps the size
 abbrev size_after : State → Allocation → ℕ → ℕ
 size_after s a = if a.keep then s.size else put s.size a.file (max (s.size a.file) (a.from + a.len))
 
@@ -332,6 +334,7 @@ record Stopped (s : State) (t : ℕ) (a : Allocation) (b : Answer) (end : Pool) 
   none : b ≡ NoFrame
   to : PagedTo s t a.file a.from x s.size end
 
+-- an index that lacks a frame ends the allocation there, with what it placed so far
 stops_at : (s : State) (t : ℕ) (a : Allocation) (i : ℕ) (pages : ℕ → Option ℕ) (frame : ℕ → FrameState) (resv : ℕ) (b : Answer) (end : Pool)
     → Ready s a.file → a.from ≤ i → i < a.from + a.len → Upto s a.file a.from i pages frame resv
     → Short s t a i pages frame resv b end → Stopped s t a b end
@@ -356,6 +359,7 @@ stops_at s t a i pages frame resv b end h low high u o =
           };
     }
 
+-- the last index ends it with the whole range paged
 ends_at : (s : State) (t : ℕ) (a : Allocation) (i : ℕ) (b : Answer) (end : Pool) → Ready s a.file → i + 1 ≡ a.from + a.len
     → OneMore s t a i b end → All s t a b end
 ends_at s t a i b end h e o =

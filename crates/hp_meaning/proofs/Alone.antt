@@ -24,12 +24,15 @@ use Rattle.hp_meaning.specs.Meaning.{IsReady, AreSteps, IsCall}
 pub if_true : (A B : Type 0) {b : Bool} → b ≡ true → MatchBool b A B → A
 if_true A B e m = subst (λ (c : Bool). MatchBool c A B) e m
 
+-- where the test fails
 pub if_false : (A B : Type 0) {b : Bool} → b ≡ false → MatchBool b A B → B
 if_false A B e m = subst (λ (c : Bool). MatchBool c A B) e m
 
+-- so with an option: where it is empty
 pub if_none : {T : Type 0} (A : Type 0) (B : T → Type 0) {o : Option T} → o ≡ None → MatchOption o A B → A
 if_none {T} A B e m = subst (λ (p : Option T). MatchOption p A B) e m
 
+-- and where it has a value
 pub if_some : {T : Type 0} (A : Type 0) (B : T → Type 0) {o : Option T} {x : T} → o ≡ Some x → MatchOption o A B → B x
 if_some {T} A B e m = subst (λ (p : Option T). MatchOption p A B) e m
 
@@ -45,6 +48,7 @@ Then R b n (Moved q) m = Leads R b n m q
 Then R b n (Blocked q holder) m = Leads R b n m q
 Then R b n (Ended a) m = (b ≡ a) × (n ≡ m)
 
+-- a turn that is one of these steps, with what is left to do after it
 pub record Rest {P : Type 0} (R : Pool → P → Turn P → Pool → Type 0) (b : Answer) (n : Pool) (turn : Turn P) (m : Pool) : Type 0 where
   pub rest : Then R b n turn m
 
@@ -80,6 +84,7 @@ pub from_pool : {P : Type 0} {R : Pool → P → Turn P → Pool → Type 0} {b 
     → Leads R b n m p
 from_pool {R = R} {b = b} {n = n} {p = p} e k = subst (λ (x : Pool). Leads R b n x p) e k
 
+-- of two writes at one place the later counts
 pub put_put : {A : Type 0} (f : ℕ → A) (k : ℕ) (v w : A) → put (put f k v) k w ≡ put f k w
 put_put {A} f k v w = fun_ext (λ j. elim (same_or_other j k) [
   | inl e ↦ subst (λ (i : ℕ). put (put f k v) k w i ≡ put f k w i) (sym e) (put_same (put f k v) k w ∙ sym (put_same f k w))
@@ -149,6 +154,7 @@ by_turn {P} call R s t b n pool new phase o next_call m es (Ended a) row tells l
       last ∙ (is ∙ (λ i. record (with_pool s new) { life = lives i; calls = calls i })),
     )
 
+-- a task that is alive is neither dead nor killed
 lives_not_dead : (l : Life) → l ≡ Alive → (is_dead l ≡ false) × (is_killed l ≡ false)
 lives_not_dead l e = (ap is_dead e, ap is_killed e)
 
@@ -168,6 +174,7 @@ comes call R s t b n rows alive (e ∷ es) pool phase steps run =
     by_turn call R s t b n pool z.0 phase e.1 z.1 run.0 es r.0 r.1 r.2 r.3 z.3 steps.1 run.2
     (λ q steps run. comes call R s t b n rows alive es z.0 q steps run)
 
+-- the Begin of an alive task that has no call leads to its first phase, with the pool as it was
 begins : (s : State) (t : ℕ) (p : Op) (o : Outcome) (m : State) → IsReady s t → BeginRow s t p o m → m ≡ in_call s t (pool_of s) (first p)
 unfolding BeginRow
 begins s t p o m ready row =

@@ -72,6 +72,7 @@ pub record CallFollows (frames : ℕ) (s : Pool) (r : Renaming frames) (o : Outc
   pub pools : new' ≡ pool_renamed names new
   pub count : new.frames ≡ s.frames
 
+-- two turns that follow one another are steps of the call that do so
 of_turns : {P : Type 0} {frames : ℕ} {s : Pool} {r : Renaming frames} {turn turn' : Turn P} {o o' : Outcome}
     {new new' : Pool} {next next' : Option Call} (call : P → Call) (rename : (ℕ → ℕ) → P → P)
     → ((to : ℕ → ℕ) (p : P) → call (rename to p) ≡ call_renamed to (call p)) → Follows P rename frames s r turn new turn' new'
@@ -96,6 +97,8 @@ of_turns {P} {turn = turn} call rename same h e d = record {
     left_same (Blocked p holder) = ap (λ (c : Call). Some c) (same h.names.to p)
     left_same (Ended a) = refl
 
+-- so by the rows of each operation: a step and the renamed step have one outcome and states that are each other
+-- renamed
 pub call_row : {frames : ℕ} {s : Pool} {r : Renaming frames} {o o' : Outcome} {new new' : Pool}
     {next next' : Option Call} (t : ℕ) (killed grant : Bool) (c : Call)
     → Used frames s → CallRow s t killed grant c o new next

@@ -15,7 +15,7 @@ use Rattle.hp_machine.specs.Parts.{UnmapIndexRow}
 use Rattle.hp_machine.specs.declared.call.Turn.{Turn}
 use Rattle.hp_laws.proofs.Invariant.{put_known}
 use Rattle.hp_meaning.specs.Meaning.{without_pages, is_gone, without_entries, Freed}
-use Rattle.hp_meaning.proofs.Names.{some_same}
+use Rattle.hp_laws.proofs.Deciding.{some_same}
 use Rattle.hp_meaning.proofs.Idle.{and_true, and_false}
 use Rattle.hp_meaning.proofs.Alone.{if_true, if_false, Leads, goes_on, from_pool, put_put}
 
@@ -43,16 +43,19 @@ unfolding without_pages
 pages_none pages f gone e =
     put_known pages f (without_pages (pages f) gone) (fun_ext (λ j. ap (λ (c : Bool). if c then None else pages f j) (sym (e j))))
 
+-- where nothing goes: the reserved indices stay
 pub reserved_none : (reserved : ℕ → ℕ → Bool) (f : ℕ) (gone : ℕ → Bool) → ((j : ℕ) → gone j ≡ false)
     → put reserved f (unreserved (reserved f) gone) ≡ reserved
 reserved_none reserved f gone e =
     put_known reserved f (unreserved (reserved f) gone)
     (fun_ext (λ j. sym (ap (λ (c : Bool). reserved f j && not c) (e j) ∙ and_true (reserved f j))))
 
+-- what is found is none of what goes
 gone_none : (f : ℕ) (gone : ℕ → Bool) → ((j : ℕ) → gone j ≡ false) → (found : Option (ℕ × ℕ)) → is_gone f gone found ≡ false
 gone_none f gone e None = refl
 gone_none f gone e (Some place) = ap (λ (c : Bool). (place.0 == f) && c) (e place.1) ∙ and_false (place.0 == f)
 
+-- so the entries stay
 pub entries_none : (mappings : ℕ → List Mapping) (table : ℕ → ℕ → Option ℕ) (f : ℕ) (gone : ℕ → Bool) → ((j : ℕ) → gone j ≡ false)
     → without_entries mappings table f gone ≡ table
 unfolding without_entries
@@ -69,6 +72,7 @@ entry_kept mappings table f gone u v x e = here (is_gone f gone (find (mappings 
     here true e = absurd (cc)
     here false e = e
 
+-- where nothing goes no frame is freed
 pub freed_none : (pages : ℕ → Option ℕ) (frame : ℕ → FrameState) (gone : ℕ → Bool) → ((j : ℕ) → gone j ≡ false)
     → Freed pages frame gone frame
 freed_none pages frame gone e = record { freed = λ j x is p. (let z : true ≡ false = sym is ∙ e j in absurd (cc)); others = λ x h. refl }
@@ -87,6 +91,7 @@ pages_more pages f i gone more h =
       | inr a ↦ a.1 ∙ ap (λ (c : Bool). if c then None else pages f j) (sym (h.others j a.0))
     ]
 
+-- it goes out of the reserved indices
 pub reserved_more : (reserved : ℕ → ℕ → Bool) (f i : ℕ) (gone more : ℕ → Bool) → Adds gone i more
     → put2 (put reserved f (unreserved (reserved f) gone)) f i false ≡ put reserved f (unreserved (reserved f) more)
 reserved_more reserved f i gone more h =
@@ -123,12 +128,14 @@ gone_more f i gone more h (Some place) entry = elim (same_or_other place.1 i) [
         ap (λ (m : Bool). if m then None else (if c then None else entry)) e ∙ ap (λ (m : Bool). if m then None else entry) (sym k)
     there false b c d e k = refl
 
+-- so its entries go with it
 pub entries_more : (mappings : ℕ → List Mapping) (table : ℕ → ℕ → Option ℕ) (f i : ℕ) (gone more : ℕ → Bool) → Adds gone i more
     → ◌≡◌ {A = ℕ → ℕ → Option ℕ} (λ u. without_index (mappings u) (without_entries mappings table f gone u) f i)
     (without_entries mappings table f more)
 unfolding without_entries without_index
 entries_more mappings table f i gone more h = fun_ext (λ u. fun_ext (λ v. gone_more f i gone more h (find (mappings u) v) (table u v)))
 
+-- and its frame is freed
 pub freed_more : (pages : ℕ → Option ℕ) (before frame : ℕ → FrameState) (i x : ℕ) (gone more : ℕ → Bool) → Adds gone i more
     → pages i ≡ Some x → Freed pages before gone frame → Freed pages before more (put frame x Free)
 freed_more pages before frame i x gone more h page k = record {
@@ -163,6 +170,7 @@ no_entries mappings entries f i none = fun_ext (λ v. here v (is_there (find map
     here v true (Some x) e = absurd (none v x e)
     here v false o e = refl
 
+-- after the tasks below k are cleared of an index, clearing task k clears those below k + 1
 clears_one : (mappings : ℕ → List Mapping) (table : ℕ → ℕ → Option ℕ) (f i k : ℕ)
     → put (cleared_below mappings table f i k) k
     (without_index (mappings k) (cleared_below mappings table f i k k) f i) ≡ cleared_below mappings table f i (k + 1)
@@ -191,6 +199,7 @@ clears_one mappings table f i k = fun_ext each
 abbrev pub Owned : (tasks : ℕ) → (ℕ → ℕ → Option ℕ) → Type 0
 Owned tasks table = (u v x : ℕ) → table u v ≡ Some x → (1 ≤ u) × (u ≤ tasks)
 
+-- before the first task nothing is cleared, for tasks are counted from 1
 clears_none : (tasks : ℕ) (mappings : ℕ → List Mapping) (table : ℕ → ℕ → Option ℕ) (f i : ℕ) → Owned tasks table
     → table ≡ cleared_below mappings table f i 1
 unfolding cleared_below
@@ -203,6 +212,7 @@ clears_none tasks mappings table f i owned = fun_ext (λ u. each u (nat_lt u 1) 
         (λ v x p. (let z = (owned u v x p).0 in let l : u < 1 = grind (arith, nat_tests) in omega arith)))
     each u false e = sym (ap (λ (m : Bool). if m then without_index (mappings u) (table u) f i else table u) e)
 
+-- after the last task the index has no entry
 clears_all : (tasks : ℕ) (mappings : ℕ → List Mapping) (table : ℕ → ℕ → Option ℕ) (f i : ℕ) → Owned tasks table
     → ◌≡◌ {A = ℕ → ℕ → Option ℕ} (cleared_below mappings table f i (tasks + 1)) (λ u. without_index (mappings u) (table u) f i)
 unfolding cleared_below
@@ -236,6 +246,7 @@ unmaps_from R b n s f i more last rows (suc d) k e go =
     let one = clears_one s.mappings s.entries f i k in
     unmaps_from R b n s f i more last rows d (k + 1) (omega arith) (from_pool (λ j. record s { entries = one j }) k1)
 
+-- so a call that goes through the tasks comes to its next phase with the index's entries gone
 pub unmaps : {P : Type 0} (R : Pool → P → Turn P → Pool → Type 0) (b : Answer) (n s : Pool) (f i : ℕ) (more : ℕ → P) (last : P)
     → ((p : Pool) (k : ℕ) (turn : Turn P) (m : Pool) → R p (more k) turn m → UnmapIndexRow p k f i (more (k + 1)) last turn m)
     → 1 ≤ s.geometry.tasks → Owned s.geometry.tasks s.entries

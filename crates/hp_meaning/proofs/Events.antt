@@ -82,6 +82,7 @@ after_call s r t c o o' pool pool' next next' after after' h k e d =
       count = ap (λ (m : State). m.frames) e ∙ k.count;
     }
 
+-- an event and the same event of the renamed state have one outcome, and lead to states that are each other renamed
 pub event_row : {frames : ℕ} (s : State) (r : Renaming frames) (event : Event) (o o' : Outcome) (after after' : State)
     → InUse frames s → Row s event o after → Row (renamed r s) event o' after' → EventFollows frames s o after o' after'
 unfolding BeginRow StepRow KillRow

@@ -12,7 +12,7 @@ use Rattle.hp_frames.specs.declared.frame.FrameState.TheVariants.{Free, Hand, Pl
 use Rattle.hp_machine.specs.State.{is_free, free_frames}
 use Rattle.hp_laws.proofs.Effects.{free_change}
 use Rattle.hp_meaning.specs.Meaning.{Filled}
-use Rattle.hp_meaning.proofs.Names.{some_same}
+use Rattle.hp_laws.proofs.Deciding.{some_same}
 use Rattle.hp_meaning.proofs.Alone.{put_put}
 
 -- one more index of a range counts, or doesn't
@@ -22,24 +22,28 @@ count_next set from i l =
     let a : nat_le from i ≡ true = grind (arith, nat_tests) in
     rw add-one (ap (λ (c : Bool). count_below (λ k. nat_le from k && set k) i + cond (c && set i) 1 0) a)
 
+-- one more index of a range is missing, or isn't
 pub missing_next : (set : ℕ → Bool) (from i : ℕ) → from ≤ i → missing set from (i + 1) ≡ missing set from i + cond (not (set i)) 1 0
 unfolding missing count_below
 missing_next set from i l =
     let a : nat_le from i ≡ true = grind (arith, nat_tests) in
     rw add-one (ap (λ (c : Bool). count_below (λ k. nat_le from k && not (set k)) i + cond (c && not (set i)) 1 0) a)
 
+-- nothing is in an empty range
 pub count_empty : (set : ℕ → Bool) (from : ℕ) → count_within set from from ≡ 0
 unfolding count_within
 count_empty set from =
     count_below_none (λ k. nat_le from k && set k) from
     (λ k l. (let a : nat_le from k ≡ false = grind (arith, nat_tests) in ap (λ (c : Bool). c && set k) a))
 
+-- and nothing is missing of it
 pub missing_empty : (set : ℕ → Bool) (from : ℕ) → missing set from from ≡ 0
 unfolding missing
 missing_empty set from =
     count_below_none (λ k. nat_le from k && not (set k)) from
     (λ k l. (let a : nat_le from k ≡ false = grind (arith, nat_tests) in ap (λ (c : Bool). c && not (set k)) a))
 
+-- below a higher bound there are no fewer
 count_below_longer : (set : ℕ → Bool) (m n : ℕ) → m ≤ n → count_below set m ≤ count_below set n
 unfolding count_below
 count_below_longer set m zero l = (let e : m ≡ 0 = omega arith in subst (λ (k : ℕ). count_below set k ≤ 0) (sym e) (omega arith))
@@ -81,6 +85,7 @@ range_more reserved from i l =
     each j true b c r e = ap (λ (m : Bool). m || r) e
     each j false b c r e = ap (λ (m : Bool). m || r) e
 
+-- a range with one more index that is reserved already adds nothing more
 pub range_same : (reserved : ℕ → Bool) (from i : ℕ) → from ≤ i → reserved i ≡ true
     → add_range reserved from i ≡ add_range reserved from (i + 1)
 unfolding add_range
@@ -95,11 +100,13 @@ range_same reserved from i l e = fun_ext (λ j. elim (same_or_other j i) [
     each false true r e = e
     each false false r e = refl
 
+-- an empty range adds nothing
 pub range_empty : (reserved : ℕ → Bool) (from : ℕ) → add_range reserved from from ≡ reserved
 unfolding add_range
 range_empty reserved from =
     fun_ext (λ j. (let a : is_within from from j ≡ false = grind (arith, nat_tests) in ap (λ (c : Bool). c || reserved j) a))
 
+-- a range that ends at an index leaves it as it is
 pub range_past : (reserved : ℕ → Bool) (from i : ℕ) → add_range reserved from i i ≡ reserved i
 unfolding add_range
 range_past reserved from i = let a : is_within from i i ≡ false = grind (arith, nat_tests) in ap (λ (c : Bool). c || reserved i) a
@@ -127,6 +134,7 @@ none_filled frames pages frame from = record {
   count = (let z = count_empty (λ j. is_none (pages j)) from in omega arith);
 }
 
+-- an index that isn't in a range with one more is neither in that range nor the one more
 wider : (from i j : ℕ) → is_within from (i + 1) j ≡ false → from ≤ i → (is_within from i j ≡ false) × (j ≢ i)
 wider from i j e l = (
   grind (arith, nat_tests),

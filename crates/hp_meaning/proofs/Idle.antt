@@ -23,12 +23,15 @@ use Rattle.hp_meaning.proofs.Alone.{if_true, if_false, if_none, Leads, goes_on, 
 pub so_true : (A B : Type 0) {b : Bool} → b ≡ true → A → MatchBool b A B
 so_true A B e a = subst (λ (c : Bool). MatchBool c A B) (sym e) a
 
+-- where the test fails
 pub so_false : (A B : Type 0) {b : Bool} → b ≡ false → B → MatchBool b A B
 so_false A B e a = subst (λ (c : Bool). MatchBool c A B) (sym e) a
 
+-- so with an option: where it is empty
 pub so_none : {T : Type 0} (A : Type 0) (B : T → Type 0) {o : Option T} → o ≡ None → A → MatchOption o A B
 so_none {T} A B e a = subst (λ (p : Option T). MatchOption p A B) (sym e) a
 
+-- and where it has a value
 pub so_some : {T : Type 0} (A : Type 0) (B : T → Type 0) {o : Option T} (x : T) → o ≡ Some x → B x → MatchOption o A B
 so_some {T} A B x e a = subst (λ (p : Option T). MatchOption p A B) (sym e) a
 
@@ -42,6 +45,7 @@ finish call s t last {n = n} M m e is h l = (
   subst (λ (y : State). Looks m y) (sym (is ∙ ap (λ (p : Pool). over call s t p last) e.1)) l,
 )
 
+-- to end the call of a task that has none changes nothing
 pub idle_again : (s : State) (t : ℕ) → s.calls t ≡ None → put s.calls t None ≡ s.calls
 idle_again s t e = put_known s.calls t None e
 
@@ -53,6 +57,7 @@ free_slot s h idle k = here (s.slots k) refl
     here None e = e
     here (Some u) e = (let z : None ≡ Some _ = sym (ap slot_held (idle u)) ∙ (h.holders.slot k u e).1 in absurd (cc))
 
+-- nor a lock
 pub free_lock : (s : State) → Inv s.geometry s → ((u : ℕ) → s.calls u ≡ None) → (f : ℕ) → s.locks f ≡ None
 free_lock s h idle f = here (s.locks f) refl
   where
@@ -72,10 +77,12 @@ translated_low s t v x f i h idle e d = elim (h.sweep.below t v x f i e d) [
 pub put_back : {A : Type 0} (f : ℕ → A) (k : ℕ) (v w : A) → f k ≡ w → put (put f k v) k w ≡ f
 put_back f k v w e = put_put f k v w ∙ put_known f k w e
 
+-- a change that is begun and ended leaves the count of them as it was
 pub pending_back : (f : ℕ → ℕ) (k : ℕ) → put (put f k (f k + 1)) k (put f k (f k + 1) k - 1) ≡ f
 pending_back f k =
     put_back f k (f k + 1) (put f k (f k + 1) k - 1) (let e : put f k (f k + 1) k ≡ f k + 1 = put_same f k (f k + 1) in omega arith)
 
+-- to write what is there changes nothing
 pub put2_self : {A : Type 0} (p : ℕ → ℕ → A) (f i : ℕ) (v : A) → p f i ≡ v → put2 p f i v ≡ p
 put2_self p f i v e = ap (put p f) (put_known (p f) i v e) ∙ put_self p f
 
@@ -84,13 +91,16 @@ pub range_one : (r : ℕ → Bool) (i : ℕ) → add_range r i (i + 1) ≡ put r
 unfolding add_range
 range_one r i = fun_ext (λ j. grind (arith, nat_tests, put_tells r i true j))
 
+-- no number is below itself
 pub not_below_itself : (k : ℕ) → nat_lt k k ≡ false
 not_below_itself k = grind (arith, nat_tests)
 
+-- a conjunction with true is the other test
 pub and_true : (a : Bool) → (a && true) ≡ a
 and_true true = refl
 and_true false = refl
 
+-- and one with false fails
 pub and_false : (a : Bool) → (a && false) ≡ false
 and_false true = refl
 and_false false = refl

@@ -145,6 +145,7 @@ map_means s t f from len b n h ready (end, last, k, is) =
     (ready.0 t) refl (λ turn m r. r) k is
     (λ _ _ k. room_maps s t f from len b n end last (free_lock s h ready.0 f) (ready.0 t) k is)
 
+-- and one without a reservation
 pub map_no_reserve_means : (s : State) (t f from len : ℕ) (b : Answer) (n : State) → Inv s.geometry s → IsReady s t
     → Comes call.Map (MapSteps t) s t b n (pool_of s) (at.Start (record { map = asked false f from len }))
     → (m : State) × Checked s f (is_bad_range s from len) b m (MapNoReserveMeans s t f from len b m) × Looks m n

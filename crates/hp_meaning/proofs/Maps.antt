@@ -34,6 +34,7 @@ room_one space ms len (Some x) (Some y) h k = ap (λ (w : ℕ). Some w) (least (
     least : (x < y → ⊥) → (y < x → ⊥) → y ≡ x
     least d e = omega arith
 
+-- a row of a map, and the same row of the renamed pool, move alike
 pub map_row : {frames : ℕ} {s : Pool} {r : Renaming frames} {turn other : Turn MapPhase} {new there : Pool} (t : ℕ)
     (killed grant : Bool) (p : MapPhase)
     → Used frames s → MapRow s t killed grant p turn new → MapRow (pool_renamed r s) t killed grant p other there
@@ -62,6 +63,7 @@ map_row t killed grant (map.Settle p) h a b = plain a.1 b.1 refl
 map_row t killed grant (map.Enter p) h a b = plain a b refl
 map_row t killed grant (map.Leave p) h a b = plain a b refl
 
+-- so does a row of an unmap
 pub unmap_row : {frames : ℕ} {s : Pool} {r : Renaming frames} {turn other : Turn UnmapPhase} {new there : Pool}
     (t : ℕ) (killed grant : Bool) (p : UnmapPhase)
     → UnmapRow s t killed grant p turn new → UnmapRow (pool_renamed r s) t killed grant p other there
@@ -71,6 +73,7 @@ unmap_row {s = s} t killed grant (unmap.Start p) a b =
 unmap_row {s = s} {r = r} t killed grant (unmap.Clear p) a b = leaf a b refl (cleared_renamed s r t p.base) refl
 unmap_row t killed grant (unmap.Drop p) a b = plain a b refl
 
+-- and one of an exit
 pub exit_row : {frames : ℕ} {s : Pool} {r : Renaming frames} {turn other : Turn ExitPhase} {new there : Pool} (t : ℕ)
     (killed grant : Bool) (p : ExitPhase)
     → ExitRow s t killed grant p turn new → ExitRow (pool_renamed r s) t killed grant p other there

@@ -54,6 +54,7 @@ put_map h f k v = fun_ext (λ j. elim (same_or_other j k) [
   | inr e ↦ put_other (λ j. h (f j)) k (h v) j e ∙ sym (ap h (put_other f k v j e))
 ])
 
+-- and at one place of a table
 pub put2_map : {A B : Type 0} (h : A → B) (p : ℕ → ℕ → A) (f i : ℕ) (v : A)
     → ◌≡◌ {A = ℕ → ℕ → B} (put2 (λ k j. h (p k j)) f i (h v)) (λ k j. h (put2 p f i v k j))
 put2_map {A} {B} h p f i v =
@@ -73,9 +74,7 @@ pub map_agrees : {A : Type 0} (p q : A → A) (o : Option A) → ((x : A) → o 
 map_agrees p q None h = refl
 map_agrees p q (Some x) h = ap (λ y. Some y) (h x refl)
 
-pub some_same : {A : Type 0} {a b : A} → Some a ≡ Some b → a ≡ b
-some_same e = cc
-
+-- an option that is renamed is there where it was
 pub some_renamed : (to : ℕ → ℕ) (o : Option ℕ) → is_some (option_map to o) ≡ is_some o
 some_renamed to None = refl
 some_renamed to (Some x) = refl
@@ -84,22 +83,27 @@ some_renamed to (Some x) = refl
 swap : ℕ → ℕ → ℕ → ℕ
 swap x y z = if z == x then y else if z == y then x else z
 
+-- to swap twice changes nothing
 swap_swap : (x y z : ℕ) → swap x y (swap x y z) ≡ z
 unfolding swap
 swap_swap x y z = grind (arith, nat_tests)
 
+-- two frames that are there swap among those that are there
 swap_below : (n x y z : ℕ) → x < n → y < n → z < n → swap x y z < n
 unfolding swap
 swap_below n x y z l m k = grind (arith, nat_tests)
 
+-- the first gets the second's name
 swap_first : (x y : ℕ) → swap x y x ≡ y
 unfolding swap
 swap_first x y = grind (arith, nat_tests)
 
+-- and the second the first's
 swap_second : (x y : ℕ) → swap x y y ≡ x
 unfolding swap
 swap_second x y = grind (arith, nat_tests)
 
+-- each other frame keeps its name
 swap_other : (x y z : ℕ) → z ≢ x → z ≢ y → swap x y z ≡ z
 unfolding swap
 swap_other x y z h k = grind (arith, nat_tests)
@@ -117,10 +121,12 @@ turned {frames} r x y l m = record {
   );
 }
 
+-- the turned renaming calls the first what the second was called
 pub turned_first : {frames : ℕ} (r : Renaming frames) (x y : ℕ) (l : x < frames) (m : y < frames) → (turned r x y l m).to x ≡ r.to y
 unfolding turned
 turned_first r x y l m = ap r.to (swap_first x y)
 
+-- and all but the two what they were called
 pub turned_other : {frames : ℕ} (r : Renaming frames) (x y : ℕ) (l : x < frames) (m : y < frames) (z : ℕ) → z ≢ x → z ≢ y
     → (turned r x y l m).to z ≡ r.to z
 unfolding turned

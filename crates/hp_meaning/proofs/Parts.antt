@@ -18,9 +18,11 @@ use Rattle.hp_machine.specs.Parts.{UnmapIndexRow, EvictRow, cleared}
 use Rattle.hp_machine.specs.declared.call.Turn.{Turn}
 use Rattle.hp_machine.specs.declared.call.Turn.TheVariants.{Moved, Blocked, Ended}
 use Rattle.hp_meaning.specs.Renaming.{Renaming}
-use Rattle.hp_meaning.proofs.Names.{count_renamed, put_map, put2_map, put_renamed, map_agrees, some_same, turned, turned_first}
+use Rattle.hp_laws.proofs.Deciding.{some_same}
+use Rattle.hp_meaning.proofs.Names.{count_renamed, put_map, put2_map, put_renamed, map_agrees, turned, turned_first}
 use Rattle.hp_meaning.proofs.Names.{turned_other, turned_back}
 
+-- the pool with its frames renamed
 abbrev pub pool_renamed : {frames : ℕ} → Renaming frames → Pool → Pool
 pool_renamed r s =
     record s {
@@ -29,6 +31,7 @@ pool_renamed r s =
       entries = λ t v. option_map r.to (s.entries t v);
     }
 
+-- the turn with the frames in its phase renamed
 abbrev pub turn_renamed : {P : Type 0} → (P → P) → Turn P → Turn P
 turn_renamed rename (Moved p) = Moved (rename p)
 turn_renamed rename (Blocked p holder) = Blocked (rename p) holder
@@ -65,11 +68,13 @@ pub by_like_tests : {A B C D E : Type 0} (b c : Bool) → c ≡ b → MatchBool 
     → (b ≡ false → B → D → E) → E
 by_like_tests {A} {B} {C} {D} b c e m n on off = by_tests b m (subst (λ (d : Bool). MatchBool d C D) e n) on off
 
+-- two rows that split by one option
 pub by_options : {T A C E : Type 0} {B D : T → Type 0} (o : Option T) → MatchOption o A B → MatchOption o C D
     → (o ≡ None → A → C → E) → ((x : T) → o ≡ Some x → B x → D x → E) → E
 by_options None m n off on = off refl m n
 by_options (Some x) m n off on = on x refl m n
 
+-- or by an option that is the same
 pub by_like_options : {T A C E : Type 0} {B D : T → Type 0} (o o' : Option T) → o' ≡ o → MatchOption o A B → MatchOption o' C D
     → (o ≡ None → A → C → E) → ((x : T) → o ≡ Some x → B x → D x → E) → E
 by_like_options {T} {A} {C} {E} {B} {D} o o' e m n off on = by_options o m (subst (λ (q : Option T). MatchOption q C D) e n) off on
@@ -100,6 +105,7 @@ pub plain : {P : Type 0} {rename : (ℕ → ℕ) → P → P} {frames : ℕ} {s 
     → after.frames ≡ s.frames → Follows P rename frames s r turn new other there
 plain a b k = leaf a b refl refl k
 
+-- the rows that operations share move a pool and the renamed one alike: where a lock is taken
 pub start_row : {P : Type 0} {rename : (ℕ → ℕ) → P → P} {frames : ℕ} {s : Pool} {r : Renaming frames}
     {turn other : Turn P} {new there : Pool} (t : ℕ) (killed : Bool) (f : ℕ) (bad : Bool) (at_kill : Answer) (here next : P)
     → StartRow s t killed f bad at_kill here next turn new
@@ -114,6 +120,7 @@ start_row {s = s} t killed f bad at_kill here next a b =
     (λ _ a b. plain a b refl)
     (λ _ a b. by_options (s.locks f) a b (λ _ a b. plain a b refl) (λ holder _ a b. plain a b refl))))
 
+-- where a slot is taken
 pub want_row : {P : Type 0} {rename : (ℕ → ℕ) → P → P} {frames : ℕ} {s : Pool} {r : Renaming frames}
     {turn other : Turn P} {new there : Pool} (t f i : ℕ) (here next : P)
     → WantSlotRow s t f i here next turn new
@@ -122,6 +129,7 @@ pub want_row : {P : Type 0} {rename : (ℕ → ℕ) → P → P} {frames : ℕ} 
 want_row {s = s} t f i here next a b =
     by_options (s.slots (slot_of s.geometry f i)) a b (λ _ a b. plain a b refl) (λ holder _ a b. plain a b refl)
 
+-- where a change is begun
 pub change_row : {P : Type 0} {rename : (ℕ → ℕ) → P → P} {frames : ℕ} {s : Pool} {r : Renaming frames}
     {turn other : Turn P} {new there : Pool} (grant : Bool) (f from to : ℕ) (denied : P) (changed : Change → P)
     → ChangeRow s grant f from to denied changed turn new
@@ -130,6 +138,7 @@ pub change_row : {P : Type 0} {rename : (ℕ → ℕ) → P → P} {frames : ℕ
 change_row {s = s} grant f from to denied changed a b =
     by_tests ((s.spare f == s.pending f) && not grant) a b (λ _ a b. plain a b refl) (λ _ a b. plain a b refl)
 
+-- where it is committed
 pub commit_row : {P : Type 0} {rename : (ℕ → ℕ) → P → P} {frames : ℕ} {s : Pool} {r : Renaming frames}
     {turn other : Turn P} {new there : Pool} (f : ℕ) (change : Change) (settle next : P)
     → CommitRow s f change settle next turn new
@@ -139,6 +148,7 @@ commit_row {s = s} f change settle next a b =
     by_tests (nat_lt (missing (s.reserved f) change.from change.to) change.missing) a b (λ _ a b. plain a b refl)
     (λ _ a b. plain a b refl)
 
+-- where one reservation is given back
 pub settle_row : {P : Type 0} {rename : (ℕ → ℕ) → P → P} {frames : ℕ} {s : Pool} {r : Renaming frames}
     {turn other : Turn P} {new there : Pool} (next : P)
     → SettleOneRow s next turn new → SettleOneRow (pool_renamed r s) (rename r.to next) other there
@@ -187,6 +197,7 @@ takes {rename = rename} {frames = frames} {s = s} {r = r} resv x y taken h e d a
       count = ap (λ (m : Pool). m.frames) a.1;
     }
 
+-- where a frame is taken: each pool takes one of its own, and the names are turned to fit
 pub take_row : {P : Type 0} {rename : (ℕ → ℕ) → P → P} {frames : ℕ} {s : Pool} {r : Renaming frames}
     {turn other : Turn P} {new there : Pool} (missing : ℕ) (no_frame : P) (taken : ℕ → P)
     → Used frames s → TakeRow s missing no_frame taken turn new
@@ -208,6 +219,7 @@ placed_renamed s r f i x =
     let pages = put2_map (option_map r.to) s.pages f i (Some x) in
     λ k. record (pool_renamed r s) { frame = frame k; pages = pages k }
 
+-- where one is freed
 pub freed_renamed : {frames : ℕ} (s : Pool) (r : Renaming frames) (x resv : ℕ)
     → ◌≡◌ {A = Pool} (record (pool_renamed r s) { frame = put (λ y. s.frame (r.back y)) (r.to x) Free; resv = resv })
     (pool_renamed r (record s { frame = put s.frame x Free; resv = resv }))
@@ -235,12 +247,14 @@ gone_renamed : (to : ℕ → ℕ) (gone : Bool) (o : Option ℕ)
 gone_renamed to true o = refl
 gone_renamed to false o = refl
 
+-- where an index's entries go, in one table
 index_renamed : (to : ℕ → ℕ) (mappings : List Mapping) (entries : ℕ → Option ℕ) (f i : ℕ)
     → ◌≡◌ {A = ℕ → Option ℕ} (without_index mappings (λ v. option_map to (entries v)) f i)
     (λ v. option_map to (without_index mappings entries f i v))
 unfolding without_index
 index_renamed to mappings entries f i = fun_ext (λ v. gone_renamed to (is_there (find mappings v) f i) (entries v))
 
+-- where a mapping's do
 mapping_renamed : (to : ℕ → ℕ) (mappings : List Mapping) (entries : ℕ → Option ℕ) (base : ℕ)
     → ◌≡◌ {A = ℕ → Option ℕ} (without_mapping mappings (λ v. option_map to (entries v)) base)
     (λ v. option_map to (without_mapping mappings entries base v))
@@ -255,12 +269,14 @@ entries_renamed to table t entries entries' e =
     ap (put (λ u v. option_map to (table u v)) t) e
     ∙ put_map {A = ℕ → Option ℕ} {B = ℕ → Option ℕ} (λ row v. option_map to (row v)) table t entries
 
+-- so in the pool
 pub cleared_renamed : {frames : ℕ} (s : Pool) (r : Renaming frames) (t base : ℕ)
     → cleared (pool_renamed r s) t base ≡ pool_renamed r (cleared s t base)
 cleared_renamed s r t base =
     let table = entries_renamed r.to s.entries t _ _ (mapping_renamed r.to (s.mappings t) (s.entries t) base) in
     λ k. record (pool_renamed r s) { entries = table k }
 
+-- where one task's entries of an index go
 pub unmap_row : {P : Type 0} {rename : (ℕ → ℕ) → P → P} {frames : ℕ} {s : Pool} {r : Renaming frames}
     {turn other : Turn P} {new there : Pool} (k f i : ℕ) (more last : P)
     → UnmapIndexRow s k f i more last turn new

@@ -24,6 +24,7 @@ use Rattle.hp_meaning.proofs.UnmapAlone.{UnmapSteps, ExitSteps, unmap_means, exi
 some_task : (s : State) (t : ℕ) → IsReached s → IsReady s t → 1 ≤ s.geometry.tasks
 some_task s t reached ready = let z = (always s reached).lives.there t (ap is_dead ready.1) in omega arith
 
+-- so a call of each operation that runs alone has the answer and leads to the state that the table tells
 pub plain : (p : Op) (s : State) (t : ℕ) (b : Answer) (events : List (Event × Outcome)) (n : State) → IsReached s → IsReady s t
     → IsCall t p b events → Run s events n → (m : State) × Means s t p b m × Looks m n
 unfolding CallRow

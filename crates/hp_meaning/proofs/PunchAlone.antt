@@ -137,6 +137,7 @@ within_below s f from i j e =
     let a : is_within from (i + 1) j ≡ is_within from i j = grind (arith, nat_tests) in
     ap (λ (c : Bool). c && is_some (s.pages f j)) a
 
+-- an index with a page is one more that goes
 more_paged : (s : State) (f from i x : ℕ) → from ≤ i → s.pages f i ≡ Some x
     → Adds (paged_within s f from i) i (paged_within s f from (i + 1))
 more_paged s f from i x low e = record {
@@ -146,6 +147,7 @@ more_paged s f from i x low e = record {
   others = λ j d. within_below s f from i j d;
 }
 
+-- one without a page isn't
 same_paged : (s : State) (f from i : ℕ) → s.pages f i ≡ None → paged_within s f from i ≡ paged_within s f from (i + 1)
 same_paged s f from i e = fun_ext (λ j. elim (same_or_other j i) [
   | inl d ↦ (let a : is_some (s.pages f j) ≡ false = ap (λ (k : ℕ). is_some (s.pages f k)) d ∙ ap is_some e in
@@ -155,9 +157,11 @@ same_paged s f from i e = fun_ext (λ j. elim (same_or_other j i) [
   | inr d ↦ sym (within_below s f from i j d)
 ])
 
+-- the index itself is still to go
 not_yet : (s : State) (f from i : ℕ) → paged_within s f from i i ≡ false
 not_yet s f from i = let a : is_within from i i ≡ false = grind (arith, nat_tests) in ap (λ (c : Bool). c && is_some (s.pages f i)) a
 
+-- at first none has gone
 none_yet : (s : State) (f from j : ℕ) → paged_within s f from from j ≡ false
 none_yet s f from j = let a : is_within from from j ≡ false = grind (arith, nat_tests) in ap (λ (c : Bool). c && is_some (s.pages f j)) a
 

@@ -20,6 +20,7 @@ use Rattle.hp_meaning.proofs.Names.{some_renamed}
 use Rattle.hp_meaning.proofs.Parts.{pool_renamed, Follows, leaf, plain, by_tests, by_like_tests, start_row, want_row, unmap_row}
 use Rattle.hp_meaning.proofs.Parts.{evict_row, freed_renamed}
 
+-- a row of a punch, and the same row of the renamed pool, move alike
 pub punch_row : {frames : ℕ} {s : Pool} {r : Renaming frames} {turn other : Turn PunchPhase} {new there : Pool}
     (t : ℕ) (killed grant : Bool) (p : PunchPhase)
     → PunchRow s t killed grant p turn new → PunchRow (pool_renamed r s) t killed grant (punch_renamed r.to p) other there
@@ -51,6 +52,7 @@ end_one to pages a b h k =
     bare None e = refl
     bare (Some x) e = (let z : Some (to x) ≡ None = e in absurd (cc))
 
+-- so where a truncation sets the size: the pages end at one place under any names
 size_row : {frames : ℕ} {s : Pool} {r : Renaming frames} {turn other : Turn TruncatePhase} {new there : Pool} (p : Size)
     → TruncateSizeRow s p turn new → TruncateSizeRow (pool_renamed r s) p other there
     → Follows TruncatePhase truncate_renamed frames s r turn new other there
@@ -64,6 +66,7 @@ size_row {s = s} {r = r} p a b =
     (record { truncation = p.truncation; index = max (s.size f) e - 1; evicted = 0 }))) same) refl refl)
     (λ _ c d. plain c d refl)
 
+-- and so does each row of a truncation
 pub truncate_row : {frames : ℕ} {s : Pool} {r : Renaming frames} {turn other : Turn TruncatePhase} {new there : Pool}
     (t : ℕ) (killed grant : Bool) (p : TruncatePhase)
     → TruncateRow s t killed grant p turn new

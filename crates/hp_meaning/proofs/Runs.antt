@@ -27,10 +27,13 @@ in_use frames s e h = record {
     page : (f i x : ℕ) → s.pages f i ≡ Some x → s.frame x ≢ state.Free
     page f i x q d = (let k = h.place.pages f i x q in let z : state.Placed k.0 ≡ state.Free = sym k.1 ∙ d in cc)
 
+-- lists whose first events, first outcomes and rests are equal are equal
 same_lists : {e f : Event × Outcome} {es fs : List (Event × Outcome)} → f.0 ≡ e.0 → f.1 ≡ e.1 → fs ≡ es
     → ◌≡◌ {A = List (Event × Outcome)} (f ∷ fs) (e ∷ es)
 same_lists a b c = λ i. (a i, b i) ∷ c i
 
+-- two runs of the same events, from a state and from the renamed one, tell the same and end in states that are each
+-- other renamed
 run_alike : (frames : ℕ) (r : Renaming frames) (s : State) (es fs : List (Event × Outcome)) (after after' : State)
     → s.frames ≡ frames → Always s
     → Run s es after → Run (renamed r s) fs after' → events_of fs ≡ events_of es → (fs ≡ es) × Alike frames after after'
@@ -50,6 +53,7 @@ run_alike frames r s (v ∷ es) (f ∷ fs) after after' k h a b e =
 own_names : (frames : ℕ) → Renaming frames
 own_names frames = record { to = λ x. x; back = λ x. x; there = λ x. refl; here = λ x. refl; inside = λ x. (λ l. l, λ l. l) }
 
+-- so two runs of the same events from one opening
 pub frames_hidden : (g : Geometry) (frames : ℕ) (es fs : List (Event × Outcome)) (s n : State) → Run (opening g frames) es s
     → Run (opening g frames) fs n → events_of fs ≡ events_of es → (fs ≡ es) × Alike frames s n
 unfolding own_names

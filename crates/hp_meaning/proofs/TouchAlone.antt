@@ -23,7 +23,7 @@ use Rattle.hp_machine.specs.declared.call.Turn.{Turn}
 use Rattle.hp_laws.proofs.Invariant.{Inv}
 use Rattle.hp_laws.proofs.Shared.{by_test}
 use Rattle.hp_meaning.specs.Meaning.{IsReady, Looks, available, PageMade, TouchMeans}
-use Rattle.hp_meaning.proofs.Names.{some_same}
+use Rattle.hp_laws.proofs.Deciding.{some_same}
 use Rattle.hp_meaning.proofs.Alone.{if_true, if_false, if_none, if_some, Leads, next, moves, stops, goes_on, ends_so, over, Comes, put_put}
 use Rattle.hp_meaning.proofs.Idle.{so_true, so_false, so_none, so_some, finish, idle_again, free_slot, translated_low, put_back}
 use Rattle.hp_meaning.proofs.Idle.{pending_back, put2_self, range_one, not_below_itself, and_false}
@@ -66,6 +66,7 @@ changing s t f i =
       spare = put s.spare f (max (s.spare f) (s.pending f + 1));
     }
 
+-- the change of the one index
 abbrev change_of : State → (file index : ℕ) → Change
 change_of s f i = record { from = i; to = i + 1; missing = missing (s.reserved f) i (i + 1) }
 
@@ -82,6 +83,7 @@ record Paged (s : State) (t : ℕ) (touch : Touch) (b : Answer) (x resv : ℕ) (
     entries = put2 s.entries t touch.vpn (Some x);
   }
 
+-- a frame has one word
 placed_same : {x y : ℕ} → Placed x ≡ Placed y → x ≡ y
 placed_same e = cc
 

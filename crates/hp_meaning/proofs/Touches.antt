@@ -20,11 +20,13 @@ use Rattle.hp_machine.specs.declared.alloc.AllocPhase.TheVariants as alloc
 use Rattle.hp_machine.specs.declared.call.Turn.{Turn}
 use Rattle.hp_machine.specs.declared.call.Turn.TheVariants.{Moved, Ended}
 use Rattle.hp_meaning.specs.Renaming.{Renaming, touch_renamed, alloc_renamed}
-use Rattle.hp_meaning.proofs.Names.{put_renamed, put2_map, some_same, some_renamed}
+use Rattle.hp_laws.proofs.Deciding.{some_same}
+use Rattle.hp_meaning.proofs.Names.{put_renamed, put2_map, some_renamed}
 use Rattle.hp_meaning.proofs.Parts.{pool_renamed, Used, Follows, leaf, plain, by_tests, by_like_tests, by_options, by_names}
 use Rattle.hp_meaning.proofs.Parts.{start_row, want_row, change_row, commit_row, settle_row, take_row, placed_renamed}
 use Rattle.hp_meaning.proofs.Parts.{freed_renamed}
 
+-- a frame has one word
 same_word : {a b : ℕ} → Placed a ≡ Placed b → a ≡ b
 same_word e = cc
 
@@ -33,6 +35,7 @@ word_renamed : {frames : ℕ} (r : Renaming frames) (frame : ℕ → FrameState)
     → frame (r.back (r.to x)) ≡ Placed word' → word' ≡ word
 word_renamed r frame x word word' a b = same_word (sym b ∙ (ap frame (r.there x) ∙ a))
 
+-- what an access makes of the frames is the same under other names
 after_renamed : {frames : ℕ} (r : Renaming frames) (access : Access) (frame : ℕ → FrameState) (x : ℕ)
     → ◌≡◌ {A = ℕ → FrameState} (frame_after access (λ y. frame (r.back y)) (r.to x)) (λ y. frame_after access frame x (r.back y))
 after_renamed r Load frame x = refl
@@ -60,6 +63,7 @@ reads {s = s} {r = r} t p x y word word' page page' placed placed' a b =
     leaf a b (ap (λ (w : ℕ). Moved (touch.Leave (record { touch = p.touch; answer = answer_of p.touch.access w })))
     same) (λ k. record (pool_renamed r s) { entries = table k; frame = frame k }) refl
 
+-- at found a touch, and the renamed one, move alike
 found_row : {frames : ℕ} {s : Pool} {r : Renaming frames} {turn other : Turn TouchPhase} {new there : Pool} (t : ℕ)
     (grant : Bool) (p : Found)
     → TouchFoundRow s t grant p turn new → TouchFoundRow (pool_renamed r s) t grant p other there
@@ -71,6 +75,7 @@ found_row {s = s} t grant p a b =
     (λ _ a b. reads t p a.0 b.0 a.1 b.1 a.2 b.2 a.3 b.3 a.4 b.4)
     (λ _ a b. plain a b refl))
 
+-- so does each row of a touch
 pub touch_row : {frames : ℕ} {s : Pool} {r : Renaming frames} {turn other : Turn TouchPhase} {new there : Pool}
     (t : ℕ) (killed grant : Bool) (p : TouchPhase)
     → Used frames s → TouchRow s t killed grant p turn new
@@ -114,6 +119,7 @@ touch_row {s = s} {r = r} t killed grant (touch.Restore p) h a b = leaf a b refl
 touch_row t killed grant (touch.Found p) h a b = found_row t grant p a b
 touch_row t killed grant (touch.Leave p) h a b = plain a b refl
 
+-- and each row of an allocation
 pub alloc_row : {frames : ℕ} {s : Pool} {r : Renaming frames} {turn other : Turn AllocPhase} {new there : Pool}
     (t : ℕ) (killed grant : Bool) (p : AllocPhase)
     → Used frames s → AllocRow s t killed grant p turn new

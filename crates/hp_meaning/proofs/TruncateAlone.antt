@@ -23,7 +23,7 @@ use Rattle.hp_machine.specs.declared.call.Turn.{Turn}
 use Rattle.hp_laws.proofs.Invariant.{Inv, page_within}
 use Rattle.hp_laws.proofs.Shared.{by_test}
 use Rattle.hp_meaning.specs.Meaning.{IsReady, Looks, Checked, without_pages, is_gone, without_entries, Freed, TruncateMeans}
-use Rattle.hp_meaning.proofs.Names.{some_same}
+use Rattle.hp_laws.proofs.Deciding.{some_same}
 use Rattle.hp_meaning.proofs.Alone.{if_true, if_false, if_none, Leads, next, moves, goes_on, ends_so, from_pool, put_put, Comes}
 use Rattle.hp_meaning.proofs.Idle.{finish, idle_again, free_slot, free_lock, put_back, and_false, checked}
 use Rattle.hp_meaning.proofs.Emptying.{Adds, Owned, page_kept, pages_none, entries_none, entry_kept, freed_none, pages_more}
@@ -37,6 +37,7 @@ TruncateSteps t s p turn new = TruncateRow s t false true p turn new
 abbrev paged_from : State → (file from : ℕ) → ℕ → Bool
 paged_from s f from = λ j. nat_le from j && is_some (s.pages f j)
 
+-- how many indices from one on have a page
 abbrev pages_from : State → (file from : ℕ) → ℕ
 pages_from s f from = count_within (λ j. is_some (s.pages f j)) from s.geometry.limit
 
@@ -75,12 +76,14 @@ from_above s f i j e =
     let a : nat_le i j ≡ nat_le (i + 1) j = grind (arith, nat_tests) in
     ap (λ (c : Bool). c && is_some (s.pages f j)) a
 
+-- an index with a page is one more that goes
 more_paged : (s : State) (f i x : ℕ) → s.pages f i ≡ Some x → Adds (paged_from s f (i + 1)) i (paged_from s f i)
 more_paged s f i x e = record {
   this = (let a : nat_le i i ≡ true = grind (arith, nat_tests) in ap (λ (c : Bool). c && is_some (s.pages f i)) a ∙ ap is_some e);
   others = λ j d. from_above s f i j d;
 }
 
+-- one without a page isn't
 same_paged : (s : State) (f i : ℕ) → s.pages f i ≡ None → paged_from s f (i + 1) ≡ paged_from s f i
 same_paged s f i e = fun_ext (λ j. elim (same_or_other j i) [
   | inl d ↦ (let a : is_some (s.pages f j) ≡ false = ap (λ (k : ℕ). is_some (s.pages f k)) d ∙ ap is_some e in
@@ -89,6 +92,7 @@ same_paged s f i e = fun_ext (λ j. elim (same_or_other j i) [
   | inr d ↦ sym (from_above s f i j d)
 ])
 
+-- the index itself is still to go
 not_yet : (s : State) (f i : ℕ) → paged_from s f (i + 1) i ≡ false
 not_yet s f i = let a : nat_le (i + 1) i ≡ false = grind (arith, nat_tests) in ap (λ (c : Bool). c && is_some (s.pages f i)) a
 
@@ -302,6 +306,7 @@ none_above s f from bare j = here (nat_le from j) refl
         ap (λ (o : Option ℕ). nat_le from j && is_some o) (bare j l) ∙ and_false (nat_le from j)
     here false e = ap (λ (c : Bool). c && is_some (s.pages f j)) e
 
+-- where no index from one on has a page, their number is 0
 no_pages_above : (s : State) (f from : ℕ) → ((j : ℕ) → from ≤ j → s.pages f j ≡ None) → pages_from s f from ≡ 0
 unfolding count_within
 no_pages_above s f from bare =
@@ -360,6 +365,7 @@ all_pages s f new = fun_ext (λ j. here (nat_le new j) (s.pages f j))
     here true (Some x) = refl
     here false o = refl
 
+-- to free the pages from the new size on frees what is there from it on
 all_freed : (s : State) (f new : ℕ) (frame : ℕ → FrameState) → Freed (s.pages f) s.frame (paged_from s f new) frame
     → Freed (s.pages f) s.frame (nat_le new) frame
 all_freed s f new frame h = record {
@@ -371,6 +377,7 @@ all_freed s f new frame h = record {
     left true c e = refl
     left false c e = (let z : false ≡ true = e in absurd (cc))
 
+-- and their entries are all there are from it on, for an entry's index has a page
 all_entries : (s : State) (f new : ℕ) → Inv s.geometry s
     → without_entries s.mappings s.entries f (paged_from s f new) ≡ without_entries s.mappings s.entries f (nat_le new)
 unfolding without_entries

@@ -29,6 +29,7 @@ use Rattle.hp_meaning.proofs.Idle.{so_true, so_false, finish, idle_again}
 abbrev pub UnmapSteps : (task : ℕ) → Pool → UnmapPhase → Turn UnmapPhase → Pool → Type 0
 UnmapSteps t s p turn new = UnmapRow s t false true p turn new
 
+-- so of an exit
 abbrev pub ExitSteps : (task : ℕ) → Pool → ExitPhase → Turn ExitPhase → Pool → Type 0
 ExitSteps t s p turn new = ExitRow s t false true p turn new
 
@@ -66,6 +67,7 @@ mapped s t mappings entries = record (pool_of s) { mappings = put s.mappings t m
 abbrev Covered : List Mapping → (ℕ → Option ℕ) → Type 0
 Covered mappings entries = (v x : ℕ) → entries v ≡ Some x → find mappings v ≢ None
 
+-- where no mapping is left no entry is
 none_left : (entries : ℕ → Option ℕ) → Covered [] entries → entries ≡ (λ _. None)
 none_left entries h = fun_ext (λ v. here v (entries v) refl)
   where
@@ -73,11 +75,13 @@ none_left entries h = fun_ext (λ v. here v (entries v) refl)
     here v None e = e
     here v (Some x) e = absurd (h v x e refl)
 
+-- the first mapping goes by its base
 same_base : (m : Mapping) (ms : List Mapping) → without (m ∷ ms) m.base ≡ ms
 same_base m ms =
     let e : (m.base == m.base) ≡ true = grind (arith, nat_tests) in
     ap (λ (c : Bool). if c then ms else m ∷ without ms m.base) e
 
+-- an entry that is left was there, and isn't of the mapping that goes
 kept_entry : (mappings : List Mapping) (entries : ℕ → Option ℕ) (base v x : ℕ) → without_mapping mappings entries base v ≡ Some x
     → (in_mapping mappings base v ≡ false) × (entries v ≡ Some x)
 unfolding without_mapping
@@ -115,6 +119,7 @@ first_left : (s : State) (t : ℕ) (m : Mapping) (ms : List Mapping)
 first_left s t m ms =
     ap (λ (list : List Mapping). first_base (without list m.base)) (put_same s.mappings t (m ∷ ms)) ∙ ap first_base (same_base m ms)
 
+-- where the first mapping goes, the rest of the task's list is left
 mappings_left : (s : State) (t : ℕ) (m : Mapping) (ms : List Mapping)
     → put (put s.mappings t (m ∷ ms)) t (without (put s.mappings t (m ∷ ms) t) m.base) ≡ put s.mappings t ms
 mappings_left s t m ms = set_again s.mappings t (m ∷ ms) (λ list. without list m.base) ∙ ap (put s.mappings t) (same_base m ms)

@@ -1,7 +1,5 @@
 use Rattle.std.proofs.Common.{◌∙◌, ap, arith, List}
 use Rattle.std.specs.Prelude.{count_by, is_some}
-use Rattle.hp_base.specs.Text.{sizes}
-use Rattle.hp_fault.specs.State.{state_of}
 use Rattle.hp_core.specs.declared.seat.Seat.{Seat}
 use Rattle.hp_core.specs.State.{CoreState}
 use Rattle.hp_core.specs.Readers.{calls_of}
@@ -11,12 +9,7 @@ use Rattle.hp_core.proofs.core_state.Core.calls.Goals as goal
 
 pub overflow_cast-result : goal.overflow_cast-result
 overflow_cast-result c =
-    let s : CoreState = record {
-      sizes = sizes c.self.inside.config;
-      parts = state_of c.self.inside.parts;
-      seats = c.self.inside.seats.items;
-    } in
-    let few = few_seats s c.self.invariant in
+    let few = few_seats _ c.self.invariant in
     let most = count_by-le-length (λ (seat : Seat). is_some seat.call) c.deref.result.now in
     omega (arith, few, most, c.count_calls.ensures, c.deref.ensures.len)
 

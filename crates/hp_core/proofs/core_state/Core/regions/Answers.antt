@@ -1,39 +1,18 @@
-use Rattle.std.proofs.Common.{arith, ◌<◌, ◌∙◌, ap, sym, subst}
-use Rattle.hp_base.specs.Text.{sizes}
+use Rattle.std.proofs.Common.{arith, ◌∙◌, ap}
 use Rattle.hp_base.specs.Indices.{region_count}
 use Rattle.hp_base.specs.declared.limits.TheConstants.{LIMIT}
 use Rattle.hp_region.specs.Regions.{is_member}
 use Rattle.hp_fault.specs.declared.parts.FileState.{FileState}
-use Rattle.hp_fault.specs.State.{state_of}
 use Rattle.hp_fault.specs.View.{sets_of}
-use Rattle.hp_core.specs.State.{CoreState}
-use Rattle.hp_core.specs.Readers.{config_of, regions_of}
+use Rattle.hp_core.specs.Readers.{regions_of}
 use Rattle.hp_core.proofs.Reading.{file_in, file_read}
 use Rattle.hp_core.proofs.core_state.Core.regions.Goals as goal
 
 pub index-requires : goal.index-requires
-index-requires c =
-    let s : CoreState = record {
-      sizes = sizes c.self.inside.config;
-      parts = state_of c.self.inside.parts;
-      seats = c.self.inside.seats.items;
-    } in
-    let in_range : c.args.file < (config_of s).files =
-    subst (λ (z : CoreState). c.args.file < (config_of z).files) (sym c.self.view_is) c.requires in
-    let l = file_in s _ _ c.self.invariant c.number.ensures in_range in
-    omega (arith, l)
+index-requires c = let l = file_in c.self.view_is c.self.invariant c.number.ensures c.requires in omega (arith, l)
 
 pub returns : goal.returns
 unfolding regions_of sets_of
 returns c =
-    let s : CoreState = record {
-      sizes = sizes c.self.inside.config;
-      parts = state_of c.self.inside.parts;
-      seats = c.self.inside.seats.items;
-    } in
-    let in_range : c.args.file < (config_of s).files =
-    subst (λ (z : CoreState). c.args.file < (config_of z).files) (sym c.self.view_is) c.requires in
-    let read = file_read s _ _ _ c.self.invariant c.number.ensures in_range c.index.ensures in
-    c.regions.ensures.runs
-    ∙ (ap (λ (y : FileState). region_count LIMIT (is_member y.map.regions)) read
-    ∙ ap (λ (z : CoreState). regions_of z c.args.file) c.self.view_is)
+    let read = file_read c.self.view_is c.self.invariant c.number.ensures c.requires c.index.ensures in
+    c.regions.ensures.runs ∙ ap (λ (y : FileState). region_count LIMIT (is_member y.map.regions)) read

@@ -1,6 +1,4 @@
 use Rattle.std.proofs.Common.{ap}
-use Rattle.hp_base.specs.Text.{sizes}
-use Rattle.hp_fault.specs.State.{state_of}
 use Rattle.hp_core.specs.State.{CoreState}
 use Rattle.hp_core.specs.Readers.{config_of}
 use Rattle.hp_core.proofs.Headlines.{headline_of}
@@ -11,42 +9,23 @@ use Rattle.hp_core.proofs.core_state.Core.step.Goals as goal
 
 pub step_event-requires : goal.step_event-requires
 step_event-requires c =
-    fits_from_sound (record {
-      sizes = sizes c.self.inside.config;
-      parts = state_of c.self.inside.parts;
-      seats = c.self.inside.seats.items;
-    }) c.args.event c.self.invariant
+    fits_from_sound _ c.args.event c.self.invariant
 
 pub invariant_of-self : goal.invariant_of-self
 invariant_of-self c =
-    let s : CoreState = record {
-      sizes = sizes c.self.inside.config;
-      parts = state_of c.self.inside.parts;
-      seats = c.self.inside.seats.items;
-    } in
-    sound_result s c.args.event c.step_event.result _ _ c.self.invariant
-    (fits_from_sound s c.args.event c.self.invariant) c.step_event.ensures.row c.step_event.ensures.sizes
+    sound_result _ c.args.event c.step_event.result _ _ c.self.invariant
+    (fits_from_sound _ c.args.event c.self.invariant) c.step_event.ensures.row c.step_event.ensures.sizes
     c.step_event.ensures.seats c.step_event.ensures.err
 
 pub returns-clause-row : goal.returns-clause-row
 returns-clause-row c =
-    let s : CoreState = record {
-      sizes = sizes c.self.inside.config;
-      parts = state_of c.self.inside.parts;
-      seats = c.self.inside.seats.items;
-    } in
     rw (← c.self.view_is)
-    (row_result s c.args.event c.step_event.result _ _ (fits_from_sound s c.args.event c.self.invariant) c.step_event.ensures.row)
+    (row_result _ c.args.event c.step_event.result _ _ (fits_from_sound _ c.args.event c.self.invariant) c.step_event.ensures.row)
 
 pub returns-clause-headline : goal.returns-clause-headline
 returns-clause-headline c =
-    let s : CoreState = record {
-      sizes = sizes c.self.inside.config;
-      parts = state_of c.self.inside.parts;
-      seats = c.self.inside.seats.items;
-    } in
-    headline_of _ (sound_result s c.args.event c.step_event.result _ _ c.self.invariant
-    (fits_from_sound s c.args.event c.self.invariant) c.step_event.ensures.row c.step_event.ensures.sizes
+    headline_of _ (sound_result _ c.args.event c.step_event.result _ _ c.self.invariant
+    (fits_from_sound _ c.args.event c.self.invariant) c.step_event.ensures.row c.step_event.ensures.sizes
     c.step_event.ensures.seats c.step_event.ensures.err)
 
 pub returns-clause-config : goal.returns-clause-config
@@ -55,11 +34,6 @@ returns-clause-config c = ap (λ (z : CoreState). z.sizes) c.self.view_is
 
 pub returns-clause-idle : goal.returns-clause-idle
 returns-clause-idle c =
-    let s : CoreState = record {
-      sizes = sizes c.self.inside.config;
-      parts = state_of c.self.inside.parts;
-      seats = c.self.inside.seats.items;
-    } in
     rw (← c.self.view_is)
-    (idle_result s c.args.event c.step_event.result _ _ c.self.invariant
-    (fits_from_sound s c.args.event c.self.invariant) c.step_event.ensures.row c.step_event.ensures.blocked)
+    (idle_result _ c.args.event c.step_event.result _ _ c.self.invariant
+    (fits_from_sound _ c.args.event c.self.invariant) c.step_event.ensures.row c.step_event.ensures.blocked)

@@ -1,38 +1,18 @@
-use Rattle.std.proofs.Common.{arith, ◌≤◌, ◌∙◌, ap, sym, subst}
+use Rattle.std.proofs.Common.{arith, ◌∙◌, ap}
 use Rattle.std.specs.FinMap as map
-use Rattle.hp_base.specs.Text.{sizes}
 use Rattle.hp_table.specs.Table.{Table}
-use Rattle.hp_fault.specs.State.{state_of}
 use Rattle.hp_fault.specs.View as view
-use Rattle.hp_core.specs.State.{CoreState}
-use Rattle.hp_core.specs.Readers.{config_of, translation_of}
+use Rattle.hp_core.specs.Readers.{translation_of}
 use Rattle.hp_core.proofs.Reading.{space_in, space_read}
 use Rattle.hp_core.proofs.core_state.Core.translate.Goals as goal
 
 pub index-requires : goal.index-requires
 index-requires c =
-    let s : CoreState = record {
-      sizes = sizes c.self.inside.config;
-      parts = state_of c.self.inside.parts;
-      seats = c.self.inside.seats.items;
-    } in
-    let low : 1 ≤ c.args.task = c.requires.first in
-    let high : c.args.task ≤ (config_of s).tasks =
-    subst (λ (z : CoreState). c.args.task ≤ (config_of z).tasks) (sym c.self.view_is) c.requires.last in
-    let l = space_in s _ _ c.self.invariant c.number.ensures low high in
+    let l = space_in c.self.view_is c.self.invariant c.number.ensures c.requires.first c.requires.last in
     omega (arith, l)
 
 pub returns : goal.returns
 unfolding translation_of view.entries_of
 returns c =
-    let s : CoreState = record {
-      sizes = sizes c.self.inside.config;
-      parts = state_of c.self.inside.parts;
-      seats = c.self.inside.seats.items;
-    } in
-    let low : 1 ≤ c.args.task = c.requires.first in
-    let high : c.args.task ≤ (config_of s).tasks =
-    subst (λ (z : CoreState). c.args.task ≤ (config_of z).tasks) (sym c.self.view_is) c.requires.last in
-    let read = space_read s _ _ _ c.self.invariant c.number.ensures low high c.index.ensures in
-    c.translate.ensures ∙ (ap (λ (y : Table). map.get y.entries c.args.vpn) read
-    ∙ ap (λ (z : CoreState). translation_of z c.args.task c.args.vpn) c.self.view_is)
+    let read = space_read c.self.view_is c.self.invariant c.number.ensures c.requires.first c.requires.last c.index.ensures in
+    c.translate.ensures ∙ ap (λ (y : Table). map.get y.entries c.args.vpn) read
