@@ -1,10 +1,10 @@
 -- A trace that is kept while it is read, piece by piece.
 use Rattle.std.proofs.Common.{◌≡◌, ℕ, zero, suc, ◌+◌, ◌<◌, List, [], ◌∷◌, ◌++◌, length, drop, Option, Some, None, refl, sym, ap}
 use Rattle.std.proofs.Common.{subst, ◌∙◌, append_assoc, length-append, arith, inl, inr, ◌⊎◌}
-use Rattle.std.specs.Prelude.{map, IfSome, Ok, Err}
+use Rattle.std.specs.Prelude.{map, IfSome, IsSome, Ok, Err}
 use Rattle.std.specs.Io.BufRead.{take_through}
-use Rattle.std.specs.Io.KnownBytes.{Consumes, IsAtEnd}
-use Rattle.std.proofs.KnownBytes.{Consumes-nil, Consumes-trans}
+use Rattle.std.specs.Io.KnownBytes.{Consumes, Keeps, IsAtEnd}
+use Rattle.std.proofs.KnownBytes.{Consumes-nil, Consumes-trans, Consumes-kept}
 use Rattle.std.proofs.lemmas.List.{append-nil}
 use Rattle.hp_base.specs.Text.{Sizes}
 use Rattle.hp_base.specs.declared.event.Event.{Event}
@@ -12,14 +12,15 @@ use Rattle.hp_replay.specs.declared.fault.ReplayFault.{ReplayFault}
 use Rattle.hp_replay.specs.declared.fault.ReplayFault.TheVariants.{Read, Memory}
 use Rattle.hp_replay.specs.Lines.{Held, opening_held, Line, header, event, fault_at, held_after, lines_after, listed, AreLines, end_of}
 use Rattle.hp_replay.specs.Traces.{HasFault, IsLineFault, SpellsSome}
-use Rattle.hp_replay.specs.Collecting.{CanFollow, CanFollowIfSome, PieceNotKept, ReadsTrace, IsReadFault}
+use Rattle.hp_replay.specs.Collecting.{CanFollow, CanFollowIfSome, NoRoom, PieceNotKept, ReadsTrace, NotRead}
 use Rattle.hp_replay.proofs.Feeding.{held_after-append, lines_after-append, stays}
 use Rattle.hp_replay.proofs.Spelled.{spelled}
 use Rattle.hp_replay.proofs.Bytes.{IsHeld, room}
-use Rattle.hp_replay.proofs.BadLines.{stops}
+use Rattle.hp_replay.proofs.BadLines.{stops, cut}
+use Rattle.hp_replay.proofs.ReadStops.{line_cut, memory_cut, lines_of}
 use Rattle.hp_replay.proofs.OneReading.{no_fault}
 use Rattle.hp_replay.proofs.Running.{TookLine, through_parts}
-use Rattle.hp_replay.proofs.Replays.{for_some, end_cases, with_error}
+use Rattle.hp_replay.proofs.Replays.{for_some, end_cases, with_error, cut_at_end}
 use Rattle.hp_replay.proofs.Whole.{opening_is, holds, taken, fault_of, end_fault, end_trace}
 
 -- the lines of the front of the piece are added, and this is left
@@ -83,11 +84,33 @@ adds held h next old mid new piece rest left line a t is =
       count = omega arith;
     }
 
+-- an event for which there is no memory
+pub no_room : (held h next : Held) (old mid : List Line) (piece rest left : List ℕ) (line : Option Line)
+    → Adding held h old mid piece rest → TookLine h next line rest left → 0 < length mid → IsSome line → NoRoom held piece
+no_room held h next old mid piece rest left None a t some is = absurd cc
+no_room held h next old mid piece rest left (Some line) a t some is =
+    let first = take_through 10 rest in
+    let s = spelled h first (ap (λ (x : Held). x.fault) (sym t.held) ∙ t.ok) in
+    let taken : next ≡ held_after held (a.front ++ first) =
+    t.held ∙ ap (λ (x : Held). held_after x first) a.taken ∙ sym (held_after-append held a.front first) in
+    let count : next.lines ≡ h.lines + 1 =
+    ap (λ (x : Held). x.lines) t.held ∙ s.lines ∙ ap (λ (x : List Line). h.lines + length x) (sym t.lines) in
+    let before = a.count in
+    record {
+      front = a.front ++ first;
+      back = left;
+      parts =
+          a.parts ∙ ap (λ (x : List ℕ). a.front ++ x)
+          (through_parts rest ∙ ap (λ (x : List ℕ). first ++ x) (sym t.left_is)) ∙ sym (append_assoc a.front first left);
+      ok = ap (λ (x : Held). x.fault) (sym taken) ∙ t.ok;
+      event = subst (λ (x : Held). 1 < x.lines) taken (omega arith);
+    }
+
 -- a bad line ends the piece
 pub not_added : (held h next : Held) (old mid : List Line) (piece rest : List ℕ) (fault : ReplayFault)
     → Adding held h old mid piece rest → next ≡ held_after h (take_through 10 rest) → next.fault ≡ Some fault
-    → PieceNotKept fault held piece next
-not_added held h next old mid piece rest fault a held_is failed =
+    → IsLineFault fault → PieceNotKept fault held piece next
+not_added held h next old mid piece rest fault a held_is failed is =
     let first = take_through 10 rest in
     let left = drop (length first) rest in
     let s = stays next fault left failed in
@@ -96,7 +119,7 @@ not_added held h next old mid piece rest fault a held_is failed =
     let all : next ≡ held_after held (a.front ++ rest) =
     whole ∙ ap (λ (x : List ℕ). held_after h x) (sym (through_parts rest))
     ∙ ap (λ (x : Held). held_after x rest) a.taken ∙ sym (held_after-append held a.front rest) in
-    inl (failed, all ∙ ap (λ (x : List ℕ). held_after held x) (sym a.parts))
+    inl (failed, is, all ∙ ap (λ (x : List ℕ). held_after held x) (sym a.parts))
 
 -- ---- between two reads
 
@@ -153,13 +176,9 @@ known_fault None to bytes fault reads bad = tt
 known_fault (Some all) None bytes fault reads bad = absurd reads
 known_fault (Some all) (Some left) bytes fault reads bad = subst (λ (x : List ℕ). HasFault x fault) (sym reads) bad
 
-line_fault : (n : ℕ) → IsReadFault (fault_at n)
-line_fault zero = tt
-line_fault (suc n) = tt
-
--- a fault that is told, and what is wrong with the bytes
-pub record Answers (from : Option (List ℕ)) (fault : ReplayFault) : Type 0 where
-  pub is : IsReadFault fault
+-- a fault that is told, what was read, and what is wrong with the bytes
+pub record Answers (from to : Option (List ℕ)) (fault : ReplayFault) : Type 0 where
+  pub is : NotRead fault from to
   pub bad : IfSome from (λ all. HasFault all fault)
   pub only : IsLineFault fault → IfSome from (λ all. ¬ (SpellsSome all))
 
@@ -168,29 +187,54 @@ none_spelled : (from : Option (List ℕ)) (fault : ReplayFault) → IfSome from 
 none_spelled None fault bad is = tt
 none_spelled (Some all) fault bad is = λ (s : SpellsSome all). no_fault all fault s.sizes s.events is bad s.spells
 
-answers : (from : Option (List ℕ)) (fault : ReplayFault) → IsReadFault fault → IfSome from (λ all. HasFault all fault) → Answers from fault
-answers from fault is bad = record { is = is; bad = bad; only = none_spelled from fault bad }
+answers : (from to : Option (List ℕ)) (fault : ReplayFault) → NotRead fault from to → IfSome from (λ all. HasFault all fault)
+    → Answers from to fault
+answers from to fault is bad = record { is = is; bad = bad; only = none_spelled from fault bad }
 
-pub read_failed : (from : Option (List ℕ)) → Answers from Read
-read_failed from = answers from Read tt (for_some from _ (λ _. tt))
+pub read_failed : (from mid to : Option (List ℕ)) (h : Held) (lines : List Line) → Drafting from mid h lines → Keeps mid to
+    → Answers from to Read
+read_failed from mid to h lines d kept =
+    answers from to Read
+    (record {
+      bytes = d.bytes;
+      reads = Consumes-kept from mid to d.bytes d.reads kept;
+      lines = lines_of d.bytes (held_ok h lines d);
+    })
+    (for_some from _ (λ _. tt))
 
-pub memory : (from : Option (List ℕ)) → Answers from Memory
-memory from = answers from Memory tt (for_some from _ (λ _. tt))
+memory : (from mid to : Option (List ℕ)) (h : Held) (lines : List Line) (piece : List ℕ) → Drafting from mid h lines
+    → Consumes mid to piece → NoRoom h piece → Answers from to Memory
+memory from mid to h lines piece d read n =
+    let same : held_after opening_held (d.bytes ++ n.front) ≡ held_after h n.front =
+    held_after-append opening_held d.bytes n.front ∙ ap (λ (x : Held). held_after x n.front) (sym d.held) in
+    let parts : d.bytes ++ piece ≡ (d.bytes ++ n.front) ++ n.back =
+    ap (λ (x : List ℕ). d.bytes ++ x) n.parts ∙ sym (append_assoc d.bytes n.front n.back) in
+    answers from to Memory
+    (memory_cut from to (d.bytes ++ n.front) n.back
+    (subst (λ (x : List ℕ). Consumes from to x) parts (Consumes-trans from mid to d.bytes piece d.reads read))
+    (ap (λ (x : Held). x.fault) same ∙ n.ok) (subst (λ (x : Held). 1 < x.lines) (sym same) n.event))
+    (for_some from _ (λ _. tt))
 
 pub piece_failed : (from mid to : Option (List ℕ)) (h h' : Held) (lines : List Line) (piece : List ℕ)
-    (fault : ReplayFault) → Drafting from mid h lines → Consumes mid to piece → PieceNotKept fault h piece h' → Answers from fault
-piece_failed from mid to h h' lines piece fault d read (inr is) = subst (λ (f : ReplayFault). Answers from f) (sym is) (memory from)
-piece_failed from mid to h h' lines piece fault d read (inl (failed, held)) =
+    (fault : ReplayFault) → Drafting from mid h lines → Consumes mid to piece → PieceNotKept fault h piece h' → Answers from to fault
+piece_failed from mid to h h' lines piece fault d read (inr (is, n)) =
+    subst (λ (f : ReplayFault). Answers from to f) (sym is) (memory from mid to h lines piece d read n)
+piece_failed from mid to h h' lines piece fault d read (inl (failed, line, held)) =
     let whole : h' ≡ held_after opening_held (d.bytes ++ piece) =
     held ∙ ap (λ (x : Held). held_after x piece) d.held ∙ sym (held_after-append opening_held d.bytes piece) in
     let stopped : (held_after opening_held (d.bytes ++ piece)).fault ≡ Some fault = ap (λ (x : Held). x.fault) (sym whole) ∙ failed in
     let s = stops opening_held (d.bytes ++ piece) fault refl opening_is stopped in
-    answers from fault (subst IsReadFault (sym s.fault_is) (line_fault (held_after opening_held s.front).lines))
-    (known_fault from to (d.bytes ++ piece) fault (Consumes-trans from mid to d.bytes piece d.reads read)
+    let reads : Consumes from to (d.bytes ++ piece) = Consumes-trans from mid to d.bytes piece d.reads read in
+    let some = s.some in
+    answers from to fault
+    (subst (λ (f : ReplayFault). NotRead f from to) (sym s.fault_is)
+    (line_cut from to s.front s.back (subst (λ (x : List ℕ). Consumes from to x) s.parts reads) s.ok
+    (λ _. simp (length-append) (omega arith)) (for_some to _ s.bad)))
+    (known_fault from to (d.bytes ++ piece) fault reads
     (for_some to _ (λ left. fault_of (d.bytes ++ piece) fault left stopped)))
 
 pub end_failed : (from mid to : Option (List ℕ)) (h : Held) (lines : List Line) (fault : ReplayFault)
-    → Drafting from mid h lines → Consumes mid to [] → IsAtEnd to → end_of h ≡ Err fault → Answers from fault
+    → Drafting from mid h lines → Consumes mid to [] → IsAtEnd to → end_of h ≡ Err fault → Answers from to fault
 end_failed from mid to h lines fault d read all ended = by (end_cases h (Err fault) d.no_fault ended)
   where
     err_ok : (f : ReplayFault) → with_error f ≡ Ok tt → ⊥
@@ -199,6 +243,9 @@ end_failed from mid to h lines fault d read all ended = by (end_cases h (Err fau
     err_is : (f f' : ReplayFault) → with_error f ≡ Err f' → f' ≡ f
     err_is f f' e = cc
 
+    reads : Consumes from to (d.bytes ++ [])
+    reads = Consumes-trans from mid to d.bytes [] d.reads read
+
     at_end : (to : Option (List ℕ)) → IsAtEnd to → HasFault d.bytes fault → IfSome to (λ left. HasFault ((d.bytes ++ []) ++ left) fault)
     at_end None e bad = tt
     at_end (Some left) e bad =
@@ -206,11 +253,19 @@ end_failed from mid to h lines fault d read all ended = by (end_cases h (Err fau
         (subst (λ (x : List ℕ). HasFault x fault) (sym (append-nil (d.bytes ++ []) ∙ append-nil d.bytes)) bad)
 
     by : ((with_error fault ≡ Ok tt) × (h.rest ≡ []) × (0 < h.lines))
-        ⊎ ((with_error fault ≡ Err (fault_at h.lines)) × (0 < h.lines → 0 < length h.rest)) → Answers from fault
+        ⊎ ((with_error fault ≡ Err (fault_at h.lines)) × (0 < h.lines → 0 < length h.rest)) → Answers from to fault
     by (inl (is, none, some)) = absurd (err_ok fault is)
     by (inr (is, some)) =
-        answers from fault (subst IsReadFault (err_is fault (fault_at h.lines) is) (line_fault h.lines))
-        (known_fault from to (d.bytes ++ []) fault (Consumes-trans from mid to d.bytes [] d.reads read)
+        let ok = held_ok h lines d in
+        let now = held_after opening_held d.bytes in
+        answers from to fault
+        (subst (λ (f : ReplayFault). NotRead f from to)
+        (ap (λ (x : Held). fault_at x.lines) (sym d.held) ∙ err_is fault (fault_at h.lines) is)
+        (line_cut from to d.bytes [] reads ok
+        (λ more. subst (λ (x : List ℕ). 0 < length x) (sym (append-nil now.rest))
+        (subst (λ (x : Held). 0 < x.lines → 0 < length x.rest) d.held some more))
+        (cut_at_end to now.lines now.rest all (cut now.lines now.rest (taken d.bytes ok).held.no_end))))
+        (known_fault from to (d.bytes ++ []) fault reads
         (at_end to all (end_fault d.bytes fault (ap end_of (sym d.held) ∙ ended))))
 
 -- the trace is that of the bytes

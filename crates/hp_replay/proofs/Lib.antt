@@ -11,6 +11,9 @@ pub mod OneReading
 pub mod Writes
 pub mod StateTexts
 pub mod Running
+pub mod Fronts
 pub mod Replays
+pub mod ReadStops
 pub mod Drafts
 pub mod WrittenTraces
+pub mod Told

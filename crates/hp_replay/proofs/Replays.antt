@@ -12,7 +12,7 @@ use Rattle.hp_core.specs.State.{CoreState}
 use Rattle.hp_replay.specs.declared.fault.ReplayFault.{ReplayFault}
 use Rattle.hp_replay.specs.declared.fault.ReplayFault.TheVariants.{BadLine, BadHeader, Read, Write, Memory}
 use Rattle.hp_replay.specs.Lines.{Held, opening_held, Line, header, event, fault_at, held_after, lines_after, end_of, end_at}
-use Rattle.hp_replay.specs.Traces.{IsTrace, HasNoEnd, trace_text}
+use Rattle.hp_replay.specs.Traces.{IsTrace, HasNoEnd, IsLineFault, trace_text}
 use Rattle.hp_replay.specs.Outcomes.{Run, RunOf, outcomes_text, outcome_line, state_text}
 use Rattle.hp_replay.specs.Writing.{Wrote, IsWriteFault}
 use Rattle.hp_replay.specs.Running.{LinesRun, PieceRan, PieceStopped, IsOpened}
@@ -22,7 +22,8 @@ use Rattle.hp_replay.proofs.Writes.{Wrote-behind}
 use Rattle.hp_replay.proofs.Bytes.{IsHeld, room}
 use Rattle.hp_replay.proofs.BadLines.{NoLine, stops, cut}
 use Rattle.hp_replay.proofs.Running.{PieceRan-append, PieceRanPartly-behind}
-use Rattle.hp_replay.proofs.Whole.{opening_is, holds, taken, TraceLines, TakenTrace, taken_trace, rest_is}
+use Rattle.hp_replay.proofs.Whole.{opening_is, holds, taken, TraceLines, TakenTrace}
+use Rattle.hp_replay.proofs.Fronts.{Front, unbegun, begun, front_of, no_header, bad_rest}
 
 -- ---- the run of a trace
 
@@ -87,23 +88,14 @@ pub data Ran (front back text : List ℕ) (core : Option CoreState) : Type 0 whe
 
 ran : (front back text : List ℕ) (core : Option CoreState) → (held_after opening_held front).fault ≡ None
     → LinesRun None (lines_after opening_held front) core text → Ran front back text core
-ran front back text core ok runs = by (held_after opening_held front).lines refl
+ran front back text core ok runs = by (front_of front back ok)
   where
-    by : (n : ℕ) → (held_after opening_held front).lines ≡ n → Ran front back text core
-    by zero none =
-        let t = taken front ok in
-        let lines = t.lines in
-        let no_lines : length (lines_after opening_held front) ≡ 0 = omega arith in
-        before none (no_lines_ran (lines_after opening_held front) core text no_lines runs)
-        (rest_is (lines_after opening_held front) (held_after opening_held front).rest front no_lines t.text)
-    by (suc n) count =
-        let t = taken_trace front n ok count in
+    by : Front front back → Ran front back text core
+    by (unbegun none is) =
         let lines = (taken front ok).lines in
-        let counted = t.trace.count in
-        behind t (omega arith)
-        (ap (λ (x : List ℕ). x ++ back) (sym t.text)
-        ∙ append_assoc (trace_text t.trace.sizes t.trace.events) (held_after opening_held front).rest back)
-        (trace_ran (lines_after opening_held front) t.trace core text runs)
+        let no_lines : length (lines_after opening_held front) ≡ 0 = omega arith in
+        before none (no_lines_ran (lines_after opening_held front) core text no_lines runs) is
+    by (begun t count parts) = behind t count parts (trace_ran (lines_after opening_held front) t.trace core text runs)
 
 -- ---- where a replay stops
 
@@ -121,37 +113,13 @@ line_stopped : (from to o o' : Option (List ℕ)) (front back text : List ℕ) (
     ((held_after opening_held front).rest ++ (back ++ left))) → Stopped (fault_at (held_after opening_held front).lines) from to o o'
 line_stopped from to o o' front back text core reads ok runs wrote some bad = by (ran front back text core ok runs)
   where
-    h : Held
-    h = held_after opening_held front
-
-    no_header : (n : ℕ) (to : Option (List ℕ)) → n ≡ 0 → (held_after opening_held front).rest ≡ front
-        → IfSome to (λ left. NoLine n ((held_after opening_held front).rest ++ (back ++ left)))
-        → IfSome to (λ left. NoLine 0 ((front ++ back) ++ left))
-    no_header n None none is bad = tt
-    no_header n (Some left) none is bad =
-        subst (λ (x : List ℕ). NoLine 0 x)
-        (ap (λ (x : List ℕ). x ++ (back ++ left)) is ∙ sym (append_assoc front back left))
-        (subst (λ (k : ℕ). NoLine k ((held_after opening_held front).rest ++ (back ++ left))) none bad)
-
-    bad_rest : (n k : ℕ) (rest : List ℕ) (to : Option (List ℕ)) → n ≡ k + 1 → 0 < length (rest ++ back)
-        → IfSome to (λ left. NoLine n (rest ++ (back ++ left)))
-        → IfSome to (λ left. (0 < length ((rest ++ back) ++ left)) × NoLine (suc k) ((rest ++ back) ++ left))
-    bad_rest n k rest None count some bad = tt
-    bad_rest n k rest (Some left) count some bad =
-        let add : n ≡ suc k = omega arith in
-        let longer : length ((rest ++ back) ++ left) ≡ length (rest ++ back) + length left = length-append (rest ++ back) left in (
-          omega arith,
-          subst (λ (x : List ℕ). NoLine (suc k) x) (sym (append_assoc rest back left))
-              (subst (λ (j : ℕ). NoLine j (rest ++ (back ++ left))) add bad),
-        )
-
     by : Ran front back text core → Stopped (fault_at (held_after opening_held front).lines) from to o o'
     by (before none empty is) =
         subst (λ (k : ℕ). Stopped (fault_at k) from to o o') (sym none)
         (record {
           bytes = front ++ back;
           reads = reads;
-          bad = no_header (held_after opening_held front).lines to none is bad;
+          bad = no_header front back (held_after opening_held front).rest (held_after opening_held front).lines to none is bad;
           wrote = Keeps-from o o' (subst (λ (x : List ℕ). Appends o o' x) empty wrote);
         })
     by (behind t count parts run) =
@@ -168,7 +136,7 @@ line_stopped from to o o' front back text core reads ok runs wrote some bad = by
           number = refl;
           bad =
               bad_rest (held_after opening_held front).lines (length t.trace.events)
-              (held_after opening_held front).rest to count (some (omega arith)) bad;
+              (held_after opening_held front).rest back to count (some (omega arith)) bad;
           run = run.run;
           wrote = subst (λ (x : List ℕ). Appends o o' x) run.text_is wrote;
         })
@@ -231,7 +199,7 @@ smaller from mid h h' core core' o o' o'' piece g more ok some =
 pub piece_stopped : (from mid to : Option (List ℕ)) (h h' : Held) (core core' : Option CoreState)
     (o o' o'' : Option (List ℕ)) (piece : List ℕ) (fault : ReplayFault) → Going from mid h core o o'
     → Consumes mid to piece → PieceStopped fault h piece h' core core' o' o'' → Stopped fault from to o o''
-piece_stopped from mid to h h' core core' o o' o'' piece fault g read (inl (failed, more)) =
+piece_stopped from mid to h h' core core' o o' o'' piece fault g read (inl (failed, is, more)) =
     let all = PieceRan-append opening_held h h' g.bytes piece None core core' o o' o'' g.piece more in
     let s = stops opening_held (g.bytes ++ piece) fault refl opening_is (ap (λ (x : Held). x.fault) (sym all.taken) ∙ failed) in
     let reads : Consumes from to (s.front ++ s.back) =
@@ -397,25 +365,26 @@ finished from mid to h core o o' o'' (Ok x) g read all ended wrote =
 -- what `finish` says of a fault
 abbrev pub NotFinished : ReplayFault → Held → Option CoreState → Option (List ℕ) → Option (List ℕ) → Type 0
 NotFinished fault h core o o' =
-    ((end_of h ≡ Err fault) × Keeps o o') ⊎ (IsWriteFault fault × (end_of h ≡ Ok tt) × IfSome core (λ c. Wrote o o' (state_text c)))
+    ((end_of h ≡ Err fault) × IsLineFault fault × Keeps o o') ⊎ (IsWriteFault fault × (end_of h ≡ Ok tt) × IfSome core (λ c. Wrote o o' (state_text c)))
+
+-- no line stands at the end
+pub cut_at_end : (to : Option (List ℕ)) (n : ℕ) (rest : List ℕ) → IsAtEnd to → NoLine n rest
+    → IfSome to (λ left. NoLine n (rest ++ ([] ++ left)))
+cut_at_end None n rest e bad = tt
+cut_at_end (Some left) n rest e bad =
+    subst (λ (x : List ℕ). NoLine n (rest ++ ([] ++ x))) (sym e)
+    (subst (λ (x : List ℕ). NoLine n x) (sym (append-nil rest)) bad)
 
 not_finished : (from mid to : Option (List ℕ)) (h : Held) (core : Option CoreState) (o o' o'' : Option (List ℕ))
     (fault : ReplayFault) → Going from mid h core o o' → Consumes mid to [] → IsAtEnd to
     → NotFinished fault h core o' o'' → Stopped fault from to o o''
-not_finished from mid to h core o o' o'' fault g read all (inl (ended, kept)) = by (end_cases h (Err fault) g.no_fault ended)
+not_finished from mid to h core o o' o'' fault g read all (inl (ended, line, kept)) = by (end_cases h (Err fault) g.no_fault ended)
   where
     err_ok : (f : ReplayFault) → (with_error f) ≡ Ok tt → ⊥
     err_ok f e = cc
 
     err_is : (f f' : ReplayFault) → (with_error f) ≡ Err f' → f' ≡ f
     err_is f f' e = cc
-
-    at_end : (to : Option (List ℕ)) (n : ℕ) (rest : List ℕ) → IsAtEnd to → NoLine n rest
-        → IfSome to (λ left. NoLine n (rest ++ ([] ++ left)))
-    at_end None n rest e bad = tt
-    at_end (Some left) n rest e bad =
-        subst (λ (x : List ℕ). NoLine n (rest ++ ([] ++ x))) (sym e)
-        (subst (λ (x : List ℕ). NoLine n x) (sym (append-nil rest)) bad)
 
     kept_writes : (a b c : Option (List ℕ)) (text : List ℕ) → Appends a b text → Keeps b c → Appends a c text
     kept_writes None b c text p k = tt
@@ -436,7 +405,7 @@ not_finished from mid to h core o o' o'' fault g read all (inl (ended, kept)) = 
         (held_is from mid h core o o' g) g.piece.runs (kept_writes o o' o'' g.piece.text g.piece.wrote kept)
         (λ more. subst (λ (x : List ℕ). 0 < length x) (sym (append-nil now.rest))
         (subst (λ (x : Held). 0 < x.lines → 0 < length x.rest) held some more))
-        (at_end to now.lines now.rest all (cut now.lines now.rest no_end)))
+        (cut_at_end to now.lines now.rest all (cut now.lines now.rest no_end)))
 not_finished from mid to h core o o' o'' fault g read all (inr (is, ended, wrote)) =
     let e = end_ran from mid to h core o o' g read ended in
     early fault from to o o'' is

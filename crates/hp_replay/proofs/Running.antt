@@ -16,6 +16,7 @@ use Rattle.hp_replay.specs.declared.feed.TraceLine.{TraceLine}
 use Rattle.hp_replay.specs.declared.feed.TraceLine.TheVariants as lines
 use Rattle.hp_replay.specs.Lines.{Held, Line, header, event, line_of, held_after, lines_after, listed, AreLines}
 use Rattle.hp_replay.specs.Outcomes.{outcome_line}
+use Rattle.hp_replay.specs.Traces.{IsLineFault}
 use Rattle.hp_replay.specs.Writing.{Wrote, IsWriteFault}
 use Rattle.hp_replay.specs.Running.{LineRuns, LinesRun, LinesRan, LinesRanPartly, LinesStopped, PieceRan, PieceRanPartly}
 use Rattle.hp_replay.specs.Running.{PieceStopped, CanRun, CanRunIfSome, IsOpened}
@@ -269,8 +270,9 @@ line_stops held h next after core mid new o o' o'' piece rest left line fault r 
 -- a fault: no line comes of the rest of the piece
 pub fails : (held h next : Held) (core mid : Option CoreState) (o o' : Option (List ℕ)) (piece rest : List ℕ)
     (fault : ReplayFault) → Running held h core mid o o' piece rest → next ≡ held_after h (take_through 10 rest)
-    → lines_after h (take_through 10 rest) ≡ [] → next.fault ≡ Some fault → PieceStopped fault held piece next core mid o o'
-fails held h next core mid o o' piece rest fault r held_is none failed =
+    → lines_after h (take_through 10 rest) ≡ [] → next.fault ≡ Some fault → IsLineFault fault
+    → PieceStopped fault held piece next core mid o o'
+fails held h next core mid o o' piece rest fault r held_is none failed is =
     let t = take_through 10 rest in
     let left = drop (length t) rest in
     let s = stays next fault left failed in
@@ -287,6 +289,7 @@ fails held h next core mid o o' piece rest fault r held_is none failed =
     let parts : r.front ++ (t ++ left) ≡ piece = sym (r.parts ∙ ap (λ (x : List ℕ). r.front ++ x) (through_parts rest)) in
     inl (
       failed,
+      is,
       subst (λ (x : List ℕ). PieceRan held x next core mid o o') parts
           (PieceRan-append held h next r.front (t ++ left) core mid mid o o' o' r.ran last),
     )

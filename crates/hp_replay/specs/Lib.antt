@@ -1,6 +1,7 @@
 pub mod Fits
 pub mod Reading
 pub mod Lines
+pub mod Streams
 pub mod Traces
 pub mod Outcomes
 pub mod Writing

@@ -9,6 +9,7 @@ use Rattle.hp_core.specs.State.{CoreState}
 use Rattle.hp_replay.specs.declared.fault.ReplayFault.{ReplayFault}
 use Rattle.hp_replay.specs.Lines.{Held, Line, header, event, held_after, lines_after}
 use Rattle.hp_replay.specs.Outcomes.{outcome_line}
+use Rattle.hp_replay.specs.Traces.{IsLineFault}
 use Rattle.hp_replay.specs.Writing.{Wrote, IsWriteFault}
 
 -- what one line does: the first opens the core, another is one event of it, with its outcome's line
@@ -78,5 +79,5 @@ pub record PieceRanPartly (held : Held) (piece : List ℕ) (old : Option CoreSta
 abbrev pub PieceStopped : ReplayFault → Held → List ℕ → Held → Option CoreState → Option CoreState → Option (List ℕ)
     → Option (List ℕ) → Type 0
 PieceStopped fault held piece next old new before after =
-    ((next.fault ≡ Some fault) × PieceRan held piece next old new before after)
+    ((next.fault ≡ Some fault) × IsLineFault fault × PieceRan held piece next old new before after)
     ⊎ (IsWriteFault fault × PieceRanPartly held piece old before after)

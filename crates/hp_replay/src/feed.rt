@@ -1,9 +1,10 @@
 //! Takes a trace in pieces, cut anywhere.
-ghost use Rattle.std.specs.Prelude.{◌≡◌, ◌≤◌, IfOk, IfErr, OnOk, OnErr, take, length, [], None, Some};
+ghost use Rattle.std.specs.Prelude.{◌≡◌, ◌≤◌, IfOk, IfErr, IfSome, OnOk, OnErr, take, length, [], None, Some};
 ghost use Rattle.std.specs.Option.{option_map};
 ghost use Rattle.std.specs.Io.BufRead.{take_through};
 ghost use Rattle.hp_replay.specs.Lines.{Held, line_of, line_at, opening_held, fault_at, with_fault, take_byte, held_after};
 ghost use Rattle.hp_replay.specs.Lines.{lines_after, listed, end_of};
+ghost use Rattle.hp_replay.specs.Traces.{IsLineFault};
 
 use crate::fault::ReplayFault;
 use crate::reading::{event_at, header_at};
@@ -37,7 +38,7 @@ impl Model for TraceFeed {
 
     ghost view = { λ f. record { lines = f.lines; rest = take f.len f.rest; fault = f.fault } };
 
-    ghost invariant = { λ f. (f.len ≤ 56) × (f.lines ≤ 1000001) };
+    ghost invariant = { λ f. (f.len ≤ 56) × (f.lines ≤ 1000001) × IfSome f.fault IsLineFault };
 }
 
 impl TraceFeed {
@@ -63,6 +64,7 @@ impl TraceFeed {
     fn fail(&mut self) -> ReplayFault
         ensures held { self.new ≡ with_fault self.old }
         ensures fault { result ≡ fault_at self.old.lines }
+        ensures kind { IsLineFault result }
     {
         let fault = if self.lines == 0 {
             ReplayFault::BadHeader
@@ -86,7 +88,8 @@ impl TraceFeed {
     }
 
     fn fault(&self) -> Option<ReplayFault>
-        ensures { result ≡ self.now.fault }
+        ensures value { result ≡ self.now.fault }
+        ensures kind { IfSome result IsLineFault }
     {
         self.fault
     }
@@ -100,6 +103,7 @@ impl TraceFeed {
         ensures none { OnErr result ((take_byte self.old byte).1 ≡ None) }
         ensures ok { OnOk result (self.new.fault ≡ None) }
         ensures err { IfErr result (λ fault. self.new.fault ≡ Some fault) }
+        ensures kind { IfErr result IsLineFault }
     {
         if self.lines == MOST_LINES {
             return Err(self.fail());
@@ -132,6 +136,7 @@ impl TraceFeed {
         ensures none { OnErr result (lines_after self.old (take_through 10 piece.now) ≡ []) }
         ensures ok { OnOk result (self.new.fault ≡ None) }
         ensures err { IfErr result (λ fault. self.new.fault ≡ Some fault) }
+        ensures kind { IfErr result IsLineFault }
     {
         if let Some(fault) = self.fault() {
             return Err(fault);
@@ -147,7 +152,8 @@ impl TraceFeed {
 
     /// What is wrong with the bytes taken so far, if they are all.
     pub fn end(&self) -> Result<(), ReplayFault>
-        ensures { result ≡ end_of self.now }
+        ensures value { result ≡ end_of self.now }
+        ensures kind { IfErr result IsLineFault }
     {
         if let Some(fault) = self.fault {
             return Err(fault);

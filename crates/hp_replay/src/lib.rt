@@ -10,10 +10,10 @@
 mod fault;
 mod feed;
 mod laws;
-mod pieces;
 mod reading;
 mod replaying;
 mod state;
+mod streams;
 mod trace;
 mod writing;
 
@@ -24,4 +24,5 @@ pub use laws::{
     what_is_held_is_spelled,
 };
 pub use replaying::replay;
+pub use streams::{Sink, Source, Watched};
 pub use trace::{MOST_EVENTS, Trace, read_trace, write_trace};

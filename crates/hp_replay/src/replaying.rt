@@ -4,21 +4,22 @@ ghost use Rattle.std.specs.Option.{option_map};
 ghost use Rattle.std.specs.Io.KnownBytes.{Appends, Keeps};
 ghost use Rattle.hp_replay.specs.Lines.{line_of, listed, end_of};
 ghost use Rattle.hp_replay.specs.Outcomes.{state_text};
+ghost use Rattle.hp_replay.specs.Traces.{IsLineFault};
 ghost use Rattle.hp_replay.specs.Writing.{Wrote, IsWriteFault};
 ghost use Rattle.hp_replay.specs.Running.{CanRun, CanRunIfSome, IsOpened, LinesRan, LinesStopped, PieceRan, PieceStopped};
 ghost use Rattle.hp_replay.specs.Replaying.{Replayed, Stopped};
+ghost use Rattle.hp_replay.specs.Streams.{TellsReads, TellsWrites};
 
 use crate::fault::ReplayFault;
 use crate::feed::{TraceFeed, TraceLine};
-use crate::pieces::{PIECE, read_piece};
 use crate::state::push_state;
+use crate::streams::{PIECE, Sink, Source};
 use crate::writing::{write_line, write_text};
 use hp_core::Core;
 use std::alloc::Global;
-use std::io::{Read, Write};
 
 /// Runs one line, and writes what came of it.
-fn run_line<W: Write>(
+fn run_line<W: Sink>(
     alloc: Global,
     core: &mut Option<Core>,
     line: TraceLine,
@@ -28,6 +29,7 @@ fn run_line<W: Write>(
     requires { CanRun core.old (line_of line) }
     ensures ok { OnOk result (LinesRan core.old (line_of line ∷ []) core.new (W.contents writer.old) (W.contents writer.new)) }
     ensures err { IfErr result (λ fault. LinesStopped fault core.old (line_of line ∷ []) (W.contents writer.old) (W.contents writer.new)) }
+    ensures writes { TellsWrites result (W.failed writer.old) (W.failed writer.new) }
 {
     match line {
         TraceLine::Header(config) => {
@@ -46,7 +48,7 @@ fn run_line<W: Write>(
 }
 
 /// Runs the line that came, if one did.
-fn run_taken<W: Write>(
+fn run_taken<W: Sink>(
     alloc: Global,
     core: &mut Option<Core>,
     line: Option<TraceLine>,
@@ -58,6 +60,7 @@ fn run_taken<W: Write>(
         (W.contents writer.old) (W.contents writer.new)) }
     ensures err { IfErr result (λ fault. LinesStopped fault core.old (listed (option_map line_of line) [])
         (W.contents writer.old) (W.contents writer.new)) }
+    ensures writes { TellsWrites result (W.failed writer.old) (W.failed writer.new) }
 {
     match line {
         Some(line) => run_line(alloc, core, line, text, writer),
@@ -66,7 +69,7 @@ fn run_taken<W: Write>(
 }
 
 /// Runs the lines that a piece ends.
-fn run_piece<W: Write>(
+fn run_piece<W: Sink>(
     alloc: Global,
     feed: &mut TraceFeed,
     core: &mut Option<Core>,
@@ -81,6 +84,7 @@ fn run_piece<W: Write>(
     ensures opened { OnOk result (IsOpened feed.new core.new) }
     ensures err { IfErr result (λ fault. PieceStopped fault feed.old piece.now feed.new core.old core.new
         (W.contents writer.old) (W.contents writer.new)) }
+    ensures writes { TellsWrites result (W.failed writer.old) (W.failed writer.new) }
 {
     let mut rest = piece;
     while !rest.is_empty() {
@@ -92,10 +96,11 @@ fn run_piece<W: Write>(
 }
 
 /// Writes the state at the end of a trace.
-fn write_state<W: Write>(core: &Core, text: &mut String, writer: &mut W) -> Result<(), ReplayFault>
+fn write_state<W: Sink>(core: &Core, text: &mut String, writer: &mut W) -> Result<(), ReplayFault>
     ensures ok { OnOk result (Appends (W.contents writer.old) (W.contents writer.new) (state_text core.now)) }
     ensures err { IfErr result (λ fault. IsWriteFault fault
         × Wrote (W.contents writer.old) (W.contents writer.new) (state_text core.now)) }
+    ensures writes { TellsWrites result (W.failed writer.old) (W.failed writer.new) }
 {
     text.clear();
     push_state(core, text)?;
@@ -103,7 +108,7 @@ fn write_state<W: Write>(core: &Core, text: &mut String, writer: &mut W) -> Resu
 }
 
 /// Tells what the end of the trace says, and then writes the state.
-fn finish<W: Write>(
+fn finish<W: Sink>(
     feed: &TraceFeed,
     core: &Option<Core>,
     text: &mut String,
@@ -114,9 +119,10 @@ fn finish<W: Write>(
     ensures core { OnOk result (IsSome core.now) }
     ensures wrote { OnOk result (IfSome core.now (λ core. Appends (W.contents writer.old) (W.contents writer.new) (state_text core))) }
     ensures err { IfErr result (λ fault.
-        ((end_of feed.now ≡ Err fault) × Keeps (W.contents writer.old) (W.contents writer.new))
+        ((end_of feed.now ≡ Err fault) × IsLineFault fault × Keeps (W.contents writer.old) (W.contents writer.new))
         ⊎ (IsWriteFault fault × (end_of feed.now ≡ Ok tt)
         × IfSome core.now (λ core. Wrote (W.contents writer.old) (W.contents writer.new) (state_text core)))) }
+    ensures writes { TellsWrites result (W.failed writer.old) (W.failed writer.new) }
 {
     feed.end()?;
     match core {
@@ -127,7 +133,7 @@ fn finish<W: Write>(
 
 /// Runs a trace as it is read, and writes a line for each outcome and then the lines of the state.
 /// Each line is written before more is read. Nothing is tried again after an error.
-pub fn replay<R: Read, W: Write>(
+pub fn replay<R: Source, W: Sink>(
     alloc: Global,
     reader: &mut R,
     writer: &mut W,
@@ -136,13 +142,15 @@ pub fn replay<R: Read, W: Write>(
         (W.contents writer.old) (W.contents writer.new)) }
     ensures err { IfErr result (λ fault. Stopped fault (R.remaining reader.old) (R.remaining reader.new)
         (W.contents writer.old) (W.contents writer.new)) }
+    ensures reads { TellsReads result (R.failed reader.old) (R.failed reader.new) }
+    ensures writes { TellsWrites result (W.failed writer.old) (W.failed writer.new) }
 {
     let mut feed = TraceFeed::new();
     let mut core = None;
     let mut text = String::new(alloc);
     let mut piece = [0; PIECE];
     loop {
-        let n = read_piece(reader, &mut piece)?;
+        let n = reader.read_piece(&mut piece)?;
         if n == 0 {
             return finish(&feed, &core, &mut text, writer);
         }

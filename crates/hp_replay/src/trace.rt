@@ -1,5 +1,5 @@
 //! Traces as values: read from bytes, and written to bytes.
-ghost use Rattle.std.specs.Prelude.{◌≡◌, ◌≤◌, ◌++◌, [], ◌∷◌, None, Some, Ok, Err, OnOk, IfOk, IfErr, IfSome, length, map, ◌<◌, All};
+ghost use Rattle.std.specs.Prelude.{◌≡◌, ◌≤◌, ◌++◌, [], ◌∷◌, None, Some, Ok, Err, IsSome, OnOk, OnErr, IfOk, IfErr, IfSome, length, map, ◌<◌, All};
 ghost use Rattle.std.specs.Option.{option_map};
 ghost use Rattle.std.specs.Io.KnownBytes.{Appends};
 ghost use Rattle.hp_base.specs.Text.{sizes};
@@ -7,15 +7,15 @@ ghost use Rattle.hp_replay.specs.Lines.{header, event, line_of, listed, held_aft
 ghost use Rattle.hp_replay.specs.Fits.{EventFits};
 ghost use Rattle.hp_replay.specs.Traces.{HasFault, IsLineFault, IsTrace, SpellsSome, event_line, trace_text};
 ghost use Rattle.hp_replay.specs.Writing.{Wrote, IsWriteFault};
-ghost use Rattle.hp_replay.specs.Collecting.{CanFollow, CanFollowIfSome, PieceNotKept, ReadsTrace, IsReadFault};
+ghost use Rattle.hp_replay.specs.Streams.{TellsReads, TellsWrites};
+ghost use Rattle.hp_replay.specs.Collecting.{CanFollow, CanFollowIfSome, PieceNotKept, ReadsTrace, NotRead};
 
 use crate::fault::ReplayFault;
 use crate::feed::{TraceFeed, TraceLine};
-use crate::pieces::{PIECE, read_piece};
+use crate::streams::{PIECE, Sink, Source};
 use crate::writing::write_line;
 use hp_base::{Config, Event, Op};
 use std::alloc::{AllocError, Global};
-use std::io::{Read, Write};
 use std::marker::{Model, PhantomData};
 
 /// The most events of a trace.
@@ -29,27 +29,25 @@ pub struct Trace {
 }
 
 /// Writes the event's line.
-fn write_event<W: Write>(writer: &mut W, event: Event, line: &mut String) -> Result<(), ReplayFault>
+fn write_event<W: Sink>(writer: &mut W, event: Event, line: &mut String) -> Result<(), ReplayFault>
     ensures fits { EventFits event }
     ensures ok { OnOk result (Appends (W.contents writer.old) (W.contents writer.new) (event_line event)) }
     ensures err { IfErr result (λ fault. IsWriteFault fault
         × Wrote (W.contents writer.old) (W.contents writer.new) (event_line event)) }
+    ensures writes { TellsWrites result (W.failed writer.old) (W.failed writer.new) }
 {
     write_line(writer, event, line)
 }
 
 /// Writes the one text of the trace. Nothing is tried again after an error.
-pub fn write_trace<W: Write>(
-    alloc: Global,
-    trace: &Trace,
-    writer: &mut W,
-) -> Result<(), ReplayFault>
+pub fn write_trace<W: Sink>(alloc: Global, trace: &Trace, writer: &mut W) -> Result<(), ReplayFault>
     requires { length trace.now.events.items ≤ MOST_EVENTS }
     ensures ok { OnOk result (Appends (W.contents writer.old) (W.contents writer.new)
         (trace_text (sizes trace.now.config) trace.now.events.items)) }
     ensures spells { OnOk result (IsTrace (sizes trace.now.config) trace.now.events.items) }
     ensures err { IfErr result (λ fault. IsWriteFault fault × Wrote (W.contents writer.old) (W.contents writer.new)
         (trace_text (sizes trace.now.config) trace.now.events.items)) }
+    ensures writes { TellsWrites result (W.failed writer.old) (W.failed writer.new) }
 {
     let mut line = String::new(alloc);
     write_line(writer, trace.config, &mut line)?;
@@ -90,7 +88,8 @@ impl Draft {
     /// Adds a line.
     fn add(&mut self, alloc: Global, line: TraceLine) -> Result<(), AllocError>
         requires { CanFollow self.old (line_of line) }
-        ensures { OnOk result (self.new ≡ self.old ++ line_of line ∷ []) }
+        ensures ok { OnOk result (self.new ≡ self.old ++ line_of line ∷ []) }
+        ensures err { OnErr result (0 < length self.old) }
     {
         match line {
             TraceLine::Header(config) => {
@@ -111,7 +110,8 @@ impl Draft {
     /// Adds the line that came, if one did.
     fn add_taken(&mut self, alloc: Global, line: Option<TraceLine>) -> Result<(), AllocError>
         requires { CanFollowIfSome self.old (option_map line_of line) }
-        ensures { OnOk result (self.new ≡ self.old ++ listed (option_map line_of line) []) }
+        ensures ok { OnOk result (self.new ≡ self.old ++ listed (option_map line_of line) []) }
+        ensures err { OnErr result ((0 < length self.old) × IsSome (option_map line_of line)) }
     {
         match line {
             Some(line) => self.add(alloc, line),
@@ -156,19 +156,20 @@ fn add_piece(
 }
 
 /// The trace that the bytes spell. Nothing is tried again after an error.
-pub fn read_trace<R: Read>(alloc: Global, reader: &mut R) -> Result<Trace, ReplayFault>
+pub fn read_trace<R: Source>(alloc: Global, reader: &mut R) -> Result<Trace, ReplayFault>
     ensures ok { IfOk result (λ trace. ReadsTrace (R.remaining reader.old) (R.remaining reader.new)
         (sizes trace.config) trace.events.items) }
-    ensures fault { IfErr result IsReadFault }
+    ensures stopped { IfErr result (λ fault. NotRead fault (R.remaining reader.old) (R.remaining reader.new)) }
     ensures bad { IfErr result (λ fault. IfSome (R.remaining reader.old) (λ bytes. HasFault bytes fault)) }
     ensures only { IfErr result (λ fault. IsLineFault fault
         → IfSome (R.remaining reader.old) (λ bytes. ¬ (SpellsSome bytes))) }
+    ensures reads { TellsReads result (R.failed reader.old) (R.failed reader.new) }
 {
     let mut feed = TraceFeed::new();
     let mut draft = Draft::new();
     let mut piece = [0; PIECE];
     loop {
-        let n = read_piece(reader, &mut piece)?;
+        let n = reader.read_piece(&mut piece)?;
         if n == 0 {
             feed.end()?;
             return Ok(draft.whole());

@@ -1,13 +1,13 @@
 //! The largest sizes: with ample memory none of them meets a want of it.
 use hp_core::Core;
-use hp_replay::{ReplayFault, read_trace, replay, write_trace};
+use hp_replay::{ReplayFault, Watched, read_trace, replay, write_trace};
 use std::alloc::{AllocError, Global};
 use std::test::Fail;
 
 /// What a replay of this text answers, and what it writes.
 fn replayed(alloc: Global, text: &str) -> (Result<(), ReplayFault>, Vec<u8>) {
     let mut out = Vec::new(alloc);
-    let answer = replay(alloc, &mut text.as_bytes(), &mut out);
+    let answer = replay(alloc, &mut text.as_bytes(), &mut Watched::new(&mut out));
     (answer, out)
 }
 
@@ -101,7 +101,7 @@ fn a_long_trace(rt: HostRuntime) -> Result<(), Fail> {
     let trace = read_trace(rt.alloc(), &mut text.as_bytes())?;
     assert_eq!(rt; trace.events.len(), 26_624);
     let mut written = Vec::new(rt.alloc());
-    write_trace(rt.alloc(), &trace, &mut written)?;
+    write_trace(rt.alloc(), &trace, &mut Watched::new(&mut written))?;
     assert_eq!(rt; written.as_slice(), text.as_bytes());
     Ok(())
 }

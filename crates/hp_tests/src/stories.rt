@@ -1,5 +1,5 @@
 //! Traces from end to end: what is written for each, line by line.
-use hp_replay::{ReplayFault, replay};
+use hp_replay::{ReplayFault, Watched, replay};
 use std::alloc::{AllocError, Global};
 use std::test::Fail;
 
@@ -22,7 +22,7 @@ fn replayed(
 ) -> Result<(Result<(), ReplayFault>, Vec<u8>), AllocError> {
     let text = script(alloc, lines)?;
     let mut out = Vec::new(alloc);
-    let answer = replay(alloc, &mut text.as_bytes(), &mut out);
+    let answer = replay(alloc, &mut text.as_bytes(), &mut Watched::new(&mut out));
     Ok((answer, out))
 }
 

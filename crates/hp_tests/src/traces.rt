@@ -3,7 +3,7 @@ ghost use Rattle.std.specs.Prelude.{Some};
 
 use hp_base::{Config, Event, File, Index, Op, Task};
 use hp_replay::{
-    MOST_EVENTS, ReplayFault, TraceFeed, TraceLine, a_stopped_replay_names_the_fault,
+    MOST_EVENTS, ReplayFault, TraceFeed, TraceLine, Watched, a_stopped_replay_names_the_fault,
     bytes_have_one_reading, pieces_do_not_show, read_trace, replay, what_is_held_is_spelled,
     write_trace,
 };
@@ -88,7 +88,7 @@ fn a_trace_has_one_text(rt: HostRuntime) -> Result<(), Fail> {
 
     assert!(rt; trace.events.len() <= MOST_EVENTS);
     let mut written = Vec::new(rt.alloc());
-    write_trace(rt.alloc(), &trace, &mut written)?;
+    write_trace(rt.alloc(), &trace, &mut Watched::new(&mut written))?;
     assert_eq!(rt; written.as_slice(), TRACE);
     Ok(())
 }
@@ -96,7 +96,7 @@ fn a_trace_has_one_text(rt: HostRuntime) -> Result<(), Fail> {
 /// What a replay of the bytes answers, and what it writes.
 fn replayed(alloc: Global, mut bytes: &[u8]) -> (Result<(), ReplayFault>, Vec<u8>) {
     let mut written = Vec::new(alloc);
-    let answer = replay(alloc, &mut bytes, &mut written);
+    let answer = replay(alloc, &mut bytes, &mut Watched::new(&mut written));
     (answer, written)
 }
 
@@ -156,7 +156,7 @@ fn a_replay_writes_outcomes_and_the_state(rt: HostRuntime) -> Result<(), Fail> {
     let alloc = rt.alloc();
     let bytes = b"pool 3 2 1 2\nstep 2\nstep 4294967295\n";
     let mut written = Vec::new(alloc);
-    replay(alloc, &mut &bytes[..], &mut written)?;
+    replay(alloc, &mut &bytes[..], &mut Watched::new(&mut written))?;
     let text = b"refused idle\nrefused notalive\nfree 3 resv 0 calls 0\n\
         file 0 size 0 reserved 0 regions 0 pages 0 changes 0 spare 0\n\
         file 1 size 0 reserved 0 regions 0 pages 0 changes 0 spare 0\n\
@@ -228,14 +228,22 @@ fn a_million_events_are_enough(rt: HostRuntime) -> Result<(), Fail> {
         bytes.extend_from_slice(b"step 1\n")?;
     }
     let mut written = Vec::new(alloc);
-    replay(alloc, &mut bytes.as_slice(), &mut written)?;
+    replay(
+        alloc,
+        &mut bytes.as_slice(),
+        &mut Watched::new(&mut written),
+    )?;
     assert_eq!(rt;
         written.iter().filter(|byte| **byte == 10).count(),
         MOST_EVENTS + 3
     );
     bytes.extend_from_slice(b"step 1\n")?;
     let mut written = Vec::new(alloc);
-    let answer = replay(alloc, &mut bytes.as_slice(), &mut written);
+    let answer = replay(
+        alloc,
+        &mut bytes.as_slice(),
+        &mut Watched::new(&mut written),
+    );
     assert_eq!(rt; answer, Err(ReplayFault::BadLine(1_000_002)));
     assert_eq!(rt; written.len(), 13 * MOST_EVENTS);
     Ok(())
@@ -245,7 +253,7 @@ fn a_million_events_are_enough(rt: HostRuntime) -> Result<(), Fail> {
 fn a_failed_write_is_told(rt: HostRuntime) -> Result<(), Fail> {
     let alloc = rt.alloc();
     let mut text = Vec::new(alloc);
-    replay(alloc, &mut &TRACE[..], &mut text)?;
+    replay(alloc, &mut &TRACE[..], &mut Watched::new(&mut text))?;
     for is_quiet in [false, true] {
         for calls in 0..text.len() {
             let mut writer = SmallWriter {
@@ -253,7 +261,7 @@ fn a_failed_write_is_told(rt: HostRuntime) -> Result<(), Fail> {
                 calls,
                 is_quiet,
             };
-            let answer = replay(alloc, &mut &TRACE[..], &mut writer);
+            let answer = replay(alloc, &mut &TRACE[..], &mut Watched::new(&mut writer));
             assert_eq!(rt; answer, Err(ReplayFault::Write));
             assert_eq!(rt; writer.taken.as_slice(), &text[..calls]);
         }
@@ -263,7 +271,7 @@ fn a_failed_write_is_told(rt: HostRuntime) -> Result<(), Fail> {
         calls: usize::MAX,
         is_quiet: false,
     };
-    replay(alloc, &mut &TRACE[..], &mut writer)?;
+    replay(alloc, &mut &TRACE[..], &mut Watched::new(&mut writer))?;
     assert_eq!(rt; writer.taken.as_slice(), text.as_slice());
     Ok(())
 }
@@ -272,21 +280,25 @@ fn a_failed_write_is_told(rt: HostRuntime) -> Result<(), Fail> {
 fn a_failed_read_is_told(rt: HostRuntime) -> Result<(), Fail> {
     let alloc = rt.alloc();
     let mut text = Vec::new(alloc);
-    replay(alloc, &mut &TRACE[..], &mut text)?;
+    replay(alloc, &mut &TRACE[..], &mut Watched::new(&mut text))?;
     for calls in 0..=TRACE.len() {
-        let mut reader = SmallReader {
+        let reader = SmallReader {
             bytes: TRACE,
             calls,
         };
         let mut written = Vec::new(alloc);
-        let answer = replay(alloc, &mut reader, &mut written);
+        let answer = replay(
+            alloc,
+            &mut Watched::new(reader),
+            &mut Watched::new(&mut written),
+        );
         assert_eq!(rt; answer, Err(ReplayFault::Read));
         assert!(rt; text.starts_with(written.as_slice()));
-        let mut reader = SmallReader {
+        let reader = SmallReader {
             bytes: TRACE,
             calls,
         };
-        let answer = read_trace(alloc, &mut reader).map(|_| ());
+        let answer = read_trace(alloc, &mut Watched::new(reader)).map(|_| ());
         assert_eq!(rt; answer, Err(ReplayFault::Read));
     }
     Ok(())

@@ -1,1 +1,1 @@
-mod TraceReads
+mod Buffered

@@ -7,18 +7,19 @@
 mod command;
 mod program;
 
+use hp_replay::Watched;
 use program::program;
 use std::process::ExitCode;
 use std::{env, io};
 
 fn main(rt: HostRuntime) -> io::Result<ExitCode> {
     let words: Vec<String> = env::args(&rt)?.collect(rt.alloc())?;
-    let status = program(
+    let (status, _out) = program(
         &rt,
         rt.alloc(),
         words.as_slice(),
-        &mut rt.stdin(),
-        &mut rt.stdout(),
+        &mut Watched::new(rt.stdin()),
+        rt.stdout(),
         &mut rt.stderr(),
     );
     Ok(ExitCode::from(status))

@@ -1,15 +1,17 @@
 //! What the program does, over any words and streams.
-ghost use Rattle.std.specs.Prelude.{◌≡◌, ◌≢◌, OnOk};
+ghost use Rattle.std.specs.Prelude.{◌≡◌, ◌≢◌, [], Some, Ok, Err, OnOk, OnErr, IfOk, IfErr};
+ghost use Rattle.std.specs.Option.{option_map};
 ghost use Rattle.clap.specs.Values.{kind_of};
-ghost use Rattle.hugepool.specs.Reading.{ReadsSomeTrace};
-ghost use Rattle.hugepool.specs.Status.{status_of};
+ghost use Rattle.hugepool.specs.Endings.{IsHelp, IsRefusal, DidReplay, AnsweredReplay, Did, EndsWith};
+ghost use Rattle.hugepool.specs.Status.{status_of, status_at};
 
 use crate::command::{Request, read_words};
 use clap::error::ErrorKind;
-use hp_replay::{ReplayFault, replay};
+use hp_replay::{ReplayFault, Source, Watched, replay};
 use std::alloc::Global;
 use std::convert::AsStr;
-use std::io::{BufWriter, Read, Write};
+use std::io;
+use std::io::{BufWriter, Write};
 use thiserror::Error;
 
 /// Why the program ends with another status than 0.
@@ -18,7 +20,7 @@ enum Stop {
     #[error("{0}")]
     Usage(clap::Error),
     #[error("hugepool: {0}\n")]
-    Replay(#[from] ReplayFault),
+    Replay(ReplayFault),
 }
 
 impl Stop {
@@ -33,17 +35,29 @@ impl Stop {
 }
 
 /// Runs the program on these words and streams, and tells its status: 0 where it did what was asked, 1
-/// after a fault, 2 where the words ask for nothing. A fault is told in one line on `faults`.
-pub(crate) fn program<R, S: AsStr>(
-    rt: &R,
+/// after a fault, 2 where the words ask for nothing. A fault is told in one line on `faults`. The output
+/// is handed back, unless it went with a buffer for which there was no memory.
+pub(crate) fn program<H, S: AsStr, R: Source, W: Write + Drop>(
+    rt: &H,
     alloc: Global,
     words: &[S],
-    reader: &mut impl Read,
-    out: &mut impl Write,
+    reader: &mut R,
+    out: W,
     faults: &mut impl Write,
-) -> u8 {
+) -> (u8, Option<W>)
+    ensures { EndsWith result.0 (R.remaining reader.old) (R.remaining reader.new) (R.failed reader.old) (R.failed reader.new)
+        (W.contents out) (option_map W.contents result.1) }
+{
     let _ = rt;
-    match run(alloc, words, reader, out) {
+    let (answer, out) = run(alloc, words, reader, out);
+    (end(answer, faults), out)
+}
+
+// The status of an answer, whose fault is told. Whether it can be told changes nothing.
+fn end(answer: Result<(), Stop>, faults: &mut impl Write) -> u8
+    ensures { result ≡ status_at answer }
+{
+    match answer {
         Ok(()) => 0,
         Err(stop) => {
             let _ = write!(faults, "{stop}");
@@ -52,25 +66,62 @@ pub(crate) fn program<R, S: AsStr>(
     }
 }
 
-fn run<S: AsStr>(
+fn run<S: AsStr, R: Source, W: Write + Drop>(
     alloc: Global,
     words: &[S],
-    reader: &mut impl Read,
-    out: &mut impl Write,
-) -> Result<(), Stop> {
-    match read_words(alloc, words) {
-        Ok(Request::Replay) => Ok(run_replay(alloc, reader, out)?),
+    reader: &mut R,
+    out: W,
+) -> (Result<(), Stop>, Option<W>)
+    ensures { Did result.0 (R.remaining reader.old) (R.remaining reader.new) (R.failed reader.old) (R.failed reader.new)
+        (W.contents out) (option_map W.contents result.1) }
+{
+    let asked = read_words(alloc, words);
+    answer(alloc, asked, reader, out)
+}
+
+// Does what the words were read as.
+fn answer<R: Source, W: Write + Drop>(
+    alloc: Global,
+    asked: Result<Request, clap::Error>,
+    reader: &mut R,
+    mut out: W,
+) -> (Result<(), Stop>, Option<W>)
+    ensures replay { OnOk asked (AnsweredReplay result.0 (R.remaining reader.old) (R.remaining reader.new)
+        (R.failed reader.old) (R.failed reader.new) (W.contents out) (option_map W.contents result.1)) }
+    ensures help { IfErr asked (λ error. IsHelp error → IfErr result.0 (λ stop. stop ≡ Stop.Replay ReplayFault.Write)) }
+    ensures refused { IfErr asked (λ error. ¬ (IsHelp error) → IfErr result.0 (IsRefusal error)) }
+    ensures nothing_done { IfErr asked (λ error. ¬ (IsHelp error) → OnOk result.0 ⊥) }
+    ensures did { Did result.0 (R.remaining reader.old) (R.remaining reader.new) (R.failed reader.old) (R.failed reader.new)
+        (W.contents out) (option_map W.contents result.1) }
+{
+    match asked {
+        Ok(Request::Replay) => {
+            let (replayed, out) = run_replay(alloc, reader, out);
+            (stopped(replayed), out)
+        }
         Err(error) => match error.kind() {
-            ErrorKind::DisplayHelp | ErrorKind::DisplayVersion => Ok(write_help(&error, out)?),
-            _ => Err(no_request(error)),
+            ErrorKind::DisplayHelp | ErrorKind::DisplayVersion => {
+                let written = write_help(&error, &mut out);
+                (stopped(written), Some(out))
+            }
+            _ => (Err(no_request(error)), Some(out)),
         },
+    }
+}
+
+fn stopped(answer: Result<(), ReplayFault>) -> Result<(), Stop>
+    ensures ok { OnOk answer (result ≡ Ok tt) }
+    ensures err { IfErr answer (λ fault. result ≡ Err (Stop.Replay fault)) }
+{
+    match answer {
+        Ok(()) => Ok(()),
+        Err(fault) => Err(Stop::Replay(fault)),
     }
 }
 
 // Words that clap refused, or that it had no memory to read.
 fn no_request(error: clap::Error) -> Stop
-    ensures memory { kind_of error ≡ ErrorKind.OutOfMemory → result ≡ Stop.Replay ReplayFault.Memory }
-    ensures usage { kind_of error ≢ ErrorKind.OutOfMemory → result ≡ Stop.Usage error }
+    ensures { IsRefusal error result }
 {
     match error.kind() {
         ErrorKind::OutOfMemory => Stop::Replay(ReplayFault::Memory),
@@ -79,26 +130,44 @@ fn no_request(error: clap::Error) -> Stop
 }
 
 // Help comes from clap as an error, but is what was asked for.
-fn write_help(help: &clap::Error, out: &mut impl Write) -> Result<(), ReplayFault> {
+fn write_help(help: &clap::Error, out: &mut impl Write) -> Result<(), ReplayFault>
+    ensures { IfErr result (λ fault. fault ≡ ReplayFault.Write) }
+{
     write!(out, "{help}").map_err(|_| ReplayFault::Write)?;
     out.flush().map_err(|_| ReplayFault::Write)
 }
 
-// Output is buffered. What was right before a fault is written still, and a flush that fails is a
-// failed write.
-#[tactic(auto, using(crate::proofs::TraceReads::reads_some_trace))]
-fn run_replay<R: Read, W: Write>(
+// Output is buffered. What was right before a fault is written still, but what a fault of writing leaves
+// in the buffer is let go.
+fn run_replay<R: Source, W: Write + Drop>(
     alloc: Global,
     reader: &mut R,
-    out: &mut W,
-) -> Result<(), ReplayFault>
-    ensures read { OnOk result (ReadsSomeTrace (R.remaining reader.old) (R.remaining reader.new)) }
+    out: W,
+) -> (Result<(), ReplayFault>, Option<W>)
+    ensures { DidReplay result.0 (R.remaining reader.old) (R.remaining reader.new) (R.failed reader.old) (R.failed reader.new)
+        (W.contents out) (option_map W.contents result.1) }
 {
-    let Ok(mut buffered) = BufWriter::new(alloc, out) else {
-        return Err(ReplayFault::Memory);
+    let Ok(buffered) = BufWriter::new(alloc, out) else {
+        return (Err(ReplayFault::Memory), None);
     };
-    let replayed = replay(alloc, reader, &mut buffered);
+    let mut sink = Watched::new(buffered);
+    let replayed = replay(alloc, reader, &mut sink);
+    let mut buffered = sink.into_inner();
     let flushed = buffered.flush();
-    replayed?;
-    flushed.map_err(|_| ReplayFault::Write)
+    let (out, _left) = buffered.into_parts();
+    (flushed_answer(replayed, flushed), Some(out))
+}
+
+// A flush that fails is a failed write. It is told before any other fault, since that stands behind it.
+fn flushed_answer(
+    replayed: Result<(), ReplayFault>,
+    flushed: io::Result<()>,
+) -> Result<(), ReplayFault>
+    ensures ok { OnOk flushed (result ≡ replayed) }
+    ensures err { OnErr flushed (result ≡ Err ReplayFault.Write) }
+{
+    match flushed {
+        Ok(()) => replayed,
+        Err(_) => Err(ReplayFault::Write),
+    }
 }

@@ -1,5 +1,6 @@
 //! The words, the statuses and the fault lines of the program, over fake streams.
 use crate::program::program;
+use hp_replay::Watched;
 use std::alloc::Global;
 use std::io;
 use std::io::{ErrorKind, Read, Write};
@@ -9,7 +10,7 @@ fn told<R>(rt: &R, alloc: Global, words: &[&str], input: &str) -> (u8, Vec<u8>, 
     let mut out = Vec::new(alloc);
     let mut faults = Vec::new(alloc);
     let mut bytes = input.as_bytes();
-    let status = program(rt, alloc, words, &mut bytes, &mut out, &mut faults);
+    let (status, _) = program(rt, alloc, words, &mut bytes, &mut out, &mut faults);
     (status, out, faults)
 }
 
@@ -234,7 +235,7 @@ fn told_to<R>(
     };
     let mut faults = Vec::new(alloc);
     let mut bytes = b"pool 1 1 1 1\nstep 1\n".as_slice();
-    let status = program(rt, alloc, words, &mut bytes, &mut out, &mut faults);
+    let (status, _) = program(rt, alloc, words, &mut bytes, &mut out, &mut faults);
     (status, out.taken, faults)
 }
 
@@ -295,11 +296,11 @@ fn told_of<R>(rt: &R, alloc: Global, bytes: &[u8]) -> (u8, Vec<u8>, Vec<u8>) {
     let mut out = Vec::new(alloc);
     let mut faults = Vec::new(alloc);
     let words = ["hugepool", "replay"];
-    let status = program(
+    let (status, _) = program(
         rt,
         alloc,
         &words,
-        &mut Input { bytes },
+        &mut Watched::new(Input { bytes }),
         &mut out,
         &mut faults,
     );
@@ -330,7 +331,7 @@ fn a_fault_that_is_not_told_is_one(rt: HostRuntime) {
             flushes: false,
         };
         let mut out = Vec::new(rt.alloc());
-        let status = program(
+        let (status, _) = program(
             &rt,
             rt.alloc(),
             words,

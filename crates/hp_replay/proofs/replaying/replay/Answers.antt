@@ -1,42 +1,74 @@
-use Rattle.std.proofs.Common.{arith, rules, ◌<◌, length, take}
+use Rattle.std.proofs.Common.{arith, rules, ◌<◌, length, take, refl, ap, subst, ◌∙◌, Bool}
 use Rattle.std.proofs.lemmas.Result.{err_from_is_err_and}
 use Rattle.std.proofs.lemmas.List.{length-take-le}
+use Rattle.hp_replay.specs.Streams.{source_at, sink_at, TellsWrites}
+use Rattle.hp_replay.proofs.Told.{stopped_no_read, finish_no_read}
 use Rattle.hp_replay.proofs.Replays.{begins, goes_on, smaller, piece_stopped, read_failed, finished, finish_stopped, read_none}
 use Rattle.hp_replay.proofs.replaying.replay.Goals as goal
 
 pub loop-text-init : goal.loop-text-init
-loop-text-init g c = rw c.new-feed.ensures (begins (g.R.Read.remaining c.args.reader.now) (g.W.Write.contents c.args.writer.now))
+loop-text-init g c =
+    (rw c.new-feed.ensures (begins (g.R.Source.remaining c.args.reader.now) (g.W.Sink.contents c.args.writer.now)), refl, refl)
 
 pub loop-text-preserved : goal.loop-text-preserved
-loop-text-preserved g c =
-    goes_on _ _ _ _ _ _ _ _ _ _ _ c.loop-text.invariant c.in_ok-n.ensures.bytes c.in_ok-run_piece.ensures.ok
-    c.in_ok-run_piece.ensures.no_fault c.in_ok-run_piece.ensures.opened
+loop-text-preserved g c = (
+  goes_on _ _ _ _ _ _ _ _ _ _ _ c.loop-text.invariant.0 c.in_ok-n.ensures.bytes c.in_ok-run_piece.ensures.ok
+      c.in_ok-run_piece.ensures.no_fault c.in_ok-run_piece.ensures.opened,
+  c.in_ok-n.ensures.ok ∙ c.loop-text.invariant.1,
+  c.in_ok-run_piece.ensures.writes ∙ c.loop-text.invariant.2,
+)
 
 pub loop-text-smaller : goal.loop-text-smaller
 loop-text-smaller g c =
     let len = length-take-le c.in_ok-n.n c.read_piece.new.piece c.in_ok-n.ensures.within in
     let some : 0 < length (take c.in_ok-n.n c.read_piece.new.piece) = omega arith in
-    smaller _ _ _ _ _ _ _ _ _ _ c.loop-text.invariant c.in_ok-run_piece.ensures.ok c.in_ok-run_piece.ensures.no_fault some
+    smaller _ _ _ _ _ _ _ _ _ _ c.loop-text.invariant.0 c.in_ok-run_piece.ensures.ok c.in_ok-run_piece.ensures.no_fault some
 
 pub returns-in_err-n-clause-err : goal.returns-in_err-n-clause-err
 returns-in_err-n-clause-err g c =
     let p = err_from_is_err_and c.from_residual.result c.from_residual.ensures.1 in
-    rw (p.1, p.2, c.in_err-n.ensures.err.0) (read_failed _ _ _ _ _ _ _ c.loop-text.invariant c.in_err-n.ensures.err.1)
+    rw (p.1, p.2, c.in_err-n.ensures.err.0) (read_failed _ _ _ _ _ _ _ c.loop-text.invariant.0 c.in_err-n.ensures.err.2)
+
+pub returns-in_err-n-clause-writes : goal.returns-in_err-n-clause-writes
+returns-in_err-n-clause-writes g c =
+    let p = err_from_is_err_and c.from_residual.result c.from_residual.ensures.1 in
+    rw (p.1, p.2, c.in_err-n.ensures.err.0) c.loop-text.invariant.2
 
 pub returns-then-n-eq0-clause-ok : goal.returns-then-n-eq0-clause-ok
 returns-then-n-eq0-clause-ok g c =
     let none = read_none _ _ _ _ c.if-n-eq0.true c.in_ok-n.ensures.bytes in
-    finished _ _ _ c.loop-text.feed c.loop-text.core _ _ _ c.finish.result c.loop-text.invariant none
+    finished _ _ _ c.loop-text.feed c.loop-text.core _ _ _ c.finish.result c.loop-text.invariant.0 none
     (c.in_ok-n.ensures.end c.if-n-eq0.true (first_of (omega arith, search rules))) c.finish.ensures.ended c.finish.ensures.wrote
 
 pub returns-then-n-eq0-clause-err : goal.returns-then-n-eq0-clause-err
 returns-then-n-eq0-clause-err g c =
     let none = read_none _ _ _ _ c.if-n-eq0.true c.in_ok-n.ensures.bytes in
-    finish_stopped _ _ _ c.loop-text.feed c.loop-text.core _ _ _ c.finish.result c.loop-text.invariant none
+    finish_stopped _ _ _ c.loop-text.feed c.loop-text.core _ _ _ c.finish.result c.loop-text.invariant.0 none
     (c.in_ok-n.ensures.end c.if-n-eq0.true (first_of (omega arith, search rules))) c.finish.ensures.err
 
 pub returns-in_err-run_piece-clause-err : goal.returns-in_err-run_piece-clause-err
 returns-in_err-run_piece-clause-err g c =
     let p = err_from_is_err_and c.from_residual-in_err-run_piece.result c.from_residual-in_err-run_piece.ensures.1 in
     rw (p.1, p.2) (piece_stopped _ _ _ c.loop-text.feed c.run_piece.new.feed c.loop-text.core c.run_piece.new.core _ _
-    _ _ c.in_err-run_piece.field-0.0 c.loop-text.invariant c.in_ok-n.ensures.bytes c.in_err-run_piece.ensures.err)
+    _ _ c.in_err-run_piece.field-0.0 c.loop-text.invariant.0 c.in_ok-n.ensures.bytes c.in_err-run_piece.ensures.err)
+
+pub returns-then-n-eq0-clause-reads : goal.returns-then-n-eq0-clause-reads
+returns-then-n-eq0-clause-reads g c =
+    finish_no_read c.loop-text.feed c.loop-text.core _ _ c.finish.result _ _ c.finish.ensures.err
+    (c.in_ok-n.ensures.ok ∙ c.loop-text.invariant.1)
+
+pub returns-then-n-eq0-clause-writes : goal.returns-then-n-eq0-clause-writes
+returns-then-n-eq0-clause-writes g c =
+    subst (λ (failed : Bool). TellsWrites c.finish.result failed (g.W.Sink.failed c.finish.new.writer))
+    c.loop-text.invariant.2 c.finish.ensures.writes
+
+pub returns-in_err-run_piece-clause-reads : goal.returns-in_err-run_piece-clause-reads
+returns-in_err-run_piece-clause-reads g c =
+    let p = err_from_is_err_and c.from_residual-in_err-run_piece.result c.from_residual-in_err-run_piece.ensures.1 in
+    rw (p.1, p.2) ((c.in_ok-n.ensures.ok ∙ c.loop-text.invariant.1)
+    ∙ stopped_no_read c.in_err-run_piece.field-0.0 _ _ _ _ _ _ _ _ c.in_err-run_piece.ensures.err)
+
+pub returns-in_err-run_piece-clause-writes : goal.returns-in_err-run_piece-clause-writes
+returns-in_err-run_piece-clause-writes g c =
+    let p = err_from_is_err_and c.from_residual-in_err-run_piece.result c.from_residual-in_err-run_piece.ensures.1 in
+    rw (p.1, p.2) (c.in_err-run_piece.ensures.writes ∙ ap (sink_at c.in_err-run_piece.field-0.0) c.loop-text.invariant.2)

@@ -1,0 +1,71 @@
+-- Where a reading of a trace stops.
+use Rattle.std.proofs.Common.{◌≡◌, ℕ, suc, ◌+◌, ◌<◌, List, [], ◌++◌, length, Option, Some, None, refl, sym, ap, subst, ◌∙◌, arith}
+use Rattle.std.specs.Prelude.{IfSome}
+use Rattle.std.specs.Io.KnownBytes.{Consumes}
+use Rattle.std.proofs.lemmas.List.{append-nil}
+use Rattle.hp_replay.specs.Lines.{opening_held, fault_at, held_after}
+use Rattle.hp_replay.specs.Traces.{HasNoEnd}
+use Rattle.hp_replay.specs.Collecting.{NotRead, NotReadAtMemory, AreLinesOfSome, no_line, each_line}
+use Rattle.hp_replay.proofs.BadLines.{NoLine}
+use Rattle.hp_replay.proofs.Whole.{taken}
+use Rattle.hp_replay.proofs.Fronts.{Front, unbegun, begun, front_of, no_header, bad_rest}
+
+-- no line stands behind those that were read
+pub line_cut : (from to : Option (List ℕ)) (front back : List ℕ) → Consumes from to (front ++ back)
+    → (held_after opening_held front).fault ≡ None
+    → (0 < (held_after opening_held front).lines → 0 < length ((held_after opening_held front).rest ++ back))
+    → IfSome to (λ left. NoLine (held_after opening_held front).lines ((held_after opening_held front).rest ++ (back ++ left)))
+    → NotRead (fault_at (held_after opening_held front).lines) from to
+line_cut from to front back reads ok some bad = by (front_of front back ok)
+  where
+    by : Front front back → NotRead (fault_at (held_after opening_held front).lines) from to
+    by (unbegun none is) =
+        subst (λ (k : ℕ). NotRead (fault_at k) from to) (sym none)
+        (record {
+          bytes = front ++ back;
+          reads = reads;
+          bad = no_header front back (held_after opening_held front).rest (held_after opening_held front).lines to none is bad;
+        })
+    by (begun t count parts) =
+        let add : (held_after opening_held front).lines ≡ suc (length t.trace.events) = omega arith in
+        subst (λ (k : ℕ). NotRead (fault_at k) from to) (sym add)
+        (record {
+          sizes = t.trace.sizes;
+          events = t.trace.events;
+          rest = (held_after opening_held front).rest ++ back;
+          trace = t.trace.trace;
+          reads = subst (λ (x : List ℕ). Consumes from to x) parts reads;
+          number = refl;
+          bad =
+              bad_rest (held_after opening_held front).lines (length t.trace.events)
+              (held_after opening_held front).rest back to count (some (omega arith)) bad;
+        })
+
+-- memory was refused for the last event before some bytes
+pub memory_cut : (from to : Option (List ℕ)) (front back : List ℕ) → Consumes from to (front ++ back)
+    → (held_after opening_held front).fault ≡ None → 1 < (held_after opening_held front).lines → NotReadAtMemory from to
+memory_cut from to front back reads ok event = by (front_of front back ok)
+  where
+    by : Front front back → NotReadAtMemory from to
+    by (unbegun none is) = absurd (omega arith)
+    by (begun t count parts) =
+        record {
+          sizes = t.trace.sizes;
+          events = t.trace.events;
+          rest = (held_after opening_held front).rest ++ back;
+          trace = t.trace.trace;
+          reads = subst (λ (x : List ℕ). Consumes from to x) parts reads;
+          some = omega arith;
+        }
+
+-- bytes without a fault have no bad line
+pub lines_of : (bytes : List ℕ) → (held_after opening_held bytes).fault ≡ None → AreLinesOfSome bytes
+lines_of bytes ok = by (front_of bytes [] ok)
+  where
+    no_end : HasNoEnd (held_after opening_held bytes).rest
+    no_end = (taken bytes ok).held.no_end
+
+    by : Front bytes [] → AreLinesOfSome bytes
+    by (unbegun none is) = no_line (subst (λ (x : List ℕ). HasNoEnd x) is no_end)
+    by (begun t count parts) =
+        each_line t.trace.sizes t.trace.events (held_after opening_held bytes).rest t.trace.trace (sym t.text) no_end
