@@ -143,7 +143,7 @@ module _ (z : Sizes) (p : PartsState) (seats : List Seat) (h : AreFresh z p seat
   unfolding pages_of
   pages_are =
       fun_ext (λ f. fun_ext
-      (λ i. file_is (λ y. get y.cache i ≡ None)
+      (λ i. file_is (λ y. get y.cache.pages i ≡ None)
       (λ y fresh. ap (λ (m : FinMap nat_cmp ℕ). get m i) fresh.cache ∙ get-empty nat_cmp i) (get-empty nat_cmp i) f))
 
   ready_are : ready_by_task p.spaces ≡ (λ _. false)

@@ -117,40 +117,40 @@ sets_same xs f y l e =
     at_same {B = ℕ → Bool} (λ file. is_member file.map.regions) no_file xs f y l
     (ap {B = ℕ → Bool} (λ (rs : List Region). is_member rs) e)
 
-pub pages_at : (xs : List FileState) (f i : ℕ) → pages_of xs f i ≡ get (slice_index_or xs f no_file).cache i
+pub pages_at : (xs : List FileState) (f i : ℕ) → pages_of xs f i ≡ get (slice_index_or xs f no_file).cache.pages i
 unfolding pages_of
 pages_at xs f i = refl
 
-pub pages_are : (xs : List FileState) (f : ℕ) → ◌≡◌ {A = ℕ → Option ℕ} (pages_of xs f) (get (slice_index_or xs f no_file).cache)
+pub pages_are : (xs : List FileState) (f : ℕ) → ◌≡◌ {A = ℕ → Option ℕ} (pages_of xs f) (get (slice_index_or xs f no_file).cache.pages)
 unfolding pages_of
 pages_are xs f = refl
 
-pub pages_same : (xs : List FileState) (f : ℕ) (y : FileState) → f < length xs → y.cache ≡ (slice_index_or xs f no_file).cache
+pub pages_same : (xs : List FileState) (f : ℕ) (y : FileState) → f < length xs → y.cache.pages ≡ (slice_index_or xs f no_file).cache.pages
     → pages_of (slice_set xs f y) ≡ pages_of xs
 unfolding pages_of
 pages_same xs f y l e =
-    at_same {B = ℕ → Option ℕ} (λ file. get file.cache) no_file xs f y l (ap {B = ℕ → Option ℕ} (λ (m : FinMap nat_cmp ℕ). get m) e)
+    at_same {B = ℕ → Option ℕ} (λ file. get file.cache.pages) no_file xs f y l (ap {B = ℕ → Option ℕ} (λ (m : FinMap nat_cmp ℕ). get m) e)
 
 -- one page comes, or goes
 pages_put : (xs : List FileState) (f i : ℕ) (o : Option ℕ) (y : FileState) → f < length xs
-    → ◌≡◌ {A = ℕ → Option ℕ} (λ j. get y.cache j) (put (λ j. get (slice_index_or xs f no_file).cache j) i o)
+    → ◌≡◌ {A = ℕ → Option ℕ} (λ j. get y.cache.pages j) (put (λ j. get (slice_index_or xs f no_file).cache.pages j) i o)
     → pages_of (slice_set xs f y) ≡ put2 (pages_of xs) f i o
 unfolding pages_of
 pages_put xs f i o y l e =
-    at_set {B = ℕ → Option ℕ} (λ file. get file.cache) no_file xs f y l
-    ∙ ap (λ (m : ℕ → Option ℕ). put (λ (k : ℕ). get (slice_index_or xs k no_file).cache) f m) e
+    at_set {B = ℕ → Option ℕ} (λ file. get file.cache.pages) no_file xs f y l
+    ∙ ap (λ (m : ℕ → Option ℕ). put (λ (k : ℕ). get (slice_index_or xs k no_file).cache.pages) f m) e
 
 pub pages_placed : (xs : List FileState) (f i x : ℕ) (y : FileState) → f < length xs
-    → y.cache ≡ insert (slice_index_or xs f no_file).cache i x → pages_of (slice_set xs f y) ≡ put2 (pages_of xs) f i (Some x)
+    → y.cache.pages ≡ insert (slice_index_or xs f no_file).cache.pages i x → pages_of (slice_set xs f y) ≡ put2 (pages_of xs) f i (Some x)
 pages_placed xs f i x y l e =
     pages_put xs f i (Some x) y l
-    (ap {B = ℕ → Option ℕ} (λ (m : FinMap nat_cmp ℕ) (j : ℕ). get m j) e ∙ get_inserted (slice_index_or xs f no_file).cache i x)
+    (ap {B = ℕ → Option ℕ} (λ (m : FinMap nat_cmp ℕ) (j : ℕ). get m j) e ∙ get_inserted (slice_index_or xs f no_file).cache.pages i x)
 
 pub pages_evicted : (xs : List FileState) (f i : ℕ) (y : FileState) → f < length xs
-    → y.cache ≡ remove (slice_index_or xs f no_file).cache i → pages_of (slice_set xs f y) ≡ put2 (pages_of xs) f i None
+    → y.cache.pages ≡ remove (slice_index_or xs f no_file).cache.pages i → pages_of (slice_set xs f y) ≡ put2 (pages_of xs) f i None
 pages_evicted xs f i y l e =
     pages_put xs f i None y l
-    (ap {B = ℕ → Option ℕ} (λ (m : FinMap nat_cmp ℕ) (j : ℕ). get m j) e ∙ get_removed (slice_index_or xs f no_file).cache i)
+    (ap {B = ℕ → Option ℕ} (λ (m : FinMap nat_cmp ℕ) (j : ℕ). get m j) e ∙ get_removed (slice_index_or xs f no_file).cache.pages i)
 
 -- one index leaves a file's set
 pub sets_without : (xs : List FileState) (f i : ℕ) (y : FileState) → f < length xs

@@ -36,5 +36,5 @@ returns-clause-count c =
     subst (λ (z : CoreState). c.args.file < (config_of z).files) (sym c.self.view_is) c.requires in
     let read = file_read s _ _ _ c.self.invariant c.number.ensures in_range c.index.ensures in
     c.count.ensures.count
-    ∙ (ap (λ (y : FileState). count_below (λ i. is_some (get y.cache i)) LIMIT) read
+    ∙ (ap (λ (y : FileState). count_below (λ i. is_some (get y.cache.pages i)) LIMIT) read
     ∙ ap (λ (z : CoreState). pages_of z c.args.file) c.self.view_is)
