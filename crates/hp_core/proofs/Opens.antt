@@ -190,9 +190,10 @@ module _ (z : Sizes) (p : PartsState) (seats : List Seat) (h : AreFresh z p seat
     calls = calls_are i;
   }
 
-  pub are_sound : IsWithinLimits z.frames z.files z.slots z.tasks → IsSound (record { sizes = z; parts = p; seats = seats })
+  pub are_sound : (room : ℕ) → IsWithinLimits z.frames z.files z.slots z.tasks
+      → IsSound (record { sizes = z; parts = p; seats = seats; room = room })
   unfolding IsSound
-  are_sound within = (
+  are_sound room within = (
     ([], is_opening ∙ λ i. rows.opening (sym geometry_is i) (sym frames_long i)),
     record {
       locks = ap (λ (ss : List (Option ℕ)). length ss) h.all_locks ∙ (length-replicate z.files None ∙ sym h.files_long);
@@ -206,7 +207,7 @@ module _ (z : Sizes) (p : PartsState) (seats : List Seat) (h : AreFresh z p seat
   )
 
 -- so it opens the machine
-pub opens_as : (config : Config) (p : PartsState) (seats : List Seat) → AreFresh (sizes config) p seats
-    → IsOpening config (record { sizes = sizes config; parts = p; seats = seats })
+pub opens_as : (config : Config) (p : PartsState) (seats : List Seat) (room : ℕ) → AreFresh (sizes config) p seats
+    → IsOpening config (record { sizes = sizes config; parts = p; seats = seats; room = room })
 unfolding IsOpening
-opens_as config p seats h = (refl, is_opening (sizes config) p seats h)
+opens_as config p seats room h = (refl, is_opening (sizes config) p seats h)

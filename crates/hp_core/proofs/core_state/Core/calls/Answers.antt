@@ -1,4 +1,4 @@
-use Rattle.std.proofs.Common.{◌∙◌, ap, arith, List}
+use Rattle.std.proofs.Common.{◌∙◌, ap, arith, List, vec_capacity}
 use Rattle.std.specs.Prelude.{count_by, is_some}
 use Rattle.hp_base.specs.Text.{sizes}
 use Rattle.hp_fault.specs.State.{state_of}
@@ -15,6 +15,7 @@ overflow_cast-result c =
       sizes = sizes c.self.inside.config;
       parts = state_of c.self.inside.parts;
       seats = c.self.inside.seats.items;
+      room = vec_capacity c.self.inside.seats;
     } in
     let few = few_seats s c.self.invariant in
     let most = count_by-le-length (λ (seat : Seat). is_some seat.call) c.deref.result.now in

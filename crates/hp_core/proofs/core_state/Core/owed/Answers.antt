@@ -1,4 +1,4 @@
-use Rattle.std.proofs.Common.{rules, arith, ◌∙◌, ap, length}
+use Rattle.std.proofs.Common.{rules, arith, ◌∙◌, ap, length, vec_capacity}
 use Rattle.hp_base.specs.Text.{sizes}
 use Rattle.hp_fault.specs.State.{state_of}
 use Rattle.hp_core.specs.State.{CoreState}
@@ -13,6 +13,7 @@ sums-less-requires c =
       sizes = sizes c.self.inside.config;
       parts = state_of c.self.inside.parts;
       seats = c.self.inside.seats.items;
+      room = vec_capacity c.self.inside.seats;
     } in
     let few = few_seats s c.self.invariant in
     let same = ap length c.deref.ensures.value in

@@ -1,4 +1,4 @@
-use Rattle.std.proofs.Common.{arith, ◌≤◌, ◌∙◌, ap, sym, subst}
+use Rattle.std.proofs.Common.{arith, ◌≤◌, ◌∙◌, ap, sym, subst, vec_capacity}
 use Rattle.std.specs.Prelude.{Option, Some}
 use Rattle.std.specs.Option.{option_map}
 use Rattle.hp_base.specs.Text.{sizes}
@@ -17,6 +17,7 @@ index-requires c =
       sizes = sizes c.self.inside.config;
       parts = state_of c.self.inside.parts;
       seats = c.self.inside.seats.items;
+      room = vec_capacity c.self.inside.seats;
     } in
     let low : 1 ≤ c.args.task = c.requires.first in
     let high : c.args.task ≤ (config_of s).tasks =
@@ -31,6 +32,7 @@ returns-in-Some c =
       sizes = sizes c.self.inside.config;
       parts = state_of c.self.inside.parts;
       seats = c.self.inside.seats.items;
+      room = vec_capacity c.self.inside.seats;
     } in
     let low : 1 ≤ c.args.task = c.requires.first in
     let high : c.args.task ≤ (config_of s).tasks =
@@ -47,6 +49,7 @@ returns-in-None c =
       sizes = sizes c.self.inside.config;
       parts = state_of c.self.inside.parts;
       seats = c.self.inside.seats.items;
+      room = vec_capacity c.self.inside.seats;
     } in
     let low : 1 ≤ c.args.task = c.requires.first in
     let high : c.args.task ≤ (config_of s).tasks =

@@ -1,4 +1,4 @@
-use Rattle.std.proofs.Common.{arith, ◌<◌, ◌∙◌, ap, sym, subst}
+use Rattle.std.proofs.Common.{arith, ◌<◌, ◌∙◌, ap, sym, subst, vec_capacity}
 use Rattle.hp_base.specs.Text.{sizes}
 use Rattle.hp_base.specs.Indices.{count_below}
 use Rattle.hp_base.specs.declared.limits.TheConstants.{LIMIT}
@@ -17,6 +17,7 @@ index-requires c =
       sizes = sizes c.self.inside.config;
       parts = state_of c.self.inside.parts;
       seats = c.self.inside.seats.items;
+      room = vec_capacity c.self.inside.seats;
     } in
     let in_range : c.args.file < (config_of s).files =
     subst (λ (z : CoreState). c.args.file < (config_of z).files) (sym c.self.view_is) c.requires in
@@ -30,6 +31,7 @@ returns-clause-count c =
       sizes = sizes c.self.inside.config;
       parts = state_of c.self.inside.parts;
       seats = c.self.inside.seats.items;
+      room = vec_capacity c.self.inside.seats;
     } in
     let in_range : c.args.file < (config_of s).files =
     subst (λ (z : CoreState). c.args.file < (config_of z).files) (sym c.self.view_is) c.requires in

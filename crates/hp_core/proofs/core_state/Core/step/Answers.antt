@@ -1,12 +1,15 @@
-use Rattle.std.proofs.Common.{ap}
+use Rattle.std.proofs.Common.{◌≡◌, ap, vec_capacity}
+use Rattle.std.specs.Prelude.{IfOk}
 use Rattle.hp_base.specs.Text.{sizes}
 use Rattle.hp_fault.specs.State.{state_of}
 use Rattle.hp_core.specs.State.{CoreState}
 use Rattle.hp_core.specs.Readers.{config_of}
+use Rattle.hp_core.specs.Runs.{Row, IsIdle, Headline}
+use Rattle.hp_core.specs.Sound.{IsSound}
 use Rattle.hp_core.proofs.Headlines.{headline_of}
 use Rattle.hp_core.proofs.Meets.{fits_from_sound}
 use Rattle.hp_core.proofs.Blocked.{idle_result}
-use Rattle.hp_core.proofs.Steps.{sound_result, row_result}
+use Rattle.hp_core.proofs.Steps.{with_room, sound_result, row_result}
 use Rattle.hp_core.proofs.core_state.Core.step.Goals as goal
 
 pub step_event-requires : goal.step_event-requires
@@ -15,6 +18,7 @@ step_event-requires c =
       sizes = sizes c.self.inside.config;
       parts = state_of c.self.inside.parts;
       seats = c.self.inside.seats.items;
+      room = vec_capacity c.self.inside.seats;
     }) c.args.event c.self.invariant
 
 pub invariant_of-self : goal.invariant_of-self
@@ -23,10 +27,12 @@ invariant_of-self c =
       sizes = sizes c.self.inside.config;
       parts = state_of c.self.inside.parts;
       seats = c.self.inside.seats.items;
+      room = vec_capacity c.self.inside.seats;
     } in
-    sound_result s c.args.event c.step_event.result _ _ c.self.invariant
+    with_room IsSound s _ _ _ c.step_event.ensures.capacity
+    (sound_result s c.args.event c.step_event.result _ _ c.self.invariant
     (fits_from_sound s c.args.event c.self.invariant) c.step_event.ensures.row c.step_event.ensures.sizes
-    c.step_event.ensures.seats c.step_event.ensures.err
+    c.step_event.ensures.seats c.step_event.ensures.err)
 
 pub returns-clause-row : goal.returns-clause-row
 returns-clause-row c =
@@ -34,9 +40,11 @@ returns-clause-row c =
       sizes = sizes c.self.inside.config;
       parts = state_of c.self.inside.parts;
       seats = c.self.inside.seats.items;
+      room = vec_capacity c.self.inside.seats;
     } in
     rw (← c.self.view_is)
-    (row_result s c.args.event c.step_event.result _ _ (fits_from_sound s c.args.event c.self.invariant) c.step_event.ensures.row)
+    (with_room (λ n. IfOk c.step_event.result (λ told. Row s c.args.event told n)) s _ _ _ c.step_event.ensures.capacity
+    (row_result s c.args.event c.step_event.result _ _ (fits_from_sound s c.args.event c.self.invariant) c.step_event.ensures.row))
 
 pub returns-clause-headline : goal.returns-clause-headline
 returns-clause-headline c =
@@ -44,10 +52,12 @@ returns-clause-headline c =
       sizes = sizes c.self.inside.config;
       parts = state_of c.self.inside.parts;
       seats = c.self.inside.seats.items;
+      room = vec_capacity c.self.inside.seats;
     } in
-    headline_of _ (sound_result s c.args.event c.step_event.result _ _ c.self.invariant
+    with_room Headline s _ _ _ c.step_event.ensures.capacity
+    (headline_of _ (sound_result s c.args.event c.step_event.result _ _ c.self.invariant
     (fits_from_sound s c.args.event c.self.invariant) c.step_event.ensures.row c.step_event.ensures.sizes
-    c.step_event.ensures.seats c.step_event.ensures.err)
+    c.step_event.ensures.seats c.step_event.ensures.err))
 
 pub returns-clause-config : goal.returns-clause-config
 unfolding config_of
@@ -59,7 +69,9 @@ returns-clause-idle c =
       sizes = sizes c.self.inside.config;
       parts = state_of c.self.inside.parts;
       seats = c.self.inside.seats.items;
+      room = vec_capacity c.self.inside.seats;
     } in
     rw (← c.self.view_is)
+    (with_room (λ n. IfOk c.step_event.result (λ told. IsIdle told → n ≡ s)) s _ _ _ c.step_event.ensures.capacity
     (idle_result s c.args.event c.step_event.result _ _ c.self.invariant
-    (fits_from_sound s c.args.event c.self.invariant) c.step_event.ensures.row c.step_event.ensures.blocked)
+    (fits_from_sound s c.args.event c.self.invariant) c.step_event.ensures.row c.step_event.ensures.blocked))

@@ -1,4 +1,4 @@
-use Rattle.std.proofs.Common.{arith, ◌≤◌, ◌∙◌, ap, sym, subst}
+use Rattle.std.proofs.Common.{arith, ◌≤◌, ◌∙◌, ap, sym, subst, vec_capacity}
 use Rattle.std.specs.FinMap as map
 use Rattle.hp_base.specs.Text.{sizes}
 use Rattle.hp_table.specs.Table.{Table}
@@ -15,6 +15,7 @@ index-requires c =
       sizes = sizes c.self.inside.config;
       parts = state_of c.self.inside.parts;
       seats = c.self.inside.seats.items;
+      room = vec_capacity c.self.inside.seats;
     } in
     let low : 1 ≤ c.args.task = c.requires.first in
     let high : c.args.task ≤ (config_of s).tasks =
@@ -29,6 +30,7 @@ returns c =
       sizes = sizes c.self.inside.config;
       parts = state_of c.self.inside.parts;
       seats = c.self.inside.seats.items;
+      room = vec_capacity c.self.inside.seats;
     } in
     let low : 1 ≤ c.args.task = c.requires.first in
     let high : c.args.task ≤ (config_of s).tasks =

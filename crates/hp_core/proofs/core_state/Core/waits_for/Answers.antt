@@ -1,4 +1,4 @@
-use Rattle.std.proofs.Common.{◌≤◌, ◌∙◌, ap, arith, subst, sym}
+use Rattle.std.proofs.Common.{◌≤◌, ◌∙◌, ap, arith, subst, sym, vec_capacity}
 use Rattle.hp_base.specs.Text.{sizes}
 use Rattle.hp_fault.specs.State.{state_of}
 use Rattle.hp_core.specs.declared.seat.Seat.{Seat}
@@ -16,6 +16,7 @@ index-requires c =
       sizes = sizes c.self.inside.config;
       parts = state_of c.self.inside.parts;
       seats = c.self.inside.seats.items;
+      room = vec_capacity c.self.inside.seats;
     } in
     let high : c.args.task ≤ (config_of s).tasks =
     subst (λ (z : CoreState). c.args.task ≤ (config_of z).tasks) (sym c.self.view_is) c.requires.last in
@@ -28,6 +29,7 @@ seat_blocker-requires c =
       sizes = sizes c.self.inside.config;
       parts = state_of c.self.inside.parts;
       seats = c.self.inside.seats.items;
+      room = vec_capacity c.self.inside.seats;
     } in
     locks_fit s c.self.invariant
 
@@ -37,6 +39,7 @@ returns c =
       sizes = sizes c.self.inside.config;
       parts = state_of c.self.inside.parts;
       seats = c.self.inside.seats.items;
+      room = vec_capacity c.self.inside.seats;
     } in
     let high : c.args.task ≤ (config_of s).tasks =
     subst (λ (z : CoreState). c.args.task ≤ (config_of z).tasks) (sym c.self.view_is) c.requires.last in
