@@ -10,6 +10,7 @@ use Rattle.std.specs.FinMap.Entries.{where_key, is_sorted-put, is_sorted-where_k
 use Rattle.std.proofs.lemmas.Bool.Decides.{nat_tests}
 use Rattle.hp_base.specs.Indices.{count_below}
 use Rattle.hp_base.proofs.Counting.{count_below-ext, count_below_le}
+use Rattle.hp_cache.specs.Cached.{Cached}
 use Rattle.hp_cache.proofs.Counts.{length-count}
 use Rattle.hp_cache.proofs.Places.{place, is_other, put-insert, where_key-remove}
 
@@ -82,3 +83,8 @@ module _ {X : Type 0} where
       → is_some (map.get m k) ≡ true → at ≡ place k es → edited ≡ remove es at → IsSeenAs edited (map.remove m k)
   IsSeenAs-remove es edited m k at seen present placed is =
       rw (is, placed, ← where_key-remove k es seen.0 (ap is_some (sym (get-find es m k seen)) ∙ present)) (where_key_is es m k seen)
+
+-- the pages that a cache keeps are seen as its map
+pub as_seen : (es : List (ℕ × ℕ)) {room : ℕ} {c : Cached} → map.is_sorted nat_cmp es ≡ true
+    → ◌≡◌ {A = Cached} (record { pages = map.from_sorted es; room = room }) c → IsSeenAs es c.pages
+as_seen es sorted view = (sorted, ap (λ (c : Cached). c.pages) view)

@@ -18,17 +18,17 @@ pub struct PageCache {
 }
 
 impl Model for PageCache {
-    ghost use Rattle.std.specs.Prelude.{ℕ, ◌<◌, IsTrue, All};
+    ghost use Rattle.std.specs.Prelude.{◌<◌, IsTrue, All, vec_capacity};
     ghost use Rattle.std.specs.Ordering.{nat_cmp};
     ghost use Rattle.std.specs.FinMap as map;
-    ghost use Rattle.std.specs.Coded.{coded_ℕ};
     ghost use Rattle.hp_base.specs.declared.limits.TheConstants.{LIMIT};
+    ghost use Rattle.hp_cache.specs.Cached.{Cached, cached_code};
 
-    ghost Value = { map.FinMap nat_cmp ℕ };
+    ghost Value = { Cached };
 
-    ghost coded = { map.code coded_ℕ coded_ℕ };
+    ghost coded = { cached_code };
 
-    ghost view = { λ c. map.from_sorted c.pages.items };
+    ghost view = { λ c. record { pages = map.from_sorted c.pages.items; room = vec_capacity c.pages } };
 
     ghost invariant = { λ c. record {
       in_order : IsTrue (map.is_sorted nat_cmp c.pages.items);
@@ -47,7 +47,8 @@ fn place_of(pages: &[(Index, Frame)], index: Index) -> usize
 impl PageCache {
     /// The cache of a file with no page.
     pub fn new(alloc: Global) -> Self
-        ensures { result ≡ map.empty }
+        ensures pages { result.pages ≡ map.empty }
+        ensures room { result.room ≡ 0 }
     {
         PageCache {
             pages: Vec::new(alloc),
@@ -57,7 +58,7 @@ impl PageCache {
     /// The frame of an index, where it has a page (Linux: `find_lock_page`). It is found by binary
     /// search, which looks at O(log n) of n pages.
     pub fn get(&self, index: Index) -> Option<Frame>
-        ensures { result ≡ map.get self.now index }
+        ensures { result ≡ map.get self.now.pages index }
     {
         let &(found, frame) = self.pages.get(place_of(&self.pages, index))?;
         (found == index).then_some(frame)
@@ -66,22 +67,24 @@ impl PageCache {
     /// Puts a page into the cache (Linux: `hugetlb_add_to_page_cache`). Its place is found as `get`
     /// finds it; the pages above are moved.
     pub fn place(&mut self, index: Index, frame: Frame) -> Result<(), AllocError>
-        requires vacant { map.get self.old index ≡ None }
+        requires vacant { map.get self.old.pages index ≡ None }
         requires in_file { index < LIMIT }
-        ensures ok { OnOk result (self.new ≡ map.insert self.old index frame) }
+        ensures ok { OnOk result (self.new.pages ≡ map.insert self.old.pages index frame) }
         ensures err { OnErr result (self.new ≡ self.old) }
     {
+        self.pages.reserve(1)?;
         let at = place_of(&self.pages, index);
-        self.pages.insert(at, (index, frame))?;
+        self.pages.insert(at, (index, frame)).unwrap();
         Ok(())
     }
 
     /// Takes a page out of the cache and tells its frame (Linux: `hugetlb_delete_from_page_cache`).
     /// It is found as `get` finds it; the pages above are moved.
     pub fn evict(&mut self, index: Index) -> Frame
-        requires present { IsSome (map.get self.old index) }
-        ensures frame { map.get self.old index ≡ Some result }
-        ensures pages { self.new ≡ map.remove self.old index }
+        requires present { IsSome (map.get self.old.pages index) }
+        ensures frame { map.get self.old.pages index ≡ Some result }
+        ensures pages { self.new.pages ≡ map.remove self.old.pages index }
+        ensures room { self.new.room ≡ self.old.room }
     {
         let at = place_of(&self.pages, index);
         self.pages.remove(at).1
@@ -90,7 +93,7 @@ impl PageCache {
     /// One more than the highest index that has a page, 0 where none has. It is read from the last
     /// page.
     pub fn top(&self) -> u32
-        ensures end { IsPagesEnd (map.get self.now) result }
+        ensures end { IsPagesEnd (map.get self.now.pages) result }
         ensures in_limit { result ≤ LIMIT }
     {
         match self.pages.last() {
@@ -101,7 +104,7 @@ impl PageCache {
 
     /// A copy of the pages, in order of their indices.
     pub fn pages(&self, alloc: Global) -> Result<Vec<(Index, Frame)>, AllocError>
-        ensures pages { IfOk result (λ pages. pages.items ≡ map.entries self.now) }
+        ensures pages { IfOk result (λ pages. pages.items ≡ map.entries self.now.pages) }
         ensures in_file { IfOk result (λ pages. All (λ page. page.0 < LIMIT) pages.items) }
     {
         Vec::from_slice(alloc, &self.pages)
@@ -109,7 +112,7 @@ impl PageCache {
 
     /// How many indices have a page (Linux: `nrpages`).
     pub fn count(&self) -> u32
-        ensures count { result ≡ count_below (λ i. is_some (map.get self.now i)) LIMIT }
+        ensures count { result ≡ count_below (λ i. is_some (map.get self.now.pages i)) LIMIT }
         ensures in_limit { result ≤ LIMIT }
     {
         self.pages.len() as u32

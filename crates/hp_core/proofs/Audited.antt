@@ -77,7 +77,7 @@ file_there s f i x has = elim (nat_lt f (length s.parts.files)) as (λ b. nat_lt
   | false ↦ λ e.
       let none : get_or s.parts.files f no_file ≡ no_file =
       get_or-eq_default s.parts.files no_file (ltb-false f (length s.parts.files) e) in
-      let bare : (as_state s).pages f i ≡ None = ap (λ file. finite.get file.cache i) none ∙ finite.get-empty nat_cmp i in
+      let bare : (as_state s).pages f i ≡ None = ap (λ file. finite.get file.cache.pages i) none ∙ finite.get-empty nat_cmp i in
       let d : ◌≡◌ {A = Option ℕ} None (Some x) = sym bare ∙ has in absurd (cc)
 ] refl
 

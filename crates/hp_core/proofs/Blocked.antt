@@ -172,7 +172,7 @@ blocked_same s (Step t grant) u after new h fits row stays =
 
 -- a core with the parts and the seats that it had is that core
 same_fields : (s : CoreState) (after : PartsState) (new : List Seat) → (after ≡ s.parts) × (new ≡ s.seats) → with_fields s after new ≡ s
-same_fields s after new e = λ i. record { sizes = s.sizes; parts = e.0 i; seats = e.1 i }
+same_fields s after new e = λ i. record { sizes = s.sizes; parts = e.0 i; seats = e.1 i; room = s.room }
 
 -- what comes to nothing leaves the core as it was
 pub idle_result : (s : CoreState) (event : Event) (result : Result Outcome AllocError) (after : PartsState) (new : List Seat)

@@ -74,7 +74,7 @@ file_picture_of s f p h =
       apart =
           subst (λ (rs : List (ℕ × ℕ)). AllPairs (λ region other. region.1 < other.0) rs) (sym h.regions)
           (apart_pairs 0 file.map.regions h.apart);
-      pages = λ i. ap (λ (es : List (ℕ × ℕ)). finite.find nat_cmp i es) h.pages ∙ sym (finite.get-entries file.cache i);
-      in_order = ap (λ (es : List (ℕ × ℕ)). finite.is_sorted nat_cmp es) h.pages ∙ to_test _ (finite.entries_sorted file.cache);
+      pages = λ i. ap (λ (es : List (ℕ × ℕ)). finite.find nat_cmp i es) h.pages ∙ sym (finite.get-entries file.cache.pages i);
+      in_order = ap (λ (es : List (ℕ × ℕ)). finite.is_sorted nat_cmp es) h.pages ∙ to_test _ (finite.entries_sorted file.cache.pages);
       in_file = h.in_file;
     }

@@ -146,7 +146,7 @@ module _ (z : Sizes) (p : PartsState) (seats : List Seat) (h : AreFresh z p seat
   unfolding pages_of
   pages_are =
       fun_ext (λ f. fun_ext
-      (λ i. file_is (λ y. get y.cache i ≡ None)
+      (λ i. file_is (λ y. get y.cache.pages i ≡ None)
       (λ y fresh. ap (λ (m : FinMap nat_cmp ℕ). get m i) fresh.cache ∙ get-empty nat_cmp i) (get-empty nat_cmp i) f))
 
   ready_are : ready_by_task p.spaces ≡ (λ _. false)
@@ -193,9 +193,10 @@ module _ (z : Sizes) (p : PartsState) (seats : List Seat) (h : AreFresh z p seat
     calls = calls_are i;
   }
 
-  pub are_sound : IsWithinLimits z.frames z.files z.slots z.tasks → IsSound (record { sizes = z; parts = p; seats = seats })
+  pub are_sound : (room : ℕ) → IsWithinLimits z.frames z.files z.slots z.tasks
+      → IsSound (record { sizes = z; parts = p; seats = seats; room = room })
   unfolding IsSound
-  are_sound within = (
+  are_sound room within = (
     ([], is_opening ∙ λ i. rows.opening (sym geometry_is i) (sym frames_long i)),
     record {
       locks = ap (λ (ss : List (Option ℕ)). length ss) h.all_locks ∙ (length-replicate z.files None ∙ sym h.files_long);
@@ -209,7 +210,7 @@ module _ (z : Sizes) (p : PartsState) (seats : List Seat) (h : AreFresh z p seat
   )
 
 -- so it opens the machine
-pub opens_as : (config : Config) (p : PartsState) (seats : List Seat) → AreFresh (sizes config) p seats
-    → IsOpening config (record { sizes = sizes config; parts = p; seats = seats })
+pub opens_as : (config : Config) (p : PartsState) (seats : List Seat) (room : ℕ) → AreFresh (sizes config) p seats
+    → IsOpening config (record { sizes = sizes config; parts = p; seats = seats; room = room })
 unfolding IsOpening
-opens_as config p seats h = (refl, is_opening (sizes config) p seats h)
+opens_as config p seats room h = (refl, is_opening (sizes config) p seats h)

@@ -76,7 +76,13 @@ Stepped s e told after new = EventSeats s.parts s.seats e told after new × Size
 
 -- the core with these parts and seats
 abbrev pub with_fields : CoreState → PartsState → List Seat → CoreState
-with_fields s after new = record { sizes = s.sizes; parts = after; seats = new }
+with_fields s after new = record { sizes = s.sizes; parts = after; seats = new; room = s.room }
+
+-- what holds of a core whose seats have the room that they had, holds of it where that room is said anew
+pub with_room : (P : CoreState → Type 0) (s : CoreState) (after : PartsState) (new : List Seat) (room : ℕ) → room ≡ s.room
+    → P (with_fields s after new) → P (record { sizes = s.sizes; parts = after; seats = new; room = room })
+with_room P s after new room same h =
+    subst (λ (n : ℕ). P (record { sizes = s.sizes; parts = after; seats = new; room = n })) (sym same) h
 
 -- so an event keeps the core sound
 sound_after : (s : CoreState) (e : Event) (told : Outcome) (after : PartsState) (new : List Seat) → IsSound s

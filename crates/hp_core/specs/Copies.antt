@@ -17,7 +17,7 @@ pub record IsCopy (file : FileState) (taken : Bool) (p : FilePicture) : Type 0 w
   pub locked : p.locked ≡ taken
   pub regions : p.regions.items ≡ map (λ r. (r.from, r.to)) file.map.regions
   pub apart : IsApartFrom 0 file.map.regions
-  pub pages : p.pages.items ≡ entries file.cache
+  pub pages : p.pages.items ≡ entries file.cache.pages
   pub in_file : All (λ page. page.0 < LIMIT) p.pages.items
 
 -- what an entry of a task's table translates: a page of a file

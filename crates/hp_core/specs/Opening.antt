@@ -11,7 +11,7 @@ pub record IsFresh (file : FileState) : Type 0 where
   pub regions : file.map.regions ≡ []
   pub pending : file.map.pending ≡ 0
   pub spare : file.map.spare ≡ 0
-  pub cache : file.cache ≡ empty
+  pub cache : file.cache.pages ≡ empty
 
 -- a task that is alive and has no call
 pub record IsVacant (seat : Seat) : Type 0 where

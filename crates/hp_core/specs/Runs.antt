@@ -12,6 +12,7 @@ use Rattle.hp_machine.specs.Wants.{Wants}
 use Rattle.hp_machine.specs.declared.outcome.Outcome.{Outcome}
 use Rattle.hp_machine.specs.declared.outcome.Outcome.TheVariants as outcome
 use Rattle.hp_base.specs.declared.limits.TheConstants.{LIMIT, VPNS}
+use Rattle.hp_fault.specs.Room.{RoomStays}
 use Rattle.hp_fault.specs.State.{PartsState}
 use Rattle.hp_fault.specs.View.{pool_of}
 use Rattle.hp_core.specs.declared.seat.Seat.{Seat}
@@ -59,3 +60,7 @@ abbrev pub WantsGrowth : PartsState → List Seat → Event → Type 0
 WantsGrowth p seats (Begin task op) = ⊥
 WantsGrowth p seats (Step task grant) = (grant ≡ true) × StepWants p seats task
 WantsGrowth p seats (Kill task) = ⊥
+
+-- no memory was taken, and none given back: each part and the list of seats have as much room as before
+abbrev pub TakesNoMemory : CoreState → CoreState → Type 0
+TakesNoMemory old new = RoomStays old.parts new.parts × (new.room ≡ old.room)

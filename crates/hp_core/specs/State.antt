@@ -9,11 +9,12 @@ use Rattle.hp_fault.specs.State.{PartsState}
 use Rattle.hp_fault.specs.View.{pool_of}
 use Rattle.hp_core.specs.declared.seat.Seat.{Seat}
 
--- the numbers of its config, what its parts keep, and the seat of each task
+-- the numbers of its config, what its parts keep, the seat of each task, and for how many seats it has taken memory
 pub record CoreState : Type 0 where
   pub sizes : Sizes
   pub parts : PartsState
   pub seats : List Seat
+  pub room : ℕ
 
 -- stands for a task that isn't there: it is as good as dead
 abbrev pub no_seat : Seat

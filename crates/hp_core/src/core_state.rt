@@ -2,7 +2,7 @@
 ghost use Rattle.std.specs.Prelude.{◌≡◌, IfOk, OnErr, All};
 ghost use Rattle.hp_base.specs.Text.{sizes};
 ghost use Rattle.hp_core.specs.State.{CoreState};
-ghost use Rattle.hp_core.specs.Runs.{Row, Run, IsOpening, IsOfConfig, IsIdle, Headline, WantsGrowth};
+ghost use Rattle.hp_core.specs.Runs.{Row, Run, IsOpening, IsOfConfig, IsIdle, Headline, WantsGrowth, TakesNoMemory};
 ghost use Rattle.hp_core.specs.Readers.{config_of};
 
 use crate::events::step_event;
@@ -25,6 +25,7 @@ pub struct Core {
 }
 
 impl Model for Core {
+    ghost use Rattle.std.specs.Prelude.{vec_capacity};
     ghost use Rattle.std.specs.Coded.{codes, coded_ℕ};
     ghost use Rattle.std.specs.FinMap as map;
     ghost use Rattle.std.specs.Ordering.{nat_cmp};
@@ -37,9 +38,19 @@ impl Model for Core {
 
     ghost coded = { Prim.hlevel (codes, map.code {R = nat_cmp} coded_ℕ coded_ℕ) };
 
-    ghost view = { λ c. record { sizes = sizes c.config; parts = state_of c.parts; seats = c.seats.items } };
+    ghost view = { λ c. record {
+      sizes = sizes c.config;
+      parts = state_of c.parts;
+      seats = c.seats.items;
+      room = vec_capacity c.seats;
+    } };
 
-    ghost invariant = { λ c. IsSound (record { sizes = sizes c.config; parts = state_of c.parts; seats = c.seats.items }) };
+    ghost invariant = { λ c. IsSound (record {
+      sizes = sizes c.config;
+      parts = state_of c.parts;
+      seats = c.seats.items;
+      room = vec_capacity c.seats;
+    }) };
 }
 
 impl Core {
@@ -70,6 +81,9 @@ impl Core {
         ensures err { OnErr result (self.new ≡ self.old) }
         ensures growth { OnErr result (WantsGrowth self.old.parts self.old.seats event) }
         ensures idle { IfOk result (λ told. IsIdle told → self.new ≡ self.old) }
+
+        // A begin, a kill, a step that isn't granted and one whose row wants no growth take no memory.
+        ensures room { ¬ WantsGrowth self.old.parts self.old.seats event → TakesNoMemory self.old self.new }
         ensures headline { Headline self.new }
         ensures config { config_of self.new ≡ config_of self.old }
     {

@@ -1,9 +1,10 @@
 //! What an event does to the parts and the seats.
-ghost use Rattle.std.specs.Prelude.{◌≡◌, true, IfOk, IfSome, OnErr, length};
+ghost use Rattle.std.specs.Prelude.{◌≡◌, true, IfOk, IfSome, OnErr, length, vec_capacity};
 ghost use Rattle.hp_machine.specs.State as machine;
 ghost use Rattle.hp_machine.specs.Events as rows;
 ghost use Rattle.hp_machine.specs.Wants.{Wants};
 ghost use Rattle.hp_fault.specs.State.{state_of, SizesStay};
+ghost use Rattle.hp_fault.specs.Room.{RoomStays, RoomStaysUnless};
 ghost use Rattle.hp_fault.specs.View.{view};
 ghost use Rattle.hp_core.specs.Fits.{EventFits, StepFits};
 ghost use Rattle.hp_core.specs.Seats.{BeginSeats, StepSeats, KillSeats, EventSeats, BlockedStays};
@@ -90,6 +91,7 @@ fn begin(seats: &mut Vec<Seat>, task: Task, op: Op) -> Outcome
     ensures row { BeginSeats seats.old.items task op result seats.new.items }
     ensures told { IfToldBlocked result ⊥ }
     ensures seats { length seats.new.items ≡ length seats.old.items }
+    ensures capacity { vec_capacity seats.new ≡ vec_capacity seats.old }
 {
     let number = task.number() as usize;
     if number == 0 || number > seats.len() {
@@ -115,6 +117,7 @@ fn kill(seats: &mut Vec<Seat>, task: Task) -> Outcome
     ensures row { KillSeats seats.old.items task result seats.new.items }
     ensures told { IfToldBlocked result ⊥ }
     ensures seats { length seats.new.items ≡ length seats.old.items }
+    ensures capacity { vec_capacity seats.new ≡ vec_capacity seats.old }
 {
     let number = task.number() as usize;
     if number == 0 || number > seats.len() {
@@ -145,7 +148,9 @@ fn step_task(
         (λ told. IfToldBlocked told
         (BlockedStays (state_of parts.old) seats.old.items (Step task grant) (state_of parts.new) seats.new.items)) }
     ensures sizes { SizesStay (state_of parts.old) (state_of parts.new) }
+    ensures room { RoomStaysUnless grant (StepWants (state_of parts.old) seats.old.items task) (state_of parts.old) (state_of parts.new) }
     ensures seats { length seats.new.items ≡ length seats.old.items }
+    ensures capacity { vec_capacity seats.new ≡ vec_capacity seats.old }
     ensures err { OnErr result ((state_of parts.new ≡ state_of parts.old) × (seats.new.items ≡ seats.old.items)) }
     ensures growth { OnErr result (grant ≡ true) }
     ensures wanted { OnErr result (StepWants (state_of parts.old) seats.old.items task) }
@@ -177,7 +182,9 @@ pub fn step_event(
     ensures blocked { IfOk result
         (λ told. IfToldBlocked told (BlockedStays (state_of parts.old) seats.old.items event (state_of parts.new) seats.new.items)) }
     ensures sizes { SizesStay (state_of parts.old) (state_of parts.new) }
+    ensures room { ¬ WantsGrowth (state_of parts.old) seats.old.items event → RoomStays (state_of parts.old) (state_of parts.new) }
     ensures seats { length seats.new.items ≡ length seats.old.items }
+    ensures capacity { vec_capacity seats.new ≡ vec_capacity seats.old }
     ensures err { OnErr result ((state_of parts.new ≡ state_of parts.old) × (seats.new.items ≡ seats.old.items)) }
     ensures growth { OnErr result (WantsGrowth (state_of parts.old) seats.old.items event) }
 {

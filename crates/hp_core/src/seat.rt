@@ -6,6 +6,7 @@ ghost use Rattle.hp_machine.specs.Events.{CallRow};
 ghost use Rattle.hp_machine.specs.State as machine;
 ghost use Rattle.hp_machine.specs.Wants.{Wants};
 ghost use Rattle.hp_fault.specs.State.{state_of, SizesStay};
+ghost use Rattle.hp_fault.specs.Room.{RoomStaysUnless};
 ghost use Rattle.hp_fault.specs.View.{view};
 ghost use Rattle.hp_core.specs.Fits.{CallFits};
 ghost use Rattle.hp_machine.specs.Standings.{standing};
@@ -64,6 +65,7 @@ fn step_call(
     requires { CallFits (state_of parts.old) task call }
     ensures row { IfOk result (λ done. CallRow (view parts.old) task killed grant call done.0 (view parts.new) done.1) }
     ensures sizes { SizesStay (state_of parts.old) (state_of parts.new) }
+    ensures room { RoomStaysUnless grant (Wants (view parts.old) task call) (state_of parts.old) (state_of parts.new) }
     ensures blocked { IfOk result (λ done. IfToldBlocked done.0
         (IfWanting (standing call).wants ((state_of parts.new ≡ state_of parts.old) × (done.1 ≡ Some call)))) }
     ensures call { IfErr result (λ again. again ≡ call) }
@@ -112,6 +114,8 @@ pub fn step_seat(
     ensures life { IfOk result
         (λ told. IfSome told (λ outcome. IfSome seat.old.call (λ call. seat.new.life ≡ life_after seat.old.life call seat.new.call))) }
     ensures sizes { SizesStay (state_of parts.old) (state_of parts.new) }
+    ensures room { RoomStaysUnless grant (IfSome seat.old.call (λ call. Wants (view parts.old) task call))
+        (state_of parts.old) (state_of parts.new) }
     ensures err { OnErr result ((state_of parts.new ≡ state_of parts.old) × (seat.new ≡ seat.old)) }
     ensures growth { OnErr result (grant ≡ true) }
     ensures wanted { OnErr result (IfSome seat.old.call (λ call. Wants (view parts.old) task call)) }

@@ -21,6 +21,7 @@ use Rattle.hp_region.specs.declared.region.Region.{Region}
 use Rattle.hp_table.specs.Table.{Table}
 use Rattle.hp_machine.specs.State as machine
 use Rattle.hp_fault.specs.declared.parts.FileState.{FileState}
+use Rattle.hp_fault.specs.Room.{map_rooms_of, cache_rooms_of, rooms_by_task}
 use Rattle.hp_fault.specs.View.{no_file, no_table, holders_of, sizes_of, pendings_of, spares_of, sets_of, pages_of, table_of}
 use Rattle.hp_fault.specs.View.{ready_by_task, mappings_by_task, entries_of}
 
@@ -117,40 +118,40 @@ sets_same xs f y l e =
     at_same {B = ℕ → Bool} (λ file. is_member file.map.regions) no_file xs f y l
     (ap {B = ℕ → Bool} (λ (rs : List Region). is_member rs) e)
 
-pub pages_at : (xs : List FileState) (f i : ℕ) → pages_of xs f i ≡ get (slice_index_or xs f no_file).cache i
+pub pages_at : (xs : List FileState) (f i : ℕ) → pages_of xs f i ≡ get (slice_index_or xs f no_file).cache.pages i
 unfolding pages_of
 pages_at xs f i = refl
 
-pub pages_are : (xs : List FileState) (f : ℕ) → ◌≡◌ {A = ℕ → Option ℕ} (pages_of xs f) (get (slice_index_or xs f no_file).cache)
+pub pages_are : (xs : List FileState) (f : ℕ) → ◌≡◌ {A = ℕ → Option ℕ} (pages_of xs f) (get (slice_index_or xs f no_file).cache.pages)
 unfolding pages_of
 pages_are xs f = refl
 
-pub pages_same : (xs : List FileState) (f : ℕ) (y : FileState) → f < length xs → y.cache ≡ (slice_index_or xs f no_file).cache
+pub pages_same : (xs : List FileState) (f : ℕ) (y : FileState) → f < length xs → y.cache.pages ≡ (slice_index_or xs f no_file).cache.pages
     → pages_of (slice_set xs f y) ≡ pages_of xs
 unfolding pages_of
 pages_same xs f y l e =
-    at_same {B = ℕ → Option ℕ} (λ file. get file.cache) no_file xs f y l (ap {B = ℕ → Option ℕ} (λ (m : FinMap nat_cmp ℕ). get m) e)
+    at_same {B = ℕ → Option ℕ} (λ file. get file.cache.pages) no_file xs f y l (ap {B = ℕ → Option ℕ} (λ (m : FinMap nat_cmp ℕ). get m) e)
 
 -- one page comes, or goes
 pages_put : (xs : List FileState) (f i : ℕ) (o : Option ℕ) (y : FileState) → f < length xs
-    → ◌≡◌ {A = ℕ → Option ℕ} (λ j. get y.cache j) (put (λ j. get (slice_index_or xs f no_file).cache j) i o)
+    → ◌≡◌ {A = ℕ → Option ℕ} (λ j. get y.cache.pages j) (put (λ j. get (slice_index_or xs f no_file).cache.pages j) i o)
     → pages_of (slice_set xs f y) ≡ put2 (pages_of xs) f i o
 unfolding pages_of
 pages_put xs f i o y l e =
-    at_set {B = ℕ → Option ℕ} (λ file. get file.cache) no_file xs f y l
-    ∙ ap (λ (m : ℕ → Option ℕ). put (λ (k : ℕ). get (slice_index_or xs k no_file).cache) f m) e
+    at_set {B = ℕ → Option ℕ} (λ file. get file.cache.pages) no_file xs f y l
+    ∙ ap (λ (m : ℕ → Option ℕ). put (λ (k : ℕ). get (slice_index_or xs k no_file).cache.pages) f m) e
 
 pub pages_placed : (xs : List FileState) (f i x : ℕ) (y : FileState) → f < length xs
-    → y.cache ≡ insert (slice_index_or xs f no_file).cache i x → pages_of (slice_set xs f y) ≡ put2 (pages_of xs) f i (Some x)
+    → y.cache.pages ≡ insert (slice_index_or xs f no_file).cache.pages i x → pages_of (slice_set xs f y) ≡ put2 (pages_of xs) f i (Some x)
 pages_placed xs f i x y l e =
     pages_put xs f i (Some x) y l
-    (ap {B = ℕ → Option ℕ} (λ (m : FinMap nat_cmp ℕ) (j : ℕ). get m j) e ∙ get_inserted (slice_index_or xs f no_file).cache i x)
+    (ap {B = ℕ → Option ℕ} (λ (m : FinMap nat_cmp ℕ) (j : ℕ). get m j) e ∙ get_inserted (slice_index_or xs f no_file).cache.pages i x)
 
 pub pages_evicted : (xs : List FileState) (f i : ℕ) (y : FileState) → f < length xs
-    → y.cache ≡ remove (slice_index_or xs f no_file).cache i → pages_of (slice_set xs f y) ≡ put2 (pages_of xs) f i None
+    → y.cache.pages ≡ remove (slice_index_or xs f no_file).cache.pages i → pages_of (slice_set xs f y) ≡ put2 (pages_of xs) f i None
 pages_evicted xs f i y l e =
     pages_put xs f i None y l
-    (ap {B = ℕ → Option ℕ} (λ (m : FinMap nat_cmp ℕ) (j : ℕ). get m j) e ∙ get_removed (slice_index_or xs f no_file).cache i)
+    (ap {B = ℕ → Option ℕ} (λ (m : FinMap nat_cmp ℕ) (j : ℕ). get m j) e ∙ get_removed (slice_index_or xs f no_file).cache.pages i)
 
 -- one index leaves a file's set
 pub sets_without : (xs : List FileState) (f i : ℕ) (y : FileState) → f < length xs
@@ -160,6 +161,17 @@ unfolding sets_of
 sets_without xs f i y l e =
     at_set {B = ℕ → Bool} (λ file. is_member file.map.regions) no_file xs f y l
     ∙ ap (λ (m : ℕ → Bool). put (λ (k : ℕ). is_member (slice_index_or xs k no_file).map.regions) f m) e
+
+-- the room of a file's parts
+pub map_rooms_same : (xs : List FileState) (f : ℕ) (y : FileState) → f < length xs
+    → y.map.room ≡ (slice_index_or xs f no_file).map.room → map_rooms_of (slice_set xs f y) ≡ map_rooms_of xs
+unfolding map_rooms_of
+map_rooms_same xs f y l e = at_same (λ file. file.map.room) no_file xs f y l e
+
+pub cache_rooms_same : (xs : List FileState) (f : ℕ) (y : FileState) → f < length xs
+    → y.cache.room ≡ (slice_index_or xs f no_file).cache.room → cache_rooms_of (slice_set xs f y) ≡ cache_rooms_of xs
+unfolding cache_rooms_of
+cache_rooms_same xs f y l e = at_same (λ file. file.cache.room) no_file xs f y l e
 
 -- tasks
 pub ready_at : (xs : List Table) (t : ℕ) → ready_by_task xs t ≡ (table_of xs t).ready
@@ -258,6 +270,13 @@ pub entries_set : (xs : List Table) (t : ℕ) (y : Table) → 1 ≤ t → t ≤ 
 unfolding entries_of
 entries_set xs t y low high = seen_set {B = ℕ → Option ℕ} (λ (d : Table) (w : ℕ). get d.entries w) xs t y low high
 
+-- the room of a task's space
+pub task_rooms_same : (xs : List Table) (t : ℕ) (y : Table) → 1 ≤ t → t ≤ length xs → y.room ≡ (table_of xs t).room
+    → rooms_by_task (slice_set xs (t - 1) y) ≡ rooms_by_task xs
+unfolding rooms_by_task
+task_rooms_same xs t y low high e =
+    seen_set (λ (d : Table). d.room) xs t y low high ∙ put_known (λ j. (table_of xs j).room) t y.room (sym e)
+
 -- frames
 pub frame_at_set : (xs : List FrameState) (x : ℕ) (s : FrameState) → x < length xs
     → bank.frame_at (slice_set xs x s) ≡ put (bank.frame_at xs) x s
@@ -279,7 +298,7 @@ word_of xs x l placed = (placed.0, frame_got xs x (Placed placed.0) l placed.1)
 
 pub ruleset lock_laws = (holders_at, holders_set, get_or_past, length-set)
 
-pub ruleset room_laws = (nat_tests, ne_eqb, set-get_or, mappings_at, mappings_same, ready_set, entries_same, length-set)
+pub ruleset room_laws = (nat_tests, ne_eqb, set-get_or, mappings_at, mappings_same, ready_set, entries_same, length-set, task_rooms_same)
 
 pub ruleset change_laws = (
   nat_tests,
@@ -294,9 +313,23 @@ pub ruleset change_laws = (
   sets_same,
   pages_same,
   length-set,
+  map_rooms_same,
+  cache_rooms_same,
 )
 
-pub ruleset commit_laws = (sizes_same, pendings_at, pendings_set, spares_at, spares_set, sets_at, sets_set, pages_same, length-set)
+pub ruleset commit_laws = (
+  sizes_same,
+  pendings_at,
+  pendings_set,
+  spares_at,
+  spares_set,
+  sets_at,
+  sets_set,
+  pages_same,
+  length-set,
+  map_rooms_same,
+  cache_rooms_same,
+)
 
 pub ruleset enter_laws = (
   nat_tests,
@@ -313,6 +346,9 @@ pub ruleset enter_laws = (
   ready_set,
   entries_same,
   length-set,
+  map_rooms_same,
+  cache_rooms_same,
+  task_rooms_same,
 )
 
 pub ruleset frame_laws = (frame_at_set, frame_at_is, frame_got, slice_get_within, length-set)
@@ -321,7 +357,17 @@ pub ruleset take_laws = (free_frames_is, frame_at_set, frame_at_is, slice_get_wi
 
 pub ruleset look_laws = (nat_tests, ne_eqb, get_or_read, mappings_at, entries_at, frame_at_is, frame_got)
 
-pub ruleset size_laws = (sizes_at, sizes_set, pendings_same, spares_same, sets_same, pages_same, length-set)
+pub ruleset size_laws = (
+  sizes_at,
+  sizes_set,
+  pendings_same,
+  spares_same,
+  sets_same,
+  pages_same,
+  length-set,
+  map_rooms_same,
+  cache_rooms_same,
+)
 
 pub ruleset page_laws = (sizes_at, pages_at)
 
@@ -337,6 +383,8 @@ pub ruleset place_laws = (
   frame_at_is,
   frame_got,
   length-set,
+  map_rooms_same,
+  cache_rooms_same,
 )
 
 pub ruleset install_laws = (
@@ -352,11 +400,12 @@ pub ruleset install_laws = (
   frame_at_is,
   frame_got,
   length-set,
+  task_rooms_same,
 )
 
-pub ruleset clear_laws = (nat_tests, ne_eqb, mappings_at, mappings_same, ready_same, entries_are, entries_set, length-set)
+pub ruleset clear_laws = (nat_tests, ne_eqb, mappings_at, mappings_same, ready_same, entries_are, entries_set, length-set, task_rooms_same)
 
-pub ruleset drop_laws = (nat_tests, ne_eqb, mappings_at, mappings_set, ready_same, entries_at, entries_same, length-set)
+pub ruleset drop_laws = (nat_tests, ne_eqb, mappings_at, mappings_set, ready_same, entries_at, entries_same, length-set, task_rooms_same)
 
 pub ruleset evict_laws = (
   sizes_same,
@@ -370,6 +419,8 @@ pub ruleset evict_laws = (
   frame_got,
   slice_get_within,
   length-set,
+  map_rooms_same,
+  cache_rooms_same,
 )
 
 pub ruleset delete_laws = (
@@ -384,7 +435,21 @@ pub ruleset delete_laws = (
   sets_without,
   pages_same,
   length-set,
+  map_rooms_same,
+  cache_rooms_same,
 )
 
-pub ruleset tail_laws =
-    (get_or_read, sizes_same, pendings_at, pendings_same, spares_at, spares_same, sets_at, sets_set, pages_same, length-set)
+pub ruleset tail_laws = (
+  get_or_read,
+  sizes_same,
+  pendings_at,
+  pendings_same,
+  spares_at,
+  spares_same,
+  sets_at,
+  sets_set,
+  pages_same,
+  length-set,
+  map_rooms_same,
+  cache_rooms_same,
+)

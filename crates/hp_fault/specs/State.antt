@@ -1,5 +1,5 @@
 -- What the parts keep, however they keep it: to say that a step changed nothing.
-use Rattle.std.specs.Prelude.{◌≡◌, ℕ, List, Option, length}
+use Rattle.std.specs.Prelude.{◌≡◌, ℕ, ◌+◌, List, Option, length, vec_capacity}
 use Rattle.hp_frames.specs.Bank.{BankState}
 use Rattle.hp_table.specs.Table.{Table}
 use Rattle.hp_fault.specs.declared.parts.FileState.{FileState}
@@ -11,9 +11,18 @@ pub record PartsState : Type 0 where
   pub slots : List (Option ℕ)
   pub locks : List (Option ℕ)
   pub spaces : List Table
+  -- for how many files and spaces these two lists have taken memory
+  pub room : ℕ
 
 abbrev pub state_of : Parts → PartsState
-state_of p = record { bank = p.bank; files = p.files.items; slots = p.slots; locks = p.locks; spaces = p.spaces.items }
+state_of p = record {
+  bank = p.bank;
+  files = p.files.items;
+  slots = p.slots;
+  locks = p.locks;
+  spaces = p.spaces.items;
+  room = vec_capacity p.files + vec_capacity p.spaces;
+}
 
 -- there is a lock for each file
 abbrev pub IsSized : PartsState → Type 0

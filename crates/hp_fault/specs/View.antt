@@ -13,11 +13,15 @@ use Rattle.hp_fault.specs.State.{PartsState, state_of}
 
 -- stands for a file that isn't there
 abbrev pub no_file : FileState
-no_file = record { size = 0; map = record { regions = []; pending = 0; spare = 0 }; cache = empty }
+no_file = record {
+  size = 0;
+  map = record { regions = []; pending = 0; spare = 0; room = 0 };
+  cache = record { pages = empty; room = 0 };
+}
 
 -- stands for the space of a task that isn't there
 abbrev pub no_table : Table
-no_table = record { mappings = []; entries = empty; ready = false }
+no_table = record { mappings = []; entries = empty; ready = false; room = 0 }
 
 unfoldable pub holders_of : List (Option ℕ) → ℕ → Option ℕ
 holders_of holders k = slice_index_or holders k None
@@ -35,7 +39,7 @@ unfoldable pub sets_of : List FileState → ℕ → ℕ → Bool
 sets_of files f = is_member (slice_index_or files f no_file).map.regions
 
 unfoldable pub pages_of : List FileState → ℕ → ℕ → Option ℕ
-pages_of files f i = get (slice_index_or files f no_file).cache i
+pages_of files f i = get (slice_index_or files f no_file).cache.pages i
 
 -- tasks are counted from 1
 abbrev pub table_of : List Table → ℕ → Table

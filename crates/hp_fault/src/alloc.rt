@@ -10,6 +10,7 @@ ghost use Rattle.hp_machine.specs.declared.call.Call.TheVariants as call;
 ghost use Rattle.hp_fault.specs.Turns.{IfBlocked, IfWanting};
 ghost use Rattle.hp_fault.specs.View.{view};
 ghost use Rattle.hp_fault.specs.State.{state_of, IsSized, SizesStay};
+ghost use Rattle.hp_fault.specs.Room.{RoomStays, RoomStaysUnless};
 ghost use Rattle.hp_fault.specs.Fits.{AllocFits, IsFileOf, IsHeld};
 
 use crate::parts::Parts;
@@ -37,6 +38,7 @@ pub fn step_alloc(
     requires fits { AllocFits (view parts.old) task phase }
     ensures row { IfOk result (λ turn. AllocRow (view parts.old) task killed grant phase turn (view parts.new)) }
     ensures sizes { SizesStay (state_of parts.old) (state_of parts.new) }
+    ensures room { RoomStaysUnless grant (alloc_wants (view parts.old) phase) (state_of parts.old) (state_of parts.new) }
     ensures blocked { IfOk result (λ turn. IfWanting (standing (call.Alloc phase)).wants
         (IfBlocked turn (λ again. (again ≡ phase) × (state_of parts.new ≡ state_of parts.old)))) }
     ensures phase { IfErr result (λ stopped. stopped.phase ≡ phase) }
@@ -73,6 +75,7 @@ fn from_start(parts: &mut Parts, task: Task, killed: bool, phase: Start) -> Turn
     requires { IsSized (state_of parts.old) }
     ensures row { AllocStartRow (view parts.old) task killed phase result (view parts.new) }
     ensures sizes { SizesStay (state_of parts.old) (state_of parts.new) }
+    ensures room { RoomStays (state_of parts.old) (state_of parts.new) }
     ensures same { IfBlocked result (λ again. (again ≡ AllocPhase.Start phase) × (state_of parts.new ≡ state_of parts.old)) }
 {
     let allocation = phase.allocation;
@@ -104,6 +107,7 @@ fn from_head(killed: bool, phase: Head) -> Turn<AllocPhase>
 fn from_want(parts: &mut Parts, task: Task, killed: bool, phase: Want) -> Turn<AllocPhase>
     ensures row { AllocWantRow (view parts.old) task killed phase result (view parts.new) }
     ensures sizes { SizesStay (state_of parts.old) (state_of parts.new) }
+    ensures room { RoomStays (state_of parts.old) (state_of parts.new) }
     ensures same { IfBlocked result (λ again. (again ≡ AllocPhase.Want phase) × (state_of parts.new ≡ state_of parts.old)) }
 {
     let (allocation, index) = (phase.allocation, phase.index);
@@ -120,6 +124,7 @@ fn from_locked(parts: &mut Parts, phase: Locked) -> Turn<AllocPhase>
     requires { IsFileOf (view parts.old) phase.allocation.file }
     ensures row { AllocLockedRow (view parts.old) phase result (view parts.new) }
     ensures sizes { SizesStay (state_of parts.old) (state_of parts.new) }
+    ensures room { RoomStays (state_of parts.old) (state_of parts.new) }
 {
     let Locked { allocation, index } = phase;
     let file = &parts.files[allocation.file.number() as usize];
@@ -135,6 +140,8 @@ fn from_missing(parts: &mut Parts, grant: bool, phase: Missing) -> Result<Turn<A
     requires in_limit { phase.index < LIMIT }
     ensures row { IfOk result (λ turn. AllocMissingRow (view parts.old) grant phase turn (view parts.new)) }
     ensures sizes { SizesStay (state_of parts.old) (state_of parts.new) }
+    ensures room { RoomStaysUnless grant ((view parts.old).spare phase.allocation.file ≡ (view parts.old).pending phase.allocation.file)
+        (state_of parts.old) (state_of parts.new) }
     ensures phase { IfErr result (λ again. again ≡ phase) }
     ensures err { OnErr result (state_of parts.new ≡ state_of parts.old) }
     ensures growth { OnErr result (grant ≡ true) }
@@ -159,6 +166,7 @@ fn from_changed(parts: &mut Parts, killed: bool, phase: Changed) -> Turn<AllocPh
     requires { phase.pending.missing ≡ 0 → 1 ≤ (view parts.old).resv }
     ensures row { AllocChangedRow (view parts.old) killed phase result (view parts.new) }
     ensures sizes { SizesStay (state_of parts.old) (state_of parts.new) }
+    ensures room { RoomStays (state_of parts.old) (state_of parts.new) }
 {
     let Changed {
         allocation,
@@ -185,6 +193,7 @@ fn from_abort(parts: &mut Parts, phase: Abort) -> Turn<AllocPhase>
     requires pending { 1 ≤ (view parts.old).pending phase.allocation.file }
     ensures row { AllocAbortRow (view parts.old) phase result (view parts.new) }
     ensures sizes { SizesStay (state_of parts.old) (state_of parts.new) }
+    ensures room { RoomStays (state_of parts.old) (state_of parts.new) }
 {
     let Abort {
         allocation,
@@ -204,6 +213,7 @@ fn from_taken(parts: &mut Parts, phase: Taken) -> Turn<AllocPhase>
     requires pending { 1 ≤ (view parts.old).pending phase.allocation.file }
     ensures row { AllocTakenRow (view parts.old) phase result (view parts.new) }
     ensures sizes { SizesStay (state_of parts.old) (state_of parts.new) }
+    ensures room { RoomStays (state_of parts.old) (state_of parts.new) }
 {
     let Taken {
         allocation,
@@ -234,6 +244,7 @@ fn from_settle(parts: &mut Parts, phase: Settle) -> Turn<AllocPhase>
     requires { 1 ≤ (view parts.old).resv }
     ensures row { AllocSettleRow (view parts.old) phase result (view parts.new) }
     ensures sizes { SizesStay (state_of parts.old) (state_of parts.new) }
+    ensures room { RoomStays (state_of parts.old) (state_of parts.new) }
 {
     let Settle {
         allocation,
@@ -259,6 +270,8 @@ fn from_committed(
     requires held { IsHeld (view parts.old) phase.held }
     ensures row { IfOk result (λ turn. AllocCommittedRow (view parts.old) grant phase turn (view parts.new)) }
     ensures sizes { SizesStay (state_of parts.old) (state_of parts.new) }
+    ensures room { RoomStaysUnless grant (alloc_wants (view parts.old) (AllocPhase.Committed phase))
+        (state_of parts.old) (state_of parts.new) }
     ensures phase { IfErr result (λ again. again ≡ phase) }
     ensures err { OnErr result (state_of parts.new ≡ state_of parts.old) }
     ensures growth { OnErr result (grant ≡ true) }
@@ -291,6 +304,7 @@ fn from_restore(parts: &mut Parts, phase: Restore) -> Turn<AllocPhase>
     requires { IsHeld (view parts.old) phase.held }
     ensures row { AllocRestoreRow (view parts.old) phase result (view parts.new) }
     ensures sizes { SizesStay (state_of parts.old) (state_of parts.new) }
+    ensures room { RoomStays (state_of parts.old) (state_of parts.new) }
 {
     let Restore {
         allocation,
@@ -308,6 +322,7 @@ fn from_unslot(parts: &mut Parts, task: Task, phase: Unslot) -> Turn<AllocPhase>
     requires index { phase.index < LIMIT }
     ensures row { AllocUnslotRow (view parts.old) phase result (view parts.new) }
     ensures sizes { SizesStay (state_of parts.old) (state_of parts.new) }
+    ensures room { RoomStays (state_of parts.old) (state_of parts.new) }
 {
     let Unslot {
         allocation,
@@ -336,6 +351,7 @@ fn from_extend(parts: &mut Parts, phase: Extend) -> Turn<AllocPhase>
     requires in_limit { phase.allocation.from + phase.allocation.len ≤ LIMIT }
     ensures row { AllocExtendRow (view parts.old) phase result (view parts.new) }
     ensures sizes { SizesStay (state_of parts.old) (state_of parts.new) }
+    ensures room { RoomStays (state_of parts.old) (state_of parts.new) }
 {
     let Extend { allocation } = phase;
     let file = &mut parts.files[allocation.file.number() as usize];
@@ -347,6 +363,7 @@ fn from_leave(parts: &mut Parts, task: Task, phase: Leave) -> Turn<AllocPhase>
     requires { (view parts.old).locks phase.allocation.file ≡ Some task }
     ensures row { AllocLeaveRow (view parts.old) phase result (view parts.new) }
     ensures sizes { SizesStay (state_of parts.old) (state_of parts.new) }
+    ensures room { RoomStays (state_of parts.old) (state_of parts.new) }
 {
     let Leave { allocation, answer } = phase;
     leave_lock(parts, task, allocation.file);

@@ -9,6 +9,7 @@ ghost use Rattle.hp_machine.specs.declared.call.Call.TheVariants as call;
 ghost use Rattle.hp_fault.specs.Turns.{IfBlocked, IfWanting};
 ghost use Rattle.hp_fault.specs.View.{view};
 ghost use Rattle.hp_fault.specs.State.{state_of, IsSized, SizesStay};
+ghost use Rattle.hp_fault.specs.Room.{RoomStays, RoomStaysUnless};
 ghost use Rattle.hp_fault.specs.Fits.{MapFits, IsTaskOf, IsFileOf};
 
 use crate::parts::Parts;
@@ -32,6 +33,7 @@ pub fn step_map(
     requires fits { MapFits (view parts.old) task phase }
     ensures row { IfOk result (λ turn. MapRow (view parts.old) task killed grant phase turn (view parts.new)) }
     ensures sizes { SizesStay (state_of parts.old) (state_of parts.new) }
+    ensures room { RoomStaysUnless grant (map_wants (view parts.old) task phase) (state_of parts.old) (state_of parts.new) }
     ensures blocked { IfOk result (λ turn. IfWanting (standing (call.Map phase)).wants
         (IfBlocked turn (λ again. (again ≡ phase) × (state_of parts.new ≡ state_of parts.old)))) }
     ensures phase { IfErr result (λ stopped. stopped.phase ≡ phase) }
@@ -61,6 +63,7 @@ fn from_start(parts: &mut Parts, task: Task, killed: bool, phase: Start) -> Turn
     requires { IsSized (state_of parts.old) }
     ensures row { MapStartRow (view parts.old) task killed phase result (view parts.new) }
     ensures sizes { SizesStay (state_of parts.old) (state_of parts.new) }
+    ensures room { RoomStays (state_of parts.old) (state_of parts.new) }
     ensures same { IfBlocked result (λ again. (again ≡ MapPhase.Start phase) × (state_of parts.new ≡ state_of parts.old)) }
 {
     let map = phase.map;
@@ -80,6 +83,8 @@ fn from_room(
     requires { IsTaskOf (view parts.old) task }
     ensures row { IfOk result (λ turn. MapRoomRow (view parts.old) task grant phase turn (view parts.new)) }
     ensures sizes { SizesStay (state_of parts.old) (state_of parts.new) }
+    ensures room { RoomStaysUnless grant (map_wants (view parts.old) task (MapPhase.Room phase))
+        (state_of parts.old) (state_of parts.new) }
     ensures phase { IfErr result (λ again. again ≡ phase) }
     ensures err { OnErr result (state_of parts.new ≡ state_of parts.old) }
     ensures growth { OnErr result (grant ≡ true) }
@@ -110,6 +115,8 @@ fn from_missing(parts: &mut Parts, grant: bool, phase: Missing) -> Result<Turn<M
     requires in_limit { phase.map.from + phase.map.len ≤ LIMIT }
     ensures row { IfOk result (λ turn. MapMissingRow (view parts.old) grant phase turn (view parts.new)) }
     ensures sizes { SizesStay (state_of parts.old) (state_of parts.new) }
+    ensures room { RoomStaysUnless grant ((view parts.old).spare phase.map.file ≡ (view parts.old).pending phase.map.file)
+        (state_of parts.old) (state_of parts.new) }
     ensures phase { IfErr result (λ again. again ≡ phase) }
     ensures err { OnErr result (state_of parts.new ≡ state_of parts.old) }
     ensures growth { OnErr result (grant ≡ true) }
@@ -129,6 +136,7 @@ fn from_missing(parts: &mut Parts, grant: bool, phase: Missing) -> Result<Turn<M
 fn from_changed(parts: &mut Parts, killed: bool, phase: Changed) -> Turn<MapPhase>
     ensures row { MapChangedRow (view parts.old) killed phase result (view parts.new) }
     ensures sizes { SizesStay (state_of parts.old) (state_of parts.new) }
+    ensures room { RoomStays (state_of parts.old) (state_of parts.new) }
 {
     let Changed { map, base, pending } = phase;
     if killed {
@@ -146,6 +154,7 @@ fn from_abort(parts: &mut Parts, phase: Abort) -> Turn<MapPhase>
     requires pending { 1 ≤ (view parts.old).pending phase.map.file }
     ensures row { MapAbortRow (view parts.old) phase result (view parts.new) }
     ensures sizes { SizesStay (state_of parts.old) (state_of parts.new) }
+    ensures room { RoomStays (state_of parts.old) (state_of parts.new) }
 {
     let Abort {
         map,
@@ -162,6 +171,7 @@ fn from_accounted(parts: &mut Parts, phase: Accounted) -> Turn<MapPhase>
     requires pending { 1 ≤ (view parts.old).pending phase.map.file }
     ensures row { MapAccountedRow (view parts.old) phase result (view parts.new) }
     ensures sizes { SizesStay (state_of parts.old) (state_of parts.new) }
+    ensures room { RoomStays (state_of parts.old) (state_of parts.new) }
 {
     let Accounted { map, base, pending } = phase;
     let missing = pending.missing();
@@ -178,6 +188,7 @@ fn from_settle(parts: &mut Parts, phase: Settle) -> Turn<MapPhase>
     requires { phase.excess ≤ (view parts.old).resv }
     ensures row { MapSettleRow (view parts.old) phase result (view parts.new) }
     ensures sizes { SizesStay (state_of parts.old) (state_of parts.new) }
+    ensures room { RoomStays (state_of parts.old) (state_of parts.new) }
 {
     let Settle { map, base, excess } = phase;
     parts.bank.settle(excess);
@@ -194,6 +205,7 @@ fn from_enter(parts: &mut Parts, task: Task, phase: Enter) -> Turn<MapPhase>
     requires fits { fits VPNS ((view parts.old).mappings task) phase.base phase.map.len ≡ true }
     ensures row { MapEnterRow (view parts.old) task phase result (view parts.new) }
     ensures sizes { SizesStay (state_of parts.old) (state_of parts.new) }
+    ensures room { RoomStays (state_of parts.old) (state_of parts.new) }
 {
     let Enter { map, base } = phase;
     let space = &mut parts.spaces[(task.number() - 1) as usize];
@@ -207,6 +219,7 @@ fn from_leave(parts: &mut Parts, task: Task, phase: Leave) -> Turn<MapPhase>
     requires { (view parts.old).locks phase.map.file ≡ Some task }
     ensures row { MapLeaveRow (view parts.old) phase result (view parts.new) }
     ensures sizes { SizesStay (state_of parts.old) (state_of parts.new) }
+    ensures room { RoomStays (state_of parts.old) (state_of parts.new) }
 {
     let Leave { map, answer } = phase;
     leave_lock(parts, task, map.file);

@@ -8,6 +8,7 @@ ghost use Rattle.hp_machine.specs.State.{slot_of};
 ghost use Rattle.hp_machine.specs.Parts.{StartRow, WantSlotRow, answer_of, frame_after, placed, unslotted, unlocked};
 ghost use Rattle.hp_fault.specs.View.{view};
 ghost use Rattle.hp_fault.specs.State.{state_of, IsSized, SizesStay};
+ghost use Rattle.hp_fault.specs.Room.{RoomStays};
 ghost use Rattle.hp_fault.specs.Fits.{IsFileOf, IsHeld};
 ghost use Rattle.hp_fault.specs.Turns.{carried, IfBlocked};
 
@@ -39,6 +40,7 @@ pub fn start(
     requires { IsSized (state_of parts.old) }
     ensures row { StartRow (view parts.old) task killed file is_bad at_kill tt tt result (view parts.new) }
     ensures sizes { SizesStay (state_of parts.old) (state_of parts.new) }
+    ensures room { RoomStays (state_of parts.old) (state_of parts.new) }
     ensures same { IfBlocked result (λ _. state_of parts.new ≡ state_of parts.old) }
 {
     let files = parts.files.len();
@@ -62,6 +64,7 @@ pub fn start(
 pub fn want_slot(parts: &mut Parts, task: Task, file: File, index: Index) -> Turn<()>
     ensures row { WantSlotRow (view parts.old) task file index tt tt result (view parts.new) }
     ensures sizes { SizesStay (state_of parts.old) (state_of parts.new) }
+    ensures room { RoomStays (state_of parts.old) (state_of parts.new) }
     ensures same { IfBlocked result (λ _. state_of parts.new ≡ state_of parts.old) }
 {
     let slot = parts.slots.slot_of(file, index);
@@ -88,6 +91,7 @@ pub fn leave_slot(parts: &mut Parts, task: Task, file: File, index: Index)
     requires { (view parts.old).slots (slot_of (view parts.old).geometry file index) ≡ Some task }
     ensures left { view parts.new ≡ unslotted (view parts.old) file index }
     ensures sizes { SizesStay (state_of parts.old) (state_of parts.new) }
+    ensures room { RoomStays (state_of parts.old) (state_of parts.new) }
 {
     let slot = parts.slots.slot_of(file, index);
     parts.slots.leave(slot, task);
@@ -99,6 +103,7 @@ pub fn leave_lock(parts: &mut Parts, task: Task, file: File)
     requires { (view parts.old).locks file ≡ Some task }
     ensures left { view parts.new ≡ unlocked (view parts.old) file }
     ensures sizes { SizesStay (state_of parts.old) (state_of parts.new) }
+    ensures room { RoomStays (state_of parts.old) (state_of parts.new) }
 {
     parts.locks.leave(file.number(), task);
 }
@@ -149,6 +154,7 @@ pub fn use_page(bank: &mut Bank, frame: Frame, access: Access) -> Answer
     ensures frames { frame_at bank.new.frames ≡ frame_after access (frame_at bank.old.frames) frame }
     ensures count { length bank.new.frames ≡ length bank.old.frames }
     ensures resv { bank.new.resv ≡ bank.old.resv }
+    ensures room { bank.new.room ≡ bank.old.room }
 {
     match access {
         Access::Load => Answer::Word(bank.load(frame)),

@@ -6,9 +6,12 @@ use Rattle.hp_base.specs.Indices.{count_below}
 use Rattle.hp_frames.specs.declared.frame.FrameState.{FrameState}
 use Rattle.hp_frames.specs.declared.frame.FrameState.TheVariants.{Free, Hand, Placed}
 
+-- where each frame is, how many pages are reserved, and for how many frames the bank has taken memory, over its
+-- lists
 pub record BankState : Type 0 where
   pub frames : List FrameState
   pub resv : ℕ
+  pub room : ℕ
 
 abbrev pub is_free : FrameState → Bool
 is_free Free = true

@@ -42,12 +42,12 @@ pub struct Bank {
 }
 
 impl Model for Bank {
-    ghost use Rattle.std.specs.Prelude.{◌≤◌, length, vec_capacity};
+    ghost use Rattle.std.specs.Prelude.{◌+◌, ◌≤◌, length, vec_capacity};
     ghost use Rattle.hp_frames.specs.Bank.{BankState, IsListed};
 
     ghost Value = { BankState };
 
-    ghost view = { λ b. record { frames = b.frames.items; resv = b.resv } };
+    ghost view = { λ b. record { frames = b.frames.items; resv = b.resv; room = vec_capacity b.frames + vec_capacity b.free } };
 
     ghost invariant = { λ b. record {
       listed : IsListed b.frames.items b.free.items (vec_capacity b.free);
@@ -221,7 +221,8 @@ impl Bank {
 // The frame goes elsewhere.
 fn move_frame(frames: &mut Vec<FrameState>, frame: Frame, state: FrameState)
     requires { frame < length frames.old.items }
-    ensures { frames.new.items ≡ slice_set frames.old.items frame state }
+    ensures items { frames.new.items ≡ slice_set frames.old.items frame state }
+    ensures capacity { vec_capacity frames.new ≡ vec_capacity frames.old }
 {
     frames[frame.number() as usize] = state;
 }
@@ -234,6 +235,7 @@ fn take_free(frames: &mut Vec<FrameState>, free: &mut Vec<Frame>) -> Frame
     ensures frames { frames.new.items ≡ slice_set frames.old.items result FrameState.Hand }
     ensures rest { free.old.items ≡ free.new.items ++ result ∷ [] }
     ensures capacity { vec_capacity free.new ≡ vec_capacity free.old }
+    ensures states { vec_capacity frames.new ≡ vec_capacity frames.old }
 {
     let Some(frame) = free.pop() else {
         unreachable!()
@@ -249,6 +251,7 @@ fn give_free(frames: &mut Vec<FrameState>, free: &mut Vec<Frame>, frame: Frame)
     ensures frames { frames.new.items ≡ slice_set frames.old.items frame FrameState.Free }
     ensures free { free.new.items ≡ free.old.items ++ frame ∷ [] }
     ensures capacity { vec_capacity free.new ≡ vec_capacity free.old }
+    ensures states { vec_capacity frames.new ≡ vec_capacity frames.old }
 {
     move_frame(frames, frame, FrameState::Free);
     free.push_reserved(frame);

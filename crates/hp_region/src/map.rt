@@ -33,7 +33,7 @@ impl Model for RegionMap {
 
     ghost Value = { Reserved };
 
-    ghost view = { λ m. record { regions = m.regions.items; pending = m.pending; spare = m.spare } };
+    ghost view = { λ m. record { regions = m.regions.items; pending = m.pending; spare = m.spare; room = vec_capacity m.regions } };
 
     ghost invariant = { λ m. record {
       apart : IsApartFrom 0 m.regions.items;
@@ -49,6 +49,7 @@ impl RegionMap {
         ensures regions { result.regions ≡ [] }
         ensures pending { result.pending ≡ 0 }
         ensures spare { result.spare ≡ 0 }
+        ensures room { result.room ≡ 0 }
     {
         RegionMap {
             regions: Vec::new(alloc),

@@ -8,10 +8,10 @@ use Rattle.hp_fault.specs.declared.parts.FileState.{FileState}
 use Rattle.hp_fault.specs.View.{no_file, sizes_of, pages_of}
 
 pub top_is : (xs : List FileState) (n f : ℕ) (d : FileState) (end top : ℕ) → f < length xs → n ≡ f → d ≡ get_or xs n d
-    → IsPagesEnd (get d.cache) end → top ≡ max d.size end
+    → IsPagesEnd (get d.cache.pages) end → top ≡ max d.size end
     → (x : ℕ) × IsPagesEnd (pages_of xs f) x × (top ≡ max (sizes_of xs f) x)
 unfolding sizes_of pages_of
 top_is xs n f d end top low e is ends larger =
     let same : d ≡ get_or xs f d = is ∙ ap (λ (k : ℕ). get_or xs k d) e in
     let read : d ≡ get_or xs f no_file = same ∙ get_or_default xs f d no_file low in
-    (end, subst (λ (y : FileState). IsPagesEnd (get y.cache) end) read ends, larger ∙ ap (λ (y : FileState). max y.size end) read)
+    (end, subst (λ (y : FileState). IsPagesEnd (get y.cache.pages) end) read ends, larger ∙ ap (λ (y : FileState). max y.size end) read)

@@ -2,6 +2,7 @@
 ghost use Rattle.hp_machine.specs.ExitRows.{ExitRow, ExitStartRow, ExitClearRow, ExitDropRow};
 ghost use Rattle.hp_fault.specs.View.{view};
 ghost use Rattle.hp_fault.specs.State.{state_of, SizesStay};
+ghost use Rattle.hp_fault.specs.Room.{RoomStays};
 ghost use Rattle.hp_fault.specs.Fits.{IsTaskOf};
 ghost use Rattle.hp_remove.specs.Fits.{ExitFits, IsCleared};
 
@@ -23,6 +24,7 @@ pub fn step_exit(
     requires { ExitFits (view parts.old) task phase }
     ensures row { ExitRow (view parts.old) task killed grant phase result (view parts.new) }
     ensures sizes { SizesStay (state_of parts.old) (state_of parts.new) }
+    ensures room { RoomStays (state_of parts.old) (state_of parts.new) }
 {
     let _ = (killed, grant);
     match phase {
@@ -38,6 +40,7 @@ fn from_start(parts: &mut Parts, task: Task) -> Turn<ExitPhase>
     requires { IsTaskOf (view parts.old) task }
     ensures row { ExitStartRow (view parts.old) task result (view parts.new) }
     ensures sizes { SizesStay (state_of parts.old) (state_of parts.new) }
+    ensures room { RoomStays (state_of parts.old) (state_of parts.new) }
 {
     match parts.spaces[(task.number() - 1) as usize].first() {
         Some(base) => Turn::Moved(ExitPhase::Clear(Clear { base })),
@@ -49,6 +52,7 @@ fn from_clear(parts: &mut Parts, task: Task, phase: Clear) -> Turn<ExitPhase>
     requires { IsTaskOf (view parts.old) task }
     ensures row { ExitClearRow (view parts.old) task phase result (view parts.new) }
     ensures sizes { SizesStay (state_of parts.old) (state_of parts.new) }
+    ensures room { RoomStays (state_of parts.old) (state_of parts.new) }
 {
     let Clear { base } = phase;
     clear_mapping(parts, task, base);
@@ -61,6 +65,7 @@ fn from_drop(parts: &mut Parts, task: Task, phase: Drop) -> Turn<ExitPhase>
     requires bare { IsCleared (view parts.old) task phase.base }
     ensures row { ExitDropRow (view parts.old) task phase result (view parts.new) }
     ensures sizes { SizesStay (state_of parts.old) (state_of parts.new) }
+    ensures room { RoomStays (state_of parts.old) (state_of parts.new) }
 {
     let Drop { base } = phase;
     drop_mapping(parts, task, base);

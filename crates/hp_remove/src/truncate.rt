@@ -12,6 +12,7 @@ ghost use Rattle.hp_machine.specs.declared.call.Call.TheVariants as call;
 ghost use Rattle.hp_fault.specs.Turns.{IfBlocked, IfWanting};
 ghost use Rattle.hp_fault.specs.View.{view};
 ghost use Rattle.hp_fault.specs.State.{state_of, IsSized, SizesStay};
+ghost use Rattle.hp_fault.specs.Room.{RoomStays};
 ghost use Rattle.hp_fault.specs.Fits.{IsTaskOf, IsFileOf, IsHeld, HasPage};
 ghost use Rattle.hp_remove.specs.Fits.{TruncateFits};
 
@@ -37,6 +38,7 @@ pub fn step_truncate(
     requires fits { TruncateFits (view parts.old) task phase }
     ensures row { TruncateRow (view parts.old) task killed grant phase result (view parts.new) }
     ensures sizes { SizesStay (state_of parts.old) (state_of parts.new) }
+    ensures room { RoomStays (state_of parts.old) (state_of parts.new) }
     ensures blocked { IfWanting (standing (call.Truncate phase)).wants
         (IfBlocked result (λ again. (again ≡ phase) × (state_of parts.new ≡ state_of parts.old))) }
 {
@@ -61,6 +63,7 @@ fn from_start(parts: &mut Parts, task: Task, killed: bool, phase: Start) -> Turn
     requires { IsSized (state_of parts.old) }
     ensures row { TruncateStartRow (view parts.old) task killed phase result (view parts.new) }
     ensures sizes { SizesStay (state_of parts.old) (state_of parts.new) }
+    ensures room { RoomStays (state_of parts.old) (state_of parts.new) }
     ensures same { IfBlocked result (λ again. (again ≡ TruncatePhase.Start phase) × (state_of parts.new ≡ state_of parts.old)) }
 {
     let truncation = phase.truncation;
@@ -75,6 +78,7 @@ fn from_size(parts: &mut Parts, phase: Size) -> Turn<TruncatePhase>
     requires { IsFileOf (view parts.old) phase.truncation.file }
     ensures row { TruncateSizeRow (view parts.old) phase result (view parts.new) }
     ensures sizes { SizesStay (state_of parts.old) (state_of parts.new) }
+    ensures room { RoomStays (state_of parts.old) (state_of parts.new) }
 {
     let Size { truncation } = phase;
     let top = set_size(parts, truncation.file, truncation.new);
@@ -100,6 +104,7 @@ fn set_size(parts: &mut Parts, file: File, new: u32) -> u32
     ensures top { (end : ℕ) × IsPagesEnd ((view parts.old).pages file) end × (result ≡ max ((view parts.old).size file) end) }
     ensures after { view parts.new ≡ record (view parts.old) { size = put (view parts.old).size file new } }
     ensures sizes { SizesStay (state_of parts.old) (state_of parts.new) }
+    ensures room { RoomStays (state_of parts.old) (state_of parts.new) }
 {
     let file = &mut parts.files[file.number() as usize];
     let top = file.size.max(file.cache.top());
@@ -111,6 +116,7 @@ fn set_size(parts: &mut Parts, file: File, new: u32) -> u32
 fn from_want(parts: &mut Parts, task: Task, phase: Want) -> Turn<TruncatePhase>
     ensures row { TruncateWantRow (view parts.old) task phase result (view parts.new) }
     ensures sizes { SizesStay (state_of parts.old) (state_of parts.new) }
+    ensures room { RoomStays (state_of parts.old) (state_of parts.new) }
     ensures same { IfBlocked result (λ again. (again ≡ TruncatePhase.Want phase) × (state_of parts.new ≡ state_of parts.old)) }
 {
     let (truncation, index, evicted) = (phase.truncation, phase.index, phase.evicted);
@@ -128,6 +134,7 @@ fn from_locked(parts: &mut Parts, phase: Locked) -> Turn<TruncatePhase>
     requires { IsFileOf (view parts.old) phase.truncation.file }
     ensures row { TruncateLockedRow (view parts.old) phase result (view parts.new) }
     ensures sizes { SizesStay (state_of parts.old) (state_of parts.new) }
+    ensures room { RoomStays (state_of parts.old) (state_of parts.new) }
 {
     let Locked {
         truncation,
@@ -157,6 +164,7 @@ fn from_unmap(parts: &mut Parts, phase: Unmap) -> Turn<TruncatePhase>
     requires few { (view parts.old).geometry.tasks < 2 ^ 32 }
     ensures row { TruncateUnmapRow (view parts.old) phase result (view parts.new) }
     ensures sizes { SizesStay (state_of parts.old) (state_of parts.new) }
+    ensures room { RoomStays (state_of parts.old) (state_of parts.new) }
 {
     let Unmap {
         truncation,
@@ -187,6 +195,7 @@ fn from_evict(parts: &mut Parts, phase: Evict) -> Turn<TruncatePhase>
     requires few { phase.evicted ≤ LIMIT }
     ensures row { TruncateEvictRow (view parts.old) phase result (view parts.new) }
     ensures sizes { SizesStay (state_of parts.old) (state_of parts.new) }
+    ensures room { RoomStays (state_of parts.old) (state_of parts.new) }
 {
     let Evict {
         truncation,
@@ -207,6 +216,7 @@ fn from_free(parts: &mut Parts, phase: Free) -> Turn<TruncatePhase>
     requires { IsHeld (view parts.old) phase.held }
     ensures row { TruncateFreeRow (view parts.old) phase result (view parts.new) }
     ensures sizes { SizesStay (state_of parts.old) (state_of parts.new) }
+    ensures room { RoomStays (state_of parts.old) (state_of parts.new) }
 {
     let Free {
         truncation,
@@ -226,6 +236,7 @@ fn from_unslot(parts: &mut Parts, task: Task, phase: Unslot) -> Turn<TruncatePha
     requires { (view parts.old).slots (slot_of (view parts.old).geometry phase.truncation.file phase.index) ≡ Some task }
     ensures row { TruncateUnslotRow (view parts.old) phase result (view parts.new) }
     ensures sizes { SizesStay (state_of parts.old) (state_of parts.new) }
+    ensures room { RoomStays (state_of parts.old) (state_of parts.new) }
 {
     let Unslot {
         truncation,
@@ -253,6 +264,7 @@ fn from_tail(parts: &mut Parts, phase: Tail) -> Turn<TruncatePhase>
     requires evicted { phase.evicted ≤ count_within ((view parts.old).reserved phase.truncation.file) phase.truncation.new LIMIT }
     ensures row { TruncateTailRow (view parts.old) phase result (view parts.new) }
     ensures sizes { SizesStay (state_of parts.old) (state_of parts.new) }
+    ensures room { RoomStays (state_of parts.old) (state_of parts.new) }
 {
     let Tail {
         truncation,
@@ -268,6 +280,7 @@ fn from_settle(parts: &mut Parts, phase: Settle) -> Turn<TruncatePhase>
     requires { phase.excess ≤ (view parts.old).resv }
     ensures row { TruncateSettleRow (view parts.old) phase result (view parts.new) }
     ensures sizes { SizesStay (state_of parts.old) (state_of parts.new) }
+    ensures room { RoomStays (state_of parts.old) (state_of parts.new) }
 {
     let Settle { truncation, excess } = phase;
     parts.bank.settle(excess);
@@ -278,6 +291,7 @@ fn from_leave(parts: &mut Parts, task: Task, phase: Leave) -> Turn<TruncatePhase
     requires { (view parts.old).locks phase.truncation.file ≡ Some task }
     ensures row { TruncateLeaveRow (view parts.old) phase result (view parts.new) }
     ensures sizes { SizesStay (state_of parts.old) (state_of parts.new) }
+    ensures room { RoomStays (state_of parts.old) (state_of parts.new) }
 {
     let Leave { truncation } = phase;
     leave_lock(parts, task, truncation.file);

@@ -2,6 +2,7 @@
 ghost use Rattle.hp_machine.specs.UnmapRows.{UnmapRow, UnmapStartRow, UnmapClearRow, UnmapDropRow};
 ghost use Rattle.hp_fault.specs.View.{view};
 ghost use Rattle.hp_fault.specs.State.{state_of, SizesStay};
+ghost use Rattle.hp_fault.specs.Room.{RoomStays};
 ghost use Rattle.hp_fault.specs.Fits.{IsTaskOf};
 ghost use Rattle.hp_remove.specs.Fits.{UnmapFits, IsCleared};
 
@@ -23,6 +24,7 @@ pub fn step_unmap(
     requires { UnmapFits (view parts.old) task phase }
     ensures row { UnmapRow (view parts.old) task killed grant phase result (view parts.new) }
     ensures sizes { SizesStay (state_of parts.old) (state_of parts.new) }
+    ensures room { RoomStays (state_of parts.old) (state_of parts.new) }
 {
     let _ = (killed, grant);
     match phase {
@@ -37,6 +39,7 @@ fn from_start(parts: &mut Parts, task: Task, phase: Start) -> Turn<UnmapPhase>
     requires { IsTaskOf (view parts.old) task }
     ensures row { UnmapStartRow (view parts.old) task phase result (view parts.new) }
     ensures sizes { SizesStay (state_of parts.old) (state_of parts.new) }
+    ensures room { RoomStays (state_of parts.old) (state_of parts.new) }
 {
     let Start { base } = phase;
     let space = &parts.spaces[(task.number() - 1) as usize];
@@ -51,6 +54,7 @@ fn from_clear(parts: &mut Parts, task: Task, phase: Clear) -> Turn<UnmapPhase>
     requires { IsTaskOf (view parts.old) task }
     ensures row { UnmapClearRow (view parts.old) task phase result (view parts.new) }
     ensures sizes { SizesStay (state_of parts.old) (state_of parts.new) }
+    ensures room { RoomStays (state_of parts.old) (state_of parts.new) }
 {
     let Clear { base } = phase;
     clear_mapping(parts, task, base);
@@ -62,6 +66,7 @@ fn from_drop(parts: &mut Parts, task: Task, phase: Drop) -> Turn<UnmapPhase>
     requires bare { IsCleared (view parts.old) task phase.base }
     ensures row { UnmapDropRow (view parts.old) task phase result (view parts.new) }
     ensures sizes { SizesStay (state_of parts.old) (state_of parts.new) }
+    ensures room { RoomStays (state_of parts.old) (state_of parts.new) }
 {
     let Drop { base } = phase;
     drop_mapping(parts, task, base);

@@ -34,13 +34,18 @@ pub struct SlotTable {
 }
 
 impl Model for SlotTable {
-    ghost use Rattle.std.specs.Prelude.{◌<◌, ◌^◌, ℕ, List, Option, length};
+    ghost use Rattle.std.specs.Prelude.{◌≡◌, ◌<◌, ◌^◌, ℕ, List, Option, length, vec_capacity};
 
     ghost Value = { List (Option ℕ) };
 
     ghost view = { λ table. table.holders.items };
 
-    ghost invariant = { λ table. (0 < length table.holders.items) × (length table.holders.items < 2 ^ 32) };
+    // There is room for the places and for no more: a table that took memory would have another number of places.
+    ghost invariant = { λ table. record {
+      some : 0 < length table.holders.items;
+      few : length table.holders.items < 2 ^ 32;
+      room : vec_capacity table.holders ≡ length table.holders.items;
+    } };
 }
 
 impl SlotTable {
@@ -49,8 +54,10 @@ impl SlotTable {
         requires { 1 ≤ places }
         ensures { IfOk result (λ table. table ≡ replicate places None) }
     {
-        let mut holders = Vec::new(alloc);
-        holders.resize(places as usize, None)?;
+        let mut holders = Vec::with_capacity(alloc, places as usize)?;
+        for _ in 0..places {
+            holders.push_reserved(None);
+        }
         Ok(SlotTable { holders })
     }
 

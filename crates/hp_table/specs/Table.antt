@@ -5,12 +5,13 @@ use Rattle.std.specs.FinMap.{FinMap, code}
 use Rattle.std.specs.Coded.{Coded, code_by, coded×, coded_list, coded_bool, coded_ℕ}
 use Rattle.hp_base.specs.declared.mapping.Mapping.{Mapping}
 
--- the mappings in order of their bases, the frame of each virtual page that is translated, and whether
--- room for one mapping more is ready
+-- the mappings in order of their bases, the frame of each virtual page that is translated, whether room for
+-- one mapping more is ready, and for how many mappings and translations the space has taken memory
 pub record Table : Type 0 where
   pub mappings : List Mapping
   pub entries : FinMap nat_cmp ℕ
   pub ready : Bool
+  pub room : ℕ
 
 -- how a proof tells two of them apart
 abbrev pub mapping_code : Coded Mapping
@@ -21,6 +22,7 @@ mapping_code =
 
 abbrev pub table_code : Coded Table
 table_code =
-    code_by (List Mapping × (FinMap nat_cmp ℕ × Bool))
-    (coded× (coded_list mapping_code) (coded× (code coded_ℕ coded_ℕ) coded_bool))
-    (λ t. (t.mappings, (t.entries, t.ready))) (λ p. record { mappings = p.0; entries = p.1.0; ready = p.1.1 }) (λ _. refl)
+    code_by (List Mapping × (FinMap nat_cmp ℕ × (Bool × ℕ)))
+    (coded× (coded_list mapping_code) (coded× (code coded_ℕ coded_ℕ) (coded× coded_bool coded_ℕ)))
+    (λ t. (t.mappings, (t.entries, (t.ready, t.room))))
+    (λ p. record { mappings = p.0; entries = p.1.0; ready = p.1.1.0; room = p.1.1.1 }) (λ _. refl)

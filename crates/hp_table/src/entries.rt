@@ -1,5 +1,5 @@
 //! Edits of a page table, whose entries are in order of their virtual pages.
-ghost use Rattle.std.specs.Prelude.{◌≡◌, ◌+◌, ◌≤◌, IsTrue, filter, nat_lt, not};
+ghost use Rattle.std.specs.Prelude.{◌≡◌, ◌+◌, ◌≤◌, IsTrue, filter, nat_lt, not, vec_capacity};
 ghost use Rattle.std.specs.FinMap as map;
 ghost use Rattle.std.specs.List.{prefix_len};
 ghost use Rattle.std.specs.Ordering.{nat_cmp};
@@ -34,8 +34,9 @@ pub fn frame_of(entries: &[(Vpn, Frame)], vpn: Vpn) -> Option<Frame>
 pub fn clear(entries: &mut Vec<(Vpn, Frame)>, from: Vpn, len: u32)
     requires sorted { IsTrue (map.is_sorted nat_cmp entries.old.items) }
     requires within { from + len ≤ VPNS }
-    ensures { entries.new.items
+    ensures items { entries.new.items
         ≡ filter (λ entry. not (is_within from (from + len) entry.0)) entries.old.items }
+    ensures capacity { vec_capacity entries.new ≡ vec_capacity entries.old }
 {
     let first = before(entries, from);
     let end = before(entries, Vpn::new(from.number() + len));
@@ -46,8 +47,9 @@ pub fn clear(entries: &mut Vec<(Vpn, Frame)>, from: Vpn, len: u32)
 pub fn clear_index(entries: &mut Vec<(Vpn, Frame)>, mappings: &[Mapping], file: File, index: Index)
     requires sorted { IsTrue (map.is_sorted nat_cmp entries.old.items) }
     requires spread { IsSpread VPNS 0 mappings.now }
-    ensures { entries.new.items
+    ensures items { entries.new.items
         ≡ filter (λ entry. not (is_there (find mappings.now entry.0) file index)) entries.old.items }
+    ensures capacity { vec_capacity entries.new ≡ vec_capacity entries.old }
 {
     for mapping in mappings {
         if let Some(page) = search::page_of(*mapping, file, index) {

@@ -33,7 +33,12 @@ impl Model for Space {
 
     ghost coded = { table_code };
 
-    ghost view = { λ s. record { mappings = s.mappings.items; entries = map.from_sorted s.entries.items; ready = s.ready } };
+    ghost view = { λ s. record {
+      mappings = s.mappings.items;
+      entries = map.from_sorted s.entries.items;
+      ready = s.ready;
+      room = vec_capacity s.mappings + vec_capacity s.entries;
+    } };
 
     ghost invariant = { λ s. record {
       spread : IsSpread VPNS 0 s.mappings.items;
@@ -50,6 +55,7 @@ impl Space {
         ensures mappings { result.mappings ≡ [] }
         ensures entries { result.entries ≡ map.empty }
         ensures ready { result.ready ≡ false }
+        ensures room { result.room ≡ 0 }
     {
         Space {
             mappings: Vec::new(alloc),
@@ -68,7 +74,7 @@ impl Space {
 
     /// Prepares room for one mapping more.
     pub fn prepare(&mut self) -> Result<(), AllocError>
-        ensures ok { OnOk result (self.new ≡ record self.old { ready = true }) }
+        ensures ok { OnOk result (self.new ≡ record self.old { ready = true; room = self.new.room }) }
         ensures err { OnErr result (self.new ≡ self.old) }
     {
         self.mappings.reserve(1)?;
@@ -93,6 +99,7 @@ impl Space {
         ensures mappings { self.new.mappings ≡ entered self.old.mappings (record { base = base; file = file; from = from; len = len }) }
         ensures entries { self.new.entries ≡ self.old.entries }
         ensures ready { self.new.ready ≡ false }
+        ensures room { self.new.room ≡ self.old.room }
     {
         let at = search::begun(&self.mappings, base);
         let mapping = Mapping {
@@ -139,7 +146,8 @@ impl Space {
     pub fn install(&mut self, vpn: Vpn, frame: Frame) -> Result<(), AllocError>
         requires mapped { IsSome (find self.old.mappings vpn) }
         requires bare { map.get self.old.entries vpn ≡ None }
-        ensures ok { OnOk result (self.new ≡ record self.old { entries = map.insert self.old.entries vpn frame }) }
+        ensures ok { OnOk result
+            (self.new ≡ record self.old { entries = map.insert self.old.entries vpn frame; room = self.new.room }) }
         ensures err { OnErr result (self.new ≡ self.old) }
     {
         self.entries.reserve(1)?;
@@ -154,6 +162,7 @@ impl Space {
         ensures mappings { self.new.mappings ≡ self.old.mappings }
         ensures entries { map.get self.new.entries ≡ without_index self.old.mappings (map.get self.old.entries) file index }
         ensures ready { self.new.ready ≡ self.old.ready }
+        ensures room { self.new.room ≡ self.old.room }
     {
         entries::clear_index(&mut self.entries, &self.mappings, file, index);
     }
@@ -164,6 +173,7 @@ impl Space {
         ensures mappings { self.new.mappings ≡ self.old.mappings }
         ensures entries { map.get self.new.entries ≡ without_mapping self.old.mappings (map.get self.old.entries) base }
         ensures ready { self.new.ready ≡ self.old.ready }
+        ensures room { self.new.room ≡ self.old.room }
     {
         if let Some(at) = search::place_of(&self.mappings, base) {
             entries::clear(&mut self.entries, base, self.mappings[at].len);
@@ -176,6 +186,7 @@ impl Space {
         ensures mappings { self.new.mappings ≡ without self.old.mappings base }
         ensures entries { self.new.entries ≡ self.old.entries }
         ensures ready { self.new.ready ≡ self.old.ready }
+        ensures room { self.new.room ≡ self.old.room }
     {
         if let Some(at) = search::place_of(&self.mappings, base) {
             self.mappings.remove(at);

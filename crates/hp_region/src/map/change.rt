@@ -79,6 +79,9 @@ impl RegionMap {
         ensures denied { IsErrOf result ChangeFault.Denied ↔ ((self.old.spare ≡ self.old.pending) × (grant ≡ false)) }
         ensures memory { IsErrOf result ChangeFault.Memory → (self.old.spare ≡ self.old.pending) × IsTrue grant }
         ensures err { OnErr result (self.new ≡ self.old) }
+
+        // Memory is taken only where that is granted and all room is promised.
+        ensures room { ¬ (IsTrue grant × (self.old.spare ≡ self.old.pending)) → self.new.room ≡ self.old.room }
     {
         let missing = self.missing(from, to);
         if self.spare == self.pending {
@@ -106,6 +109,7 @@ impl RegionMap {
         ensures pending { self.new.pending ≡ self.old.pending - 1 }
         ensures spare { self.new.spare ≡ (if touches (is_member self.old.regions) change.from change.to then self.old.spare
             else self.old.spare - 1) }
+        ensures room { self.new.room ≡ self.old.room }
     {
         let Pending { from, to, .. } = change;
         let added = self.missing(from, to);
@@ -122,6 +126,7 @@ impl RegionMap {
         ensures regions { self.new.regions ≡ self.old.regions }
         ensures pending { self.new.pending ≡ self.old.pending - 1 }
         ensures spare { self.new.spare ≡ self.old.spare }
+        ensures room { self.new.room ≡ self.old.room }
     {
         drop(change);
         self.pending -= 1;

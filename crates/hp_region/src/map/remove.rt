@@ -18,6 +18,7 @@ impl RegionMap {
         ensures members { is_member self.new.regions ≡ cut_tail (is_member self.old.regions) from }
         ensures pending { self.new.pending ≡ self.old.pending }
         ensures spare { self.new.spare ≡ self.old.spare }
+        ensures room { self.new.room ≡ self.old.room }
     {
         let removed = walk::held(&self.regions, from, Index::new(LIMIT));
         walk::cut(&mut self.regions, from);
@@ -41,6 +42,10 @@ impl RegionMap {
         ensures memory { IsErrOf result DelFault.Memory
             → IsTrue (splits (is_member self.old.regions) index) × (self.old.spare ≡ self.old.pending) × IsTrue grant }
         ensures err { OnErr result (self.new ≡ self.old) }
+
+        // Memory is taken only where that is granted, a region falls apart, and all room is promised.
+        ensures room { ¬ (IsTrue grant × IsTrue (splits (is_member self.old.regions) index) × (self.old.spare ≡ self.old.pending))
+            → self.new.room ≡ self.old.room }
     {
         let Some(at) = walk::find(&self.regions, index) else {
             return Ok(0);
@@ -70,7 +75,8 @@ fn take_room(
     ensures spare { spare.new ≡ (if nat_lt pending spare.old then spare.old - 1 else spare.old) }
     ensures denied { IsErrOf result DelFault.Denied ↔ ((spare.old ≡ pending) × (grant ≡ false)) }
     ensures memory { IsErrOf result DelFault.Memory → (spare.old ≡ pending) × IsTrue grant }
-    ensures err { OnErr result (spare.old ≡ pending) }
+    ensures err { OnErr result ((spare.old ≡ pending) × (vec_capacity regions.new ≡ vec_capacity regions.old)) }
+    ensures kept { ¬ (IsTrue grant × (spare.old ≡ pending)) → vec_capacity regions.new ≡ vec_capacity regions.old }
 {
     if *spare > pending {
         *spare -= 1;

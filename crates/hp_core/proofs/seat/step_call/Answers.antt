@@ -44,3 +44,9 @@ pub returns-in-Truncate-clause-blocked : goal.returns-in-Truncate-clause-blocked
 returns-in-Truncate-clause-blocked c =
     rw c.in-Truncate.is (finished_blocked call.Truncate _ _ _ (Ok c.step_truncate.result) _
     c.finish-in-Truncate.ensures c.step_truncate.ensures.blocked)
+
+pub returns-in-Touch-clause-room : goal.returns-in-Touch-clause-room
+returns-in-Touch-clause-room c = rw c.in-Touch.is c.step_touch.ensures.room
+
+pub returns-in-Punch-clause-room : goal.returns-in-Punch-clause-room
+returns-in-Punch-clause-room c = rw c.in-Punch.is c.step_punch.ensures.room

@@ -28,8 +28,8 @@ drain-requires-clause-in_bounds c =
 by_way_of : {A : Type 0} (x y z : A) → x ≡ y → y ≡ z → x ≡ z
 by_way_of x y z first then = first ∙ then
 
-pub returns : goal.returns
-returns c =
+pub returns-clause-items : goal.returns-clause-items
+returns-clause-items c =
     let es = c.args.entries.now.items in
     let within = filter-within 0 es c.args.from (c.args.from + c.args.len) (is_sorted-Rises es c.requires.sorted) (omega arith) in
     let left : c.drop-drain.new.self.0.items ≡ filter (λ e. not (is_within c.args.from (c.args.from + c.args.len) e.0)) es =

@@ -1,5 +1,5 @@
 use Rattle.std.proofs.Common.{◌≡◌, ℕ, suc, ◌+◌, ◌<◌, not, List, ◌∷◌, Some, None, length, get_or, drop, filter, sym, ap, subst}
-use Rattle.std.proofs.Common.{◌∙◌, arith, drop-cons}
+use Rattle.std.proofs.Common.{◌∙◌, arith, drop-cons, vec_capacity}
 use Rattle.std.proofs.lemmas.List.{drop_all}
 use Rattle.hp_base.specs.Indices.{is_within}
 use Rattle.hp_base.specs.Mappings.{IsSpread}
@@ -59,7 +59,7 @@ loop-mapping-preserved c =
     elim c.match-page_of.branch [
       | in-Some w ↦
           let new : c.match-page_of.entries.items ≡ filter
-          (λ e. not (is_within w.in-Some.page (w.in-Some.page + 1) e.0)) es = ap (λ v. v.items) w.entries-is ∙ w.clear.ensures in
+          (λ e. not (is_within w.in-Some.page (w.in-Some.page + 1) e.0)) es = ap (λ v. v.items) w.entries-is ∙ w.clear.ensures.items in
           record {
             sorted = rw new (is_sorted-cleared (is_within w.in-Some.page (w.in-Some.page + 1)) es c.loop-mapping.invariant.sorted);
             spread = later;
@@ -67,6 +67,7 @@ loop-mapping-preserved c =
                 rw new (c.loop-mapping.invariant.left
                 ∙ left_some (drop i ms) (drop (i + 1) ms) m c.args.file c.args.index w.in-Some.page es split spread
                 w.in-Some.ensures);
+            capacity = ap (λ v. vec_capacity v) w.entries-is ∙ (w.clear.ensures.capacity ∙ c.loop-mapping.invariant.capacity);
           }
       | in_default w ↦
           let same : c.match-page_of.entries.items ≡ es = ap (λ v. v.items) w.entries-is in
@@ -76,11 +77,12 @@ loop-mapping-preserved c =
             left =
                 rw same (c.loop-mapping.invariant.left
                 ∙ left_none (drop i ms) (drop (i + 1) ms) m c.args.file c.args.index es split spread w.in_default.ensures);
+            capacity = ap (λ v. vec_capacity v) w.entries-is ∙ c.loop-mapping.invariant.capacity;
           }
     ]
 
-pub returns : goal.returns
-returns c =
+pub returns-clause-items : goal.returns-clause-items
+returns-clause-items c =
     let none = drop_all c.loop-mapping.mapping-index c.args.mappings.now c.loop-mapping-test.false in
     sym (c.loop-mapping.invariant.left
     ∙ (ap (λ (xs : List Mapping). others xs c.args.file c.args.index c.loop-mapping.entries.items) none

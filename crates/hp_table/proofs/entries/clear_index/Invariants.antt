@@ -1,5 +1,5 @@
 use Rattle.std.proofs.Common.{◌≡◌, drop, not}
-use Rattle.std.specs.Prelude.{IsTrue, filter}
+use Rattle.std.specs.Prelude.{IsTrue, filter, vec_capacity}
 use Rattle.std.specs.FinMap as map
 use Rattle.std.specs.Ordering.{nat_cmp}
 use Rattle.hp_base.specs.Mappings.{find, is_there, IsSpread}
@@ -12,4 +12,5 @@ invariant-loop-mapping l = record {
   spread : IsSpread VPNS 0 (drop l.mapping-index l.mappings);
   left : filter (λ e. not (is_there (find l.mappings e.0) l.file l.index)) l.fn.entries.items ≡ filter
       (λ e. not (is_there (find (drop l.mapping-index l.mappings) e.0) l.file l.index)) l.entries.items;
+  capacity : vec_capacity l.entries ≡ vec_capacity l.fn.entries;
 }

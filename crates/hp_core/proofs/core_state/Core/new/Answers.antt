@@ -17,10 +17,10 @@ invariant_of-result c = are_sound (sizes c.args.config) _ _
       all_spaces = c.in_ok-new_spaces.ensures.fresh;
       seats_long = c.in_ok-seats.ensures.count;
       all_seats = c.in_ok-seats.ensures.fresh;
-    }) c.args.config.within_limits
+    }) _ c.args.config.within_limits
 
 pub returns-clause-opening : goal.returns-clause-opening
-returns-clause-opening c = opens_as c.args.config _ _
+returns-clause-opening c = opens_as c.args.config _ _ _
     (record {
       all_frames = c.in_ok-new.ensures.frames;
       none_reserved = c.in_ok-new.ensures.resv;

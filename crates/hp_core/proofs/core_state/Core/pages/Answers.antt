@@ -16,4 +16,4 @@ pub returns-clause-count : goal.returns-clause-count
 unfolding pages_of view.pages_of
 returns-clause-count c =
     let read = file_read c.self.view_is c.self.invariant c.number.ensures c.requires c.index.ensures in
-    c.count.ensures.count ∙ ap (λ (y : FileState). count_below (λ i. is_some (get y.cache i)) LIMIT) read
+    c.count.ensures.count ∙ ap (λ (y : FileState). count_below (λ i. is_some (get y.cache.pages i)) LIMIT) read

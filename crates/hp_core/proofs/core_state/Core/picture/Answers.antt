@@ -1,4 +1,4 @@
-use Rattle.std.proofs.Common.{to_z, of_z, w64, ◌≡◌, ℕ, List, ◌<◌, length, get_or, ap, sym, subst, ◌∙◌, arith}
+use Rattle.std.proofs.Common.{to_z, of_z, w64, ◌≡◌, ℕ, List, ◌<◌, length, get_or, ap, sym, subst, ◌∙◌, arith, vec_capacity}
 use Rattle.std.specs.Prelude.{HoldsAt, filter_map, is_some}
 use Rattle.std.proofs.lemmas.Int.{to_z-of_z}
 use Rattle.hp_base.specs.Text.{sizes}
@@ -37,6 +37,7 @@ returns c =
       sizes = sizes c.self.inside.config;
       parts = state_of c.self.inside.parts;
       seats = c.self.inside.seats.items;
+      room = vec_capacity c.self.inside.seats;
     } in
     let is : c.owed.result ≡ owed_of s = c.owed.ensures ∙ ap (λ (z : CoreState). owed_of z) (sym c.self.view_is) in
     let owed_is : to_z w64 (of_z w64 c.owed.result) ≡ owed_of s = grind (arith, to_z-of_z, is) in

@@ -11,6 +11,6 @@ invariant_of-self c =
     subst (λ (b : BankState). slice_get b.frames c.held.inside.frame ≡ Some Hand) (sym c.self.view_is)
     (subst (λ (f : ℕ). slice_get c.args.self.now.frames f ≡ Some Hand) (sym c.held.view_is) c.requires) in
     record {
-      listed = moved _ _ _ _ _ Hand (Placed 0) c.move_frame.ensures was refl refl c.self.invariant.listed;
+      listed = moved _ _ _ _ _ Hand (Placed 0) c.move_frame.ensures.items was refl refl c.self.invariant.listed;
       reserved = c.self.invariant.reserved;
     }

@@ -10,7 +10,7 @@ invariant_of-self c =
     let was : slice_get c.self.inside.frames.items c.args.frame ≡ Some (Placed c.requires.0) =
     subst (λ (b : BankState). slice_get b.frames c.args.frame ≡ Some (Placed c.requires.0)) (sym c.self.view_is) c.requires.1 in
     record {
-      listed = moved _ _ _ _ _ (Placed c.requires.0) (Placed c.args.word) c.move_frame.ensures was refl refl
+      listed = moved _ _ _ _ _ (Placed c.requires.0) (Placed c.args.word) c.move_frame.ensures.items was refl refl
           c.self.invariant.listed;
       reserved = c.self.invariant.reserved;
     }

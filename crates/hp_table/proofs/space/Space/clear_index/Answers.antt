@@ -9,7 +9,7 @@ use Rattle.hp_table.proofs.space.Space.clear_index.Goals as goal
 items : (c : goal.After-clear_index)
     → c.clear_index.new.entries.items ≡ others c.self.inside.mappings.items c.args.file c.args.index c.self.inside.entries.items
 items c =
-    c.clear_index.ensures
+    c.clear_index.ensures.items
     ∙ ap (λ (ms : List Mapping). others ms c.args.file c.args.index c.self.inside.entries.items) c.deref.ensures.value
 
 pub invariant_of-self : goal.invariant_of-self

@@ -21,15 +21,15 @@ invariant_of-self c =
     record {
       spread = c.self.invariant.spread;
       in_files = c.self.invariant.in_files;
-      in_order = rw c.clear.ensures (is_sorted-cleared gone es c.self.invariant.in_order);
-      mapped = rw c.clear.ensures (cleared_keeps (λ v. IsSome (find c.self.inside.mappings.items v)) gone es c.self.invariant.mapped);
+      in_order = rw c.clear.ensures.items (is_sorted-cleared gone es c.self.invariant.in_order);
+      mapped = rw c.clear.ensures.items (cleared_keeps (λ v. IsSome (find c.self.inside.mappings.items v)) gone es c.self.invariant.mapped);
       room = c.self.invariant.room;
     }
 
 pub returns-in-Some-clause-entries : goal.returns-in-Some-clause-entries
 returns-in-Some-clause-entries c =
     let found = c.in-Some.ensures {u = tt} ∙ ap (position (begins_at c.args.base)) c.deref.ensures.value in
-    rw (← c.self.view_is, c.clear.ensures)
+    rw (← c.self.view_is, c.clear.ensures.items)
     (get-within c.self.inside.mappings.items c.args.base c.in-Some.at c.index.result.now c.self.inside.entries.items
     found c.index.ensures c.self.invariant.in_order)
 

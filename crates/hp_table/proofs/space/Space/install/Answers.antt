@@ -1,4 +1,4 @@
-use Rattle.std.proofs.Common.{ℕ, ◌≡◌, None, ap, sym, ◌∙◌, arith}
+use Rattle.std.proofs.Common.{ℕ, ◌≡◌, ◌+◌, vec_capacity, None, ap, sym, ◌∙◌, arith}
 use Rattle.std.specs.FinMap as map
 use Rattle.std.specs.FinMap.{FinMap, find, put}
 use Rattle.std.specs.Ordering.{nat_cmp}
@@ -43,5 +43,10 @@ pub returns-clause-ok : goal.returns-clause-ok
 returns-clause-ok c =
     rw (← c.self.view_is, items c)
     (ap (λ (entries : FinMap nat_cmp ℕ).
-    record { mappings = c.self.inside.mappings.items; entries = entries; ready = c.self.inside.ready })
+    record {
+      mappings = c.self.inside.mappings.items;
+      entries = entries;
+      ready = c.self.inside.ready;
+      room = vec_capacity c.self.inside.mappings + vec_capacity c.insert.new.self;
+    })
     (from_sorted-put c.self.inside.entries.items c.args.vpn c.args.frame c.self.invariant.in_order))
