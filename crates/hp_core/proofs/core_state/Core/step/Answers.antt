@@ -1,5 +1,7 @@
-use Rattle.std.proofs.Common.{◌≡◌, ap}
+use Rattle.std.proofs.Common.{◌≡◌, ap, vec_capacity}
 use Rattle.std.specs.Prelude.{IfOk}
+use Rattle.hp_base.specs.Text.{sizes}
+use Rattle.hp_fault.specs.State.{state_of}
 use Rattle.hp_core.specs.State.{CoreState}
 use Rattle.hp_core.specs.Readers.{config_of}
 use Rattle.hp_core.specs.Runs.{Row, IsIdle, Headline}
@@ -12,26 +14,49 @@ use Rattle.hp_core.proofs.core_state.Core.step.Goals as goal
 
 pub step_event-requires : goal.step_event-requires
 step_event-requires c =
-    fits_from_sound _ c.args.event c.self.invariant
+    fits_from_sound (record {
+      sizes = sizes c.self.inside.config;
+      parts = state_of c.self.inside.parts;
+      seats = c.self.inside.seats.items;
+      room = vec_capacity c.self.inside.seats;
+    }) c.args.event c.self.invariant
 
 pub invariant_of-self : goal.invariant_of-self
 invariant_of-self c =
-    with_room IsSound _ _ _ _ c.step_event.ensures.capacity
-    (sound_result _ c.args.event c.step_event.result _ _ c.self.invariant
-    (fits_from_sound _ c.args.event c.self.invariant) c.step_event.ensures.row c.step_event.ensures.sizes
+    let s : CoreState = record {
+      sizes = sizes c.self.inside.config;
+      parts = state_of c.self.inside.parts;
+      seats = c.self.inside.seats.items;
+      room = vec_capacity c.self.inside.seats;
+    } in
+    with_room IsSound s _ _ _ c.step_event.ensures.capacity
+    (sound_result s c.args.event c.step_event.result _ _ c.self.invariant
+    (fits_from_sound s c.args.event c.self.invariant) c.step_event.ensures.row c.step_event.ensures.sizes
     c.step_event.ensures.seats c.step_event.ensures.err)
 
 pub returns-clause-row : goal.returns-clause-row
 returns-clause-row c =
+    let s : CoreState = record {
+      sizes = sizes c.self.inside.config;
+      parts = state_of c.self.inside.parts;
+      seats = c.self.inside.seats.items;
+      room = vec_capacity c.self.inside.seats;
+    } in
     rw (← c.self.view_is)
-    (with_room (λ n. IfOk c.step_event.result (λ told. Row _ c.args.event told n)) _ _ _ _ c.step_event.ensures.capacity
-    (row_result _ c.args.event c.step_event.result _ _ (fits_from_sound _ c.args.event c.self.invariant) c.step_event.ensures.row))
+    (with_room (λ n. IfOk c.step_event.result (λ told. Row s c.args.event told n)) s _ _ _ c.step_event.ensures.capacity
+    (row_result s c.args.event c.step_event.result _ _ (fits_from_sound s c.args.event c.self.invariant) c.step_event.ensures.row))
 
 pub returns-clause-headline : goal.returns-clause-headline
 returns-clause-headline c =
-    with_room Headline _ _ _ _ c.step_event.ensures.capacity
-    (headline_of _ (sound_result _ c.args.event c.step_event.result _ _ c.self.invariant
-    (fits_from_sound _ c.args.event c.self.invariant) c.step_event.ensures.row c.step_event.ensures.sizes
+    let s : CoreState = record {
+      sizes = sizes c.self.inside.config;
+      parts = state_of c.self.inside.parts;
+      seats = c.self.inside.seats.items;
+      room = vec_capacity c.self.inside.seats;
+    } in
+    with_room Headline s _ _ _ c.step_event.ensures.capacity
+    (headline_of _ (sound_result s c.args.event c.step_event.result _ _ c.self.invariant
+    (fits_from_sound s c.args.event c.self.invariant) c.step_event.ensures.row c.step_event.ensures.sizes
     c.step_event.ensures.seats c.step_event.ensures.err))
 
 pub returns-clause-config : goal.returns-clause-config
@@ -40,7 +65,13 @@ returns-clause-config c = ap (λ (z : CoreState). z.sizes) c.self.view_is
 
 pub returns-clause-idle : goal.returns-clause-idle
 returns-clause-idle c =
+    let s : CoreState = record {
+      sizes = sizes c.self.inside.config;
+      parts = state_of c.self.inside.parts;
+      seats = c.self.inside.seats.items;
+      room = vec_capacity c.self.inside.seats;
+    } in
     rw (← c.self.view_is)
-    (with_room (λ n. IfOk c.step_event.result (λ told. IsIdle told → n ≡ _)) _ _ _ _ c.step_event.ensures.capacity
-    (idle_result _ c.args.event c.step_event.result _ _ c.self.invariant
-    (fits_from_sound _ c.args.event c.self.invariant) c.step_event.ensures.row c.step_event.ensures.blocked))
+    (with_room (λ n. IfOk c.step_event.result (λ told. IsIdle told → n ≡ s)) s _ _ _ c.step_event.ensures.capacity
+    (idle_result s c.args.event c.step_event.result _ _ c.self.invariant
+    (fits_from_sound s c.args.event c.self.invariant) c.step_event.ensures.row c.step_event.ensures.blocked))
