@@ -90,7 +90,7 @@ file_right k f b e = let d : k ≡ f = grind (arith, nat_tests) in ap (λ (m : �
 one_covers : (change : Change) (k m f i : ℕ) (b : Bool) → IsOne change m → (b ≡ true → (k ≡ f) × (m ≡ i))
     → (((k == f) && is_within change.from change.to i) || b) ≡ true → ◌≡◌ {A = Option (ℕ × ℕ)} (Some (k, m)) (Some (f, i))
 one_covers change k m f i b one other e = elim (either (is_covered (Counts k change) f i) b e) [
-  | inl a ↦ of_pair (within_one change.from change.to k m f i one.0 one.1 a)
+  | inl a ↦ of_pair (within_one change.from change.to k m f i one.begins one.ends a)
   | inr a ↦ of_pair (other a)
 ]
 
