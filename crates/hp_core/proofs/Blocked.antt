@@ -39,7 +39,7 @@ use Rattle.hp_core.proofs.Rows.{Done}
 use Rattle.hp_core.proofs.Seats.{by_test, by_option}
 use Rattle.hp_core.proofs.Steps.{event_row, with_fields}
 
--- nothing is asked of what isn't told as blocked
+-- where nothing is asked of a blocked outcome, each will do
 told_any : (o : Outcome) → IfToldBlocked o (Unit {0})
 told_any outcome.Begun = tt
 told_any (outcome.Moved p) = tt

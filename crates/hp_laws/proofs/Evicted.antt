@@ -81,7 +81,7 @@ neither : {P : Type 0} → (false ≡ true) ⊎ (false ≡ true) → P
 neither (inl e) = absurd (cc)
 neither (inr e) = absurd (cc)
 
--- each row of the truncation leaves it at its place or a later one, over only after the tail
+-- each row leaves it that truncation, and over if it was or the row was the tail
 cut_turn : (s : State) (t : ℕ) (killed grant : Bool) (cut : Truncation) (b : Bool) (phase : TruncatePhase)
     (turn : Turn TruncatePhase) (new : Pool)
     → Cutting cut phase → (b ≡ true → (is_over phase ≡ true) ⊎ (is_tail (word_of (call.Truncate phase)) ≡ true))
@@ -127,7 +127,7 @@ IsCutBy b None = Unit {0}
 IsCutBy b (Some (call.Truncate phase)) = b ≡ true → (is_over phase ≡ true) ⊎ (is_tail (word_of (call.Truncate phase)) ≡ true)
 IsCutBy b (Some other) = Unit {0}
 
--- a step of that call leaves the truncation, or what is left of it
+-- so does each step of the call
 cut_call : (s : State) (t : ℕ) (killed grant : Bool) (cut : Truncation) (a b : Bool) (c : Call) (o : Outcome)
     (pool : Pool) (next : Option Call)
     → CallCuts cut a (Some c) → IsCutBy b (Some c) → CallRow (pool_of s) t killed grant c o pool next → CallCuts cut b next
@@ -141,7 +141,7 @@ cut_call s t killed grant cut a b (call.Punch p) o pool next w was row = absurd 
 cut_call s t killed grant cut a b (call.Unmap p) o pool next w was row = absurd w
 cut_call s t killed grant cut a b (call.Exit p) o pool next w was row = absurd w
 
--- and any event that begins no call of the task does
+-- and each event that begins no call of the task
 cut_row : (s : State) (t : ℕ) (cut : Truncation) (b : Bool) (event : Event) (o : Outcome) (n : State) → Always s
     → is_begun t event o ≡ 0 → CallCuts cut b (s.calls t) → Row s event o n → CallCuts cut b (n.calls t)
 cut_row s t cut b event o n h quiet w row = own_or_same s t event o n (CallCuts cut b (n.calls t)) h quiet row

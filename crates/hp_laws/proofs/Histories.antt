@@ -46,7 +46,7 @@ holds_after s event o n ms tells holds f i x w a b = elim (tells f i x w a b) [
   | inr k ↦ (let o = holds f i x w k.1 k.2 in (inr (k.0, o.0), λ v l. elim l [ inl z ↦ absurd (k.0 v z) | inr z ↦ o.1 v z.1 ]))
 ]
 
--- no page is there
+-- an index without a page hasn't that page
 no_page : {P : Type 0} (x : ℕ) → ◌≡◌ {A = Option ℕ} None (Some x) → P
 no_page x e = absurd (cc)
 
@@ -117,7 +117,7 @@ found_reads s t killed grant p o pool next w (turn, row, tells, leaves) loads is
     (λ _ r. (let z : answer.NoMemory ≡ answer.Word w = ap (λ (m : Leave). m.answer)
     (same_leave (sym (leaves ∙ ap (left call.Touch) r.0) ∙ is)) in absurd (cc))))
 
--- each step that reads for a load reads a page that is there
+-- so each step that reads for a load read a page
 read_page : (m : Moment) (f i w : ℕ) → Always m.before → Row m.before m.event m.outcome m.after → Read f i m w → Reads m.before f i w
 read_page m f i w h row read = elim read [
   | inl r ↦ (let s : State = m.before in

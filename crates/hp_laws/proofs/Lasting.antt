@@ -52,7 +52,7 @@ low i k h = omega arith
 beyond : {P : Type 0} (i k : ℕ) → i + 1 ≤ k → k ≡ i → P
 beyond i k h e = absurd (omega arith)
 
--- each row of the allocation leaves it at the index or past it, for want of no frame
+-- each row leaves the allocation at the index or past it, and never gives up there for want of a frame
 past_turn : (s : State) (t : ℕ) (killed grant : Bool) (i : ℕ) (phase : AllocPhase) (turn : Turn AllocPhase) (new : Pool)
     → Past i phase → AllocRow (pool_of s) t killed grant phase turn new → TurnWell AllocPhase (Past i) Any turn
 past_turn s t killed grant i (alloc.Start p) turn new h row = absurd h

@@ -66,7 +66,7 @@ either : (a b : Bool) → (a || b) ≡ true → (a ≡ true) ⊎ (b ≡ true)
 either true b e = inl refl
 either false b e = inr e
 
--- a test for a file says which file it is, whichever case holds: in both cases
+-- who counts on an index by a change or by a frame in the hand does so in its own file
 file_of : (k f : ℕ) (b c : Bool) → (((k == f) && b) || ((k == f) && c)) ≡ true → Some k ≡ Some f
 file_of k f b c e = ap (λ (m : ℕ). Some m) (of (either ((k == f) && b) ((k == f) && c) e))
   where
@@ -74,7 +74,7 @@ file_of k f b c e = ap (λ (m : ℕ). Some m) (of (either ((k == f) && b) ((k ==
     of (inl a) = grind (arith, nat_tests)
     of (inr a) = grind (arith, nat_tests)
 
--- in the first alone
+-- so with a change alone
 file_left : (k f : ℕ) (b : Bool) → (((k == f) && b) || false) ≡ true → Some k ≡ Some f
 file_left k f b e = ap (λ (m : ℕ). Some m) (of (either ((k == f) && b) false e))
   where
@@ -82,7 +82,7 @@ file_left k f b e = ap (λ (m : ℕ). Some m) (of (either ((k == f) && b) false 
     of (inl a) = grind (arith, nat_tests)
     of (inr a) = absurd (cc)
 
--- and in one
+-- and with a frame in the hand alone
 file_right : (k f : ℕ) (b : Bool) → ((k == f) && b) ≡ true → Some k ≡ Some f
 file_right k f b e = let d : k ≡ f = grind (arith, nat_tests) in ap (λ (m : ℕ). Some m) d
 
@@ -90,7 +90,7 @@ file_right k f b e = let d : k ≡ f = grind (arith, nat_tests) in ap (λ (m : �
 one_covers : (change : Change) (k m f i : ℕ) (b : Bool) → IsOne change m → (b ≡ true → (k ≡ f) × (m ≡ i))
     → (((k == f) && is_within change.from change.to i) || b) ≡ true → ◌≡◌ {A = Option (ℕ × ℕ)} (Some (k, m)) (Some (f, i))
 one_covers change k m f i b one other e = elim (either (is_covered (Counts k change) f i) b e) [
-  | inl a ↦ of_pair (within_one change.from change.to k m f i one.0 one.1 a)
+  | inl a ↦ of_pair (within_one change.from change.to k m f i one.begins one.ends a)
   | inr a ↦ of_pair (other a)
 ]
 
@@ -143,7 +143,7 @@ deleter s t (call.Truncate (truncate.Tail p)) f i y e =
     (ap s.locks (sym (same_from p.truncation.file p.truncation.new f i e)) ∙ y.lock, inr refl, inl e)
 deleter s t c f i y e = (let d : false ≡ true = e in absurd (cc))
 
--- what can't be counted on isn't
+-- a call that can't count on an index doesn't
 unless_counted : (b : Bool) → (b ≡ true → ⊥) → b ≡ false
 unless_counted true h = absurd (h refl)
 unless_counted false h = refl
@@ -196,7 +196,7 @@ pub goes_under_lock : (s : State) (event : Event) (o : Outcome) (n : State) (f i
     → s.reserved f i ≡ true → n.reserved f i ≡ false → GoesUnderLock s event f i
 goes_under_lock s event o n f i reached row a b = goes_under s event o n f i (always s reached) row a b
 
--- an answer that isn't done isn't done
+-- a turn that ended with another answer hasn't ended with done
 not_done : {P Q : Type 0} (turn : Turn P) (a : Answer) → (turn ≡ Ended a) → (a ≡ answer.Done → ⊥) → turn ≡ Ended answer.Done → Q
 not_done {P} turn a e other d = absurd (other (same (sym e ∙ d)))
   where

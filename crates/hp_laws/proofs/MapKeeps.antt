@@ -46,12 +46,12 @@ now_filled : (s : State) (f from len : ℕ) (change : Change) → IsWhole change
 now_filled s f from len change whole j w =
     ap (λ (m : ℕ → Bool). m j) (put_same s.reserved f (add_range (s.reserved f) change.from change.to))
     ∙ add_range_has (s.reserved f) change.from change.to j
-    (ap (λ (m : ℕ). is_within m change.to j) whole.0 ∙ (ap (λ (m : ℕ). is_within from m j) whole.1 ∙ w))
+    (ap (λ (m : ℕ). is_within m change.to j) whole.begins ∙ (ap (λ (m : ℕ). is_within from m j) whole.ends ∙ w))
 
 -- what is missing of a map's change is what is missing of its range
 own_missing : (r : ℕ → Bool) (from len : ℕ) (change : Change) → IsWhole change from len
     → missing r change.from change.to ≡ missing r from (from + len)
-own_missing r from len change whole = ap (λ (k : ℕ). missing r k change.to) whole.0 ∙ ap (missing r from) whole.1
+own_missing r from len change whole = ap (λ (k : ℕ). missing r k change.to) whole.begins ∙ ap (missing r from) whole.ends
 
 -- what the map stands on when it leaves with an answer that tells no mapping
 left_stands : (s : State) (t : ℕ) (map : MapRequest) (b : Answer) → HasLock s t map.file
@@ -119,7 +119,12 @@ map_missing s t grant p turn new h l e row =
           record {
             slot = tt;
             lock = y.lock;
-            facts = record { range = y.facts.range; based = y.facts.based; whole = (refl, refl, few); count = omega arith };
+            facts = record {
+              range = y.facts.range;
+              based = y.facts.based;
+              whole = record { begins = refl; ends = refl; few = few };
+              count = omega arith;
+            };
           };
     })
 
@@ -153,7 +158,7 @@ map_accounted s t p turn new h l e row =
     let y = stands_at s t _ h e in
     let f = p.map.file in
     let own = own_missing (s.reserved f) p.map.from p.map.len p.pending y.facts.whole in
-    let low : p.pending.to ≤ s.geometry.limit = (let a = y.facts.whole.1 in let b = y.facts.range.limit in omega arith) in
+    let low : p.pending.to ≤ s.geometry.limit = (let a = y.facts.whole.ends in let b = y.facts.range.limit in omega arith) in
     let nobody : (u j : ℕ) → passed (s.calls u) f j ≡ true → is_within p.pending.from p.pending.to j ≡ true → ⊥ =
     λ u j a w. no_passer s.geometry s t f h y.lock (λ i. ap (λ c. passed c f i) e) u j a in
     let filled = now_filled s f p.map.from p.map.len p.pending y.facts.whole in

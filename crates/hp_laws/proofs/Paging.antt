@@ -147,7 +147,7 @@ places : (s : State) (t f i x : ℕ) (new there : Pool) → new ≡ there → th
 places s t f i x new there e pages frame bare hand =
     inr (f, i, x, ap (λ (m : Pool). m.pages) e ∙ pages, ap (λ (m : Pool). m.frame) e ∙ frame, bare, hand)
 
--- a touch that neither looks nor found its page
+-- a touch that looks or found its page, whose step may read or write a word
 abbrev pub is_reader : TouchPhase → Bool
 is_reader (touch.Look p) = true
 is_reader (touch.Found p) = true
@@ -302,7 +302,7 @@ exit_pages s t killed grant (exit.Drop p) turn new h e row =
     (λ base _ r. same s _ new r.1 refl refl)
 exit_pages s t killed grant exit.Leave turn new h e row = same s _ new row.1 refl refl
 
--- a call that isn't a touch which looks or found its page
+-- a call that is such a touch
 abbrev pub reads : Call → Bool
 reads (call.Touch phase) = is_reader phase
 reads other = false

@@ -121,7 +121,7 @@ sure_turn s t killed grant (touch.Leave p) turn new h row = at_leaf Sure Isnt _ 
 pub missing_none : (r : ℕ → Bool) (i : ℕ) → r i ≡ true → missing r i (i + 1) ≡ 0
 missing_none r i e = missing_one r i ∙ ap (λ (b : Bool). bit (not b)) e
 
--- a touch whose index is reserved as it begins its change is sure then, where the change isn't denied
+-- a touch whose index is reserved as it begins its change is sure from there on, denied or not
 pub sure_missing : (s : State) (t : ℕ) (killed grant : Bool) (p : Missing) (turn : Turn TouchPhase) (new : Pool)
     → s.reserved p.touch.file p.touch.index ≡ true → TouchRow (pool_of s) t killed grant (touch.Missing p) turn new
     → TurnWell TouchPhase Sure Isnt turn

@@ -186,19 +186,21 @@ take_row call s t m here no_frame taken turn new h l e row y =
 pub own_reserved : (s : State) (f i : ℕ) (change : Change) → IsOne change i → (committing s f change).reserved f i ≡ true
 own_reserved s f i change one =
     ap (λ (m : ℕ → Bool). m i) (put_same s.reserved f (add_range (s.reserved f) change.from change.to))
-    ∙ add_range_has (s.reserved f) change.from change.to i (inside change.from change.to i one.0 one.1)
+    ∙ add_range_has (s.reserved f) change.from change.to i (inside change.from change.to i one.begins one.ends)
   where
     inside : (from to i : ℕ) → from ≡ i → to ≡ i + 1 → is_within from to i ≡ true
     inside from to i a b = grind (arith, nat_tests)
 
 -- a change of one index misses it exactly where it isn't reserved
 pub own_missing : (r : ℕ → Bool) (change : Change) (i : ℕ) → IsOne change i → missing r change.from change.to ≡ bit (not (r i))
-own_missing r change i one = ap (λ (k : ℕ). missing r k change.to) one.0 ∙ (ap (missing r i) one.1 ∙ missing_one r i)
+own_missing r change i one = ap (λ (k : ℕ). missing r k change.to) one.begins ∙ (ap (missing r i) one.ends ∙ missing_one r i)
 
 -- what a change of one index tells
 pub one_change : (r : ℕ → Bool) (i : ℕ)
     → IsOne (record { from = i; to = i + 1; missing = missing r i (i + 1) }) i × ((missing r i (i + 1) == 0) ≡ true → r i ≡ true)
-one_change r i = let lacks = missing_one r i in ((refl, refl, few (r i) _ lacks), λ e. has (r i) _ lacks (is_nil _ e))
+one_change r i =
+    let lacks = missing_one r i in
+    (record { begins = refl; ends = refl; few = few (r i) _ lacks }, λ e. has (r i) _ lacks (is_nil _ e))
   where
     few : (b : Bool) (m : ℕ) → m ≡ bit (not b) → m ≤ 1
     few true m e = omega arith
@@ -237,10 +239,10 @@ pub commit_row : {P : Type 0} (call : P → Call) (s : State) (t f i : ℕ) (cha
     → Inv s.geometry (after call s t turn new)
 commit_row call s t f i change here settle next turn new h l e row y =
     let lacks = own_missing (s.reserved f) change i y.one in
-    let few = y.one.2 in
-    let low : change.to ≤ s.geometry.limit = (let a = y.one.1 in let b = y.index in omega arith) in
+    let few = y.one.few in
+    let low : change.to ≤ s.geometry.limit = (let a = y.one.ends in let b = y.index in omega arith) in
     let clear : (u j : ℕ) → passed (s.calls u) f j ≡ true → is_within change.from change.to j ≡ true → ⊥ =
-    λ u j a w. y.nobody u (ap (passed (s.calls u) f) (alone change.from change.to j y.one.0 y.one.1 w) ∙ a) in
+    λ u j a w. y.nobody u (ap (passed (s.calls u) f) (alone change.from change.to j y.one.begins y.one.ends w) ∙ a) in
     by_test (nat_lt (missing (s.reserved f) change.from change.to) change.missing) row
     (λ fewer r. so call s t _ turn _ new r
     (commits s.geometry s t (Some (call here)) (Some (call settle)) f change h l e y.file low

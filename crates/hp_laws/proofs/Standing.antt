@@ -42,11 +42,11 @@ Aimed g s u touch = record {
 
 -- the change is of that one index
 abbrev pub IsOne : Change → (index : ℕ) → Type 0
-IsOne change i = (change.from ≡ i) × (change.to ≡ i + 1) × (change.missing ≤ 1)
+IsOne change i = record { begins : change.from ≡ i; ends : change.to ≡ i + 1; few : change.missing ≤ 1 }
 
 -- the change is of the whole range
 abbrev pub IsWhole : Change → (from len : ℕ) → Type 0
-IsWhole change from len = (change.from ≡ from) × (change.to ≡ from + len) × (change.missing ≤ len)
+IsWhole change from len = record { begins : change.from ≡ from; ends : change.to ≡ from + len; few : change.missing ≤ len }
 
 -- the range passed its check
 abbrev pub IsRange : Geometry → (file from len : ℕ) → Type 0

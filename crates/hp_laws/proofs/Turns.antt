@@ -323,7 +323,7 @@ map_turn s t top killed grant (map.Leave p) turn new h e row =
 left_none : {A : Type 0} (o : Option A) (n k : ℕ) → o ≡ None → k ≤ n → k ≤ unslot_left o n
 left_none o n k e l = subst (λ (m : Option _). k ≤ unslot_left m n) (sym e) l
 
--- one that carries an answer has two steps left
+-- one that carries an answer has two steps left at least
 left_some : {A : Type 0} (o : Option A) (a : A) (n : ℕ) → o ≡ Some a → 2 ≤ unslot_left o n
 left_some o a n e = subst (λ (m : Option _). 2 ≤ unslot_left m n) (sym e) (omega arith)
 

@@ -278,7 +278,7 @@ left_after s t u top grant c o pool next n h lives e row d =
     let k = call_keeps s u (is_killed (s.life u)) grant c o pool next h.inv is.0 (let a = is.1 in omega arith) e row in
     ap (left t top) d ∙ ap (λ (m : Geometry). steps_left m (length (pool.mappings t)) top (put s.calls u next t)) k.geometry
 
--- each event leaves the task's call as many steps fewer as it counts for
+-- each event that counts as the task's own leaves its call a step fewer at least, and none leaves it more
 row_counts : (s : State) (t top : ℕ) (event : Event) (o : Outcome) (n : State) → Always s → is_begun t event o ≡ 0
     → ((grant : Bool) → event ≡ Step t grant → IfSome (sizes (s.calls t)) (λ f. IsTop s f top)) → Row s event o n
     → Counts t top s event o n

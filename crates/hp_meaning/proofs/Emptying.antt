@@ -43,7 +43,7 @@ unfolding without_pages
 pages_none pages f gone e =
     put_known pages f (without_pages (pages f) gone) (fun_ext (λ j. ap (λ (c : Bool). if c then None else pages f j) (sym (e j))))
 
--- where nothing goes: the reserved indices stay
+-- so the reserved indices stay
 pub reserved_none : (reserved : ℕ → ℕ → Bool) (f : ℕ) (gone : ℕ → Bool) → ((j : ℕ) → gone j ≡ false)
     → put reserved f (unreserved (reserved f) gone) ≡ reserved
 reserved_none reserved f gone e =
