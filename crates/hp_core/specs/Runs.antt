@@ -1,5 +1,5 @@
 -- What a core does: one event is a row of the machine, and a list of events a run.
-use Rattle.std.specs.Prelude.{◌≡◌, ℕ, true, List, IfSome, length}
+use Rattle.std.specs.Prelude.{◌≡◌, ℕ, true, List, IsSomeAnd, length}
 use Rattle.std.specs.List.{zip}
 use Rattle.hp_base.specs.Text.{Sizes, sizes}
 use Rattle.hp_base.specs.declared.config.Config.{Config}
@@ -51,9 +51,9 @@ IsIdle (outcome.Refused why) = Unit {0}
 unfoldable pub Headline : CoreState → Type 0
 Headline s = head.Headline (as_state s)
 
--- the row of the task's call wants growth
+-- the task has a call in flight, whose row wants growth
 abbrev pub StepWants : PartsState → List Seat → (task : ℕ) → Type 0
-StepWants p seats t = IfSome (seat_at seats t).call (λ inflight. Wants (pool_of p) t inflight)
+StepWants p seats t = IsSomeAnd (seat_at seats t).call (λ inflight. Wants (pool_of p) t inflight)
 
 -- the event is a granted step whose row wants growth
 abbrev pub WantsGrowth : PartsState → List Seat → Event → Type 0

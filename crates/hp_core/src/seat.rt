@@ -1,5 +1,5 @@
 //! A task's life and its call in flight, and one step of it.
-ghost use Rattle.std.specs.Prelude.{◌≡◌, true, IfOk, IfErr, IfSome, OnErr, MatchOption, IsSome, IfNone, None, Some, ◌≤◌, ◌&&◌};
+ghost use Rattle.std.specs.Prelude.{◌≡◌, true, IfOk, IfErr, IfSome, IsSomeAnd, OnErr, MatchOption, IsSome, IfNone, None, Some, ◌≤◌, ◌&&◌};
 ghost use Rattle.std.specs.Prelude.{if◌then◌else◌};
 ghost use Rattle.hp_base.specs.Numbers.{is_none};
 ghost use Rattle.hp_machine.specs.Events.{CallRow};
@@ -114,11 +114,11 @@ pub fn step_seat(
     ensures life { IfOk result
         (λ told. IfSome told (λ outcome. IfSome seat.old.call (λ call. seat.new.life ≡ life_after seat.old.life call seat.new.call))) }
     ensures sizes { SizesStay (state_of parts.old) (state_of parts.new) }
-    ensures room { RoomStaysUnless grant (IfSome seat.old.call (λ call. Wants (view parts.old) task call))
+    ensures room { RoomStaysUnless grant (IsSomeAnd seat.old.call (λ call. Wants (view parts.old) task call))
         (state_of parts.old) (state_of parts.new) }
     ensures err { OnErr result ((state_of parts.new ≡ state_of parts.old) × (seat.new ≡ seat.old)) }
     ensures growth { OnErr result (grant ≡ true) }
-    ensures wanted { OnErr result (IfSome seat.old.call (λ call. Wants (view parts.old) task call)) }
+    ensures wanted { OnErr result (IsSomeAnd seat.old.call (λ call. Wants (view parts.old) task call)) }
 {
     let Some(call) = seat.call.take() else {
         return Ok(None);

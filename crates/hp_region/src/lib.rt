@@ -1,10 +1,10 @@
 //! The reserve map of a file: the set of page indices that have a reservation, changed in two
 //! phases (Linux: `struct resv_map`).
 //!
-//! It stands on hp_base. A map is seen as its sorted list of regions, the changes in progress and
-//! the regions for which room is prepared; the set is the test whether an index lies in a region.
-//! `change` prepares room, so that `commit` and `abort` take no memory and always succeed, whatever
-//! comes between. It knows nothing of pages, frames or tasks.
+//! It stands on hp_base. A map is seen as its sorted list of regions, the changes in progress, the
+//! regions for which room is prepared, and for how many it has taken memory; the set is the test
+//! whether an index lies in a region. `change` prepares room, so that `commit` and `abort` take no
+//! memory and always succeed, whatever comes between. It knows nothing of pages, frames or tasks.
 #![tactic(auto)]
 
 mod fault;

@@ -365,7 +365,8 @@ finished from mid to h core o o' o'' (Ok x) g read all ended wrote =
 -- what `finish` says of a fault
 abbrev pub NotFinished : ReplayFault → Held → Option CoreState → Option (List ℕ) → Option (List ℕ) → Type 0
 NotFinished fault h core o o' =
-    ((end_of h ≡ Err fault) × IsLineFault fault × Keeps o o') ⊎ (IsWriteFault fault × (end_of h ≡ Ok tt) × IfSome core (λ c. Wrote o o' (state_text c)))
+    ((end_of h ≡ Err fault) × IsLineFault fault × Keeps o o')
+    ⊎ (IsWriteFault fault × (end_of h ≡ Ok tt) × IfSome core (λ c. Wrote o o' (state_text c)))
 
 -- no line stands at the end
 pub cut_at_end : (to : Option (List ℕ)) (n : ℕ) (rest : List ℕ) → IsAtEnd to → NoLine n rest

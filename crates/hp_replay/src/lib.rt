@@ -3,8 +3,9 @@
 //! It stands on hp_core and hp_base. A trace is read by one engine, the feed, which takes bytes cut
 //! anywhere and needs no memory; reading a trace and replaying one are loops over it. It promises
 //! that what is read is what the bytes spell, that the first bad line is named, and that a replay
-//! writes the outcomes of a run of that trace and then its state. It knows of the core only its rows
-//! and its readers, and no files or streams: it works over any reader and writer.
+//! writes the outcomes of a run of that trace and then its state, and that a fault of a stream is
+//! answered exactly where that stream failed. It knows of the core only its rows and its readers,
+//! and no files or streams: it works over any source and sink.
 #![tactic(auto)]
 
 mod fault;

@@ -2,7 +2,8 @@
 //! `mm_struct`, and its page table).
 //!
 //! It stands on hp_base. A space is seen as the list of its mappings in order of their bases, the
-//! finite map of its entries from virtual page to frame, and whether room for a mapping is prepared.
+//! finite map of its entries from virtual page to frame, whether room for a mapping is prepared, and
+//! for how many mappings and entries it has taken memory.
 //! Its mappings share no page and end within the space, and each entry lies in one of them. It knows
 //! neither what a file holds nor who owns a frame.
 #![tactic(auto)]

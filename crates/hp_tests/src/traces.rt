@@ -261,8 +261,10 @@ fn a_failed_write_is_told(rt: HostRuntime) -> Result<(), Fail> {
                 calls,
                 is_quiet,
             };
-            let answer = replay(alloc, &mut &TRACE[..], &mut Watched::new(&mut writer));
+            let mut sink = Watched::new(&mut writer);
+            let answer = replay(alloc, &mut &TRACE[..], &mut sink);
             assert_eq!(rt; answer, Err(ReplayFault::Write));
+            assert!(rt; sink.has_failed());
             assert_eq!(rt; writer.taken.as_slice(), &text[..calls]);
         }
     }
@@ -271,7 +273,9 @@ fn a_failed_write_is_told(rt: HostRuntime) -> Result<(), Fail> {
         calls: usize::MAX,
         is_quiet: false,
     };
-    replay(alloc, &mut &TRACE[..], &mut Watched::new(&mut writer))?;
+    let mut sink = Watched::new(&mut writer);
+    replay(alloc, &mut &TRACE[..], &mut sink)?;
+    assert!(rt; !sink.has_failed());
     assert_eq!(rt; writer.taken.as_slice(), text.as_slice());
     Ok(())
 }
@@ -287,11 +291,9 @@ fn a_failed_read_is_told(rt: HostRuntime) -> Result<(), Fail> {
             calls,
         };
         let mut written = Vec::new(alloc);
-        let answer = replay(
-            alloc,
-            &mut Watched::new(reader),
-            &mut Watched::new(&mut written),
-        );
+        let mut source = Watched::new(reader);
+        let answer = replay(alloc, &mut source, &mut Watched::new(&mut written));
+        assert!(rt; source.has_failed());
         assert_eq!(rt; answer, Err(ReplayFault::Read));
         assert!(rt; text.starts_with(written.as_slice()));
         let reader = SmallReader {

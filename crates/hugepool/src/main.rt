@@ -1,7 +1,8 @@
 //! The program `hugepool`: a pool of huge pages on the command line.
 //!
-//! It stands on hp_replay, and reads its words with clap. It promises what hp_replay's contracts say of what is
-//! read and written; its own part (words, statuses, fault lines) is shown by tests. It knows nothing of pools.
+//! It stands on hp_replay, and reads its words with clap. It promises of what is read and written what hp_replay's
+//! contracts say, and a status that tells which (`EndsWith`); which words ask for what, and the texts, are shown by
+//! tests. It knows nothing of pools.
 #![tactic(auto)]
 
 mod command;

@@ -263,6 +263,33 @@ fn a_failed_flush_is_a_failed_write(rt: HostRuntime) {
     assert!(rt; faults.is_empty());
 }
 
+/// Whoever is told of a bad line has all that came before it.
+#[test]
+fn a_failed_flush_is_told_before_a_bad_line(rt: HostRuntime) {
+    for (flushes, told) in [
+        (true, b"hugepool: line 3 is not allowed here\n".as_slice()),
+        (false, WRITING),
+    ] {
+        let mut out = Output {
+            taken: Vec::new(rt.alloc()),
+            room: 1000,
+            flushes,
+        };
+        let mut faults = Vec::new(rt.alloc());
+        let (status, _) = program(
+            &rt,
+            rt.alloc(),
+            &["hugepool", "replay"],
+            &mut b"pool 1 1 1 1\nstep 1\nstep\n".as_slice(),
+            &mut out,
+            &mut faults,
+        );
+        assert_eq!(rt; status, 1);
+        assert_eq!(rt; out.taken.as_slice(), b"refused idle\n".as_slice());
+        assert_eq!(rt; faults.as_slice(), told);
+    }
+}
+
 #[test]
 fn help_that_is_not_written_is_told(rt: HostRuntime) {
     for (room, flushes) in [(0, true), (5, true), (4096, false)] {

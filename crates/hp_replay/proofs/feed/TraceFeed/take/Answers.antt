@@ -5,7 +5,8 @@ use Rattle.hp_replay.proofs.Feeding.{stays, goes_on, ended_here, failed_here, al
 use Rattle.hp_replay.proofs.feed.TraceFeed.take.Goals as goal
 
 pub returns-in-Some-clause-held : goal.returns-in-Some-clause-held
-returns-in-Some-clause-held c = sym (stays c.args.self.now c.in-Some.fault (take_through 10 c.args.piece.now) (sym c.in-Some.ensures.value)).0
+returns-in-Some-clause-held c =
+    sym (stays c.args.self.now c.in-Some.fault (take_through 10 c.args.piece.now) (sym c.in-Some.ensures.value)).0
 
 pub returns-in-Some-clause-none : goal.returns-in-Some-clause-none
 returns-in-Some-clause-none c = (stays c.args.self.now c.in-Some.fault (take_through 10 c.args.piece.now) (sym c.in-Some.ensures.value)).1
