@@ -81,7 +81,7 @@ pub cuts : (g : Geometry) (s : State) (t : ℕ) (b c : Option Call) (f new top :
     → Inv g (to (record s { pool = record s.pool { size = put s.size f new } }) t c)
 cuts g s t b c f new top h l e same_held same_hand same_change balance held low size_low bare none_ahead covers passes
     no_fill none_gone own = goes_on g s n t b c h l e (record {
-      areas = h.areas;
+      layout = h.layout;
       entries = h.entries;
       inside = h.inside;
       spares = h.spares;
@@ -156,7 +156,7 @@ pub passes : (g : Geometry) (s : State) (t : ℕ) (b c : Option Call) (f i new :
     → Inv g (to (record s { pool = record s.pool { slots = put s.slots (slot_of g f i) None } }) t c)
 passes g s t b c f i new h l e same_lock some none same_hand same_change balance no_b no_c held bare sized aheads
     passing none_gone own = goes_on g s n t b c h l e (record {
-      areas = h.areas;
+      layout = h.layout;
       entries = h.entries;
       inside = h.inside;
       sizes = h.sizes;
@@ -239,7 +239,7 @@ pub cuts_tail : (g : Geometry) (s : State) (t : ℕ) (b c : Option Call) (f new 
     → Inv g (to (record s { pool = record s.pool { reserved = put s.reserved f (cut_tail (s.reserved f) new) } }) t c)
 cuts_tail g s t b c f new h l e in_files same_ahead same_passed goners same_held same_hand same_change no_fill balance
     held passing own = goes_on g s n t b c h l e (record {
-      areas = h.areas;
+      layout = h.layout;
       entries = h.entries;
       sizes = h.sizes;
       spares = h.spares;

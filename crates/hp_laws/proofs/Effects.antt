@@ -55,7 +55,7 @@ pub touches_word : (g : Geometry) (s : State) (access : Access) (x word : ℕ) �
     → Inv g (record s { pool = record s.pool { frame = frame_after access s.frame x } })
 touches_word g s Load x word h e = h
 touches_word g s (Store new) x word h e = record {
-  areas = h.areas;
+  layout = h.layout;
   count = h.count;
   entries = h.entries;
   inside = h.inside;
@@ -80,7 +80,7 @@ pub rebalances : (g : Geometry) (s : State) (t : ℕ) (b c : Option Call) (r : �
     → Inv g (to (record s { pool = record s.pool { resv = r } }) t c)
 rebalances g s t b c r h l e same same_held same_hand same_change balance enough fill own =
     goes g s (record s { pool = record s.pool { resv = r } }) t b c h l e same same_held (record {
-      areas = h.areas;
+      layout = h.layout;
       entries = h.entries;
       inside = h.inside;
       sweep = h.sweep;
@@ -123,7 +123,7 @@ opened g s t b c f h l e same same_held same_hand none some balance fill own =
         spare = put s.spare f (max (s.spare f) (s.pending f + 1));
       };
     }) t b c h l e same same_held (record {
-      areas = h.areas;
+      layout = h.layout;
       entries = h.entries;
       inside = h.inside;
       sweep = h.sweep;
@@ -179,7 +179,7 @@ pub closed : (g : Geometry) (s : State) (t : ℕ) (b c : Option Call) (f : ℕ) 
 closed g s t b c f h l e same same_held same_hand some none balance fill own =
     goes g s (record s { pool = record s.pool { pending = put s.pending f (s.pending f - 1) } }) t b c h l e same
     same_held (record {
-      areas = h.areas;
+      layout = h.layout;
       entries = h.entries;
       inside = h.inside;
       sweep = h.sweep;
@@ -298,7 +298,7 @@ pub commits : (g : Geometry) (s : State) (t : ℕ) (b c : Option Call) (f : ℕ)
     → Inv g (to (committing s f change) t c)
 commits g s t b c f change h l e in_files low same same_held same_hand some none nobody balance fill own =
     goes g s (committing s f change) t b c h l e same same_held (record {
-      areas = h.areas;
+      layout = h.layout;
       entries = h.entries;
       reach = h.reach;
       fill = fill;
@@ -366,7 +366,7 @@ pub takes : (g : Geometry) (s : State) (t : ℕ) (b c : Option Call) (x r : ℕ)
     → Inv g (to (record s { pool = record s.pool { frame = put s.frame x state.Hand; resv = r } }) t c)
 takes g s t b c x r h l e free same same_held none some same_change balance enough fill own =
     goes g s (record s { pool = record s.pool { frame = put s.frame x state.Hand; resv = r } }) t b c h l e same same_held (record {
-      areas = h.areas;
+      layout = h.layout;
       entries = h.entries;
       inside = h.inside;
       sweep = h.sweep;
@@ -396,7 +396,7 @@ pub gives : (g : Geometry) (s : State) (t : ℕ) (b c : Option Call) (x r : ℕ)
     → Inv g (to (record s { pool = record s.pool { frame = put s.frame x state.Free; resv = r } }) t c)
 gives g s t b c x r h l e same same_held some none same_change balance enough fill own =
     goes g s (record s { pool = record s.pool { frame = put s.frame x state.Free; resv = r } }) t b c h l e same same_held (record {
-      areas = h.areas;
+      layout = h.layout;
       entries = h.entries;
       inside = h.inside;
       sweep = h.sweep;
@@ -431,7 +431,7 @@ pub places : (g : Geometry) (s : State) (t : ℕ) (b c : Option Call) (f i x : �
     → Inv g (to (record s { pool = record s.pool { pages = put2 s.pages f i (Some x); frame = put s.frame x (state.Placed 0) } }) t c)
 places g s t b c f i x h l e in_files in_limit same same_held some none same_change balance marked bare held nobody fill own =
     goes g s n t b c h l e same same_held (record {
-      areas = h.areas;
+      layout = h.layout;
       reach = h.reach;
       fill = fill;
       sizes = h.sizes;

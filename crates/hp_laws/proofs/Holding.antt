@@ -80,7 +80,7 @@ pub takes_slot : (g : Geometry) (s : State) (t : ℕ) (b c : Option Call) (f i :
     → Stands g (record s { pool = record s.pool { slots = put s.slots (slot_of g f i) (Some t) } }) t c
     → Inv g (to (record s { pool = record s.pool { slots = put s.slots (slot_of g f i) (Some t) } }) t c)
 takes_slot g s t b c f i h l e free same same_lock none some fill own = goes_as g s n t b c h l e (ap (λ p. p.4) same) (record {
-  areas = h.areas;
+  layout = h.layout;
   count = (let x : less c ≡ less b = ap (λ p. p.0) same in let y : more c ≡ more b = ap (λ p. p.1) same in omega arith);
   enough = h.enough;
   place = place_same g s t b c h e (ap (λ p. p.2) same);
@@ -156,7 +156,7 @@ pub leaves_slot : (g : Geometry) (s : State) (t : ℕ) (b c : Option Call) (f i 
     → Stands g (record s { pool = record s.pool { slots = put s.slots (slot_of g f i) None } }) t c
     → Inv g (to (record s { pool = record s.pool { slots = put s.slots (slot_of g f i) None } }) t c)
 leaves_slot g s t b c f i h l e same same_lock some none held fill own = goes_as g s n t b c h l e (ap (λ p. p.4) same) (record {
-  areas = h.areas;
+  layout = h.layout;
   count = (let x : less c ≡ less b = ap (λ p. p.0) same in let y : more c ≡ more b = ap (λ p. p.1) same in omega arith);
   enough = h.enough;
   place = place_same g s t b c h e (ap (λ p. p.2) same);
@@ -182,7 +182,7 @@ pub takes_lock : (g : Geometry) (s : State) (t : ℕ) (b c : Option Call) (f : �
     → Stands g (record s { pool = record s.pool { locks = put s.locks f (Some t) } }) t c
     → Inv g (to (record s { pool = record s.pool { locks = put s.locks f (Some t) } }) t c)
 takes_lock g s t b c f h l e free same same_slot none some fill own = goes_as g s n t b c h l e (ap (λ p. p.4) same) (record {
-  areas = h.areas;
+  layout = h.layout;
   count = (let x : less c ≡ less b = ap (λ p. p.0) same in let y : more c ≡ more b = ap (λ p. p.1) same in omega arith);
   enough = h.enough;
   place = place_same g s t b c h e (ap (λ p. p.2) same);
@@ -228,7 +228,7 @@ pub leaves_lock : (g : Geometry) (s : State) (t : ℕ) (b : Option Call) (f : �
     → ((k j : ℕ) → ahead b k j ≡ false)
     → Inv g (to (record s { pool = record s.pool { locks = put s.locks f None } }) t None)
 leaves_lock g s t b f h l e no_less no_more no_hand no_change no_slot some held none_ahead = goes_on g s n t b None h l e (record {
-  areas = h.areas;
+  layout = h.layout;
   count = omega arith;
   enough = h.enough;
   place = place_same g s t b None h e (sym no_hand);

@@ -65,15 +65,15 @@ pub record Holders (g : Geometry) (slots locks : ℕ → Option ℕ) (held : ℕ
   pub lock : (f u : ℕ) → locks f ≡ Some u → locked u ≡ Some f
 
 -- the measures never change; each task's mappings lie within their files, in order and apart
-pub record Areas (g measures : Geometry) (mappings : ℕ → List Mapping) : Type 0 where
+pub record Layout (g measures : Geometry) (mappings : ℕ → List Mapping) : Type 0 where
   pub geometry : measures ≡ g
   pub ranges : (t : ℕ) → AllWithin g (mappings t)
   pub spread : (t : ℕ) → IsSpread g.space 0 (mappings t)
 
 -- what every row keeps of a state
 pub record Inv (g : Geometry) (s : State) : Type 0 where
-  pub areas : Areas g s.geometry s.mappings
-  pub open areas use *
+  pub layout : Layout g s.geometry s.mappings
+  pub open layout use *
   pub count : s.resv + sum_of g less s.calls ≡ vacant_of g s.reserved s.pages + sum_of g more s.calls
   pub enough : s.resv ≤ free_frames s.frame s.frames
   pub place : Placing s.frames s.frame (λ u. hand (s.calls u)) s.pages
@@ -145,7 +145,7 @@ to s t c = record s { calls = put s.calls t c }
 -- `aheads` and so on is what is seen of the calls then.
 pub record GoesOn (g : Geometry) (s n : State) (t : ℕ) (b c : Option Call) (aheads passes gones : ℕ → ℕ → ℕ → Bool)
     (held : ℕ → Option (ℕ × ℕ)) (locked : ℕ → Option ℕ) : Type 0 where
-  pub areas : Areas g n.geometry n.mappings
+  pub layout : Layout g n.geometry n.mappings
   pub count : (n.resv + less c) + (vacant_of g s.reserved s.pages + more b) ≡ (s.resv + less b) + (vacant_of g n.reserved n.pages + more c)
   pub enough : n.resv ≤ free_frames n.frame n.frames
   pub place : Placing n.frames n.frame (put (λ (u : ℕ). hand (s.calls u)) t (hand c)) n.pages
@@ -170,7 +170,7 @@ pub goes_on : (g : Geometry) (s n : State) (t : ℕ) (b c : Option Call) → Inv
 goes_on g s n t b c h l e p =
     let aheads = sym (view_put ahead s.calls t c) in
     record {
-      areas = p.areas;
+      layout = p.layout;
       count =
           count_after (g.tasks + 1) s.calls t b c s.resv (vacant_of g s.reserved s.pages) n.resv
           (vacant_of g n.reserved n.pages) l e h.count p.count;
@@ -277,7 +277,7 @@ same_opens pending b c same f = ap (λ (o : Option ℕ). pending f + elim o [ No
 pub stays : (g : Geometry) (s : State) (t : ℕ) (b c : Option Call) → Inv g s → t < g.tasks + 1 → s.calls t ≡ b → seen c ≡ seen b
     → IfSome (fills c) (λ k. Reached s.size (λ u. ahead (s.calls u)) k.0 k.1) → Stands g s t c → Inv g (to s t c)
 stays g s t b c h l e same fill own = goes g s s t b c h l e (ap (λ p. p.4) same) (ap (λ p. p.5) same) (record {
-  areas = h.areas;
+  layout = h.layout;
   count = (let x : less c ≡ less b = ap (λ p. p.0) same in let y : more c ≡ more b = ap (λ p. p.1) same in omega arith);
   enough = h.enough;
   place = place_same g s t b c h e (ap (λ p. p.2) same);

@@ -38,7 +38,7 @@ pub evicts : (g : Geometry) (s : State) (t : ℕ) (b c : Option Call) (f i x : �
     → Inv g (to (record s { pool = record s.pool { pages = put2 s.pages f i None; frame = put s.frame x state.Hand } }) t c)
 evicts g s t b c f i x h l e in_files same same_held none some same_change balance page held cleared fill own =
     goes g s n t b c h l e same same_held (record {
-      areas = h.areas;
+      layout = h.layout;
       reach = h.reach;
       fill = fill;
       sizes = h.sizes;
@@ -134,7 +134,7 @@ pub deletes : (g : Geometry) (s : State) (t : ℕ) (b c : Option Call) (f i spar
     → Inv g (to (record s { pool = record s.pool { reserved = put2 s.reserved f i false; spare = put s.spare f spare } }) t c)
 deletes g s t b c f i spare h l e in_files in_limit same same_held same_hand same_change balance spares marked bare
     held locked fill own = goes g s n t b c h l e same same_held (record {
-      areas = h.areas;
+      layout = h.layout;
       entries = h.entries;
       reach = h.reach;
       fill = fill;

@@ -49,7 +49,7 @@ pub record Always (s : State) : Type 0 where
 life_set : (g : Geometry) (s : State) (lives : ℕ → Life) → Inv g s → Inv g (record s { life = lives })
 life_set g s lives h =
     record {
-      areas = h.areas;
+      layout = h.layout;
       count = h.count;
       enough = h.enough;
       place = h.place;
@@ -255,7 +255,7 @@ nothing_vacant limit = count_below_none _ limit (λ k l. refl)
 pub opens_well : (g : Geometry) (frames : ℕ) → Always (opening g frames)
 opens_well g frames = record {
   inv = record {
-    areas = record { geometry = refl; ranges = λ t. tt; spread = λ t. omega arith };
+    layout = record { geometry = refl; ranges = λ t. tt; spread = λ t. omega arith };
     count = (
         let a : total (g.tasks + 1) (λ _. 0) ≡ 0 = total_none (g.tasks + 1) in
         let c : total g.files (λ f. vacant g.limit (λ _. false) (λ _. None)) ≡ 0 =

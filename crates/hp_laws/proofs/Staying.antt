@@ -40,11 +40,11 @@ pub same_files : {g : Geometry} {slots locks : ℕ → Option ℕ} {size : ℕ �
 same_files = record { page = λ f i a. refl; mark = λ f i a w r. r; lock = λ f a. (a, refl, λ j r. r) }
 
 -- what stays of tasks: what is translated at the slot, and task u's own mappings and entries
-pub record TablesKeep (g : Geometry) (slots : ℕ → Option ℕ) (areas areas_after : ℕ → List Mapping)
+pub record TablesKeep (g : Geometry) (slots : ℕ → Option ℕ) (mappings_before mappings_after : ℕ → List Mapping)
     (prepared prepared_after : ℕ → Bool) (table table_after : ℕ → ℕ → Option ℕ) (u : ℕ) : Type 0 where
   pub translated : (f i : ℕ) → slots (slot_of g f i) ≡ Some u → (t v x : ℕ) → table_after t v ≡ Some x
-      → find (areas_after t) v ≡ Some (f, i) → (y : ℕ) × (table t v ≡ Some y) × (find (areas t) v ≡ Some (f, i))
-  pub mappings : areas_after u ≡ areas u
+      → find (mappings_after t) v ≡ Some (f, i) → (y : ℕ) × (table t v ≡ Some y) × (find (mappings_before t) v ≡ Some (f, i))
+  pub mappings : mappings_after u ≡ mappings_before u
   pub ready : prepared_after u ≡ prepared u
   pub entries : (v x : ℕ) → table_after u v ≡ Some x → (y : ℕ) × (table u v ≡ Some y)
 

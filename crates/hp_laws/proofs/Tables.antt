@@ -68,7 +68,7 @@ pub enters_table : (g : Geometry) (s : State) (t : ℕ) (b c : Option Call) (v f
     → Inv g (to (record s { pool = record s.pool { entries = put2 s.entries t v (Some x) } }) t c)
 enters_table g s t b c v f i x h one l e same there page low held fill own =
     goes g s n t b c h l e (ap (λ p. p.4) same) (ap (λ p. p.5) same) (record {
-      areas = h.areas;
+      layout = h.layout;
       inside = h.inside;
       reach = h.reach;
       fill = fill;
@@ -131,7 +131,7 @@ pub prepares : (g : Geometry) (s : State) (t : ℕ) (b c : Option Call) → Inv 
 prepares g s t b c h l e same fill own =
     goes g s (record s { pool = record s.pool { ready = put s.ready t true } }) t b c h l e (ap (λ p. p.4) same)
     (ap (λ p. p.5) same) (record {
-      areas = h.areas;
+      layout = h.layout;
       entries = h.entries;
       inside = h.inside;
       sweep = h.sweep;
@@ -186,7 +186,7 @@ pub extends : (g : Geometry) (s : State) (t : ℕ) (b c : Option Call) (f new : 
     → Inv g (to (record s { pool = record s.pool { size = put s.size f new } }) t c)
 extends g s t b c f new h l e same held grows low nobody fill own =
     goes g s n t b c h l e (ap (λ p. p.4) same) (ap (λ p. p.5) same) (record {
-      areas = h.areas;
+      layout = h.layout;
       entries = h.entries;
       inside = h.inside;
       spares = h.spares;
@@ -251,7 +251,7 @@ pub enters_area : (g : Geometry) (s : State) (t : ℕ) (b c : Option Call) (a : 
     → Stands g (entering s t a) t c → Inv g (to (entering s t a) t c)
 enters_area g s t b c a h l e same in_files some in_limit clear held nobody fill own =
     goes g s n t b c h l e (ap (λ p. p.4) same) (ap (λ p. p.5) same) (record {
-      areas = record {
+      layout = record {
         geometry = h.geometry;
         ranges = λ w. elim (same_or_other w t) [
           | inl q ↦ subst (AllWithin g) (sym (ap n.mappings q ∙ put_same s.mappings t (entered (s.mappings t) a)))
@@ -330,7 +330,7 @@ enters_area g s t b c a h l e same in_files some in_limit clear held nobody fill
 pub entries_go : (g : Geometry) (s : State) (table : ℕ → ℕ → Option ℕ) → Inv g s
     → ((w v x : ℕ) → table w v ≡ Some x → s.entries w v ≡ Some x) → Inv g (record s { pool = record s.pool { entries = table } })
 entries_go g s table h kept = record {
-  areas = h.areas;
+  layout = h.layout;
   count = h.count;
   enough = h.enough;
   place = h.place;
@@ -439,7 +439,7 @@ pub drops : (g : Geometry) (s : State) (t : ℕ) (b c : Option Call) (base : ℕ
     → Stands g (record s { pool = record s.pool { mappings = put s.mappings t (without (s.mappings t) base) } }) t c
     → Inv g (to (record s { pool = record s.pool { mappings = put s.mappings t (without (s.mappings t) base) } }) t c)
 drops g s t b c base h l e same clear fill own = goes g s n t b c h l e (ap (λ p. p.4) same) (ap (λ p. p.5) same) (record {
-  areas = record {
+  layout = record {
     geometry = h.geometry;
     ranges = λ w. elim (same_or_other w t) [
       | inl q ↦ subst (AllWithin g) (sym (ap n.mappings q ∙ put_same s.mappings t (without (s.mappings t) base)))
