@@ -1,5 +1,5 @@
 -- A replay to a buffered output: what reaches the output.
-use Rattle.std.proofs.Common.{◌≡◌, ℕ, List, [], ◌++◌, Option, Some, None, Bool, refl, sym, ap, subst, ◌∙◌, append_assoc}
+use Rattle.std.proofs.Common.{◌≡◌, ℕ, List, [], ◌++◌, Option, Some, None, Bool, false, refl, sym, ap, subst, ◌∙◌, append_assoc}
 use Rattle.std.specs.Prelude.{OnOk, OnErr, IfErr, Result, Ok, Err}
 use Rattle.std.specs.Io.Buffered.{writer_buffer, writer_contents, writer_inner}
 use Rattle.std.specs.Io.KnownBytes.{Appends, Keeps, append_known}
@@ -11,7 +11,7 @@ use Rattle.hp_replay.specs.declared.fault.ReplayFault.TheVariants.{BadLine, BadH
 use Rattle.hp_replay.specs.Outcomes.{outcomes_text, state_text}
 use Rattle.hp_replay.specs.Replaying.{Replayed, Stopped, StoppedAtHeader, StoppedAtLine, StoppedAtRead, StoppedEarly}
 use Rattle.hp_replay.specs.Replaying.{AllRunWrites, RunWrites, nothing, so_far, to_the_end, no_line, each_line}
-use Rattle.hp_replay.specs.Streams.{TellsReads}
+use Rattle.hp_replay.specs.Streams.{TellsReads, TellsWrites}
 use Rattle.hp_replay.specs.Traces.{trace_text}
 use Rattle.hp_replay.specs.Writing.{Wrote}
 use Rattle.hugepool.specs.Endings.{HoldsFront, CutShort, DidReplay}
@@ -183,19 +183,42 @@ early : (from to before after : Option (List ℕ)) (r : Result (Unit {0}) Replay
 early from to before after (Ok x) ok err = early_ok from to before after ok
 early from to before after (Err fault) ok err = early_err fault from to before after err
 
--- and where it may not have been
-pub did_replay : {E : Type 0} (from to : Option (List ℕ)) (old new : Bool) (start before mid after : Option (List ℕ)) (left : List ℕ)
-    (replayed : Result (Unit {0}) ReplayFault) (flushed : Result (Unit {0}) E) (answer : Result (Unit {0}) ReplayFault)
+-- all of it was, unless the output failed
+unless_failed : (from to : Option (List ℕ)) (old new failed : Bool) (before mid after : Option (List ℕ)) (left : List ℕ)
+    (r : Result (Unit {0}) ReplayFault) → OnOk r (Replayed from to before mid) → IfErr r (λ fault. Stopped fault from to before mid)
+    → TellsReads r old new → TellsWrites r false failed → Keeps mid (append_known after left) → (failed ≡ false → left ≡ [])
+    → DidReplay r from to old new before (Some after)
+unless_failed from to old new failed before mid after left r ok err reads writes kept empty =
+    by_answer r ok err reads writes
+  where
+    emptied : (s : Result (Unit {0}) ReplayFault) → OnOk s (Replayed from to before mid) → IfErr s (λ fault. Stopped fault from to before mid)
+        → TellsReads s old new → failed ≡ false → DidReplay s from to old new before (Some after)
+    emptied s ok err reads good =
+        let whole : Keeps mid (append_known after []) = subst (λ (x : List ℕ). Keeps mid (append_known after x)) (empty good) kept in
+        flushed_ok from to old new before mid after s ok err reads
+        (subst (λ (x : Option (List ℕ)). Keeps mid x) (unbuffered after) whole) whole
+
+    by_answer : (s : Result (Unit {0}) ReplayFault) → OnOk s (Replayed from to before mid) → IfErr s (λ fault. Stopped fault from to before mid)
+        → TellsReads s old new → TellsWrites s false failed → DidReplay s from to old new before (Some after)
+    by_answer (Ok x) ok err reads writes = emptied (Ok x) ok err reads writes
+    by_answer (Err BadHeader) ok err reads writes = emptied (Err BadHeader) ok err reads writes
+    by_answer (Err (BadLine n)) ok err reads writes = emptied (Err (BadLine n)) ok err reads writes
+    by_answer (Err Read) ok err reads writes = emptied (Err Read) ok err reads writes
+    by_answer (Err Write) ok err reads writes = (tt, cut from to before mid after left err kept)
+    by_answer (Err Memory) ok err reads writes = emptied (Err Memory) ok err reads writes
+
+-- and where the flush may have failed
+pub did_replay : {E : Type 0} (from to : Option (List ℕ)) (old new failed : Bool) (start before mid after : Option (List ℕ))
+    (left : List ℕ) (replayed : Result (Unit {0}) ReplayFault) (flushed : Result (Unit {0}) E) (answer : Result (Unit {0}) ReplayFault)
     → start ≡ before → OnOk replayed (Replayed from to start mid) → IfErr replayed (λ fault. Stopped fault from to start mid)
-    → TellsReads replayed old new → Keeps mid (append_known after left) → OnOk flushed (left ≡ [])
-    → OnOk flushed (answer ≡ replayed) → OnErr flushed (answer ≡ Err Write) → DidReplay answer from to old new before (Some after)
-did_replay from to old new start before mid after left replayed (Ok x) answer same ok err reads kept empty is not =
-    let whole : Keeps mid (append_known after []) = subst (λ (x : List ℕ). Keeps mid (append_known after x)) empty kept in
+    → TellsReads replayed old new → TellsWrites replayed false failed → Keeps mid (append_known after left)
+    → OnOk flushed (failed ≡ false → left ≡ []) → OnOk flushed (answer ≡ replayed) → OnErr flushed (answer ≡ Err Write)
+    → DidReplay answer from to old new before (Some after)
+did_replay from to old new failed start before mid after left replayed (Ok x) answer same ok err reads writes kept empty is not =
     subst (λ (r : Result (Unit {0}) ReplayFault). DidReplay r from to old new before (Some after)) (sym is)
     (subst (λ (x : Option (List ℕ)). DidReplay replayed from to old new x (Some after)) same
-    (flushed_ok from to old new start mid after replayed ok err reads
-    (subst (λ (x : Option (List ℕ)). Keeps mid x) (unbuffered after) whole) whole))
-did_replay from to old new start before mid after left replayed (Err e) answer same ok err reads kept empty is not =
+    (unless_failed from to old new failed start mid after left replayed ok err reads writes kept empty))
+did_replay from to old new failed start before mid after left replayed (Err e) answer same ok err reads writes kept empty is not =
     subst (λ (r : Result (Unit {0}) ReplayFault). DidReplay r from to old new before (Some after)) (sym not) (
       tt,
       subst (λ (x : Option (List ℕ)). CutShort from to x after) same

@@ -1,5 +1,7 @@
 //! What the program does, over any words and streams.
-ghost use Rattle.std.specs.Prelude.{◌≡◌, ◌≢◌, [], Some, Ok, Err, OnOk, OnErr, IfOk, IfErr};
+ghost use Rattle.std.specs.Prelude.{◌≡◌, ◌≢◌, [], Some, Ok, Err, true, false, IsOk, OnOk, OnErr, IfOk, IfErr};
+ghost use Rattle.std.specs.Io.Buffered.{writer_buffer, writer_contents};
+ghost use Rattle.std.specs.Io.KnownBytes.{Keeps};
 ghost use Rattle.std.specs.Option.{option_map};
 ghost use Rattle.clap.specs.Values.{kind_of};
 ghost use Rattle.hugepool.specs.Endings.{IsHelp, IsRefusal, DidReplay, AnsweredReplay, Did, EndsWith};
@@ -152,10 +154,24 @@ fn run_replay<R: Source, W: Write + Drop>(
     };
     let mut sink = Watched::new(buffered);
     let replayed = replay(alloc, reader, &mut sink);
+    let has_failed = sink.has_failed();
     let mut buffered = sink.into_inner();
-    let flushed = buffered.flush();
+    let flushed = flush_unless(has_failed, &mut buffered);
     let (out, _left) = buffered.into_parts();
     (flushed_answer(replayed, flushed), Some(out))
+}
+
+// After a failed write nothing more is written: what is left in the buffer could arrive behind a gap, or all of it
+// although a failure is told.
+fn flush_unless<W: Write + Drop>(has_failed: bool, buffered: &mut BufWriter<W>) -> io::Result<()>
+    ensures bytes { Keeps (writer_contents W.contents buffered.old) (writer_contents W.contents buffered.new) }
+    ensures empty { OnOk result (has_failed ≡ false → writer_buffer buffered.new ≡ []) }
+    ensures untouched { has_failed ≡ true → IsOk result × (buffered.new ≡ buffered.old) }
+{
+    if has_failed {
+        return Ok(());
+    }
+    buffered.flush()
 }
 
 // A flush that fails is a failed write. It is told before any other fault, since that stands behind it.

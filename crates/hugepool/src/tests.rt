@@ -4,6 +4,7 @@ use hp_replay::Watched;
 use std::alloc::Global;
 use std::io;
 use std::io::{ErrorKind, Read, Write};
+use std::test::Fail;
 
 /// The status, the output and the fault lines.
 fn told<R>(rt: &R, alloc: Global, words: &[&str], input: &str) -> (u8, Vec<u8>, Vec<u8>) {
@@ -288,6 +289,60 @@ fn a_failed_flush_is_told_before_a_bad_line(rt: HostRuntime) {
         assert_eq!(rt; out.taken.as_slice(), b"refused idle\n".as_slice());
         assert_eq!(rt; faults.as_slice(), told);
     }
+}
+
+/// An output that refuses its first write, and takes all others.
+#[derive(Drop)]
+struct Hiccup {
+    taken: Vec<u8>,
+    refuses: bool,
+}
+
+impl Write for Hiccup {
+    fn write(&mut self, buf: &[u8]) -> io::Result<usize> {
+        if self.refuses {
+            self.refuses = false;
+            return Err(io::Error::from(ErrorKind::BrokenPipe));
+        }
+        match buf {
+            [first, ..] => {
+                self.taken.push(*first)?;
+                Ok(1)
+            }
+            [] => Ok(0),
+        }
+    }
+
+    fn flush(&mut self) -> io::Result<()> {
+        Ok(())
+    }
+}
+
+/// More output than the program's buffer holds, so that it is written before the trace ends.
+#[test]
+fn nothing_is_written_after_a_failed_write(rt: HostRuntime) -> Result<(), Fail> {
+    let mut input = Vec::new(rt.alloc());
+    input.extend_from_slice(b"pool 1 1 1 1\n")?;
+    for _ in 0..1000 {
+        input.extend_from_slice(b"step 1\n")?;
+    }
+    let mut out = Hiccup {
+        taken: Vec::new(rt.alloc()),
+        refuses: true,
+    };
+    let mut faults = Vec::new(rt.alloc());
+    let (status, _) = program(
+        &rt,
+        rt.alloc(),
+        &["hugepool", "replay"],
+        &mut input.as_slice(),
+        &mut out,
+        &mut faults,
+    );
+    assert_eq!(rt; status, 1);
+    assert!(rt; out.taken.is_empty());
+    assert_eq!(rt; faults.as_slice(), WRITING);
+    Ok(())
 }
 
 #[test]
