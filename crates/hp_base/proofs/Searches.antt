@@ -20,7 +20,8 @@ some_member (suc n) p l = elim (true_or (p n)) [
 ]
 
 -- the first number that passes a test, or none below n does
-pub first_of_kind : (n : ℕ) (p : ℕ → Bool) → ((k : ℕ) × (p k ≡ true) × ((j : ℕ) → j < k → p j ≡ false)) ⊎ ((k : ℕ) → k < n → p k ≡ false)
+pub first_of_kind : (n : ℕ) (p : ℕ → Bool)
+    → ((k : ℕ) × (p k ≡ true) × ((j : ℕ) → j < k → p j ≡ false)) ⊎ ((k : ℕ) → k < n → p k ≡ false)
 first_of_kind zero p = inr (λ k l. absurd (omega arith))
 first_of_kind (suc n) p = elim (first_of_kind n p) [
   | inl h ↦ inl h

@@ -334,7 +334,8 @@ page_once s p x h is =
     absurd (omega (arith, lt, same)))
 
 -- of three that are one at most, of which no two count
-few_places : (a b c : ℕ) → a ≤ 1 → b ≤ 1 → c ≤ 1 → (0 < a → 0 < b → ⊥) → (0 < a → 0 < c → ⊥) → (0 < b → 0 < c → ⊥) → a + b + c ≤ 1
+few_places : (a b c : ℕ) → a ≤ 1 → b ≤ 1 → c ≤ 1 → (0 < a → 0 < b → ⊥) → (0 < a → 0 < c → ⊥)
+    → (0 < b → 0 < c → ⊥) → a + b + c ≤ 1
 few_places zero zero c la lb lc ab ac bc = omega (arith, lc)
 few_places zero (suc b) zero la lb lc ab ac bc = omega (arith, lb)
 few_places zero (suc b) (suc c) la lb lc ab ac bc = absurd (bc (omega arith) (omega arith))

@@ -124,7 +124,8 @@ unfolding count_below
 count_zero fr = refl
 
 -- a frame that is looked at counts where it is free
-pub count_more : (fr : ℕ → Bool) (n a b : ℕ) (t : Bool) → fr n ≡ t → a ≡ count_below fr n → b ≡ a + cond t 1 0 → b ≡ count_below fr (n + 1)
+pub count_more : (fr : ℕ → Bool) (n a b : ℕ) (t : Bool) → fr n ≡ t → a ≡ count_below fr n
+    → b ≡ a + cond t 1 0 → b ≡ count_below fr (n + 1)
 unfolding count_below
 count_more fr n a b t is before more = rw (add-one, is) (more ∙ ap (λ (k : ℕ). k + cond t 1 0) before)
 

@@ -151,7 +151,8 @@ pub passes : (g : Geometry) (s : State) (t : ℕ) (b c : Option Call) (f i new :
     → hand c ≡ hand b → change_in c ≡ change_in b → less c + more b ≡ less b + more c → fills b ≡ None → fills c ≡ None
     → HasSlot g s t f i → s.pages f i ≡ None → s.size f ≡ new
     → ((k j : ℕ) → ahead b k j ≡ true → (k ≡ f) × ((j ≡ i) ⊎ ((j < new) ⊎ (ahead c f j ≡ true))))
-    → ((k j : ℕ) → passed c k j ≡ true → (passed b k j ≡ true) ⊎ ((k ≡ f) × (j ≡ i) × (new ≤ j))) → ((k j : ℕ) → gone c k j ≡ true → ⊥)
+    → ((k j : ℕ) → passed c k j ≡ true → (passed b k j ≡ true) ⊎ ((k ≡ f) × (j ≡ i) × (new ≤ j)))
+    → ((k j : ℕ) → gone c k j ≡ true → ⊥)
     → Stands g (record s { pool = record s.pool { slots = put s.slots (slot_of g f i) None } }) t c
     → Inv g (to (record s { pool = record s.pool { slots = put s.slots (slot_of g f i) None } }) t c)
 passes g s t b c f i new h l e same_lock some none same_hand same_change balance no_b no_c held bare sized aheads

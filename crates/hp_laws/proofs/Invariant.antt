@@ -221,7 +221,8 @@ holds c = (slot_held c, locked_file c)
 
 -- all that others see of a call
 abbrev pub seen : Option Call
-    → ℕ × ℕ × Option ℕ × Option ℕ × ((ℕ → ℕ → Bool) × (ℕ → ℕ → Bool) × (ℕ → ℕ → Bool)) × (Option (ℕ × ℕ) × Option ℕ)
+    → ℕ × ℕ × Option ℕ × Option ℕ × ((ℕ → ℕ → Bool) × (ℕ → ℕ → Bool) × (ℕ → ℕ → Bool))
+    × (Option (ℕ × ℕ) × Option ℕ)
 seen c = (less c, more c, hand c, change_in c, sweeps c, holds c)
 
 -- the same where the call stands to truncations as it did

@@ -113,11 +113,13 @@ want_row call s t f i here next turn new h l e row same same_lock no_slot slot n
     (λ holder held r. so call s t _ turn _ new r (waits s t (Some (call here)) h l e))
 
 -- what of a call stays through a change
-abbrev pub steady : Option Call → ((ℕ → ℕ → Bool) × (ℕ → ℕ → Bool) × (ℕ → ℕ → Bool)) × (Option (ℕ × ℕ) × Option ℕ) × Option ℕ
+abbrev pub steady : Option Call
+    → ((ℕ → ℕ → Bool) × (ℕ → ℕ → Bool) × (ℕ → ℕ → Bool)) × (Option (ℕ × ℕ) × Option ℕ) × Option ℕ
 steady c = (sweeps c, holds c, hand c)
 
 -- and through a take
-abbrev pub unhanded : Option Call → ((ℕ → ℕ → Bool) × (ℕ → ℕ → Bool) × (ℕ → ℕ → Bool)) × (Option (ℕ × ℕ) × Option ℕ) × Option ℕ × ℕ
+abbrev pub unhanded : Option Call
+    → ((ℕ → ℕ → Bool) × (ℕ → ℕ → Bool) × (ℕ → ℕ → Bool)) × (Option (ℕ × ℕ) × Option ℕ) × Option ℕ × ℕ
 unhanded c = (sweeps c, holds c, change_in c, more c)
 
 -- a change is begun, or denied

@@ -120,7 +120,8 @@ enters_table g s t b c v f i x h one l e same there page low held fill own =
     low_there : (k j : ℕ) → ◌≡◌ {A = Option (ℕ × ℕ)} (Some (k, j)) (Some (f, i)) → j < s.size k
     low_there k j d = subst (λ (m : ℕ × ℕ). m.1 < s.size m.0) (sym (some_same d)) low
 
-    slot_there : (u : ℕ) (k : ℕ × ℕ) → ◌≡◌ {A = Option (ℕ × ℕ)} (Some k) (Some (f, i)) → s.slots (slot_of g k.0 k.1) ≡ Some u → u ≡ t
+    slot_there : (u : ℕ) (k : ℕ × ℕ) → ◌≡◌ {A = Option (ℕ × ℕ)} (Some k) (Some (f, i))
+        → s.slots (slot_of g k.0 k.1) ≡ Some u → u ≡ t
     slot_there u k d a = some_same (sym a ∙ (ap (λ (m : ℕ × ℕ). s.slots (slot_of g m.0 m.1)) (some_same d) ∙ held))
 
 -- room is ready for a mapping

@@ -38,7 +38,8 @@ abbrev promised : State → (file from to : ℕ) → ℕ
 promised s f from to = count_within (λ j. s.reserved f j && is_none (s.pages f j)) from to
 
 -- the pool where [from, i) is paged, under the file's lock
-abbrev paged : State → (task file from i : ℕ) → (pages : ℕ → Option ℕ) → (frame : ℕ → FrameState) → (resv : ℕ) → (spare : ℕ → ℕ) → Pool
+abbrev paged : State → (task file from i : ℕ) → (pages : ℕ → Option ℕ) → (frame : ℕ → FrameState)
+    → (resv : ℕ) → (spare : ℕ → ℕ) → Pool
 paged s t f from i pages frame resv spare = record (pool_of s) {
   locks = put s.locks f (Some t);
   frame = frame;

@@ -100,7 +100,8 @@ abbrev pub over : {P : Type 0} → (P → Call) → State → (task : ℕ) → P
 over call s t p last = record (with_pool s p) { life = lives_after s.life t (call last) None; calls = put s.calls t None }
 
 -- what the steps of a call come to: an end
-abbrev pub Comes : {P : Type 0} → (P → Call) → (Pool → P → Turn P → Pool → Type 0) → State → (task : ℕ) → Answer → State → Pool → P → Type 0
+abbrev pub Comes : {P : Type 0} → (P → Call) → (Pool → P → Turn P → Pool → Type 0)
+    → State → (task : ℕ) → Answer → State → Pool → P → Type 0
 Comes {P} call R s t b n pool phase = (end : Pool) × (last : P) × Leads R b end pool phase × (n ≡ over call s t end last)
 
 -- the state after a step that goes on with the call

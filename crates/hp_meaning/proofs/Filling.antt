@@ -163,7 +163,8 @@ fills_same frames pages before from i x after frame l e h = record {
 }
 
 -- a free frame is no new page's, and was free before
-free_before : (frames : ℕ) (pages : ℕ → Option ℕ) (before : ℕ → FrameState) (from i x : ℕ) (after : ℕ → Option ℕ) (frame : ℕ → FrameState)
+free_before : (frames : ℕ) (pages : ℕ → Option ℕ) (before : ℕ → FrameState) (from i x : ℕ) (after : ℕ → Option ℕ)
+    (frame : ℕ → FrameState)
     → Filled frames pages before from i after frame → frame x ≡ Free → before x ≡ Free
 free_before frames pages before from i x after frame h free = sym (h.others x not_new) ∙ free
   where

@@ -59,7 +59,8 @@ pub record Follows (P : Type 0) (rename : (ℕ → ℕ) → P → P) (frames : �
   pub count : new.frames ≡ s.frames
 
 -- two rows that split by one test
-pub by_tests : {A B C D E : Type 0} (b : Bool) → MatchBool b A B → MatchBool b C D → (b ≡ true → A → C → E) → (b ≡ false → B → D → E) → E
+pub by_tests : {A B C D E : Type 0} (b : Bool) → MatchBool b A B → MatchBool b C D
+    → (b ≡ true → A → C → E) → (b ≡ false → B → D → E) → E
 by_tests true m n on off = on refl m n
 by_tests false m n on off = off refl m n
 

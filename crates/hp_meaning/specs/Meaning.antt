@@ -171,7 +171,8 @@ is_gone f gone None = false
 is_gone f gone (Some place) = (place.0 == f) && gone place.1
 
 -- the entries of all tasks without those that stand for the indices that go
-unfoldable pub without_entries : (ℕ → List Mapping) → (ℕ → ℕ → Option ℕ) → (file : ℕ) → (gone : ℕ → Bool) → ℕ → ℕ → Option ℕ
+unfoldable pub without_entries : (ℕ → List Mapping) → (ℕ → ℕ → Option ℕ) → (file : ℕ) → (gone : ℕ → Bool)
+    → ℕ → ℕ → Option ℕ
 without_entries mappings table f gone = λ u v. if is_gone f gone (find (mappings u) v) then None else table u v
 
 -- the frames of the pages that go are free; any other frame is where it was

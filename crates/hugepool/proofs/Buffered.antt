@@ -191,14 +191,16 @@ unless_failed : (from to : Option (List ℕ)) (old new failed : Bool) (before mi
 unless_failed from to old new failed before mid after left r ok err reads writes kept empty =
     by_answer r ok err reads writes
   where
-    emptied : (s : Result (Unit {0}) ReplayFault) → OnOk s (Replayed from to before mid) → IfErr s (λ fault. Stopped fault from to before mid)
+    emptied : (s : Result (Unit {0}) ReplayFault)
+        → OnOk s (Replayed from to before mid) → IfErr s (λ fault. Stopped fault from to before mid)
         → TellsReads s old new → failed ≡ false → DidReplay s from to old new before (Some after)
     emptied s ok err reads good =
         let whole : Keeps mid (append_known after []) = subst (λ (x : List ℕ). Keeps mid (append_known after x)) (empty good) kept in
         flushed_ok from to old new before mid after s ok err reads
         (subst (λ (x : Option (List ℕ)). Keeps mid x) (unbuffered after) whole) whole
 
-    by_answer : (s : Result (Unit {0}) ReplayFault) → OnOk s (Replayed from to before mid) → IfErr s (λ fault. Stopped fault from to before mid)
+    by_answer : (s : Result (Unit {0}) ReplayFault)
+        → OnOk s (Replayed from to before mid) → IfErr s (λ fault. Stopped fault from to before mid)
         → TellsReads s old new → TellsWrites s false failed → DidReplay s from to old new before (Some after)
     by_answer (Ok x) ok err reads writes = emptied (Ok x) ok err reads writes
     by_answer (Err BadHeader) ok err reads writes = emptied (Err BadHeader) ok err reads writes
