@@ -1,5 +1,5 @@
 -- The one spelling of each word of a trace: what Display writes.
-use Rattle.std.specs.Prelude.{ℕ, List, ◌++◌, Bool, true, false, codes}
+use Rattle.std.specs.Prelude.{ℕ, List, [], ◌++◌, Bool, true, false, Option, Some, None, codes}
 use Rattle.std.specs.Fmt.{decimal}
 use Rattle.hp_base.specs.declared.config.Config.{Config}
 use Rattle.hp_base.specs.declared.answer.Answer.{Answer}
@@ -19,13 +19,19 @@ pub record Sizes : Type 0 where
   pub files : ℕ
   pub slots : ℕ
   pub tasks : ℕ
+  pub quota : Option ℕ
 
 abbrev pub sizes : Config → Sizes
-sizes c = record { frames = c.frames; files = c.files; slots = c.slots; tasks = c.tasks }
+sizes c = record { frames = c.frames; files = c.files; slots = c.slots; tasks = c.tasks; quota = c.quota }
+
+-- a quota, where there is one
+abbrev pub quota_field : Option ℕ → List ℕ
+quota_field None = []
+quota_field (Some pages) = field pages
 
 -- the first line
 abbrev pub sizes_text : Sizes → List ℕ
-sizes_text s = codes "pool" ++ field s.frames ++ field s.files ++ field s.slots ++ field s.tasks
+sizes_text s = codes "pool" ++ field s.frames ++ field s.files ++ field s.slots ++ field s.tasks ++ quota_field s.quota
 
 abbrev pub config_text : Config → List ℕ
 config_text c = sizes_text (sizes c)
@@ -61,6 +67,7 @@ answer_text answer.Done = codes "done"
 answer_text answer.Segv = codes "segv"
 answer_text answer.Beyond = codes "beyond"
 answer_text answer.NoFrame = codes "noframe"
+answer_text answer.NoQuota = codes "noquota"
 answer_text answer.NoMemory = codes "nomemory"
 answer_text answer.Interrupted = codes "interrupted"
 answer_text answer.Killed = codes "killed"

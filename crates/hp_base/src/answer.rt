@@ -19,6 +19,9 @@ pub enum Answer {
     Beyond,
     /// No frame is free, or too few are free and unreserved (Linux: `ENOSPC`, in a fault `SIGBUS`).
     NoFrame,
+    /// The files together would have more pages than the pool's quota (Linux: `ENOSPC` of a mount's size, in a
+    /// fault `SIGBUS`; the quota is asked first).
+    NoQuota,
     /// A growth was refused (Linux: `ENOMEM`).
     NoMemory,
     /// An allocation noticed that its task was killed (Linux: `EINTR`).
@@ -47,6 +50,7 @@ impl fmt::Display for Answer {
             Answer::Segv => write!(f, "segv"),
             Answer::Beyond => write!(f, "beyond"),
             Answer::NoFrame => write!(f, "noframe"),
+            Answer::NoQuota => write!(f, "noquota"),
             Answer::NoMemory => write!(f, "nomemory"),
             Answer::Interrupted => write!(f, "interrupted"),
             Answer::Killed => write!(f, "killed"),

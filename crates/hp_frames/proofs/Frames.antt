@@ -2,7 +2,7 @@
 use Rattle.std.proofs.Common.{◌≡◌, ◌≢◌, ℕ, suc, ◌+◌, ◌<◌, ◌≤◌, ◌^◌, Bool, true, false, cond, List, [], ◌∷◌, ◌++◌, length, set}
 use Rattle.std.proofs.Common.{get_or, Option, Some, None, slice_get, replicate, arith, zero, ap, refl, ◌∙◌, subst, sym, inl, inr}
 use Rattle.std.proofs.Common.{true≢false}
-use Rattle.std.specs.Prelude.{nat_eq, ◌||◌, not}
+use Rattle.std.specs.Prelude.{nat_eq, not}
 use Rattle.std.specs.List.{list_any}
 use Rattle.std.proofs.lemmas.Option.{slice_get_within, get_or_from_slice_get, slice_get-get_or}
 use Rattle.std.proofs.lemmas.List.{length-replicate, get_or-replicate, length-set, get_or-set_same, get_or-set_other}
@@ -13,8 +13,8 @@ use Rattle.hp_base.proofs.Counting.{count_below_le, count_below_one, count_below
 use Rattle.hp_base.proofs.Changes.{count_below-at}
 use Rattle.hp_base.proofs.Puts.{same_or_other}
 use Rattle.hp_frames.specs.declared.frame.FrameState.{FrameState}
-use Rattle.hp_frames.specs.declared.frame.FrameState.TheVariants.{Free, Hand, Placed}
-use Rattle.hp_frames.specs.Bank.{is_free, frame_at, free_frames, AreFree, IsListed}
+use Rattle.hp_frames.specs.declared.frame.FrameState.TheVariants.{Free, Hand}
+use Rattle.hp_frames.specs.Bank.{is_free, frame_at, free_frames, AreFree, IsListed, exceeds, IsWithinQuota}
 
 -- 1 for a free frame
 abbrev pub count_one : FrameState → ℕ
@@ -194,10 +194,20 @@ pushed fs xs more n x number states longer same below free low =
     let at : slice_get fs number ≡ Some Free = ap (λ (s : List FrameState). slice_get s number) states ∙ free_at n number below in
     rw (longer, same) (one_more fs xs number at low free, next_below xs number low, one_longer xs number)
 
+-- what doesn't exceed the quota stays within it
+pub more_within : (quota : Option ℕ) (used n : ℕ) → exceeds quota used n ≡ false → IsWithinQuota quota used → IsWithinQuota quota (used + n)
+more_within None used n few within = tt
+more_within (Some most) used n few within = grind (arith, nat_tests, few, within)
+
+-- nothing is within each quota
+pub none_within : (quota : Option ℕ) → IsWithinQuota quota 0
+none_within None = tt
+none_within (Some most) = omega arith
+
 -- a bank that is opened
-pub opened : (fs : List FrameState) (xs : List ℕ) (n m : ℕ) → fs ≡ replicate n Free → AreFree fs xs → length xs ≡ n → n ≤ m
-    → n < 2 ^ 32 → record { listed : IsListed fs xs m; reserved : 0 ≤ length xs }
-opened fs xs n m states free long room fits =
+pub opened : (fs : List FrameState) (xs : List ℕ) (n m : ℕ) (quota : Option ℕ) → fs ≡ replicate n Free → AreFree fs xs → length xs ≡ n
+    → n ≤ m → n < 2 ^ 32 → record { listed : IsListed fs xs m; reserved : 0 ≤ length xs; within : IsWithinQuota quota 0 }
+opened fs xs n m quota states free long room fits =
     let count : free_frames fs ≡ n = ap free_frames states ∙ all_free n in
     let wide : length fs ≡ n = ap length states ∙ length-replicate n Free in
     record {
@@ -208,4 +218,5 @@ opened fs xs n m states free long room fits =
         numbered = omega (arith, wide, fits);
       };
       reserved = omega arith;
+      within = none_within quota;
     }

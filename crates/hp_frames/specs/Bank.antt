@@ -1,16 +1,20 @@
 -- The frames of a pool and its count of reserved pages, however the bank keeps them.
-use Rattle.std.specs.Prelude.{◌≡◌, ◌≤◌, ◌<◌, ◌^◌, ℕ, Bool, true, false, not, List, [], ◌∷◌, length, Some, slice_get, slice_set}
+use Rattle.std.specs.Prelude.{◌≡◌, ◌≤◌, ◌<◌, ◌+◌, ◌-◌, ◌^◌, ◌==◌, ℕ, Bool, true, false, List, [], ◌∷◌, length, slice_get, slice_set}
+use Rattle.std.specs.Prelude.{Option, Some, None, IfSome, nat_lt}
 use Rattle.std.specs.Prelude.{slice_index_or, nat_eq}
 use Rattle.std.specs.List.{list_any}
 use Rattle.hp_base.specs.Indices.{count_below}
 use Rattle.hp_frames.specs.declared.frame.FrameState.{FrameState}
 use Rattle.hp_frames.specs.declared.frame.FrameState.TheVariants.{Free, Hand, Placed}
 
--- where each frame is, how many pages are reserved, and for how many frames the bank has taken memory, over its
--- lists
+-- where each frame is; how many pages are reserved; how many are used, which are all that files have reserved or
+-- cached; how many may be used, where that is limited; and for how many frames the bank has taken memory, over
+-- its lists
 pub record BankState : Type 0 where
   pub frames : List FrameState
   pub resv : ℕ
+  pub used : ℕ
+  pub quota : Option ℕ
   pub room : ℕ
 
 abbrev pub is_free : FrameState → Bool
@@ -47,9 +51,31 @@ IsPlaced b x = (word : ℕ) × HasWord b x word
 abbrev pub with_frame : BankState → ℕ → FrameState → BankState
 with_frame b x state = record b { frames = slice_set b.frames x state }
 
--- the bank with another count
+-- the bank with another count of reserved pages
 abbrev pub with_resv : BankState → ℕ → BankState
 with_resv b n = record b { resv = n }
+
+-- the bank with another count of used pages
+abbrev pub with_used : BankState → ℕ → BankState
+with_used b n = record b { used = n }
+
+-- n more pages are more than the quota has left (Linux: `hugepage_subpool_get_pages`)
+abbrev pub exceeds : (quota : Option ℕ) → (used n : ℕ) → Bool
+exceeds None used n = false
+exceeds (Some most) used n = nat_lt (most - used) n
+
+-- the quota has nothing left
+abbrev pub is_used_up : (quota : Option ℕ) → (used : ℕ) → Bool
+is_used_up None used = false
+is_used_up (Some most) used = used == most
+
+-- so many pages are used as the quota allows, or fewer
+abbrev pub IsWithinQuota : (quota : Option ℕ) → (used : ℕ) → Type 0
+IsWithinQuota quota used = IfSome quota (λ most. used ≤ most)
+
+-- so many more pages can be counted
+abbrev pub CanCount : BankState → ℕ → Type 0
+CanCount b n = b.used + n < 2 ^ 32
 
 -- the numbers of these are different, and each is that of a free frame
 abbrev pub AreFree : List FrameState → List ℕ → Type 0

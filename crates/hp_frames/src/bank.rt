@@ -1,8 +1,8 @@
-//! The bank: frames, a list of the free ones, and the count of reserved pages.
-ghost use Rattle.std.specs.Prelude.{◌≡◌, ℕ, ◌+◌, ◌-◌, ◌<◌, ◌≤◌, ◌↔◌, length, slice_get, IfOk, OnOk, OnErr, IsErr, IsErrOf};
+//! The bank: frames, a list of the free ones, and the counts of reserved and of used pages.
+ghost use Rattle.std.specs.Prelude.{◌≡◌, ℕ, ◌+◌, ◌-◌, ◌<◌, ◌≤◌, ◌↔◌, ◌⊎◌, false, length, slice_get, IfOk, OnOk, OnErr, IsErr, IsErrOf};
 ghost use Rattle.std.specs.Prelude.{IsTrue, replicate, Some, slice_set, ◌++◌, ◌∷◌, [], vec_capacity};
 ghost use Rattle.hp_frames.specs.Bank.{BankState, free_count, frame_at, is_free, IsFree, InHands, HasWord, IsPlaced, with_frame};
-ghost use Rattle.hp_frames.specs.Bank.{with_resv, AreFree};
+ghost use Rattle.hp_frames.specs.Bank.{with_resv, with_used, exceeds, is_used_up, IsWithinQuota, CanCount, AreFree};
 
 use crate::fault::Fault;
 use crate::frame::FrameState;
@@ -32,34 +32,46 @@ impl Held {
     }
 }
 
-/// The frames of a pool, and how many pages of it are reserved and not yet there.
+/// The frames of a pool, how many pages of it are reserved and not yet there, and how many its files use of the
+/// quota.
 #[derive(Drop)]
 pub struct Bank {
     frames: Vec<FrameState>,
     // The free frames. Its capacity is that of `frames`, so that giving one back takes no memory.
     free: Vec<Frame>,
     resv: u32,
+    used: u32,
+    quota: Option<u32>,
 }
 
 impl Model for Bank {
     ghost use Rattle.std.specs.Prelude.{◌+◌, ◌≤◌, length, vec_capacity};
-    ghost use Rattle.hp_frames.specs.Bank.{BankState, IsListed};
+    ghost use Rattle.hp_frames.specs.Bank.{BankState, IsListed, IsWithinQuota};
 
     ghost Value = { BankState };
 
-    ghost view = { λ b. record { frames = b.frames.items; resv = b.resv; room = vec_capacity b.frames + vec_capacity b.free } };
+    ghost view = { λ b. record {
+      frames = b.frames.items;
+      resv = b.resv;
+      used = b.used;
+      quota = b.quota;
+      room = vec_capacity b.frames + vec_capacity b.free;
+    } };
 
     ghost invariant = { λ b. record {
       listed : IsListed b.frames.items b.free.items (vec_capacity b.free);
       reserved : b.resv ≤ length b.free.items;
+      within : IsWithinQuota b.quota b.used;
     } };
 }
 
 impl Bank {
-    /// So many frames, all of them free, and no page reserved.
-    pub fn new(alloc: Global, frames: u32) -> Result<Self, AllocError>
+    /// So many frames, all of them free, no page reserved or used, and a maximum for those used, if any.
+    pub fn new(alloc: Global, frames: u32, quota: Option<u32>) -> Result<Self, AllocError>
         ensures frames { IfOk result (λ bank. bank.frames ≡ replicate frames FrameState.Free) }
         ensures resv { IfOk result (λ bank. bank.resv ≡ 0) }
+        ensures used { IfOk result (λ bank. bank.used ≡ 0) }
+        ensures quota { IfOk result (λ bank. bank.quota ≡ quota) }
     {
         let mut states = Vec::new(alloc);
         states.resize(frames as usize, FrameState::Free)?;
@@ -71,6 +83,8 @@ impl Bank {
             frames: states,
             free,
             resv: 0,
+            used: 0,
+            quota,
         })
     }
 
@@ -89,6 +103,22 @@ impl Bank {
         self.resv
     }
 
+    /// How many pages are used: what the files have reserved, and what calls count on besides (Linux:
+    /// `used_hpages` of a subpool). It is counted without a quota, too.
+    pub fn used(&self) -> u32
+        ensures used { result ≡ self.now.used }
+        ensures within { IsWithinQuota self.now.quota self.now.used }
+    {
+        self.used
+    }
+
+    /// How many pages may be used, where that is limited (Linux: `max_hpages` of a subpool).
+    pub fn quota(&self) -> Option<u32>
+        ensures { result ≡ self.now.quota }
+    {
+        self.quota
+    }
+
     /// Whether that frame is free; false for a number that isn't there.
     pub fn is_free(&self, frame: Frame) -> bool
         ensures { IsTrue result ↔ IsFree self.now frame }
@@ -99,26 +129,45 @@ impl Bank {
         )
     }
 
-    /// Reserves n more pages (Linux: `hugetlb_acct_memory`).
+    /// Reserves n more pages, which are used from now on. The quota is asked first, and then the frames (Linux:
+    /// `hugepage_subpool_get_pages`, `hugetlb_acct_memory`).
     pub fn account(&mut self, n: u32) -> Result<(), Fault>
-        ensures short { IsErrOf result Fault.Short ↔ (free_count self.old - self.old.resv < n) }
-        ensures only { IsErr result → IsErrOf result Fault.Short }
-        ensures ok { OnOk result (self.new ≡ with_resv self.old (self.old.resv + n)) }
+        requires { CanCount self.old n }
+        ensures quota { IsErrOf result Fault.Quota ↔ IsTrue (exceeds self.old.quota self.old.used n) }
+        ensures short { IsErrOf result Fault.Short
+            ↔ ((exceeds self.old.quota self.old.used n ≡ false) × (free_count self.old - self.old.resv < n)) }
+        ensures only { IsErr result → IsErrOf result Fault.Quota ⊎ IsErrOf result Fault.Short }
+        ensures ok { OnOk result (self.new ≡ with_used (with_resv self.old (self.old.resv + n)) (self.old.used + n)) }
         ensures err { OnErr result (self.new ≡ self.old) }
     {
+        if self.exceeds(n) {
+            return Err(Fault::Quota);
+        }
         if n > self.free() - self.resv {
             return Err(Fault::Short);
         }
         self.resv += n;
+        self.used += n;
         Ok(())
     }
 
-    /// Gives n reservations back (Linux: `hugetlb_acct_memory` of a negative number).
+    /// Gives n reservations back, whose pages are no longer used (Linux: `hugetlb_acct_memory` of a negative
+    /// number, `hugepage_subpool_put_pages`).
     pub fn settle(&mut self, n: u32)
-        requires { n ≤ self.old.resv }
-        ensures { self.new ≡ with_resv self.old (self.old.resv - n) }
+        requires resv { n ≤ self.old.resv }
+        requires used { n ≤ self.old.used }
+        ensures { self.new ≡ with_used (with_resv self.old (self.old.resv - n)) (self.old.used - n) }
     {
         self.resv -= n;
+        self.used -= n;
+    }
+
+    /// n pages that weren't reserved any more are no longer used (Linux: `hugepage_subpool_put_pages`).
+    pub fn drop_used(&mut self, n: u32)
+        requires { n ≤ self.old.used }
+        ensures { self.new ≡ with_used self.old (self.old.used - n) }
+    {
+        self.used -= n;
     }
 
     /// Takes a free frame for a reservation that the caller has (Linux: `dequeue_huge_page_vma`
@@ -135,20 +184,28 @@ impl Bank {
         Held { frame }
     }
 
-    /// Takes a free frame that nobody reserved. Its word is 0 once it is placed.
+    /// Takes a free frame that nobody reserved, for a page that is used from now on. The quota is asked first,
+    /// and then the frames. Its word is 0 once it is placed.
     #[tactic(auto, using(std::proofs::lemmas::Grind::common_steps, crate::proofs::Frames::set_same))]
     pub fn take_unreserved(&mut self) -> Result<Held, Fault>
-        ensures none { IsErrOf result Fault.NoFrame ↔ (free_count self.old ≡ self.old.resv) }
-        ensures only { IsErr result → IsErrOf result Fault.NoFrame }
+        requires { CanCount self.old 1 }
+        ensures quota { IsErrOf result Fault.Quota ↔ IsTrue (is_used_up self.old.quota self.old.used) }
+        ensures none { IsErrOf result Fault.NoFrame
+            ↔ ((is_used_up self.old.quota self.old.used ≡ false) × (free_count self.old ≡ self.old.resv)) }
+        ensures only { IsErr result → IsErrOf result Fault.Quota ⊎ IsErrOf result Fault.NoFrame }
         ensures free { IfOk result (λ held. IsFree self.old held) }
         ensures held { IfOk result (λ held. InHands self.new held) }
-        ensures after { IfOk result (λ held. self.new ≡ with_frame self.old held FrameState.Hand) }
+        ensures after { IfOk result (λ held. self.new ≡ with_used (with_frame self.old held FrameState.Hand) (self.old.used + 1)) }
         ensures err { OnErr result (self.new ≡ self.old) }
     {
+        if self.exceeds(1) {
+            return Err(Fault::Quota);
+        }
         if self.free() == self.resv {
             return Err(Fault::NoFrame);
         }
         let frame = take_free(&mut self.frames, &mut self.free);
+        self.used += 1;
         Ok(Held { frame })
     }
 
@@ -215,6 +272,16 @@ impl Bank {
         ensures after { self.new ≡ with_frame self.old frame (FrameState.Placed word) }
     {
         move_frame(&mut self.frames, frame, FrameState::Placed(word));
+    }
+
+    // Whether n more pages are more than the quota has left.
+    fn exceeds(&self, n: u32) -> bool
+        ensures { result ≡ exceeds self.now.quota self.now.used n }
+    {
+        match self.quota {
+            None => false,
+            Some(most) => n > most - self.used,
+        }
     }
 }
 

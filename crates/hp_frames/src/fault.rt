@@ -10,4 +10,7 @@ pub enum Fault {
     /// Every free frame is reserved.
     #[error("no unreserved frame is free")]
     NoFrame,
+    /// More pages would be used than the quota allows.
+    #[error("the quota of pages is used up")]
+    Quota,
 }

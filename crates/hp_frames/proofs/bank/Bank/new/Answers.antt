@@ -1,12 +1,7 @@
-use Rattle.std.proofs.Common.{◌≡◌, ℕ, ◌+◌, ◌≤◌, ◌<◌, slice_get, sym, ap, subst, arith, Some, refl, List, length, replicate, ◌++◌}
-use Rattle.std.proofs.Common.{◌∷◌, [], ◌∙◌}
-use Rattle.std.proofs.lemmas.Option.{slice_get_within}
-use Rattle.std.proofs.lemmas.List.{length-replicate}
+use Rattle.std.proofs.Common.{◌≡◌, arith, replicate}
 use Rattle.std.proofs.lemmas.Grind.{common_steps}
-use Rattle.hp_frames.specs.declared.frame.FrameState.{FrameState}
-use Rattle.hp_frames.specs.declared.frame.FrameState.TheVariants.{Free, Hand, Placed}
-use Rattle.hp_frames.specs.Bank.{BankState, AreFree, IsListed, free_frames}
-use Rattle.hp_frames.proofs.Frames.{moved, given, taken, few, has_room, last_free, one_more, next_below, all_free, free_at, opened, pushed}
+use Rattle.hp_frames.specs.declared.frame.FrameState.TheVariants.{Free}
+use Rattle.hp_frames.proofs.Frames.{opened, pushed}
 use Rattle.hp_frames.proofs.bank.Bank.new.Goals as goal
 
 pub loop-number-preserved : goal.loop-number-preserved
@@ -26,6 +21,6 @@ pub invariant_of-result : goal.invariant_of-result
 invariant_of-result c =
     let states : c.resize.new.self.items ≡ replicate c.args.frames Free =
     grind (arith, common_steps, c.in_ok-resize.ensures.items, c.new-states.ensures.items) in
-    opened _ _ _ _ states c.loop-number.invariant.all_free
+    opened _ _ _ _ _ states c.loop-number.invariant.all_free
     (omega (arith, c.loop-number.invariant.listed, c.loop-number.auto.number-end, c.loop-number-test.false))
     c.loop-number.invariant.room c.ranges.frames.fits

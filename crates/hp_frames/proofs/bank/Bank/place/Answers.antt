@@ -1,8 +1,7 @@
-use Rattle.std.proofs.Common.{◌≡◌, ℕ, ◌+◌, ◌≤◌, ◌<◌, slice_get, sym, ap, subst, arith, Some, refl, List, length, ◌++◌, ◌∷◌, []}
-use Rattle.hp_frames.specs.declared.frame.FrameState.{FrameState}
-use Rattle.hp_frames.specs.declared.frame.FrameState.TheVariants.{Free, Hand, Placed}
-use Rattle.hp_frames.specs.Bank.{BankState, AreFree, IsListed}
-use Rattle.hp_frames.proofs.Frames.{moved, given, taken, few, has_room, last_free}
+use Rattle.std.proofs.Common.{◌≡◌, ℕ, slice_get, sym, subst, Some, refl}
+use Rattle.hp_frames.specs.declared.frame.FrameState.TheVariants.{Hand, Placed}
+use Rattle.hp_frames.specs.Bank.{BankState}
+use Rattle.hp_frames.proofs.Frames.{moved}
 use Rattle.hp_frames.proofs.bank.Bank.place.Goals as goal
 
 pub invariant_of-self : goal.invariant_of-self
@@ -13,4 +12,5 @@ invariant_of-self c =
     record {
       listed = moved _ _ _ _ _ Hand (Placed 0) c.move_frame.ensures.items was refl refl c.self.invariant.listed;
       reserved = c.self.invariant.reserved;
+      within = c.self.invariant.within;
     }

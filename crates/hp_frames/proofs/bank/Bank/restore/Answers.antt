@@ -1,8 +1,7 @@
-use Rattle.std.proofs.Common.{◌≡◌, ℕ, ◌+◌, ◌≤◌, ◌<◌, slice_get, sym, ap, subst, arith, Some, refl, List, length, ◌++◌, ◌∷◌, []}
-use Rattle.hp_frames.specs.declared.frame.FrameState.{FrameState}
-use Rattle.hp_frames.specs.declared.frame.FrameState.TheVariants.{Free, Hand, Placed}
-use Rattle.hp_frames.specs.Bank.{BankState, AreFree, IsListed}
-use Rattle.hp_frames.proofs.Frames.{moved, given, taken, few, has_room, last_free}
+use Rattle.std.proofs.Common.{◌≡◌, ℕ, slice_get, sym, subst, arith, Some}
+use Rattle.hp_frames.specs.declared.frame.FrameState.TheVariants.{Hand}
+use Rattle.hp_frames.specs.Bank.{BankState}
+use Rattle.hp_frames.proofs.Frames.{given, few, has_room}
 use Rattle.hp_frames.proofs.bank.Bank.restore.Goals as goal
 
 pub give_free-requires-clause-room : goal.give_free-requires-clause-room
@@ -29,4 +28,4 @@ invariant_of-self c =
     (subst (λ (f : ℕ). slice_get c.args.self.now.frames f ≡ Some Hand) (sym c.held.view_is) c.requires) in
     let after = given _ _ _ _ _ _ _ c.give_free.ensures.frames c.give_free.ensures.free c.give_free.ensures.capacity
     was c.self.invariant.listed in
-    record { listed = after.0; reserved = omega (arith, after.1, c.self.invariant.reserved) }
+    record { listed = after.0; reserved = omega (arith, after.1, c.self.invariant.reserved); within = c.self.invariant.within }
