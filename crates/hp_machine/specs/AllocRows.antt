@@ -57,13 +57,13 @@ AllocMissingRow s grant p turn new =
     (at.Unslot (record { allocation = p.allocation; index = p.index; answer = Some answer.NoMemory }))
     (λ change. at.Changed (record { allocation = p.allocation; index = p.index; pending = change })) turn new
 
--- killed: to abort (Interrupted). Else a frame is taken, to taken, or to abort (NoFrame)
+-- killed: to abort (Interrupted). Else a frame is taken, to taken, or to abort (NoQuota, NoFrame)
 abbrev pub AllocChangedRow : Pool → (killed : Bool) → Changed → Turn AllocPhase → Pool → Type 0
 AllocChangedRow s killed p turn new =
     MatchBool killed
     (Goes (at.Abort (record { allocation = p.allocation; index = p.index; pending = p.pending; answer = answer.Interrupted })) s turn new)
     (TakeRow s p.pending.missing
-    (at.Abort (record { allocation = p.allocation; index = p.index; pending = p.pending; answer = answer.NoFrame }))
+    (λ a. at.Abort (record { allocation = p.allocation; index = p.index; pending = p.pending; answer = a }))
     (λ x. at.Taken (record { allocation = p.allocation; index = p.index; pending = p.pending; held = x })) turn new)
 
 -- the change is aborted, to unslot
@@ -79,7 +79,7 @@ AllocTakenRow s p turn new =
     (at.Settle (record { allocation = p.allocation; index = p.index; held = p.held }))
     (at.Committed (record { allocation = p.allocation; index = p.index; held = p.held })) turn new
 
--- resv minus 1, to committed
+-- resv and used minus 1, to committed
 abbrev pub AllocSettleRow : Pool → Settle → Turn AllocPhase → Pool → Type 0
 AllocSettleRow s p turn new = SettleOneRow s (at.Committed (record { allocation = p.allocation; index = p.index; held = p.held })) turn new
 

@@ -212,6 +212,7 @@ opening g frames = record {
     frames = frames;
     frame = λ x. if nat_lt x frames then Free else Hand;
     resv = 0;
+    used = 0;
     slots = λ _. None;
     locks = λ _. None;
     size = λ _. 0;

@@ -1,12 +1,13 @@
 -- The headline: what holds in every state that a run reaches.
 use Rattle.std.specs.Prelude.{◌≡◌, ℕ, ◌+◌, ◌≤◌, ◌<◌, Option, Some, None}
 use Rattle.hp_base.specs.Numbers.{total}
-use Rattle.hp_base.specs.Indices.{vacant}
+use Rattle.hp_base.specs.Indices.{vacant, count_below}
 use Rattle.hp_base.specs.Mappings.{find}
+use Rattle.hp_frames.specs.Bank.{IsWithinQuota}
 use Rattle.hp_frames.specs.declared.frame.FrameState.{FrameState}
 use Rattle.hp_frames.specs.declared.frame.FrameState.TheVariants as frame
 use Rattle.hp_machine.specs.State.{State, free_frames}
-use Rattle.hp_machine.specs.Views.{less, more, hand}
+use Rattle.hp_machine.specs.Views.{less, more, used_owed, hand}
 
 -- each table entry lies in a mapping of its task, and the file's page at its index is the entry's frame
 abbrev pub Agrees : State → Type 0
@@ -45,9 +46,18 @@ all_less s = total (s.geometry.tasks + 1) (λ t. less (s.calls t))
 abbrev pub all_more : State → ℕ
 all_more s = total (s.geometry.tasks + 1) (λ t. more (s.calls t))
 
+-- how many indices of all files are reserved
+abbrev pub reserved_in : State → ℕ
+reserved_in s = total s.geometry.files (λ f. count_below (s.reserved f) s.geometry.limit)
+
+-- what the calls in flight owe to the used count
+abbrev pub all_used_owed : State → ℕ
+all_used_owed s = total (s.geometry.tasks + 1) (λ t. used_owed (s.calls t))
+
 -- Translations of one file index name one frame; each frame is in one place; no translation lies beyond the
 -- size of an unlocked file; the reserve count is the number of reserved indices without a page, plus what the
--- calls in flight owe, and at most the free frames; it is exactly that number where no call owes anything.
+-- calls in flight owe, and at most the free frames; it is exactly that number where no call owes anything. The used
+-- count is the number of reserved indices, plus what the calls in flight owe to it, and at most the quota.
 pub record Headline (s : State) : Type 0 where
   pub agree : Agrees s
   pub place : OnePlace s.frames s.frame (λ t. hand (s.calls t)) s.pages
@@ -55,3 +65,5 @@ pub record Headline (s : State) : Type 0 where
   pub count : s.resv + all_less s ≡ vacant_in s + all_more s
   pub enough : s.resv ≤ free_frames s.frame s.frames
   pub settled : ((t : ℕ) → (less (s.calls t) ≡ 0) × (more (s.calls t) ≡ 0)) → s.resv ≡ vacant_in s
+  pub used : s.used ≡ reserved_in s + all_used_owed s
+  pub within : IsWithinQuota s.geometry.quota s.used

@@ -4,7 +4,7 @@ use Rattle.hp_base.specs.Numbers.{put}
 use Rattle.hp_base.specs.Indices.{missing}
 use Rattle.hp_base.specs.Mappings.{IsRoom, entered}
 use Rattle.hp_base.specs.declared.answer.Answer.TheVariants as answer
-use Rattle.hp_machine.specs.State.{Pool, frees}
+use Rattle.hp_machine.specs.State.{Pool, frees, exceeds_quota}
 use Rattle.hp_machine.specs.Parts.{Goes, Ends, StartRow, is_bad_range, unlocked, ChangeRow, aborted, committed}
 use Rattle.hp_machine.specs.declared.map.Start.{Start}
 use Rattle.hp_machine.specs.declared.map.Room.{Room}
@@ -44,16 +44,18 @@ MapMissingRow s grant p turn new =
     (at.Leave (record { map = p.map; answer = answer.NoMemory }))
     (λ change. at.Changed (record { map = p.map; base = p.base; pending = change })) turn new
 
--- killed: to abort (Killed). Fewer free frames than resv and what is missing: to abort (NoFrame). Else resv
--- grows by what is missing, to accounted
+-- killed: to abort (Killed). The quota has less left than what is missing: to abort (NoQuota). Fewer free frames
+-- than resv and what is missing: to abort (NoFrame). Else resv and used grow by what is missing, to accounted
 abbrev pub MapChangedRow : Pool → (killed : Bool) → Changed → Turn MapPhase → Pool → Type 0
 MapChangedRow s killed p turn new =
     MatchBool killed
     (Goes (at.Abort (record { map = p.map; pending = p.pending; answer = answer.Killed })) s turn new)
+    (MatchBool (exceeds_quota s p.pending.missing)
+    (Goes (at.Abort (record { map = p.map; pending = p.pending; answer = answer.NoQuota })) s turn new)
     (MatchBool (nat_lt (frees s - s.resv) p.pending.missing)
     (Goes (at.Abort (record { map = p.map; pending = p.pending; answer = answer.NoFrame })) s turn new)
     (Goes (at.Accounted (record { map = p.map; base = p.base; pending = p.pending }))
-    (record s { resv = s.resv + p.pending.missing }) turn new))
+    (record s { resv = s.resv + p.pending.missing; used = s.used + p.pending.missing }) turn new)))
 
 -- the change is aborted, to leave
 abbrev pub MapAbortRow : Pool → Abort → Turn MapPhase → Pool → Type 0
@@ -68,10 +70,12 @@ MapAccountedRow s p turn new =
     (committed s p.map.file p.pending) turn new)
     (Goes (at.Enter (record { map = p.map; base = p.base })) (committed s p.map.file p.pending) turn new)
 
--- resv minus what was accounted for and not added, to enter
+-- resv and used minus what was accounted for and not added, to enter
 abbrev pub MapSettleRow : Pool → Settle → Turn MapPhase → Pool → Type 0
 MapSettleRow s p turn new =
-    (p.excess ≤ s.resv) × Goes (at.Enter (record { map = p.map; base = p.base })) (record s { resv = s.resv - p.excess }) turn new
+    (p.excess ≤ s.resv) × (p.excess ≤ s.used)
+    × Goes (at.Enter (record { map = p.map; base = p.base }))
+    (record s { resv = s.resv - p.excess; used = s.used - p.excess }) turn new
 
 -- the mapping is entered, size becomes the larger of size and from + len, to leave (Mapped)
 abbrev pub MapEnterRow : Pool → (task : ℕ) → Enter → Turn MapPhase → Pool → Type 0

@@ -1,6 +1,6 @@
 -- What rows of more than one operation say: outcomes, locks and slots, takes, changes, and the pages and
 -- entries that go.
-use Rattle.std.specs.Prelude.{◌≡◌, ℕ, ◌+◌, ◌-◌, ◌≤◌, ◌&&◌, ◌||◌, ◌==◌, Bool, not, Option, Some, None, max, nat_le, nat_lt}
+use Rattle.std.specs.Prelude.{◌≡◌, ℕ, ◌+◌, ◌-◌, ◌≤◌, ◌&&◌, ◌||◌, ◌==◌, Bool, not, Some, None, max, nat_le, nat_lt}
 use Rattle.std.specs.Prelude.{MatchBool, MatchOption, if◌then◌else◌}
 use Rattle.hp_base.specs.Numbers.{put, put2}
 use Rattle.hp_base.specs.Indices.{missing, add_range, touches}
@@ -10,7 +10,7 @@ use Rattle.hp_base.specs.declared.answer.Answer.TheVariants as answer
 use Rattle.hp_frames.specs.declared.frame.FrameState.{FrameState}
 use Rattle.hp_frames.specs.declared.frame.FrameState.TheVariants.{Free, Hand, Placed}
 use Rattle.hp_region.specs.Change.{Change}
-use Rattle.hp_machine.specs.State.{Pool, frees, slot_of}
+use Rattle.hp_machine.specs.State.{Pool, frees, quota_is_used_up, slot_of}
 use Rattle.hp_machine.specs.declared.touch.Access.{Access}
 use Rattle.hp_machine.specs.declared.touch.Access.TheVariants.{Load, Store}
 use Rattle.hp_machine.specs.declared.call.Turn.{Turn}
@@ -96,19 +96,22 @@ CommitRow s f change settle next turn new =
     (Goes settle (committed s f change) turn new)
     (Goes next (committed s f change) turn new)
 
--- a frame for one page: a reserved one where nothing was missing, else one that isn't reserved
--- (Linux: `dequeue_huge_page_vma`)
-abbrev pub TakeRow : {P : Type 0} → Pool → (missing : ℕ) → (no_frame : P) → (taken : ℕ → P) → Turn P → Pool → Type 0
-TakeRow s missing no_frame taken turn new =
+-- a frame for one page: a reserved one where nothing was missing, else one that isn't reserved, for a page that is
+-- used from now on; the quota is asked first (Linux: `hugepage_subpool_get_pages`, `dequeue_huge_page_vma`)
+abbrev pub TakeRow : {P : Type 0} → Pool → (missing : ℕ) → (refused : Answer → P) → (taken : ℕ → P) → Turn P → Pool → Type 0
+TakeRow s missing refused taken turn new =
     MatchBool (missing == 0)
     ((x : ℕ) × (s.frame x ≡ Free) × (1 ≤ s.resv) × Goes (taken x) (record s { frame = put s.frame x Hand; resv = s.resv - 1 }) turn new)
+    (MatchBool (quota_is_used_up s)
+    (Goes (refused answer.NoQuota) s turn new)
     (MatchBool (frees s == s.resv)
-    (Goes no_frame s turn new)
-    ((x : ℕ) × (s.frame x ≡ Free) × Goes (taken x) (record s { frame = put s.frame x Hand }) turn new))
+    (Goes (refused answer.NoFrame) s turn new)
+    ((x : ℕ) × (s.frame x ≡ Free) × Goes (taken x) (record s { frame = put s.frame x Hand; used = s.used + 1 }) turn new)))
 
--- one reservation is given back
+-- one reservation is given back, and its page is no longer used
 abbrev pub SettleOneRow : {P : Type 0} → Pool → (next : P) → Turn P → Pool → Type 0
-SettleOneRow s next turn new = (1 ≤ s.resv) × Goes next (record s { resv = s.resv - 1 }) turn new
+SettleOneRow s next turn new =
+    (1 ≤ s.resv) × (1 ≤ s.used) × Goes next (record s { resv = s.resv - 1; used = s.used - 1 }) turn new
 
 -- a frame goes from a hand to a page, whose word is 0 (Linux: `hugetlb_add_to_page_cache`)
 abbrev pub placed : Pool → (file index held : ℕ) → Pool

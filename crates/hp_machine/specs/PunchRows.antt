@@ -1,5 +1,5 @@
 -- The rows of a punched hole: what one step in each phase may do.
-use Rattle.std.specs.Prelude.{ℕ, ◌+◌, ◌-◌, ◌&&◌, Bool, true, false, not, MatchBool, is_some, nat_lt, nat_le, if◌then◌else◌}
+use Rattle.std.specs.Prelude.{ℕ, ◌+◌, ◌-◌, ◌≤◌, ◌&&◌, Bool, true, false, not, MatchBool, is_some, nat_lt, nat_le, if◌then◌else◌}
 use Rattle.hp_base.specs.Numbers.{put, put2}
 use Rattle.hp_base.specs.Indices.{splits}
 use Rattle.hp_base.specs.declared.answer.Answer.TheVariants as answer
@@ -63,11 +63,16 @@ PunchDeleteRow s grant p turn new =
       spare = put s.spare f (if is_split && nat_lt (s.pending f) (s.spare f) then s.spare f - 1 else s.spare f);
     }) turn new)
 
--- the frame is freed; resv plus 1 where the delete was denied, for the index is still reserved; to unslot
+-- the frame is freed. The delete was denied: resv plus 1, for the index is still reserved. Else used minus 1, for it
+-- isn't. To unslot
 abbrev pub PunchFreeRow : Pool → Free → Turn PunchPhase → Pool → Type 0
 PunchFreeRow s p turn new =
-    Goes (at.Unslot (record { hole = p.hole; index = p.index }))
-    (record s { frame = put s.frame p.held frame.Free; resv = if p.denied then s.resv + 1 else s.resv }) turn new
+    MatchBool p.denied
+    (Goes (at.Unslot (record { hole = p.hole; index = p.index }))
+    (record s { frame = put s.frame p.held frame.Free; resv = s.resv + 1 }) turn new)
+    ((1 ≤ s.used)
+    × Goes (at.Unslot (record { hole = p.hole; index = p.index }))
+    (record s { frame = put s.frame p.held frame.Free; used = s.used - 1 }) turn new)
 
 -- the slot is left. More indices: to want with the next. Else to leave
 abbrev pub PunchUnslotRow : Pool → Unslot → Turn PunchPhase → Pool → Type 0

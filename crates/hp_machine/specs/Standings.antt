@@ -1,5 +1,5 @@
 -- What a call in flight owes, holds and wants, by the phase in which it stands: one table, a line a phase.
-use Rattle.std.specs.Prelude.{ℕ, ◌==◌, Bool, Option, Some, None}
+use Rattle.std.specs.Prelude.{ℕ, ◌+◌, ◌==◌, not, Option, Some, None}
 use Rattle.hp_base.specs.Numbers.{bit}
 use Rattle.hp_region.specs.Change.{Change}
 use Rattle.hp_machine.specs.declared.touch.Touch.{Touch}
@@ -46,11 +46,13 @@ pub data Sweep : Type 0 where
   Past : (file new : ℕ) → Sweep
   Gone : (file new : ℕ) → Sweep
 
--- `less` and `more` are what the call owes: the reservations that are still counted for pages which it took or took
--- away, and those that it counted for indices which it hasn't entered, or has taken away
+-- `less` and `more` are what the call owes to the reserve count: the reservations that are still counted for pages
+-- which it took or took away, and those that it counted for indices which it hasn't entered, or has taken away.
+-- `used` is what it owes to the used count: the indices that are counted and that it hasn't entered, or has taken away
 pub record Standing : Type 0 where
   pub less : ℕ
   pub more : ℕ
+  pub used : ℕ
   pub hand : Option ℕ
   pub change : Progress
   pub lock : Option ℕ
@@ -65,6 +67,7 @@ apart =
     record {
       less = 0;
       more = 0;
+      used = 0;
       hand = None;
       change = NoChange;
       lock = None;
@@ -116,8 +119,9 @@ standing (call.Touch (touch.Taken p)) =
       change = Counts p.touch.file p.pending;
       hand = Some p.held;
       less = bit (p.pending.missing == 0);
+      used = p.pending.missing;
     }
-standing (call.Touch (touch.Settle p)) = record (in_touch p.touch) { work = Makes; hand = Some p.held }
+standing (call.Touch (touch.Settle p)) = record (in_touch p.touch) { work = Makes; hand = Some p.held; used = 1 }
 standing (call.Touch (touch.Committed p)) = record (in_touch p.touch) { work = Makes; hand = Some p.held; less = 1 }
 standing (call.Touch (touch.Restore p)) = record (in_touch p.touch) { work = Makes; hand = Some p.held; less = 1 }
 standing (call.Touch (touch.Found p)) = record (in_touch p.touch) { work = Uses }
@@ -127,8 +131,9 @@ standing (call.Map (map.Room p)) = in_map p.map
 standing (call.Map (map.Missing p)) = in_map p.map
 standing (call.Map (map.Changed p)) = record (in_map p.map) { change = Counts p.map.file p.pending }
 standing (call.Map (map.Abort p)) = record (in_map p.map) { change = GivesUp p.map.file }
-standing (call.Map (map.Accounted p)) = record (in_map p.map) { change = Counts p.map.file p.pending; more = p.pending.missing }
-standing (call.Map (map.Settle p)) = record (in_map p.map) { more = p.excess }
+standing (call.Map (map.Accounted p)) =
+    record (in_map p.map) { change = Counts p.map.file p.pending; more = p.pending.missing; used = p.pending.missing }
+standing (call.Map (map.Settle p)) = record (in_map p.map) { more = p.excess; used = p.excess }
 standing (call.Map (map.Enter p)) = in_map p.map
 standing (call.Map (map.Leave p)) = in_map p.map
 standing (call.Alloc (alloc.Start p)) = record apart { wants = Lock p.allocation.file }
@@ -145,8 +150,9 @@ standing (call.Alloc (alloc.Taken p)) =
       change = Counts p.allocation.file p.pending;
       hand = Some p.held;
       less = bit (p.pending.missing == 0);
+      used = p.pending.missing;
     }
-standing (call.Alloc (alloc.Settle p)) = record (in_alloc_at p.allocation p.index) { work = Makes; hand = Some p.held }
+standing (call.Alloc (alloc.Settle p)) = record (in_alloc_at p.allocation p.index) { work = Makes; hand = Some p.held; used = 1 }
 standing (call.Alloc (alloc.Committed p)) = record (in_alloc_at p.allocation p.index) { work = Makes; hand = Some p.held; less = 1 }
 standing (call.Alloc (alloc.Restore p)) = record (in_alloc_at p.allocation p.index) { work = Makes; hand = Some p.held; less = 1 }
 standing (call.Alloc (alloc.Unslot p)) = in_alloc_at p.allocation p.index
@@ -158,7 +164,8 @@ standing (call.Punch (punch.Locked p)) = in_punch_at p.hole p.index
 standing (call.Punch (punch.Unmap p)) = record (in_punch_at p.hole p.index) { work = Removes }
 standing (call.Punch (punch.Evict p)) = record (in_punch_at p.hole p.index) { work = Removes }
 standing (call.Punch (punch.Delete p)) = record (in_punch_at p.hole p.index) { work = Removed; hand = Some p.held; less = 1 }
-standing (call.Punch (punch.Free p)) = record (in_punch_at p.hole p.index) { work = Removed; hand = Some p.held; less = bit p.denied }
+standing (call.Punch (punch.Free p)) =
+    record (in_punch_at p.hole p.index) { work = Removed; hand = Some p.held; less = bit p.denied; used = bit (not p.denied) }
 standing (call.Punch (punch.Unslot p)) = in_punch_at p.hole p.index
 standing (call.Punch (punch.Leave p)) = in_punch p.hole
 standing (call.Truncate (truncate.Start p)) = record apart { wants = Lock p.truncation.file }
@@ -172,7 +179,11 @@ standing (call.Truncate (truncate.Unslot p)) = record (in_sweep_at p.truncation 
 standing (call.Truncate (truncate.Tail p)) =
     record (in_truncate p.truncation) { less = p.evicted; sweep = Past p.truncation.file p.truncation.new }
 standing (call.Truncate (truncate.Settle p)) =
-    record (in_truncate p.truncation) { more = p.excess; sweep = Gone p.truncation.file p.truncation.new }
+    record (in_truncate p.truncation) {
+      more = p.excess;
+      used = p.excess + p.evicted;
+      sweep = Gone p.truncation.file p.truncation.new;
+    }
 standing (call.Truncate (truncate.Leave p)) = record (in_truncate p.truncation) { sweep = Gone p.truncation.file p.truncation.new }
 standing (call.Unmap (unmap.Start p)) = apart
 standing (call.Unmap (unmap.Clear p)) = apart

@@ -2,21 +2,24 @@
 use Rattle.std.specs.Prelude.{ℕ, ◌+◌, ◌*◌, ◌%◌, Bool, true, false, Option, List}
 use Rattle.hp_base.specs.Indices.{count_below}
 use Rattle.hp_base.specs.declared.mapping.Mapping.{Mapping}
+use Rattle.hp_frames.specs.Bank.{exceeds, is_used_up}
 use Rattle.hp_frames.specs.declared.frame.FrameState.{FrameState}
 use Rattle.hp_frames.specs.declared.frame.FrameState.TheVariants.{Free, Hand, Placed}
 use Rattle.hp_machine.specs.declared.outcome.Life.{Life}
 use Rattle.hp_machine.specs.declared.outcome.Life.TheVariants.{Alive, Killed, Dead}
 use Rattle.hp_machine.specs.declared.call.Call.{Call}
 
--- how large it all is: files, slots and tasks, the indices of a file, and the virtual pages of a task
+-- how large it all is: files, slots and tasks, the indices of a file, and the virtual pages of a task; and how many
+-- pages all files together may use, where that is limited
 pub record Geometry : Type 0 where
   pub files : ℕ
   pub slots : ℕ
   pub tasks : ℕ
   pub limit : ℕ
   pub space : ℕ
+  pub quota : Option ℕ
 
--- What all calls share. Per frame: where it is; `resv` is the count of reserved pages. Per slot and per
+-- What all calls share. Per frame: where it is; `resv` is the count of reserved pages, `used` that of used ones. Per slot and per
 -- file lock: the task that holds it. Per file: size, open changes, spare descriptors, the set of reserved
 -- indices, and the frame of each page. Per task: whether room for one mapping is ready, its mappings
 -- and its translations.
@@ -25,6 +28,7 @@ pub record Pool : Type 0 where
   pub frames : ℕ
   pub frame : ℕ → FrameState
   pub resv : ℕ
+  pub used : ℕ
   pub slots : ℕ → Option ℕ
   pub locks : ℕ → Option ℕ
   pub size : ℕ → ℕ
@@ -60,6 +64,14 @@ free_frames frame frames = count_below (λ x. is_free (frame x)) frames
 
 abbrev pub frees : Pool → ℕ
 frees s = free_frames s.frame s.frames
+
+-- n more pages are more than the quota has left (Linux: `hugepage_subpool_get_pages`)
+abbrev pub exceeds_quota : Pool → ℕ → Bool
+exceeds_quota s n = exceeds s.geometry.quota s.used n
+
+-- the quota has nothing left
+abbrev pub quota_is_used_up : Pool → Bool
+quota_is_used_up s = is_used_up s.geometry.quota s.used
 
 -- the slot of an index in the fault mutex table (Linux: `hugetlb_fault_mutex_hash`)
 abbrev pub slot_of : Geometry → (file index : ℕ) → ℕ

@@ -57,12 +57,12 @@ TouchMissingRow s grant p turn new =
     (at.Leave (record { touch = p.touch; answer = answer.NoMemory }))
     (λ change. at.Changed (record { touch = p.touch; pending = change })) turn new
 
--- killed: to abort (Killed). Else a frame is taken, to taken, or to abort (NoFrame)
+-- killed: to abort (Killed). Else a frame is taken, to taken, or to abort (NoQuota, NoFrame)
 abbrev pub TouchChangedRow : Pool → (killed : Bool) → Changed → Turn TouchPhase → Pool → Type 0
 TouchChangedRow s killed p turn new =
     MatchBool killed
     (Goes (at.Abort (record { touch = p.touch; pending = p.pending; answer = answer.Killed })) s turn new)
-    (TakeRow s p.pending.missing (at.Abort (record { touch = p.touch; pending = p.pending; answer = answer.NoFrame }))
+    (TakeRow s p.pending.missing (λ a. at.Abort (record { touch = p.touch; pending = p.pending; answer = a }))
     (λ x. at.Taken (record { touch = p.touch; pending = p.pending; held = x })) turn new)
 
 -- the change is aborted, to leave
@@ -75,7 +75,7 @@ TouchTakenRow s p turn new =
     CommitRow s p.touch.file p.pending (at.Settle (record { touch = p.touch; held = p.held }))
     (at.Committed (record { touch = p.touch; held = p.held })) turn new
 
--- resv minus 1, to committed
+-- resv and used minus 1, to committed
 abbrev pub TouchSettleRow : Pool → Settle → Turn TouchPhase → Pool → Type 0
 TouchSettleRow s p turn new = SettleOneRow s (at.Committed (record { touch = p.touch; held = p.held })) turn new
 

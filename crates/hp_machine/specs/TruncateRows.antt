@@ -1,5 +1,5 @@
 -- The rows of a truncation: what one step in each phase may do.
-use Rattle.std.specs.Prelude.{◌≡◌, ℕ, ◌+◌, ◌-◌, ◌≤◌, Bool, Option, None, MatchBool, is_some, max, nat_lt}
+use Rattle.std.specs.Prelude.{ℕ, ◌+◌, ◌-◌, ◌≤◌, Bool, MatchBool, is_some, max, nat_lt}
 use Rattle.hp_base.specs.Numbers.{put}
 use Rattle.hp_base.specs.Indices.{count_within, cut_tail}
 use Rattle.hp_base.specs.Pages.{IsPagesEnd}
@@ -86,13 +86,16 @@ TruncateTailRow s p turn new =
     Goes (at.Settle (record {
       truncation = p.truncation;
       excess = count_within (s.reserved f) p.truncation.new s.geometry.limit - p.evicted;
+      evicted = p.evicted;
     }))
     (record s { reserved = put s.reserved f (cut_tail (s.reserved f) p.truncation.new) }) turn new
 
--- resv minus the indices that went and had no page, to leave
+-- resv minus the indices that went and had no page, used minus all that went, to leave
 abbrev pub TruncateSettleRow : Pool → Settle → Turn TruncatePhase → Pool → Type 0
 TruncateSettleRow s p turn new =
-    (p.excess ≤ s.resv) × Goes (at.Leave (record { truncation = p.truncation })) (record s { resv = s.resv - p.excess }) turn new
+    (p.excess ≤ s.resv) × (p.excess + p.evicted ≤ s.used)
+    × Goes (at.Leave (record { truncation = p.truncation }))
+    (record s { resv = s.resv - p.excess; used = s.used - (p.excess + p.evicted) }) turn new
 
 -- the file lock is left: Done
 abbrev pub TruncateLeaveRow : Pool → Leave → Turn TruncatePhase → Pool → Type 0

@@ -1,8 +1,7 @@
 -- What a call in flight owes and holds: the columns of the table of standings, each by itself.
 use Rattle.std.specs.Prelude.{ℕ, ◌==◌, Option, Some, None}
 use Rattle.hp_base.specs.Numbers.{bit}
-use Rattle.hp_region.specs.Change.{Change}
-use Rattle.hp_machine.specs.Standings.{Progress, NoChange, Counts, GivesUp, Want, Nothing, Lock, Slot, Standing, standing_of}
+use Rattle.hp_machine.specs.Standings.{Progress, NoChange, Counts, GivesUp, Want, Nothing, Lock, Slot, standing_of}
 use Rattle.hp_machine.specs.declared.call.Call.{Call}
 
 -- what the call owes: reservations that are still counted for pages which it took or took away
@@ -12,6 +11,10 @@ less c = (standing_of c).less
 -- and reservations that it counted for indices which it hasn't entered, or has taken away
 abbrev pub more : Option Call → ℕ
 more c = (standing_of c).more
+
+-- what it owes to the used count: indices that are counted and that it hasn't entered, or has taken away
+abbrev pub used_owed : Option Call → ℕ
+used_owed c = (standing_of c).used
 
 -- the frame in its hand
 abbrev pub hand : Option Call → Option ℕ

@@ -78,11 +78,13 @@ pub struct Tail {
     pub evicted: u32,
 }
 
-/// `excess` of the indices that went had no page: to give their reservations back.
+/// `excess` of the indices that went had no page: to give their reservations back. The others are those whose
+/// pages were `evicted`; none of them is used any more.
 #[derive(Debug, Drop)]
 pub struct Settle {
     pub truncation: Truncation,
     pub excess: u32,
+    pub evicted: u32,
 }
 
 /// To leave the file's lock.
