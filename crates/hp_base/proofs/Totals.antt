@@ -1,5 +1,6 @@
 -- Sums of functions on numbers, and counts of members as sums.
-use Rattle.std.proofs.Common.{◌≡◌, ◌≢◌, ℕ, zero, suc, ◌+◌, ◌<◌, ◌≤◌, refl, ap, sym, ◌∙◌, arith, inl, inr}
+use Rattle.std.proofs.Math.Nat.{suc-mul}
+use Rattle.std.proofs.Common.{◌≡◌, ◌≢◌, ℕ, zero, suc, ◌+◌, ◌*◌, ◌<◌, ◌≤◌, refl, ap, sym, ◌∙◌, arith, inl, inr}
 use Rattle.std.specs.Prelude.{Bool, true, false, cond, nat_lt}
 use Rattle.std.proofs.lemmas.Bool.{ltb-true, ltb-false}
 use Rattle.hp_base.specs.Numbers.{total, bit}
@@ -31,6 +32,16 @@ total_le zero f g h = omega arith
 total_le (suc n) f g h =
     let a : total n g ≤ total n f = total_le n f g h in
     let b : g n ≤ f n = h n in
+    omega arith
+
+-- a sum of numbers of which none is above another is at most as many times that
+pub total_few : (n : ℕ) (f : ℕ → ℕ) (most : ℕ) → ((j : ℕ) → f j ≤ most) → total n f ≤ n * most
+unfolding total
+total_few zero f most h = omega arith
+total_few (suc n) f most h =
+    let a : total n f ≤ n * most = total_few n f most h in
+    let b : f n ≤ most = h n in
+    let c : suc n * most ≡ n * most + most = suc-mul n most in
     omega arith
 
 pub total_none : (n : ℕ) → total n (λ _. 0) ≡ 0

@@ -14,7 +14,8 @@ use Rattle.hp_base.proofs.Changes.{count_below-at}
 use Rattle.hp_base.proofs.Puts.{same_or_other}
 use Rattle.hp_frames.specs.declared.frame.FrameState.{FrameState}
 use Rattle.hp_frames.specs.declared.frame.FrameState.TheVariants.{Free, Hand}
-use Rattle.hp_frames.specs.Bank.{is_free, frame_at, free_frames, AreFree, IsListed, exceeds, IsWithinQuota}
+use Rattle.hp_frames.specs.Bank.{is_free, frame_at, free_frames, AreFree, IsListed, IsWithinQuota}
+use Rattle.hp_frames.proofs.Quotas.{none_within}
 
 -- 1 for a free frame
 abbrev pub count_one : FrameState → ℕ
@@ -193,16 +194,6 @@ pub pushed : (fs : List FrameState) (xs more : List ℕ) (n x number : ℕ) → 
 pushed fs xs more n x number states longer same below free low =
     let at : slice_get fs number ≡ Some Free = ap (λ (s : List FrameState). slice_get s number) states ∙ free_at n number below in
     rw (longer, same) (one_more fs xs number at low free, next_below xs number low, one_longer xs number)
-
--- what doesn't exceed the quota stays within it
-pub more_within : (quota : Option ℕ) (used n : ℕ) → exceeds quota used n ≡ false → IsWithinQuota quota used → IsWithinQuota quota (used + n)
-more_within None used n few within = tt
-more_within (Some most) used n few within = grind (arith, nat_tests, few, within)
-
--- nothing is within each quota
-pub none_within : (quota : Option ℕ) → IsWithinQuota quota 0
-none_within None = tt
-none_within (Some most) = omega arith
 
 -- a bank that is opened
 pub opened : (fs : List FrameState) (xs : List ℕ) (n m : ℕ) (quota : Option ℕ) → fs ≡ replicate n Free → AreFree fs xs → length xs ≡ n

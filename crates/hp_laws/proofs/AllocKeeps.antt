@@ -4,6 +4,7 @@ use Rattle.std.specs.Prelude.{Bool, nat_lt, max, is_some, Some, None}
 use Rattle.hp_base.specs.declared.answer.Answer.{Answer}
 use Rattle.hp_base.specs.declared.answer.Answer.TheVariants as answer
 use Rattle.hp_base.proofs.Puts.{put_same}
+use Rattle.hp_frames.proofs.Quotas.{less_within}
 use Rattle.hp_machine.specs.AllocRows.{AllocRow, AllocHeadRow, AllocWantRow, AllocLockedRow, AllocMissingRow, AllocChangedRow}
 use Rattle.hp_machine.specs.AllocRows.{AllocTakenRow, AllocCommittedRow, AllocUnslotRow}
 use Rattle.hp_machine.specs.declared.alloc.Head.{Head}
@@ -95,6 +96,7 @@ alloc_missing s t grant p turn new h l e row =
       none = refl;
       some = refl;
       balance = refl;
+      owed = refl;
       fill = tt;
       own = record { slot = y.slot; lock = y.lock; facts = record { aim = y.facts.aim; bare = y.facts.bare; one = o.0; marked = o.1 } };
     })
@@ -118,7 +120,10 @@ alloc_changed s t killed p turn new h l e row =
     (λ alive r. take_row call.Alloc s t p.pending.missing (at.Changed p) _
     (λ x. at.Taken (record { allocation = p.allocation; index = p.index; pending = p.pending; held = x })) turn new
     h l e r (record {
-      lacks = aborts answer.NoFrame;
+      lacks = aborts;
+      few = y.facts.one.few;
+      unused = refl;
+      uses = λ x. refl;
       same = λ x. refl;
       empty = refl;
       full = λ x. refl;
@@ -154,6 +159,9 @@ alloc_taken s t p turn new h l e row =
       next_none = refl;
       next_less = refl;
       next_more = refl;
+      uses = refl;
+      settle_uses = refl;
+      next_uses = refl;
       fill_settle = tt;
       fill_next = tt;
       own_settle = record { slot = y.slot; lock = y.lock; facts = record { aim = y.facts.aim; bare = y.facts.bare; marked = marked } };
@@ -172,7 +180,7 @@ alloc_committed s t grant p turn new h l e row =
     (places s.geometry s t _
     (Some (call.Alloc (at.Unslot (record { allocation = p.allocation; index = p.index; answer = None })))) f p.index
     p.held h l e y.facts.aim.file (below_limit s.geometry _ y.facts.aim) refl refl refl
-    refl refl refl y.facts.marked y.facts.bare y.slot
+    refl refl refl refl y.facts.marked y.facts.bare y.slot
     (λ u a. no_passer s.geometry s t f h y.lock (λ j. ap (λ c. passed c f j) e) u p.index a) tt
     (record { slot = y.slot; lock = y.lock; facts = record { aim = y.facts.aim } })))
     (λ denied r. so call.Alloc s t _ turn _ new r
@@ -246,15 +254,16 @@ alloc_row s t killed grant (at.Abort p) turn new h l e row =
     so call.Alloc s t _ turn _ new row
     (closed s.geometry s t _
     (Some (call.Alloc (at.Unslot (record { allocation = p.allocation; index = p.index; answer = Some p.answer }))))
-    p.allocation.file h l e refl refl refl refl refl refl tt
+    p.allocation.file h l e refl refl refl refl refl refl refl tt
     (record { slot = y.slot; lock = y.lock; facts = record { aim = y.facts.aim } }))
 alloc_row s t killed grant (at.Taken p) turn new h l e row = alloc_taken s t p turn new h l e row
-alloc_row s t killed grant (at.Settle p) turn new h l e (low, row) =
+alloc_row s t killed grant (at.Settle p) turn new h l e (low, used, row) =
     let y = stands_at s t _ h e in
     so call.Alloc s t _ turn _ new row
     (rebalances s.geometry s t _
     (Some (call.Alloc (at.Committed (record { allocation = p.allocation; index = p.index; held = p.held }))))
-    (s.resv - 1) h l e refl refl refl refl (omega arith) (let z = h.enough in omega arith) tt
+    (s.resv - 1) (s.used - 1) h l e refl refl refl refl (omega arith) (let z = h.enough in omega arith) (omega arith)
+    (less_within s.geometry.quota s.used (s.used - 1) (omega arith) h.quota) tt
     (record { slot = y.slot; lock = y.lock; facts = y.facts }))
 alloc_row s t killed grant (at.Committed p) turn new h l e row = alloc_committed s t grant p turn new h l e row
 alloc_row s t killed grant (at.Restore p) turn new h l e row =
@@ -262,7 +271,7 @@ alloc_row s t killed grant (at.Restore p) turn new h l e row =
     so call.Alloc s t _ turn _ new row
     (gives s.geometry s t _
     (Some (call.Alloc (at.Unslot (record { allocation = p.allocation; index = p.index; answer = Some p.answer }))))
-    p.held (s.resv + 1) h l e refl refl refl refl refl (omega arith) (omega arith) tt
+    p.held (s.resv + 1) s.used h l e refl refl refl refl refl (omega arith) (omega arith) refl h.quota tt
     (record { slot = y.slot; lock = y.lock; facts = record { aim = y.facts.aim } }))
 alloc_row s t killed grant (at.Unslot p) turn new h l e row = alloc_unslot s t p turn new h l e row
 alloc_row s t killed grant (at.Extend p) turn new h l e row =
@@ -277,4 +286,4 @@ alloc_row s t killed grant (at.Extend p) turn new h l e row =
     (record { slot = tt; lock = y.lock; facts = record { file = y.facts.range.file } }))
 alloc_row s t killed grant (at.Leave p) turn new h l e row =
     so call.Alloc s t _ turn _ new row
-    (leaves_lock s.geometry s t _ p.allocation.file h l e refl refl refl refl refl refl (stands_at s t _ h e).lock (λ k j. refl))
+    (leaves_lock s.geometry s t _ p.allocation.file h l e refl refl refl refl refl refl refl (stands_at s t _ h e).lock (λ k j. refl))

@@ -12,7 +12,7 @@ use Rattle.hp_base.specs.declared.event.Op.TheVariants as op
 use Rattle.hp_base.specs.declared.event.Event.{Event}
 use Rattle.hp_base.specs.declared.event.Event.TheVariants.{Begin, Step, Kill}
 use Rattle.hp_base.proofs.Puts.{put_same}
-use Rattle.hp_machine.specs.State.{Geometry, Pool, State, pool_of, slot_of, frees, is_killed}
+use Rattle.hp_machine.specs.State.{exceeds_quota, quota_is_used_up, Geometry, Pool, State, pool_of, slot_of, frees, is_killed}
 use Rattle.hp_machine.specs.Parts.{StartRow, CommitRow, TakeRow, answer_of}
 use Rattle.hp_machine.specs.TouchRows.{TouchRow}
 use Rattle.hp_machine.specs.MapRows.{MapRow}
@@ -102,16 +102,19 @@ commit_words call w Q s f from to m settle next turn new row a b =
     by_test (nat_lt (missing (s.reserved f) from to) m) row (λ _ r. leaf call w Q _ turn r.0 a) (λ _ r. leaf call w Q _ turn r.0 b)
 
 -- nor does a take
-take_words : {P : Type 0} (call : P → Call) (w : ℕ) (Q : Type 0) (s : State) (m : ℕ) (no_frame : P) (taken : ℕ → P) (turn : Turn P)
-    (new : Pool)
-    → TakeRow (pool_of s) m no_frame taken turn new → (Carries (Some (call no_frame)) w → Q)
+take_words : {P : Type 0} (call : P → Call) (w : ℕ) (Q : Type 0) (s : State) (m : ℕ) (refused : Answer → P) (taken : ℕ → P)
+    (turn : Turn P) (new : Pool)
+    → TakeRow (pool_of s) m refused taken turn new → (Carries (Some (call (refused answer.NoQuota))) w → Q)
+    → (Carries (Some (call (refused answer.NoFrame))) w → Q)
     → ((x : ℕ) → Carries (Some (call (taken x))) w → Q) → Yields call w Q turn
-take_words call w Q s m no_frame taken turn new row a b =
+take_words call w Q s m refused taken turn new row over a b =
     by_test (m == 0) row
     (λ _ r. leaf call w Q (Moved (taken r.0)) turn r.3.0 (b r.0))
+    (λ _ r. by_test (quota_is_used_up (pool_of s)) r
+    (λ _ r. leaf call w Q _ turn r.0 over)
     (λ _ r. by_test (frees (pool_of s) == s.resv) r
     (λ _ r. leaf call w Q _ turn r.0 a)
-    (λ _ r. leaf call w Q (Moved (taken r.0)) turn r.2.0 (b r.0)))
+    (λ _ r. leaf call w Q (Moved (taken r.0)) turn r.2.0 (b r.0))))
 
 -- a map that tells a word carried it
 map_words : (s : State) (t : ℕ) (killed grant : Bool) (phase : MapPhase) (turn : Turn MapPhase) (new : Pool) (w : ℕ)
@@ -130,12 +133,13 @@ map_words s t killed grant (map.Missing p) turn new w row = by_test ((s.spare p.
     (λ _ r. leaf call.Map w _ _ turn r.0 (λ e. absurd e))
 map_words s t killed grant (map.Changed p) turn new w row = by_test killed row
     (λ _ r. leaf call.Map w _ _ turn r.0 (λ e. absurd (cc)))
+    (λ _ r. by_test (exceeds_quota (pool_of s) p.pending.missing) r (λ _ r. leaf call.Map w _ _ turn r.0 (λ e. absurd (cc)))
     (λ _ r. by_test (nat_lt (frees (pool_of s) - s.resv) p.pending.missing) r (λ _ r. leaf call.Map w _ _ turn r.0 (λ e. absurd (cc)))
-    (λ _ r. leaf call.Map w _ _ turn r.0 (λ e. absurd e)))
+    (λ _ r. leaf call.Map w _ _ turn r.0 (λ e. absurd e))))
 map_words s t killed grant (map.Abort p) turn new w row = leaf call.Map w _ _ turn row.0 (λ e. e)
 map_words s t killed grant (map.Accounted p) turn new w row =
     commit_words call.Map w _ s p.map.file p.pending.from p.pending.to p.pending.missing _ _ turn new row (λ e. absurd e) (λ e. absurd e)
-map_words s t killed grant (map.Settle p) turn new w (low, row) = leaf call.Map w _ _ turn row.0 (λ e. absurd e)
+map_words s t killed grant (map.Settle p) turn new w (low, used, row) = leaf call.Map w _ _ turn row.0 (λ e. absurd e)
 map_words s t killed grant (map.Enter p) turn new w row = leaf call.Map w _ _ turn row.0 (λ e. absurd (cc))
 map_words s t killed grant (map.Leave p) turn new w row = leaf call.Map w _ _ turn row.0 (λ e. e)
 
@@ -160,14 +164,15 @@ alloc_words s t killed grant (alloc.Missing p) turn new w row =
     (λ _ r. leaf call.Alloc w _ _ turn r.0 (λ e. absurd e))
 alloc_words s t killed grant (alloc.Changed p) turn new w row = by_test killed row
     (λ _ r. leaf call.Alloc w _ _ turn r.0 (λ e. absurd (cc)))
-    (λ _ r. take_words call.Alloc w _ s p.pending.missing _
-    (λ x. alloc.Taken (record { allocation = p.allocation; index = p.index; pending = p.pending; held = x })) turn new r (λ e. absurd (cc))
-    (λ x e. absurd e))
+    (λ _ r. take_words call.Alloc w _ s p.pending.missing
+    (λ a. alloc.Abort (record { allocation = p.allocation; index = p.index; pending = p.pending; answer = a }))
+    (λ x. alloc.Taken (record { allocation = p.allocation; index = p.index; pending = p.pending; held = x })) turn new r
+    (λ e. absurd (cc)) (λ e. absurd (cc)) (λ x e. absurd e))
 alloc_words s t killed grant (alloc.Abort p) turn new w row = leaf call.Alloc w _ _ turn row.0 (λ e. some_same e)
 alloc_words s t killed grant (alloc.Taken p) turn new w row =
     commit_words call.Alloc w _ s p.allocation.file p.pending.from p.pending.to p.pending.missing _ _ turn new row (λ e. absurd e)
     (λ e. absurd e)
-alloc_words s t killed grant (alloc.Settle p) turn new w (low, row) = leaf call.Alloc w _ _ turn row.0 (λ e. absurd e)
+alloc_words s t killed grant (alloc.Settle p) turn new w (low, used, row) = leaf call.Alloc w _ _ turn row.0 (λ e. absurd e)
 alloc_words s t killed grant (alloc.Committed p) turn new w row =
     by_test grant row (λ _ r. leaf call.Alloc w _ _ turn r.0 (λ e. absurd (cc))) (λ _ r. leaf call.Alloc w _ _ turn r.0 (λ e. absurd (cc)))
 alloc_words s t killed grant (alloc.Restore p) turn new w row = leaf call.Alloc w _ _ turn row.0 (λ e. some_same e)
@@ -199,7 +204,8 @@ punch_words s t killed grant (punch.Delete p) turn new w row =
     by_test (splits (s.reserved p.hole.file) p.index && nat_le (s.spare p.hole.file) (s.pending p.hole.file) && not grant) row
     (λ _ r. leaf call.Punch w ⊥ _ turn r.0 (λ e. e))
     (λ _ r. leaf call.Punch w ⊥ _ turn r.0 (λ e. e))
-punch_words s t killed grant (punch.Free p) turn new w row = leaf call.Punch w ⊥ _ turn row.0 (λ e. e)
+punch_words s t killed grant (punch.Free p) turn new w row =
+    by_test p.denied row (λ _ r. leaf call.Punch w ⊥ _ turn r.0 (λ e. e)) (λ _ r. leaf call.Punch w ⊥ _ turn r.1.0 (λ e. e))
 punch_words s t killed grant (punch.Unslot p) turn new w row =
     by_test (nat_lt (p.index + 1) (p.hole.from + p.hole.len)) row (λ _ r. leaf call.Punch w ⊥ _ turn r.0 (λ e. e))
     (λ _ r. leaf call.Punch w ⊥ _ turn r.0 (λ e. e))
@@ -229,7 +235,7 @@ truncate_words s t killed grant (truncate.Unslot p) turn new w row =
     by_test (nat_lt p.truncation.new p.index) row (λ _ r. leaf call.Truncate w ⊥ _ turn r.0 (λ e. e))
     (λ _ r. leaf call.Truncate w ⊥ _ turn r.0 (λ e. e))
 truncate_words s t killed grant (truncate.Tail p) turn new w row = leaf call.Truncate w ⊥ _ turn row.0 (λ e. e)
-truncate_words s t killed grant (truncate.Settle p) turn new w (low, row) = leaf call.Truncate w ⊥ _ turn row.0 (λ e. e)
+truncate_words s t killed grant (truncate.Settle p) turn new w (low, used, row) = leaf call.Truncate w ⊥ _ turn row.0 (λ e. e)
 truncate_words s t killed grant (truncate.Leave p) turn new w row = leaf call.Truncate w ⊥ _ turn row.0 (λ e. absurd (cc))
 
 -- nor an unmap
@@ -287,13 +293,15 @@ touch_words s t killed grant (touch.Missing p) turn new w row = by_test ((s.spar
     (λ _ r. leaf call.Touch w _ _ turn r.0 (λ e. absurd e))
 touch_words s t killed grant (touch.Changed p) turn new w row = by_test killed row
     (λ _ r. leaf call.Touch w _ _ turn r.0 (λ e. absurd (cc)))
-    (λ _ r. take_words call.Touch w _ s p.pending.missing _
-    (λ x. touch.Taken (record { touch = p.touch; pending = p.pending; held = x })) turn new r (λ e. absurd (cc)) (λ x e. absurd e))
+    (λ _ r. take_words call.Touch w _ s p.pending.missing
+    (λ a. touch.Abort (record { touch = p.touch; pending = p.pending; answer = a }))
+    (λ x. touch.Taken (record { touch = p.touch; pending = p.pending; held = x })) turn new r
+    (λ e. absurd (cc)) (λ e. absurd (cc)) (λ x e. absurd e))
 touch_words s t killed grant (touch.Abort p) turn new w row = leaf call.Touch w _ _ turn row.0 (λ e. e)
 touch_words s t killed grant (touch.Taken p) turn new w row =
     commit_words call.Touch w _ s p.touch.file p.pending.from p.pending.to p.pending.missing _ _ turn new row (λ e. absurd e)
     (λ e. absurd e)
-touch_words s t killed grant (touch.Settle p) turn new w (low, row) = leaf call.Touch w _ _ turn row.0 (λ e. absurd e)
+touch_words s t killed grant (touch.Settle p) turn new w (low, used, row) = leaf call.Touch w _ _ turn row.0 (λ e. absurd e)
 touch_words s t killed grant (touch.Committed p) turn new w row = by_test (nat_le (s.size p.touch.file) p.touch.index) row
     (λ _ r. leaf call.Touch w _ _ turn r.0 (λ e. absurd (cc)))
     (λ _ r. by_test grant r (λ _ r. leaf call.Touch w _ _ turn r.0 (λ e. absurd e))

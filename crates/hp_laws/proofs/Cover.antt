@@ -1,13 +1,13 @@
 -- There are as many reservations as calls count on.
 use Rattle.std.proofs.Common.{◌≡◌, ℕ, ◌+◌, ◌-◌, ◌<◌, ◌≤◌, refl, ap, ◌∙◌, arith}
-use Rattle.std.specs.Prelude.{Bool, true, false, Option, Some, ◌==◌, ◌&&◌, nat_le}
+use Rattle.std.specs.Prelude.{Bool, true, false, not, Option, Some, ◌==◌, ◌&&◌, nat_le}
 use Rattle.std.proofs.lemmas.Bool.Decides.{nat_tests}
 use Rattle.hp_base.specs.Numbers.{total, bit, is_none}
 use Rattle.hp_base.specs.Indices.{vacant, count_within}
 use Rattle.hp_base.proofs.Totals.{total_same, total_le, total_add, total_has, exchange, at_most_one, count_below-total}
 use Rattle.hp_machine.specs.State.{Geometry, State}
 use Rattle.hp_base.specs.Mappings.{is_there}
-use Rattle.hp_machine.specs.Views.{less, more}
+use Rattle.hp_machine.specs.Views.{less, more, used_owed}
 use Rattle.hp_machine.specs.declared.touch.TouchPhase.TheVariants as touch
 use Rattle.hp_machine.specs.declared.map.MapPhase.TheVariants as map
 use Rattle.hp_machine.specs.declared.alloc.AllocPhase.TheVariants as alloc
@@ -19,7 +19,7 @@ use Rattle.hp_machine.specs.declared.call.Call.{Call}
 use Rattle.hp_machine.specs.declared.call.Call.TheVariants as call
 use Rattle.hp_laws.specs.Enough.{CanSettle}
 use Rattle.hp_laws.proofs.Standing.{below_limit, Stands}
-use Rattle.hp_laws.proofs.Invariant.{Inv, vacant_of}
+use Rattle.hp_laws.proofs.Invariant.{Inv, vacant_of, sum_of}
 use Rattle.hp_laws.proofs.Claims.{only_if, claim, claimed, once}
 
 -- how many indices a call counts on
@@ -167,11 +167,19 @@ enough g s t c h l e =
     let w : s.resv + total n (λ u. less (s.calls u)) ≡ vacant_of g s.reserved s.pages + total n (λ u. more (s.calls u)) = h.count in
     omega arith
 
+-- what a call owes to the used count is counted in it
+pub uses : (g : Geometry) (s : State) (t : ℕ) (c : Option Call) → Inv g s → t < g.tasks + 1 → s.calls t ≡ c → used_owed c ≤ s.used
+uses g s t c h l e =
+    let a : used_owed (s.calls t) ≤ sum_of g used_owed s.calls = total_has (g.tasks + 1) t (λ u. used_owed (s.calls u)) l in
+    let b : used_owed (s.calls t) ≡ used_owed c = ap used_owed e in
+    let d = h.used in
+    omega arith
+
 -- a number that is 0 passes the test for it
 is_zero : (m : ℕ) → m ≡ 0 → (m == 0) ≡ true
 is_zero m e = grind (arith, nat_tests)
 
--- so the count has what a call's next step takes from it, in each phase that lowers it
+-- so the counts have what a call's next step takes from them, in each phase that lowers one
 pub can_settle : (g : Geometry) (s : State) (t : ℕ) (c : Option Call) → Inv g s → t < g.tasks + 1 → s.calls t ≡ c → Stands g s t c
     → CanSettle s c
 can_settle g s t (Some (call.Touch (touch.Changed p))) k l e h =
@@ -184,7 +192,7 @@ can_settle g s t (Some (call.Touch (touch.Settle p))) k l e h =
     one_claim g s (Some (call.Touch (touch.Settle p))) p.touch.file p.touch.index true h.facts.aim.file h.facts.aim.index
     (λ d. self p.touch.file p.touch.index) in
     let q = enough g s t _ k l e in
-    omega arith
+    (omega arith, uses g s t _ k l e)
 can_settle g s t (Some (call.Alloc (alloc.Changed p))) k l e h =
     λ z. let o : 1 ≤ need g s (Some (call.Alloc (alloc.Changed p))) = one_claim g s
     (Some (call.Alloc (alloc.Changed p))) p.allocation.file p.index true h.facts.aim.file
@@ -196,7 +204,10 @@ can_settle g s t (Some (call.Alloc (alloc.Settle p))) k l e h =
     one_claim g s (Some (call.Alloc (alloc.Settle p))) p.allocation.file p.index true h.facts.aim.file
     (below_limit g _ h.facts.aim) (λ d. self p.allocation.file p.index) in
     let q = enough g s t _ k l e in
-    omega arith
-can_settle g s t (Some (call.Map (map.Settle p))) k l e h = let q = enough g s t _ k l e in omega arith
-can_settle g s t (Some (call.Truncate (truncate.Settle p))) k l e h = let q = enough g s t _ k l e in omega arith
+    (omega arith, uses g s t _ k l e)
+can_settle g s t (Some (call.Map (map.Settle p))) k l e h = let q = enough g s t _ k l e in (omega arith, uses g s t _ k l e)
+can_settle g s t (Some (call.Punch (punch.Free p))) k l e h =
+    λ done. let o : bit (not p.denied) ≡ 1 = ap (λ (b : Bool). bit (not b)) done in
+    let q = uses g s t (Some (call.Punch (punch.Free p))) k l e in omega arith
+can_settle g s t (Some (call.Truncate (truncate.Settle p))) k l e h = let q = enough g s t _ k l e in (omega arith, uses g s t _ k l e)
 can_settle g s t c k l e h = tt

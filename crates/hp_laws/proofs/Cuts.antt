@@ -6,15 +6,16 @@ use Rattle.hp_base.specs.Indices.{vacant, count_within, cut_tail}
 use Rattle.hp_base.specs.Mappings.{find}
 use Rattle.hp_base.proofs.Puts.{put_same, put_other, same_or_other, put_tells}
 use Rattle.hp_base.proofs.Totals.{total_change}
+use Rattle.hp_base.proofs.Counting.{count_below-cut_tail}
 use Rattle.hp_base.proofs.Sets.{vacant_cut, cut_below, cut_false, cut_out, cut_above}
 use Rattle.hp_machine.specs.State.{Geometry, State, slot_of}
-use Rattle.hp_machine.specs.Views.{less, more, hand, change_in, locked_file, slot_held}
+use Rattle.hp_machine.specs.Views.{less, more, used_owed, hand, change_in, locked_file, slot_held}
 use Rattle.hp_machine.specs.declared.call.Call.{Call}
 use Rattle.hp_laws.specs.Sweep.{fills, ahead, passed, gone}
 use Rattle.hp_laws.proofs.Deciding.{some_same}
 use Rattle.hp_laws.proofs.Standing.{HasSlot, HasLock, Stands}
 use Rattle.hp_laws.proofs.Staying.{same_tables, stands_after}
-use Rattle.hp_laws.proofs.Invariant.{Reached, Swept, Holders, Inv, goes_on, put_known, vacant_of, place_same, same_opens, holds}
+use Rattle.hp_laws.proofs.Invariant.{Reached, Swept, Holders, Inv, goes_on, put_known, vacant_of, reserved_of, reserved_fewer, same_used, place_same, same_opens, holds}
 use Rattle.hp_laws.proofs.Invariant.{to, if_weaker}
 use Rattle.hp_laws.proofs.Holding.{left_holders, left_stands}
 use Rattle.hp_laws.proofs.Passing.{locks_file, holds_slot, fills_slot, passed_locked, reached_not_passed, same_holder}
@@ -71,7 +72,7 @@ other_lock s t u k f held d e = λ q. d (same_holder u t (s.locks f) (ap s.locks
 
 -- the size is lowered, and what lay below the old one is ahead
 pub cuts : (g : Geometry) (s : State) (t : ℕ) (b c : Option Call) (f new top : ℕ) → Inv g s → t < g.tasks + 1 → s.calls t ≡ b
-    → holds c ≡ holds b → hand c ≡ hand b → change_in c ≡ change_in b → less c + more b ≡ less b + more c
+    → holds c ≡ holds b → hand c ≡ hand b → change_in c ≡ change_in b → less c + more b ≡ less b + more c → used_owed c ≡ used_owed b
     → HasLock s t f → new ≤ g.limit → s.size f ≤ top → ((i : ℕ) → top ≤ i → s.pages f i ≡ None)
     → ((k j : ℕ) → ahead b k j ≡ true → ⊥)
     → ((j : ℕ) → j < top → (j < new) ⊎ (ahead c f j ≡ true))
@@ -79,7 +80,7 @@ pub cuts : (g : Geometry) (s : State) (t : ℕ) (b c : Option Call) (f new top :
     → fills c ≡ None → ((k j : ℕ) → gone c k j ≡ true → ⊥)
     → Stands g (record s { pool = record s.pool { size = put s.size f new } }) t c
     → Inv g (to (record s { pool = record s.pool { size = put s.size f new } }) t c)
-cuts g s t b c f new top h l e same_held same_hand same_change balance held low size_low bare none_ahead covers passes
+cuts g s t b c f new top h l e same_held same_hand same_change balance owed held low size_low bare none_ahead covers passes
     no_fill none_gone own = goes_on g s n t b c h l e (record {
       layout = h.layout;
       entries = h.entries;
@@ -87,6 +88,8 @@ cuts g s t b c f new top h l e same_held same_hand same_change balance held low 
       spares = h.spares;
       enough = h.enough;
       count = omega arith;
+      used = same_used s.used (reserved_of g s.reserved) b c owed;
+      quota = h.quota;
       place = place_same g s t b c h e same_hand;
       sweep = record {
         below = λ w v x k j p q. covered k j (h.sweep.below w v x k j p q);
@@ -148,14 +151,14 @@ cuts g s t b c f new top h l e same_held same_hand same_change balance held low 
 -- an index with no page is passed, and its slot left
 pub passes : (g : Geometry) (s : State) (t : ℕ) (b c : Option Call) (f i new : ℕ) → Inv g s → t < g.tasks + 1 → s.calls t ≡ b
     → locked_file c ≡ locked_file b → slot_held b ≡ Some (f, i) → slot_held c ≡ None
-    → hand c ≡ hand b → change_in c ≡ change_in b → less c + more b ≡ less b + more c → fills b ≡ None → fills c ≡ None
+    → hand c ≡ hand b → change_in c ≡ change_in b → less c + more b ≡ less b + more c → used_owed c ≡ used_owed b → fills b ≡ None → fills c ≡ None
     → HasSlot g s t f i → s.pages f i ≡ None → s.size f ≡ new
     → ((k j : ℕ) → ahead b k j ≡ true → (k ≡ f) × ((j ≡ i) ⊎ ((j < new) ⊎ (ahead c f j ≡ true))))
     → ((k j : ℕ) → passed c k j ≡ true → (passed b k j ≡ true) ⊎ ((k ≡ f) × (j ≡ i) × (new ≤ j)))
     → ((k j : ℕ) → gone c k j ≡ true → ⊥)
     → Stands g (record s { pool = record s.pool { slots = put s.slots (slot_of g f i) None } }) t c
     → Inv g (to (record s { pool = record s.pool { slots = put s.slots (slot_of g f i) None } }) t c)
-passes g s t b c f i new h l e same_lock some none same_hand same_change balance no_b no_c held bare sized aheads
+passes g s t b c f i new h l e same_lock some none same_hand same_change balance owed no_b no_c held bare sized aheads
     passing none_gone own = goes_on g s n t b c h l e (record {
       layout = h.layout;
       entries = h.entries;
@@ -164,6 +167,8 @@ passes g s t b c f i new h l e same_lock some none same_hand same_change balance
       spares = h.spares;
       enough = h.enough;
       count = omega arith;
+      used = same_used s.used (reserved_of g s.reserved) b c owed;
+      quota = h.quota;
       place = place_same g s t b c h e same_hand;
       sweep = record {
         below = λ w v x k j p q. covered k j (h.sweep.below w v x k j p q) (λ y z. no_entry w v x k j p q y z);
@@ -235,10 +240,11 @@ pub cuts_tail : (g : Geometry) (s : State) (t : ℕ) (b c : Option Call) (f new 
     → ahead c ≡ ahead b → passed c ≡ passed b → ((k j : ℕ) → gone c k j ≡ true → (k ≡ f) × (new ≤ j)) → holds c ≡ holds b
     → hand c ≡ hand b → change_in c ≡ change_in b → fills c ≡ None
     → less c + more b + count_within (s.reserved f) new g.limit ≡ less b + more c
+    → used_owed c ≡ used_owed b + count_within (s.reserved f) new g.limit
     → HasLock s t f → ((j : ℕ) → new ≤ j → passed (s.calls t) f j ≡ true)
     → Stands g (record s { pool = record s.pool { reserved = put s.reserved f (cut_tail (s.reserved f) new) } }) t c
     → Inv g (to (record s { pool = record s.pool { reserved = put s.reserved f (cut_tail (s.reserved f) new) } }) t c)
-cuts_tail g s t b c f new h l e in_files same_ahead same_passed goners same_held same_hand same_change no_fill balance
+cuts_tail g s t b c f new h l e in_files same_ahead same_passed goners same_held same_hand same_change no_fill balance owed
     held passing own = goes_on g s n t b c h l e (record {
       layout = h.layout;
       entries = h.entries;
@@ -246,6 +252,10 @@ cuts_tail g s t b c f new h l e in_files same_ahead same_passed goners same_held
       spares = h.spares;
       enough = h.enough;
       count = (let z = lost_tail in omega arith);
+      used =
+          (let v : reserved_of g n.reserved + count_within (s.reserved f) new g.limit ≡ reserved_of g s.reserved =
+          reserved_fewer g s f (cut_tail (s.reserved f) new) _ in_files (count_below-cut_tail (s.reserved f) new g.limit) in omega arith);
+      quota = h.quota;
       place = place_same g s t b c h e same_hand;
       inside = record {
         within = λ k j a. h.inside.within k j (was_true (s.reserved k j) (n.reserved k j) (cut_still k j) a);

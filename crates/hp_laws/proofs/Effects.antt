@@ -5,16 +5,17 @@ use Rattle.std.proofs.lemmas.Bool.Decides.{nat_tests}
 use Rattle.hp_base.specs.Numbers.{put, put2, bit}
 use Rattle.hp_base.specs.Indices.{is_within, missing, add_range, touches, vacant}
 use Rattle.hp_base.proofs.Puts.{put_same, put_other, same_or_other, put_tells, put2_tells}
-use Rattle.hp_base.proofs.Counting.{count_below-ext}
+use Rattle.hp_base.proofs.Counting.{count_below-ext, count_below-added}
 use Rattle.hp_base.proofs.Totals.{total_change, total_has, count_below-change}
 use Rattle.hp_base.proofs.Sets.{vacant_add, vacant_place, add_range_keeps, add_range_out}
+use Rattle.hp_frames.specs.Bank.{IsWithinQuota}
 use Rattle.hp_frames.specs.declared.frame.FrameState.{FrameState}
 use Rattle.hp_frames.specs.declared.frame.FrameState.TheVariants as state
 use Rattle.hp_region.specs.Change.{Change}
 use Rattle.hp_machine.specs.State.{Geometry, State, slot_of, is_free, free_frames}
 use Rattle.hp_machine.specs.Headline.{Free, Hand}
 use Rattle.hp_machine.specs.Parts.{frame_after}
-use Rattle.hp_machine.specs.Views.{less, more, hand, change_in, opens}
+use Rattle.hp_machine.specs.Views.{less, more, used_owed, hand, change_in, opens}
 use Rattle.hp_machine.specs.declared.touch.Access.{Access}
 use Rattle.hp_machine.specs.declared.touch.Access.TheVariants.{Load, Store}
 use Rattle.hp_machine.specs.declared.truncate.TruncatePhase.TheVariants as truncate
@@ -31,7 +32,7 @@ use Rattle.hp_laws.proofs.Deciding.{some_same}
 use Rattle.hp_laws.proofs.Moves.{Placing, takes_frame, gives_frame, places_frame, writes_frame}
 use Rattle.hp_laws.proofs.Standing.{HasSlot, Stands}
 use Rattle.hp_laws.proofs.Staying.{same_tables, stands_after}
-use Rattle.hp_laws.proofs.Invariant.{Reached, Inv, goes, vacant_of, sum_of, place_same, same_opens, sweeps, holds, to}
+use Rattle.hp_laws.proofs.Invariant.{Reached, Inv, goes, vacant_of, reserved_of, reserved_change, same_used, sum_of, place_same, same_opens, sweeps, holds, to}
 
 -- the number of free frames, where one changes
 pub free_change : (f : ℕ → FrameState) (x n : ℕ) (v : FrameState) → x < n
@@ -57,6 +58,8 @@ touches_word g s Load x word h e = h
 touches_word g s (Store new) x word h e = record {
   layout = h.layout;
   count = h.count;
+  used = h.used;
+  quota = h.quota;
   entries = h.entries;
   inside = h.inside;
   sweep = h.sweep;
@@ -73,13 +76,14 @@ touches_word g s (Store new) x word h e = record {
 }
 
 -- the reservations change with what the call owes
-pub rebalances : (g : Geometry) (s : State) (t : ℕ) (b c : Option Call) (r : ℕ) → Inv g s → t < g.tasks + 1 → s.calls t ≡ b
+pub rebalances : (g : Geometry) (s : State) (t : ℕ) (b c : Option Call) (r n : ℕ) → Inv g s → t < g.tasks + 1 → s.calls t ≡ b
     → sweeps c ≡ sweeps b → holds c ≡ holds b → hand c ≡ hand b → change_in c ≡ change_in b
     → (r + less c) + more b ≡ (s.resv + less b) + more c → r ≤ free_frames s.frame s.frames
+    → n + used_owed b ≡ s.used + used_owed c → IsWithinQuota g.quota n
     → IfSome (fills c) (λ k. Reached s.size (λ u. ahead (s.calls u)) k.0 k.1) → Stands g s t c
-    → Inv g (to (record s { pool = record s.pool { resv = r } }) t c)
-rebalances g s t b c r h l e same same_held same_hand same_change balance enough fill own =
-    goes g s (record s { pool = record s.pool { resv = r } }) t b c h l e same same_held (record {
+    → Inv g (to (record s { pool = record s.pool { resv = r; used = n } }) t c)
+rebalances g s t b c r n h l e same same_held same_hand same_change balance enough owed quota fill own =
+    goes g s (record s { pool = record s.pool { resv = r; used = n } }) t b c h l e same same_held (record {
       layout = h.layout;
       entries = h.entries;
       inside = h.inside;
@@ -91,6 +95,8 @@ rebalances g s t b c r h l e same same_held same_hand same_change balance enough
       holders = h.holders;
       count = omega arith;
       enough = enough;
+      used = omega arith;
+      quota = quota;
       place = place_same g s t b c h e same_hand;
       changes = same_opens s.pending b c same_change;
       others = λ u d. h.stands u;
@@ -108,7 +114,7 @@ opens_some c f k e = ap (λ (o : Option ℕ). elim o [ None ↦ 0 | Some j ↦ b
 -- a change is opened
 pub opened : (g : Geometry) (s : State) (t : ℕ) (b c : Option Call) (f : ℕ) → Inv g s → t < g.tasks + 1 → s.calls t ≡ b
     → sweeps c ≡ sweeps b → holds c ≡ holds b → hand c ≡ hand b → change_in b ≡ None → change_in c ≡ Some f
-    → less c + more b ≡ less b + more c
+    → less c + more b ≡ less b + more c → used_owed c ≡ used_owed b
     → IfSome (fills c) (λ k. Reached s.size (λ u. ahead (s.calls u)) k.0 k.1) → Stands g s t c
     → Inv g (to (record s {
       pool = record s.pool {
@@ -116,7 +122,7 @@ pub opened : (g : Geometry) (s : State) (t : ℕ) (b c : Option Call) (f : ℕ) 
         spare = put s.spare f (max (s.spare f) (s.pending f + 1));
       };
     }) t c)
-opened g s t b c f h l e same same_held same_hand none some balance fill own =
+opened g s t b c f h l e same same_held same_hand none some balance owed fill own =
     goes g s (record s {
       pool = record s.pool {
         pending = put s.pending f (s.pending f + 1);
@@ -133,6 +139,8 @@ opened g s t b c f h l e same same_held same_hand none some balance fill own =
       holders = h.holders;
       enough = h.enough;
       count = omega arith;
+      used = same_used s.used (reserved_of g s.reserved) b c owed;
+      quota = h.quota;
       place = place_same g s t b c h e same_hand;
       spares = λ k. more_spare s.pending s.spare f k (h.spares k);
       others = λ u d. h.stands u;
@@ -173,10 +181,10 @@ lowered p f k m n l x y = grind (arith, nat_tests, put_tells)
 -- a change is taken back
 pub closed : (g : Geometry) (s : State) (t : ℕ) (b c : Option Call) (f : ℕ) → Inv g s → t < g.tasks + 1 → s.calls t ≡ b
     → sweeps c ≡ sweeps b → holds c ≡ holds b → hand c ≡ hand b → change_in b ≡ Some f → change_in c ≡ None
-    → less c + more b ≡ less b + more c
+    → less c + more b ≡ less b + more c → used_owed c ≡ used_owed b
     → IfSome (fills c) (λ k. Reached s.size (λ u. ahead (s.calls u)) k.0 k.1) → Stands g s t c
     → Inv g (to (record s { pool = record s.pool { pending = put s.pending f (s.pending f - 1) } }) t c)
-closed g s t b c f h l e same same_held same_hand some none balance fill own =
+closed g s t b c f h l e same same_held same_hand some none balance owed fill own =
     goes g s (record s { pool = record s.pool { pending = put s.pending f (s.pending f - 1) } }) t b c h l e same
     same_held (record {
       layout = h.layout;
@@ -189,6 +197,8 @@ closed g s t b c f h l e same same_held same_hand some none balance fill own =
       holders = h.holders;
       enough = h.enough;
       count = omega arith;
+      used = same_used s.used (reserved_of g s.reserved) b c owed;
+      quota = h.quota;
       place = place_same g s t b c h e same_hand;
       spares = λ k. less_pending s.pending s.spare f k (h.spares k);
       others = λ u d. h.stands u;
@@ -278,6 +288,12 @@ grown_vacant g s f from to h l low =
     ∙ vacant_add g.limit (s.reserved f) (s.pages f) from to low (λ i. h.inside.bare f i) in
     omega arith
 
+-- so are they all
+grown_reserved : (g : Geometry) (s : State) (f from to : ℕ) → f < g.files → to ≤ g.limit
+    → reserved_of g (put s.reserved f (add_range (s.reserved f) from to)) ≡ reserved_of g s.reserved + missing (s.reserved f) from to
+grown_reserved g s f from to l low =
+    reserved_change g s f (add_range (s.reserved f) from to) _ l (count_below-added (s.reserved f) from to g.limit low)
+
 -- the state after a commit
 abbrev pub committing : State → (file : ℕ) → Change → State
 committing s f change = record s {
@@ -294,9 +310,10 @@ pub commits : (g : Geometry) (s : State) (t : ℕ) (b c : Option Call) (f : ℕ)
     → sweeps c ≡ sweeps b → holds c ≡ holds b → hand c ≡ hand b → change_in b ≡ Some f → change_in c ≡ None
     → ((u j : ℕ) → passed (s.calls u) f j ≡ true → is_within change.from change.to j ≡ true → ⊥)
     → less c + more b ≡ less b + missing (s.reserved f) change.from change.to + more c
+    → used_owed b ≡ missing (s.reserved f) change.from change.to + used_owed c
     → IfSome (fills c) (λ k. Reached s.size (λ u. ahead (s.calls u)) k.0 k.1) → Stands g (committing s f change) t c
     → Inv g (to (committing s f change) t c)
-commits g s t b c f change h l e in_files low same same_held same_hand some none nobody balance fill own =
+commits g s t b c f change h l e in_files low same same_held same_hand some none nobody balance owed fill own =
     goes g s (committing s f change) t b c h l e same same_held (record {
       layout = h.layout;
       entries = h.entries;
@@ -308,6 +325,10 @@ commits g s t b c f change h l e in_files low same same_held same_hand some none
       count =
           (let v : vacant_of g (committing s f change).reserved s.pages ≡ vacant_of g s.reserved s.pages + missing
           (s.reserved f) change.from change.to = grown_vacant g s f change.from change.to h in_files low in omega arith);
+      used =
+          (let v : reserved_of g (committing s f change).reserved ≡ reserved_of g s.reserved + missing (s.reserved f)
+          change.from change.to = grown_reserved g s f change.from change.to in_files low in omega arith);
+      quota = h.quota;
       place = place_same g s t b c h e same_hand;
       inside =
           record {
@@ -358,14 +379,15 @@ commits g s t b c f change h l e in_files low same same_held same_hand some none
     ]
 
 -- a free frame goes into the call's hand
-pub takes : (g : Geometry) (s : State) (t : ℕ) (b c : Option Call) (x r : ℕ) → Inv g s → t < g.tasks + 1 → s.calls t ≡ b
+pub takes : (g : Geometry) (s : State) (t : ℕ) (b c : Option Call) (x r n : ℕ) → Inv g s → t < g.tasks + 1 → s.calls t ≡ b
     → s.frame x ≡ state.Free
     → sweeps c ≡ sweeps b → holds c ≡ holds b → hand b ≡ None → hand c ≡ Some x → change_in c ≡ change_in b
     → (r + less c) + more b ≡ (s.resv + less b) + more c → r + 1 ≤ free_frames s.frame s.frames
+    → n + used_owed b ≡ s.used + used_owed c → IsWithinQuota g.quota n
     → IfSome (fills c) (λ k. Reached s.size (λ u. ahead (s.calls u)) k.0 k.1) → Stands g s t c
-    → Inv g (to (record s { pool = record s.pool { frame = put s.frame x state.Hand; resv = r } }) t c)
-takes g s t b c x r h l e free same same_held none some same_change balance enough fill own =
-    goes g s (record s { pool = record s.pool { frame = put s.frame x state.Hand; resv = r } }) t b c h l e same same_held (record {
+    → Inv g (to (record s { pool = record s.pool { frame = put s.frame x state.Hand; resv = r; used = n } }) t c)
+takes g s t b c x r n h l e free same same_held none some same_change balance enough owed quota fill own =
+    goes g s (record s { pool = record s.pool { frame = put s.frame x state.Hand; resv = r; used = n } }) t b c h l e same same_held (record {
       layout = h.layout;
       entries = h.entries;
       inside = h.inside;
@@ -376,6 +398,8 @@ takes g s t b c x r h l e free same same_held none some same_change balance enou
       spares = h.spares;
       holders = h.holders;
       count = omega arith;
+      used = omega arith;
+      quota = quota;
       enough =
           (let a : free_frames (put s.frame x state.Hand) s.frames + bit (is_free (s.frame x)) ≡ free_frames s.frame
           s.frames + 0 = free_change s.frame x s.frames state.Hand (h.place.one.real x Free free) in
@@ -389,13 +413,14 @@ takes g s t b c x r h l e free same same_held none some same_change balance enou
     })
 
 -- the frame in the call's hand is freed
-pub gives : (g : Geometry) (s : State) (t : ℕ) (b c : Option Call) (x r : ℕ) → Inv g s → t < g.tasks + 1 → s.calls t ≡ b
+pub gives : (g : Geometry) (s : State) (t : ℕ) (b c : Option Call) (x r n : ℕ) → Inv g s → t < g.tasks + 1 → s.calls t ≡ b
     → sweeps c ≡ sweeps b → holds c ≡ holds b → hand b ≡ Some x → hand c ≡ None → change_in c ≡ change_in b
     → (r + less c) + more b ≡ (s.resv + less b) + more c → r ≤ s.resv + 1
+    → n + used_owed b ≡ s.used + used_owed c → IsWithinQuota g.quota n
     → IfSome (fills c) (λ k. Reached s.size (λ u. ahead (s.calls u)) k.0 k.1) → Stands g s t c
-    → Inv g (to (record s { pool = record s.pool { frame = put s.frame x state.Free; resv = r } }) t c)
-gives g s t b c x r h l e same same_held some none same_change balance enough fill own =
-    goes g s (record s { pool = record s.pool { frame = put s.frame x state.Free; resv = r } }) t b c h l e same same_held (record {
+    → Inv g (to (record s { pool = record s.pool { frame = put s.frame x state.Free; resv = r; used = n } }) t c)
+gives g s t b c x r n h l e same same_held some none same_change balance enough owed quota fill own =
+    goes g s (record s { pool = record s.pool { frame = put s.frame x state.Free; resv = r; used = n } }) t b c h l e same same_held (record {
       layout = h.layout;
       entries = h.entries;
       inside = h.inside;
@@ -406,6 +431,8 @@ gives g s t b c x r h l e same same_held some none same_change balance enough fi
       spares = h.spares;
       holders = h.holders;
       count = omega arith;
+      used = omega arith;
+      quota = quota;
       enough = (let held : hand (s.calls t) ≡ Some x = ap hand e ∙ some in
           let a : free_frames (put s.frame x state.Free) s.frames + bit (is_free (s.frame x)) ≡ free_frames s.frame
           s.frames + 1 = free_change s.frame x s.frames state.Free (h.place.one.real x (Hand t) held) in
@@ -423,13 +450,13 @@ gives g s t b c x r h l e same same_held some none same_change balance enough fi
 pub places : (g : Geometry) (s : State) (t : ℕ) (b c : Option Call) (f i x : ℕ) → Inv g s → t < g.tasks + 1 → s.calls t ≡ b
     → f < g.files → i < g.limit
     → sweeps c ≡ sweeps b → holds c ≡ holds b → hand b ≡ Some x → hand c ≡ None → change_in c ≡ change_in b
-    → less b + more c ≡ less c + more b + 1
+    → less b + more c ≡ less c + more b + 1 → used_owed c ≡ used_owed b
     → s.reserved f i ≡ true → s.pages f i ≡ None → HasSlot g s t f i
     → ((u : ℕ) → passed (s.calls u) f i ≡ true → ⊥)
     → IfSome (fills c) (λ k. Reached s.size (λ u. ahead (s.calls u)) k.0 k.1)
     → Stands g (record s { pool = record s.pool { pages = put2 s.pages f i (Some x); frame = put s.frame x (state.Placed 0) } }) t c
     → Inv g (to (record s { pool = record s.pool { pages = put2 s.pages f i (Some x); frame = put s.frame x (state.Placed 0) } }) t c)
-places g s t b c f i x h l e in_files in_limit same same_held some none same_change balance marked bare held nobody fill own =
+places g s t b c f i x h l e in_files in_limit same same_held some none same_change balance owed marked bare held nobody fill own =
     goes g s n t b c h l e same same_held (record {
       layout = h.layout;
       reach = h.reach;
@@ -438,6 +465,8 @@ places g s t b c f i x h l e in_files in_limit same same_held some none same_cha
       spares = h.spares;
       holders = h.holders;
       count = (let v : vacant_of g s.reserved n.pages + 1 ≡ vacant_of g s.reserved s.pages = placed_vacant in omega arith);
+      used = same_used s.used (reserved_of g s.reserved) b c owed;
+      quota = h.quota;
       enough =
           (let a : free_frames (put s.frame x (state.Placed 0)) s.frames ≡ free_frames s.frame s.frames = free_same
           s.frame x s.frames (state.Placed 0) (ap is_free (sym (h.place.hands t x (ap hand e ∙ some)))) in

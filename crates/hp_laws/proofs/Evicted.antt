@@ -105,7 +105,7 @@ cut_turn s t killed grant cut b (truncate.Unslot p) turn new h was row = by_test
     (λ _ r. at_leaf (After cut b) Any _ turn r.0 (h, λ e. neither (was e)))
     (λ _ r. at_leaf (After cut b) Any _ turn r.0 (h, λ e. neither (was e)))
 cut_turn s t killed grant cut b (truncate.Tail p) turn new h was row = at_leaf (After cut b) Any _ turn row.0 (h, λ e. refl)
-cut_turn s t killed grant cut b (truncate.Settle p) turn new h was (low, row) = at_leaf (After cut b) Any _ turn row.0 (h, λ e. refl)
+cut_turn s t killed grant cut b (truncate.Settle p) turn new h was (low, used, row) = at_leaf (After cut b) Any _ turn row.0 (h, λ e. refl)
 cut_turn s t killed grant cut b (truncate.Leave p) turn new h was row = at_leaf (After cut b) Any _ turn row.0 tt
 
 -- the call over a run in which its task begins none

@@ -4,13 +4,13 @@ use Rattle.std.specs.Prelude.{Bool, true, false, Option, Some, None, IfSome}
 use Rattle.hp_base.specs.Numbers.{put}
 use Rattle.hp_base.proofs.Puts.{put_same, put_other, put_tells}
 use Rattle.hp_machine.specs.State.{Geometry, State, slot_of}
-use Rattle.hp_machine.specs.Views.{less, more, hand, change_in, slot_held, locked_file}
+use Rattle.hp_machine.specs.Views.{less, more, used_owed, hand, change_in, slot_held, locked_file}
 use Rattle.hp_machine.specs.declared.call.Call.{Call}
 use Rattle.hp_laws.specs.Sweep.{fills, ahead, passed, gone}
 use Rattle.hp_laws.proofs.Deciding.{some_same}
 use Rattle.hp_laws.proofs.Standing.{HasSlot, HasLock, Stands}
 use Rattle.hp_laws.proofs.Staying.{same_files, same_tables, stands_after}
-use Rattle.hp_laws.proofs.Invariant.{Reached, Holders, Inv, goes_on, goes_as, put_known, place_same, same_opens, sweeps, to}
+use Rattle.hp_laws.proofs.Invariant.{Reached, Holders, Inv, goes_on, goes_as, reserved_of, same_used, put_known, place_same, same_opens, sweeps, to}
 
 -- one that holds something isn't one that holds nothing
 holds_other : {A : Type 0} (held : ℕ → Option A) (t u : ℕ) (k : A) → held t ≡ None → held u ≡ Some k → u ≢ t
@@ -70,8 +70,8 @@ lock_left_holders g slots locks held locked t f h some = record {
 }
 
 -- all that others see of a call beside what it holds
-abbrev pub shown : Option Call → ℕ × ℕ × Option ℕ × Option ℕ × ((ℕ → ℕ → Bool) × (ℕ → ℕ → Bool) × (ℕ → ℕ → Bool))
-shown c = (less c, more c, hand c, change_in c, sweeps c)
+abbrev pub shown : Option Call → ℕ × ℕ × Option ℕ × Option ℕ × ((ℕ → ℕ → Bool) × (ℕ → ℕ → Bool) × (ℕ → ℕ → Bool)) × ℕ
+shown c = (less c, more c, hand c, change_in c, sweeps c, used_owed c)
 
 -- a slot that is free is taken
 pub takes_slot : (g : Geometry) (s : State) (t : ℕ) (b c : Option Call) (f i : ℕ) → Inv g s → t < g.tasks + 1 → s.calls t ≡ b
@@ -82,6 +82,8 @@ pub takes_slot : (g : Geometry) (s : State) (t : ℕ) (b c : Option Call) (f i :
 takes_slot g s t b c f i h l e free same same_lock none some fill own = goes_as g s n t b c h l e (ap (λ p. p.4) same) (record {
   layout = h.layout;
   count = (let x : less c ≡ less b = ap (λ p. p.0) same in let y : more c ≡ more b = ap (λ p. p.1) same in omega arith);
+  used = same_used s.used (reserved_of g s.reserved) b c (ap (λ p. p.5) same);
+  quota = h.quota;
   enough = h.enough;
   place = place_same g s t b c h e (ap (λ p. p.2) same);
   entries = h.entries;
@@ -158,6 +160,8 @@ pub leaves_slot : (g : Geometry) (s : State) (t : ℕ) (b c : Option Call) (f i 
 leaves_slot g s t b c f i h l e same same_lock some none held fill own = goes_as g s n t b c h l e (ap (λ p. p.4) same) (record {
   layout = h.layout;
   count = (let x : less c ≡ less b = ap (λ p. p.0) same in let y : more c ≡ more b = ap (λ p. p.1) same in omega arith);
+  used = same_used s.used (reserved_of g s.reserved) b c (ap (λ p. p.5) same);
+  quota = h.quota;
   enough = h.enough;
   place = place_same g s t b c h e (ap (λ p. p.2) same);
   entries = h.entries;
@@ -184,6 +188,8 @@ pub takes_lock : (g : Geometry) (s : State) (t : ℕ) (b c : Option Call) (f : �
 takes_lock g s t b c f h l e free same same_slot none some fill own = goes_as g s n t b c h l e (ap (λ p. p.4) same) (record {
   layout = h.layout;
   count = (let x : less c ≡ less b = ap (λ p. p.0) same in let y : more c ≡ more b = ap (λ p. p.1) same in omega arith);
+  used = same_used s.used (reserved_of g s.reserved) b c (ap (λ p. p.5) same);
+  quota = h.quota;
   enough = h.enough;
   place = place_same g s t b c h e (ap (λ p. p.2) same);
   entries = h.entries;
@@ -224,13 +230,15 @@ takes_lock g s t b c f h l e free same same_slot none some fill own = goes_as g 
 
 -- a call ends, and leaves its file lock; it has passed every index that it was to pass
 pub leaves_lock : (g : Geometry) (s : State) (t : ℕ) (b : Option Call) (f : ℕ) → Inv g s → t < g.tasks + 1 → s.calls t ≡ b
-    → less b ≡ 0 → more b ≡ 0 → hand b ≡ None → change_in b ≡ None → slot_held b ≡ None → locked_file b ≡ Some f → HasLock s t f
+    → less b ≡ 0 → more b ≡ 0 → used_owed b ≡ 0 → hand b ≡ None → change_in b ≡ None → slot_held b ≡ None → locked_file b ≡ Some f → HasLock s t f
     → ((k j : ℕ) → ahead b k j ≡ false)
     → Inv g (to (record s { pool = record s.pool { locks = put s.locks f None } }) t None)
-leaves_lock g s t b f h l e no_less no_more no_hand no_change no_slot some held none_ahead = goes_on g s n t b None h l e (record {
+leaves_lock g s t b f h l e no_less no_more none_used no_hand no_change no_slot some held none_ahead = goes_on g s n t b None h l e (record {
   layout = h.layout;
   count = omega arith;
   enough = h.enough;
+  used = same_used s.used (reserved_of g s.reserved) b None (sym none_used);
+  quota = h.quota;
   place = place_same g s t b None h e (sym no_hand);
   entries = h.entries;
   inside = h.inside;

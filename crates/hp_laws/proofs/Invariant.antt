@@ -3,13 +3,14 @@ use Rattle.std.proofs.Common.{◌≡◌, ◌≢◌, ℕ, ◌+◌, ◌<◌, ◌�
 use Rattle.std.proofs.Math.Path.{fun_ext}
 use Rattle.std.specs.Prelude.{◌==◌, Bool, true, false, Option, Some, None, IfSome, List, [], ◌∷◌}
 use Rattle.hp_base.specs.Numbers.{put, total, bit}
-use Rattle.hp_base.specs.Indices.{vacant}
+use Rattle.hp_base.specs.Indices.{vacant, count_below}
 use Rattle.hp_base.specs.Mappings.{find, IsSpread}
 use Rattle.hp_base.specs.declared.mapping.Mapping.{Mapping}
 use Rattle.hp_base.proofs.Puts.{put_same, put_other, same_or_other}
 use Rattle.hp_base.proofs.Totals.{total_change}
+use Rattle.hp_frames.specs.Bank.{IsWithinQuota}
 use Rattle.hp_machine.specs.State.{Geometry, State, slot_of, free_frames}
-use Rattle.hp_machine.specs.Views.{less, more, hand, change_in, opens, slot_held, locked_file}
+use Rattle.hp_machine.specs.Views.{less, more, used_owed, hand, change_in, opens, slot_held, locked_file}
 use Rattle.hp_machine.specs.declared.call.Call.{Call}
 use Rattle.hp_laws.specs.Sweep.{fills, ahead, passed, gone}
 use Rattle.hp_laws.proofs.Moves.{Placing}
@@ -18,6 +19,38 @@ use Rattle.hp_laws.proofs.Standing.{Stands}
 -- how many indices of all files are reserved and have no page
 abbrev pub vacant_of : Geometry → (ℕ → ℕ → Bool) → (ℕ → ℕ → Option ℕ) → ℕ
 vacant_of g reserved pages = total g.files (λ f. vacant g.limit (reserved f) (pages f))
+
+-- how many indices of all files are reserved
+abbrev pub reserved_of : Geometry → (ℕ → ℕ → Bool) → ℕ
+reserved_of g reserved = total g.files (λ f. count_below (reserved f) g.limit)
+
+-- where the indices of one file change, so does the sum
+pub reserved_change : (g : Geometry) (s : State) (f : ℕ) (marks : ℕ → Bool) (more : ℕ) → f < g.files
+    → count_below marks g.limit ≡ count_below (s.reserved f) g.limit + more
+    → reserved_of g (put s.reserved f marks) ≡ reserved_of g s.reserved + more
+reserved_change g s f marks more l e =
+    let a : reserved_of g (put s.reserved f marks) + count_below (s.reserved f) g.limit ≡ reserved_of g s.reserved + count_below
+    (put s.reserved f marks f) g.limit
+    =
+    total_change g.files f (λ k. count_below (s.reserved k) g.limit) (λ k. count_below (put s.reserved f marks k) g.limit) l
+    (λ k d. ap (λ (m : ℕ → Bool). count_below m g.limit) (put_other s.reserved f marks k d)) in
+    let b : count_below (put s.reserved f marks f) g.limit ≡ count_below marks g.limit =
+    ap (λ (m : ℕ → Bool). count_below m g.limit) (put_same s.reserved f marks) in
+    omega arith
+
+-- and where they get fewer
+pub reserved_fewer : (g : Geometry) (s : State) (f : ℕ) (marks : ℕ → Bool) (gone : ℕ) → f < g.files
+    → count_below marks g.limit + gone ≡ count_below (s.reserved f) g.limit
+    → reserved_of g (put s.reserved f marks) + gone ≡ reserved_of g s.reserved
+reserved_fewer g s f marks gone l e =
+    let a : reserved_of g (put s.reserved f marks) + count_below (s.reserved f) g.limit ≡ reserved_of g s.reserved + count_below
+    (put s.reserved f marks f) g.limit
+    =
+    total_change g.files f (λ k. count_below (s.reserved k) g.limit) (λ k. count_below (put s.reserved f marks k) g.limit) l
+    (λ k d. ap (λ (m : ℕ → Bool). count_below m g.limit) (put_other s.reserved f marks k d)) in
+    let b : count_below (put s.reserved f marks f) g.limit ≡ count_below marks g.limit =
+    ap (λ (m : ℕ → Bool). count_below m g.limit) (put_same s.reserved f marks) in
+    omega arith
 
 -- a sum over the calls of all tasks
 abbrev pub sum_of : Geometry → (Option Call → ℕ) → (ℕ → Option Call) → ℕ
@@ -76,6 +109,8 @@ pub record Inv (g : Geometry) (s : State) : Type 0 where
   pub open layout use *
   pub count : s.resv + sum_of g less s.calls ≡ vacant_of g s.reserved s.pages + sum_of g more s.calls
   pub enough : s.resv ≤ free_frames s.frame s.frames
+  pub used : s.used ≡ reserved_of g s.reserved + sum_of g used_owed s.calls
+  pub quota : IsWithinQuota g.quota s.used
   pub place : Placing s.frames s.frame (λ u. hand (s.calls u)) s.pages
   pub entries : Entries g.tasks s.mappings s.entries s.pages
   pub inside : Inside g s.reserved s.pages
@@ -125,6 +160,21 @@ count_after n calls t b c resv vac resv' vac' l e h d =
     let y : total n (λ u. more (put calls t c u)) + more b ≡ total n (λ u. more (calls u)) + more c = sum_after more n calls t b c l e in
     omega arith
 
+-- the used count, after a call goes on and the reserved indices change
+pub used_after : (n : ℕ) (calls : ℕ → Option Call) (t : ℕ) (b c : Option Call) (used marks used' marks' : ℕ) → t < n → calls t ≡ b
+    → used ≡ marks + total n (λ u. used_owed (calls u))
+    → used' + (marks + used_owed b) ≡ used + (marks' + used_owed c)
+    → used' ≡ marks' + total n (λ u. used_owed (put calls t c u))
+used_after n calls t b c used marks used' marks' l e h d =
+    let x : total n (λ u. used_owed (put calls t c u)) + used_owed b ≡ total n (λ u. used_owed (calls u)) + used_owed c =
+    sum_after used_owed n calls t b c l e in
+    omega arith
+
+-- and where neither changes what it is owed
+pub same_used : (used marks : ℕ) (b c : Option Call) → used_owed c ≡ used_owed b
+    → used + (marks + used_owed b) ≡ used + (marks + used_owed c)
+same_used used marks b c e = omega arith
+
 -- what holds of the value, if there is one, may be said more weakly
 pub if_weaker : {A : Type 0} {P Q : A → Type 0} (o : Option A) → ((a : A) → o ≡ Some a → P a → Q a) → IfSome o P → IfSome o Q
 if_weaker None f h = tt
@@ -148,6 +198,8 @@ pub record GoesOn (g : Geometry) (s n : State) (t : ℕ) (b c : Option Call) (ah
   pub layout : Layout g n.geometry n.mappings
   pub count : (n.resv + less c) + (vacant_of g s.reserved s.pages + more b) ≡ (s.resv + less b) + (vacant_of g n.reserved n.pages + more c)
   pub enough : n.resv ≤ free_frames n.frame n.frames
+  pub used : n.used + (reserved_of g s.reserved + used_owed b) ≡ s.used + (reserved_of g n.reserved + used_owed c)
+  pub quota : IsWithinQuota g.quota n.used
   pub place : Placing n.frames n.frame (put (λ (u : ℕ). hand (s.calls u)) t (hand c)) n.pages
   pub entries : Entries g.tasks n.mappings n.entries n.pages
   pub inside : Inside g n.reserved n.pages
@@ -175,6 +227,10 @@ goes_on g s n t b c h l e p =
           count_after (g.tasks + 1) s.calls t b c s.resv (vacant_of g s.reserved s.pages) n.resv
           (vacant_of g n.reserved n.pages) l e h.count p.count;
       enough = p.enough;
+      used =
+          used_after (g.tasks + 1) s.calls t b c s.used (reserved_of g s.reserved) n.used (reserved_of g n.reserved) l e
+          h.used p.used;
+      quota = p.quota;
       place = subst (λ (hs : ℕ → Option ℕ). Placing n.frames n.frame hs n.pages) (sym (view_put hand s.calls t c)) p.place;
       entries = p.entries;
       inside = p.inside;
@@ -222,8 +278,8 @@ holds c = (slot_held c, locked_file c)
 -- all that others see of a call
 abbrev pub seen : Option Call
     → ℕ × ℕ × Option ℕ × Option ℕ × ((ℕ → ℕ → Bool) × (ℕ → ℕ → Bool) × (ℕ → ℕ → Bool))
-    × (Option (ℕ × ℕ) × Option ℕ)
-seen c = (less c, more c, hand c, change_in c, sweeps c, holds c)
+    × (Option (ℕ × ℕ) × Option ℕ) × ℕ
+seen c = (less c, more c, hand c, change_in c, sweeps c, holds c, used_owed c)
 
 -- the same where the call stands to truncations as it did
 abbrev pub GoesAs : Geometry → State → State → ℕ → Option Call → Option Call → (ℕ → Option (ℕ × ℕ)) → (ℕ → Option ℕ) → Type 0
@@ -281,6 +337,8 @@ stays g s t b c h l e same fill own = goes g s s t b c h l e (ap (λ p. p.4) sam
   layout = h.layout;
   count = (let x : less c ≡ less b = ap (λ p. p.0) same in let y : more c ≡ more b = ap (λ p. p.1) same in omega arith);
   enough = h.enough;
+  used = same_used s.used (reserved_of g s.reserved) b c (ap (λ p. p.6) same);
+  quota = h.quota;
   place = place_same g s t b c h e (ap (λ p. p.2) same);
   entries = h.entries;
   inside = h.inside;

@@ -1,11 +1,10 @@
 -- An allocation whose change found nothing missing at an index gets past that index for want of no frame.
-use Rattle.std.proofs.Common.{◌≡◌, ◌≢◌, ℕ, ◌+◌, ◌≤◌, sym, subst, arith}
-use Rattle.std.specs.Prelude.{Bool, not, ◌&&◌, ◌==◌, nat_lt, is_some, Option, Some, None, List, [], ◌∷◌}
+use Rattle.std.proofs.Common.{◌≡◌, ℕ, ◌+◌, ◌≤◌, sym, subst, arith}
+use Rattle.std.specs.Prelude.{Bool, not, ◌&&◌, ◌==◌, nat_lt, is_some, Option, Some, None, IfSome, List, [], ◌∷◌}
 use Rattle.hp_base.specs.declared.answer.Answer.{Answer}
-use Rattle.hp_base.specs.declared.answer.Answer.TheVariants as answer
 use Rattle.hp_base.specs.declared.event.Event.{Event}
 use Rattle.hp_base.proofs.Puts.{put_same}
-use Rattle.hp_machine.specs.State.{Pool, State, pool_of, slot_of, frees, is_killed}
+use Rattle.hp_machine.specs.State.{Pool, State, pool_of, slot_of, frees, quota_is_used_up, is_killed}
 use Rattle.hp_machine.specs.AllocRows.{AllocRow}
 use Rattle.hp_machine.specs.Events.{Row, CallRow, Run, IsReached, left}
 use Rattle.hp_machine.specs.declared.alloc.Changed.{Changed}
@@ -18,7 +17,8 @@ use Rattle.hp_machine.specs.declared.call.Call.TheVariants as call
 use Rattle.hp_machine.specs.declared.call.Turn.{Turn}
 use Rattle.hp_machine.specs.declared.call.Turn.TheVariants.{Moved, Blocked, Ended}
 use Rattle.hp_laws.specs.Bounds.{is_begun, calls_begun}
-use Rattle.hp_laws.proofs.Deciding.{nil_passes, some_same}
+use Rattle.hp_laws.specs.Promises.{TellsNoLack}
+use Rattle.hp_laws.proofs.Deciding.{nil_passes}
 use Rattle.hp_laws.proofs.Shared.{by_test, by_option}
 use Rattle.hp_laws.proofs.Runs.{Always, always, row_keeps}
 use Rattle.hp_laws.proofs.Serving.{TurnWell, at_leaf, sure_commit, own_or_same}
@@ -35,12 +35,12 @@ Past i (alloc.Want p) = i + 1 ≤ p.index
 Past i (alloc.Locked p) = i + 1 ≤ p.index
 Past i (alloc.Missing p) = i + 1 ≤ p.index
 Past i (alloc.Changed p) = (i ≤ p.index) × (p.index ≡ i → p.pending.missing ≡ 0)
-Past i (alloc.Abort p) = (i ≤ p.index) × (p.index ≡ i → p.answer ≢ answer.NoFrame)
+Past i (alloc.Abort p) = (i ≤ p.index) × (p.index ≡ i → TellsNoLack p.answer)
 Past i (alloc.Taken p) = i ≤ p.index
 Past i (alloc.Settle p) = i ≤ p.index
 Past i (alloc.Committed p) = i ≤ p.index
-Past i (alloc.Restore p) = (i ≤ p.index) × (p.index ≡ i → p.answer ≢ answer.NoFrame)
-Past i (alloc.Unslot p) = (i ≤ p.index) × (p.index ≡ i → p.answer ≢ Some answer.NoFrame)
+Past i (alloc.Restore p) = (i ≤ p.index) × (p.index ≡ i → TellsNoLack p.answer)
+Past i (alloc.Unslot p) = (i ≤ p.index) × (p.index ≡ i → IfSome p.answer TellsNoLack)
 Past i (alloc.Extend p) = Unit {0}
 Past i (alloc.Leave p) = Unit {0}
 
@@ -70,20 +70,22 @@ past_turn s t killed grant i (alloc.Missing p) turn new h row =
     (λ _ r. at_leaf (Past i) Any _ turn r.0 (low i p.index h, λ e. beyond i p.index h e))
     (λ _ r. at_leaf (Past i) Any _ turn r.0 (low i p.index h, λ e. beyond i p.index h e))
 past_turn s t killed grant i (alloc.Changed p) turn new h row = by_test killed row
-    (λ _ r. at_leaf (Past i) Any _ turn r.0 (h.0, λ e z. cc))
+    (λ _ r. at_leaf (Past i) Any _ turn r.0 (h.0, λ e. (λ z. cc, λ z. cc)))
     (λ _ r. by_test (p.pending.missing == 0) r
     (λ _ r. at_leaf (Past i) Any _ turn r.3.0 h.0)
-    (λ some r. by_test (frees (pool_of s) == s.resv) r
+    (λ some r. by_test (quota_is_used_up (pool_of s)) r
     (λ _ r. at_leaf (Past i) Any _ turn r.0 (h.0, λ e. nil_passes p.pending.missing (h.1 e) some))
-    (λ _ r. at_leaf (Past i) Any _ turn r.2.0 h.0)))
-past_turn s t killed grant i (alloc.Abort p) turn new h row = at_leaf (Past i) Any _ turn row.0 (h.0, λ e z. h.1 e (some_same z))
+    (λ _ r. by_test (frees (pool_of s) == s.resv) r
+    (λ _ r. at_leaf (Past i) Any _ turn r.0 (h.0, λ e. nil_passes p.pending.missing (h.1 e) some))
+    (λ _ r. at_leaf (Past i) Any _ turn r.2.0 h.0))))
+past_turn s t killed grant i (alloc.Abort p) turn new h row = at_leaf (Past i) Any _ turn row.0 h
 past_turn s t killed grant i (alloc.Taken p) turn new h row =
     sure_commit (Past i) Any s p.allocation.file p.pending.from p.pending.to p.pending.missing _ _ turn new row h h
-past_turn s t killed grant i (alloc.Settle p) turn new h (some, row) = at_leaf (Past i) Any _ turn row.0 h
+past_turn s t killed grant i (alloc.Settle p) turn new h (some, used, row) = at_leaf (Past i) Any _ turn row.0 h
 past_turn s t killed grant i (alloc.Committed p) turn new h row = by_test grant row
-    (λ _ r. at_leaf (Past i) Any _ turn r.0 (h, λ e z. cc))
-    (λ _ r. at_leaf (Past i) Any _ turn r.0 (h, λ e z. cc))
-past_turn s t killed grant i (alloc.Restore p) turn new h row = at_leaf (Past i) Any _ turn row.0 (h.0, λ e z. h.1 e (some_same z))
+    (λ _ r. at_leaf (Past i) Any _ turn r.0 (h, λ e. tt))
+    (λ _ r. at_leaf (Past i) Any _ turn r.0 (h, λ e. (λ z. cc, λ z. cc)))
+past_turn s t killed grant i (alloc.Restore p) turn new h row = at_leaf (Past i) Any _ turn row.0 h
 past_turn s t killed grant i (alloc.Unslot p) turn new h row = by_option p.answer row
     (λ _ r. by_test (nat_lt (p.index + 1) (p.allocation.from + p.allocation.len)) r
     (λ _ r. at_leaf (Past i) Any _ turn r.0 (omega arith))
@@ -135,7 +137,7 @@ past_run t i s (e ∷ es) n r h quiet w =
 -- an allocation whose change found nothing missing at an index doesn't leave that index for want of a frame
 pub alloc_never_lacks : (s : State) (t : ℕ) (p : Changed) (rest : List (Event × Outcome)) (n : State) (q : Unslot)
     → IsReached s → s.calls t ≡ Some (call.Alloc (alloc.Changed p)) → p.pending.missing ≡ 0 → Run s rest n
-    → calls_begun t rest ≡ 0 → n.calls t ≡ Some (call.Alloc (alloc.Unslot q)) → q.index ≡ p.index → q.answer ≢ Some answer.NoFrame
+    → calls_begun t rest ≡ 0 → n.calls t ≡ Some (call.Alloc (alloc.Unslot q)) → q.index ≡ p.index → IfSome q.answer TellsNoLack
 alloc_never_lacks s t p rest n q reached e none run quiet there same =
     let start : CallPast p.index (s.calls t) = subst (CallPast p.index) (sym e) (omega arith, λ z. none) in
     let w : CallPast p.index (Some (call.Alloc (alloc.Unslot q))) =

@@ -11,7 +11,8 @@ use Rattle.hp_base.proofs.Searches.{some_member, some_room, last_used}
 use Rattle.hp_frames.specs.declared.frame.FrameState.{FrameState}
 use Rattle.hp_frames.specs.declared.frame.FrameState.TheVariants as state
 use Rattle.hp_region.specs.Change.{Change}
-use Rattle.hp_machine.specs.State.{Pool, State, pool_of, frees, free_frames, is_free, slot_of, is_alive, is_killed, is_dead}
+use Rattle.hp_base.specs.declared.answer.Answer.TheVariants.{NoFrame, NoQuota}
+use Rattle.hp_machine.specs.State.{exceeds_quota, quota_is_used_up, Pool, State, pool_of, frees, free_frames, is_free, slot_of, is_alive, is_killed, is_dead}
 use Rattle.hp_machine.specs.Parts.{Goes, Ends, StartRow, WantSlotRow, ChangeRow, CommitRow, TakeRow, UnmapIndexRow, EvictRow}
 use Rattle.hp_machine.specs.TouchRows.{TouchRow}
 use Rattle.hp_machine.specs.MapRows.{MapRow}
@@ -107,14 +108,15 @@ unfolding free_frames
 some_free frame frames l = let o = some_member frames (λ x. is_free (frame x)) l in (o.0, free_is (frame o.0) o.1)
 
 -- a take applies where the reserve count is covered by free frames, and isn't 0 where it takes a reserved one
-take : {P : Type 0} (s : State) (m : ℕ) (no_frame : P) (taken : ℕ → P) → s.resv ≤ free_frames s.frame s.frames
-    → (m ≡ 0 → 1 ≤ s.resv) → Leads (TakeRow (pool_of s) m no_frame taken)
-take s m no_frame taken covered reserved =
+take : {P : Type 0} (s : State) (m : ℕ) (refused : Answer → P) (taken : ℕ → P) → s.resv ≤ free_frames s.frame s.frames
+    → (m ≡ 0 → 1 ≤ s.resv) → Leads (TakeRow (pool_of s) m refused taken)
+take s m refused taken covered reserved =
     test (m == 0)
     (λ none. let low = reserved (is_nil m none) in let x = some_free s.frame s.frames (omega arith) in
     (Moved (taken x.0), _, (x.0, x.1, low, (refl, refl))))
-    (λ some. test (frees (pool_of s) == s.resv) (λ _. goes no_frame (pool_of s))
-    (λ left. let x = some_free s.frame s.frames (more _ _ left covered) in (Moved (taken x.0), _, (x.0, x.1, (refl, refl)))))
+    (λ some. test (quota_is_used_up (pool_of s)) (λ _. goes (refused NoQuota) (pool_of s))
+    (λ fits. test (frees (pool_of s) == s.resv) (λ _. goes (refused NoFrame) (pool_of s))
+    (λ left. let x = some_free s.frame s.frames (more _ _ left covered) in (Moved (taken x.0), _, (x.0, x.1, (refl, refl))))))
   where
     more : (a b : ℕ) → (a == b) ≡ false → b ≤ a → 1 ≤ a
     more a b e l = grind (arith, nat_tests)
@@ -158,10 +160,12 @@ touch_leads s t killed grant (touch.Missing p) reached e =
     change (pool_of s) grant p.touch.file p.touch.index (p.touch.index + 1) _
     (λ c. touch.Changed (record { touch = p.touch; pending = c }))
 touch_leads s t killed grant (touch.Changed p) reached e =
-    test killed (λ _. goes _ (pool_of s)) (λ _. take s p.pending.missing _ _ (resv_covered s reached) (settles s t _ reached e))
+    test killed (λ _. goes _ (pool_of s))
+    (λ _. take s p.pending.missing (λ a. touch.Abort (record { touch = p.touch; pending = p.pending; answer = a })) _
+    (resv_covered s reached) (settles s t _ reached e))
 touch_leads s t killed grant (touch.Abort p) reached e = goes _ _
 touch_leads s t killed grant (touch.Taken p) reached e = commit (pool_of s) p.touch.file p.pending _ _
-touch_leads s t killed grant (touch.Settle p) reached e = (Moved _, _, (settles s t _ reached e, (refl, refl)))
+touch_leads s t killed grant (touch.Settle p) reached e = (let o = settles s t _ reached e in (Moved _, _, (o.0, o.1, (refl, refl))))
 touch_leads s t killed grant (touch.Committed p) reached e =
     test (nat_le (s.size p.touch.file) p.touch.index) (λ _. goes _ (pool_of s))
     (λ _. test grant (λ _. goes _ _) (λ _. goes _ (pool_of s)))
@@ -187,11 +191,12 @@ map_leads s t killed grant (map.Missing p) reached e =
     (λ c. map.Changed (record { map = p.map; base = p.base; pending = c }))
 map_leads s t killed grant (map.Changed p) reached e =
     test killed (λ _. goes _ (pool_of s))
-    (λ _. test (nat_lt (frees (pool_of s) - s.resv) p.pending.missing) (λ _. goes _ (pool_of s)) (λ _. goes _ _))
+    (λ _. test (exceeds_quota (pool_of s) p.pending.missing) (λ _. goes _ (pool_of s))
+    (λ _. test (nat_lt (frees (pool_of s) - s.resv) p.pending.missing) (λ _. goes _ (pool_of s)) (λ _. goes _ _)))
 map_leads s t killed grant (map.Abort p) reached e = goes _ _
 map_leads s t killed grant (map.Accounted p) reached e =
     test (nat_lt (missing (s.reserved p.map.file) p.pending.from p.pending.to) p.pending.missing) (λ _. goes _ _) (λ _. goes _ _)
-map_leads s t killed grant (map.Settle p) reached e = (Moved _, _, (settles s t _ reached e, (refl, refl)))
+map_leads s t killed grant (map.Settle p) reached e = (let o = settles s t _ reached e in (Moved _, _, (o.0, o.1, (refl, refl))))
 map_leads s t killed grant (map.Enter p) reached e = goes _ _
 map_leads s t killed grant (map.Leave p) reached e = ends _ _
 
@@ -208,10 +213,13 @@ alloc_leads s t killed grant (alloc.Missing p) reached e =
     change (pool_of s) grant p.allocation.file p.index (p.index + 1) _
     (λ c. alloc.Changed (record { allocation = p.allocation; index = p.index; pending = c }))
 alloc_leads s t killed grant (alloc.Changed p) reached e =
-    test killed (λ _. goes _ (pool_of s)) (λ _. take s p.pending.missing _ _ (resv_covered s reached) (settles s t _ reached e))
+    test killed (λ _. goes _ (pool_of s))
+    (λ _. take s p.pending.missing
+    (λ a. alloc.Abort (record { allocation = p.allocation; index = p.index; pending = p.pending; answer = a })) _
+    (resv_covered s reached) (settles s t _ reached e))
 alloc_leads s t killed grant (alloc.Abort p) reached e = goes _ _
 alloc_leads s t killed grant (alloc.Taken p) reached e = commit (pool_of s) p.allocation.file p.pending _ _
-alloc_leads s t killed grant (alloc.Settle p) reached e = (Moved _, _, (settles s t _ reached e, (refl, refl)))
+alloc_leads s t killed grant (alloc.Settle p) reached e = (let o = settles s t _ reached e in (Moved _, _, (o.0, o.1, (refl, refl))))
 alloc_leads s t killed grant (alloc.Committed p) reached e = test grant (λ _. goes _ _) (λ _. goes _ (pool_of s))
 alloc_leads s t killed grant (alloc.Restore p) reached e = goes _ _
 alloc_leads s t killed grant (alloc.Unslot p) reached e =
@@ -233,7 +241,8 @@ punch_leads s t killed grant (punch.Evict p) reached e =
 punch_leads s t killed grant (punch.Delete p) reached e =
     test (splits (s.reserved p.hole.file) p.index && nat_le (s.spare p.hole.file) (s.pending p.hole.file)
     && not grant) (λ _. goes _ (pool_of s)) (λ _. goes _ _)
-punch_leads s t killed grant (punch.Free p) reached e = goes _ _
+punch_leads s t killed grant (punch.Free p) reached e =
+    test p.denied (λ _. goes _ _) (λ done. (Moved _, _, (settles s t _ reached e done, (refl, refl))))
 punch_leads s t killed grant (punch.Unslot p) reached e =
     test (nat_lt (p.index + 1) (p.hole.from + p.hole.len)) (λ _. goes _ _) (λ _. goes _ _)
 punch_leads s t killed grant (punch.Leave p) reached e = ends _ _
@@ -254,7 +263,7 @@ truncate_leads s t killed grant (truncate.Evict p) reached e =
 truncate_leads s t killed grant (truncate.Free p) reached e = goes _ _
 truncate_leads s t killed grant (truncate.Unslot p) reached e = test (nat_lt p.truncation.new p.index) (λ _. goes _ _) (λ _. goes _ _)
 truncate_leads s t killed grant (truncate.Tail p) reached e = goes _ _
-truncate_leads s t killed grant (truncate.Settle p) reached e = (Moved _, _, (settles s t _ reached e, (refl, refl)))
+truncate_leads s t killed grant (truncate.Settle p) reached e = (let o = settles s t _ reached e in (Moved _, _, (o.0, o.1, (refl, refl))))
 truncate_leads s t killed grant (truncate.Leave p) reached e = ends _ _
 
 -- an unmap can go on in every state

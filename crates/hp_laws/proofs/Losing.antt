@@ -238,7 +238,7 @@ done_row s t killed grant (truncate.Free p) turn new P row d f = not_moved turn 
 done_row s t killed grant (truncate.Unslot p) turn new P row d f =
     by_test (nat_lt p.truncation.new p.index) row (λ _ r. not_moved turn _ _ r.0 d) (λ _ r. not_moved turn _ _ r.0 d)
 done_row s t killed grant (truncate.Tail p) turn new P row d f = not_moved turn _ _ row.0 d
-done_row s t killed grant (truncate.Settle p) turn new P (low, row) d f = not_moved turn _ _ row.0 d
+done_row s t killed grant (truncate.Settle p) turn new P (low, used, row) d f = not_moved turn _ _ row.0 d
 done_row s t killed grant (truncate.Leave p) turn new P row d f = f p refl row.1
 
 -- nothing is left where a truncation leaves

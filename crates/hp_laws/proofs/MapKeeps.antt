@@ -10,7 +10,8 @@ use Rattle.hp_base.proofs.Puts.{put_same}
 use Rattle.hp_base.proofs.Counting.{count_within-missing}
 use Rattle.hp_base.proofs.Sets.{add_range_has}
 use Rattle.hp_region.specs.Change.{Change}
-use Rattle.hp_machine.specs.State.{Pool, State, pool_of, free_frames, frees}
+use Rattle.hp_frames.proofs.Quotas.{less_within, more_within}
+use Rattle.hp_machine.specs.State.{exceeds_quota, Pool, State, pool_of, free_frames, frees}
 use Rattle.hp_machine.specs.MapRows.{MapRow, MapRoomRow, MapMissingRow, MapChangedRow, MapAccountedRow, MapSettleRow, MapEnterRow}
 use Rattle.hp_machine.specs.declared.map.Room.{Room}
 use Rattle.hp_machine.specs.declared.map.Missing.{Missing}
@@ -114,6 +115,7 @@ map_missing s t grant p turn new h l e row =
       none = refl;
       some = refl;
       balance = refl;
+      owed = refl;
       fill = tt;
       own =
           record {
@@ -139,7 +141,11 @@ map_changed s t killed p turn new h l e row =
     (λ is r. so call.Map s t _ turn _ new r
     (stays s.geometry s t _ (Some (call.Map (abort answer.Killed))) h l e refl tt
     (record { slot = tt; lock = y.lock; facts = record { range = y.facts.range; unmapped = refl } })))
-    (λ alive r. by_test (nat_lt (frees (pool_of s) - s.resv) p.pending.missing) r
+    (λ alive r. by_test (exceeds_quota (pool_of s) p.pending.missing) r
+    (λ over r. so call.Map s t _ turn _ new r
+    (stays s.geometry s t _ (Some (call.Map (abort answer.NoQuota))) h l e refl tt
+    (record { slot = tt; lock = y.lock; facts = record { range = y.facts.range; unmapped = refl } })))
+    (λ fits r. by_test (nat_lt (frees (pool_of s) - s.resv) p.pending.missing) r
     (λ short r. so call.Map s t _ turn _ new r
     (stays s.geometry s t _ (Some (call.Map (abort answer.NoFrame))) h l e refl tt
     (record { slot = tt; lock = y.lock; facts = record { range = y.facts.range; unmapped = refl } })))
@@ -147,8 +153,9 @@ map_changed s t killed p turn new h l e row =
     so call.Map s t _ turn _ new r
     (rebalances s.geometry s t _
     (Some (call.Map (at.Accounted (record { map = p.map; base = p.base; pending = p.pending }))))
-    (s.resv + p.pending.missing) h l e refl refl refl refl (omega arith) (let z = h.enough in omega arith) tt
-    (record { slot = tt; lock = y.lock; facts = y.facts }))))
+    (s.resv + p.pending.missing) (s.used + p.pending.missing) h l e refl refl refl refl (omega arith)
+    (let z = h.enough in omega arith) (omega arith) (more_within s.geometry.quota s.used p.pending.missing fits h.quota) tt
+    (record { slot = tt; lock = y.lock; facts = y.facts })))))
 
 -- at accounted the change is committed; from then on the whole range is reserved
 map_accounted : (s : State) (t : ℕ) (p : Accounted) (turn : Turn MapPhase) (new : Pool) → Inv s.geometry s
@@ -172,23 +179,33 @@ map_accounted s t p turn new h l e row =
       base = p.base;
       excess = p.pending.missing - missing (s.reserved f) p.pending.from p.pending.to;
     })))) f p.pending h l e
-    y.facts.range.file low refl refl refl refl refl nobody (omega arith) tt
-    (record { slot = tt; lock = y.lock; facts = record { range = y.facts.range; based = y.facts.based; filled = filled } })))
+    y.facts.range.file low refl refl refl refl refl nobody (omega arith) (omega arith) tt
+    (record {
+      slot = tt;
+      lock = y.lock;
+      facts = record {
+        range = y.facts.range;
+        based = y.facts.based;
+        filled = filled;
+        few = (let a = y.facts.whole.few in omega arith);
+      };
+    })))
     (λ all r. let enough = le _ _ all in let few = y.facts.count in
     so call.Map s t _ turn _ new r
     (commits s.geometry s t _ (Some (call.Map (at.Enter (record { map = p.map; base = p.base })))) f p.pending h l e
-    y.facts.range.file low refl refl refl refl refl nobody (omega arith) tt
+    y.facts.range.file low refl refl refl refl refl nobody (omega arith) (omega arith) tt
     (record { slot = tt; lock = y.lock; facts = record { range = y.facts.range; based = y.facts.based; filled = λ d. filled } })))
 
 -- at settle it gives back what it counted too much
 map_settle : (s : State) (t : ℕ) (p : Settle) (turn : Turn MapPhase) (new : Pool) → Inv s.geometry s → t < s.geometry.tasks + 1
     → s.calls t ≡ Some (call.Map (at.Settle p)) → MapSettleRow (pool_of s) p turn new
     → Inv s.geometry (after call.Map s t turn new)
-map_settle s t p turn new h l e (low, row) =
+map_settle s t p turn new h l e (low, used, row) =
     let y = stands_at s t _ h e in
     so call.Map s t _ turn _ new row
     (rebalances s.geometry s t _ (Some (call.Map (at.Enter (record { map = p.map; base = p.base }))))
-    (s.resv - p.excess) h l e refl refl refl refl (omega arith) (let z = h.enough in omega arith) tt
+    (s.resv - p.excess) (s.used - p.excess) h l e refl refl refl refl (omega arith) (let z = h.enough in omega arith)
+    (omega arith) (less_within s.geometry.quota s.used (s.used - p.excess) (omega arith) h.quota) tt
     (record { slot = tt; lock = y.lock; facts = record { range = y.facts.range; based = y.facts.based; filled = λ d. y.facts.filled } }))
 
 -- at enter its mapping is entered and the file grows
@@ -233,10 +250,10 @@ map_row s t killed grant (at.Abort p) turn new h l e row =
     let y = stands_at s t _ h e in
     so call.Map s t _ turn _ new row
     (closed s.geometry s t _ (Some (call.Map (at.Leave (record { map = p.map; answer = p.answer })))) p.map.file h l
-    e refl refl refl refl refl refl tt (left_stands s t p.map p.answer y.lock y.facts.range y.facts.unmapped))
+    e refl refl refl refl refl refl refl tt (left_stands s t p.map p.answer y.lock y.facts.range y.facts.unmapped))
 map_row s t killed grant (at.Accounted p) turn new h l e row = map_accounted s t p turn new h l e row
 map_row s t killed grant (at.Settle p) turn new h l e row = map_settle s t p turn new h l e row
 map_row s t killed grant (at.Enter p) turn new h l e row = map_enter s t p turn new h l e row
 map_row s t killed grant (at.Leave p) turn new h l e row =
     so call.Map s t _ turn _ new row
-    (leaves_lock s.geometry s t _ p.map.file h l e refl refl refl refl refl refl (stands_at s t _ h e).lock (λ k j. refl))
+    (leaves_lock s.geometry s t _ p.map.file h l e refl refl refl refl refl refl refl (stands_at s t _ h e).lock (λ k j. refl))

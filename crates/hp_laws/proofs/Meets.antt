@@ -1,13 +1,26 @@
 -- What a step of a call may rely on in every reached state: what stands of its call (`Facts` in proofs/Standing.antt
 -- lists it, phase by phase), and what follows from that wherever the call is in its phases.
-use Rattle.std.proofs.Common.{◌≡◌, ◌≢◌, ℕ, ◌<◌, ◌≤◌, refl, ap, ◌∙◌, arith}
-use Rattle.std.specs.Prelude.{false, Option, Some, None}
+use Rattle.std.proofs.Common.{◌≡◌, ◌≢◌, ℕ, ◌+◌, ◌*◌, ◌<◌, ◌≤◌, refl, ap, ◌∙◌, arith}
+use Rattle.std.specs.Prelude.{Bool, true, false, not, Option, Some, None}
+use Rattle.hp_base.specs.Numbers.{bit}
+use Rattle.hp_base.specs.Indices.{count_below}
+use Rattle.hp_base.proofs.Counting.{count_below_le}
+use Rattle.hp_base.proofs.Totals.{total_few}
 use Rattle.hp_frames.specs.declared.frame.FrameState.TheVariants as state
-use Rattle.hp_machine.specs.State.{State, free_frames, is_dead}
+use Rattle.hp_machine.specs.State.{Geometry, State, free_frames, is_dead}
 use Rattle.hp_machine.specs.Events.{IsReached}
 use Rattle.hp_machine.specs.Headline.{Hand, Page}
-use Rattle.hp_machine.specs.Views.{hand, change_in}
+use Rattle.hp_machine.specs.Views.{used_owed, hand, change_in}
+use Rattle.hp_machine.specs.declared.touch.TouchPhase.TheVariants as touch
+use Rattle.hp_machine.specs.declared.map.Changed
+use Rattle.hp_machine.specs.declared.map.MapPhase.TheVariants as map
+use Rattle.hp_machine.specs.declared.alloc.AllocPhase.TheVariants as alloc
+use Rattle.hp_machine.specs.declared.punch.PunchPhase.TheVariants as punch
+use Rattle.hp_machine.specs.declared.truncate.TruncatePhase.TheVariants as truncate
+use Rattle.hp_machine.specs.declared.unmap.UnmapPhase.TheVariants as unmap
+use Rattle.hp_machine.specs.declared.exit.ExitPhase.TheVariants as exit
 use Rattle.hp_machine.specs.declared.call.Call.{Call}
+use Rattle.hp_machine.specs.declared.call.Call.TheVariants as call
 use Rattle.hp_laws.specs.Enough.{CanSettle}
 use Rattle.hp_laws.proofs.Standing.{Stands}
 use Rattle.hp_laws.proofs.Invariant.{page_within}
@@ -93,3 +106,42 @@ pending_spared s f reached = (always s reached).inv.spares f
 -- there is a free frame for each reservation that is counted
 pub resv_covered : (s : State) → IsReached s → s.resv ≤ free_frames s.frame s.frames
 resv_covered s reached = (always s reached).inv.enough
+
+-- no call owes more to the used count than a file has indices
+owes_few : (g : Geometry) (s : State) (t : ℕ) (c : Option Call) → 1 ≤ g.limit → Stands g s t c → used_owed c ≤ g.limit
+owes_few g s t (Some (call.Touch (touch.Taken p))) some h = let a = h.facts.one.few in omega arith
+owes_few g s t (Some (call.Touch (touch.Settle p))) some h = some
+owes_few g s t (Some (call.Map (map.Accounted p))) some h =
+    let a = h.facts.whole.few in let b = h.facts.range.limit in omega arith
+owes_few g s t (Some (call.Map (map.Settle p))) some h = let a = h.facts.few in let b = h.facts.range.limit in omega arith
+owes_few g s t (Some (call.Alloc (alloc.Taken p))) some h = let a = h.facts.one.few in omega arith
+owes_few g s t (Some (call.Alloc (alloc.Settle p))) some h = some
+owes_few g s t (Some (call.Punch (punch.Free p))) some h = let a = few p.denied in omega arith
+  where
+    few : (b : Bool) → bit (not b) ≤ 1
+    few true = omega arith
+    few false = omega arith
+owes_few g s t (Some (call.Truncate (truncate.Settle p))) some h = h.facts.few
+owes_few g s t (Some (call.Unmap (unmap.Start _))) some h = omega arith
+owes_few g s t (Some (call.Exit exit.Start)) some h = omega arith
+owes_few g s t c some h = omega arith
+
+-- so no more pages are used than the files have indices, and the tasks' calls owe besides
+pub used_few : (s : State) → IsReached s → 1 ≤ s.geometry.limit
+    → s.used ≤ s.geometry.files * s.geometry.limit + (s.geometry.tasks + 1) * s.geometry.limit
+used_few s reached some =
+    let g : Geometry = s.geometry in
+    let h = (always s reached).inv in
+    let a = total_few g.files (λ f. count_below (s.reserved f) g.limit) g.limit (λ f. count_below_le (s.reserved f) g.limit) in
+    let b = total_few (g.tasks + 1) (λ u. used_owed (s.calls u)) g.limit (λ u. owes_few g s u (s.calls u) some (h.stands u)) in
+    let c = h.used in
+    omega arith
+
+-- a change of a map misses no more than a file has indices
+pub map_misses_few : (s : State) (t : ℕ) (p : Changed.Changed) → IsReached s → s.calls t ≡ Some (call.Map (map.Changed p))
+    → p.pending.missing ≤ s.geometry.limit
+map_misses_few s t p reached e =
+    let h = stands s t _ reached e in
+    let a = h.facts.whole.few in
+    let b = h.facts.range.limit in
+    omega arith

@@ -9,7 +9,7 @@ use Rattle.hp_base.proofs.Puts.{put_tells, put2_tells}
 use Rattle.hp_frames.specs.declared.frame.FrameState.{FrameState}
 use Rattle.hp_frames.specs.declared.frame.FrameState.TheVariants as state
 use Rattle.hp_region.specs.Change.{Change}
-use Rattle.hp_machine.specs.State.{Pool, State, pool_of, slot_of, frees}
+use Rattle.hp_machine.specs.State.{exceeds_quota, quota_is_used_up, Pool, State, pool_of, slot_of, frees}
 use Rattle.hp_machine.specs.Parts.{StartRow, WantSlotRow, ChangeRow, CommitRow, TakeRow, UnmapIndexRow, EvictRow}
 use Rattle.hp_machine.specs.TouchRows.{TouchRow}
 use Rattle.hp_machine.specs.MapRows.{MapRow}
@@ -107,12 +107,13 @@ change_pages s grant f from to denied changed turn new row =
     by_test ((s.spare f == s.pending f) && not grant) row (λ _ r. same s _ new r.1 refl refl) (λ _ r. same s _ new r.1 refl refl)
 
 -- taking a frame
-take_pages : {P : Type 0} (s : State) (m : ℕ) (no_frame : P) (taken : ℕ → P) (turn : Turn P) (new : Pool)
-    → TakeRow (pool_of s) m no_frame taken turn new → Pages s new
-take_pages s m no_frame taken turn new row =
+take_pages : {P : Type 0} (s : State) (m : ℕ) (refused : Answer → P) (taken : ℕ → P) (turn : Turn P) (new : Pool)
+    → TakeRow (pool_of s) m refused taken turn new → Pages s new
+take_pages s m refused taken turn new row =
     by_test (m == 0) row (λ _ r. moves s _ new r.0 state.Hand r.3.1 refl refl hand_not_placed)
+    (λ _ r. by_test (quota_is_used_up (pool_of s)) r (λ _ r. same s _ new r.1 refl refl)
     (λ _ r. by_test (frees (pool_of s) == s.resv) r (λ _ r. same s _ new r.1 refl refl)
-    (λ _ r. moves s _ new r.0 state.Hand r.2.1 refl refl hand_not_placed))
+    (λ _ r. moves s _ new r.0 state.Hand r.2.1 refl refl hand_not_placed)))
 
 -- committing a change
 commit_pages : {P : Type 0} (s : State) (f : ℕ) (c : Change) (settle next : P) (turn : Turn P) (new : Pool)
@@ -169,11 +170,12 @@ touch_pages s t killed grant (touch.Missing p) turn new reads h e row =
     (λ k. touch.Changed (record { touch = p.touch; pending = k })) turn new row
 touch_pages s t killed grant (touch.Changed p) turn new reads h e row =
     by_test killed row (λ _ r. same s _ new r.1 refl refl)
-    (λ _ r. take_pages s p.pending.missing _
+    (λ _ r. take_pages s p.pending.missing
+    (λ a. touch.Abort (record { touch = p.touch; pending = p.pending; answer = a }))
     (λ x. touch.Taken (record { touch = p.touch; pending = p.pending; held = x })) turn new r)
 touch_pages s t killed grant (touch.Abort p) turn new reads h e row = same s _ new row.1 refl refl
 touch_pages s t killed grant (touch.Taken p) turn new reads h e row = commit_pages s p.touch.file p.pending _ _ turn new row
-touch_pages s t killed grant (touch.Settle p) turn new reads h e (low, row) = same s _ new row.1 refl refl
+touch_pages s t killed grant (touch.Settle p) turn new reads h e (low, used, row) = same s _ new row.1 refl refl
 touch_pages s t killed grant (touch.Committed p) turn new reads h e row =
     by_test (nat_le (s.size p.touch.file) p.touch.index) row (λ _ r. same s _ new r.1 refl refl)
     (λ _ r. by_test grant r
@@ -197,13 +199,14 @@ map_pages s t killed grant (map.Missing p) turn new h e row =
     (λ k. map.Changed (record { map = p.map; base = p.base; pending = k })) turn new row
 map_pages s t killed grant (map.Changed p) turn new h e row =
     by_test killed row (λ _ r. same s _ new r.1 refl refl)
+    (λ _ r. by_test (exceeds_quota (pool_of s) p.pending.missing) r (λ _ r. same s _ new r.1 refl refl)
     (λ _ r. by_test (nat_lt (frees (pool_of s) - s.resv) p.pending.missing) r (λ _ r. same s _ new r.1 refl refl)
-    (λ _ r. same s _ new r.1 refl refl))
+    (λ _ r. same s _ new r.1 refl refl)))
 map_pages s t killed grant (map.Abort p) turn new h e row = same s _ new row.1 refl refl
 map_pages s t killed grant (map.Accounted p) turn new h e row =
     by_test (nat_lt (missing (s.reserved p.map.file) p.pending.from p.pending.to) p.pending.missing) row
     (λ _ r. same s _ new r.1 refl refl) (λ _ r. same s _ new r.1 refl refl)
-map_pages s t killed grant (map.Settle p) turn new h e (low, row) = same s _ new row.1 refl refl
+map_pages s t killed grant (map.Settle p) turn new h e (low, used, row) = same s _ new row.1 refl refl
 map_pages s t killed grant (map.Enter p) turn new h e row = same s _ new row.1 refl refl
 map_pages s t killed grant (map.Leave p) turn new h e row = same s _ new row.1 refl refl
 
@@ -223,11 +226,12 @@ alloc_pages s t killed grant (alloc.Missing p) turn new h e row =
     (λ k. alloc.Changed (record { allocation = p.allocation; index = p.index; pending = k })) turn new row
 alloc_pages s t killed grant (alloc.Changed p) turn new h e row =
     by_test killed row (λ _ r. same s _ new r.1 refl refl)
-    (λ _ r. take_pages s p.pending.missing _
+    (λ _ r. take_pages s p.pending.missing
+    (λ a. alloc.Abort (record { allocation = p.allocation; index = p.index; pending = p.pending; answer = a }))
     (λ x. alloc.Taken (record { allocation = p.allocation; index = p.index; pending = p.pending; held = x })) turn new r)
 alloc_pages s t killed grant (alloc.Abort p) turn new h e row = same s _ new row.1 refl refl
 alloc_pages s t killed grant (alloc.Taken p) turn new h e row = commit_pages s p.allocation.file p.pending _ _ turn new row
-alloc_pages s t killed grant (alloc.Settle p) turn new h e (low, row) = same s _ new row.1 refl refl
+alloc_pages s t killed grant (alloc.Settle p) turn new h e (low, used, row) = same s _ new row.1 refl refl
 alloc_pages s t killed grant (alloc.Committed p) turn new h e row =
     by_test grant row (λ _ r. places s t p.allocation.file p.index p.held new _ r.1 refl refl
     (stands_at s t _ h e).facts.bare (h.place.hands t p.held (ap hand e))) (λ _ r. same s _ new r.1 refl refl)
@@ -254,7 +258,9 @@ punch_pages s t killed grant (punch.Evict p) turn new h e row =
 punch_pages s t killed grant (punch.Delete p) turn new h e row =
     by_test (splits (s.reserved p.hole.file) p.index && nat_le (s.spare p.hole.file) (s.pending p.hole.file)
     && not grant) row (λ _ r. same s _ new r.1 refl refl) (λ _ r. same s _ new r.1 refl refl)
-punch_pages s t killed grant (punch.Free p) turn new h e row = moves s _ new p.held state.Free row.1 refl refl free_not_placed
+punch_pages s t killed grant (punch.Free p) turn new h e row =
+    by_test p.denied row (λ _ r. moves s _ new p.held state.Free r.1 refl refl free_not_placed)
+    (λ _ r. moves s _ new p.held state.Free r.1.1 refl refl free_not_placed)
 punch_pages s t killed grant (punch.Unslot p) turn new h e row =
     by_test (nat_lt (p.index + 1) (p.hole.from + p.hole.len)) row (λ _ r. same s _ new r.1 refl refl)
     (λ _ r. same s _ new r.1 refl refl)
@@ -280,7 +286,7 @@ truncate_pages s t killed grant (truncate.Free p) turn new h e row = moves s _ n
 truncate_pages s t killed grant (truncate.Unslot p) turn new h e row =
     by_test (nat_lt p.truncation.new p.index) row (λ _ r. same s _ new r.1 refl refl) (λ _ r. same s _ new r.1 refl refl)
 truncate_pages s t killed grant (truncate.Tail p) turn new h e row = same s _ new row.1 refl refl
-truncate_pages s t killed grant (truncate.Settle p) turn new h e (low, row) = same s _ new row.1 refl refl
+truncate_pages s t killed grant (truncate.Settle p) turn new h e (low, used, row) = same s _ new row.1 refl refl
 truncate_pages s t killed grant (truncate.Leave p) turn new h e row = same s _ new row.1 refl refl
 
 -- of an unmap

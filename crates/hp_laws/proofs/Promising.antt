@@ -154,7 +154,8 @@ punch_hole s t killed grant (punch.Evict p) q turn new (x, page, row) d = ap hol
 punch_hole s t killed grant (punch.Delete p) q turn new row d =
     by_test (splits (s.reserved p.hole.file) p.index && nat_le (s.spare p.hole.file) (s.pending p.hole.file)
     && not grant) row (λ _ r. ap hole_of (moved_is r.0 d)) (λ _ r. ap hole_of (moved_is r.0 d))
-punch_hole s t killed grant (punch.Free p) q turn new row d = ap hole_of (moved_is row.0 d)
+punch_hole s t killed grant (punch.Free p) q turn new row d =
+    by_test p.denied row (λ _ r. ap hole_of (moved_is r.0 d)) (λ _ r. ap hole_of (moved_is r.1.0 d))
 punch_hole s t killed grant (punch.Unslot p) q turn new row d =
     by_test (nat_lt (p.index + 1) (p.hole.from + p.hole.len)) row (λ _ r. ap hole_of (moved_is r.0 d))
     (λ _ r. ap hole_of (moved_is r.0 d))
@@ -186,7 +187,7 @@ truncate_cut s t killed grant (truncate.Unslot p) q turn new row d =
     by_test (nat_lt p.truncation.new p.index) row (λ _ r. ap truncation_of (moved_is r.0 d))
     (λ _ r. ap truncation_of (moved_is r.0 d))
 truncate_cut s t killed grant (truncate.Tail p) q turn new row d = ap truncation_of (moved_is row.0 d)
-truncate_cut s t killed grant (truncate.Settle p) q turn new (low, row) d = ap truncation_of (moved_is row.0 d)
+truncate_cut s t killed grant (truncate.Settle p) q turn new (low, used, row) d = ap truncation_of (moved_is row.0 d)
 truncate_cut s t killed grant (truncate.Leave p) q turn new row d = not_ended row.0 d
 
 -- a call removes an index after a step only where it did before, or took the promise back just then

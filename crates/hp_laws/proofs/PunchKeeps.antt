@@ -1,12 +1,15 @@
 -- Each row of a punch keeps the invariant.
-use Rattle.std.proofs.Common.{◌≡◌, ℕ, ◌+◌, ◌-◌, ◌<◌, ◌≤◌, refl, arith}
-use Rattle.std.specs.Prelude.{Bool, true, false, not, ◌&&◌, nat_lt, nat_le, is_some, Some, None, if◌then◌else◌}
+use Rattle.std.proofs.Common.{◌≡◌, ℕ, ◌+◌, ◌-◌, ◌<◌, ◌≤◌, refl, ap, arith}
+use Rattle.std.specs.Prelude.{Bool, true, false, not, ◌&&◌, nat_lt, nat_le, is_some, Option, Some, None, if◌then◌else◌}
 use Rattle.std.proofs.lemmas.Bool.Decides.{nat_tests}
 use Rattle.hp_base.specs.Numbers.{put, bit}
 use Rattle.hp_base.specs.Indices.{splits}
 use Rattle.hp_base.specs.declared.answer.Answer.TheVariants as answer
 use Rattle.hp_base.proofs.Puts.{put_same, put2_same}
 use Rattle.hp_base.specs.Mappings.{without_index}
+use Rattle.hp_frames.proofs.Quotas.{less_within}
+use Rattle.hp_machine.specs.Views.{less, used_owed}
+use Rattle.hp_machine.specs.declared.call.Call.{Call}
 use Rattle.hp_machine.specs.PunchRows.{PunchRow, PunchLockedRow, PunchUnmapRow, PunchEvictRow, PunchDeleteRow, PunchFreeRow, PunchUnslotRow}
 use Rattle.hp_machine.specs.declared.punch.Locked.{Locked}
 use Rattle.hp_machine.specs.declared.punch.Unmap.{Unmap}
@@ -20,7 +23,7 @@ use Rattle.hp_machine.specs.declared.call.Call.TheVariants as call
 use Rattle.hp_machine.specs.declared.call.Turn.{Turn}
 use Rattle.hp_machine.specs.State.{Pool, State, pool_of, slot_of}
 use Rattle.hp_laws.proofs.Deciding.{lt, le}
-use Rattle.hp_laws.proofs.Standing.{below_limit, in_first, in_next}
+use Rattle.hp_laws.proofs.Standing.{Stands, below_limit, in_first, in_next}
 use Rattle.hp_laws.proofs.Invariant.{Inv, stays}
 use Rattle.hp_laws.proofs.Holding.{leaves_slot, leaves_lock}
 use Rattle.hp_laws.proofs.Effects.{gives}
@@ -112,7 +115,7 @@ punch_evict s t p turn new h l e row =
     let x = row.0 in
     so call.Punch s t _ turn _ new row.2
     (evicts s.geometry s t _ (Some (call.Punch (at.Delete (record { hole = p.hole; index = p.index; held = x }))))
-    p.hole.file p.index x h l e y.facts.aim.file refl refl refl refl refl refl row.1 y.slot
+    p.hole.file p.index x h l e y.facts.aim.file refl refl refl refl refl refl refl row.1 y.slot
     (λ w v z a d. let o = h.entries.owners w v z a in c w v z o.0 (let b = o.1 in omega arith) a d) tt
     (record {
       slot = y.slot;
@@ -139,7 +142,7 @@ punch_delete s t grant p turn new h l e row =
     (λ done r. so call.Punch s t _ turn _ new r
     (deletes s.geometry s t _
     (Some (call.Punch (at.Free (record { hole = p.hole; index = p.index; held = p.held; denied = false })))) f
-    p.index _ h l e y.facts.aim.file (below_limit s.geometry _ y.facts.aim) refl refl refl refl refl
+    p.index _ h l e y.facts.aim.file (below_limit s.geometry _ y.facts.aim) refl refl refl refl refl refl
     (spare_left (splits (s.reserved f) p.index) (s.pending f) (s.spare f) (h.spares f)) y.facts.marked y.facts.bare y.slot y.lock tt
     (record {
       slot = y.slot;
@@ -147,24 +150,27 @@ punch_delete s t grant p turn new h l e row =
       facts = record { aim = y.facts.aim; bare = y.facts.bare; marked = λ d. (let z : false ≡ true = d in absurd (cc)) };
     })))
 
--- at free the frame is given back, and with it the reservation where the delete was denied
+-- at free the frame is given back, and with it the reservation where the delete was denied; else the index isn't used any more
 punch_free : (s : State) (t : ℕ) (p : Free) (turn : Turn PunchPhase) (new : Pool) → Inv s.geometry s → t < s.geometry.tasks + 1
     → s.calls t ≡ Some (call.Punch (at.Free p)) → PunchFreeRow (pool_of s) p turn new
     → Inv s.geometry (after call.Punch s t turn new)
 punch_free s t p turn new h l e row =
     let y = stands_at s t _ h e in
-    so call.Punch s t _ turn _ new row
-    (gives s.geometry s t _ (Some (call.Punch (at.Unslot (record { hole = p.hole; index = p.index })))) p.held
-    (if p.denied then s.resv + 1 else s.resv) h l e refl refl refl refl refl (balance p.denied s.resv) (few p.denied s.resv) tt
-    (record { slot = y.slot; lock = y.lock; facts = record { aim = y.facts.aim } }))
-  where
-    balance : (b : Bool) (r : ℕ) → ((if b then r + 1 else r) + 0) + 0 ≡ (r + bit b) + 0
-    balance true r = omega arith
-    balance false r = omega arith
-
-    few : (b : Bool) (r : ℕ) → (if b then r + 1 else r) ≤ r + 1
-    few true r = omega arith
-    few false r = omega arith
+    let here : Option Call = Some (call.Punch (at.Free p)) in
+    let next : Option Call = Some (call.Punch (at.Unslot (record { hole = p.hole; index = p.index }))) in
+    let own : Stands s.geometry s t next = record { slot = y.slot; lock = y.lock; facts = record { aim = y.facts.aim } } in
+    by_test p.denied row
+    (λ denied r. let owes : less here ≡ 1 = ap bit denied in
+    let no_use : used_owed here ≡ 0 = ap (λ (b : Bool). bit (not b)) denied in
+    so call.Punch s t _ turn _ new r
+    (gives s.geometry s t here next p.held (s.resv + 1) s.used h l e refl refl refl refl refl (omega arith) (omega arith)
+    (omega arith) h.quota tt own))
+    (λ done r. let owes : less here ≡ 0 = ap bit done in
+    let one_use : used_owed here ≡ 1 = ap (λ (b : Bool). bit (not b)) done in
+    let some : 1 ≤ s.used = r.0 in
+    so call.Punch s t _ turn _ new r.1
+    (gives s.geometry s t here next p.held s.resv (s.used - 1) h l e refl refl refl refl refl (omega arith) (omega arith)
+    (omega arith) (less_within s.geometry.quota s.used (s.used - 1) (omega arith) h.quota) tt own))
 
 -- at unslot it leaves the slot, for the next index or for its end
 punch_unslot : (s : State) (t : ℕ) (p : Unslot) (turn : Turn PunchPhase) (new : Pool) → Inv s.geometry s
@@ -211,4 +217,4 @@ punch_row s t killed grant (at.Free p) turn new h one l e row = punch_free s t p
 punch_row s t killed grant (at.Unslot p) turn new h one l e row = punch_unslot s t p turn new h l e row
 punch_row s t killed grant (at.Leave p) turn new h one l e row =
     so call.Punch s t _ turn _ new row
-    (leaves_lock s.geometry s t _ p.hole.file h l e refl refl refl refl refl refl (stands_at s t _ h e).lock (λ k j. refl))
+    (leaves_lock s.geometry s t _ p.hole.file h l e refl refl refl refl refl refl refl (stands_at s t _ h e).lock (λ k j. refl))

@@ -6,17 +6,18 @@ use Rattle.hp_base.specs.Indices.{vacant}
 use Rattle.hp_base.specs.Mappings.{find}
 use Rattle.hp_base.proofs.Puts.{put_same, put_other, same_or_other, put2_tells}
 use Rattle.hp_base.proofs.Totals.{total_change}
+use Rattle.hp_base.proofs.Counting.{count_below-put_false}
 use Rattle.hp_base.proofs.Sets.{vacant_evict, vacant_drop}
 use Rattle.hp_frames.specs.declared.frame.FrameState.TheVariants as state
 use Rattle.hp_machine.specs.State.{Geometry, State, slot_of, is_free, free_frames}
-use Rattle.hp_machine.specs.Views.{less, more, hand, change_in}
+use Rattle.hp_machine.specs.Views.{less, more, used_owed, hand, change_in}
 use Rattle.hp_machine.specs.declared.call.Call.{Call}
 use Rattle.hp_laws.specs.Sweep.{fills, ahead}
 use Rattle.hp_laws.proofs.Deciding.{some_same}
 use Rattle.hp_laws.proofs.Moves.{Placing, evicts_frame}
 use Rattle.hp_laws.proofs.Standing.{HasSlot, HasLock, Stands}
 use Rattle.hp_laws.proofs.Staying.{same_tables, stands_after}
-use Rattle.hp_laws.proofs.Invariant.{Reached, Inv, page_within, goes, vacant_of, place_same, same_opens, sweeps, holds, to}
+use Rattle.hp_laws.proofs.Invariant.{Reached, Inv, page_within, goes, vacant_of, reserved_of, reserved_fewer, same_used, place_same, same_opens, sweeps, holds, to}
 use Rattle.hp_laws.proofs.Effects.{free_same}
 
 -- a page lies where the index is reserved
@@ -30,13 +31,13 @@ page_marked g s f i x h p = is_marked (s.reserved f i) refl
 -- a page goes into the call's hand
 pub evicts : (g : Geometry) (s : State) (t : ℕ) (b c : Option Call) (f i x : ℕ) → Inv g s → t < g.tasks + 1 → s.calls t ≡ b → f < g.files
     → sweeps c ≡ sweeps b → holds c ≡ holds b → hand b ≡ None → hand c ≡ Some x → change_in c ≡ change_in b
-    → less c + more b ≡ less b + more c + 1
+    → less c + more b ≡ less b + more c + 1 → used_owed c ≡ used_owed b
     → s.pages f i ≡ Some x → HasSlot g s t f i
     → ((w v y : ℕ) → s.entries w v ≡ Some y → find (s.mappings w) v ≡ Some (f, i) → ⊥)
     → IfSome (fills c) (λ k. Reached s.size (λ u. ahead (s.calls u)) k.0 k.1)
     → Stands g (record s { pool = record s.pool { pages = put2 s.pages f i None; frame = put s.frame x state.Hand } }) t c
     → Inv g (to (record s { pool = record s.pool { pages = put2 s.pages f i None; frame = put s.frame x state.Hand } }) t c)
-evicts g s t b c f i x h l e in_files same same_held none some same_change balance page held cleared fill own =
+evicts g s t b c f i x h l e in_files same same_held none some same_change balance owed page held cleared fill own =
     goes g s n t b c h l e same same_held (record {
       layout = h.layout;
       reach = h.reach;
@@ -45,6 +46,8 @@ evicts g s t b c f i x h l e in_files same same_held none some same_change balan
       spares = h.spares;
       holders = h.holders;
       count = (let v : vacant_of g s.reserved n.pages ≡ vacant_of g s.reserved s.pages + 1 = evicted_vacant in omega arith);
+      used = same_used s.used (reserved_of g s.reserved) b c owed;
+      quota = h.quota;
       enough =
           (let o = h.place.pages f i x page in
           let a : free_frames (put s.frame x state.Hand) s.frames ≡ free_frames s.frame s.frames = free_same s.frame x
@@ -127,12 +130,12 @@ evicts g s t b c f i x h l e in_files same same_held none some same_change balan
 pub deletes : (g : Geometry) (s : State) (t : ℕ) (b c : Option Call) (f i spare : ℕ) → Inv g s → t < g.tasks + 1 → s.calls t ≡ b
     → f < g.files → i < g.limit
     → sweeps c ≡ sweeps b → holds c ≡ holds b → hand c ≡ hand b → change_in c ≡ change_in b
-    → less b + more c ≡ less c + more b + 1 → s.pending f ≤ spare
+    → less b + more c ≡ less c + more b + 1 → used_owed c ≡ used_owed b + 1 → s.pending f ≤ spare
     → s.reserved f i ≡ true → s.pages f i ≡ None → HasSlot g s t f i → HasLock s t f
     → IfSome (fills c) (λ k. Reached s.size (λ u. ahead (s.calls u)) k.0 k.1)
     → Stands g (record s { pool = record s.pool { reserved = put2 s.reserved f i false; spare = put s.spare f spare } }) t c
     → Inv g (to (record s { pool = record s.pool { reserved = put2 s.reserved f i false; spare = put s.spare f spare } }) t c)
-deletes g s t b c f i spare h l e in_files in_limit same same_held same_hand same_change balance spares marked bare
+deletes g s t b c f i spare h l e in_files in_limit same same_held same_hand same_change balance owed spares marked bare
     held locked fill own = goes g s n t b c h l e same same_held (record {
       layout = h.layout;
       entries = h.entries;
@@ -142,6 +145,11 @@ deletes g s t b c f i spare h l e in_files in_limit same same_held same_hand sam
       holders = h.holders;
       enough = h.enough;
       count = (let v : vacant_of g n.reserved s.pages + 1 ≡ vacant_of g s.reserved s.pages = fewer in omega arith);
+      used =
+          (let v : reserved_of g n.reserved + 1 ≡ reserved_of g s.reserved =
+          reserved_fewer g s f (put (s.reserved f) i false) 1 in_files (sym (count_below-put_false (s.reserved f) i g.limit in_limit marked)) in
+          omega arith);
+      quota = h.quota;
       place = place_same g s t b c h e same_hand;
       inside = record {
         within = λ k j a. elim (put2_tells s.reserved f i false k j) [

@@ -3,12 +3,13 @@ use Rattle.std.proofs.Common.{◌≡◌, ℕ, ◌+◌, ◌<◌, ◌≤◌, refl,
 use Rattle.std.specs.Prelude.{Bool, true, false, ◌&&◌, not, Option, Some, None, List, [], ◌∷◌, nat_lt, nat_le, if◌then◌else◌}
 use Rattle.std.proofs.lemmas.Bool.Decides.{nat_tests}
 use Rattle.hp_base.specs.Numbers.{put, total}
-use Rattle.hp_base.specs.Indices.{vacant}
+use Rattle.hp_base.specs.Indices.{vacant, count_below}
 use Rattle.hp_base.specs.declared.event.Op.{Op}
 use Rattle.hp_base.specs.declared.event.Op.TheVariants as op
 use Rattle.hp_base.specs.declared.event.Event.{Event}
 use Rattle.hp_base.specs.declared.event.Event.TheVariants.{Begin, Step, Kill}
 use Rattle.hp_base.proofs.Counting.{count_below_none}
+use Rattle.hp_frames.proofs.Quotas.{none_within}
 use Rattle.hp_base.proofs.Puts.{put_tells, same_or_other, put_same, put_other}
 use Rattle.hp_base.proofs.Totals.{total_none, total_same}
 use Rattle.hp_frames.specs.declared.frame.FrameState.{FrameState}
@@ -52,6 +53,8 @@ life_set g s lives h =
       layout = h.layout;
       count = h.count;
       enough = h.enough;
+      used = h.used;
+      quota = h.quota;
       place = h.place;
       entries = h.entries;
       inside = h.inside;
@@ -262,6 +265,12 @@ opens_well g frames = record {
         total_same g.files (λ _. 0) _ (λ j l. nothing_vacant g.limit) ∙ total_none g.files in
         omega arith);
     enough = omega arith;
+    used = (
+        let a : total (g.tasks + 1) (λ _. 0) ≡ 0 = total_none (g.tasks + 1) in
+        let c : total g.files (λ f. count_below (λ _. false) g.limit) ≡ 0 =
+        total_same g.files (λ _. 0) _ (λ j l. count_below_none _ g.limit (λ k d. refl)) ∙ total_none g.files in
+        omega arith);
+    quota = none_within g.quota;
     place = record { one = opening_place frames; hands = λ t x d. no_value d; pages = λ f i x d. no_value d };
     entries = record { agree = λ t v x d. no_value d; owners = λ t v x d. no_value d };
     inside = record { bare = λ f i d. refl; within = λ f i d. never d };
@@ -306,4 +315,6 @@ headline s reached =
           total_same (s.geometry.tasks + 1) (λ _. 0) _ (λ j l. (none j).1) ∙ total_none (s.geometry.tasks + 1) in
           let c = h.count in
           omega arith;
+      used = h.used;
+      within = h.quota;
     }

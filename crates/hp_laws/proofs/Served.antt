@@ -5,7 +5,6 @@ use Rattle.std.proofs.lemmas.Bool.Decides.{nat_tests}
 use Rattle.hp_base.specs.Numbers.{put}
 use Rattle.hp_base.specs.Mappings.{find}
 use Rattle.hp_base.specs.declared.answer.Answer.{Answer}
-use Rattle.hp_base.specs.declared.answer.Answer.TheVariants as answer
 use Rattle.hp_base.specs.declared.event.Op.{Op}
 use Rattle.hp_base.specs.declared.event.Event.{Event}
 use Rattle.hp_base.specs.declared.event.Event.TheVariants.{Begin, Step, Kill}
@@ -36,6 +35,7 @@ use Rattle.hp_machine.specs.declared.call.Call.{Call}
 use Rattle.hp_machine.specs.declared.call.Call.TheVariants as call
 use Rattle.hp_machine.specs.declared.call.Turn.{Turn}
 use Rattle.hp_machine.specs.declared.call.Turn.TheVariants.{Blocked}
+use Rattle.hp_laws.specs.Promises.{TellsNoLack}
 use Rattle.hp_laws.specs.Bounds.{is_begun, calls_begun}
 use Rattle.hp_laws.specs.Histories.{Moment, History, in_order}
 use Rattle.hp_laws.specs.Promises.{IsPromised, IsUndisturbed, IsServed}
@@ -45,7 +45,7 @@ use Rattle.hp_laws.proofs.Runs.{Always, always, row_keeps}
 use Rattle.hp_laws.proofs.Reading.{begin_cases, step_cases, step_of}
 use Rattle.hp_laws.proofs.Histories.{begun_more, history_well, later_run}
 use Rattle.hp_laws.proofs.Keeping.{promised_kept}
-use Rattle.hp_laws.proofs.Serving.{TurnWell, at_leaf, takes, Sure, Isnt, sure_turn, sure_missing, missing_none, sure_commit}
+use Rattle.hp_laws.proofs.Serving.{TurnWell, at_leaf, takes, Sure, sure_turn, sure_missing, missing_none, sure_commit}
 use Rattle.hp_laws.proofs.Serving.{CallWell, touch_call, own_or_same}
 
 -- a touch in flight is at one phase
@@ -59,7 +59,7 @@ sure_row s t event o n h quiet w row = own_or_same s t event o n (CallWell Sure 
     (λ calls mappings lives no_end. subst (CallWell Sure) (sym calls) w)
     (λ grant c pool next is e r d. subst (λ (m : State). CallWell Sure (m.calls t)) (sym d)
     (subst (CallWell Sure) (sym (put_same s.calls t next))
-    (touch_call s t (is_killed (s.life t)) grant Sure Sure Isnt c o pool next
+    (touch_call s t (is_killed (s.life t)) grant Sure Sure TellsNoLack c o pool next
     (λ phase turn q k r. sure_turn s t (is_killed (s.life t)) grant phase turn pool k r) (subst (CallWell Sure) e w) r).0))
 
 -- a sure touch stays sure over a run in which its task begins no call
@@ -75,11 +75,11 @@ ends_not_refused b why e = absurd (cc)
 
 -- a sure touch doesn't end for want of a frame
 sure_end : (s : State) (t : ℕ) (grant : Bool) (b : Answer) (n : State) → CallWell Sure (s.calls t)
-    → Row s (Step t grant) (outcome.Ended b) n → b ≢ answer.NoFrame
-sure_end s t grant b n w row = step_cases s t grant (outcome.Ended b) n (b ≢ answer.NoFrame) row
+    → Row s (Step t grant) (outcome.Ended b) n → TellsNoLack b
+sure_end s t grant b n w row = step_cases s t grant (outcome.Ended b) n (TellsNoLack b) row
     (λ why e d. ends_not_refused b why e)
     (λ c lives e pool next r d.
-    (touch_call s t (is_killed (s.life t)) grant Sure Sure Isnt c (outcome.Ended b) pool next
+    (touch_call s t (is_killed (s.life t)) grant Sure Sure TellsNoLack c (outcome.Ended b) pool next
     (λ phase turn q k r. sure_turn s t (is_killed (s.life t)) grant phase turn pool k r) (subst (CallWell Sure) e w) r).1 b refl)
 
 -- the row of a moment that ends a call
@@ -92,7 +92,7 @@ end_row m t grant b own ended row =
 pub touch_never_lacks : (s : State) (t : ℕ) (p : Changed.Changed) (rest : List (Event × Outcome)) (n : State)
     (last : Bool) (b : Answer) (after : State)
     → IsReached s → s.calls t ≡ Some (call.Touch (touch.Changed p)) → p.pending.missing ≡ 0 → Run s rest n
-    → calls_begun t rest ≡ 0 → Row n (Step t last) (outcome.Ended b) after → b ≢ answer.NoFrame
+    → calls_begun t rest ≡ 0 → Row n (Step t last) (outcome.Ended b) after → TellsNoLack b
 touch_never_lacks s t p rest n last b after reached e none run quiet ended =
     sure_end n t last b after (sure_run t s rest n run (always s reached) quiet (subst (CallWell Sure) (sym e) none)).0 ended
 
@@ -103,7 +103,7 @@ missing_sure : (s : State) (t : ℕ) (grant : Bool) (p : Missing) (o : Outcome) 
 missing_sure s t grant p o n h e marked row =
     let killed : Bool = is_killed (s.life t) in
     let step = step_of s t grant (call.Touch (touch.Missing p)) o n row (h.lives.busy t (call.Touch (touch.Missing p)) e) e in
-    let now = touch_call s t killed grant Sure (λ (q : TouchPhase). q ≡ touch.Missing p) Isnt (call.Touch (touch.Missing p)) o step.0 step.1
+    let now = touch_call s t killed grant Sure (λ (q : TouchPhase). q ≡ touch.Missing p) TellsNoLack (call.Touch (touch.Missing p)) o step.0 step.1
     (λ phase turn q k r. sure_missing s t killed grant p turn step.0 marked
     (subst (λ (m : TouchPhase). TouchRow (pool_of s) t killed grant m turn step.0) k r))
     refl step.2 in
@@ -114,7 +114,7 @@ pub promised_never_lacks : (g : Geometry) (frames : ℕ) (ends : Moment) (later 
     (t : ℕ) (grant last : Bool) (p : Missing) (b : Answer)
     → History g frames (ends ∷ (later ++ (asks ∷ past))) ends.after → calls_begun t (in_order later) ≡ 0
     → asks.event ≡ Step t grant → asks.before.calls t ≡ Some (call.Touch (touch.Missing p)) → IsPromised p.touch.file p.touch.index past
-    → ends.event ≡ Step t last → ends.outcome ≡ outcome.Ended b → b ≢ answer.NoFrame
+    → ends.event ≡ Step t last → ends.outcome ≡ outcome.Ended b → TellsNoLack b
 promised_never_lacks g frames ends later asks past t grant last p b h quiet asked e is own ended =
     let k = later_run g frames later (asks ∷ past) ends.before h.2 in
     let s : State = asks.before in
@@ -197,12 +197,12 @@ touch_well s t killed ms f i (touch.Missing p) turn new alive marked low w row =
     ))
 touch_well s t killed ms f i (touch.Changed p) turn new alive marked low w row = by_test killed row
     (λ is r. clash killed is alive)
-    (λ _ r. takes (Well ms f i) IsServed s p.pending.missing _
+    (λ _ r. takes (Well ms f i) IsServed s p.pending.missing (λ a. touch.Abort (record { touch = p.touch; pending = p.pending; answer = a }))
     (λ x. touch.Taken (record { touch = p.touch; pending = p.pending; held = x })) turn new w.1 r (λ x d. w.0))
 touch_well s t killed ms f i (touch.Abort p) turn new alive marked low w row = absurd w
 touch_well s t killed ms f i (touch.Taken p) turn new alive marked low w row =
     sure_commit (Well ms f i) IsServed s p.touch.file p.pending.from p.pending.to p.pending.missing _ _ turn new row w w
-touch_well s t killed ms f i (touch.Settle p) turn new alive marked low w (some, row) = at_leaf (Well ms f i) IsServed _ turn row.0 w
+touch_well s t killed ms f i (touch.Settle p) turn new alive marked low w (some, used, row) = at_leaf (Well ms f i) IsServed _ turn row.0 w
 touch_well s t killed ms f i (touch.Committed p) turn new alive marked low w row = by_test (nat_le (s.size p.touch.file) p.touch.index) row
     (λ beyond r. not_beyond s p.touch f i w low beyond)
     (λ _ r. at_leaf (Well ms f i) IsServed _ turn r.0 w)

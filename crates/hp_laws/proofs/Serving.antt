@@ -5,7 +5,6 @@ use Rattle.std.proofs.lemmas.Bool.Decides.{nat_tests}
 use Rattle.hp_base.specs.Numbers.{put, bit}
 use Rattle.hp_base.specs.Indices.{missing}
 use Rattle.hp_base.specs.declared.answer.Answer.{Answer}
-use Rattle.hp_base.specs.declared.answer.Answer.TheVariants as answer
 use Rattle.hp_base.specs.declared.event.Op.{Op}
 use Rattle.hp_base.specs.declared.event.Event.{Event}
 use Rattle.hp_base.specs.declared.event.Event.TheVariants.{Begin, Step, Kill}
@@ -30,6 +29,7 @@ use Rattle.hp_machine.specs.declared.call.Call.{Call}
 use Rattle.hp_machine.specs.declared.call.Call.TheVariants as call
 use Rattle.hp_machine.specs.declared.call.Turn.{Turn}
 use Rattle.hp_machine.specs.declared.call.Turn.TheVariants.{Moved, Blocked, Ended}
+use Rattle.hp_laws.specs.Promises.{TellsNoLack}
 use Rattle.hp_laws.specs.Bounds.{is_begun}
 use Rattle.hp_laws.proofs.Shared.{by_test}
 use Rattle.hp_laws.proofs.Runs.{Always}
@@ -47,11 +47,11 @@ pub at_leaf : {P : Type 0} (on : P → Type 0) (ends : Answer → Type 0) (wante
 at_leaf {P} on ends wanted turn e h = subst (TurnWell P on ends) (sym e) h
 
 -- where nothing was missing a frame is taken
-pub takes : {P : Type 0} (on : P → Type 0) (ends : Answer → Type 0) (s : State) (m : ℕ) (no_frame : P) (taken : ℕ → P)
+pub takes : {P : Type 0} (on : P → Type 0) (ends : Answer → Type 0) (s : State) (m : ℕ) (refused : Answer → P) (taken : ℕ → P)
     (turn : Turn P) (new : Pool)
-    → m ≡ 0 → TakeRow (pool_of s) m no_frame taken turn new → ((x : ℕ) → s.frame x ≡ state.Free → on (taken x))
+    → m ≡ 0 → TakeRow (pool_of s) m refused taken turn new → ((x : ℕ) → s.frame x ≡ state.Free → on (taken x))
     → TurnWell P on ends turn
-takes on ends s m no_frame taken turn new none row h =
+takes on ends s m refused taken turn new none row h =
     by_test (m == 0) row
     (λ _ r. at_leaf on ends (Moved (taken r.0)) turn r.3.0 (h r.0 r.1))
     (λ some r. absurd (not_zero m none some))
@@ -59,29 +59,25 @@ takes on ends s m no_frame taken turn new none row h =
     not_zero : (m : ℕ) → m ≡ 0 → (m == 0) ≡ false → ⊥
     not_zero m e d = grind (arith, nat_tests)
 
--- a touch that stands there never answers that there is no frame
+-- a touch that stands there never answers that there is no frame, nor that the quota is used up
 abbrev pub Sure : TouchPhase → Type 0
 Sure (touch.Look p) = ⊥
 Sure (touch.Want p) = ⊥
 Sure (touch.Locked p) = ⊥
 Sure (touch.Missing p) = ⊥
 Sure (touch.Changed p) = p.pending.missing ≡ 0
-Sure (touch.Abort p) = p.answer ≢ answer.NoFrame
+Sure (touch.Abort p) = TellsNoLack p.answer
 Sure (touch.Taken p) = Unit {0}
 Sure (touch.Settle p) = Unit {0}
 Sure (touch.Committed p) = Unit {0}
-Sure (touch.Restore p) = p.answer ≢ answer.NoFrame
+Sure (touch.Restore p) = TellsNoLack p.answer
 Sure (touch.Found p) = Unit {0}
-Sure (touch.Leave p) = p.answer ≢ answer.NoFrame
-
--- the answer is any but that there is no frame
-abbrev pub Isnt : Answer → Type 0
-Isnt a = a ≢ answer.NoFrame
+Sure (touch.Leave p) = TellsNoLack p.answer
 
 -- an access that finds its page answers no want of a frame
-pub answers : (a : Access) (w : ℕ) → answer_of a w ≢ answer.NoFrame
-answers Load w = λ e. cc
-answers (Store n) w = λ e. cc
+pub answers : (a : Access) (w : ℕ) → TellsNoLack (answer_of a w)
+answers Load w = (λ e. cc, λ e. cc)
+answers (Store n) w = (λ e. cc, λ e. cc)
 
 -- a commit leads to one of two phases, whatever is missing
 pub sure_commit : {P : Type 0} (on : P → Type 0) (ends : Answer → Type 0) (s : State) (f from to m : ℕ)
@@ -94,28 +90,28 @@ sure_commit on ends s f from to m settle next turn new row a b =
 
 -- a sure touch goes on to be sure, or ends with any answer but the want of a frame
 pub sure_turn : (s : State) (t : ℕ) (killed grant : Bool) (phase : TouchPhase) (turn : Turn TouchPhase) (new : Pool) → Sure phase
-    → TouchRow (pool_of s) t killed grant phase turn new → TurnWell TouchPhase Sure Isnt turn
+    → TouchRow (pool_of s) t killed grant phase turn new → TurnWell TouchPhase Sure TellsNoLack turn
 sure_turn s t killed grant (touch.Look p) turn new h row = absurd h
 sure_turn s t killed grant (touch.Want p) turn new h row = absurd h
 sure_turn s t killed grant (touch.Locked p) turn new h row = absurd h
 sure_turn s t killed grant (touch.Missing p) turn new h row = absurd h
 sure_turn s t killed grant (touch.Changed p) turn new h row =
-    by_test killed row (λ _ r. at_leaf Sure Isnt _ turn r.0 (λ e. cc))
-    (λ _ r. takes Sure Isnt s p.pending.missing _
+    by_test killed row (λ _ r. at_leaf Sure TellsNoLack _ turn r.0 (λ e. cc, λ e. cc))
+    (λ _ r. takes Sure TellsNoLack s p.pending.missing (λ a. touch.Abort (record { touch = p.touch; pending = p.pending; answer = a }))
     (λ x. touch.Taken (record { touch = p.touch; pending = p.pending; held = x })) turn new h r (λ x d. tt))
-sure_turn s t killed grant (touch.Abort p) turn new h row = at_leaf Sure Isnt _ turn row.0 h
+sure_turn s t killed grant (touch.Abort p) turn new h row = at_leaf Sure TellsNoLack _ turn row.0 h
 sure_turn s t killed grant (touch.Taken p) turn new h row =
-    sure_commit Sure Isnt s p.touch.file p.pending.from p.pending.to p.pending.missing _ _ turn new row tt tt
-sure_turn s t killed grant (touch.Settle p) turn new h (low, row) = at_leaf Sure Isnt _ turn row.0 tt
+    sure_commit Sure TellsNoLack s p.touch.file p.pending.from p.pending.to p.pending.missing _ _ turn new row tt tt
+sure_turn s t killed grant (touch.Settle p) turn new h (low, used, row) = at_leaf Sure TellsNoLack _ turn row.0 tt
 sure_turn s t killed grant (touch.Committed p) turn new h row =
-    by_test (nat_le (s.size p.touch.file) p.touch.index) row (λ _ r. at_leaf Sure Isnt _ turn r.0 (λ e. cc))
-    (λ _ r. by_test grant r (λ _ r. at_leaf Sure Isnt _ turn r.0 tt) (λ _ r. at_leaf Sure Isnt _ turn r.0 (λ e. cc)))
-sure_turn s t killed grant (touch.Restore p) turn new h row = at_leaf Sure Isnt _ turn row.0 h
+    by_test (nat_le (s.size p.touch.file) p.touch.index) row (λ _ r. at_leaf Sure TellsNoLack _ turn r.0 (λ e. cc, λ e. cc))
+    (λ _ r. by_test grant r (λ _ r. at_leaf Sure TellsNoLack _ turn r.0 tt) (λ _ r. at_leaf Sure TellsNoLack _ turn r.0 (λ e. cc, λ e. cc)))
+sure_turn s t killed grant (touch.Restore p) turn new h row = at_leaf Sure TellsNoLack _ turn row.0 h
 sure_turn s t killed grant (touch.Found p) turn new h row =
-    by_test (nat_le (s.size p.touch.file) p.touch.index) row (λ _ r. at_leaf Sure Isnt _ turn r.0 (λ e. cc))
-    (λ _ r. by_test grant r (λ _ r. at_leaf Sure Isnt _ turn r.4.0 (answers p.touch.access r.1))
-    (λ _ r. at_leaf Sure Isnt _ turn r.0 (λ e. cc)))
-sure_turn s t killed grant (touch.Leave p) turn new h row = at_leaf Sure Isnt _ turn row.0 h
+    by_test (nat_le (s.size p.touch.file) p.touch.index) row (λ _ r. at_leaf Sure TellsNoLack _ turn r.0 (λ e. cc, λ e. cc))
+    (λ _ r. by_test grant r (λ _ r. at_leaf Sure TellsNoLack _ turn r.4.0 (answers p.touch.access r.1))
+    (λ _ r. at_leaf Sure TellsNoLack _ turn r.0 (λ e. cc, λ e. cc)))
+sure_turn s t killed grant (touch.Leave p) turn new h row = at_leaf Sure TellsNoLack _ turn row.0 h
 
 -- nothing of a reserved index is missing
 pub missing_none : (r : ℕ → Bool) (i : ℕ) → r i ≡ true → missing r i (i + 1) ≡ 0
@@ -124,10 +120,10 @@ missing_none r i e = missing_one r i ∙ ap (λ (b : Bool). bit (not b)) e
 -- a touch whose index is reserved as it begins its change is sure from there on, denied or not
 pub sure_missing : (s : State) (t : ℕ) (killed grant : Bool) (p : Missing) (turn : Turn TouchPhase) (new : Pool)
     → s.reserved p.touch.file p.touch.index ≡ true → TouchRow (pool_of s) t killed grant (touch.Missing p) turn new
-    → TurnWell TouchPhase Sure Isnt turn
+    → TurnWell TouchPhase Sure TellsNoLack turn
 sure_missing s t killed grant p turn new e row = by_test ((s.spare p.touch.file == s.pending p.touch.file) && not grant) row
-    (λ _ r. at_leaf Sure Isnt _ turn r.0 (λ e. cc))
-    (λ _ r. at_leaf Sure Isnt _ turn r.0 (missing_none (s.reserved p.touch.file) p.touch.index e))
+    (λ _ r. at_leaf Sure TellsNoLack _ turn r.0 (λ e. cc, λ e. cc))
+    (λ _ r. at_leaf Sure TellsNoLack _ turn r.0 (missing_none (s.reserved p.touch.file) p.touch.index e))
 
 -- the touch goes on as it was seen, over a call that is in flight or over
 abbrev pub CallWell : (TouchPhase → Type 0) → Option Call → Type 0

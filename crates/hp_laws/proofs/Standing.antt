@@ -184,6 +184,7 @@ Facts g s u (Some (call.Map (map.Settle p))) =
       range : map_range g p.map;
       based : IsBased g s u p.base p.map.len;
       filled : IsFilled s p.map.file p.map.from p.map.len;
+      few : p.excess ≤ p.map.len;
     }
 Facts g s u (Some (call.Map (map.Enter p))) =
     record {
@@ -242,7 +243,11 @@ Facts g s u (Some (call.Truncate (truncate.Tail p))) =
       lost : p.evicted ≤ count_within (s.reserved p.truncation.file) p.truncation.new g.limit;
     }
 Facts g s u (Some (call.Truncate (truncate.Settle p))) =
-    record { file : p.truncation.file < g.files; sized : s.size p.truncation.file ≡ p.truncation.new }
+    record {
+      file : p.truncation.file < g.files;
+      sized : s.size p.truncation.file ≡ p.truncation.new;
+      few : p.excess + p.evicted ≤ g.limit;
+    }
 Facts g s u (Some (call.Truncate (truncate.Leave p))) =
     record { file : p.truncation.file < g.files; sized : s.size p.truncation.file ≡ p.truncation.new }
 Facts g s u (Some (call.Unmap (unmap.Clear p))) = record { base : is_base (s.mappings u) p.base ≡ true }

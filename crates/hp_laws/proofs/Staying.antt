@@ -202,6 +202,7 @@ facts_after g s n u (Some (call.Map (map.Settle p))) k h =
       range = h.facts.range;
       based = based_after p.base p.map.len k h.facts.based;
       filled = λ j w. (k.lock p.map.file h.lock).2 j (h.facts.filled j w);
+      few = h.facts.few;
     }
 facts_after g s n u (Some (call.Map (map.Enter p))) k h =
     record {
@@ -274,7 +275,7 @@ facts_after g s n u (Some (call.Truncate (truncate.Tail p))) k h =
       lost = lost_after p.truncation.file p.evicted p.truncation.new k h.lock h.facts.lost;
     }
 facts_after g s n u (Some (call.Truncate (truncate.Settle p))) k h =
-    record { file = h.facts.file; sized = (k.lock p.truncation.file h.lock).1 ∙ h.facts.sized }
+    record { file = h.facts.file; sized = (k.lock p.truncation.file h.lock).1 ∙ h.facts.sized; few = h.facts.few }
 facts_after g s n u (Some (call.Truncate (truncate.Leave p))) k h =
     record { file = h.facts.file; sized = (k.lock p.truncation.file h.lock).1 ∙ h.facts.sized }
 facts_after g s n u (Some (call.Unmap (unmap.Start p))) k h = tt

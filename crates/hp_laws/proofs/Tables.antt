@@ -15,7 +15,7 @@ use Rattle.hp_laws.specs.Sweep.{fills, ahead, passed}
 use Rattle.hp_laws.proofs.Deciding.{some_same}
 use Rattle.hp_laws.proofs.Standing.{HasSlot, HasLock, ClearedBelow, Stands}
 use Rattle.hp_laws.proofs.Staying.{same_files, same_tables, stands_after}
-use Rattle.hp_laws.proofs.Invariant.{AllWithin, Reached, Inv, goes, place_same, same_opens, seen, to, if_weaker}
+use Rattle.hp_laws.proofs.Invariant.{AllWithin, Reached, Inv, goes, reserved_of, same_used, place_same, same_opens, seen, to, if_weaker}
 use Rattle.hp_laws.proofs.Passing.{same_holder}
 
 -- the mappings lie within their files, where one that does is entered
@@ -77,6 +77,8 @@ enters_table g s t b c v f i x h one l e same there page low held fill own =
       holders = h.holders;
       enough = h.enough;
       count = (let y : less c ≡ less b = ap (λ p. p.0) same in let z : more c ≡ more b = ap (λ p. p.1) same in omega arith);
+      used = same_used s.used (reserved_of g s.reserved) b c (ap (λ p. p.6) same);
+      quota = h.quota;
       place = place_same g s t b c h e (ap (λ p. p.2) same);
       entries = record {
         agree = λ w z y a. elim (put2_tells s.entries t v (Some x) w z) [
@@ -143,6 +145,8 @@ prepares g s t b c h l e same fill own =
       holders = h.holders;
       enough = h.enough;
       count = (let y : less c ≡ less b = ap (λ p. p.0) same in let z : more c ≡ more b = ap (λ p. p.1) same in omega arith);
+      used = same_used s.used (reserved_of g s.reserved) b c (ap (λ p. p.6) same);
+      quota = h.quota;
       place = place_same g s t b c h e (ap (λ p. p.2) same);
       changes = same_opens s.pending b c (ap (λ p. p.3) same);
       others =
@@ -194,6 +198,8 @@ extends g s t b c f new h l e same held grows low nobody fill own =
       holders = h.holders;
       enough = h.enough;
       count = (let y : less c ≡ less b = ap (λ p. p.0) same in let z : more c ≡ more b = ap (λ p. p.1) same in omega arith);
+      used = same_used s.used (reserved_of g s.reserved) b c (ap (λ p. p.6) same);
+      quota = h.quota;
       place = place_same g s t b c h e (ap (λ p. p.2) same);
       sweep = record {
         below =
@@ -270,6 +276,8 @@ enters_area g s t b c a h l e same in_files some in_limit clear held nobody fill
       holders = h.holders;
       enough = h.enough;
       count = (let y : less c ≡ less b = ap (λ p. p.0) same in let z : more c ≡ more b = ap (λ p. p.1) same in omega arith);
+      used = same_used s.used (reserved_of g s.reserved) b c (ap (λ p. p.6) same);
+      quota = h.quota;
       place = place_same g s t b c h e (ap (λ p. p.2) same);
       entries = record { owners = h.entries.owners; agree = λ w v x d. let o = h.entries.agree w v x d in (o.0, kept w v o.0 o.1, o.2) };
       sweep = record {
@@ -333,6 +341,8 @@ pub entries_go : (g : Geometry) (s : State) (table : ℕ → ℕ → Option ℕ)
 entries_go g s table h kept = record {
   layout = h.layout;
   count = h.count;
+  used = h.used;
+  quota = h.quota;
   enough = h.enough;
   place = h.place;
   inside = h.inside;
@@ -461,6 +471,8 @@ drops g s t b c base h l e same clear fill own = goes g s n t b c h l e (ap (λ 
   holders = h.holders;
   enough = h.enough;
   count = (let y : less c ≡ less b = ap (λ p. p.0) same in let z : more c ≡ more b = ap (λ p. p.1) same in omega arith);
+  used = same_used s.used (reserved_of g s.reserved) b c (ap (λ p. p.6) same);
+  quota = h.quota;
   place = place_same g s t b c h e (ap (λ p. p.2) same);
   entries = record { owners = h.entries.owners; agree = λ w v x d. let o = h.entries.agree w v x d in (o.0, same_find w v x d ∙ o.1, o.2) };
   sweep =

@@ -6,6 +6,7 @@ use Rattle.hp_base.specs.Mappings.{find}
 use Rattle.hp_base.specs.declared.answer.Answer.{Answer}
 use Rattle.hp_base.specs.declared.answer.Answer.TheVariants as answer
 use Rattle.hp_base.proofs.Puts.{put_same, put2_same}
+use Rattle.hp_frames.proofs.Quotas.{less_within}
 use Rattle.hp_machine.specs.State.{Pool, State, pool_of, slot_of}
 use Rattle.hp_machine.specs.Parts.{answer_of, frame_after}
 use Rattle.hp_machine.specs.TouchRows.{TouchRow, TouchLookRow, TouchWantRow, TouchLockedRow, TouchMissingRow, TouchChangedRow}
@@ -119,6 +120,7 @@ touch_missing s t grant p turn new h l e row =
       none = refl;
       some = refl;
       balance = refl;
+      owed = refl;
       fill = reach_at s t _ h e;
       own = record { slot = y.slot; lock = tt; facts = record { aim = y.facts.aim; bare = y.facts.bare; one = o.0; marked = o.1 } };
     })
@@ -140,7 +142,10 @@ touch_changed s t killed p turn new h l e row =
     (λ is r. so call.Touch s t _ turn _ new r (aborts answer.Killed))
     (λ alive r. take_row call.Touch s t p.pending.missing (at.Changed p) _
     (λ x. at.Taken (record { touch = p.touch; pending = p.pending; held = x })) turn new h l e r (record {
-      lacks = aborts answer.NoFrame;
+      lacks = aborts;
+      few = y.facts.one.few;
+      unused = refl;
+      uses = λ x. refl;
       same = λ x. refl;
       empty = refl;
       full = λ x. refl;
@@ -176,6 +181,9 @@ touch_taken s t p turn new h l e row =
       next_none = refl;
       next_less = refl;
       next_more = refl;
+      uses = refl;
+      settle_uses = refl;
+      next_uses = refl;
       fill_settle = reach_at s t _ h e;
       fill_next = reach_at s t _ h e;
       own_settle = record { slot = y.slot; lock = tt; facts = record { aim = y.facts.aim; bare = y.facts.bare; marked = marked } };
@@ -201,7 +209,7 @@ touch_committed s t grant p turn new h l e row =
     (λ below r. by_test grant r
     (λ granted r. so call.Touch s t _ turn _ new r
     (places s.geometry s t _ (Some (call.Touch (at.Found (record { touch = p.touch })))) f i p.held h l e
-    y.facts.aim.file y.facts.aim.index refl refl refl refl refl refl y.facts.marked y.facts.bare y.slot
+    y.facts.aim.file y.facts.aim.index refl refl refl refl refl refl refl y.facts.marked y.facts.bare y.slot
     (reached_not_passed s.geometry s f i h (reach_at s t _ h e)) tt
     (record {
       slot = y.slot;
@@ -243,19 +251,20 @@ touch_row s t killed grant (at.Changed p) turn new h one l e row = touch_changed
 touch_row s t killed grant (at.Abort p) turn new h one l e row =
     so call.Touch s t _ turn _ new row
     (closed s.geometry s t _ (Some (call.Touch (at.Leave (record { touch = p.touch; answer = p.answer }))))
-    p.touch.file h l e refl refl refl refl refl refl tt (record { slot = (stands_at s t _ h e).slot; lock = tt; facts = tt }))
+    p.touch.file h l e refl refl refl refl refl refl refl tt (record { slot = (stands_at s t _ h e).slot; lock = tt; facts = tt }))
 touch_row s t killed grant (at.Taken p) turn new h one l e row = touch_taken s t p turn new h l e row
-touch_row s t killed grant (at.Settle p) turn new h one l e (low, row) =
+touch_row s t killed grant (at.Settle p) turn new h one l e (low, used, row) =
     let y = stands_at s t _ h e in
     so call.Touch s t _ turn _ new row
     (rebalances s.geometry s t _ (Some (call.Touch (at.Committed (record { touch = p.touch; held = p.held }))))
-    (s.resv - 1) h l e refl refl refl refl (omega arith) (let z = h.enough in omega arith) (reach_at s t _ h e)
+    (s.resv - 1) (s.used - 1) h l e refl refl refl refl (omega arith) (let z = h.enough in omega arith) (omega arith)
+    (less_within s.geometry.quota s.used (s.used - 1) (omega arith) h.quota) (reach_at s t _ h e)
     (record { slot = y.slot; lock = tt; facts = y.facts }))
 touch_row s t killed grant (at.Committed p) turn new h one l e row = touch_committed s t grant p turn new h l e row
 touch_row s t killed grant (at.Restore p) turn new h one l e row =
     so call.Touch s t _ turn _ new row
     (gives s.geometry s t _ (Some (call.Touch (at.Leave (record { touch = p.touch; answer = p.answer })))) p.held
-    (s.resv + 1) h l e refl refl refl refl refl (omega arith) (omega arith) tt
+    (s.resv + 1) s.used h l e refl refl refl refl refl (omega arith) (omega arith) refl h.quota tt
     (record { slot = (stands_at s t _ h e).slot; lock = tt; facts = tt }))
 touch_row s t killed grant (at.Found p) turn new h one l e row = touch_found s t grant p turn new h one l e row
 touch_row s t killed grant (at.Leave p) turn new h one l e row =

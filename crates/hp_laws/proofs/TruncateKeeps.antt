@@ -8,6 +8,8 @@ use Rattle.hp_base.specs.declared.answer.Answer.TheVariants as answer
 use Rattle.hp_base.proofs.Puts.{put_same, put2_same}
 use Rattle.hp_base.proofs.Sets.{tail_next, tail_wider}
 use Rattle.hp_base.specs.Mappings.{without_index}
+use Rattle.hp_base.proofs.Counting.{count_within-missing}
+use Rattle.hp_frames.proofs.Quotas.{less_within}
 use Rattle.hp_machine.specs.State.{Pool, State, pool_of, slot_of}
 use Rattle.hp_base.specs.Pages.{IsPagesEnd}
 use Rattle.hp_machine.specs.TruncateRows.{TruncateRow, TruncateSizeRow, TruncateLockedRow, TruncateUnmapRow, TruncateEvictRow}
@@ -112,7 +114,7 @@ truncate_size s t p turn new h l e (end, is_end, row) =
     so call.Truncate s t _ turn _ new r
     (cuts s.geometry s t _
     (Some (call.Truncate (at.Want (record { truncation = p.truncation; index = top - 1; evicted = 0 })))) f to top h
-    l e refl refl refl refl y.lock y.facts.new (omega arith) bare
+    l e refl refl refl refl refl y.lock y.facts.new (omega arith) bare
     (λ k j d. never d) (λ j d. inr (up_to f (top - 1) j (omega arith)))
     (λ k j d. let o = is_above f k (top - 1) j d in let z : (top - 1) + 1 ≤ j = o.1 in
     (o.0, omega arith, omega arith)) refl (λ k j d. never d)
@@ -132,7 +134,7 @@ truncate_size s t p turn new h l e (end, is_end, row) =
     (λ none r. let all : top ≤ to = le _ _ none in
     so call.Truncate s t _ turn _ new r
     (cuts s.geometry s t _ (Some (call.Truncate (at.Tail (record { truncation = p.truncation; evicted = 0 })))) f to
-    top h l e refl refl refl refl y.lock y.facts.new (omega arith) bare
+    top h l e refl refl refl refl refl y.lock y.facts.new (omega arith) bare
     (λ k j d. never d) (λ j d. inl (omega arith))
     (λ k j d. let o = is_up_to f k j to d in let z : to ≤ j = o.1 in (o.0, omega arith, z)) refl (λ k j d. never d)
     (record {
@@ -243,7 +245,7 @@ truncate_evict s t p turn new h l e (x, page, row) =
     (evicts s.geometry s t _
     (Some (call.Truncate
     (at.Free (record { truncation = p.truncation; index = p.index; evicted = p.evicted + 1; held = x })))) f p.index
-    x h l e y.facts.aim.file refl refl refl refl refl (omega arith) page y.slot
+    x h l e y.facts.aim.file refl refl refl refl refl (omega arith) refl page y.slot
     (λ w v z a d. let o = h.entries.owners w v z a in c w v z o.0 (let b = o.1 in omega arith) a d) tt
     (record {
       slot = y.slot;
@@ -277,7 +279,7 @@ truncate_unslot s t p turn new h l e row =
     so call.Truncate s t _ turn _ new r
     (passes s.geometry s t _
     (Some (call.Truncate (at.Want (record { truncation = p.truncation; index = i - 1; evicted = p.evicted })))) f i
-    to h l e refl refl refl refl refl refl refl refl y.slot y.facts.bare y.facts.aim.sized
+    to h l e refl refl refl refl refl refl refl refl refl y.slot y.facts.bare y.facts.aim.sized
     (λ k j d. ahead_next f k i j to (i - 1) back d) (λ k j d. passed_next f k i j to (i - 1) back (omega arith) d) (λ k j d. never d)
     (record {
       slot = tt;
@@ -298,7 +300,7 @@ truncate_unslot s t p turn new h l e row =
     so call.Truncate s t _ turn _ new r
     (passes s.geometry s t _
     (Some (call.Truncate (at.Tail (record { truncation = p.truncation; evicted = p.evicted })))) f i to h l e refl
-    refl refl refl refl refl refl refl y.slot y.facts.bare y.facts.aim.sized
+    refl refl refl refl refl refl refl refl y.slot y.facts.bare y.facts.aim.sized
     (λ k j d. ahead_tail f k i j to all d) (λ k j d. passed_tail f k i j to all d) (λ k j d. never d)
     (record {
       slot = tt;
@@ -338,7 +340,7 @@ truncate_row s t killed grant (at.Free p) turn new h one l e row =
     so call.Truncate s t _ turn _ new row
     (gives s.geometry s t _
     (Some (call.Truncate (at.Unslot (record { truncation = p.truncation; index = p.index; evicted = p.evicted }))))
-    p.held s.resv h l e refl refl refl refl refl (omega arith) (omega arith) tt
+    p.held s.resv s.used h l e refl refl refl refl refl (omega arith) (omega arith) refl h.quota tt
     (record { slot = y.slot; lock = y.lock; facts = y.facts }))
 truncate_row s t killed grant (at.Unslot p) turn new h one l e row = truncate_unslot s t p turn new h l e row
 truncate_row s t killed grant (at.Tail p) turn new h one l e row =
@@ -351,17 +353,28 @@ truncate_row s t killed grant (at.Tail p) turn new h one l e row =
     (at.Settle (record {
       truncation = p.truncation;
       excess = count_within (s.reserved f) p.truncation.new s.geometry.limit - p.evicted;
+      evicted = p.evicted;
     })))) f p.truncation.new h l
     e y.facts.file refl refl
-    (λ k j d. is_up_to f k j p.truncation.new d) refl refl refl refl (omega arith) y.lock
+    (λ k j d. is_up_to f k j p.truncation.new d) refl refl refl refl (omega arith) (omega arith) y.lock
     (λ j d. ap (λ c. passed c f j) e ∙ from_on f p.truncation.new j d)
-    (record { slot = tt; lock = y.lock; facts = record { file = y.facts.file; sized = y.facts.sized } }))
-truncate_row s t killed grant (at.Settle p) turn new h one l e (low, row) =
+    (record {
+      slot = tt;
+      lock = y.lock;
+      facts = record {
+        file = y.facts.file;
+        sized = y.facts.sized;
+        few = (let a = count_within-missing (s.reserved f) p.truncation.new s.geometry.limit in omega arith);
+      };
+    }))
+truncate_row s t killed grant (at.Settle p) turn new h one l e (low, used, row) =
     let y = stands_at s t _ h e in
     so call.Truncate s t _ turn _ new row
     (rebalances s.geometry s t _ (Some (call.Truncate (at.Leave (record { truncation = p.truncation }))))
-    (s.resv - p.excess) h l e refl refl refl refl (omega arith) (let z = h.enough in omega arith) tt
-    (record { slot = tt; lock = y.lock; facts = y.facts }))
+    (s.resv - p.excess) (s.used - (p.excess + p.evicted)) h l e refl refl refl refl (omega arith)
+    (let z = h.enough in omega arith) (omega arith)
+    (less_within s.geometry.quota s.used (s.used - (p.excess + p.evicted)) (omega arith) h.quota) tt
+    (record { slot = tt; lock = y.lock; facts = record { file = y.facts.file; sized = y.facts.sized } }))
 truncate_row s t killed grant (at.Leave p) turn new h one l e row =
     so call.Truncate s t _ turn _ new row
-    (leaves_lock s.geometry s t _ p.truncation.file h l e refl refl refl refl refl refl (stands_at s t _ h e).lock (λ k j. refl))
+    (leaves_lock s.geometry s t _ p.truncation.file h l e refl refl refl refl refl refl refl (stands_at s t _ h e).lock (λ k j. refl))

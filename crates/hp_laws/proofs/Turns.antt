@@ -7,11 +7,12 @@ use Rattle.hp_base.specs.Numbers.{put}
 use Rattle.hp_base.specs.Indices.{missing, splits, add_range, cut_tail}
 use Rattle.hp_base.specs.Mappings.{find, is_base, first_base, without}
 use Rattle.hp_base.specs.declared.answer.Answer.{Answer}
+use Rattle.hp_base.specs.declared.answer.Answer.TheVariants as answer
 use Rattle.hp_base.specs.declared.mapping.Mapping.{Mapping}
 use Rattle.hp_base.proofs.Puts.{put_same, put_other, put2_tells, same_or_other}
 use Rattle.hp_base.proofs.Sets.{cut_below}
 use Rattle.hp_region.specs.Change.{Change}
-use Rattle.hp_machine.specs.State.{Pool, State, pool_of, slot_of, frees}
+use Rattle.hp_machine.specs.State.{exceeds_quota, quota_is_used_up, Pool, State, pool_of, slot_of, frees}
 use Rattle.hp_machine.specs.Parts.{StartRow, WantSlotRow, ChangeRow, CommitRow, TakeRow}
 use Rattle.hp_machine.specs.TouchRows.{TouchRow}
 use Rattle.hp_machine.specs.MapRows.{MapRow}
@@ -149,15 +150,18 @@ change_turn call s t top grant f from to here denied changed turn new row nearer
     (λ _ r. plain call s t top here _ turn _ new r refl refl refl refl (nearer_changed _))
 
 -- where a frame is taken
-take_turn : {P : Type 0} (call : P → Call) (s : State) (t top m : ℕ) (here no_frame : P) (taken : ℕ → P) (turn : Turn P) (new : Pool)
-    → TakeRow (pool_of s) m no_frame taken turn new
-    → Nearer call s top here (Moved no_frame) → ((x : ℕ) → Nearer call s top here (Moved (taken x))) → Turned call s t top here turn new
-take_turn call s t top m here no_frame taken turn new row nearer nearer_taken =
+take_turn : {P : Type 0} (call : P → Call) (s : State) (t top m : ℕ) (here : P) (refused : Answer → P) (taken : ℕ → P)
+    (turn : Turn P) (new : Pool)
+    → TakeRow (pool_of s) m refused taken turn new
+    → ((b : Answer) → Nearer call s top here (Moved (refused b))) → ((x : ℕ) → Nearer call s top here (Moved (taken x))) → Turned call s t top here turn new
+take_turn call s t top m here refused taken turn new row nearer nearer_taken =
     by_test (m == 0) row
     (λ _ r. plain call s t top here (Moved (taken r.0)) turn _ new r.3 refl refl refl refl (nearer_taken r.0))
+    (λ _ r. by_test (quota_is_used_up (pool_of s)) r
+    (λ _ r. plain call s t top here _ turn _ new r refl refl refl refl (nearer answer.NoQuota))
     (λ _ r. by_test (frees (pool_of s) == s.resv) r
-    (λ _ r. plain call s t top here _ turn _ new r refl refl refl refl nearer)
-    (λ _ r. plain call s t top here (Moved (taken r.0)) turn _ new r.2 refl refl refl refl (nearer_taken r.0)))
+    (λ _ r. plain call s t top here _ turn _ new r refl refl refl refl (nearer answer.NoFrame))
+    (λ _ r. plain call s t top here (Moved (taken r.0)) turn _ new r.2 refl refl refl refl (nearer_taken r.0))))
 
 -- a leaf that adds to the reserved indices
 adds : {P : Type 0} (call : P → Call) (s : State) (t top f : ℕ) (c : Change) (here : P) (wanted turn : Turn P) (there new : Pool)
@@ -257,14 +261,15 @@ touch_turn s t top killed grant (touch.Missing p) turn new h e row =
     (λ k. touch.Changed (record { touch = p.touch; pending = k })) turn new row (λ m. omega arith) (λ k m. omega arith)
 touch_turn s t top killed grant (touch.Changed p) turn new h e row =
     by_test killed row (λ _ r. plain call.Touch s t top (touch.Changed p) _ turn _ new r refl refl refl refl
-    (λ m. omega arith)) (λ _ r. take_turn call.Touch s t top p.pending.missing (touch.Changed p) _
-    (λ x. touch.Taken (record { touch = p.touch; pending = p.pending; held = x })) turn new r (λ m. omega arith)
+    (λ m. omega arith)) (λ _ r. take_turn call.Touch s t top p.pending.missing (touch.Changed p)
+    (λ a. touch.Abort (record { touch = p.touch; pending = p.pending; answer = a }))
+    (λ x. touch.Taken (record { touch = p.touch; pending = p.pending; held = x })) turn new r (λ b m. omega arith)
     (λ x m. omega arith))
 touch_turn s t top killed grant (touch.Abort p) turn new h e row =
     plain call.Touch s t top (touch.Abort p) _ turn _ new row refl refl refl refl (λ m. omega arith)
 touch_turn s t top killed grant (touch.Taken p) turn new h e row =
     commit_turn call.Touch s t top p.touch.file p.pending (touch.Taken p) _ _ turn new row (λ m. omega arith) (λ m. omega arith)
-touch_turn s t top killed grant (touch.Settle p) turn new h e (low, row) =
+touch_turn s t top killed grant (touch.Settle p) turn new h e (low, used, row) =
     plain call.Touch s t top (touch.Settle p) _ turn _ new row refl refl refl refl (λ m. omega arith)
 touch_turn s t top killed grant (touch.Committed p) turn new h e row =
     by_test (nat_le (s.size p.touch.file) p.touch.index) row
@@ -301,9 +306,11 @@ map_turn s t top killed grant (map.Missing p) turn new h e row =
     (λ k. map.Changed (record { map = p.map; base = p.base; pending = k })) turn new row (λ m. omega arith) (λ k m. omega arith)
 map_turn s t top killed grant (map.Changed p) turn new h e row =
     by_test killed row (λ _ r. plain call.Map s t top (map.Changed p) _ turn _ new r refl refl refl refl
-    (λ m. omega arith)) (λ _ r. by_test (nat_lt (frees (pool_of s) - s.resv) p.pending.missing) r
+    (λ m. omega arith)) (λ _ r. by_test (exceeds_quota (pool_of s) p.pending.missing) r
     (λ _ r. plain call.Map s t top (map.Changed p) _ turn _ new r refl refl refl refl (λ m. omega arith))
-    (λ _ r. plain call.Map s t top (map.Changed p) _ turn _ new r refl refl refl refl (λ m. omega arith)))
+    (λ _ r. by_test (nat_lt (frees (pool_of s) - s.resv) p.pending.missing) r
+    (λ _ r. plain call.Map s t top (map.Changed p) _ turn _ new r refl refl refl refl (λ m. omega arith))
+    (λ _ r. plain call.Map s t top (map.Changed p) _ turn _ new r refl refl refl refl (λ m. omega arith))))
 map_turn s t top killed grant (map.Abort p) turn new h e row =
     plain call.Map s t top (map.Abort p) _ turn _ new row refl refl refl refl (λ m. omega arith)
 map_turn s t top killed grant (map.Accounted p) turn new h e row =
@@ -311,7 +318,7 @@ map_turn s t top killed grant (map.Accounted p) turn new h e row =
     (λ _ r. adds call.Map s t top p.map.file p.pending (map.Accounted p) _ turn _ new r refl refl refl refl
     (λ m. omega arith)) (λ _ r. adds call.Map s t top p.map.file p.pending (map.Accounted p) _ turn _ new r refl refl
     refl refl (λ m. omega arith))
-map_turn s t top killed grant (map.Settle p) turn new h e (low, row) =
+map_turn s t top killed grant (map.Settle p) turn new h e (low, used, row) =
     plain call.Map s t top (map.Settle p) _ turn _ new row refl refl refl refl (λ m. omega arith)
 map_turn s t top killed grant (map.Enter p) turn new h e row =
     sized call.Map s t top p.map.file (max (s.size p.map.file) (p.map.from + p.map.len)) (map.Enter p) _ turn _ new
@@ -372,15 +379,16 @@ alloc_turn s t top killed grant (alloc.Missing p) turn new h e row =
     (λ m. omega arith) (λ k m. omega arith)
 alloc_turn s t top killed grant (alloc.Changed p) turn new h e row =
     by_test killed row (λ _ r. plain call.Alloc s t top (alloc.Changed p) _ turn _ new r refl refl refl refl
-    (λ m. omega arith)) (λ _ r. take_turn call.Alloc s t top p.pending.missing (alloc.Changed p) _
+    (λ m. omega arith)) (λ _ r. take_turn call.Alloc s t top p.pending.missing (alloc.Changed p)
+    (λ a. alloc.Abort (record { allocation = p.allocation; index = p.index; pending = p.pending; answer = a }))
     (λ x. alloc.Taken (record { allocation = p.allocation; index = p.index; pending = p.pending; held = x })) turn new
-    r (λ m. omega arith) (λ x m. omega arith))
+    r (λ b m. omega arith) (λ x m. omega arith))
 alloc_turn s t top killed grant (alloc.Abort p) turn new h e row =
     plain call.Alloc s t top (alloc.Abort p) _ turn _ new row refl refl refl refl (λ m. omega arith)
 alloc_turn s t top killed grant (alloc.Taken p) turn new h e row =
     commit_turn call.Alloc s t top p.allocation.file p.pending (alloc.Taken p) _ _ turn new row (λ m. omega arith)
     (λ m. omega arith)
-alloc_turn s t top killed grant (alloc.Settle p) turn new h e (low, row) =
+alloc_turn s t top killed grant (alloc.Settle p) turn new h e (low, used, row) =
     plain call.Alloc s t top (alloc.Settle p) _ turn _ new row refl refl refl refl (λ m. omega arith)
 alloc_turn s t top killed grant (alloc.Committed p) turn new h e row =
     by_test grant row (λ _ r. plain call.Alloc s t top (alloc.Committed p) _ turn _ new r refl refl refl refl
@@ -431,7 +439,8 @@ punch_turn s t top killed grant (punch.Delete p) turn new h one l e row =
       nearer = λ _. omega arith;
     }))
 punch_turn s t top killed grant (punch.Free p) turn new h one l e row =
-    plain call.Punch s t top (punch.Free p) _ turn _ new row refl refl refl refl (λ m. omega arith)
+    by_test p.denied row (λ _ r. plain call.Punch s t top (punch.Free p) _ turn _ new r refl refl refl refl (λ m. omega arith))
+    (λ _ r. plain call.Punch s t top (punch.Free p) _ turn _ new r.1 refl refl refl refl (λ m. omega arith))
 punch_turn s t top killed grant (punch.Unslot p) turn new h one l e row =
     let y = stands_at s t _ h e in
     by_test (nat_lt (p.index + 1) (p.hole.from + p.hole.len)) row
@@ -509,7 +518,7 @@ truncate_turn s t top killed grant (truncate.Tail p) turn new h one l e row =
         ∙ cut_below (s.reserved p.truncation.file) p.truncation.new i (lt i p.truncation.new z)
         (ap (λ (m : ℕ). s.reserved m i) (sym d) ∙ a))
     by_side k i d a false z = inr (here_on p.truncation.file p.truncation.new k i (sym d) (le i p.truncation.new z))
-truncate_turn s t top killed grant (truncate.Settle p) turn new h one l e (low, row) =
+truncate_turn s t top killed grant (truncate.Settle p) turn new h one l e (low, used, row) =
     plain call.Truncate s t top (truncate.Settle p) _ turn _ new row refl refl refl refl (λ m. omega arith)
 truncate_turn s t top killed grant (truncate.Leave p) turn new h one l e row =
     plain call.Truncate s t top (truncate.Leave p) _ turn _ new row refl refl refl refl (λ m. omega arith)

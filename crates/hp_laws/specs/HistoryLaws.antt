@@ -1,8 +1,8 @@
 -- What the theorems say of the histories that lead to one state: each is the contract of a function of this crate, and of a call of a core.
-use Rattle.std.specs.Prelude.{◌≡◌, ◌≢◌, ◌≤◌, ◌<◌, ℕ, Bool, true, Some, List, ◌∷◌, ◌++◌, length}
+use Rattle.std.specs.Prelude.{◌≡◌, ◌≤◌, ◌<◌, ℕ, Bool, true, Some, List, ◌∷◌, ◌++◌, length}
 use Rattle.hp_base.specs.Mappings.{find}
 use Rattle.hp_base.specs.declared.answer.Answer.{Answer}
-use Rattle.hp_base.specs.declared.answer.Answer.TheVariants.{NoFrame, Word}
+use Rattle.hp_base.specs.declared.answer.Answer.TheVariants.{Word}
 use Rattle.hp_base.specs.declared.event.Op.{Op}
 use Rattle.hp_base.specs.declared.event.Event.TheVariants.{Begin, Step}
 use Rattle.hp_machine.specs.State.{Geometry, State}
@@ -15,7 +15,7 @@ use Rattle.hp_machine.specs.declared.touch.Missing.{Missing}
 use Rattle.hp_machine.specs.declared.touch.TouchPhase.TheVariants as touch
 use Rattle.hp_laws.specs.Bounds.{most_steps, own_steps, calls_begun, SweepsFrom}
 use Rattle.hp_laws.specs.Histories.{Moment, History, in_order}
-use Rattle.hp_laws.specs.Promises.{IsPromised, IsUndisturbed, IsServed}
+use Rattle.hp_laws.specs.Promises.{IsPromised, IsUndisturbed, IsServed, TellsNoLack}
 use Rattle.hp_laws.specs.Words.{LastWord, Read, ReadTheLastWord}
 
 -- the state has a history
@@ -36,14 +36,14 @@ KeepsPromises s =
     (g : Geometry) (frames : ℕ) (moments : List Moment) (f i : ℕ) → History g frames moments s
     → IsPromised f i moments → (s.reserved f i ≡ true) × (i < s.size f)
 
--- a touch whose index is promised where it asks what is missing never answers that there is no frame
+-- a touch whose index is promised where it asks what is missing never answers that there is no frame, nor that the quota is used up
 abbrev pub PromisedNeverLacks : State → Type 0
 PromisedNeverLacks s =
     (g : Geometry) (frames : ℕ) (ends : Moment) (later : List Moment) (asks : Moment) (past : List Moment) (t : ℕ)
     (grant last : Bool) (p : Missing) (answer : Answer)
     → History g frames (ends ∷ (later ++ (asks ∷ past))) s → calls_begun t (in_order later) ≡ 0
     → asks.event ≡ Step t grant → asks.before.calls t ≡ Some (call.Touch (touch.Missing p)) → IsPromised p.touch.file p.touch.index past
-    → ends.event ≡ Step t last → ends.outcome ≡ Ended answer → answer ≢ NoFrame
+    → ends.event ≡ Step t last → ends.outcome ≡ Ended answer → TellsNoLack answer
 
 -- a load or store of a mapped page, whose index is promised from its begin to its end, with no step denied and its task
 -- not killed, answers with the word or done

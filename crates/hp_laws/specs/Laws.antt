@@ -1,9 +1,9 @@
 -- What the theorems say of one state that a run reached: each is the contract of a function of this crate, and of a call of a core.
-use Rattle.std.specs.Prelude.{◌≡◌, ◌≢◌, ◌≤◌, ℕ, Bool, true, false, Some, List}
+use Rattle.std.specs.Prelude.{◌≡◌, ◌≢◌, ◌≤◌, ℕ, Bool, true, false, Some, IfSome, List}
 use Rattle.hp_base.specs.Indices.{count_within}
 use Rattle.hp_frames.specs.declared.frame.FrameState.TheVariants.{Free}
 use Rattle.hp_base.specs.declared.answer.Answer.{Answer}
-use Rattle.hp_base.specs.declared.answer.Answer.TheVariants.{Done, NoFrame}
+use Rattle.hp_base.specs.declared.answer.Answer.TheVariants.{Done}
 use Rattle.hp_base.specs.declared.event.Event.{Event}
 use Rattle.hp_base.specs.declared.event.Event.TheVariants.{Step}
 use Rattle.hp_machine.specs.State.{State, is_dead, is_killed}
@@ -26,10 +26,11 @@ use Rattle.hp_machine.specs.declared.truncate.Evict.{Evict}
 use Rattle.hp_machine.specs.declared.truncate.Tail.{Tail}
 use Rattle.hp_laws.specs.Bounds.{calls_begun, HoldsUp, IsUnblocked}
 use Rattle.hp_laws.specs.Enough.{CanSettle}
+use Rattle.hp_laws.specs.Promises.{TellsNoLack}
 use Rattle.hp_laws.specs.Protocol.{GoesUnderLock, truncation_of, IsCut}
 use Rattle.hp_laws.specs.Sweep.{gone}
 
--- whenever a call is about to lower the reserve count, the count is at least what it takes
+-- whenever a call is about to lower the reserve count or the used count, the count is at least what it takes
 abbrev pub NeverShort : State → Type 0
 NeverShort s = (t : ℕ) → t ≤ s.geometry.tasks → CanSettle s (s.calls t)
 
@@ -66,18 +67,19 @@ AllocTakes s = (t : ℕ) (grant : Bool) (p : alloc_changed.Changed) (outcome : O
     × (after.calls t ≡ Some
     (call.Alloc (alloc.Taken (record { allocation = p.allocation; index = p.index; pending = p.pending; held = x }))))
 
--- a touch whose change found nothing missing never answers that there is no frame, whatever comes between
+-- a touch whose change found nothing missing never answers that there is no frame, nor that the quota is used up, whatever comes between
 abbrev pub TouchNeverLacks : State → Type 0
 TouchNeverLacks s =
     (t : ℕ) (p : touch_changed.Changed) (rest : List (Event × Outcome)) (n : State) (last : Bool) (answer : Answer) (after : State)
     → s.calls t ≡ Some (call.Touch (touch.Changed p)) → p.pending.missing ≡ 0 → Run s rest n → calls_begun t rest ≡ 0
-    → Row n (Step t last) (Ended answer) after → answer ≢ NoFrame
+    → Row n (Step t last) (Ended answer) after → TellsNoLack answer
 
--- an allocation whose change found nothing missing at an index doesn't leave that index for want of a frame, whatever comes between
+-- an allocation whose change found nothing missing at an index doesn't leave that index for want of a frame or of quota, whatever
+-- comes between
 abbrev pub AllocNeverLacks : State → Type 0
 AllocNeverLacks s = (t : ℕ) (p : alloc_changed.Changed) (rest : List (Event × Outcome)) (n : State) (q : Unslot)
     → s.calls t ≡ Some (call.Alloc (alloc.Changed p)) → p.pending.missing ≡ 0 → Run s rest n → calls_begun t rest ≡ 0
-    → n.calls t ≡ Some (call.Alloc (alloc.Unslot q)) → q.index ≡ p.index → q.answer ≢ Some NoFrame
+    → n.calls t ≡ Some (call.Alloc (alloc.Unslot q)) → q.index ≡ p.index → IfSome q.answer TellsNoLack
 
 -- where a truncation ends here with Done, nothing of its file at or above the new size is translated, cached or reserved
 abbrev pub TruncationCuts : State → Type 0

@@ -58,6 +58,10 @@ IsUndisturbed t f i [] past = IsPromised f i past
 IsUndisturbed t f i (m ∷ later) past = IsPromised f i (m ∷ (later ++ past)) × (m.event ≢ Step t false) × (m.event ≢ Kill t)
     × IsUndisturbed t f i later past
 
+-- the answer isn't that there is no frame, nor that the quota is used up
+abbrev pub TellsNoLack : Answer → Type 0
+TellsNoLack a = (a ≢ answer.NoFrame) × (a ≢ answer.NoQuota)
+
 -- a touch did what was asked
 abbrev pub IsServed : Answer → Type 0
 IsServed a = ((word : ℕ) × (a ≡ answer.Word word)) ⊎ (a ≡ answer.Done)

@@ -10,7 +10,7 @@ ghost use Rattle.std.specs.Prelude.{◌≡◌, ◌≢◌, ◌↔◌, ◌≤◌, 
 ghost use Rattle.hp_base.specs.Mappings.{find};
 ghost use Rattle.hp_frames.specs.declared.frame.FrameState.TheVariants.{Free};
 ghost use Rattle.hp_base.specs.declared.answer.Answer.{Answer};
-ghost use Rattle.hp_base.specs.declared.answer.Answer.TheVariants.{Done, NoFrame, Word};
+ghost use Rattle.hp_base.specs.declared.answer.Answer.TheVariants.{Done, Word};
 ghost use Rattle.hp_base.specs.declared.event.Op.{Op};
 ghost use Rattle.hp_base.specs.declared.event.Event.{Event};
 ghost use Rattle.hp_base.specs.declared.event.Event.TheVariants.{Begin, Step};
@@ -52,12 +52,13 @@ ghost use Rattle.hp_laws.specs.Protocol.{GoesUnderLock, PassedIsBare, truncation
 /// translations of one file index name one frame, no frame is free and in use or in two places, no
 /// translation lies beyond the size of an unlocked file, and the reserve count is the number of
 /// reserved indices without a page plus what calls in flight owe, hence exactly that number when
-/// no call owes anything.
+/// no call owes anything. The used count is the number of reserved indices plus what calls in flight
+/// owe to it, and at most the quota.
 pub fn headline()
     ensures { (s : State) → IsReached s → Headline s }
 {}
 
-/// Whenever a call is about to lower the reserve count, the count is at least what it takes.
+/// Whenever a call is about to lower the reserve count or the used count, the count is at least what it takes.
 pub fn never_short()
     ensures { (s : State) → IsReached s → NeverShort s }
 {}
@@ -187,20 +188,20 @@ pub fn an_alloc_that_misses_nothing_takes_a_frame()
     ensures { (s : State) → IsReached s → AllocTakes s }
 {}
 
-/// A touch whose change found nothing missing never answers that there is no frame, whatever comes
-/// between.
+/// A touch whose change found nothing missing never answers that there is no frame, nor that the quota
+/// is used up, whatever comes between.
 pub fn a_touch_that_misses_nothing_never_lacks_a_frame()
     ensures { (s : State) → IsReached s → TouchNeverLacks s }
 {}
 
 /// An allocation whose change found nothing missing at an index doesn't leave that index for want
-/// of a frame, whatever comes between.
+/// of a frame or of quota, whatever comes between.
 pub fn an_alloc_that_misses_nothing_never_lacks_a_frame()
     ensures { (s : State) → IsReached s → AllocNeverLacks s }
 {}
 
 /// A touch whose index is promised where it asks what is missing never answers that there is no
-/// frame.
+/// frame, nor that the quota is used up.
 pub fn a_promised_touch_never_lacks_a_frame()
     ensures { (s : State) → PromisedNeverLacks s }
 {}

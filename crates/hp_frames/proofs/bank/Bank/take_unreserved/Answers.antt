@@ -1,7 +1,8 @@
 use Rattle.std.proofs.Common.{false, ◌≡◌, sym, ap, arith, length}
 use Rattle.std.proofs.Common.{◌∙◌}
 use Rattle.hp_frames.specs.Bank.{BankState, free_frames, exceeds}
-use Rattle.hp_frames.proofs.Frames.{taken, more_within}
+use Rattle.hp_frames.proofs.Frames.{taken}
+use Rattle.hp_frames.proofs.Quotas.{more_within}
 use Rattle.hp_frames.proofs.bank.Bank.take_unreserved.Goals as goal
 
 pub invariant_of-self : goal.invariant_of-self
