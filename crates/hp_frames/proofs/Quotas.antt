@@ -1,5 +1,5 @@
 -- Counts of used pages that stay within the quota.
-use Rattle.std.proofs.Common.{◌≡◌, ℕ, ◌+◌, ◌≤◌, false, Option, Some, None, arith}
+use Rattle.std.proofs.Common.{◌≡◌, ℕ, ◌+◌, ◌≤◌, false, Option, Some, None, refl, arith}
 use Rattle.std.proofs.lemmas.Bool.Decides.{nat_tests}
 use Rattle.hp_frames.specs.Bank.{exceeds, is_used_up, IsWithinQuota}
 
@@ -22,3 +22,8 @@ more_within (Some most) used n few within = grind (arith, nat_tests, few, within
 pub one_within : (quota : Option ℕ) (used : ℕ) → is_used_up quota used ≡ false → IsWithinQuota quota used → IsWithinQuota quota (used + 1)
 one_within None used some within = tt
 one_within (Some most) used some within = grind (arith, nat_tests, some, within)
+
+-- a quota that is used up has no room for one more page
+pub used_up : (quota : Option ℕ) (used : ℕ) → IsWithinQuota quota used → exceeds quota used 1 ≡ is_used_up quota used
+used_up None used within = refl
+used_up (Some most) used within = grind (arith, nat_tests, within)

@@ -1,18 +1,21 @@
 -- An allocation that runs alone means what the table says.
 use Rattle.std.proofs.Common.{◌≡◌, ◌≢◌, ℕ, zero, suc, ◌+◌, ◌-◌, ◌<◌, ◌≤◌, refl, ap, sym, ◌∙◌, subst, arith, inl, inr, ◌⊎◌}
 use Rattle.std.proofs.lemmas.Bool.Decides.{nat_tests}
-use Rattle.std.specs.Prelude.{Bool, true, false, not, ◌&&◌, ◌==◌, nat_le, nat_lt, Option, Some, None, is_some, max, cond, if◌then◌else◌}
+use Rattle.std.specs.Prelude.{Bool, true, false, not, ◌&&◌, ◌==◌, nat_le, nat_lt, Option, Some, None, is_some, max, min, cond, if◌then◌else◌}
 use Rattle.hp_base.specs.Numbers.{put, is_none, bit}
 use Rattle.hp_base.specs.Indices.{is_within, count_within, missing, add_range, touches}
 use Rattle.hp_base.specs.declared.answer.Answer.{Answer}
-use Rattle.hp_base.specs.declared.answer.Answer.TheVariants.{Done, NoFrame, Interrupted}
+use Rattle.hp_base.specs.declared.answer.Answer.TheVariants.{Done, NoFrame, NoQuota, Interrupted}
 use Rattle.hp_base.proofs.Puts.{put_same, put_self}
 use Rattle.hp_base.proofs.Sets.{missing_one}
+use Rattle.hp_frames.specs.Bank.{is_used_up, IsWithinQuota}
+use Rattle.hp_frames.proofs.Quotas.{one_within}
 use Rattle.hp_frames.specs.declared.frame.FrameState.{FrameState}
 use Rattle.hp_frames.specs.declared.frame.FrameState.TheVariants.{Free, Hand, Placed}
 use Rattle.hp_region.specs.Change.{Change}
 use Rattle.hp_machine.specs.State.{Pool, State, pool_of, slot_of, free_frames}
 use Rattle.hp_machine.specs.Headline as headline
+use Rattle.hp_machine.specs.Headline.{reserved_in}
 use Rattle.hp_machine.specs.AllocRows.{AllocRow}
 use Rattle.hp_machine.specs.declared.alloc.Allocation.{Allocation}
 use Rattle.hp_machine.specs.declared.alloc.AllocPhase.{AllocPhase}
@@ -21,9 +24,9 @@ use Rattle.hp_machine.specs.declared.call.Call.TheVariants as call
 use Rattle.hp_machine.specs.declared.call.Turn.{Turn}
 use Rattle.hp_laws.proofs.Invariant.{Inv}
 use Rattle.hp_laws.proofs.Shared.{by_test}
-use Rattle.hp_meaning.specs.Meaning.{IsReady, Looks, Checked, is_bad_range, available, Filled, AllocMeans}
+use Rattle.hp_meaning.specs.Meaning.{IsReady, Looks, Checked, is_bad_range, available, can_page, short_answer, Filled, AllocMeans}
 use Rattle.hp_meaning.proofs.Alone.{if_true, if_false, if_none, Leads, next, moves, goes_on, ends_so, from_pool, put_put, Comes}
-use Rattle.hp_meaning.proofs.Idle.{so_true, so_false, finish, idle_again, free_slot, free_lock, put_back, pending_back}
+use Rattle.hp_meaning.proofs.Idle.{so_true, so_false, finish, idle_again, settled_used, free_slot, free_lock, put_back, pending_back}
 use Rattle.hp_meaning.proofs.Idle.{not_below_itself, and_false, checked}
 use Rattle.hp_meaning.proofs.Filling.{count_next, missing_next, count_empty, missing_empty, missing_longer, bare_parts}
 use Rattle.hp_meaning.proofs.Filling.{range_more, range_same, range_empty, range_past, range_gains, none_filled, fills_same}
@@ -37,6 +40,10 @@ AllocSteps t s p turn new = AllocRow s t false true p turn new
 abbrev promised : State → (file from to : ℕ) → ℕ
 promised s f from to = count_within (λ j. s.reserved f j && is_none (s.pages f j)) from to
 
+-- the used count there
+abbrev used_at : State → (file from i : ℕ) → ℕ
+used_at s f from i = s.used + missing (s.reserved f) from i
+
 -- the pool where [from, i) is paged, under the file's lock
 abbrev paged : State → (task file from i : ℕ) → (pages : ℕ → Option ℕ) → (frame : ℕ → FrameState)
     → (resv : ℕ) → (spare : ℕ → ℕ) → Pool
@@ -44,6 +51,7 @@ paged s t f from i pages frame resv spare = record (pool_of s) {
   locks = put s.locks f (Some t);
   frame = frame;
   resv = resv;
+  used = used_at s f from i;
   spare = spare;
   pages = put s.pages f pages;
   reserved = put s.reserved f (add_range (s.reserved f) from i);
@@ -56,12 +64,14 @@ record Ready (s : State) (f : ℕ) : Type 0 where
   bare : (i : ℕ) → s.reserved f i ≡ false → s.pages f i ≡ None
   enough : s.resv ≤ free_frames s.frame s.frames
   real : (x : ℕ) → s.frame x ≡ Free → x < s.frames
+  settled : s.used ≡ reserved_in s
 
--- how far it has come: [from, i) is paged, and no more of it was missing than was available
+-- how far it has come: [from, i) is paged, and no more of it was missing than was available and the quota allows
 record Upto (s : State) (f from i : ℕ) (pages : ℕ → Option ℕ) (frame : ℕ → FrameState) (resv : ℕ) : Type 0 where
   filled : Filled s.frames (s.pages f) s.frame from i pages frame
   count : resv + promised s f from i ≡ s.resv
   within : missing (s.reserved f) from i ≤ available s
+  quota : IsWithinQuota s.geometry.quota (used_at s f from i)
 
 -- an index is done with
 record OneMore (s : State) (t : ℕ) (a : Allocation) (i : ℕ) (b : Answer) (end : Pool) : Type 0 where
@@ -76,17 +86,64 @@ record OneMore (s : State) (t : ℕ) (a : Allocation) (i : ℕ) (b : Answer) (en
             (slot_of s.geometry a.file i) (Some t);
       }) (at.Unslot (record { allocation = a; index = i; answer = None }))
 
--- or it lacks a frame
+-- or it lacks a frame, or the quota has nothing left
 record Short (s : State) (t : ℕ) (a : Allocation) (i : ℕ) (pages : ℕ → Option ℕ) (frame : ℕ → FrameState) (resv : ℕ)
     (b : Answer) (end : Pool) : Type 0 where
   spare : ℕ → ℕ
   lacks : s.reserved a.file i ≡ false
-  all : missing (s.reserved a.file) a.from i ≡ available s
+  all : missing (s.reserved a.file) a.from i ≡ can_page s
   leads : Leads (AllocSteps t) b end
       (record (paged s t a.file a.from i pages frame resv spare) {
         slots = put s.slots (slot_of s.geometry a.file i)
             (Some t);
-      }) (at.Unslot (record { allocation = a; index = i; answer = Some NoFrame }))
+      }) (at.Unslot (record { allocation = a; index = i; answer = Some (short_answer s) }))
+
+-- before the first index nothing more is used
+used_first : (s : State) (f from : ℕ) → s.used ≡ used_at s f from from
+used_first s f from = let z = missing_empty (s.reserved f) from in omega arith
+
+-- where the quota has nothing left, no more was missing than can be given a page
+quota_stops : (s : State) (m : ℕ) → s.used ≡ reserved_in s → m ≤ available s → is_used_up s.geometry.quota (s.used + m) ≡ true
+    → (NoQuota ≡ short_answer s) × (m ≡ can_page s)
+quota_stops s m settled within up = by_quota s.geometry.quota up
+  where
+    by_quota : (quota : Option ℕ) → is_used_up quota (s.used + m) ≡ true
+        → (NoQuota ≡ elim quota [
+          | None ↦ NoFrame
+          | Some most ↦ if nat_le (most - reserved_in s) (available s) then NoQuota else NoFrame
+        ]) × (m ≡ elim quota [ None ↦ available s | Some most ↦ min (available s) (most - reserved_in s) ])
+    by_quota None e = let z : false ≡ true = e in absurd (cc)
+    by_quota (Some most) e =
+        let all : s.used + m ≡ most = grind (arith, nat_tests) in
+        let short : nat_le (most - reserved_in s) (available s) ≡ true = grind (arith, nat_tests) in
+        (sym (ap (λ (c : Bool). if c then NoQuota else NoFrame) short), omega arith)
+
+-- where no frame is available, and the quota has something left, no more was missing than can be given a page
+frames_stop : (s : State) (m : ℕ) → s.used ≡ reserved_in s → IsWithinQuota s.geometry.quota (s.used + m)
+    → is_used_up s.geometry.quota (s.used + m) ≡ false → m ≡ available s
+    → (NoFrame ≡ short_answer s) × (m ≡ can_page s)
+frames_stop s m settled within fits all = by_quota s.geometry.quota within fits
+  where
+    by_quota : (quota : Option ℕ) → IsWithinQuota quota (s.used + m) → is_used_up quota (s.used + m) ≡ false
+        → (NoFrame ≡ elim quota [
+          | None ↦ NoFrame
+          | Some most ↦ if nat_le (most - reserved_in s) (available s) then NoQuota else NoFrame
+        ]) × (m ≡ elim quota [ None ↦ available s | Some most ↦ min (available s) (most - reserved_in s) ])
+    by_quota None w e = (refl, all)
+    by_quota (Some most) w e =
+        let more : s.used + m < most = grind (arith, nat_tests) in
+        let long : nat_le (most - reserved_in s) (available s) ≡ false = grind (arith, nat_tests) in
+        (sym (ap (λ (c : Bool). if c then NoQuota else NoFrame) long), omega arith)
+
+-- what was available and within the quota can be given a page
+fits_all : (s : State) (m : ℕ) → s.used ≡ reserved_in s → m ≤ available s → IsWithinQuota s.geometry.quota (s.used + m)
+    → nat_le m (can_page s) ≡ true
+fits_all s m settled within quota = by_quota s.geometry.quota quota
+  where
+    by_quota : (quota : Option ℕ) → IsWithinQuota quota (s.used + m)
+        → nat_le m (elim quota [ None ↦ available s | Some most ↦ min (available s) (most - reserved_in s) ]) ≡ true
+    by_quota None w = grind (arith, nat_tests)
+    by_quota (Some most) w = grind (arith, nat_tests)
 
 -- an index with a page
 cached_index : (s : State) (t : ℕ) (a : Allocation) (i x : ℕ) (pages : ℕ → Option ℕ) (frame : ℕ → FrameState)
@@ -106,6 +163,7 @@ cached_index s t a i x pages frame resv spare b end h low u e k =
     let same = range_same (s.reserved f) a.from i low reserved in
     let missed : missing (s.reserved f) a.from (i + 1) ≡ missing (s.reserved f) a.from i + 0 =
     missing_next (s.reserved f) a.from i low ∙ ap (λ (c : Bool). missing (s.reserved f) a.from i + cond (not c) 1 0) reserved in
+    let used : used_at s f a.from i ≡ used_at s f a.from (i + 1) = omega arith in
     let waits : (s.reserved f i && is_none (s.pages f i)) ≡ false =
     ap (λ (o : Option ℕ). s.reserved f i && is_none o) e ∙ and_false (s.reserved f i) in
     let counted : promised s f a.from (i + 1) ≡ promised s f a.from i + 0 =
@@ -121,12 +179,14 @@ cached_index s t a i x pages frame resv spare b end h low u e k =
             filled = fills_same s.frames (s.pages f) s.frame a.from i x pages frame low e u.filled;
             count = (let z = u.count in omega arith);
             within = (let z = u.within in omega arith);
+            quota = subst (IsWithinQuota s.geometry.quota) used u.quota;
           };
       leads =
           from_pool (λ j. record (paged s t f a.from i pages frame resv spare) {
             slots = put s.slots
                 (slot_of s.geometry f i) (Some t);
             reserved = put s.reserved f (same j);
+            used = used j;
           }) k1;
     }
   where
@@ -162,11 +222,12 @@ taken_index : (s : State) (t : ℕ) (a : Allocation) (i x : ℕ) (pages : ℕ �
     (resv resv' : ℕ) (spare : ℕ → ℕ) (b : Answer) (end : Pool)
     → Ready s a.file → a.from ≤ i → Upto s a.file a.from i pages frame resv
     → s.pages a.file i ≡ None → frame x ≡ Free → resv' + promised s a.file a.from (i + 1) ≡ s.resv
-    → missing (s.reserved a.file) a.from (i + 1) ≤ available s
-    → Leads (AllocSteps t) b end (changing s t a i pages (put frame x Hand) resv' spare)
+    → missing (s.reserved a.file) a.from (i + 1) ≤ available s → IsWithinQuota s.geometry.quota (used_at s a.file a.from (i + 1))
+    → Leads (AllocSteps t) b end
+    (record (changing s t a i pages (put frame x Hand) resv' spare) { used = used_at s a.file a.from (i + 1) })
     (at.Taken (record { allocation = a; index = i; pending = change_of s a i; held = x }))
     → OneMore s t a i b end
-taken_index s t a i x pages frame resv resv' spare b end h low u bare free count within k =
+taken_index s t a i x pages frame resv resv' spare b end h low u bare free count within quota k =
     let f = a.file in
     let k1 = goes_on k (λ turn m r. if_false _ _ (not_below_itself (missing (reserved_at s a.file a.from i) i (i + 1))) r) in
     let k2 = goes_on k1 (λ turn m r. r) in
@@ -190,12 +251,14 @@ taken_index s t a i x pages frame resv resv' spare b end h low u bare free count
                 u.filled;
             count = count;
             within = within;
+            quota = quota;
           };
       leads = from_pool (λ j. record (pool_of s) {
         locks = put s.locks f (Some t);
         slots = put s.slots (slot_of s.geometry f i) (Some t);
         frame = put (put frame x Hand) x (Placed 0);
         resv = resv';
+        used = used_at s f a.from (i + 1);
         pending = pending j;
         spare = spare';
         pages = paged' j;
@@ -256,8 +319,11 @@ bare_index s t a i pages frame resv spare b end h low u bare k = by_reserved (s.
         let r = if_true _ _ (is_zero (missing (reserved_at s a.file a.from i) i (i + 1)) 0 (one ∙ ap (λ (c : Bool). bit (not c)) e)) z.2 in
         let m : missing (s.reserved a.file) a.from (i + 1) ≡ missing (s.reserved a.file) a.from i + 0 = missed true e in
         let p : promised s a.file a.from (i + 1) ≡ promised s a.file a.from i + 1 = counted true e in
+        let used : used_at s a.file a.from i ≡ used_at s a.file a.from (i + 1) = omega arith in
         inl (taken_index s t a i r.0 pages frame resv (resv - 1) spare b end h low u bare r.1
-        (let y = u.count in let l = r.2 in omega arith) (let y = u.within in omega arith) (moves z.3 r.3))
+        (let y = u.count in let l = r.2 in omega arith) (let y = u.within in omega arith)
+        (subst (IsWithinQuota s.geometry.quota) used u.quota)
+        (from_pool (λ j. record (changing s t a i pages (put frame r.0 Hand) (resv - 1) spare) { used = used j }) (moves z.3 r.3)))
     by_reserved false e =
         let z = next k2 in
         let r = if_false _ _ (is_zero (missing (reserved_at s a.file a.from i) i (i + 1)) 1 (one ∙ ap (λ (c : Bool). bit (not c)) e)) z.2 in
@@ -268,26 +334,45 @@ bare_index s t a i pages frame resv spare b end h low u bare k = by_reserved (s.
         let c = u.count in
         let w = u.within in
         let l = h.enough in
-        by_test (free_frames frame s.frames == resv) r
-        (λ all r.
-        let same : free_frames frame s.frames ≡ resv = grind (arith, nat_tests) in
         let pending = pending_back s.pending a.file in
-        inr (record {
+        let stop : (answer : Answer) → answer ≡ short_answer s → missing (s.reserved a.file) a.from i ≡ can_page s
+        → Leads (AllocSteps t) b end (changing s t a i pages frame resv spare)
+        (at.Abort (record { allocation = a; index = i; pending = change_of s a i; answer = answer }))
+        → Short s t a i pages frame resv b end
+        =
+        λ answer told all k. record {
           spare = spared s a.file spare;
           lacks = e;
-          all = omega arith;
+          all = all;
           leads =
-              from_pool (λ j. record (paged s t a.file a.from i pages frame resv
+              subst (λ (c : Answer). Leads (AllocSteps t) b end
+              (record (paged s t a.file a.from i pages frame resv (spared s a.file spare)) {
+                slots = put s.slots (slot_of s.geometry a.file i) (Some t);
+              }) (at.Unslot (record { allocation = a; index = i; answer = Some c }))) told
+              (from_pool (λ j. record (paged s t a.file a.from i pages frame resv
               (spared s a.file spare)) {
                 slots = put s.slots (slot_of s.geometry a.file i) (Some t);
                 pending = pending j;
-              }) (goes_on (moves z.3 r) (λ turn m r. r));
-        }))
+              }) (goes_on k (λ turn m r. r)));
+        } in
+        by_test (is_used_up s.geometry.quota (used_at s a.file a.from i)) r
+        (λ up r.
+        let y = quota_stops s (missing (s.reserved a.file) a.from i) h.settled u.within up in
+        inr (stop NoQuota y.0 y.1 (moves z.3 r)))
+        (λ fits r.
+        by_test (free_frames frame s.frames == resv) r
+        (λ all r.
+        let same : free_frames frame s.frames ≡ resv = grind (arith, nat_tests) in
+        let y = frames_stop s (missing (s.reserved a.file) a.from i) h.settled u.quota fits (omega arith) in
+        inr (stop NoFrame y.0 y.1 (moves z.3 r)))
         (λ some r.
         let other : free_frames frame s.frames ≢ resv =
         λ d. (let y : (free_frames frame s.frames == resv) ≡ true = grind (arith, nat_tests) in
         let x : true ≡ false = sym y ∙ some in absurd (cc)) in
-        inl (taken_index s t a i r.0 pages frame resv resv spare b end h low u bare r.1 (omega arith) (omega arith) (moves z.3 r.2)))
+        let used : used_at s a.file a.from i + 1 ≡ used_at s a.file a.from (i + 1) = omega arith in
+        inl (taken_index s t a i r.0 pages frame resv resv spare b end h low u bare r.1 (omega arith) (omega arith)
+        (subst (IsWithinQuota s.geometry.quota) used (one_within s.geometry.quota (used_at s a.file a.from i) fits u.quota))
+        (from_pool (λ j. record (changing s t a i pages (put frame r.0 Hand) resv spare) { used = used j }) (moves z.3 r.2)))))
 
 -- one index from its head on
 one_index : (s : State) (t : ℕ) (a : Allocation) (i : ℕ) (pages : ℕ → Option ℕ) (frame : ℕ → FrameState) (resv : ℕ)
@@ -326,13 +411,13 @@ record All (s : State) (t : ℕ) (a : Allocation) (b : Answer) (end : Pool) : Ty
   done : b ≡ Done
   to : PagedTo s t a.file a.from (a.from + a.len) (size_after s a) end
 
--- or up to an index that lacks a frame
+-- or up to an index that lacks a frame or quota
 record Stopped (s : State) (t : ℕ) (a : Allocation) (b : Answer) (end : Pool) : Type 0 where
   x : ℕ
   there : (a.from ≤ x) × (x < a.from + a.len)
   lacks : s.reserved a.file x ≡ false
-  all : missing (s.reserved a.file) a.from x ≡ available s
-  none : b ≡ NoFrame
+  all : missing (s.reserved a.file) a.from x ≡ can_page s
+  none : b ≡ short_answer s
   to : PagedTo s t a.file a.from x s.size end
 
 -- an index that lacks a frame ends the allocation there, with what it placed so far
@@ -446,16 +531,27 @@ alloc_means s t f from len keep b n h ready (end, last, k, is) =
     (λ _ good k.
     let pages = put_self s.pages f in
     let reserved = ap (put s.reserved f) (range_empty (s.reserved f) from) ∙ put_self s.reserved f in
-    let k1 = from_pool (λ j. record (pool_of s) { locks = put s.locks f (Some t); pages = sym pages j; reserved = sym reserved j }) k in
+    let used = used_first s f from in
+    let k1 = from_pool (λ j. record (pool_of s) {
+      locks = put s.locks f (Some t);
+      pages = sym pages j;
+      reserved = sym reserved j;
+      used = used j;
+    }) k in
     let p = predecessor len good in
     let counted = count_empty (λ j. s.reserved f j && is_none (s.pages f j)) from in
     let missed = missing_empty (s.reserved f) from in
     let u : Upto s f from from (s.pages f) s.frame s.resv =
-    record { filled = none_filled s.frames (s.pages f) s.frame from; count = omega arith; within = omega arith } in
+    record {
+      filled = none_filled s.frames (s.pages f) s.frame from;
+      count = omega arith;
+      within = omega arith;
+      quota = subst (IsWithinQuota s.geometry.quota) (used_first s f from) h.quota;
+    } in
     elim (indices s t a p.0 from (s.pages f) s.frame s.resv s.spare b end there (omega arith) (let e = p.1 in omega arith) u k1) [
       | inl z ↦ (
           let within = z.to.upto.within in
-          let enough : nat_le (missing (s.reserved f) from (from + len)) (available s) ≡ true = grind (arith, nat_tests) in
+          let enough = fits_all s (missing (s.reserved f) from (from + len)) there.settled within z.to.upto.quota in
           let r = range_paged s t f from (from + len) (size_after s a) end z.to in
           let gains = range_gains (s.reserved f) (s.pages f) from (from + len) (h.inside.bare f) in
           let resv = r.1 in
@@ -467,6 +563,7 @@ alloc_means s t f from len keep b n h ready (end, last, k, is) =
               pages = put s.pages f z.to.pages;
               reserved = put s.reserved f (gains j);
               resv = resv j;
+              used = used_at s f from (from + len);
               size = size_after s a;
               spare = z.to.spare;
             };
@@ -480,7 +577,7 @@ alloc_means s t f from len keep b n h ready (end, last, k, is) =
           ∙ ap (λ (c : Bool). missing (s.reserved f) from z.x + cond (not c) 1 0) z.lacks in
           let longer = missing_longer (s.reserved f) from (z.x + 1) (from + len) (omega arith) in
           let all = z.all in
-          let short : nat_le (missing (s.reserved f) from (from + len)) (available s) ≡ false = grind (arith, nat_tests) in
+          let short : nat_le (missing (s.reserved f) from (from + len)) (can_page s) ≡ false = grind (arith, nat_tests) in
           let r = range_paged s t f from z.x s.size end z.to in
           let gains = range_gains (s.reserved f) (s.pages f) from z.x (h.inside.bare f) in
           let resv = r.1 in
@@ -492,6 +589,7 @@ alloc_means s t f from len keep b n h ready (end, last, k, is) =
               pages = put s.pages f z.to.pages;
               reserved = put s.reserved f (gains j);
               resv = resv j;
+              used = used_at s f from z.x;
               spare = z.to.spare;
             };
             calls = calls j;
@@ -512,6 +610,7 @@ alloc_means s t f from len keep b n h ready (end, last, k, is) =
           bare = h.inside.bare f;
           enough = h.enough;
           real = λ x e. h.place.one.real x headline.Free e;
+          settled = settled_used s h ready.0;
         }
 
     predecessor : (l : ℕ) → is_bad_range s from l ≡ false → (d : ℕ) × (l ≡ d + 1)

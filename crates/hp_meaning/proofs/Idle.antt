@@ -8,15 +8,17 @@ use Rattle.hp_base.specs.Indices.{add_range}
 use Rattle.hp_base.specs.Mappings.{find}
 use Rattle.hp_base.specs.declared.answer.Answer.{Answer}
 use Rattle.hp_base.proofs.Puts.{put_same, put_self, put_tells}
+use Rattle.hp_base.proofs.Totals.{total_same, total_none}
 use Rattle.hp_machine.specs.State.{Pool, State, pool_of}
 use Rattle.hp_machine.specs.Parts.{StartRow}
 use Rattle.hp_machine.specs.Events.{lives_after}
-use Rattle.hp_machine.specs.Views.{slot_held, locked_file}
+use Rattle.hp_machine.specs.Headline.{reserved_in}
+use Rattle.hp_machine.specs.Views.{used_owed, slot_held, locked_file}
 use Rattle.hp_machine.specs.declared.call.Call.{Call}
 use Rattle.hp_machine.specs.declared.call.Turn.{Turn}
 use Rattle.hp_laws.specs.Sweep.{ahead}
-use Rattle.hp_laws.proofs.Invariant.{Inv, put_known}
-use Rattle.hp_meaning.specs.Meaning.{Looks, Checked}
+use Rattle.hp_laws.proofs.Invariant.{Inv, sum_of, put_known}
+use Rattle.hp_meaning.specs.Meaning.{Looks, UsesAlike, Checked}
 use Rattle.hp_meaning.proofs.Alone.{if_true, if_false, if_none, Leads, goes_on, ends_so, over, put_put}
 
 -- the side of the table that a test takes
@@ -48,6 +50,22 @@ finish call s t last {n = n} M m e is h l = (
 -- to end the call of a task that has none changes nothing
 pub idle_again : (s : State) (t : ℕ) → s.calls t ≡ None → put s.calls t None ≡ s.calls
 idle_again s t e = put_known s.calls t None e
+
+-- where no call is in flight, the reserved indices are the used ones
+pub settled_used : (s : State) → Inv s.geometry s → ((u : ℕ) → s.calls u ≡ None) → s.used ≡ reserved_in s
+settled_used s h idle =
+    let none : sum_of s.geometry used_owed s.calls ≡ 0 =
+    total_same (s.geometry.tasks + 1) (λ _. 0) _ (λ u l. ap used_owed (idle u)) ∙ total_none (s.geometry.tasks + 1) in
+    let used = h.used in
+    omega arith
+
+-- so from one such state to another they change alike
+pub uses_alike : (s n : State) → Inv s.geometry s → Inv n.geometry n → ((u : ℕ) → s.calls u ≡ None) → ((u : ℕ) → n.calls u ≡ None)
+    → UsesAlike s n
+uses_alike s n h k idle over =
+    let a = settled_used s h idle in
+    let b = settled_used n k over in
+    omega arith
 
 -- no slot and no lock is held where no call is in flight
 pub free_slot : (s : State) → Inv s.geometry s → ((u : ℕ) → s.calls u ≡ None) → (k : ℕ) → s.slots k ≡ None

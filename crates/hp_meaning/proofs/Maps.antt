@@ -5,7 +5,7 @@ use Rattle.std.specs.Prelude.{Bool, true, false, nat_lt, Option, Some, None, Lis
 use Rattle.hp_base.specs.Indices.{missing}
 use Rattle.hp_base.specs.Mappings.{IsRoom, is_base, first_base, without}
 use Rattle.hp_base.specs.declared.mapping.Mapping.{Mapping}
-use Rattle.hp_machine.specs.State.{Pool, frees}
+use Rattle.hp_machine.specs.State.{Pool, exceeds_quota, frees}
 use Rattle.hp_machine.specs.Parts.{is_bad_range}
 use Rattle.hp_machine.specs.MapRows.{MapRow}
 use Rattle.hp_machine.specs.UnmapRows.{UnmapRow}
@@ -52,14 +52,16 @@ map_row t killed grant (map.Missing p) h a b =
 map_row {s = s} {r = r} t killed grant (map.Changed p) h a b =
     by_tests killed a b
     (λ _ a b. plain a b refl)
+    (λ _ a b. by_tests (exceeds_quota s p.pending.missing) a b
+    (λ _ a b. plain a b refl)
     (λ _ a b. by_like_tests (nat_lt (frees s - s.resv) p.pending.missing) _
     (ap (λ (n : ℕ). nat_lt (n - s.resv) p.pending.missing) (frees_renamed s r h.count)) a b
-    (λ _ a b. plain a b refl) (λ _ a b. plain a b refl))
+    (λ _ a b. plain a b refl) (λ _ a b. plain a b refl)))
 map_row t killed grant (map.Abort p) h a b = plain a b refl
 map_row {s = s} t killed grant (map.Accounted p) h a b =
     by_tests (nat_lt (missing (s.reserved p.map.file) p.pending.from p.pending.to) p.pending.missing) a b
     (λ _ a b. plain a b refl) (λ _ a b. plain a b refl)
-map_row t killed grant (map.Settle p) h a b = plain a.1 b.1 refl
+map_row t killed grant (map.Settle p) h a b = plain a.2 b.2 refl
 map_row t killed grant (map.Enter p) h a b = plain a b refl
 map_row t killed grant (map.Leave p) h a b = plain a b refl
 

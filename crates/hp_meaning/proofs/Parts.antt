@@ -1,5 +1,5 @@
 -- The parts of rows that operations share, taken by a pool and by that pool with its frames renamed.
-use Rattle.std.proofs.Common.{◌≡◌, ◌≢◌, ℕ, ◌-◌, ◌<◌, refl, ap, sym, ◌∙◌, subst}
+use Rattle.std.proofs.Common.{◌≡◌, ◌≢◌, ℕ, ◌+◌, ◌-◌, ◌<◌, refl, ap, sym, ◌∙◌, subst}
 use Rattle.std.proofs.Math.Path.{fun_ext}
 use Rattle.std.specs.Prelude.{Bool, true, false, not, ◌&&◌, ◌==◌, nat_le, nat_lt, Option, Some, None, MatchBool, MatchOption}
 use Rattle.std.specs.Prelude.{List, if◌then◌else◌}
@@ -12,7 +12,7 @@ use Rattle.hp_base.specs.declared.mapping.Mapping.{Mapping}
 use Rattle.hp_frames.specs.declared.frame.FrameState.{FrameState}
 use Rattle.hp_frames.specs.declared.frame.FrameState.TheVariants.{Free, Hand, Placed}
 use Rattle.hp_region.specs.Change.{Change}
-use Rattle.hp_machine.specs.State.{Pool, is_free, free_frames, frees, slot_of}
+use Rattle.hp_machine.specs.State.{Pool, is_free, free_frames, frees, quota_is_used_up, slot_of}
 use Rattle.hp_machine.specs.Parts.{Gives, Goes, StartRow, WantSlotRow, ChangeRow, CommitRow, TakeRow, SettleOneRow, placed}
 use Rattle.hp_machine.specs.Parts.{UnmapIndexRow, EvictRow, cleared}
 use Rattle.hp_machine.specs.declared.call.Turn.{Turn}
@@ -154,7 +154,7 @@ pub settle_row : {P : Type 0} {rename : (ℕ → ℕ) → P → P} {frames : ℕ
     {turn other : Turn P} {new there : Pool} (next : P)
     → SettleOneRow s next turn new → SettleOneRow (pool_renamed r s) (rename r.to next) other there
     → Follows P rename frames s r turn new other there
-settle_row next a b = plain a.1 b.1 refl
+settle_row next a b = plain a.2 b.2 refl
 
 -- as many frames are free
 pub frees_renamed : {frames : ℕ} (s : Pool) (r : Renaming frames) → s.frames ≡ frames → frees (pool_renamed r s) ≡ frees s
@@ -164,12 +164,12 @@ frees_renamed s r e = rw e (count_renamed r (λ x. is_free (s.frame x)))
 -- Each pool takes a free frame of its own. Call the first one's frame as the second one's is called: nothing that is
 -- in use has another name then.
 takes : {P : Type 0} {rename : (ℕ → ℕ) → P → P} {frames : ℕ} {s : Pool} {r : Renaming frames} {turn other : Turn P}
-    {new there : Pool} (resv x y : ℕ) (taken : ℕ → P)
+    {new there : Pool} (resv used x y : ℕ) (taken : ℕ → P)
     → Used frames s → s.frame x ≡ Free → s.frame (r.back y) ≡ Free
-    → Goes (taken x) (record s { frame = put s.frame x Hand; resv = resv }) turn new
-    → Goes (taken y) (record (pool_renamed r s) { frame = put (λ z. s.frame (r.back z)) y Hand; resv = resv }) other there
+    → Goes (taken x) (record s { frame = put s.frame x Hand; resv = resv; used = used }) turn new
+    → Goes (taken y) (record (pool_renamed r s) { frame = put (λ z. s.frame (r.back z)) y Hand; resv = resv; used = used }) other there
     → ((to : ℕ → ℕ) (z : ℕ) → taken (to z) ≡ rename to (taken z)) → Follows P rename frames s r turn new other there
-takes {rename = rename} {frames = frames} {s = s} {r = r} resv x y taken h e d a b same =
+takes {rename = rename} {frames = frames} {s = s} {r = r} resv used x y taken h e d a b same =
     let l = h.real x e in
     let m = h.real (r.back y) d in
     let names = turned r x (r.back y) l m in
@@ -192,6 +192,7 @@ takes {rename = rename} {frames = frames} {s = s} {r = r} resv x y taken h e d a
           b.1 ∙ ((λ i. record s {
             frame = frame i;
             resv = resv;
+            used = used;
             pages = agrees s.pages h.pages i;
             entries = agrees s.entries h.entries i;
           }) ∙ sym (ap (pool_renamed names) a.1));
@@ -200,17 +201,19 @@ takes {rename = rename} {frames = frames} {s = s} {r = r} resv x y taken h e d a
 
 -- where a frame is taken: each pool takes one of its own, and the names are turned to fit
 pub take_row : {P : Type 0} {rename : (ℕ → ℕ) → P → P} {frames : ℕ} {s : Pool} {r : Renaming frames}
-    {turn other : Turn P} {new there : Pool} (missing : ℕ) (no_frame : P) (taken : ℕ → P)
-    → Used frames s → TakeRow s missing no_frame taken turn new
-    → TakeRow (pool_renamed r s) missing (rename r.to no_frame) taken other there
+    {turn other : Turn P} {new there : Pool} (missing : ℕ) (refused : Answer → P) (taken : ℕ → P)
+    → Used frames s → TakeRow s missing refused taken turn new
+    → TakeRow (pool_renamed r s) missing (λ a. rename r.to (refused a)) taken other there
     → ((to : ℕ → ℕ) (z : ℕ) → taken (to z) ≡ rename to (taken z)) → Follows P rename frames s r turn new other there
-take_row {s = s} {r = r} m no_frame taken h a b same =
+take_row {s = s} {r = r} m refused taken h a b same =
     by_tests (m == 0) a b
-    (λ _ a b. takes (s.resv - 1) a.0 b.0 taken h a.1 b.1 a.3 b.3 same)
+    (λ _ a b. takes (s.resv - 1) s.used a.0 b.0 taken h a.1 b.1 a.3 b.3 same)
+    (λ _ a b. by_tests (quota_is_used_up s) a b
+    (λ _ a b. plain a b refl)
     (λ _ a b. by_like_tests (frees s == s.resv) (frees (pool_renamed r s) == s.resv)
     (ap (λ (n : ℕ). n == s.resv) (frees_renamed s r h.count)) a b
     (λ _ a b. plain a b refl)
-    (λ _ a b. takes s.resv a.0 b.0 taken h a.1 b.1 a.2 b.2 same))
+    (λ _ a b. takes s.resv (s.used + 1) a.0 b.0 taken h a.1 b.1 a.2 b.2 same)))
 
 -- a frame in hand is placed or freed
 pub placed_renamed : {frames : ℕ} (s : Pool) (r : Renaming frames) (f i x : ℕ)
@@ -221,10 +224,11 @@ placed_renamed s r f i x =
     λ k. record (pool_renamed r s) { frame = frame k; pages = pages k }
 
 -- where one is freed
-pub freed_renamed : {frames : ℕ} (s : Pool) (r : Renaming frames) (x resv : ℕ)
-    → ◌≡◌ {A = Pool} (record (pool_renamed r s) { frame = put (λ y. s.frame (r.back y)) (r.to x) Free; resv = resv })
-    (pool_renamed r (record s { frame = put s.frame x Free; resv = resv }))
-freed_renamed s r x resv = let frame = put_renamed r s.frame x Free in λ k. record (pool_renamed r s) { frame = frame k; resv = resv }
+pub freed_renamed : {frames : ℕ} (s : Pool) (r : Renaming frames) (x resv used : ℕ)
+    → ◌≡◌ {A = Pool} (record (pool_renamed r s) { frame = put (λ y. s.frame (r.back y)) (r.to x) Free; resv = resv; used = used })
+    (pool_renamed r (record s { frame = put s.frame x Free; resv = resv; used = used }))
+freed_renamed s r x resv used =
+    let frame = put_renamed r s.frame x Free in λ k. record (pool_renamed r s) { frame = frame k; resv = resv; used = used }
 
 -- a page goes into a hand
 pub evict_row : {P : Type 0} {rename : (ℕ → ℕ) → P → P} {frames : ℕ} {s : Pool} {r : Renaming frames}

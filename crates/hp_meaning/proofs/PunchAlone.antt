@@ -30,11 +30,12 @@ abbrev pub PunchSteps : (task : ℕ) → Pool → PunchPhase → Turn PunchPhase
 PunchSteps t s p turn new = PunchRow s t false true p turn new
 
 -- the pool where these indices of the file went, under its lock
-abbrev punched : State → (task file : ℕ) → (gone : ℕ → Bool) → (frame : ℕ → FrameState) → (spare : ℕ → ℕ) → Pool
-punched s t f gone frame spare = record (pool_of s) {
+abbrev punched : State → (task file : ℕ) → (gone : ℕ → Bool) → (frame : ℕ → FrameState) → (spare : ℕ → ℕ) → (used : ℕ) → Pool
+punched s t f gone frame spare used = record (pool_of s) {
   locks = put s.locks f (Some t);
   frame = frame;
   spare = spare;
+  used = used;
   pages = put s.pages f (without_pages (s.pages f) gone);
   reserved = put s.reserved f (unreserved (s.reserved f) gone);
   entries = without_entries s.mappings s.entries f gone;
@@ -55,26 +56,29 @@ record Ready (s : State) (t f : ℕ) : Type 0 where
 record OneDone (s : State) (t : ℕ) (hole : Hole) (i : ℕ) (more : ℕ → Bool) (b : Answer) (end : Pool) : Type 0 where
   frame : ℕ → FrameState
   spare : ℕ → ℕ
+  used : ℕ
   freed : Freed (s.pages hole.file) s.frame more frame
   leads : Leads (PunchSteps t) b end
-      (record (punched s t hole.file more frame spare) {
+      (record (punched s t hole.file more frame spare used) {
         slots = put s.slots (slot_of s.geometry hole.file i) (Some t);
       }) (at.Unslot (record { hole = hole; index = i }))
 
 -- an index without a page
-bare_index : (s : State) (t : ℕ) (hole : Hole) (i : ℕ) (gone : ℕ → Bool) (frame : ℕ → FrameState) (spare : ℕ → ℕ) (b : Answer) (end : Pool)
+bare_index : (s : State) (t : ℕ) (hole : Hole) (i : ℕ) (gone : ℕ → Bool) (frame : ℕ → FrameState) (spare : ℕ → ℕ) (used : ℕ)
+    (b : Answer) (end : Pool)
     → Ready s t hole.file → gone i ≡ false → s.pages hole.file i ≡ None
     → Freed (s.pages hole.file) s.frame gone frame
-    → Leads (PunchSteps t) b end (punched s t hole.file gone frame spare) (at.Want (record { hole = hole; index = i }))
+    → Leads (PunchSteps t) b end (punched s t hole.file gone frame spare used) (at.Want (record { hole = hole; index = i }))
     → OneDone s t hole i gone b end
-bare_index s t hole i gone frame spare b end h here bare freed k =
+bare_index s t hole i gone frame spare used b end h here bare freed k =
     let k1 = goes_on k (λ turn m r. if_none _ _ (h.slots (slot_of s.geometry hole.file i)) r) in
     let k2 = goes_on k1 (λ turn m r. if_false _ _ (ap is_some (page_kept s.pages hole.file i gone here ∙ bare)) r) in
-    record { frame = frame; spare = spare; freed = freed; leads = k2 }
+    record { frame = frame; spare = spare; used = used; freed = freed; leads = k2 }
 
 -- no task translates the index, and its page is in the call's hand
-abbrev evicted : State → (task : ℕ) → Hole → (i x : ℕ) → (gone : ℕ → Bool) → (frame : ℕ → FrameState) → (spare : ℕ → ℕ) → Pool
-evicted s t hole i x gone frame spare = record (punched s t hole.file gone frame spare) {
+abbrev evicted : State → (task : ℕ) → Hole → (i x : ℕ) → (gone : ℕ → Bool) → (frame : ℕ → FrameState) → (spare : ℕ → ℕ)
+    → (used : ℕ) → Pool
+evicted s t hole i x gone frame spare used = record (punched s t hole.file gone frame spare used) {
   slots = put s.slots (slot_of s.geometry hole.file i) (Some t);
   entries = λ u. without_index (s.mappings u) (without_entries s.mappings s.entries hole.file gone u) hole.file i;
   pages = put2 (put s.pages hole.file (without_pages (s.pages hole.file) gone)) hole.file i None;
@@ -83,15 +87,15 @@ evicted s t hole i x gone frame spare = record (punched s t hole.file gone frame
 
 -- from there on
 evicted_index : (s : State) (t : ℕ) (hole : Hole) (i x : ℕ) (gone more : ℕ → Bool) (frame : ℕ → FrameState)
-    (spare : ℕ → ℕ) (b : Answer) (end : Pool)
+    (spare : ℕ → ℕ) (used : ℕ) (b : Answer) (end : Pool)
     → s.pages hole.file i ≡ Some x → Adds gone i more
     → Freed (s.pages hole.file) s.frame gone frame
-    → Leads (PunchSteps t) b end (evicted s t hole i x gone frame spare) (at.Delete (record { hole = hole; index = i; held = x }))
+    → Leads (PunchSteps t) b end (evicted s t hole i x gone frame spare used) (at.Delete (record { hole = hole; index = i; held = x }))
     → OneDone s t hole i more b end
-evicted_index s t hole i x gone more frame spare b end page adds freed k =
+evicted_index s t hole i x gone more frame spare used b end page adds freed k =
     let f = hole.file in
     let k1 = goes_on k (λ turn m r. if_false _ _ (and_false (splits (unreserved_at s f gone) i && nat_le (spare f) (s.pending f))) r) in
-    let k2 = goes_on k1 (λ turn m r. r) in
+    let k2 = goes_on k1 (λ turn m r. r.1) in
     let table = entries_more s.mappings s.entries f i gone more adds in
     let pages = pages_more s.pages f i gone more adds in
     let reserved = reserved_more s.reserved f i gone more adds in
@@ -100,12 +104,14 @@ evicted_index s t hole i x gone more frame spare b end page adds freed k =
     record {
       frame = put frame x Free;
       spare = spare';
+      used = used - 1;
       freed = freed_more (s.pages f) s.frame frame i x gone more adds page freed;
       leads = from_pool (λ j. record (pool_of s) {
         locks = put s.locks f (Some t);
         slots = put s.slots (slot_of s.geometry f i) (Some t);
         frame = frame' j;
         spare = spare';
+        used = used - 1;
         pages = pages j;
         reserved = reserved j;
         entries = table j;
@@ -114,12 +120,12 @@ evicted_index s t hole i x gone more frame spare b end page adds freed k =
 
 -- an index with a page
 paged_index : (s : State) (t : ℕ) (hole : Hole) (i y : ℕ) (gone more : ℕ → Bool) (frame : ℕ → FrameState)
-    (spare : ℕ → ℕ) (b : Answer) (end : Pool)
+    (spare : ℕ → ℕ) (used : ℕ) (b : Answer) (end : Pool)
     → Ready s t hole.file → gone i ≡ false → s.pages hole.file i ≡ Some y → Adds gone i more
     → Freed (s.pages hole.file) s.frame gone frame
-    → Leads (PunchSteps t) b end (punched s t hole.file gone frame spare) (at.Want (record { hole = hole; index = i }))
+    → Leads (PunchSteps t) b end (punched s t hole.file gone frame spare used) (at.Want (record { hole = hole; index = i }))
     → OneDone s t hole i more b end
-paged_index s t hole i y gone more frame spare b end h here paged adds freed k =
+paged_index s t hole i y gone more frame spare used b end h here paged adds freed k =
     let f = hole.file in
     let k1 = goes_on k (λ turn m r. if_none _ _ (h.slots (slot_of s.geometry f i)) r) in
     let k2 = goes_on k1 (λ turn m r. if_true _ _ (ap is_some (page_kept s.pages f i gone here ∙ paged)) r) in
@@ -129,7 +135,7 @@ paged_index s t hole i y gone more frame spare b end h here paged adds freed k =
     (at.Evict (record { hole = hole; index = i })) (λ p k turn m r. r) h.tasks owned k2 in
     let z = next k3 in
     let r = z.2 in
-    evicted_index s t hole i r.0 gone more frame spare b end (sym (page_kept s.pages f i gone here) ∙ r.1) adds freed (moves z.3 r.2)
+    evicted_index s t hole i r.0 gone more frame spare used b end (sym (page_kept s.pages f i gone here) ∙ r.1) adds freed (moves z.3 r.2)
 
 -- the indices of a range that have a page, with one more index
 within_below : (s : State) (f from i j : ℕ) → j ≢ i → paged_within s f from (i + 1) j ≡ paged_within s f from i j
@@ -166,40 +172,42 @@ none_yet : (s : State) (f from j : ℕ) → paged_within s f from from j ≡ fal
 none_yet s f from j = let a : is_within from from j ≡ false = grind (arith, nat_tests) in ap (λ (c : Bool). c && is_some (s.pages f j)) a
 
 -- one index, with or without a page
-one_index : (s : State) (t : ℕ) (hole : Hole) (i : ℕ) (frame : ℕ → FrameState) (spare : ℕ → ℕ) (b : Answer) (end : Pool)
+one_index : (s : State) (t : ℕ) (hole : Hole) (i : ℕ) (frame : ℕ → FrameState) (spare : ℕ → ℕ) (used : ℕ) (b : Answer) (end : Pool)
     → Ready s t hole.file → hole.from ≤ i
     → Freed (s.pages hole.file) s.frame (paged_within s hole.file hole.from i) frame
-    → Leads (PunchSteps t) b end (punched s t hole.file (paged_within s hole.file hole.from i) frame spare)
+    → Leads (PunchSteps t) b end (punched s t hole.file (paged_within s hole.file hole.from i) frame spare used)
     (at.Want (record { hole = hole; index = i }))
     → OneDone s t hole i (paged_within s hole.file hole.from (i + 1)) b end
-one_index s t hole i frame spare b end h low freed k = by_page (s.pages hole.file i) refl
+one_index s t hole i frame spare used b end h low freed k = by_page (s.pages hole.file i) refl
   where
     by_page : (o : Option ℕ) → s.pages hole.file i ≡ o → OneDone s t hole i (paged_within s hole.file hole.from (i + 1)) b end
     by_page None e =
         subst (λ (gone : ℕ → Bool). OneDone s t hole i gone b end) (same_paged s hole.file hole.from i e)
-        (bare_index s t hole i (paged_within s hole.file hole.from i) frame spare b end h
+        (bare_index s t hole i (paged_within s hole.file hole.from i) frame spare used b end h
         (not_yet s hole.file hole.from i) e freed k)
     by_page (Some y) e =
         paged_index s t hole i y (paged_within s hole.file hole.from i) (paged_within s hole.file hole.from (i + 1))
-        frame spare b end h (not_yet s hole.file hole.from i) e (more_paged s hole.file hole.from i y low e) freed k
+        frame spare used b end h (not_yet s hole.file hole.from i) e (more_paged s hole.file hole.from i y low e) freed k
 
 -- the hole is punched
 record Holed (s : State) (t f : ℕ) (gone : ℕ → Bool) (b : Answer) (end : Pool) : Type 0 where
   frame : ℕ → FrameState
   spare : ℕ → ℕ
+  used : ℕ
   freed : Freed (s.pages f) s.frame gone frame
   done : b ≡ Done
-  ends : end ≡ record (punched s t f gone frame spare) { locks = s.locks }
+  ends : end ≡ record (punched s t f gone frame spare used) { locks = s.locks }
 
 -- the indices from i on
-indices : (s : State) (t : ℕ) (hole : Hole) (d i : ℕ) (frame : ℕ → FrameState) (spare : ℕ → ℕ) (b : Answer) (end : Pool)
+indices : (s : State) (t : ℕ) (hole : Hole) (d i : ℕ) (frame : ℕ → FrameState) (spare : ℕ → ℕ) (used : ℕ)
+    (b : Answer) (end : Pool)
     → Ready s t hole.file → hole.from ≤ i → i + d + 1 ≡ hole.from + hole.len
     → Freed (s.pages hole.file) s.frame (paged_within s hole.file hole.from i) frame
-    → Leads (PunchSteps t) b end (punched s t hole.file (paged_within s hole.file hole.from i) frame spare)
+    → Leads (PunchSteps t) b end (punched s t hole.file (paged_within s hole.file hole.from i) frame spare used)
     (at.Want (record { hole = hole; index = i }))
     → Holed s t hole.file (paged_within s hole.file hole.from (hole.from + hole.len)) b end
-indices s t hole zero i frame spare b end h low e freed k =
-    let o = one_index s t hole i frame spare b end h low freed k in
+indices s t hole zero i frame spare used b end h low e freed k =
+    let o = one_index s t hole i frame spare used b end h low freed k in
     let last : nat_lt (i + 1) (hole.from + hole.len) ≡ false = grind (arith, nat_tests) in
     let same : i + 1 ≡ hole.from + hole.len = omega arith in
     let k1 = goes_on o.leads (λ turn m r. if_false _ _ last r) in
@@ -210,20 +218,21 @@ indices s t hole zero i frame spare b end h low e freed k =
     (record {
       frame = o.frame;
       spare = o.spare;
+      used = o.used;
       freed = o.freed;
       done = z.0;
       ends =
           z.1 ∙ (λ j. record (punched s t hole.file (paged_within s hole.file hole.from (i + 1)) o.frame
-          o.spare) { slots = slots j; locks = locks j });
+          o.spare o.used) { slots = slots j; locks = locks j });
     })
-indices s t hole (suc d) i frame spare b end h low e freed k =
-    let o = one_index s t hole i frame spare b end h low freed k in
+indices s t hole (suc d) i frame spare used b end h low e freed k =
+    let o = one_index s t hole i frame spare used b end h low freed k in
     let more : nat_lt (i + 1) (hole.from + hole.len) ≡ true = grind (arith, nat_tests) in
     let k1 = goes_on o.leads (λ turn m r. if_true _ _ more r) in
     let slots = put_back s.slots (slot_of s.geometry hole.file i) (Some t) None (h.slots (slot_of s.geometry hole.file i)) in
     let k2 = from_pool (λ j.
-    record (punched s t hole.file (paged_within s hole.file hole.from (i + 1)) o.frame o.spare) { slots = slots j }) k1 in
-    indices s t hole d (i + 1) o.frame o.spare b end h (omega arith) (omega arith) o.freed k2
+    record (punched s t hole.file (paged_within s hole.file hole.from (i + 1)) o.frame o.spare o.used) { slots = slots j }) k1 in
+    indices s t hole d (i + 1) o.frame o.spare o.used b end h (omega arith) (omega arith) o.freed k2
 
 -- what the pool says of the table
 holed_means : (s : State) (t f from len : ℕ) (b : Answer) (n : State) (end : Pool) (last : PunchPhase) → s.calls t ≡ None
@@ -236,6 +245,7 @@ holed_means s t f from len b n end last idle is z =
       pool = record s.pool {
         frame = z.frame;
         spare = z.spare;
+        used = z.used;
         pages = put s.pages f (without_pages (s.pages f) (paged_within s f from (from + len)));
         reserved = put s.reserved f (unreserved (s.reserved f) (paged_within s f from (from + len)));
         entries = without_entries s.mappings s.entries f (paged_within s f from (from + len));
@@ -265,7 +275,7 @@ punch_means s t f from len b n h tasks ready (end, last, k, is) =
     }) k in
     let p = predecessor len good in
     holed_means s t f from len b n end last (ready.0 t) is
-    (indices s t hole p.0 from s.frame s.spare b end there (omega arith) (let e = p.1 in omega arith)
+    (indices s t hole p.0 from s.frame s.spare s.used b end there (omega arith) (let e = p.1 in omega arith)
     (freed_none (s.pages f) s.frame gone (none_yet s f from)) k1))
   where
     hole : Hole

@@ -1,6 +1,6 @@
 -- The rows of a punched hole and of a truncation, taken by a pool and by that pool with its frames renamed.
 use Rattle.std.proofs.Common.{◌≡◌, ℕ, ◌+◌, ◌-◌, ◌≤◌, refl, ap, arith}
-use Rattle.std.specs.Prelude.{Bool, not, ◌&&◌, max, nat_lt, nat_le, Option, Some, None, is_some, if◌then◌else◌}
+use Rattle.std.specs.Prelude.{Bool, not, ◌&&◌, max, nat_lt, nat_le, Option, Some, None, is_some}
 use Rattle.std.specs.Option.{option_map}
 use Rattle.hp_base.specs.Indices.{splits}
 use Rattle.hp_base.specs.Pages.{IsPagesEnd}
@@ -36,7 +36,9 @@ punch_row {s = s} t killed grant (punch.Delete p) a b =
     by_tests (splits (s.reserved p.hole.file) p.index && nat_le (s.spare p.hole.file) (s.pending p.hole.file)
     && not grant) a b (λ _ a b. plain a b refl) (λ _ a b. plain a b refl)
 punch_row {s = s} {r = r} t killed grant (punch.Free p) a b =
-    leaf a b refl (freed_renamed s r p.held (if p.denied then s.resv + 1 else s.resv)) refl
+    by_tests p.denied a b
+    (λ _ a b. leaf a b refl (freed_renamed s r p.held (s.resv + 1) s.used) refl)
+    (λ _ a b. leaf a.1 b.1 refl (freed_renamed s r p.held s.resv (s.used - 1)) refl)
 punch_row t killed grant (punch.Unslot p) a b =
     by_tests (nat_lt (p.index + 1) (p.hole.from + p.hole.len)) a b (λ _ a b. plain a b refl) (λ _ a b. plain a b refl)
 punch_row t killed grant (punch.Leave p) a b = plain a b refl
@@ -81,9 +83,9 @@ truncate_row {s = s} {r = r} t killed grant (truncate.Locked p) a b =
     (some_renamed r.to (s.pages p.truncation.file p.index)) a b (λ _ a b. plain a b refl) (λ _ a b. plain a b refl)
 truncate_row t killed grant (truncate.Unmap p) a b = unmap_row p.task p.truncation.file p.index _ _ a b
 truncate_row t killed grant (truncate.Evict p) a b = evict_row p.truncation.file p.index _ a b (λ z. refl)
-truncate_row {s = s} {r = r} t killed grant (truncate.Free p) a b = leaf a b refl (freed_renamed s r p.held s.resv) refl
+truncate_row {s = s} {r = r} t killed grant (truncate.Free p) a b = leaf a b refl (freed_renamed s r p.held s.resv s.used) refl
 truncate_row t killed grant (truncate.Unslot p) a b =
     by_tests (nat_lt p.truncation.new p.index) a b (λ _ a b. plain a b refl) (λ _ a b. plain a b refl)
 truncate_row t killed grant (truncate.Tail p) a b = plain a b refl
-truncate_row t killed grant (truncate.Settle p) a b = plain a.1 b.1 refl
+truncate_row t killed grant (truncate.Settle p) a b = plain a.2 b.2 refl
 truncate_row t killed grant (truncate.Leave p) a b = plain a b refl

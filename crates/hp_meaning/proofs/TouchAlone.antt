@@ -8,10 +8,13 @@ use Rattle.hp_base.specs.Mappings.{find}
 use Rattle.hp_base.specs.declared.answer.Answer.{Answer}
 use Rattle.hp_base.proofs.Puts.{put_same, put2_same}
 use Rattle.hp_base.proofs.Sets.{missing_one}
+use Rattle.hp_frames.specs.Bank.{exceeds, is_used_up, IsWithinQuota}
+use Rattle.hp_frames.proofs.Quotas.{used_up}
 use Rattle.hp_frames.specs.declared.frame.FrameState.{FrameState}
 use Rattle.hp_frames.specs.declared.frame.FrameState.TheVariants.{Free, Hand, Placed}
 use Rattle.hp_region.specs.Change.{Change}
 use Rattle.hp_machine.specs.State.{Pool, State, pool_of, slot_of, free_frames}
+use Rattle.hp_machine.specs.Headline.{reserved_in}
 use Rattle.hp_machine.specs.Parts.{answer_of, frame_after}
 use Rattle.hp_machine.specs.TouchRows.{TouchRow}
 use Rattle.hp_machine.specs.declared.touch.Access.{Access}
@@ -22,10 +25,10 @@ use Rattle.hp_machine.specs.declared.call.Call.TheVariants as call
 use Rattle.hp_machine.specs.declared.call.Turn.{Turn}
 use Rattle.hp_laws.proofs.Invariant.{Inv}
 use Rattle.hp_laws.proofs.Shared.{by_test}
-use Rattle.hp_meaning.specs.Meaning.{IsReady, Looks, available, PageMade, TouchMeans}
+use Rattle.hp_meaning.specs.Meaning.{IsReady, Looks, available, exceeds_quota, PageMade, TouchMeans}
 use Rattle.hp_laws.proofs.Deciding.{some_same}
 use Rattle.hp_meaning.proofs.Alone.{if_true, if_false, if_none, if_some, Leads, next, moves, stops, goes_on, ends_so, over, Comes, put_put}
-use Rattle.hp_meaning.proofs.Idle.{so_true, so_false, so_none, so_some, finish, idle_again, free_slot, translated_low, put_back}
+use Rattle.hp_meaning.proofs.Idle.{so_true, so_false, so_none, so_some, finish, idle_again, settled_used, free_slot, translated_low, put_back}
 use Rattle.hp_meaning.proofs.Idle.{pending_back, put2_self, range_one, not_below_itself, and_false}
 
 -- granted steps of a task that isn't killed
@@ -71,12 +74,13 @@ abbrev change_of : State → (file index : ℕ) → Change
 change_of s f i = record { from = i; to = i + 1; missing = missing (s.reserved f) i (i + 1) }
 
 -- a free frame became the page, which was read or written, and the index is reserved
-record Paged (s : State) (t : ℕ) (touch : Touch) (b : Answer) (x resv : ℕ) (end : Pool) : Type 0 where
+record Paged (s : State) (t : ℕ) (touch : Touch) (b : Answer) (x resv used : ℕ) (end : Pool) : Type 0 where
   spare : ℕ → ℕ
   answers : b ≡ answer_of touch.access 0
   ends : end ≡ record (pool_of s) {
     frame = frame_after touch.access (put s.frame x (Placed 0)) x;
     resv = resv;
+    used = used;
     spare = spare;
     reserved = put2 s.reserved touch.file touch.index true;
     pages = put2 s.pages touch.file touch.index (Some x);
@@ -88,13 +92,13 @@ placed_same : {x y : ℕ} → Placed x ≡ Placed y → x ≡ y
 placed_same e = cc
 
 -- from the frame on
-taken_pages : (s : State) (t : ℕ) (touch : Touch) (b : Answer) (x resv : ℕ) (end : Pool)
+taken_pages : (s : State) (t : ℕ) (touch : Touch) (b : Answer) (x resv used : ℕ) (end : Pool)
     → s.slots (slot_of s.geometry touch.file touch.index) ≡ None → nat_le (s.size touch.file) touch.index ≡ false
     → Leads (TouchSteps t) b end
-    (record (changing s t touch.file touch.index) { frame = put s.frame x Hand; resv = resv })
+    (record (changing s t touch.file touch.index) { frame = put s.frame x Hand; resv = resv; used = used })
     (at.Taken (record { touch = touch; pending = change_of s touch.file touch.index; held = x }))
-    → Paged s t touch b x resv end
-taken_pages s t touch b x resv end unheld low k =
+    → Paged s t touch b x resv used end
+taken_pages s t touch b x resv used end unheld low k =
     let f = touch.file in
     let i = touch.index in
     let k1 = goes_on k (λ turn m r. if_false _ _ (not_below_itself (missing (s.reserved touch.file) touch.index (touch.index + 1))) r) in
@@ -116,6 +120,7 @@ taken_pages s t touch b x resv end unheld low k =
       ends = z.ends.1 ∙ (λ j. record (pool_of s) {
         frame = frame j;
         resv = resv;
+        used = used;
         slots = slots j;
         pending = pending j;
         spare = spare';
@@ -128,7 +133,7 @@ taken_pages s t touch b x resv end unheld low k =
 -- the index was reserved
 reserved_page : (s : State) (t : ℕ) (touch : Touch) (b : Answer) (n : State) (x : ℕ) (end : Pool) (last : TouchPhase)
     → s.calls t ≡ None → s.reserved touch.file touch.index ≡ true → s.frame x ≡ Free → 1 ≤ s.resv
-    → Paged s t touch b x (s.resv - 1) end → n ≡ over call.Touch s t end last
+    → Paged s t touch b x (s.resv - 1) s.used end → n ≡ over call.Touch s t end last
     → (m : State) × PageMade s t touch.vpn touch.access touch.file touch.index b m × Looks m n
 reserved_page s t touch b n x end last idle e free some y is =
     let reserved = put2_self s.reserved touch.file touch.index true e in
@@ -149,16 +154,18 @@ reserved_page s t touch b n x end last idle e free some y is =
 
 -- a frame was available
 available_page : (s : State) (t : ℕ) (touch : Touch) (b : Answer) (n : State) (x : ℕ) (end : Pool) (last : TouchPhase)
-    → s.calls t ≡ None → s.reserved touch.file touch.index ≡ false → nat_lt 0 (available s) ≡ true → s.frame x ≡ Free
-    → Paged s t touch b x s.resv end → n ≡ over call.Touch s t end last
+    → s.calls t ≡ None → s.reserved touch.file touch.index ≡ false → exceeds_quota s 1 ≡ false
+    → nat_lt 0 (available s) ≡ true → s.frame x ≡ Free
+    → Paged s t touch b x s.resv (s.used + 1) end → n ≡ over call.Touch s t end last
     → (m : State) × PageMade s t touch.vpn touch.access touch.file touch.index b m × Looks m n
-available_page s t touch b n x end last idle e some free y is =
+available_page s t touch b n x end last idle e fits some free y is =
     let calls = idle_again s t idle in
     finish call.Touch s t last (PageMade s t touch.vpn touch.access touch.file touch.index) _ (y.answers, y.ends) is
-    (so_false _ _ e (so_true _ _ some (x, free, (refl, refl))))
+    (so_false _ _ e (so_false _ _ fits (so_true _ _ some (x, free, (refl, refl)))))
     (λ j. record s {
       pool = record s.pool {
         frame = frame_after touch.access (put s.frame x (Placed 0)) x;
+        used = s.used + 1;
         spare = y.spare;
         reserved = put2 s.reserved touch.file touch.index true;
         pages = put2 s.pages touch.file touch.index (Some x);
@@ -169,16 +176,21 @@ available_page s t touch b n x end last idle e some free y is =
 
 -- the index is below the size and has no page
 makes_page : (s : State) (t : ℕ) (touch : Touch) (b : Answer) (n : State) (end : Pool) (last : TouchPhase)
-    → s.resv ≤ free_frames s.frame s.frames → s.slots (slot_of s.geometry touch.file touch.index) ≡ None → s.calls t ≡ None
+    → s.resv ≤ free_frames s.frame s.frames → s.used ≡ reserved_in s → IsWithinQuota s.geometry.quota s.used
+    → s.slots (slot_of s.geometry touch.file touch.index) ≡ None → s.calls t ≡ None
     → nat_le (s.size touch.file) touch.index ≡ false
     → Leads (TouchSteps t) b end (slotted s t touch.file touch.index) (at.Missing (record { touch = touch }))
     → n ≡ over call.Touch s t end last
     → (m : State) × PageMade s t touch.vpn touch.access touch.file touch.index b m × Looks m n
-makes_page s t touch b n end last enough unheld idle low k is = by_reserved (s.reserved touch.file touch.index) refl
+makes_page s t touch b n end last enough settled quota unheld idle low k is = by_reserved (s.reserved touch.file touch.index) refl
   where
     k1 : Leads (TouchSteps t) b end (changing s t touch.file touch.index)
         (at.Changed (record { touch = touch; pending = change_of s touch.file touch.index }))
     k1 = goes_on k (λ turn m r. if_false _ _ (and_false (s.spare touch.file == s.pending touch.file)) r)
+
+    -- one more page is more than the quota lets the files have where it is used up
+    test : exceeds_quota s 1 ≡ is_used_up s.geometry.quota s.used
+    test = ap (λ (n : ℕ). exceeds s.geometry.quota n 1) (sym settled) ∙ used_up s.geometry.quota s.used quota
 
     -- nothing is missing where the index is reserved
     is_zero : (r : Bool) → s.reserved touch.file touch.index ≡ r
@@ -190,10 +202,27 @@ makes_page s t touch b n end last enough unheld idle low k is = by_reserved (s.r
     by_reserved true e =
         let z = next k1 in
         let r = if_true _ _ (is_zero true e) z.2 in
-        reserved_page s t touch b n r.0 end last idle e r.1 r.2 (taken_pages s t touch b r.0 (s.resv - 1) end unheld low (moves z.3 r.3)) is
+        reserved_page s t touch b n r.0 end last idle e r.1 r.2 (taken_pages s t touch b r.0 (s.resv - 1) s.used end unheld low (moves z.3 r.3)) is
     by_reserved false e =
         let z = next k1 in
         let r = if_false _ _ (is_zero false e) z.2 in
+        by_test (is_used_up s.geometry.quota s.used) r
+        (λ up r.
+        let y = ends_so (goes_on (moves z.3 r) (λ turn m r. r)) (λ turn m r. r) in
+        let slots = put_back s.slots (slot_of s.geometry touch.file touch.index) (Some t) None unheld in
+        let pending = pending_back s.pending touch.file in
+        let calls = idle_again s t idle in
+        finish call.Touch s t last (PageMade s t touch.vpn touch.access touch.file touch.index) s y is
+        (so_false _ _ e (so_true _ _ (test ∙ up) (refl, refl)))
+        (λ j. record s {
+          pool = record s.pool {
+            slots = slots j;
+            pending = pending j;
+            spare = put s.spare touch.file (max (s.spare touch.file) (s.pending touch.file + 1));
+          };
+          calls = calls j;
+        }))
+        (λ fits r.
         by_test (free_frames s.frame s.frames == s.resv) r
         (λ all r.
         let none_available : nat_lt 0 (available s) ≡ false = grind (arith, nat_tests) in
@@ -202,7 +231,7 @@ makes_page s t touch b n end last enough unheld idle low k is = by_reserved (s.r
         let pending = pending_back s.pending touch.file in
         let calls = idle_again s t idle in
         finish call.Touch s t last (PageMade s t touch.vpn touch.access touch.file touch.index) s y is
-        (so_false _ _ e (so_false _ _ none_available (refl, refl)))
+        (so_false _ _ e (so_false _ _ (test ∙ fits) (so_false _ _ none_available (refl, refl))))
         (λ j. record s {
           pool = record s.pool {
             slots = slots j;
@@ -213,8 +242,8 @@ makes_page s t touch b n end last enough unheld idle low k is = by_reserved (s.r
         }))
         (λ some r.
         let some_available : nat_lt 0 (available s) ≡ true = grind (arith, nat_tests) in
-        available_page s t touch b n r.0 end last idle e some_available r.1
-        (taken_pages s t touch b r.0 s.resv end unheld low (moves z.3 r.2)) is)
+        available_page s t touch b n r.0 end last idle e (test ∙ fits) some_available r.1
+        (taken_pages s t touch b r.0 s.resv (s.used + 1) end unheld low (moves z.3 r.2)) is))
 
 -- a touch from its first phase on
 pub touch_means : (s : State) (t v : ℕ) (access : Access) (b : Answer) (n : State) → Inv s.geometry s → IsReady s t
@@ -241,7 +270,7 @@ touch_means s t v access b n h ready (end, last, k, is) = by_find (find (s.mappi
     by_page f i None e q low k =
         let k1 = goes_on k (λ turn m r. if_false _ _ (ap is_some e) (if_false _ _ low r)) in
         let z = makes_page s t (record { vpn = v; access = access; file = f; index = i }) b n end last h.enough
-        (free_slot s h ready.0 (slot_of s.geometry f i)) (ready.0 t) low k1 is in
+        (settled_used s h ready.0) h.quota (free_slot s h ready.0 (slot_of s.geometry f i)) (ready.0 t) low k1 is in
         (z.0, so_some _ _ (f, i) q (so_false _ _ low (so_none _ _ e z.1)), z.2)
     by_page f i (Some x) e q low k =
         let k1 = goes_on k (λ turn m r. if_true _ _ (ap is_some e) (if_false _ _ low r)) in

@@ -105,7 +105,7 @@ touch_row t killed grant (touch.Missing p) h a b =
 touch_row t killed grant (touch.Changed p) h a b =
     by_tests killed a b
     (λ _ a b. plain a b refl)
-    (λ _ a b. take_row p.pending.missing _ _ h a b (λ to z. refl))
+    (λ _ a b. take_row p.pending.missing (λ a. touch.Abort (record { touch = p.touch; pending = p.pending; answer = a })) _ h a b (λ to z. refl))
 touch_row t killed grant (touch.Abort p) h a b = plain a b refl
 touch_row t killed grant (touch.Taken p) h a b = commit_row p.touch.file p.pending _ _ a b
 touch_row t killed grant (touch.Settle p) h a b = settle_row _ a b
@@ -115,7 +115,7 @@ touch_row {s = s} {r = r} t killed grant (touch.Committed p) h a b =
     (λ _ a b. by_tests grant a b
     (λ _ a b. leaf a b refl (placed_renamed s r p.touch.file p.touch.index p.held) refl)
     (λ _ a b. plain a b refl))
-touch_row {s = s} {r = r} t killed grant (touch.Restore p) h a b = leaf a b refl (freed_renamed s r p.held (s.resv + 1)) refl
+touch_row {s = s} {r = r} t killed grant (touch.Restore p) h a b = leaf a b refl (freed_renamed s r p.held (s.resv + 1) s.used) refl
 touch_row t killed grant (touch.Found p) h a b = found_row t grant p a b
 touch_row t killed grant (touch.Leave p) h a b = plain a b refl
 
@@ -141,7 +141,8 @@ alloc_row t killed grant (alloc.Missing p) h a b =
 alloc_row t killed grant (alloc.Changed p) h a b =
     by_tests killed a b
     (λ _ a b. plain a b refl)
-    (λ _ a b. take_row p.pending.missing _ _ h a b (λ to z. refl))
+    (λ _ a b. take_row p.pending.missing
+    (λ a. alloc.Abort (record { allocation = p.allocation; index = p.index; pending = p.pending; answer = a })) _ h a b (λ to z. refl))
 alloc_row t killed grant (alloc.Abort p) h a b = plain a b refl
 alloc_row t killed grant (alloc.Taken p) h a b = commit_row p.allocation.file p.pending _ _ a b
 alloc_row t killed grant (alloc.Settle p) h a b = settle_row _ a b
@@ -149,7 +150,7 @@ alloc_row {s = s} {r = r} t killed grant (alloc.Committed p) h a b =
     by_tests grant a b
     (λ _ a b. leaf a b refl (placed_renamed s r p.allocation.file p.index p.held) refl)
     (λ _ a b. plain a b refl)
-alloc_row {s = s} {r = r} t killed grant (alloc.Restore p) h a b = leaf a b refl (freed_renamed s r p.held (s.resv + 1)) refl
+alloc_row {s = s} {r = r} t killed grant (alloc.Restore p) h a b = leaf a b refl (freed_renamed s r p.held (s.resv + 1) s.used) refl
 alloc_row t killed grant (alloc.Unslot p) h a b =
     by_options p.answer a b
     (λ _ a b. by_tests (nat_lt (p.index + 1) (p.allocation.from + p.allocation.len)) a b

@@ -227,12 +227,14 @@ reserved_parts s f from bare =
 record Cut (s : State) (t : ℕ) (cut : Truncation) (b : Answer) (end : Pool) : Type 0 where
   frame : ℕ → FrameState
   freed : Freed (s.pages cut.file) s.frame (paged_from s cut.file cut.new) frame
+  used : ℕ
   enough : waiting s cut.file cut.new ≤ s.resv
   done : b ≡ Done
   ends : end ≡ record (emptied s t cut.file cut.new (paged_from s cut.file cut.new) frame) {
     locks = s.locks;
     reserved = put s.reserved cut.file (cut_tail (s.reserved cut.file) cut.new);
     resv = s.resv - waiting s cut.file cut.new;
+    used = used;
   }
 
 -- the reserved indices go
@@ -246,7 +248,9 @@ tail_ends s t cut frame b end unlocked bare freed k =
     let k1 = goes_on k (λ turn m r. r) in
     let z = next k1 in
     let r = z.2 in
-    let y = ends_so (moves z.3 r.1) (λ turn m r. r) in
+    let y = ends_so (moves z.3 r.2) (λ turn m r. r) in
+    let used : ℕ = s.used - (count_within (s.reserved cut.file) cut.new s.geometry.limit - pages_from s cut.file cut.new
+    + pages_from s cut.file cut.new) in
     let parts = reserved_parts s cut.file cut.new bare in
     let same : count_within (s.reserved cut.file) cut.new s.geometry.limit - pages_from s cut.file cut.new ≡ waiting s
     cut.file cut.new = omega arith in
@@ -254,6 +258,7 @@ tail_ends s t cut frame b end unlocked bare freed k =
     record {
       frame = frame;
       freed = freed;
+      used = used;
       enough = subst (λ (c : ℕ). c ≤ s.resv) same r.0;
       done = y.0;
       ends =
@@ -261,6 +266,7 @@ tail_ends s t cut frame b end unlocked bare freed k =
             locks = locks j;
             reserved = put s.reserved cut.file (cut_tail (s.reserved cut.file) cut.new);
             resv = s.resv - same j;
+            used = used;
           });
     }
 
@@ -435,6 +441,7 @@ truncate_means s t f new b n h tasks ready (end, last, k, is) =
         pages = put s.pages f (pages j);
         reserved = put s.reserved f (cut_tail (s.reserved f) new);
         resv = s.resv - waiting s f new;
+        used = z.used;
         entries = table j;
       };
       calls = calls j;

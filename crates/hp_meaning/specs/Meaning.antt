@@ -1,20 +1,22 @@
 -- What a call means that runs alone: its answer and the state after it, operation by operation. Of the
 -- conditions of an operation the first that holds decides; what it doesn't name is as before.
 use Rattle.std.specs.Prelude.{◌≡◌, ◌≢◌, ℕ, ◌+◌, ◌-◌, ◌≤◌, ◌<◌, ◌⊎◌, ◌==◌, ◌&&◌, ◌||◌, Bool, true, false, not, Option, Some, None}
-use Rattle.std.specs.Prelude.{is_some, List, [], ◌∷◌, max, nat_le, nat_lt, MatchBool, MatchOption, if◌then◌else◌}
+use Rattle.std.specs.Prelude.{is_some, List, [], ◌∷◌, max, min, nat_le, nat_lt, MatchBool, MatchOption, if◌then◌else◌}
 use Rattle.hp_base.specs.Numbers.{put, put2, is_none}
 use Rattle.hp_base.specs.Indices.{is_within, count_within, missing, add_range, cut_tail}
 use Rattle.hp_base.specs.Mappings.{find, is_base, without, without_mapping, IsRoom, entered}
 use Rattle.hp_base.specs.declared.mapping.Mapping.{Mapping}
 use Rattle.hp_base.specs.declared.answer.Answer.{Answer}
-use Rattle.hp_base.specs.declared.answer.Answer.TheVariants.{Mapped, Done, Segv, Beyond, NoFrame, BadFile, BadRange, NotMapped, NoAddress}
+use Rattle.hp_base.specs.declared.answer.Answer.TheVariants.{Mapped, Done, Segv, Beyond, NoFrame, NoQuota, BadFile, BadRange, NotMapped, NoAddress}
 use Rattle.hp_base.specs.declared.event.Op.{Op}
 use Rattle.hp_base.specs.declared.event.Op.TheVariants as op
 use Rattle.hp_base.specs.declared.event.Event.{Event}
 use Rattle.hp_base.specs.declared.event.Event.TheVariants.{Begin, Step}
+use Rattle.hp_frames.specs.Bank.{exceeds}
 use Rattle.hp_frames.specs.declared.frame.FrameState.{FrameState}
 use Rattle.hp_frames.specs.declared.frame.FrameState.TheVariants.{Free, Placed}
 use Rattle.hp_machine.specs.State.{State, free_frames}
+use Rattle.hp_machine.specs.Headline.{reserved_in}
 use Rattle.hp_machine.specs.Events.{Run}
 use Rattle.hp_machine.specs.Parts.{answer_of, frame_after}
 use Rattle.hp_machine.specs.declared.outcome.Life.TheVariants.{Alive, Dead}
@@ -38,9 +40,13 @@ abbrev pub IsCall : (task : ℕ) → Op → Answer → List (Event × Outcome) �
 IsCall t op answer [] = ⊥
 IsCall t op answer (e ∷ es) = (e.0 ≡ Begin t op) × AreSteps t answer es
 
--- n is m; nothing is said of spare descriptors, nor of room made for a mapping
+-- n is m; nothing is said of spare descriptors, nor of room made for a mapping, and of the used count below
 abbrev pub Looks : State → State → Type 0
-Looks m n = n ≡ record m { pool = record m.pool { spare = n.spare; ready = n.ready } }
+Looks m n = n ≡ record m { pool = record m.pool { spare = n.spare; ready = n.ready; used = n.used } }
+
+-- the used count changed by as much as the number of reserved indices
+abbrev pub UsesAlike : State → State → Type 0
+UsesAlike s n = n.used + reserved_in s ≡ s.used + reserved_in n
 
 -- this answer, and this state
 abbrev pub Gives : Answer → State → Answer → State → Type 0
@@ -49,6 +55,10 @@ Gives wanted after answer m = (answer ≡ wanted) × (m ≡ after)
 -- the free frames that no reservation counts on (Linux: `available_huge_pages`)
 abbrev pub available : State → ℕ
 available s = free_frames s.frame s.frames - s.resv
+
+-- n more reserved indices are more than the quota lets the files have (Linux: `hugepage_subpool_get_pages`)
+abbrev pub exceeds_quota : State → ℕ → Bool
+exceeds_quota s n = exceeds s.geometry.quota (reserved_in s) n
 
 -- the range check: BadFile, BadRange, or what is meant
 abbrev pub Checked : State → (file : ℕ) → (out_of_range : Bool) → Answer → State → (meant : Type 0) → Type 0
@@ -64,14 +74,16 @@ abbrev pub is_bad_range : State → (from len : ℕ) → Bool
 is_bad_range s from len = (len == 0) || nat_lt s.geometry.limit (from + len)
 
 -- Map (Linux: `hugetlb_reserve_pages`). No base: NoAddress. More indices of the range are missing from the
--- reserved ones than frames are available: NoFrame. Else the mapping is entered at the least base, the range
+-- reserved ones than the quota lets the files have: NoQuota. More than frames are available: NoFrame. Else the mapping is entered at the least base, the range
 -- is reserved, resv gains what was missing, size grows to the end of the range: Mapped
 abbrev pub MapMeans : State → (task file from len : ℕ) → Answer → State → Type 0
 MapMeans s t f from len answer m =
     (found : Option ℕ) × IsRoom s.geometry.space (s.mappings t) len found
     × MatchOption found
     (Gives NoAddress s answer m)
-    (λ base. MatchBool (nat_lt (available s) (missing (s.reserved f) from (from + len)))
+    (λ base. MatchBool (exceeds_quota s (missing (s.reserved f) from (from + len)))
+    (Gives NoQuota s answer m)
+    (MatchBool (nat_lt (available s) (missing (s.reserved f) from (from + len)))
     (Gives NoFrame s answer m)
     (Gives (Mapped base)
     (record s {
@@ -81,7 +93,7 @@ MapMeans s t f from len answer m =
         resv = s.resv + missing (s.reserved f) from (from + len);
         size = put s.size f (max (s.size f) (from + len));
       };
-    }) answer m))
+    }) answer m)))
 
 -- MapNoReserve (Linux: `hugetlbfs_file_mmap` with `MAP_NORESERVE`). No base: NoAddress. Else the mapping is
 -- entered at the least base, size grows to the end of the range: Mapped
@@ -99,8 +111,8 @@ MapNoReserveMeans s t f from len answer m =
     }) answer m)
 
 -- a touched index that has no page (Linux: `hugetlb_no_page`). Reserved: a free frame becomes its page, with
--- word 0, and resv loses one. A frame is available: it becomes the page, and the index is reserved. Else
--- NoFrame. The page is read or written, and translated
+-- word 0, and resv loses one. One more is more than the quota lets the files have: NoQuota. A frame is available:
+-- it becomes the page, and the index is reserved. Else NoFrame. The page is read or written, and translated
 abbrev pub PageMade : State → (task vpn : ℕ) → Access → (file index : ℕ) → Answer → State → Type 0
 PageMade s t vpn access f i answer m =
     MatchBool (s.reserved f i)
@@ -114,6 +126,8 @@ PageMade s t vpn access f i answer m =
         entries = put2 s.entries t vpn (Some x);
       };
     }) answer m)
+    (MatchBool (exceeds_quota s 1)
+    (Gives NoQuota s answer m)
     (MatchBool (nat_lt 0 (available s))
     ((x : ℕ) × (s.frame x ≡ Free)
     × Gives (answer_of access 0)
@@ -125,7 +139,7 @@ PageMade s t vpn access f i answer m =
         entries = put2 s.entries t vpn (Some x);
       };
     }) answer m)
-    (Gives NoFrame s answer m))
+    (Gives NoFrame s answer m)))
 
 -- Load and Store (Linux: `hugetlb_fault`). In no mapping: Segv. Index at or above the size: Beyond. The index
 -- has a page: it is read or written, and translated. Else a page is made
@@ -247,15 +261,28 @@ RangePaged s f from to size m =
       };
     })
 
--- Alloc (Linux: `hugetlbfs_fallocate`). No more of the range is missing from the reserved indices than frames are
--- available: the range is paged, and size grows to its end unless it is to be kept: Done. Else the range is
--- paged up to the missing index that has as many missing ones before it as frames were available: NoFrame
+-- to how many missing indices an allocation can give a page: the lesser of the frames that are available and of what
+-- the quota lets the files still have
+abbrev pub can_page : State → ℕ
+can_page s = elim s.geometry.quota [ None ↦ available s | Some most ↦ min (available s) (most - reserved_in s) ]
+
+-- what it answers where that is too few
+abbrev pub short_answer : State → Answer
+short_answer s =
+    elim s.geometry.quota [
+      | None ↦ NoFrame
+      | Some most ↦ if nat_le (most - reserved_in s) (available s) then NoQuota else NoFrame
+    ]
+
+-- Alloc (Linux: `hugetlbfs_fallocate`). No more of the range is missing from the reserved indices than can be given a
+-- page: the range is paged, and size grows to its end unless it is to be kept: Done. Else the range is paged up to
+-- the missing index that has as many missing ones before it as could be given a page: NoQuota or NoFrame
 abbrev pub AllocMeans : State → (file from len : ℕ) → (keep : Bool) → Answer → State → Type 0
 AllocMeans s f from len keep answer m =
-    MatchBool (nat_le (missing (s.reserved f) from (from + len)) (available s))
+    MatchBool (nat_le (missing (s.reserved f) from (from + len)) (can_page s))
     ((answer ≡ Done) × RangePaged s f from (from + len) (if keep then s.size else put s.size f (max (s.size f) (from + len))) m)
-    ((x : ℕ) × (is_within from (from + len) x ≡ true) × (s.reserved f x ≡ false) × (missing (s.reserved f) from x ≡ available s)
-    × (answer ≡ NoFrame) × RangePaged s f from x s.size m)
+    ((x : ℕ) × (is_within from (from + len) x ≡ true) × (s.reserved f x ≡ false) × (missing (s.reserved f) from x ≡ can_page s)
+    × (answer ≡ short_answer s) × RangePaged s f from x s.size m)
 
 -- what the call means
 abbrev pub Means : State → (task : ℕ) → Op → Answer → State → Type 0
@@ -269,7 +296,8 @@ Means s t (op.Punch f from len) answer m = Checked s f (is_bad_range s from len)
 Means s t (op.Truncate f new) answer m = Checked s f (nat_lt s.geometry.limit new) answer m (TruncateMeans s f new answer m)
 Means s t op.Exit answer m = ExitMeans s t answer m
 
--- a call of a task that runs alone from here, by granted steps to its end, has the answer and leads to the state that the table tells
+-- a call of a task that runs alone from here, by granted steps to its end, has the answer and leads to the state that
+-- the table tells, and the used count changes as the reserved indices do
 abbrev pub CallsAloneMean : State → Type 0
 CallsAloneMean s = (t : ℕ) (op : Op) (answer : Answer) (events : List (Event × Outcome)) (n : State)
-    → IsReady s t → IsCall t op answer events → Run s events n → (m : State) × Means s t op answer m × Looks m n
+    → IsReady s t → IsCall t op answer events → Run s events n → (m : State) × Means s t op answer m × Looks m n × UsesAlike s n
