@@ -1,6 +1,6 @@
 -- What the steps of maps, touches and allocations take for granted of the pool. Each of these is a fact of every
 -- state that the machine reaches.
-use Rattle.std.specs.Prelude.{◌≡◌, ℕ, ◌+◌, ◌≤◌, ◌<◌, true, None, Some, IfSome, IsSome}
+use Rattle.std.specs.Prelude.{◌≡◌, ℕ, ◌+◌, ◌≤◌, ◌<◌, ◌^◌, true, None, Some, IfSome, IsSome}
 use Rattle.hp_base.specs.Mappings.{find, fits}
 use Rattle.hp_frames.specs.declared.frame.FrameState.TheVariants.{Hand, Placed}
 use Rattle.hp_machine.specs.State.{Pool, slot_of}
@@ -33,10 +33,10 @@ abbrev pub MapFits : Pool → (task : ℕ) → MapPhase → Type 0
 MapFits s t (at.Start p) = Unit {0}
 MapFits s t (at.Room p) = IsTaskOf s t
 MapFits s t (at.Missing p) = IsFileOf s p.map.file × (1 ≤ p.map.len) × (p.map.from + p.map.len ≤ s.geometry.limit)
-MapFits s t (at.Changed p) = Unit {0}
+MapFits s t (at.Changed p) = s.used + p.pending.missing < 2 ^ 32
 MapFits s t (at.Abort p) = IsFileOf s p.map.file × (1 ≤ s.pending p.map.file)
 MapFits s t (at.Accounted p) = IsFileOf s p.map.file × (1 ≤ s.pending p.map.file)
-MapFits s t (at.Settle p) = p.excess ≤ s.resv
+MapFits s t (at.Settle p) = (p.excess ≤ s.resv) × (p.excess ≤ s.used)
 MapFits s t (at.Enter p) = record {
   task : IsTaskOf s t;
   file : IsFileOf s p.map.file;
@@ -52,10 +52,10 @@ TouchFits s t (touch.Look p) = IsTaskOf s t × IfSome (s.entries t p.vpn) (λ x.
 TouchFits s t (touch.Want p) = Unit {0}
 TouchFits s t (touch.Locked p) = IsFileOf s p.touch.file
 TouchFits s t (touch.Missing p) = IsFileOf s p.touch.file × (p.touch.index < s.geometry.limit)
-TouchFits s t (touch.Changed p) = p.pending.missing ≡ 0 → 1 ≤ s.resv
+TouchFits s t (touch.Changed p) = (p.pending.missing ≡ 0 → 1 ≤ s.resv) × (s.used + 1 < 2 ^ 32)
 TouchFits s t (touch.Abort p) = IsFileOf s p.touch.file × (1 ≤ s.pending p.touch.file)
 TouchFits s t (touch.Taken p) = IsFileOf s p.touch.file × (1 ≤ s.pending p.touch.file)
-TouchFits s t (touch.Settle p) = 1 ≤ s.resv
+TouchFits s t (touch.Settle p) = (1 ≤ s.resv) × (1 ≤ s.used)
 TouchFits s t (touch.Committed p) = record {
   file : IsFileOf s p.touch.file;
   in_limit : p.touch.index < s.geometry.limit;
@@ -78,10 +78,10 @@ AllocFits s t (alloc.Head p) = Unit {0}
 AllocFits s t (alloc.Want p) = Unit {0}
 AllocFits s t (alloc.Locked p) = IsFileOf s p.allocation.file
 AllocFits s t (alloc.Missing p) = IsFileOf s p.allocation.file × (p.index < s.geometry.limit)
-AllocFits s t (alloc.Changed p) = p.pending.missing ≡ 0 → 1 ≤ s.resv
+AllocFits s t (alloc.Changed p) = (p.pending.missing ≡ 0 → 1 ≤ s.resv) × (s.used + 1 < 2 ^ 32)
 AllocFits s t (alloc.Abort p) = IsFileOf s p.allocation.file × (1 ≤ s.pending p.allocation.file)
 AllocFits s t (alloc.Taken p) = IsFileOf s p.allocation.file × (1 ≤ s.pending p.allocation.file)
-AllocFits s t (alloc.Settle p) = 1 ≤ s.resv
+AllocFits s t (alloc.Settle p) = (1 ≤ s.resv) × (1 ≤ s.used)
 AllocFits s t (alloc.Committed p) = record {
   file : IsFileOf s p.allocation.file;
   in_limit : p.index < s.geometry.limit;

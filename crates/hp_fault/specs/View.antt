@@ -54,9 +54,16 @@ mappings_by_task spaces t = (table_of spaces t).mappings
 unfoldable pub entries_of : List Table → ℕ → ℕ → Option ℕ
 entries_of spaces t v = get (table_of spaces t).entries v
 
--- how large the pool is
+-- how large the pool is, and how many pages its files may use
 abbrev pub geometry_of : PartsState → Geometry
-geometry_of p = record { files = length p.files; slots = length p.slots; tasks = length p.spaces; limit = LIMIT; space = VPNS }
+geometry_of p = record {
+  files = length p.files;
+  slots = length p.slots;
+  tasks = length p.spaces;
+  limit = LIMIT;
+  space = VPNS;
+  quota = p.bank.quota;
+}
 
 -- what all calls share, as the machine sees it
 abbrev pub pool_of : PartsState → Pool
@@ -65,6 +72,7 @@ pool_of p = record {
   frames = length p.bank.frames;
   frame = frame_at p.bank.frames;
   resv = p.bank.resv;
+  used = p.bank.used;
   slots = holders_of p.slots;
   locks = holders_of p.locks;
   size = sizes_of p.files;

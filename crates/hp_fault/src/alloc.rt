@@ -1,5 +1,5 @@
 //! One function for each phase of an allocation (Linux: `hugetlbfs_fallocate`).
-ghost use Rattle.std.specs.Prelude.{◌≡◌, ◌≤◌, ◌<◌, ◌+◌, true, None, Some, IfOk, IfErr, OnErr};
+ghost use Rattle.std.specs.Prelude.{◌≡◌, ◌≤◌, ◌<◌, ◌+◌, ◌^◌, true, None, Some, IfOk, IfErr, OnErr};
 ghost use Rattle.hp_machine.specs.State.{Pool, slot_of};
 ghost use Rattle.hp_machine.specs.AllocRows.{AllocRow, AllocStartRow, AllocHeadRow, AllocWantRow, AllocLockedRow};
 ghost use Rattle.hp_machine.specs.AllocRows.{AllocMissingRow, AllocChangedRow, AllocAbortRow, AllocTakenRow, AllocSettleRow};
@@ -163,7 +163,8 @@ fn from_missing(parts: &mut Parts, grant: bool, phase: Missing) -> Result<Turn<A
 
 #[tactic(auto, using(crate::proofs::Laws::take_laws))]
 fn from_changed(parts: &mut Parts, killed: bool, phase: Changed) -> Turn<AllocPhase>
-    requires { phase.pending.missing ≡ 0 → 1 ≤ (view parts.old).resv }
+    requires reserved { phase.pending.missing ≡ 0 → 1 ≤ (view parts.old).resv }
+    requires used { (view parts.old).used + 1 < 2 ^ 32 }
     ensures row { AllocChangedRow (view parts.old) killed phase result (view parts.new) }
     ensures sizes { SizesStay (state_of parts.old) (state_of parts.new) }
     ensures room { RoomStays (state_of parts.old) (state_of parts.new) }
@@ -177,13 +178,13 @@ fn from_changed(parts: &mut Parts, killed: bool, phase: Changed) -> Turn<AllocPh
         return abort(allocation, index, pending, Answer::Interrupted);
     }
     match take_frame(&mut parts.bank, pending.missing()) {
-        Some(held) => Turn::Moved(AllocPhase::Taken(Taken {
+        Ok(held) => Turn::Moved(AllocPhase::Taken(Taken {
             allocation,
             index,
             pending,
             held,
         })),
-        None => abort(allocation, index, pending, Answer::NoFrame),
+        Err(answer) => abort(allocation, index, pending, answer),
     }
 }
 
@@ -241,7 +242,8 @@ fn from_taken(parts: &mut Parts, phase: Taken) -> Turn<AllocPhase>
 }
 
 fn from_settle(parts: &mut Parts, phase: Settle) -> Turn<AllocPhase>
-    requires { 1 ≤ (view parts.old).resv }
+    requires resv { 1 ≤ (view parts.old).resv }
+    requires used { 1 ≤ (view parts.old).used }
     ensures row { AllocSettleRow (view parts.old) phase result (view parts.new) }
     ensures sizes { SizesStay (state_of parts.old) (state_of parts.new) }
     ensures room { RoomStays (state_of parts.old) (state_of parts.new) }

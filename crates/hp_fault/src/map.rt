@@ -1,5 +1,5 @@
 //! One function for each phase of a map (Linux: `hugetlb_reserve_pages`, `hugetlbfs_file_mmap`).
-ghost use Rattle.std.specs.Prelude.{◌≡◌, ◌≤◌, ◌<◌, ◌+◌, true, Some, IfOk, IfErr, OnErr};
+ghost use Rattle.std.specs.Prelude.{◌≡◌, ◌≤◌, ◌<◌, ◌+◌, ◌^◌, true, Some, IfOk, IfErr, OnErr};
 ghost use Rattle.hp_machine.specs.MapRows.{MapRow, MapStartRow, MapRoomRow, MapMissingRow, MapChangedRow, MapAbortRow};
 ghost use Rattle.hp_machine.specs.MapRows.{MapAccountedRow, MapSettleRow, MapEnterRow, MapLeaveRow};
 ghost use Rattle.hp_machine.specs.Wants.{map_wants};
@@ -13,7 +13,7 @@ ghost use Rattle.hp_fault.specs.Room.{RoomStays, RoomStaysUnless};
 ghost use Rattle.hp_fault.specs.Fits.{MapFits, IsTaskOf, IsFileOf};
 
 use crate::parts::Parts;
-use crate::shared::{carry, is_bad_range, leave_lock, start};
+use crate::shared::{carry, is_bad_range, leave_lock, refused, start};
 use hp_base::{Answer, Index, LIMIT, Task, VPNS};
 pub use hp_machine::map::{
     Abort, Accounted, Changed, Enter, Leave, MapPhase, MapRequest, Missing, Room, Settle, Start,
@@ -134,6 +134,7 @@ fn from_missing(parts: &mut Parts, grant: bool, phase: Missing) -> Result<Turn<M
 
 #[tactic(auto, using(crate::proofs::Laws::free_frames_is))]
 fn from_changed(parts: &mut Parts, killed: bool, phase: Changed) -> Turn<MapPhase>
+    requires used { (view parts.old).used + phase.pending.missing < 2 ^ 32 }
     ensures row { MapChangedRow (view parts.old) killed phase result (view parts.new) }
     ensures sizes { SizesStay (state_of parts.old) (state_of parts.new) }
     ensures room { RoomStays (state_of parts.old) (state_of parts.new) }
@@ -144,7 +145,7 @@ fn from_changed(parts: &mut Parts, killed: bool, phase: Changed) -> Turn<MapPhas
     }
     match parts.bank.account(pending.missing()) {
         Ok(()) => Turn::Moved(MapPhase::Accounted(Accounted { map, base, pending })),
-        Err(_) => abort(map, pending, Answer::NoFrame),
+        Err(fault) => abort(map, pending, refused(fault)),
     }
 }
 
@@ -185,7 +186,8 @@ fn from_accounted(parts: &mut Parts, phase: Accounted) -> Turn<MapPhase>
 }
 
 fn from_settle(parts: &mut Parts, phase: Settle) -> Turn<MapPhase>
-    requires { phase.excess ≤ (view parts.old).resv }
+    requires resv { phase.excess ≤ (view parts.old).resv }
+    requires used { phase.excess ≤ (view parts.old).used }
     ensures row { MapSettleRow (view parts.old) phase result (view parts.new) }
     ensures sizes { SizesStay (state_of parts.old) (state_of parts.new) }
     ensures room { RoomStays (state_of parts.old) (state_of parts.new) }

@@ -1,8 +1,9 @@
 //! What steps of several operations have in common: how a call on a file starts, how slots are taken and
 //! left, and how a page comes into a file.
-ghost use Rattle.std.specs.Prelude.{◌≡◌, ◌<◌, ◌≤◌, ◌+◌, ◌-◌, ◌↔◌, ◌==◌, ◌||◌, ℕ, nat_lt, None, Some, OnOk, OnErr, IfErr, IfSome};
-ghost use Rattle.std.specs.Prelude.{IfNone, IsNone, length, if◌then◌else◌};
-ghost use Rattle.hp_frames.specs.Bank.{HasWord, IsPlaced, IsFree, frame_at, free_count, with_frame, with_resv};
+ghost use Rattle.std.specs.Prelude.{◌≡◌, ◌≢◌, ◌<◌, ◌≤◌, ◌+◌, ◌-◌, ◌↔◌, ◌⊎◌, ◌==◌, ◌||◌, ℕ, false, nat_lt};
+ghost use Rattle.std.specs.Prelude.{None, Some, OnOk, OnErr, IfOk, IfErr, IsErr, IsErrOf, IsTrue, length, if◌then◌else◌};
+ghost use Rattle.hp_frames.specs.Bank.{HasWord, IsPlaced, IsFree, CanCount, frame_at, free_count, is_used_up};
+ghost use Rattle.hp_frames.specs.Bank.{with_frame, with_resv, with_used};
 ghost use Rattle.hp_frames.specs.declared.frame.FrameState.TheVariants.{Hand};
 ghost use Rattle.hp_machine.specs.State.{slot_of};
 ghost use Rattle.hp_machine.specs.Parts.{StartRow, WantSlotRow, answer_of, frame_after, placed, unslotted, unlocked};
@@ -14,7 +15,7 @@ ghost use Rattle.hp_fault.specs.Turns.{carried, IfBlocked};
 
 use crate::parts::Parts;
 use hp_base::{Answer, File, Frame, Index, LIMIT, Task};
-use hp_frames::{Bank, Held};
+use hp_frames::{Bank, Fault, Held};
 use hp_machine::Turn;
 use hp_machine::touch::Access;
 
@@ -108,21 +109,38 @@ pub fn leave_lock(parts: &mut Parts, task: Task, file: File)
     parts.locks.leave(file.number(), task);
 }
 
-/// A frame for one page: a reserved one where the change missed nothing, else one that isn't reserved,
-/// where there is one (Linux: `dequeue_huge_page_vma`).
+/// A frame for one page: a reserved one where the change missed nothing, else one that isn't reserved, for a page
+/// that is used from now on. The quota is asked first, and then the frames (Linux: `hugepage_subpool_get_pages`,
+/// `dequeue_huge_page_vma`).
 #[tactic(auto, using(crate::proofs::Laws::take_laws))]
-pub fn take_frame(bank: &mut Bank, missing: u32) -> Option<Held>
-    requires { missing ≡ 0 → 1 ≤ bank.old.resv }
-    ensures none { IsNone result ↔ ((0 < missing) × (free_count bank.old ≡ bank.old.resv)) }
-    ensures free { IfSome result (λ held. IsFree bank.old held) }
-    ensures taken { IfSome result (λ held. bank.new
-        ≡ with_resv (with_frame bank.old held Hand) (if missing == 0 then bank.old.resv - 1 else bank.old.resv)) }
-    ensures same { IfNone result (bank.new ≡ bank.old) }
+pub fn take_frame(bank: &mut Bank, missing: u32) -> Result<Held, Answer>
+    requires reserved { missing ≡ 0 → 1 ≤ bank.old.resv }
+    requires used { CanCount bank.old 1 }
+    ensures quota { IsErrOf result Answer.NoQuota ↔ ((0 < missing) × IsTrue (is_used_up bank.old.quota bank.old.used)) }
+    ensures none { IsErrOf result Answer.NoFrame
+        ↔ ((0 < missing) × (is_used_up bank.old.quota bank.old.used ≡ false) × (free_count bank.old ≡ bank.old.resv)) }
+    ensures only { IsErr result → IsErrOf result Answer.NoQuota ⊎ IsErrOf result Answer.NoFrame }
+    ensures free { IfOk result (λ held. IsFree bank.old held) }
+    ensures taken { IfOk result (λ held. bank.new ≡ (if missing == 0
+        then with_resv (with_frame bank.old held Hand) (bank.old.resv - 1)
+        else with_used (with_frame bank.old held Hand) (bank.old.used + 1))) }
+    ensures err { OnErr result (bank.new ≡ bank.old) }
 {
     if missing == 0 {
-        return Some(bank.take_reserved());
+        return Ok(bank.take_reserved());
     }
-    bank.take_unreserved().ok()
+    bank.take_unreserved().map_err(refused)
+}
+
+/// What a call is told where the bank refuses it pages.
+pub fn refused(fault: Fault) -> Answer
+    ensures quota { fault ≡ Fault.Quota → result ≡ Answer.NoQuota }
+    ensures frames { fault ≢ Fault.Quota → result ≡ Answer.NoFrame }
+{
+    match fault {
+        Fault::Quota => Answer::NoQuota,
+        Fault::Short | Fault::NoFrame => Answer::NoFrame,
+    }
 }
 
 /// The frame becomes the page of an index that has none (Linux: `hugetlb_add_to_page_cache`). Without memory
@@ -154,6 +172,8 @@ pub fn use_page(bank: &mut Bank, frame: Frame, access: Access) -> Answer
     ensures frames { frame_at bank.new.frames ≡ frame_after access (frame_at bank.old.frames) frame }
     ensures count { length bank.new.frames ≡ length bank.old.frames }
     ensures resv { bank.new.resv ≡ bank.old.resv }
+    ensures used { bank.new.used ≡ bank.old.used }
+    ensures quota { bank.new.quota ≡ bank.old.quota }
     ensures room { bank.new.room ≡ bank.old.room }
 {
     match access {

@@ -1,5 +1,5 @@
 //! One function for each phase of a touch: a load or a store (Linux: `hugetlb_fault`, `hugetlb_no_page`).
-ghost use Rattle.std.specs.Prelude.{◌≡◌, ◌≤◌, ◌<◌, ◌+◌, ℕ, true, None, Some, IfOk, IfErr, IfSome, IsSome, OnErr};
+ghost use Rattle.std.specs.Prelude.{◌≡◌, ◌≤◌, ◌<◌, ◌+◌, ◌^◌, ℕ, true, None, Some, IfOk, IfErr, IfSome, IsSome, OnErr};
 ghost use Rattle.hp_machine.specs.State.{slot_of};
 ghost use Rattle.hp_machine.specs.TouchRows.{TouchRow, TouchLookRow, TouchWantRow, TouchLockedRow, TouchMissingRow};
 ghost use Rattle.hp_machine.specs.TouchRows.{TouchChangedRow, TouchAbortRow, TouchTakenRow, TouchSettleRow, TouchCommittedRow};
@@ -156,7 +156,8 @@ fn from_missing(parts: &mut Parts, grant: bool, phase: Missing) -> Result<Turn<T
 
 #[tactic(auto, using(crate::proofs::Laws::take_laws))]
 fn from_changed(parts: &mut Parts, killed: bool, phase: Changed) -> Turn<TouchPhase>
-    requires { phase.pending.missing ≡ 0 → 1 ≤ (view parts.old).resv }
+    requires reserved { phase.pending.missing ≡ 0 → 1 ≤ (view parts.old).resv }
+    requires used { (view parts.old).used + 1 < 2 ^ 32 }
     ensures row { TouchChangedRow (view parts.old) killed phase result (view parts.new) }
     ensures sizes { SizesStay (state_of parts.old) (state_of parts.new) }
     ensures room { RoomStays (state_of parts.old) (state_of parts.new) }
@@ -166,12 +167,12 @@ fn from_changed(parts: &mut Parts, killed: bool, phase: Changed) -> Turn<TouchPh
         return abort(touch, pending, Answer::Killed);
     }
     match take_frame(&mut parts.bank, pending.missing()) {
-        Some(held) => Turn::Moved(TouchPhase::Taken(Taken {
+        Ok(held) => Turn::Moved(TouchPhase::Taken(Taken {
             touch,
             pending,
             held,
         })),
-        None => abort(touch, pending, Answer::NoFrame),
+        Err(answer) => abort(touch, pending, answer),
     }
 }
 
@@ -217,7 +218,8 @@ fn from_taken(parts: &mut Parts, phase: Taken) -> Turn<TouchPhase>
 }
 
 fn from_settle(parts: &mut Parts, phase: Settle) -> Turn<TouchPhase>
-    requires { 1 ≤ (view parts.old).resv }
+    requires resv { 1 ≤ (view parts.old).resv }
+    requires used { 1 ≤ (view parts.old).used }
     ensures row { TouchSettleRow (view parts.old) phase result (view parts.new) }
     ensures sizes { SizesStay (state_of parts.old) (state_of parts.new) }
     ensures room { RoomStays (state_of parts.old) (state_of parts.new) }

@@ -1,6 +1,6 @@
 -- What the steps of punches, truncations, unmaps and exits take for granted of the pool. Each of these is a
 -- fact of every state that the machine reaches.
-use Rattle.std.specs.Prelude.{◌≡◌, ℕ, ◌+◌, ◌≤◌, ◌<◌, ◌^◌, true, None, Some}
+use Rattle.std.specs.Prelude.{◌≡◌, ℕ, ◌+◌, ◌≤◌, ◌<◌, ◌^◌, true, false, None, Some}
 use Rattle.hp_base.specs.Indices.{count_within}
 use Rattle.hp_base.specs.Mappings.{in_mapping}
 use Rattle.hp_machine.specs.State.{Pool, slot_of}
@@ -25,7 +25,7 @@ PunchFits s t (punch.Locked p) = IsFileOf s p.hole.file
 PunchFits s t (punch.Unmap p) = IsTaskOf s p.task × (s.geometry.tasks < 2 ^ 32)
 PunchFits s t (punch.Evict p) = IsFileOf s p.hole.file × HasPage s p.hole.file p.index
 PunchFits s t (punch.Delete p) = IsFileOf s p.hole.file × (s.pending p.hole.file ≤ s.spare p.hole.file)
-PunchFits s t (punch.Free p) = IsHeld s p.held
+PunchFits s t (punch.Free p) = IsHeld s p.held × (p.denied ≡ false → 1 ≤ s.used)
 PunchFits s t (punch.Unslot p) = record {
   slot : s.slots (slot_of s.geometry p.hole.file p.index) ≡ Some t;
   in_limit : p.hole.from + p.hole.len ≤ s.geometry.limit;
@@ -44,7 +44,7 @@ TruncateFits s t (truncate.Free p) = IsHeld s p.held
 TruncateFits s t (truncate.Unslot p) = s.slots (slot_of s.geometry p.truncation.file p.index) ≡ Some t
 TruncateFits s t (truncate.Tail p) =
     IsFileOf s p.truncation.file × (p.evicted ≤ count_within (s.reserved p.truncation.file) p.truncation.new s.geometry.limit)
-TruncateFits s t (truncate.Settle p) = p.excess ≤ s.resv
+TruncateFits s t (truncate.Settle p) = (p.excess ≤ s.resv) × (p.excess + p.evicted ≤ s.used)
 TruncateFits s t (truncate.Leave p) = s.locks p.truncation.file ≡ Some t
 
 abbrev pub UnmapFits : Pool → (task : ℕ) → UnmapPhase → Type 0

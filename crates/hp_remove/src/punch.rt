@@ -1,5 +1,5 @@
 //! One function for each phase of a punch (Linux: `hugetlbfs_punch_hole`, `remove_inode_hugepages`).
-ghost use Rattle.std.specs.Prelude.{◌≡◌, ◌≤◌, ◌<◌, ◌+◌, ◌^◌, true, Some, IfOk, IfErr, OnErr};
+ghost use Rattle.std.specs.Prelude.{◌≡◌, ◌≤◌, ◌<◌, ◌+◌, ◌^◌, true, false, Some, IfOk, IfErr, OnErr};
 ghost use Rattle.hp_machine.specs.State.{slot_of};
 ghost use Rattle.hp_machine.specs.PunchRows.{PunchRow, PunchStartRow, PunchWantRow, PunchLockedRow, PunchUnmapRow, PunchEvictRow};
 ghost use Rattle.hp_machine.specs.PunchRows.{PunchDeleteRow, PunchFreeRow, PunchUnslotRow, PunchLeaveRow};
@@ -158,9 +158,12 @@ fn from_delete(parts: &mut Parts, grant: bool, phase: Delete) -> Result<Turn<Pun
     }
 }
 
+// Where the delete was denied the index is still reserved, and its page used. Else it isn't, so the page no longer is
+// (Linux: `hugepage_subpool_put_pages`).
 #[tactic(auto, using(hp_fault::proofs::Laws::frame_laws))]
 fn from_free(parts: &mut Parts, phase: Free) -> Turn<PunchPhase>
-    requires { IsHeld (view parts.old) phase.held }
+    requires held { IsHeld (view parts.old) phase.held }
+    requires used { phase.denied ≡ false → 1 ≤ (view parts.old).used }
     ensures row { PunchFreeRow (view parts.old) phase result (view parts.new) }
     ensures sizes { SizesStay (state_of parts.old) (state_of parts.new) }
     ensures room { RoomStays (state_of parts.old) (state_of parts.new) }
@@ -175,6 +178,7 @@ fn from_free(parts: &mut Parts, phase: Free) -> Turn<PunchPhase>
         parts.bank.restore(held);
     } else {
         parts.bank.give(held);
+        parts.bank.drop_used(1);
     }
     Turn::Moved(PunchPhase::Unslot(Unslot { hole, index }))
 }

@@ -273,17 +273,29 @@ fn from_tail(parts: &mut Parts, phase: Tail) -> Turn<TruncatePhase>
     let file = &mut parts.files[truncation.file.number() as usize];
     let removed = file.map.remove_tail(Index::new(truncation.new));
     let excess = removed - evicted;
-    Turn::Moved(TruncatePhase::Settle(Settle { truncation, excess }))
+    Turn::Moved(TruncatePhase::Settle(Settle {
+        truncation,
+        excess,
+        evicted,
+    }))
 }
 
+// The indices that went and had no page give their reservations back; neither they nor those whose pages were evicted
+// are used any more (Linux: `hugetlb_unreserve_pages`, `hugepage_subpool_put_pages`).
 fn from_settle(parts: &mut Parts, phase: Settle) -> Turn<TruncatePhase>
-    requires { phase.excess ≤ (view parts.old).resv }
+    requires resv { phase.excess ≤ (view parts.old).resv }
+    requires used { phase.excess + phase.evicted ≤ (view parts.old).used }
     ensures row { TruncateSettleRow (view parts.old) phase result (view parts.new) }
     ensures sizes { SizesStay (state_of parts.old) (state_of parts.new) }
     ensures room { RoomStays (state_of parts.old) (state_of parts.new) }
 {
-    let Settle { truncation, excess } = phase;
+    let Settle {
+        truncation,
+        excess,
+        evicted,
+    } = phase;
     parts.bank.settle(excess);
+    parts.bank.drop_used(evicted);
     Turn::Moved(TruncatePhase::Leave(Leave { truncation }))
 }
 
