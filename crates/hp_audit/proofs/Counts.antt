@@ -1,5 +1,6 @@
 -- How often a frame is counted, and how many indices are.
-use Rattle.std.proofs.Common.{◌≡◌, ℕ, ◌+◌, ◌<◌, ◌≤◌, true, false, cond, ◌==◌, List, [], ◌∷◌, length, take, get_or, refl, ap, subst, add-one, arith}
+use Rattle.std.proofs.Common.{◌≡◌, ℕ, ◌+◌, ◌<◌, ◌≤◌, true, false, cond, ◌==◌, List, [], ◌∷◌, length, take, get_or}
+use Rattle.std.proofs.Common.{refl, ap, subst, add-one, arith}
 use Rattle.std.specs.Prelude.{Bool, All, count_by, sum_by, nat_lt}
 use Rattle.std.proofs.lemmas.Bool.{eqb-true, ltb-true, ltb-false}
 use Rattle.std.proofs.lemmas.List.Sums.{sum_by_more}
