@@ -1,12 +1,19 @@
--- How often a frame is counted.
-use Rattle.std.proofs.Common.{◌≡◌, ℕ, ◌+◌, ◌<◌, ◌≤◌, true, false, cond, ◌==◌, List, [], ◌∷◌, length, take, get_or, refl, ap, subst, arith}
+-- How often a frame is counted, and how many indices are.
+use Rattle.std.proofs.Common.{◌≡◌, ℕ, ◌+◌, ◌<◌, ◌≤◌, true, false, cond, ◌==◌, List, [], ◌∷◌, length, take, get_or}
+use Rattle.std.proofs.Common.{refl, ap, subst, add-one, arith}
 use Rattle.std.specs.Prelude.{Bool, All, count_by, sum_by, nat_lt}
 use Rattle.std.proofs.lemmas.Bool.{eqb-true, ltb-true, ltb-false}
 use Rattle.std.proofs.lemmas.List.Sums.{sum_by_more}
+use Rattle.hp_base.specs.Indices.{count_below}
 use Rattle.hp_base.proofs.Sums.{sum_somewhere}
 use Rattle.hp_audit.specs.declared.picture.FilePicture.{FilePicture}
 use Rattle.hp_audit.specs.declared.picture.Picture.{Picture}
 use Rattle.hp_audit.specs.Findings.{times_in, pages_in, place_count, IsOnePlace}
+
+-- one more number is counted if it passes
+pub count_below_more : (p : ℕ → Bool) (n : ℕ) (b : Bool) → p n ≡ b → count_below p (n + 1) ≡ count_below p n + cond b 1 0
+unfolding count_below
+count_below_more p n b is = rw (add-one, is) refl
 
 -- how many pages of a file are in the frame
 abbrev pub pages_of : ℕ → FilePicture → ℕ

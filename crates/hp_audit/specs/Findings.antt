@@ -67,6 +67,19 @@ pub record IsCounted (p : Picture) : Type 0 where
   pub exact : pos p.resv ≡ pos (vacant_in p) +ℤ p.owed
   pub enough : p.resv ≤ length p.free.items
 
+-- how many indices of the file are reserved
+unfoldable pub reserved_of : FilePicture → ℕ
+reserved_of file = count_below (is_reserved file.regions.items) LIMIT
+
+-- how many indices of all files are reserved
+abbrev pub reserved_in : Picture → ℕ
+reserved_in p = sum_by reserved_of p.files.items
+
+-- the used count is that number plus what is owed to it, and at most the quota, where there is one
+pub record IsUsedCounted (p : Picture) : Type 0 where
+  pub exact : pos p.used ≡ pos (reserved_in p) +ℤ p.used_owed
+  pub within : IfSome p.quota (λ most. p.used ≤ most)
+
 -- nothing is wrong with the picture
 abbrev pub IsRight : Picture → Type 0
-IsRight p = IsShaped p × Agrees p × IsOnePlace p × IsBelow p × IsCounted p
+IsRight p = IsShaped p × Agrees p × IsOnePlace p × IsBelow p × IsCounted p × IsUsedCounted p

@@ -1,6 +1,7 @@
 //! The audit of a picture.
 ghost use Rattle.std.specs.Prelude.{◌≡◌, ◌<◌, ◌≤◌, ◌^◌, ◌↔◌, length, All, Contains, slice_get, IsTrue, IsSomeAnd, IsOk, IsErrOf};
-ghost use Rattle.hp_audit.specs.Findings.{place_count, vacant_in, IsFileShaped, IsShaped, Agrees, IsOnePlace, IsBelow, IsCounted, IsRight};
+ghost use Rattle.hp_audit.specs.Findings.{place_count, vacant_in, reserved_in};
+ghost use Rattle.hp_audit.specs.Findings.{IsFileShaped, IsShaped, Agrees, IsOnePlace, IsBelow, IsCounted, IsUsedCounted, IsRight};
 ghost use Rattle.hp_audit.specs.declared.finding.Finding.TheVariants as Finding;
 
 use crate::file;
@@ -131,9 +132,29 @@ fn is_counted(picture: &Picture) -> bool
         && picture.resv as usize <= picture.free.len()
 }
 
+// How many indices of all files are reserved.
+fn reserved(picture: &Picture) -> u128
+    ensures counted { result ≡ reserved_in picture.now }
+    ensures in_range { result < 2 ^ 76 }
+{
+    let mut reserved = 0;
+    for file in &picture.files {
+        reserved += u128::from(file::reserved(file));
+    }
+    reserved
+}
+
+// Whether the used count is what it has to be, and within the quota.
+fn is_used_counted(picture: &Picture) -> bool
+    ensures { IsTrue result ↔ IsUsedCounted picture.now }
+{
+    i128::from(picture.used) == reserved(picture) as i128 + i128::from(picture.used_owed)
+        && picture.quota.is_none_or(|quota| picture.used <= quota)
+}
+
 /// Whether nothing is wrong with a picture, and else the first thing that is, in the order of
 /// `Finding`. It takes no memory, and so looks by plain scans: of n frames it looks at n * n, of a
-/// file with p pages and r ranges at p * p pages, at p for each translation and at p + r for each
+/// file with p pages and r ranges at p * p pages, at p for each translation and at p + 2 * r for each
 /// index below `LIMIT`.
 pub fn audit(picture: &Picture) -> Result<(), Finding>
     ensures ok { IsOk result ↔ IsRight picture.now }
@@ -147,6 +168,9 @@ pub fn audit(picture: &Picture) -> Result<(), Finding>
         × IsOnePlace picture.now × ¬ IsBelow picture.now) }
     ensures count { IsErrOf result Finding.Count ↔ (IsShaped picture.now × Agrees picture.now
         × IsOnePlace picture.now × IsBelow picture.now × ¬ IsCounted picture.now) }
+    ensures used { IsErrOf result Finding.Used ↔ (IsShaped picture.now × Agrees picture.now
+        × IsOnePlace picture.now × IsBelow picture.now × IsCounted picture.now
+        × ¬ IsUsedCounted picture.now) }
 {
     if !is_shaped(picture) {
         return Err(Finding::Shape);
@@ -162,6 +186,9 @@ pub fn audit(picture: &Picture) -> Result<(), Finding>
     }
     if !is_counted(picture) {
         return Err(Finding::Count);
+    }
+    if !is_used_counted(picture) {
+        return Err(Finding::Used);
     }
     Ok(())
 }

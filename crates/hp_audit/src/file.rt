@@ -1,6 +1,6 @@
 //! Questions to the lists of a file.
 ghost use Rattle.std.specs.Prelude.{◌≡◌, ◌≢◌, ◌<◌, ◌≤◌, ◌↔◌, IsTrue, All, AllPairs, Contains};
-ghost use Rattle.hp_audit.specs.Findings.{has_page, is_reserved, is_vacant, pages_in, times_in, vacant_of, IsFileShaped};
+ghost use Rattle.hp_audit.specs.Findings.{has_page, is_reserved, is_vacant, pages_in, times_in, reserved_of, vacant_of, IsFileShaped};
 
 use crate::picture::FilePicture;
 use hp_base::{Frame, Index, LIMIT};
@@ -40,6 +40,20 @@ pub fn vacant(file: &FilePicture) -> u32
         }
     }
     vacant
+}
+
+// How many indices are reserved: each once, though several ranges may have it.
+pub fn reserved(file: &FilePicture) -> u32
+    ensures counted { result ≡ reserved_of file.now }
+    ensures in_limit { result ≤ LIMIT }
+{
+    let mut reserved = 0;
+    for number in 0..LIMIT {
+        if is_reserved(&file.regions, Index::new(number)) {
+            reserved += 1;
+        }
+    }
+    reserved
 }
 
 // Whether no index has two pages.

@@ -19,4 +19,7 @@ pub enum Finding {
     /// The reserve count is wrong.
     #[error("the reserve count isn't that of the reserved indices, or is above the free frames")]
     Count,
+    /// The used count is wrong.
+    #[error("the used count isn't that of the reserved indices, or is above the quota")]
+    Used,
 }

@@ -11,6 +11,12 @@ pub struct Picture {
     /// What the calls in flight owe to the reserve count: it is this much above the reserved indices
     /// without a page.
     pub owed: i64,
+    /// The used count (Linux: `used_hpages` of a subpool).
+    pub used: u32,
+    /// What the calls in flight owe to the used count: it is this much above the reserved indices.
+    pub used_owed: i64,
+    /// The most that may be used, where that is limited (Linux: `max_hpages` of a subpool).
+    pub quota: Option<u32>,
     /// The frames in the hands of calls in flight.
     pub hands: Vec<Frame>,
     /// The files in order of their numbers, from 0 on.

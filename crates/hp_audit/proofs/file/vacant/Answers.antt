@@ -1,13 +1,10 @@
-use Rattle.std.proofs.Common.{ℕ, ◌≡◌, ◌+◌, cond, Bool, add-one, refl, sym, arith}
+use Rattle.std.proofs.Common.{◌≡◌, refl, sym, arith}
 use Rattle.hp_base.specs.Indices.{count_below}
 use Rattle.hp_base.specs.declared.limits.TheConstants.{LIMIT}
 use Rattle.hp_audit.specs.Findings.{is_vacant, vacant_of}
+use Rattle.hp_audit.proofs.Counts.{count_below_more}
 use Rattle.hp_audit.proofs.file.vacant.Goals as goal
 use Rattle.hp_audit.proofs.file.vacant.Goals.{then-is_vacant, else-is_vacant}
-
-count_below_more : (p : ℕ → Bool) (n : ℕ) (b : Bool) → p n ≡ b → count_below p (n + 1) ≡ count_below p n + cond b 1 0
-unfolding count_below
-count_below_more p n b is = rw (add-one, is) refl
 
 pub loop-number-init : goal.loop-number-init
 unfolding count_below
