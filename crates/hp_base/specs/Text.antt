@@ -1,6 +1,7 @@
 -- The one spelling of each word of a trace: what Display writes.
-use Rattle.std.specs.Prelude.{ℕ, List, [], ◌++◌, Bool, true, false, Option, Some, None, codes}
+use Rattle.std.specs.Prelude.{ℕ, List, [], ◌++◌, ◌&&◌, Bool, true, false, Option, Some, None, codes}
 use Rattle.std.specs.Fmt.{decimal}
+use Rattle.hp_base.specs.Limits.{within_limits, is_quota}
 use Rattle.hp_base.specs.declared.config.Config.{Config}
 use Rattle.hp_base.specs.declared.answer.Answer.{Answer}
 use Rattle.hp_base.specs.declared.answer.Answer.TheVariants as answer
@@ -23,6 +24,10 @@ pub record Sizes : Type 0 where
 
 abbrev pub sizes : Config → Sizes
 sizes c = record { frames = c.frames; files = c.files; slots = c.slots; tasks = c.tasks; quota = c.quota }
+
+-- the numbers are within their limits
+abbrev pub are_sizes : Sizes → Bool
+are_sizes s = within_limits s.frames s.files s.slots s.tasks && is_quota s.quota
 
 -- a quota, where there is one
 abbrev pub quota_field : Option ℕ → List ℕ

@@ -13,7 +13,7 @@ use Rattle.std.proofs.lemmas.List.Elements.{All-weaker}
 use Rattle.std.proofs.lemmas.List.Sums.{get_or-le-sum_by}
 use Rattle.std.proofs.Math.ListN.{get_or-eq_default}
 use Rattle.hp_base.specs.Numbers.{bit, is_none, total}
-use Rattle.hp_base.specs.Indices.{vacant}
+use Rattle.hp_base.specs.Indices.{vacant, count_below}
 use Rattle.hp_base.specs.Mappings.{find, is_there}
 use Rattle.hp_base.specs.declared.limits.TheConstants.{LIMIT, VPNS}
 use Rattle.hp_base.proofs.Counting.{count_below-ext}
@@ -32,15 +32,15 @@ use Rattle.hp_laws.proofs.Moves.{Placing, same_place, other_hand, other_page}
 use Rattle.hp_laws.proofs.Runs.{always}
 use Rattle.hp_audit.specs.declared.picture.FilePicture.{FilePicture}
 use Rattle.hp_audit.specs.declared.picture.Picture.{Picture}
-use Rattle.hp_audit.specs.Findings.{IsFileShaped, IsShaped, Agrees, IsOnePlace, IsBelow, IsCounted, IsRight, times_in, pages_in}
-use Rattle.hp_audit.specs.Findings.{place_count, is_vacant, vacant_of, vacant_in, has_page}
+use Rattle.hp_audit.specs.Findings.{IsFileShaped, IsShaped, Agrees, IsOnePlace, IsBelow, IsCounted, IsUsedCounted, IsRight, times_in, pages_in}
+use Rattle.hp_audit.specs.Findings.{place_count, is_vacant, vacant_of, vacant_in, reserved_of, reserved_in, has_page}
 use Rattle.hp_audit.proofs.Counts.{counts as passed, counted, counted_in}
 use Rattle.hp_fault.specs.View.{no_file, pages_of}
 use Rattle.hp_core.specs.State.{CoreState, as_state}
 use Rattle.hp_core.specs.Sound.{IsSound}
 use Rattle.hp_core.specs.Runs.{Headline}
 use Rattle.hp_core.specs.Pictures.{IsPicture, IsFilePicture, is_that, is_entry, translates}
-use Rattle.hp_core.specs.Readers.{free_of, resv_of, owed_of}
+use Rattle.hp_core.specs.Readers.{free_of, resv_of, owed_of, used_of, used_owed_of, quota_of}
 use Rattle.hp_core.proofs.Headlines.{reached_of, headline_of}
 
 -- the headline, seen as the machine's
@@ -229,6 +229,34 @@ counts s p h is =
       enough = omega (arith, is.resv, top.enough, is.frees);
     }
 
+-- a file's picture has as many reserved indices as the file
+reserved_same : (s : CoreState) (f : ℕ) (file : FilePicture) → IsFilePicture (as_state s) f file
+    → reserved_of file ≡ count_below ((as_state s).reserved f) LIMIT
+unfolding reserved_of
+reserved_same s f file is = count_below-ext _ ((as_state s).reserved f) LIMIT (λ i low. is.reserved i)
+
+-- so have all together
+reserved_all : (s : CoreState) (p : Picture) → IsPicture s p → reserved_in p ≡ head.reserved_in (as_state s)
+reserved_all s p is =
+    let of_files : ℕ → ℕ = λ f. count_below ((as_state s).reserved f) LIMIT in
+    sum_by-total reserved_of of_files p.files.items
+    (λ f within d. reserved_same s f (get_or p.files.items f d) (is.files f (omega (arith, is.as_many, within)) d))
+    ∙ ap (λ (n : ℕ). total n of_files) is.as_many
+
+-- the used count that is told is right, and within the quota
+uses_counted : (s : CoreState) (p : Picture) → IsSound s → IsPicture s p → IsUsedCounted p
+unfolding used_of used_owed_of quota_of
+uses_counted s p h is =
+    let top = head_of s h in
+    record {
+      exact =
+          ap (λ (n : ℕ). pos n) (is.used ∙ (top.used ∙ ap (λ (n : ℕ). n + head.all_used_owed (as_state s)) (sym (reserved_all s p is))))
+          ∙ ap (λ (z : ℤ). pos (reserved_in p) +ℤ z) (sym is.used_owed);
+      within =
+          subst (λ (quota : Option ℕ). IfSome quota (λ most. p.used ≤ most)) (sym is.quota)
+          (subst (λ (n : ℕ). IfSome (as_state s).geometry.quota (λ most. n ≤ most)) (sym is.used) top.within);
+    }
+
 -- the frame is at that place
 abbrev IsPlaced : CoreState → ℕ → Place → Type 0
 IsPlaced s x q = IsAt (as_state s).frame (λ t. hand ((as_state s).calls t)) (as_state s).pages x q
@@ -365,4 +393,5 @@ one_place s p h is =
 
 -- an audit finds nothing wrong with a picture of a sound core
 pub right_of : (s : CoreState) (p : Picture) → IsSound s → IsPicture s p → IsRight p
-right_of s p h is = (shaped s p h is, agrees s p h is, one_place s p h is, below s p h is, counts s p h is)
+right_of s p h is =
+    (shaped s p h is, agrees s p h is, one_place s p h is, below s p h is, counts s p h is, uses_counted s p h is)

@@ -1,6 +1,6 @@
 -- What a step takes for granted (`TouchFits` and its like, phase by phase) holds of every core: each of these facts
 -- is one of every state that the machine reaches.
-use Rattle.std.proofs.Common.{◌≡◌, ℕ, ◌+◌, ◌<◌, ◌≤◌, ◌^◌, refl, ap, sym, ◌∙◌, true≢false, arith}
+use Rattle.std.proofs.Common.{◌≡◌, ℕ, ◌+◌, ◌*◌, ◌<◌, ◌≤◌, ◌^◌, refl, ap, sym, ◌∙◌, true≢false, arith}
 use Rattle.std.specs.Prelude.{Bool, false, Option, Some, None, IfSome, IsSome, is_some}
 use Rattle.hp_base.specs.Indices.{count_within}
 use Rattle.hp_base.specs.Mappings.{in_mapping}
@@ -26,14 +26,14 @@ use Rattle.hp_machine.specs.declared.exit.ExitPhase.TheVariants as exit
 use Rattle.hp_machine.specs.declared.call.Call.{Call}
 use Rattle.hp_machine.specs.declared.call.Call.TheVariants as call
 use Rattle.hp_laws.proofs.Meets.{caller_there, entry_placed, has_page, held_there, pending_spared, pending_there, settles}
-use Rattle.hp_laws.proofs.Meets.{stands}
+use Rattle.hp_laws.proofs.Meets.{stands, used_few, map_misses_few}
 use Rattle.hp_laws.proofs.Standing.{below_limit}
 use Rattle.hp_fault.specs.Fits.{MapFits, TouchFits, AllocFits, IsPage}
 use Rattle.hp_remove.specs.Fits.{PunchFits, TruncateFits, UnmapFits, ExitFits, IsCleared}
 use Rattle.hp_core.specs.State.{CoreState, seat_at, calls_of, as_state}
 use Rattle.hp_core.specs.Fits.{CallFits, EventFits}
 use Rattle.hp_core.specs.Sound.{IsSound, IsKept}
-use Rattle.hp_core.proofs.Reading.{few_tasks}
+use Rattle.hp_core.proofs.Reading.{few_tasks, few_files_of}
 
 -- an entry's frame is a page's
 entry_page : (s : State) (t v : ℕ) (o : Option ℕ) → IsReached s → s.entries t v ≡ o → IfSome o (λ x. IsPage (pool_of s) x)
@@ -44,23 +44,28 @@ entry_page s t v (Some x) reached e = entry_placed s t v x reached e
 is_found : {A : Type 0} (o : Option A) (x : A) → o ≡ Some x → IsSome o
 is_found {A} o x e = ap (λ (c : Option A). is_some c) e
 
+-- few pages are used, and few more are so with one more call
+record FewUsed (s : State) : Type 0 where
+  used : s.used ≤ 81 * 4096
+  limit : s.geometry.limit ≡ 4096
+
 -- a touch's step finds what it takes for granted
-touch_fits : (s : State) (t : ℕ) (phase : TouchPhase) → IsReached s → s.calls t ≡ Some (call.Touch phase) → TouchFits (pool_of s) t phase
-touch_fits s t (touch.Look p) reached e = (caller_there s t _ reached e, entry_page s t p.vpn (s.entries t p.vpn) reached refl)
-touch_fits s t (touch.Want p) reached e = tt
-touch_fits s t (touch.Locked p) reached e = (stands s t _ reached e).facts.aim.file
-touch_fits s t (touch.Missing p) reached e = let h = stands s t _ reached e in (h.facts.aim.file, h.facts.aim.index)
-touch_fits s t (touch.Changed p) reached e = settles s t _ reached e
-touch_fits s t (touch.Abort p) reached e =
+touch_fits : (s : State) (t : ℕ) (phase : TouchPhase) → IsReached s → FewUsed s → s.calls t ≡ Some (call.Touch phase) → TouchFits (pool_of s) t phase
+touch_fits s t (touch.Look p) reached few e = (caller_there s t _ reached e, entry_page s t p.vpn (s.entries t p.vpn) reached refl)
+touch_fits s t (touch.Want p) reached few e = tt
+touch_fits s t (touch.Locked p) reached few e = (stands s t _ reached e).facts.aim.file
+touch_fits s t (touch.Missing p) reached few e = let h = stands s t _ reached e in (h.facts.aim.file, h.facts.aim.index)
+touch_fits s t (touch.Changed p) reached few e = (settles s t _ reached e, (let a = few.used in omega arith))
+touch_fits s t (touch.Abort p) reached few e =
     let h = stands s t _ reached e in (h.facts.aim.file, pending_there s t _ p.touch.file reached e refl)
-touch_fits s t (touch.Taken p) reached e =
+touch_fits s t (touch.Taken p) reached few e =
     let h = stands s t _ reached e in (h.facts.aim.file, pending_there s t _ p.touch.file reached e refl)
-touch_fits s t (touch.Settle p) reached e = settles s t _ reached e
-touch_fits s t (touch.Committed p) reached e =
+touch_fits s t (touch.Settle p) reached few e = settles s t _ reached e
+touch_fits s t (touch.Committed p) reached few e =
     let h = stands s t _ reached e in
     record { file = h.facts.aim.file; in_limit = h.facts.aim.index; bare = h.facts.bare; held = held_there s t _ p.held reached e refl }
-touch_fits s t (touch.Restore p) reached e = held_there s t _ p.held reached e refl
-touch_fits s t (touch.Found p) reached e =
+touch_fits s t (touch.Restore p) reached few e = held_there s t _ p.held reached e refl
+touch_fits s t (touch.Found p) reached few e =
     let h = stands s t _ reached e in
     record {
       task = caller_there s t _ reached e;
@@ -69,20 +74,21 @@ touch_fits s t (touch.Found p) reached e =
       untranslated = h.facts.aim.untranslated;
       page = has_page s p.touch.file p.touch.index reached h.facts.cached;
     }
-touch_fits s t (touch.Leave p) reached e = (stands s t _ reached e).slot
+touch_fits s t (touch.Leave p) reached few e = (stands s t _ reached e).slot
 
 -- so does a map's
-map_fits : (s : State) (t : ℕ) (phase : MapPhase) → IsReached s → s.calls t ≡ Some (call.Map phase) → MapFits (pool_of s) t phase
-map_fits s t (map.Start p) reached e = tt
-map_fits s t (map.Room p) reached e = caller_there s t _ reached e
-map_fits s t (map.Missing p) reached e = let h = stands s t _ reached e in (h.facts.range.file, h.facts.range.some, h.facts.range.limit)
-map_fits s t (map.Changed p) reached e = tt
-map_fits s t (map.Abort p) reached e =
+map_fits : (s : State) (t : ℕ) (phase : MapPhase) → IsReached s → FewUsed s → s.calls t ≡ Some (call.Map phase) → MapFits (pool_of s) t phase
+map_fits s t (map.Start p) reached few e = tt
+map_fits s t (map.Room p) reached few e = caller_there s t _ reached e
+map_fits s t (map.Missing p) reached few e = let h = stands s t _ reached e in (h.facts.range.file, h.facts.range.some, h.facts.range.limit)
+map_fits s t (map.Changed p) reached few e =
+    let a = few.used in let b = few.limit in let c = map_misses_few s t p reached e in omega arith
+map_fits s t (map.Abort p) reached few e =
     let h = stands s t _ reached e in (h.facts.range.file, pending_there s t _ p.map.file reached e refl)
-map_fits s t (map.Accounted p) reached e =
+map_fits s t (map.Accounted p) reached few e =
     let h = stands s t _ reached e in (h.facts.range.file, pending_there s t _ p.map.file reached e refl)
-map_fits s t (map.Settle p) reached e = settles s t _ reached e
-map_fits s t (map.Enter p) reached e =
+map_fits s t (map.Settle p) reached few e = settles s t _ reached e
+map_fits s t (map.Enter p) reached few e =
     let h = stands s t _ reached e in
     record {
       task = caller_there s t _ reached e;
@@ -92,23 +98,23 @@ map_fits s t (map.Enter p) reached e =
       ready = h.facts.based.ready;
       fits = h.facts.based.fits;
     }
-map_fits s t (map.Leave p) reached e = (stands s t _ reached e).lock
+map_fits s t (map.Leave p) reached few e = (stands s t _ reached e).lock
 
 -- an allocation's
-alloc_fits : (s : State) (t : ℕ) (phase : AllocPhase) → IsReached s → s.calls t ≡ Some (call.Alloc phase) → AllocFits (pool_of s) t phase
-alloc_fits s t (alloc.Start p) reached e = tt
-alloc_fits s t (alloc.Head p) reached e = tt
-alloc_fits s t (alloc.Want p) reached e = tt
-alloc_fits s t (alloc.Locked p) reached e = (stands s t _ reached e).facts.aim.file
-alloc_fits s t (alloc.Missing p) reached e =
+alloc_fits : (s : State) (t : ℕ) (phase : AllocPhase) → IsReached s → FewUsed s → s.calls t ≡ Some (call.Alloc phase) → AllocFits (pool_of s) t phase
+alloc_fits s t (alloc.Start p) reached few e = tt
+alloc_fits s t (alloc.Head p) reached few e = tt
+alloc_fits s t (alloc.Want p) reached few e = tt
+alloc_fits s t (alloc.Locked p) reached few e = (stands s t _ reached e).facts.aim.file
+alloc_fits s t (alloc.Missing p) reached few e =
     let h = stands s t _ reached e in (h.facts.aim.file, below_limit s.geometry _ h.facts.aim)
-alloc_fits s t (alloc.Changed p) reached e = settles s t _ reached e
-alloc_fits s t (alloc.Abort p) reached e =
+alloc_fits s t (alloc.Changed p) reached few e = (settles s t _ reached e, (let a = few.used in omega arith))
+alloc_fits s t (alloc.Abort p) reached few e =
     let h = stands s t _ reached e in (h.facts.aim.file, pending_there s t _ p.allocation.file reached e refl)
-alloc_fits s t (alloc.Taken p) reached e =
+alloc_fits s t (alloc.Taken p) reached few e =
     let h = stands s t _ reached e in (h.facts.aim.file, pending_there s t _ p.allocation.file reached e refl)
-alloc_fits s t (alloc.Settle p) reached e = settles s t _ reached e
-alloc_fits s t (alloc.Committed p) reached e =
+alloc_fits s t (alloc.Settle p) reached few e = settles s t _ reached e
+alloc_fits s t (alloc.Committed p) reached few e =
     let h = stands s t _ reached e in
     record {
       file = h.facts.aim.file;
@@ -116,12 +122,12 @@ alloc_fits s t (alloc.Committed p) reached e =
       bare = h.facts.bare;
       held = held_there s t _ p.held reached e refl;
     }
-alloc_fits s t (alloc.Restore p) reached e = held_there s t _ p.held reached e refl
-alloc_fits s t (alloc.Unslot p) reached e =
+alloc_fits s t (alloc.Restore p) reached few e = held_there s t _ p.held reached e refl
+alloc_fits s t (alloc.Unslot p) reached few e =
     let h = stands s t _ reached e in
     record { slot = h.slot; in_limit = h.facts.aim.limit; index = below_limit s.geometry _ h.facts.aim }
-alloc_fits s t (alloc.Extend p) reached e = let h = stands s t _ reached e in (h.facts.range.file, h.facts.range.limit)
-alloc_fits s t (alloc.Leave p) reached e = (stands s t _ reached e).lock
+alloc_fits s t (alloc.Extend p) reached few e = let h = stands s t _ reached e in (h.facts.range.file, h.facts.range.limit)
+alloc_fits s t (alloc.Leave p) reached few e = (stands s t _ reached e).lock
 
 -- a punch's
 punch_fits : (s : State) (t : ℕ) (phase : PunchPhase) → IsReached s → s.geometry.tasks < 2 ^ 32
@@ -133,7 +139,7 @@ punch_fits s t (punch.Unmap p) reached few e = ((stands s t _ reached e).facts.t
 punch_fits s t (punch.Evict p) reached few e =
     let h = stands s t _ reached e in (h.facts.aim.file, has_page s p.hole.file p.index reached h.facts.cached)
 punch_fits s t (punch.Delete p) reached few e = ((stands s t _ reached e).facts.aim.file, pending_spared s p.hole.file reached)
-punch_fits s t (punch.Free p) reached few e = held_there s t _ p.held reached e refl
+punch_fits s t (punch.Free p) reached few e = (held_there s t _ p.held reached e refl, settles s t _ reached e)
 punch_fits s t (punch.Unslot p) reached few e =
     let h = stands s t _ reached e in
     record { slot = h.slot; in_limit = h.facts.aim.limit; index = below_limit s.geometry _ h.facts.aim }
@@ -192,11 +198,21 @@ few_there s kept =
     let few = few_tasks s.sizes.frames s.sizes.files s.sizes.slots s.sizes.tasks kept.limits in
     omega (arith, all, few)
 
+-- a file has 4,096 indices, and there are 16 files and 64 tasks at most
+few_used : (s : CoreState) → IsReached (as_state s) → IsKept s → FewUsed (as_state s)
+few_used s reached kept =
+    let files = few_files_of s.sizes.frames s.sizes.files s.sizes.slots s.sizes.tasks kept.limits in
+    let tasks = few_tasks s.sizes.frames s.sizes.files s.sizes.slots s.sizes.tasks kept.limits in
+    let all = used_few (as_state s) reached (omega arith) in
+    let a = kept.files in
+    let b = kept.spaces in
+    record { used = omega (arith, files, tasks, all, a, b); limit = refl }
+
 -- so the step of each call in flight
 call_fits : (s : CoreState) (t : ℕ) (c : Call) → IsReached (as_state s) → IsKept s → (as_state s).calls t ≡ Some c → CallFits s.parts t c
-call_fits s t (call.Touch phase) reached kept e = touch_fits (as_state s) t phase reached e
-call_fits s t (call.Map phase) reached kept e = (kept.locks, map_fits (as_state s) t phase reached e)
-call_fits s t (call.Alloc phase) reached kept e = (kept.locks, alloc_fits (as_state s) t phase reached e)
+call_fits s t (call.Touch phase) reached kept e = touch_fits (as_state s) t phase reached (few_used s reached kept) e
+call_fits s t (call.Map phase) reached kept e = (kept.locks, map_fits (as_state s) t phase reached (few_used s reached kept) e)
+call_fits s t (call.Alloc phase) reached kept e = (kept.locks, alloc_fits (as_state s) t phase reached (few_used s reached kept) e)
 call_fits s t (call.Punch phase) reached kept e = (kept.locks, punch_fits (as_state s) t phase reached (few_there s kept) e)
 call_fits s t (call.Truncate phase) reached kept e = (kept.locks, truncate_fits (as_state s) t phase reached (few_there s kept) e)
 call_fits s t (call.Unmap phase) reached kept e = unmap_fits (as_state s) t phase reached e

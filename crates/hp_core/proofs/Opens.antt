@@ -85,6 +85,8 @@ abbrev pub AreFresh : Sizes → PartsState → List Seat → Type 0
 AreFresh z p ss = record {
   all_frames : p.bank.frames ≡ replicate z.frames frame.Free;
   none_reserved : p.bank.resv ≡ 0;
+  none_used : p.bank.used ≡ 0;
+  same_quota : p.bank.quota ≡ z.quota;
   all_slots : p.slots ≡ replicate z.slots None;
   all_locks : p.locks ≡ replicate z.files None;
   files_long : length p.files ≡ z.files;
@@ -106,7 +108,7 @@ module _ (z : Sizes) (p : PartsState) (seats : List Seat) (h : AreFresh z p seat
   geometry_is : geometry_of p ≡ geometry z
   geometry_is =
       let b : length p.slots ≡ z.slots = ap (λ (ss : List (Option ℕ)). length ss) h.all_slots ∙ length-replicate z.slots None in
-      λ i. record (geometry z) { files = h.files_long i; slots = b i; tasks = h.spaces_long i }
+      λ i. record (geometry z) { files = h.files_long i; slots = b i; tasks = h.spaces_long i; quota = h.same_quota i }
 
   frames_long : length p.bank.frames ≡ z.frames
   frames_long = ap (λ (fs : List FrameState). length fs) h.all_frames ∙ length-replicate z.frames frame.Free
@@ -178,6 +180,7 @@ module _ (z : Sizes) (p : PartsState) (seats : List Seat) (h : AreFresh z p seat
       frames = frames_long i;
       frame = frame_is i;
       resv = h.none_reserved i;
+      used = h.none_used i;
       slots = slots_are i;
       locks = locks_are i;
       size = sizes_are i;
@@ -204,6 +207,7 @@ module _ (z : Sizes) (p : PartsState) (seats : List Seat) (h : AreFresh z p seat
       files = h.files_long;
       slots = ap (λ (ss : List (Option ℕ)). length ss) h.all_slots ∙ length-replicate z.slots None;
       spaces = h.spaces_long;
+      quota = h.same_quota;
       seats = h.seats_long;
       limits = within;
     },

@@ -1,8 +1,6 @@
 -- What a core copies of its lists is its picture.
 use Rattle.std.proofs.Common.{◌≡◌, ℕ, ◌+◌, ◌<◌, ◌≤◌, List, length, get_or, refl, sym, ◌∙◌, ap, subst, arith}
 use Rattle.std.specs.Prelude.{Bool, cond, Option, Some, None, ◌==◌, HoldsAt, is_some, count_by, sum_by, filter_map}
-use Rattle.hp_base.specs.Limits.{IsWithinLimits}
-use Rattle.std.proofs.lemmas.Bool.Decides.{nat_tests}
 use Rattle.hp_base.specs.Numbers.{bit, total}
 use Rattle.hp_base.proofs.Sums.{passes, count_by-filter_map}
 use Rattle.hp_base.proofs.Totals.{cond_bit}
@@ -21,8 +19,8 @@ use Rattle.hp_core.specs.State.{CoreState, as_state}
 use Rattle.hp_core.specs.Sound.{IsSound}
 use Rattle.hp_core.specs.Copies.{IsCopy, all_translations}
 use Rattle.hp_core.specs.Pictures.{IsPicture, is_entry, is_that}
-use Rattle.hp_core.specs.Readers.{free_of, resv_of, owed_of}
-use Rattle.hp_core.proofs.Reading.{few_tasks}
+use Rattle.hp_core.specs.Readers.{free_of, resv_of, owed_of, used_of, used_owed_of, quota_of}
+use Rattle.hp_core.proofs.Reading.{few_tasks, few_files_of}
 use Rattle.hp_core.proofs.Sums.{sum_is}
 use Rattle.hp_core.proofs.FilePictures.{file_picture_of}
 use Rattle.hp_core.proofs.Translations.{all_counted}
@@ -57,10 +55,7 @@ pub few_files : (s : CoreState) → IsSound s → length s.parts.files ≤ 16
 unfolding IsSound
 few_files s h =
     (let l : length s.parts.files ≡ s.sizes.files = h.1.files in
-    let m = few s.sizes.frames s.sizes.files s.sizes.slots s.sizes.tasks h.1.limits in omega (arith, l, m))
-  where
-    few : (a b c d : ℕ) → IsWithinLimits a b c d → b ≤ 16
-    few a b c d h = grind (arith, nat_tests, h)
+    let m = few_files_of s.sizes.frames s.sizes.files s.sizes.slots s.sizes.tasks h.1.limits in omega (arith, l, m))
 
 -- and at most 64 tasks
 pub few_spaces : (s : CoreState) → IsSound s → length s.parts.spaces ≤ 64
@@ -75,6 +70,9 @@ pub record AreCopies (s : CoreState) (p : Picture) : Type 0 where
   pub frees : length p.free.items ≡ bank.free_frames s.parts.bank.frames
   pub resv : p.resv ≡ resv_of s
   pub owed : p.owed ≡ owed_of s
+  pub used : p.used ≡ used_of s
+  pub used_owed : p.used_owed ≡ used_owed_of s
+  pub quota : p.quota ≡ quota_of s
   pub hands : p.hands.items ≡ filter_map (λ seat. hand seat.call) s.seats
   pub as_many : length p.files.items ≡ length s.parts.files
   pub files : (f : ℕ) → f < length s.parts.files
@@ -90,6 +88,9 @@ picture_of s p h c =
       frees = c.frees ∙ sym (free_frames_is s.parts.bank.frames);
       resv = c.resv;
       owed = c.owed;
+      used = c.used;
+      used_owed = c.used_owed;
+      quota = c.quota;
       hands = λ x. hands_of s p.hands.items x h c.hands;
       as_many = c.as_many;
       files = λ f l d. file_picture_of s f (get_or p.files.items f d) (c.files f l d);

@@ -74,6 +74,10 @@ seat_read {inside} {n = n} {task = task} {y = y} same h e low high is =
 pub few_tasks : (a b c d : ℕ) → IsWithinLimits a b c d → d ≤ 64
 few_tasks a b c d h = grind (arith, nat_tests, h)
 
+-- and 16 files
+pub few_files_of : (a b c d : ℕ) → IsWithinLimits a b c d → b ≤ 16
+few_files_of a b c d h = grind (arith, nat_tests, h)
+
 -- so a sound core has at most 64 seats
 pub few_seats : (s : CoreState) → IsSound s → length s.seats ≤ 64
 unfolding IsSound

@@ -1,12 +1,13 @@
 -- A sound core after an event is sound, and the event is a row of the machine.
-use Rattle.std.proofs.Common.{◌≡◌, ℕ, List, [], ◌∷◌, ◌++◌, length, refl, sym, ◌∙◌, subst}
+use Rattle.std.proofs.Common.{◌≡◌, ℕ, List, [], ◌∷◌, ◌++◌, length, refl, sym, ◌∙◌, subst, ap}
 use Rattle.std.specs.Prelude.{Bool, Option, Some, IfSome, Result, Ok, Err, IfOk, OnErr}
 use Rattle.std.specs.declared.alloc.AllocError.{AllocError}
 use Rattle.hp_base.specs.declared.event.Event.{Event}
 use Rattle.hp_base.specs.declared.event.Event.TheVariants.{Begin, Step, Kill}
-use Rattle.hp_machine.specs.State.{State, is_dead}
+use Rattle.hp_machine.specs.State.{Geometry, State, is_dead}
 use Rattle.hp_machine.specs.Events as rows
 use Rattle.hp_machine.specs.declared.outcome.Outcome.{Outcome}
+use Rattle.hp_laws.proofs.Runs.{always, measures_stay}
 use Rattle.hp_fault.specs.State.{PartsState, SizesStay}
 use Rattle.hp_fault.specs.View.{geometry_of}
 use Rattle.hp_core.specs.declared.seat.Seat.{Seat}
@@ -91,15 +92,17 @@ unfolding IsSound
 sound_after s e told after new h fits done =
     let z = done.1 in
     let kept = h.1 in
-    let same : geometry_of after ≡ geometry_of s.parts = λ i.
-    record (geometry_of s.parts) { files = z.files i; slots = z.slots i; tasks = z.spaces i } in (
-      reached_after (as_state s) (state_with after new) e told h.0 (event_row s.parts after s.seats new e told fits done.0) same z.frames,
+    let row = event_row s.parts after s.seats new e told fits done.0 in
+    let same : geometry_of after ≡ geometry_of s.parts =
+    measures_stay (as_state s) e told (state_with after new) (always (as_state s) h.0) row in (
+      reached_after (as_state s) (state_with after new) e told h.0 row same z.frames,
       record {
         locks = z.locks ∙ (kept.locks ∙ sym z.files);
         frames = z.frames ∙ kept.frames;
         files = z.files ∙ kept.files;
         slots = z.slots ∙ kept.slots;
         spaces = z.spaces ∙ kept.spaces;
+        quota = ap (λ (g : Geometry). g.quota) same ∙ kept.quota;
         seats = done.2 ∙ kept.seats;
         limits = kept.limits;
       },

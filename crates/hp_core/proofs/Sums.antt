@@ -5,11 +5,11 @@ use Rattle.std.proofs.lemmas.Bool.{ne_eqb}
 use Rattle.std.proofs.lemmas.List.{take_all}
 use Rattle.std.proofs.lemmas.List.Sums.{sum_by_more}
 use Rattle.hp_base.specs.Numbers.{total}
-use Rattle.hp_machine.specs.Views.{less, more}
+use Rattle.hp_machine.specs.Views.{less, more, used_owed}
 use Rattle.hp_machine.specs.Headline.{all_less, all_more}
 use Rattle.hp_machine.specs.declared.call.Call.{Call}
 use Rattle.hp_core.specs.declared.seat.Seat.{Seat}
-use Rattle.hp_core.specs.Readers.{owed_of}
+use Rattle.hp_core.specs.Readers.{owed_of, used_owed_of}
 use Rattle.hp_core.specs.State.{CoreState, seat_at, no_seat, as_state, calls_of}
 use Rattle.hp_core.specs.Sound.{IsSound}
 
@@ -42,6 +42,15 @@ sum_is f xs n none e =
     let whole : take (length xs) xs ≡ xs = take_all (length xs) xs (omega arith) in
     sym (ap (λ (ys : List Seat). sum_by (λ (seat : Seat). f seat.call) ys) whole)
     ∙ (all ∙ ap (λ (k : ℕ). total k (λ t. f (seat_at xs t).call)) (omega (arith, e)))
+
+-- so is what all calls owe to the used count
+pub used_owed_is : (s : CoreState) (seats : List Seat) (n : ℕ) → IsSound s → seats ≡ s.seats
+    → n ≡ sum_by (λ seat. used_owed seat.call) seats → pos n ≡ used_owed_of s
+unfolding IsSound used_owed_of
+used_owed_is s seats n h e uses =
+    let many : length s.parts.spaces ≡ length s.seats = h.1.spaces ∙ sym h.1.seats in
+    ap (λ (k : ℕ). pos k) (uses ∙ (ap (λ (xs : List Seat). sum_by (λ (seat : Seat). used_owed seat.call) xs) e
+    ∙ sum_is used_owed s.seats _ refl many))
 
 -- so is what all calls owe
 pub owed_is : (s : CoreState) (seats : List Seat) (a b : ℕ) → IsSound s → seats ≡ s.seats

@@ -8,7 +8,7 @@ use Rattle.hp_base.proofs.Puts.{put_self}
 use Rattle.hp_base.specs.declared.answer.Answer.{Answer}
 use Rattle.hp_base.specs.declared.answer.Answer.TheVariants as answer
 use Rattle.hp_machine.specs.declared.outcome.Life.{Life}
-use Rattle.hp_machine.specs.State.{Pool, State, frees, is_dead, is_killed}
+use Rattle.hp_machine.specs.State.{Pool, State, frees, exceeds_quota, quota_is_used_up, is_dead, is_killed}
 use Rattle.hp_machine.specs.Events as rows
 use Rattle.hp_frames.specs.Bank.{frame_at}
 use Rattle.hp_frames.specs.declared.frame.FrameState.TheVariants.{Free, Hand, Placed}
@@ -109,6 +109,15 @@ moves_on : {P : Type 0} (a b : Bool) (turn : Turn P) (first second third new : P
 moves_on true b turn first second third new x y z r = ap held_up r.0
 moves_on false b turn first second third new x y z r = moves b turn second third new y z r
 
+-- of three tests
+moves_at_last : {P : Type 0} (a b c : Bool) (turn : Turn P) (first second third fourth new : Pool) (w x y z : P)
+    → MatchBool a ((turn ≡ Moved w) × (new ≡ first))
+    (MatchBool b ((turn ≡ Moved x) × (new ≡ second))
+    (MatchBool c ((turn ≡ Moved y) × (new ≡ third)) ((turn ≡ Moved z) × (new ≡ fourth))))
+    → held_up turn ≡ None
+moves_at_last true b c turn first second third fourth new w x y z r = ap held_up r.0
+moves_at_last false b c turn first second third fourth new w x y z r = moves_on b c turn second third fourth new x y z r
+
 -- or in the first
 moves_in : {P : Type 0} (a b : Bool) (turn : Turn P) (first second third new : Pool) (x y z : P)
     → MatchBool a (MatchBool b ((turn ≡ Moved y) × (new ≡ second)) ((turn ≡ Moved z) × (new ≡ third))) ((turn ≡ Moved x) × (new ≡ first))
@@ -129,10 +138,15 @@ map_held p t killed grant (at.Room q) turn new row = by_option row.0 row.2
     (λ none r. ap (λ (u : Turn MapPhase). held_up u) r.0)
     (λ base some m. moves_in grant q.map.reserve turn _ _ _ new _ _ _ m)
 map_held p t killed grant (at.Missing q) turn new row = moves _ turn _ _ new _ _ row
-map_held p t killed grant (at.Changed q) turn new row = moves_on killed _ turn _ _ _ new _ _ _ row
+map_held p t killed grant (at.Changed q) turn new row =
+    moves_at_last killed (exceeds_quota (pool_of p) q.pending.missing) _ turn _ _ _ _ new
+    (at.Abort (record { map = q.map; pending = q.pending; answer = answer.Killed }))
+    (at.Abort (record { map = q.map; pending = q.pending; answer = answer.NoQuota }))
+    (at.Abort (record { map = q.map; pending = q.pending; answer = answer.NoFrame }))
+    (at.Accounted (record { map = q.map; base = q.base; pending = q.pending })) row
 map_held p t killed grant (at.Abort q) turn new row = ap (λ (u : Turn MapPhase). held_up u) row.0
 map_held p t killed grant (at.Accounted q) turn new row = moves _ turn _ _ new _ _ row
-map_held p t killed grant (at.Settle q) turn new row = ap (λ (u : Turn MapPhase). held_up u) row.1.0
+map_held p t killed grant (at.Settle q) turn new row = ap (λ (u : Turn MapPhase). held_up u) row.2.0
 map_held p t killed grant (at.Enter q) turn new row = ap (λ (u : Turn MapPhase). held_up u) row.0
 map_held p t killed grant (at.Leave q) turn new row = ap (λ (u : Turn MapPhase). held_up u) row.0
 
@@ -163,20 +177,22 @@ want_blocks false None h s taken At next here e = nobody h e
 want_blocks false (Some k) h s taken At next here e = (ap (λ (u : ℕ). Blocked here u) (sym (same_holder k h e)), refl)
 
 -- a row that takes a frame waits for nobody, where its takes don't
-take_cases : {P : Type 0} (none all : Bool) (turn : Turn P) (s new : Pool) (no_frame : P) (Reserved Unreserved : Type 0)
-    → MatchBool none Reserved (MatchBool all ((turn ≡ Moved no_frame) × (new ≡ s)) Unreserved) → (Reserved → held_up turn ≡ None)
-    → (Unreserved → held_up turn ≡ None) → held_up turn ≡ None
-take_cases true all turn s new no_frame Reserved Unreserved r first second = first r
-take_cases false true turn s new no_frame Reserved Unreserved r first second = ap held_up r.0
-take_cases false false turn s new no_frame Reserved Unreserved r first second = second r
+take_cases : {P : Type 0} (none up all : Bool) (turn : Turn P) (s new : Pool) (no_quota no_frame : P) (Reserved Unreserved : Type 0)
+    → MatchBool none Reserved
+    (MatchBool up ((turn ≡ Moved no_quota) × (new ≡ s)) (MatchBool all ((turn ≡ Moved no_frame) × (new ≡ s)) Unreserved))
+    → (Reserved → held_up turn ≡ None) → (Unreserved → held_up turn ≡ None) → held_up turn ≡ None
+take_cases true up all turn s new no_quota no_frame Reserved Unreserved r first second = first r
+take_cases false true all turn s new no_quota no_frame Reserved Unreserved r first second = ap held_up r.0
+take_cases false false true turn s new no_quota no_frame Reserved Unreserved r first second = ap held_up r.0
+take_cases false false false turn s new no_quota no_frame Reserved Unreserved r first second = second r
 
--- a frame is taken, or there is none
-take_held : {P : Type 0} (s : Pool) (missing : ℕ) (no_frame : P) (taken : ℕ → P) (turn : Turn P) (new : Pool)
-    → TakeRow s missing no_frame taken turn new → held_up turn ≡ None
-take_held s missing no_frame taken turn new row =
-    take_cases (missing == 0) (frees s == s.resv) turn s new no_frame
+-- a frame is taken, or there is none, or the quota is used up
+take_held : {P : Type 0} (s : Pool) (missing : ℕ) (refused : Answer → P) (taken : ℕ → P) (turn : Turn P) (new : Pool)
+    → TakeRow s missing refused taken turn new → held_up turn ≡ None
+take_held s missing refused taken turn new row =
+    take_cases (missing == 0) (quota_is_used_up s) (frees s == s.resv) turn s new (refused answer.NoQuota) (refused answer.NoFrame)
     ((x : ℕ) × (s.frame x ≡ Free) × (1 ≤ s.resv) × Goes (taken x) (record s { frame = put s.frame x Hand; resv = s.resv - 1 }) turn new)
-    ((x : ℕ) × (s.frame x ≡ Free) × Goes (taken x) (record s { frame = put s.frame x Hand }) turn new)
+    ((x : ℕ) × (s.frame x ≡ Free) × Goes (taken x) (record s { frame = put s.frame x Hand; used = s.used + 1 }) turn new)
     row (λ r. ap held_up r.3.0) (λ r. ap held_up r.2.0)
 
 -- a look for a page and its entry
@@ -213,10 +229,11 @@ touch_held p t killed grant (touch.Locked q) turn new row =
     (is_some (pages_of p.files q.touch.file q.touch.index)) turn _ _ _ new _ _ _ row
 touch_held p t killed grant (touch.Missing q) turn new row = moves _ turn _ _ new _ _ row
 touch_held p t killed grant (touch.Changed q) turn new row =
-    by_test killed row (λ _ r. ap held_up r.0) (λ _ r. take_held (pool_of p) q.pending.missing _ _ turn new r)
+    by_test killed row (λ _ r. ap held_up r.0) (λ _ r. take_held (pool_of p) q.pending.missing
+    (λ a. touch.Abort (record { touch = q.touch; pending = q.pending; answer = a })) _ turn new r)
 touch_held p t killed grant (touch.Abort q) turn new row = ap held_up row.0
 touch_held p t killed grant (touch.Taken q) turn new row = moves _ turn _ _ new _ _ row
-touch_held p t killed grant (touch.Settle q) turn new row = ap held_up row.1.0
+touch_held p t killed grant (touch.Settle q) turn new row = ap held_up row.2.0
 touch_held p t killed grant (touch.Committed q) turn new row =
     moves_on (nat_le (sizes_of p.files q.touch.file) q.touch.index) grant turn _ _ _ new _ _ _ row
 touch_held p t killed grant (touch.Restore q) turn new row = ap held_up row.0
@@ -286,10 +303,11 @@ alloc_held p t killed grant (alloc.Want q) turn new row = by_test killed row
 alloc_held p t killed grant (alloc.Locked q) turn new row = moves _ turn _ _ new _ _ row
 alloc_held p t killed grant (alloc.Missing q) turn new row = moves _ turn _ _ new _ _ row
 alloc_held p t killed grant (alloc.Changed q) turn new row =
-    by_test killed row (λ _ r. ap held_up r.0) (λ _ r. take_held (pool_of p) q.pending.missing _ _ turn new r)
+    by_test killed row (λ _ r. ap held_up r.0) (λ _ r. take_held (pool_of p) q.pending.missing
+    (λ a. alloc.Abort (record { allocation = q.allocation; index = q.index; pending = q.pending; answer = a })) _ turn new r)
 alloc_held p t killed grant (alloc.Abort q) turn new row = ap held_up row.0
 alloc_held p t killed grant (alloc.Taken q) turn new row = moves _ turn _ _ new _ _ row
-alloc_held p t killed grant (alloc.Settle q) turn new row = ap held_up row.1.0
+alloc_held p t killed grant (alloc.Settle q) turn new row = ap held_up row.2.0
 alloc_held p t killed grant (alloc.Committed q) turn new row = moves grant turn _ _ new _ _ row
 alloc_held p t killed grant (alloc.Restore q) turn new row = ap held_up row.0
 alloc_held p t killed grant (alloc.Unslot q) turn new row =
@@ -336,7 +354,8 @@ punch_held p t killed grant (punch.Locked q) turn new row = moves _ turn _ _ new
 punch_held p t killed grant (punch.Unmap q) turn new row = moves _ turn _ _ new _ _ row
 punch_held p t killed grant (punch.Evict q) turn new row = ap held_up row.2.0
 punch_held p t killed grant (punch.Delete q) turn new row = moves _ turn _ _ new _ _ row
-punch_held p t killed grant (punch.Free q) turn new row = ap held_up row.0
+punch_held p t killed grant (punch.Free q) turn new row =
+    by_test q.denied row (λ _ r. ap held_up r.0) (λ _ r. ap held_up r.1.0)
 punch_held p t killed grant (punch.Unslot q) turn new row = moves _ turn _ _ new _ _ row
 punch_held p t killed grant (punch.Leave q) turn new row = ap held_up row.0
 
@@ -376,7 +395,7 @@ truncate_held p t killed grant (truncate.Evict q) turn new row = ap held_up row.
 truncate_held p t killed grant (truncate.Free q) turn new row = ap held_up row.0
 truncate_held p t killed grant (truncate.Unslot q) turn new row = moves _ turn _ _ new _ _ row
 truncate_held p t killed grant (truncate.Tail q) turn new row = ap held_up row.0
-truncate_held p t killed grant (truncate.Settle q) turn new row = ap held_up row.1.0
+truncate_held p t killed grant (truncate.Settle q) turn new row = ap held_up row.2.0
 truncate_held p t killed grant (truncate.Leave q) turn new row = ap held_up row.0
 
 -- and where the reader names someone, the turn that waits for it is a row

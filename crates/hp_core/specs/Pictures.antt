@@ -13,7 +13,7 @@ use Rattle.hp_audit.specs.Findings.{is_reserved}
 use Rattle.hp_audit.specs.declared.picture.FilePicture.{FilePicture}
 use Rattle.hp_audit.specs.declared.picture.Picture.{Picture}
 use Rattle.hp_core.specs.State.{CoreState, as_state}
-use Rattle.hp_core.specs.Readers.{free_of, resv_of, owed_of}
+use Rattle.hp_core.specs.Readers.{free_of, resv_of, owed_of, used_of, used_owed_of, quota_of}
 
 -- the picture is of file f: its size, whether its lock has a holder, its regions in order, no two of which
 -- overlap or touch, and its pages in order of their indices
@@ -48,6 +48,9 @@ pub record IsPicture (s : CoreState) (p : Picture) : Type 0 where
   pub frees : length p.free.items ≡ free_of s
   pub resv : p.resv ≡ resv_of s
   pub owed : p.owed ≡ owed_of s
+  pub used : p.used ≡ used_of s
+  pub used_owed : p.used_owed ≡ used_owed_of s
+  pub quota : p.quota ≡ quota_of s
   pub hands : (x : ℕ) → count_by (λ frame. frame == x) p.hands.items ≡ total ((as_state s).geometry.tasks + 1)
       (λ t. bit (is_that x (hand ((as_state s).calls t))))
   pub as_many : length p.files.items ≡ (as_state s).geometry.files

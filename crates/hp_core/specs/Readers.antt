@@ -8,7 +8,7 @@ use Rattle.hp_base.specs.Text.{Sizes}
 use Rattle.hp_base.specs.declared.limits.TheConstants.{LIMIT}
 use Rattle.hp_machine.specs.State.{free_frames}
 use Rattle.hp_machine.specs.Events.{word_of}
-use Rattle.hp_machine.specs.Headline.{all_less, all_more}
+use Rattle.hp_machine.specs.Headline.{all_less, all_more, all_used_owed}
 use Rattle.hp_machine.specs.declared.outcome.Life.{Life}
 use Rattle.hp_machine.specs.declared.phase.Phase.{Phase}
 use Rattle.hp_fault.specs.View.{table_of}
@@ -29,6 +29,18 @@ resv_of s = (as_state s).resv
 -- what the calls in flight owe to the reserve count
 unfoldable pub owed_of : CoreState → ℤ
 owed_of s = pos (all_more (as_state s)) -ℤ pos (all_less (as_state s))
+
+-- the used count
+unfoldable pub used_of : CoreState → ℕ
+used_of s = (as_state s).used
+
+-- what the calls in flight owe to it
+unfoldable pub used_owed_of : CoreState → ℤ
+used_owed_of s = pos (all_used_owed (as_state s))
+
+-- how many pages the files may use, where that is limited
+unfoldable pub quota_of : CoreState → Option ℕ
+quota_of s = (as_state s).geometry.quota
 
 -- how many calls are in flight
 unfoldable pub calls_of : CoreState → ℕ

@@ -18,9 +18,9 @@ use Rattle.hp_fault.specs.View.{pool_of}
 use Rattle.hp_core.specs.declared.seat.Seat.{Seat}
 use Rattle.hp_core.specs.State.{CoreState, as_state, seat_at}
 
--- the geometry of a pool of these sizes
+-- the geometry of a pool of these sizes, with its quota
 abbrev pub geometry : Sizes → machine.Geometry
-geometry z = record { files = z.files; slots = z.slots; tasks = z.tasks; limit = LIMIT; space = VPNS }
+geometry z = record { files = z.files; slots = z.slots; tasks = z.tasks; limit = LIMIT; space = VPNS; quota = z.quota }
 
 -- the state of the machine has the sizes of the core's config
 abbrev pub IsOfConfig : CoreState → Type 0

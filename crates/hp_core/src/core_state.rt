@@ -60,7 +60,7 @@ impl Core {
         ensures config { IfOk result (λ core. config_of core ≡ sizes config) }
     {
         let parts = Parts {
-            bank: Bank::new(alloc, config.frames)?,
+            bank: Bank::new(alloc, config.frames, config.quota)?,
             files: new_files(alloc, config.files)?,
             slots: SlotTable::new(alloc, config.slots)?,
             locks: SlotTable::new(alloc, config.files)?,

@@ -1,7 +1,7 @@
-//! What the calls in flight owe to the reserve count.
+//! What the calls in flight owe to the reserve count, and to the used count.
 ghost use Rattle.std.specs.Prelude.{◌≡◌, ◌≤◌, ◌*◌, ◌^◌, ◌-ℤ◌, pos, Some, length, sum_by};
-ghost use Rattle.hp_machine.specs.Views.{less, more};
-ghost use Rattle.hp_core.specs.Readers.{owed_of};
+ghost use Rattle.hp_machine.specs.Views.{less, more, used_owed};
+ghost use Rattle.hp_core.specs.Readers.{owed_of, used_owed_of};
 
 use crate::core_state::Core;
 use crate::seat::Seat;
@@ -82,6 +82,39 @@ fn more(call: &Call) -> u32
     }
 }
 
+// How many pages are counted as used for indices that the call hasn't entered, or has taken away.
+fn uses(call: &Call) -> u64
+    ensures uses { result ≡ used_owed (Some call.now) }
+    ensures few { result ≤ 2 ^ 33 }
+{
+    match call {
+        Call::Map(MapPhase::Accounted(phase)) => u64::from(phase.pending.missing()),
+        Call::Map(MapPhase::Settle(phase)) => u64::from(phase.excess),
+        Call::Touch(TouchPhase::Taken(phase)) => u64::from(phase.pending.missing()),
+        Call::Alloc(AllocPhase::Taken(phase)) => u64::from(phase.pending.missing()),
+        Call::Touch(TouchPhase::Settle(_)) | Call::Alloc(AllocPhase::Settle(_)) => 1,
+        Call::Punch(PunchPhase::Free(phase)) => u64::from(!phase.denied),
+        Call::Truncate(TruncatePhase::Settle(phase)) => u64::from(phase.excess)
+            + u64::from(phase.evicted),
+        _ => 0,
+    }
+}
+
+// The sum over all calls in flight.
+fn all_uses(seats: &[Seat]) -> u64
+    requires { length seats.now ≤ 64 }
+    ensures sum { result ≡ sum_by (λ seat. used_owed seat.call) seats.now }
+    ensures few { result ≤ 2 ^ 33 * 64 }
+{
+    let mut all_uses = 0;
+    for seat in seats {
+        if let Some(call) = &seat.call {
+            all_uses += uses(call);
+        }
+    }
+    all_uses
+}
+
 // The sums over all calls in flight, both ways.
 fn sums(seats: &[Seat]) -> (u64, u64)
     requires { length seats.now ≤ 64 }
@@ -108,6 +141,13 @@ fn difference(more: u64, less: u64) -> i64
     more as i64 - less as i64
 }
 
+fn signed(uses: u64) -> i64
+    requires { uses ≤ 2 ^ 33 * 64 }
+    ensures { result ≡ pos uses }
+{
+    uses as i64
+}
+
 impl Core {
     /// What the calls in flight owe to the reserve count: it is this much above the reserved indices
     /// without a page.
@@ -116,5 +156,12 @@ impl Core {
     {
         let (less, more) = sums(&self.seats);
         difference(more, less)
+    }
+
+    /// What the calls in flight owe to the used count: it is this much above the reserved indices.
+    pub fn used_owed(&self) -> i64
+        ensures { result ≡ used_owed_of self.now }
+    {
+        signed(all_uses(&self.seats))
     }
 }

@@ -4,7 +4,7 @@ ghost use Rattle.hp_base.specs.Numbers.{total};
 ghost use Rattle.hp_base.specs.Indices.{count_below};
 ghost use Rattle.hp_fault.specs.View.{sets_of};
 ghost use Rattle.hp_core.specs.State.{CoreState, seat_at};
-ghost use Rattle.hp_core.specs.Readers.{config_of, free_of, resv_of, calls_of, size_of, reserved_of, regions_of, pages_of};
+ghost use Rattle.hp_core.specs.Readers.{config_of, free_of, resv_of, used_of, quota_of, calls_of, size_of, reserved_of, regions_of, pages_of};
 ghost use Rattle.hp_core.specs.Readers.{changes_of, spare_of, life_of, mappings_of, entries_of, translation_of, phase_of};
 ghost use Rattle.hp_core.specs.Readers.{all_reserved_of, all_pages_of};
 ghost use Rattle.hp_core.specs.Runs.{Headline};
@@ -55,6 +55,21 @@ impl Core {
         ensures { result ≡ resv_of self.now }
     {
         self.parts.bank.resv()
+    }
+
+    /// The used count: the reserved indices of all files, and what calls count on besides (Linux: `used_hpages`
+    /// of a subpool). It is counted without a quota, too.
+    pub fn used(&self) -> u32
+        ensures { result ≡ used_of self.now }
+    {
+        self.parts.bank.used()
+    }
+
+    /// How many pages the files may use together, where that is limited (Linux: `max_hpages` of a subpool).
+    pub fn quota(&self) -> Option<u32>
+        ensures { result ≡ quota_of self.now }
+    {
+        self.parts.bank.quota()
     }
 
     /// How many calls are in flight.

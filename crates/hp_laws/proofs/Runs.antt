@@ -210,6 +210,30 @@ row_keeps s (Kill t) o n h row =
     not_dead life.Killed e = refl
     not_dead life.Dead e = (let z : false ≡ true = e in cc)
 
+-- and the measures
+pub measures_stay : (s : State) (event : Event) (o : Outcome) (n : State) → Always s → Row s event o n → n.geometry ≡ s.geometry
+unfolding BeginRow StepRow KillRow
+measures_stay s (Begin t p) o n h row =
+    by_test (is_dead (s.life t)) row
+    (λ dead r. ap (λ (m : State). m.geometry) r.1)
+    (λ lives r. by_option (s.calls t) r
+    (λ none r. by_test (is_killed (s.life t) && not (is_exit p)) r
+    (λ killed r. ap (λ (m : State). m.geometry) r.1)
+    (λ may r. ap (λ (m : State). m.geometry) r.1))
+    (λ c some r. ap (λ (m : State). m.geometry) r.1))
+measures_stay s (Step t grant) o n h row =
+    by_test (is_dead (s.life t)) row
+    (λ dead r. ap (λ (m : State). m.geometry) r.1)
+    (λ lives r. by_option (s.calls t) r
+    (λ none r. ap (λ (m : State). m.geometry) r.1)
+    (λ c some r. let is = h.lives.there t lives in
+    let k = call_keeps s t (is_killed (s.life t)) grant c o r.0 r.1 h.inv is.0 (let a = is.1 in omega arith) some r.2 in
+    ap (λ (m : State). m.geometry) r.3 ∙ k.geometry))
+measures_stay s (Kill t) o n h row =
+    by_test (is_alive (s.life t)) row
+    (λ alive r. ap (λ (m : State). m.geometry) r.1)
+    (λ not r. ap (λ (m : State). m.geometry) r.1)
+
 -- so does each run
 pub run_keeps : (s : State) (es : List (Event × Outcome)) (n : State) → Always s → Run s es n → Always n
 run_keeps s [] n h r = subst Always (sym r) h

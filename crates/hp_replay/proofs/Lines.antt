@@ -6,15 +6,15 @@ use Rattle.std.specs.Option.{option_map_or}
 use Rattle.std.specs.Fmt.{decimal}
 use Rattle.std.proofs.lemmas.List.{append-nil}
 use Rattle.std.proofs.lemmas.Bool.{and_parts, leb-true}
-use Rattle.hp_base.specs.Text.{field, op_text, event_text, Sizes, sizes_text}
-use Rattle.hp_base.specs.Limits.{within_limits}
+use Rattle.hp_base.specs.Text.{field, op_text, event_text, Sizes, sizes_text, are_sizes, quota_field}
+use Rattle.hp_base.specs.Limits.{is_quota}
 use Rattle.hp_base.specs.declared.event.Op.{Op}
 use Rattle.hp_base.specs.declared.event.Op.TheVariants.{Map, MapNoReserve, Unmap, Load, Store, Alloc, Punch, Truncate, Exit}
 use Rattle.hp_base.specs.declared.event.Event.{Event}
 use Rattle.hp_base.specs.declared.event.Event.TheVariants.{Begin, Step, Kill}
 use Rattle.hp_replay.specs.Fits.{IsShort, OpFits, EventFits}
 use Rattle.hp_replay.specs.Reading.{◌>>=◌, after_word, number_at, field_at, ended, last_at, range_at, pair_at, option_or, behind}
-use Rattle.hp_replay.specs.Reading.{range_op_at, plain_op_at, op_at, event_at, last_field_at, sizes_at, header_at, limit}
+use Rattle.hp_replay.specs.Reading.{range_op_at, plain_op_at, op_at, event_at, last_field_at, quota_at, sizes_at, header_at, limit}
 use Rattle.hp_replay.specs.Reading.{word_limit}
 use Rattle.hp_replay.proofs.Numbers.{chosen, bind_some, number_takes, number_again, word_takes, Stops}
 
@@ -309,7 +309,7 @@ event_takes bytes event e =
 -- ---- the first line
 
 abbrev pub SpellsHeader : List ℕ → Sizes → Type 0
-SpellsHeader bytes s = (bytes ≡ sizes_text s) × (within_limits s.frames s.files s.slots s.tasks ≡ true)
+SpellsHeader bytes s = (bytes ≡ sizes_text s) × (are_sizes s ≡ true)
 
 last_field_takes : (bytes : List ℕ) (n : ℕ) → last_field_at bytes ≡ Some n → bytes ≡ field n
 unfolding last_field_at
@@ -319,43 +319,62 @@ last_field_takes bytes n e =
     let b = ended_takes a.0.0 a.0.1 n a.2 in
     t.0 ∙ rw (b.0, b.1) (append-nil (field n))
 
+-- five parts joined from the front, and from behind
+five_parts : (a b c d e : List ℕ) → (((a ++ b) ++ c) ++ d) ++ e ≡ a ++ (b ++ (c ++ (d ++ e)))
+five_parts a b c d e =
+    append_assoc ((a ++ b) ++ c) d e ∙ (append_assoc (a ++ b) c (d ++ e) ∙ append_assoc a b (c ++ (d ++ e)))
+
+-- a quota that is read is spelled so
+quota_takes : (bytes : List ℕ) (quota : Option ℕ) → quota_at bytes ≡ Some quota → bytes ≡ quota_field quota
+unfolding quota_at
+quota_takes [] quota e = let none : None ≡ quota = some_is _ _ e in ap quota_field none
+quota_takes (b ∷ bytes) quota e =
+    let a = bind_some (last_field_at (b ∷ bytes)) (λ n. Some (Some n)) quota e in
+    let some : Some a.0 ≡ quota = some_is _ _ a.2 in
+    last_field_takes (b ∷ bytes) a.0 a.1 ∙ ap quota_field some
+
 sizes_takes : (bytes : List ℕ) (s : Sizes) → sizes_at bytes ≡ Some s → codes "pool " ++ bytes ≡ sizes_text s
 unfolding sizes_at
 sizes_takes bytes s e =
     let a = bind_some (number_at limit bytes)
-    (λ frames. field_at limit frames.1 >>= λ files. field_at limit files.1 >>= λ slots. last_field_at slots.1 >>=
-    λ tasks. Some (record { frames = frames.0; files = files.0; slots = slots.0; tasks = tasks })) s e in
+    (λ frames. field_at limit frames.1 >>= λ files. field_at limit files.1 >>= λ slots. field_at limit slots.1 >>=
+    λ tasks. quota_at tasks.1 >>= λ quota. Some
+    (record { frames = frames.0; files = files.0; slots = slots.0; tasks = tasks.0; quota = quota })) s e in
     let b = bind_some (field_at limit a.0.1)
-    (λ files. field_at limit files.1 >>= λ slots. last_field_at slots.1 >>= λ tasks. Some
-    (record { frames = a.0.0; files = files.0; slots = slots.0; tasks = tasks })) s a.2 in
+    (λ files. field_at limit files.1 >>= λ slots. field_at limit slots.1 >>= λ tasks. quota_at tasks.1 >>=
+    λ quota. Some (record { frames = a.0.0; files = files.0; slots = slots.0; tasks = tasks.0; quota = quota })) s a.2 in
     let d = bind_some (field_at limit b.0.1)
-    (λ slots. last_field_at slots.1 >>= λ tasks. Some
-    (record { frames = a.0.0; files = b.0.0; slots = slots.0; tasks = tasks })) s b.2 in
-    let f = bind_some (last_field_at d.0.1)
-    (λ tasks. Some (record { frames = a.0.0; files = b.0.0; slots = d.0.0; tasks = tasks })) s d.2 in
+    (λ slots. field_at limit slots.1 >>= λ tasks. quota_at tasks.1 >>= λ quota. Some
+    (record { frames = a.0.0; files = b.0.0; slots = slots.0; tasks = tasks.0; quota = quota })) s b.2 in
+    let f = bind_some (field_at limit d.0.1)
+    (λ tasks. quota_at tasks.1 >>= λ quota. Some
+    (record { frames = a.0.0; files = b.0.0; slots = d.0.0; tasks = tasks.0; quota = quota })) s d.2 in
+    let g = bind_some (quota_at f.0.1)
+    (λ quota. Some (record { frames = a.0.0; files = b.0.0; slots = d.0.0; tasks = f.0.0; quota = quota })) s f.2 in
     let frames = number_takes limit bytes a.0.0 a.0.1 (omega arith) (omega arith) a.1 in
     let files = field_takes limit a.0.1 b.0.0 b.0.1 (omega arith) (omega arith) b.1 in
     let slots = field_takes limit b.0.1 d.0.0 d.0.1 (omega arith) (omega arith) d.1 in
-    let tasks = last_field_takes d.0.1 f.0 f.1 in
-    let third : b.0.1 ≡ field d.0.0 ++ field f.0 = slots.0 ∙ ap (λ (t : List ℕ). field d.0.0 ++ t) tasks in
-    let second : a.0.1 ≡ field b.0.0 ++ (field d.0.0 ++ field f.0) = files.0 ∙ ap (λ (t : List ℕ). field b.0.0 ++ t) third in
-    let whole : bytes ≡ decimal a.0.0 ++ (field b.0.0 ++ (field d.0.0 ++ field f.0)) =
+    let tasks = field_takes limit d.0.1 f.0.0 f.0.1 (omega arith) (omega arith) f.1 in
+    let quota = quota_takes f.0.1 g.0 g.1 in
+    let fourth : d.0.1 ≡ field f.0.0 ++ quota_field g.0 = tasks.0 ∙ ap (λ (t : List ℕ). field f.0.0 ++ t) quota in
+    let third : b.0.1 ≡ field d.0.0 ++ (field f.0.0 ++ quota_field g.0) =
+    slots.0 ∙ ap (λ (t : List ℕ). field d.0.0 ++ t) fourth in
+    let second : a.0.1 ≡ field b.0.0 ++ (field d.0.0 ++ (field f.0.0 ++ quota_field g.0)) =
+    files.0 ∙ ap (λ (t : List ℕ). field b.0.0 ++ t) third in
+    let whole : bytes ≡ decimal a.0.0 ++ (field b.0.0 ++ (field d.0.0 ++ (field f.0.0 ++ quota_field g.0))) =
     frames.0 ∙ ap (λ (t : List ℕ). decimal a.0.0 ++ t) second in
-    let regrouped : decimal a.0.0
-    ++ (field b.0.0 ++ (field d.0.0 ++ field f.0)) ≡ ((decimal a.0.0 ++ field b.0.0) ++ field d.0.0)
-    ++ field f.0 = sym (append_assoc (decimal a.0.0) (field b.0.0) (field d.0.0 ++ field f.0))
-    ∙ sym (append_assoc (decimal a.0.0 ++ field b.0.0) (field d.0.0) (field f.0)) in
-    subst (λ (s : Sizes). codes "pool " ++ bytes ≡ sizes_text s) (some_is _ _ f.2)
-    (ap (λ (t : List ℕ). codes "pool " ++ t) (whole ∙ regrouped))
+    subst (λ (s : Sizes). codes "pool " ++ bytes ≡ sizes_text s) (some_is _ _ g.2)
+    (ap (λ (t : List ℕ). codes "pool " ++ t)
+    (whole ∙ sym (five_parts (decimal a.0.0) (field b.0.0) (field d.0.0) (field f.0.0) (quota_field g.0))))
 
 pub header_takes : (bytes : List ℕ) (s : Sizes) → header_at bytes ≡ Some s → SpellsHeader bytes s
 unfolding header_at
 header_takes bytes s e =
     let a = bind_some (after_word (codes "pool ") bytes)
-    (λ text. sizes_at text >>= λ s. cond (within_limits s.frames s.files s.slots s.tasks) (Some s) None) s e in
-    let b = bind_some (sizes_at a.0) (λ s. cond (within_limits s.frames s.files s.slots s.tasks) (Some s) None) s a.2 in
+    (λ text. sizes_at text >>= λ s. cond (are_sizes s) (Some s) None) s e in
+    let b = bind_some (sizes_at a.0) (λ s. cond (are_sizes s) (Some s) None) s a.2 in
     let whole : bytes ≡ sizes_text b.0 = word_takes (codes "pool ") bytes a.0 a.1 ∙ sizes_takes a.0 b.0 b.1 in
-    elim (chosen (within_limits b.0.frames b.0.files b.0.slots b.0.tasks) (Some b.0) None (Some s) b.2) [
+    elim (chosen (are_sizes b.0) (Some b.0) None (Some s) b.2) [
       | inl w ↦ subst (λ (s : Sizes). SpellsHeader bytes s) (some_is _ _ w.1) (whole, w.0)
       | inr w ↦ absurd (none_some w.1)
     ]
@@ -370,21 +389,36 @@ last_field_again n fits =
     ap (field_at limit) (sym (append-nil (field n))) ∙ field_again limit n [] (omega arith) (omega arith) tt in
     rw read refl
 
-pub header_again : (s : Sizes) → within_limits s.frames s.files s.slots s.tasks ≡ true → header_at (sizes_text s) ≡ Some s
+-- a quota that is spelled is read so
+quota_again : (quota : Option ℕ) → is_quota quota ≡ true → quota_at (quota_field quota) ≡ Some quota
+unfolding quota_at
+quota_again None fits = refl
+quota_again (Some n) fits =
+    let few = leb-true n 65536 fits in
+    let read : last_field_at (field n) ≡ Some n = last_field_again n (omega arith) in
+    ap (λ (o : Option ℕ). o >>= λ k. Some (Some k)) read
+
+-- a number ends before it
+quota_stops : (quota : Option ℕ) → Stops (quota_field quota)
+quota_stops None = tt
+quota_stops (Some n) = refl
+
+pub header_again : (s : Sizes) → are_sizes s ≡ true → header_at (sizes_text s) ≡ Some s
 unfolding header_at sizes_at
 header_again s within =
-    let p = and_parts _ _ within in
+    let both = and_parts _ _ within in
+    let p = and_parts _ _ both.0 in
     let q = and_parts _ _ p.0 in
     let r = and_parts _ _ q.0 in
     let frames = leb-true s.frames 4096 (and_parts _ _ r.0).1 in
     let files = leb-true s.files 16 (and_parts _ _ r.1).1 in
     let slots = leb-true s.slots 64 (and_parts _ _ q.1).1 in
     let tasks = leb-true s.tasks 64 (and_parts _ _ p.1).1 in
-    let regrouped : ((decimal s.frames ++ field s.files) ++ field s.slots) ++ field s.tasks ≡ decimal s.frames
-    ++ (field s.files ++ (field s.slots ++ field s.tasks)) = append_assoc (decimal s.frames ++ field s.files)
-    (field s.slots) (field s.tasks) ∙ append_assoc (decimal s.frames) (field s.files) (field s.slots ++ field s.tasks) in
-    let one = number_again limit s.frames (field s.files ++ (field s.slots ++ field s.tasks)) (omega arith) (omega arith) refl in
-    let two = field_again limit s.files (field s.slots ++ field s.tasks) (omega arith) (omega arith) refl in
-    let three = field_again limit s.slots (field s.tasks) (omega arith) (omega arith) refl in
-    let four = last_field_again s.tasks (omega arith) in
-    rw (regrouped, one, two, three, four, within) refl
+    let regrouped = five_parts (decimal s.frames) (field s.files) (field s.slots) (field s.tasks) (quota_field s.quota) in
+    let one = number_again limit s.frames (field s.files ++ (field s.slots ++ (field s.tasks ++ quota_field s.quota)))
+    (omega arith) (omega arith) refl in
+    let two = field_again limit s.files (field s.slots ++ (field s.tasks ++ quota_field s.quota)) (omega arith) (omega arith) refl in
+    let three = field_again limit s.slots (field s.tasks ++ quota_field s.quota) (omega arith) (omega arith) refl in
+    let four = field_again limit s.tasks (quota_field s.quota) (omega arith) (omega arith) (quota_stops s.quota) in
+    let five = quota_again s.quota both.1 in
+    rw (regrouped, one, two, three, four, five, within) refl

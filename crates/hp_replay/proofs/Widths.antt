@@ -1,11 +1,12 @@
 -- No line's text holds a line's end, and none is longer than 56 bytes.
-use Rattle.std.proofs.Common.{◌≡◌, ℕ, ◌+◌, ◌/◌, ◌%◌, ◌^◌, ◌<◌, ◌≤◌, true, false, eqb, List, [], ◌∷◌, ◌++◌, length, refl, arith}
+use Rattle.std.proofs.Common.{◌≡◌, ℕ, ◌+◌, ◌/◌, ◌%◌, ◌^◌, ◌<◌, ◌≤◌, true, false, eqb, List, [], ◌∷◌, ◌++◌, Option, Some, None, length, refl, arith}
 use Rattle.std.proofs.Common.{length-append}
 use Rattle.std.specs.Prelude.{codes}
 use Rattle.std.specs.Fmt.{decimal}
 use Rattle.std.proofs.lemmas.Bool.{ne_eqb, and_parts, leb-true}
 use Rattle.std.proofs.lemmas.Fmt.{decimal_by_steps, length-decimal-le}
-use Rattle.hp_base.specs.Text.{field, op_text, event_text, Sizes, sizes_text}
+use Rattle.hp_base.specs.Text.{field, op_text, event_text, Sizes, sizes_text, quota_field}
+use Rattle.hp_base.specs.Limits.{is_quota}
 use Rattle.hp_base.specs.declared.event.Op.{Op}
 use Rattle.hp_base.specs.declared.event.Op.TheVariants.{Map, MapNoReserve, Unmap, Load, Store, Alloc, Punch, Truncate, Exit}
 use Rattle.hp_base.specs.declared.event.Event.{Event}
@@ -99,16 +100,27 @@ event_width (Step task true) fits = step_width (codes "step") task (short_word (
 event_width (Step task false) fits = step_width (codes "deny") task (short_word (codes "deny") (omega arith) refl) fits
 event_width (Kill task) fits = step_width (codes "kill") task (short_word (codes "kill") (omega arith) refl) fits
 
+-- a quota's
+quota_width : (quota : Option ℕ) → is_quota quota ≡ true → IsInLine 6 (quota_field quota)
+quota_width None fits = record { width = omega arith; no_end = refl }
+quota_width (Some n) fits =
+    let few = leb-true n 65536 fits in
+    record {
+      width = omega (arith, length-decimal-le 5 n (omega arith) (omega arith) (omega arith));
+      no_end = decimal_no_end n (omega arith);
+    }
+
 -- and so does a header's
 pub sizes_width : (s : Sizes) → AreWithinLimits s → IsInLine 56 (sizes_text s)
 sizes_width s within =
-    let p = and_parts _ _ within in
+    let both = and_parts _ _ within in
+    let p = and_parts _ _ both.0 in
     let q = and_parts _ _ p.0 in
     let r = and_parts _ _ q.0 in
     let frames = leb-true s.frames 4096 (and_parts _ _ r.0).1 in
     let files = leb-true s.files 16 (and_parts _ _ r.1).1 in
     let slots = leb-true s.slots 64 (and_parts _ _ q.1).1 in
     let tasks = leb-true s.tasks 64 (and_parts _ _ p.1).1 in
-    wider 50 56 _ (omega arith)
-    (joined 39 11 _ _ (range_width (codes "pool") s.frames s.files s.slots
+    joined 50 6 _ _ (joined 39 11 _ _ (range_width (codes "pool") s.frames s.files s.slots
     (short_word (codes "pool") (omega arith) refl) (omega arith, omega arith, omega arith)) (short_field s.tasks (omega arith)))
+    (quota_width s.quota both.1)

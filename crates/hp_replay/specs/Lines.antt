@@ -1,8 +1,7 @@
 -- The lines of a trace, and what is held of a trace while it comes in pieces.
 use Rattle.std.specs.Prelude.{ℕ, zero, suc, ◌+◌, List, [], ◌∷◌, ◌++◌, length, Option, Some, None, Result, Ok, Err, ◌==◌}
 use Rattle.std.specs.Prelude.{if◌then◌else◌, IsTrue}
-use Rattle.hp_base.specs.Limits.{within_limits}
-use Rattle.hp_base.specs.Text.{Sizes, sizes, sizes_text, event_text}
+use Rattle.hp_base.specs.Text.{Sizes, sizes, sizes_text, event_text, are_sizes}
 use Rattle.hp_replay.specs.Fits.{EventFits}
 use Rattle.hp_base.specs.declared.event.Event.{Event}
 use Rattle.hp_replay.specs.declared.fault.ReplayFault.{ReplayFault}
@@ -94,7 +93,7 @@ line_text (event e) = event_text e ++ 10 ∷ []
 -- lines that may stand behind n others
 abbrev pub AreLines : ℕ → List Line → Type 0
 AreLines n [] = Unit {0}
-AreLines zero (header s ∷ lines) = IsTrue (within_limits s.frames s.files s.slots s.tasks) × AreLines 1 lines
+AreLines zero (header s ∷ lines) = IsTrue (are_sizes s) × AreLines 1 lines
 AreLines (suc n) (event e ∷ lines) = EventFits e × AreLines (suc n + 1) lines
 AreLines zero (event e ∷ lines) = ⊥
 AreLines (suc n) (header s ∷ lines) = ⊥

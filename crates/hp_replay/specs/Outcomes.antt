@@ -1,5 +1,5 @@
 -- What a run of a trace writes: a line for each outcome, and the lines of the state at its end.
-use Rattle.std.specs.Prelude.{◌≡◌, ℕ, zero, suc, List, [], ◌∷◌, ◌++◌, codes}
+use Rattle.std.specs.Prelude.{◌≡◌, ℕ, zero, suc, Some, None, List, [], ◌∷◌, ◌++◌, codes}
 use Rattle.std.specs.List.{flat_map}
 use Rattle.std.specs.Fmt.{decimal}
 use Rattle.hp_base.specs.Text.{Sizes, sizes}
@@ -9,7 +9,7 @@ use Rattle.hp_machine.specs.declared.outcome.Outcome.{Outcome}
 use Rattle.hp_machine.specs.Text.{outcome_text, life_word}
 use Rattle.hp_core.specs.Runs.{Row, IsOpening}
 use Rattle.hp_core.specs.State.{CoreState}
-use Rattle.hp_core.specs.Readers.{config_of, free_of, resv_of, calls_of, size_of, reserved_of, regions_of, pages_of, changes_of}
+use Rattle.hp_core.specs.Readers.{config_of, free_of, resv_of, used_of, quota_of, calls_of, size_of, reserved_of, regions_of, pages_of, changes_of}
 use Rattle.hp_core.specs.Readers.{spare_of, life_of, mappings_of, entries_of}
 
 -- the events, one after the other, have these outcomes and lead from old to new
@@ -33,12 +33,16 @@ outcome_line outcome = outcome_text outcome ++ 10 ∷ []
 abbrev pub outcomes_text : List Outcome → List ℕ
 outcomes_text outcomes = flat_map outcome_line outcomes
 
--- `free F resv R calls K`
+-- where there is a quota, ` used U`
+abbrev pub used_text : CoreState → List ℕ
+used_text core = elim (quota_of core) [ None ↦ [] | Some most ↦ codes " used " ++ decimal (used_of core) ]
+
+-- `free F resv R calls K`, and behind it ` used U` where there is a quota
 abbrev pub pool_line : CoreState → List ℕ
 pool_line core =
     codes "free " ++ (decimal (free_of core)
     ++ (codes " resv " ++ (decimal (resv_of core)
-    ++ (codes " calls " ++ (decimal (calls_of core) ++ 10 ∷ [])))))
+    ++ (codes " calls " ++ (decimal (calls_of core) ++ (used_text core ++ 10 ∷ []))))))
 
 -- `file I size S reserved N regions G pages P changes C spare D`
 abbrev pub file_line : CoreState → ℕ → List ℕ

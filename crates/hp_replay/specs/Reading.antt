@@ -4,8 +4,7 @@ use Rattle.std.specs.Prelude.{◌==◌, if◌then◌else◌, codes}
 use Rattle.std.specs.List.{starts_with}
 use Rattle.std.specs.Option.{option_map_or}
 use Rattle.std.specs.Char.{is_ascii_digit}
-use Rattle.hp_base.specs.Limits.{within_limits}
-use Rattle.hp_base.specs.Text.{Sizes}
+use Rattle.hp_base.specs.Text.{Sizes, are_sizes}
 use Rattle.hp_base.specs.declared.event.Op.{Op}
 use Rattle.hp_base.specs.declared.event.Op.TheVariants.{Map, MapNoReserve, Unmap, Load, Store, Alloc, Punch, Truncate, Exit}
 use Rattle.hp_base.specs.declared.event.Event.{Event}
@@ -119,18 +118,26 @@ last_field_at bytes = do
   n ← field_at limit bytes
   ended n.0 n.1
 
+-- a quota, if there is one, as the last of a line
+unfoldable pub quota_at : List ℕ → Option (Option ℕ)
+quota_at [] = Some None
+quota_at (b ∷ bytes) = do
+  quota ← last_field_at (b ∷ bytes)
+  Some (Some quota)
+
 -- the numbers of a first line
 unfoldable pub sizes_at : List ℕ → Option Sizes
 sizes_at bytes = do
   frames ← number_at limit bytes
   files ← field_at limit frames.1
   slots ← field_at limit files.1
-  tasks ← last_field_at slots.1
-  Some (record { frames = frames.0; files = files.0; slots = slots.0; tasks = tasks })
+  tasks ← field_at limit slots.1
+  quota ← quota_at tasks.1
+  Some (record { frames = frames.0; files = files.0; slots = slots.0; tasks = tasks.0; quota = quota })
 
 -- the first line, without its end
 unfoldable pub header_at : List ℕ → Option Sizes
 header_at bytes = do
   text ← after_word (codes "pool ") bytes
   s ← sizes_at text
-  if within_limits s.frames s.files s.slots s.tasks then Some s else None
+  if are_sizes s then Some s else None

@@ -1,8 +1,7 @@
 -- The text of a trace, and what is wrong with bytes that are none.
 use Rattle.std.specs.Prelude.{◌≡◌, ◌≢◌, ℕ, ◌+◌, ◌<◌, ◌≤◌, ◌⊎◌, Bool, not, ◌==◌, IsTrue, List, [], ◌∷◌, ◌++◌, length, All}
 use Rattle.std.specs.List.{flat_map, list_all}
-use Rattle.hp_base.specs.Limits.{IsWithinLimits}
-use Rattle.hp_base.specs.Text.{Sizes, sizes_text, event_text}
+use Rattle.hp_base.specs.Text.{Sizes, sizes_text, event_text, are_sizes}
 use Rattle.hp_base.specs.declared.event.Event.{Event}
 use Rattle.hp_replay.specs.Fits.{EventFits}
 use Rattle.hp_replay.specs.declared.fault.ReplayFault.{ReplayFault}
@@ -31,7 +30,7 @@ abbrev pub trace_text : Sizes → List Event → List ℕ
 trace_text s events = header_line s ++ events_text events
 
 abbrev pub AreWithinLimits : Sizes → Type 0
-AreWithinLimits s = IsWithinLimits s.frames s.files s.slots s.tasks
+AreWithinLimits s = IsTrue (are_sizes s)
 
 -- what a text may spell
 pub record IsTrace (s : Sizes) (events : List Event) : Type 0 where

@@ -224,17 +224,29 @@ fn last_field_at(bytes: &[u8]) -> Option<u32>
     }
 }
 
-/// Four numbers, as the last of a line.
+/// A quota, if there is one, as the last of a line.
+#[tactic(auto, unfolding(crate::specs::Reading::quota_at))]
+fn quota_at(bytes: &[u8]) -> Option<Option<u32>>
+    ensures { result ≡ quota_at bytes.now }
+{
+    match bytes {
+        [] => Some(None),
+        _ => Some(Some(last_field_at(bytes)?)),
+    }
+}
+
+/// Four numbers, and a quota if there is one, as the last of a line.
 #[tactic(auto, unfolding(crate::specs::Reading::sizes_at))]
-fn sizes_at(bytes: &[u8]) -> Option<(u32, u32, u32, u32)>
-    ensures { option_map (λ s. record { frames = s.0; files = s.1; slots = s.2; tasks = s.3 }) result
+fn sizes_at(bytes: &[u8]) -> Option<(u32, u32, u32, u32, Option<u32>)>
+    ensures { option_map (λ s. record { frames = s.0; files = s.1; slots = s.2; tasks = s.3; quota = s.4 }) result
         ≡ sizes_at bytes.now }
 {
     let (frames, rest) = short_at(bytes)?;
     let (files, rest) = field_at(rest)?;
     let (slots, rest) = field_at(rest)?;
-    let tasks = last_field_at(rest)?;
-    Some((frames, files, slots, tasks))
+    let (tasks, rest) = field_at(rest)?;
+    let quota = quota_at(rest)?;
+    Some((frames, files, slots, tasks, quota))
 }
 
 /// The config that a first line spells.
@@ -242,6 +254,10 @@ fn sizes_at(bytes: &[u8]) -> Option<(u32, u32, u32, u32)>
 pub(crate) fn header_at(bytes: &[u8]) -> Option<Config>
     ensures { option_map sizes result ≡ header_at bytes.now }
 {
-    let (frames, files, slots, tasks) = sizes_at(after_word(b"pool ", bytes)?)?;
-    Config::new(frames, files, slots, tasks).ok()
+    let (frames, files, slots, tasks, quota) = sizes_at(after_word(b"pool ", bytes)?)?;
+    let config = Config::new(frames, files, slots, tasks).ok()?;
+    match quota {
+        None => Some(config),
+        Some(quota) => config.with_quota(quota).ok(),
+    }
 }

@@ -13,7 +13,11 @@ fn push_pool(core: &Core, text: &mut String) -> Result<(), AllocError>
     let free = core.free();
     let resv = core.resv();
     let calls = core.calls();
-    writeln!(text, "free {free} resv {resv} calls {calls}")
+    if core.quota().is_none() {
+        return writeln!(text, "free {free} resv {resv} calls {calls}");
+    }
+    let used = core.used();
+    writeln!(text, "free {free} resv {resv} calls {calls} used {used}")
 }
 
 fn push_file(core: &Core, file: File, text: &mut String) -> Result<(), AllocError>

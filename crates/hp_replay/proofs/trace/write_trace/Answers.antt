@@ -1,4 +1,5 @@
 use Rattle.std.proofs.Common.{ap, ◌∙◌}
+use Rattle.std.proofs.lemmas.Bool.{and_from}
 use Rattle.std.proofs.lemmas.Result.{err_from_is_err_and}
 use Rattle.hp_base.specs.Text.{sizes}
 use Rattle.hp_replay.specs.Streams.{sink_at}
@@ -46,7 +47,7 @@ pub returns-clause-spells : goal.returns-clause-spells
 returns-clause-spells g c =
     written_is _ _ (sizes c.args.trace.now.config) c.args.trace.now.events.items c.deref-event-items.result.now
     c.loop-event.event-index c.deref-event-items.ensures.value c.loop-event-test.false c.loop-event.invariant.0
-    c.args.trace.now.config.within_limits c.requires
+    (and_from _ _ c.args.trace.now.config.within_limits c.args.trace.now.config.within_quota) c.requires
 
 pub returns-in_err-write_event-clause-writes : goal.returns-in_err-write_event-clause-writes
 returns-in_err-write_event-clause-writes g c =

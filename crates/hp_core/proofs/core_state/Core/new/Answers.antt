@@ -9,6 +9,8 @@ invariant_of-result c = are_sound (sizes c.args.config) _ _
     (record {
       all_frames = c.in_ok-new.ensures.frames;
       none_reserved = c.in_ok-new.ensures.resv;
+      none_used = c.in_ok-new.ensures.used;
+      same_quota = c.in_ok-new.ensures.quota;
       all_slots = c.in_ok-new-2.ensures;
       all_locks = c.in_ok-new-3.ensures;
       files_long = c.in_ok-new_files.ensures.count;
@@ -24,6 +26,8 @@ returns-clause-opening c = opens_as c.args.config _ _ _
     (record {
       all_frames = c.in_ok-new.ensures.frames;
       none_reserved = c.in_ok-new.ensures.resv;
+      none_used = c.in_ok-new.ensures.used;
+      same_quota = c.in_ok-new.ensures.quota;
       all_slots = c.in_ok-new-2.ensures;
       all_locks = c.in_ok-new-3.ensures;
       files_long = c.in_ok-new_files.ensures.count;

@@ -12,7 +12,7 @@ use Rattle.hp_core.specs.declared.seat.Seat.{Seat}
 use Rattle.hp_core.specs.Copies.{IsCopy, all_translations}
 use Rattle.hp_core.specs.State.{CoreState}
 use Rattle.hp_core.specs.Sound.{IsSound}
-use Rattle.hp_core.specs.Readers.{resv_of, owed_of}
+use Rattle.hp_core.specs.Readers.{resv_of, owed_of, used_of, used_owed_of, quota_of}
 use Rattle.hp_core.proofs.Audited.{right_of}
 use Rattle.hp_core.proofs.Pictures.{AreCopies, picture_of, picture_seen, few_files, few_spaces}
 use Rattle.hp_core.proofs.core_state.Core.picture.Goals as goal
@@ -41,11 +41,16 @@ returns c =
     } in
     let is : c.owed.result ≡ owed_of s = c.owed.ensures ∙ ap (λ (z : CoreState). owed_of z) (sym c.self.view_is) in
     let owed_is : to_z w64 (of_z w64 c.owed.result) ≡ owed_of s = grind (arith, to_z-of_z, is) in
+    let uses : c.used_owed.result ≡ used_owed_of s = c.used_owed.ensures ∙ ap (λ (z : CoreState). used_owed_of z) (sym c.self.view_is) in
+    let used_owed_is : to_z w64 (of_z w64 c.used_owed.result) ≡ used_owed_of s = grind (arith, to_z-of_z, uses) in
     let copies : AreCopies s _ = record {
       free = c.in_ok-free_frames.ensures.each;
       frees = c.in_ok-free_frames.ensures.count;
       resv = c.resv.ensures ∙ ap (λ (z : CoreState). resv_of z) (sym c.self.view_is);
       owed = owed_is;
+      used = c.used.ensures ∙ ap (λ (z : CoreState). used_of z) (sym c.self.view_is);
+      used_owed = used_owed_is;
+      quota = c.quota.ensures ∙ ap (λ (z : CoreState). quota_of z) (sym c.self.view_is);
       hands = c.in_ok-hands.ensures ∙ ap (λ (xs : List Seat). filter_map (λ seat. hand seat.call) xs) c.deref.ensures.value;
       as_many = c.in_ok-file_pictures.ensures.count ∙ ap (λ (xs : List FileState). length xs) c.deref-2.ensures.value;
       files =
