@@ -20,6 +20,9 @@ fn sound(alloc: Global) -> Result<Picture, AllocError> {
         free: vec![in alloc; Frame::new(0)]?,
         resv: 0,
         owed: 0,
+        used: 1,
+        used_owed: 0,
+        quota: None,
         hands: Vec::new(alloc),
         files: vec![in alloc; file_of_one(alloc)?]?,
         tables: vec![in alloc; (Task::new(1), File::new(0), Index::new(0), Frame::new(1))]?,
@@ -33,6 +36,15 @@ fn a_sound_picture(rt: HostRuntime) -> Result<(), Fail> {
     let mut other = sound(rt.alloc())?;
     assert!(rt; picture == other);
     other.resv = 1;
+    assert!(rt; picture != other);
+    let mut other = sound(rt.alloc())?;
+    other.used = 2;
+    assert!(rt; picture != other);
+    let mut other = sound(rt.alloc())?;
+    other.used_owed = 1;
+    assert!(rt; picture != other);
+    let mut other = sound(rt.alloc())?;
+    other.quota = Some(0);
     assert!(rt; picture != other);
     Ok(())
 }
@@ -125,11 +137,36 @@ fn reserve_counts(rt: HostRuntime) -> Result<(), Fail> {
     file.regions.push((Index::new(0), Index::new(3)))?;
     picture.files = vec![in alloc; file]?;
     picture.owed = -1;
+    picture.used = 3;
     assert_eq!(rt; audit(&picture), Ok(()));
     // One frame is free, so that two can't be reserved.
     picture.resv = 2;
     picture.owed = 0;
     assert_eq!(rt; audit(&picture), Err(Finding::Count));
+    Ok(())
+}
+
+#[test]
+fn used_counts(rt: HostRuntime) -> Result<(), Fail> {
+    let mut picture = sound(rt.alloc())?;
+    picture.used = 2;
+    assert_eq!(rt; audit(&picture), Err(Finding::Used));
+    picture.used_owed = 1;
+    assert_eq!(rt; audit(&picture), Ok(()));
+    // Where both counts are wrong, the reserve count is told.
+    picture.used_owed = 0;
+    picture.resv = 1;
+    assert_eq!(rt; audit(&picture), Err(Finding::Count));
+    Ok(())
+}
+
+#[test]
+fn quotas(rt: HostRuntime) -> Result<(), Fail> {
+    let mut picture = sound(rt.alloc())?;
+    picture.quota = Some(0);
+    assert_eq!(rt; audit(&picture), Err(Finding::Used));
+    picture.quota = Some(1);
+    assert_eq!(rt; audit(&picture), Ok(()));
     Ok(())
 }
 
@@ -161,6 +198,11 @@ fn texts_of_sizes_and_counts(rt: HostRuntime) -> Result<(), Fail> {
     assert_eq!(rt;
         count.as_str(),
         "the reserve count isn't that of the reserved indices, or is above the free frames"
+    );
+    let used = format!(in rt.alloc(); "{}", Finding::Used)?;
+    assert_eq!(rt;
+        used.as_str(),
+        "the used count isn't that of the reserved indices, or is above the quota"
     );
     Ok(())
 }

@@ -12,8 +12,17 @@ fn limits_of_a_pool(rt: HostRuntime) -> Result<(), Fail> {
     let text = format!(in rt.alloc(); "{}", Fault::BadConfig)?;
     assert_eq!(rt;
         text.as_str(),
-        "a pool has 1..=4096 frames, 1..=16 files, 1..=64 slots and 1..=64 tasks"
+        "a pool has 1..=4096 frames, 1..=16 files, 1..=64 slots and 1..=64 tasks, and a quota of at most 65536 pages"
     );
+    Ok(())
+}
+
+#[test]
+fn limits_of_a_quota(rt: HostRuntime) -> Result<(), Fail> {
+    let config = Config::new(4, 1, 4, 1)?;
+    assert_eq!(rt; config.quota, None);
+    assert_eq!(rt; config.with_quota(65_536)?.quota, Some(65_536));
+    assert_eq!(rt; config.with_quota(65_537), Err(Fault::BadConfig));
     Ok(())
 }
 
@@ -23,6 +32,10 @@ fn words_of_a_header(rt: HostRuntime) -> Result<(), Fail> {
     assert_eq!(rt; header.as_str(), "pool 4 1 4 2");
     let header = format!(in rt.alloc(); "{}", Config::new(4096, 16, 63, 64)?)?;
     assert_eq!(rt; header.as_str(), "pool 4096 16 63 64");
+    for (quota, text) in [(0, "pool 4 1 4 1 0"), (65_536, "pool 4 1 4 1 65536")] {
+        let config = Config::new(4, 1, 4, 1)?.with_quota(quota)?;
+        assert_eq!(rt; format!(in rt.alloc(); "{config}")?.as_str(), text);
+    }
     Ok(())
 }
 
@@ -119,6 +132,7 @@ fn words_of_an_answer(rt: HostRuntime) -> Result<(), Fail> {
         (Answer::Word(0), "word 0"),
         (Answer::Word(u64::MAX), "word 18446744073709551615"),
         (Answer::NoFrame, "noframe"),
+        (Answer::NoQuota, "noquota"),
     ] {
         assert_eq!(rt; format!(in rt.alloc(); "{answer}")?.as_str(), text);
     }

@@ -38,6 +38,7 @@ fn answers_differ(rt: HostRuntime) {
         Answer::Segv,
         Answer::Beyond,
         Answer::NoFrame,
+        Answer::NoQuota,
         Answer::NoMemory,
         Answer::Interrupted,
         Answer::Killed,
@@ -57,6 +58,8 @@ fn configs_differ(rt: HostRuntime) -> Result<(), Fail> {
         Config::new(1, 2, 1, 1)?,
         Config::new(1, 1, 2, 1)?,
         Config::new(1, 1, 1, 2)?,
+        Config::new(1, 1, 1, 1)?.with_quota(0)?,
+        Config::new(1, 1, 1, 1)?.with_quota(1)?,
     ];
     assert!(rt; all_differ(&configs));
     Ok(())
@@ -159,7 +162,7 @@ fn events_differ(rt: HostRuntime) {
 
 #[test]
 fn faults_differ(rt: HostRuntime) {
-    assert!(rt; all_differ(&[BankFault::Short, BankFault::NoFrame]));
+    assert!(rt; all_differ(&[BankFault::Short, BankFault::NoFrame, BankFault::Quota]));
     let busy = [Task::new(1), Task::new(2)].map(SlotFault::Busy);
     assert!(rt; all_differ(&busy));
     assert!(rt; all_differ(&[ChangeFault::Denied, ChangeFault::Memory]));
@@ -170,6 +173,7 @@ fn faults_differ(rt: HostRuntime) {
         Finding::Place,
         Finding::Size,
         Finding::Count,
+        Finding::Used,
     ];
     assert!(rt; all_differ(&findings));
 }

@@ -1,21 +1,23 @@
-//! Frames that go from hand to hand, and the texts of the faults.
+//! Frames that go from hand to hand, what they leave of a quota, and the texts of the faults.
+ghost use Rattle.std.specs.Prelude.{◌≡◌, IfOk};
+
 use hp_frames::{Bank, Fault};
 use std::alloc::Global;
 use std::test::Fail;
 
 #[test]
 fn reservations_are_counted(rt: HostRuntime) -> Result<(), Fail> {
-    let mut bank = Bank::new(rt.alloc(), 2)?;
+    let mut bank = Bank::new(rt.alloc(), 2, None)?;
     assert_eq!(rt; bank.account(3), Err(Fault::Short));
     assert_eq!(rt; bank.account(2), Ok(()));
-    assert_eq!(rt; bank.resv(), 2);
+    assert_eq!(rt; (bank.resv(), bank.used()), (2, 2));
     assert!(rt; matches!(bank.take_unreserved(), Err(Fault::NoFrame)));
     Ok(())
 }
 
 #[test]
 fn a_reserved_frame_is_restored(rt: HostRuntime) -> Result<(), Fail> {
-    let mut bank = Bank::new(rt.alloc(), 2)?;
+    let mut bank = Bank::new(rt.alloc(), 2, None)?;
     bank.account(2)?;
     let held = bank.take_reserved();
     assert_eq!(rt; (bank.free(), bank.resv()), (1, 1));
@@ -23,12 +25,43 @@ fn a_reserved_frame_is_restored(rt: HostRuntime) -> Result<(), Fail> {
     assert_eq!(rt; (bank.free(), bank.resv()), (2, 2));
     bank.settle(2);
     assert_eq!(rt; (bank.free(), bank.resv()), (2, 0));
+    assert_eq!(rt; bank.used(), 0);
+    Ok(())
+}
+
+#[test]
+fn a_quota_limits_what_is_used(rt: HostRuntime) -> Result<(), Fail> {
+    let mut bank = Bank::new(rt.alloc(), 2, Some(1))?;
+    assert_eq!(rt; bank.quota(), Some(1));
+    let held = bank.take_unreserved()?;
+    assert_eq!(rt; (bank.free(), bank.used()), (1, 1));
+    assert!(rt; matches!(bank.take_unreserved(), Err(Fault::Quota)));
+    assert_eq!(rt; bank.account(1), Err(Fault::Quota));
+    bank.give(held);
+    assert_eq!(rt; (bank.free(), bank.used()), (2, 1));
+    bank.drop_used(1);
+    assert_eq!(rt; bank.used(), 0);
+    assert_eq!(rt; bank.account(1), Ok(()));
+    assert_eq!(rt; (bank.resv(), bank.used()), (1, 1));
+    Ok(())
+}
+
+#[test]
+fn the_quota_is_asked_before_the_frames(rt: HostRuntime) -> Result<(), Fail> {
+    let mut bank = Bank::new(rt.alloc(), 1, Some(1))?;
+    assert_eq!(rt; bank.account(2), Err(Fault::Quota));
+    assert_eq!(rt; bank.account(1), Ok(()));
+    assert!(rt; matches!(bank.take_unreserved(), Err(Fault::Quota)));
+    let mut bank = Bank::new(rt.alloc(), 1, Some(2))?;
+    assert_eq!(rt; bank.account(2), Err(Fault::Short));
+    assert_eq!(rt; bank.account(1), Ok(()));
+    assert!(rt; matches!(bank.take_unreserved(), Err(Fault::NoFrame)));
     Ok(())
 }
 
 #[test]
 fn a_page_keeps_its_word(rt: HostRuntime) -> Result<(), Fail> {
-    let mut bank = Bank::new(rt.alloc(), 2)?;
+    let mut bank = Bank::new(rt.alloc(), 2, None)?;
     let held = bank.take_unreserved()?;
     let number = held.frame();
     let frame = bank.place(held);
@@ -40,13 +73,16 @@ fn a_page_keeps_its_word(rt: HostRuntime) -> Result<(), Fail> {
 }
 
 // Two free frames, of which one was a page with the word 9.
-fn once_used(alloc: Global) -> Result<Bank, Fail> {
-    let mut bank = Bank::new(alloc, 2)?;
+fn once_used(alloc: Global) -> Result<Bank, Fail>
+    ensures { IfOk result (λ bank. bank.used ≡ 0) }
+{
+    let mut bank = Bank::new(alloc, 2, None)?;
     let held = bank.take_unreserved()?;
     let frame = bank.place(held);
     bank.store(frame, 9);
     let held = bank.evict(frame);
     bank.give(held);
+    bank.drop_used(1);
     Ok(bank)
 }
 
@@ -69,5 +105,7 @@ fn texts(rt: HostRuntime) -> Result<(), Fail> {
     assert_eq!(rt; short.as_str(), "too few unreserved frames are free");
     let none = format!(in rt.alloc(); "{}", Fault::NoFrame)?;
     assert_eq!(rt; none.as_str(), "no unreserved frame is free");
+    let quota = format!(in rt.alloc(); "{}", Fault::Quota)?;
+    assert_eq!(rt; quota.as_str(), "the quota of pages is used up");
     Ok(())
 }
