@@ -115,7 +115,8 @@ def examples(step: Step, _: list[str]) -> None:
 
 
 def linux(step: Step, _: list[str]) -> None:
-    step.run([sys.executable, str(TOP / "conformance" / "compare.py")])
+    for script in ("compare.py", "test_compare.py"):
+        step.run([sys.executable, str(TOP / "conformance" / script)])
 
 
 def quick(step: Step, _: list[str]) -> None:

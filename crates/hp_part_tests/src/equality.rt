@@ -1,22 +1,11 @@
 //! That different values are unequal: an equality that always holds would empty each `assert_eq!`.
+use crate::differing::all_differ;
 use hp_audit::Finding;
 use hp_base::{Answer, Config, Event, File, Frame, Index, Mapping, Op, Task, Vpn};
 use hp_frames::Fault as BankFault;
 use hp_region::{ChangeFault, DelFault};
 use hp_slots::Fault as SlotFault;
 use std::test::Fail;
-
-// Whether each value is equal to itself alone.
-fn all_differ<T: PartialEq>(values: &[T]) -> bool {
-    for (i, one) in values.iter().enumerate() {
-        for (j, other) in values.iter().enumerate() {
-            if (*one == *other) != (i == j) {
-                return false;
-            }
-        }
-    }
-    true
-}
 
 #[test]
 fn numbers_differ(rt: HostRuntime) {

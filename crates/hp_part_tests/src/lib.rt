@@ -1,9 +1,10 @@
 //! Tests of the parts of a pool: its vocabulary, the bank, the reserve map, the page cache, the holders, the
 //! tables and the audit, a module for each crate, and of when their values are equal.
 //!
-//! It has nothing but tests, and stands on the crates that it tests: it makes their public calls, and promises
-//! nothing. It stands apart because a crate with tests is proved twice, once for itself and once with its tests.
-//! Here there is nothing to prove but the tests, and the crates below are proved once.
+//! It stands on the crates that it tests, and makes their public calls. It stands apart because a crate with
+//! tests is proved twice, once for itself and once with its tests: here there is little to prove but the tests,
+//! and the crates below are proved once. Beside the tests stands one function, by which they and those of
+//! hp_tests tell values apart (`differing::all_differ`): it has a contract, so it can't pass values that are equal.
 #![tactic(auto)]
 
 #[cfg(test)]
@@ -12,6 +13,7 @@ mod audit;
 mod base;
 #[cfg(test)]
 mod cache;
+pub mod differing;
 #[cfg(test)]
 mod equality;
 #[cfg(test)]

@@ -1,19 +1,8 @@
 //! That different values are unequal: an equality that always holds would empty each `assert_eq!`.
 use hp_base::{Answer, Task, Vpn};
 use hp_core::{Life, Outcome, Phase, Refusal, RunFault, Tally};
+use hp_part_tests::differing::all_differ;
 use hp_replay::ReplayFault;
-
-// Whether each value is equal to itself alone.
-fn all_differ<T: PartialEq>(values: &[T]) -> bool {
-    for (i, one) in values.iter().enumerate() {
-        for (j, other) in values.iter().enumerate() {
-            if (*one == *other) != (i == j) {
-                return false;
-            }
-        }
-    }
-    true
-}
 
 #[test]
 fn phases_differ(rt: HostRuntime) {

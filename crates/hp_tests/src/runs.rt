@@ -1,19 +1,9 @@
 //! Runs that no clause says: that ample memory meets no want of it, and what the readers tell then.
-ghost use Rattle.std.specs.Prelude.{◌≡◌, IfOk};
-ghost use Rattle.hp_core.specs.Readers.{config_of};
-
+use crate::pool::new_pool;
 use hp_base::{Answer, Config, Event, File, Frame, Index, Op, Task, Vpn};
 use hp_core::{Core, Life, Outcome, Phase, Picture, RunFault, Tally, audit};
 use std::alloc::{AllocError, Global};
 use std::test::Fail;
-
-// A pool of four frames, one file and one task, that nothing has happened to.
-fn new_pool(alloc: Global) -> Result<Core, Fail>
-    ensures files { IfOk result (λ core. (config_of core).files ≡ 1) }
-    ensures tasks { IfOk result (λ core. (config_of core).tasks ≡ 1) }
-{
-    Ok(Core::new(alloc, Config::new(4, 1, 4, 1)?)?)
-}
 
 // A run. The tests ask for what it tells, and not for its rows.
 fn told_of(core: &mut Core, alloc: Global, events: &[Event]) -> Result<Vec<Outcome>, RunFault> {

@@ -1,0 +1,88 @@
+#!/usr/bin/env python3
+"""Compares programs that are wrong with what a Linux kernel answered: the known difference has to excuse none of them.
+
+Each is the program of this repository with some of its words for others. On which scripts of calls-fixed.txt it has to differ, and
+which alone may end at the known difference, stands in `EXPECTED`.
+"""
+from __future__ import annotations
+
+import re
+import sys
+from pathlib import Path
+from typing import Iterator
+
+import compare
+from compare import KNOWN, LIMIT, Program
+
+SCRIPTS = Path(__file__).resolve().parent / "calls-fixed.txt"
+# they come to a touch of a page that is cached at or above the size
+PAST_THE_END = {"d:smallest", "d:touch-of-a-cached-page-past-the-end", "d:translation-past-the-end"}
+# a task touches a page below the size that is cached, and that it hasn't touched before
+SHARED = {"w:shared", "w:alloc-instantiate-race", "row7"}
+
+
+def with_other_words(pattern: str, words: str) -> Program:
+    """The program, but what matches the pattern it writes in other words."""
+    return lambda trace: re.sub(pattern, words, "\n".join(compare.replayed(trace))).splitlines()
+
+
+def until_a_size_is_raised(program: Program) -> Program:
+    """That program, but the right one once a file was truncated to the limit."""
+    is_raised = lambda trace: any(re.search(rf" trunc \d+ {LIMIT}$", line) for line in trace)
+    return lambda trace: (compare.replayed if is_raised(trace) else program)(trace)
+
+
+all_beyond = with_other_words(r"(begun|moved found\nmoved leave)\nended (?:word \d+|done)", r"\1\nended beyond")
+cached_beyond = with_other_words(r"locked\nmoved found\nmoved leave\nended .*", r"locked\nmoved leave\nended beyond\nrefused idle")
+found_first = with_other_words(r"locked\nmoved leave\nended beyond\nrefused idle", r"locked\nmoved found\nmoved leave\nended beyond")
+none_found = with_other_words(r"locked\nmoved found", r"locked\nmoved missing")
+none_entered = with_other_words(r"(task .* entries) \d+", r"\1 0")
+
+# what is wrong, the program, the scripts on which it has to differ, and those that end at the known difference
+EXPECTED = [
+    ("nothing is wrong", compare.replayed, set(), PAST_THE_END),
+    ("each touch that is answered the word is answered beyond", all_beyond, PAST_THE_END | SHARED, set()),
+    ("a touch of a cached page is answered beyond below the limit", until_a_size_is_raised(cached_beyond), SHARED, PAST_THE_END),
+    ("a touch looks for the page before it looks at the size", found_first, PAST_THE_END, set()),
+    ("a touch finds no page", none_found, PAST_THE_END, set()),
+    ("no translation is entered", none_entered, PAST_THE_END | SHARED, set()),
+]
+
+# some calls, and which file and index a task's virtual pages show then
+CALLS = [
+    "begin 1 map 0 7 2 = mapped 0 |",
+    "begin 2 map 0 5 9 = mapped 0 |",
+    "begin 1 mapn 1 3 2 = mapped 2 |",
+    "begin 1 unmap 0 = done |",
+    "begin 1 map 2 0 1 = mapped 0 |",
+]
+PLACES = {("1", 0): (2, 0), ("1", 3): (1, 4), ("1", 4): None, ("2", 8): (0, 13)}
+
+
+def endings(program: Program) -> tuple[set[str], set[str]]:
+    """The names of the scripts on which a program differs, and of those that end at the known difference."""
+    ends = {script.name: compare.compare(program, script)[1] for script in compare.scripts(SCRIPTS)}
+    return {name for name, end in ends.items() if end not in (None, KNOWN)}, {name for name, end in ends.items() if end == KNOWN}
+
+
+def faults() -> Iterator[str]:
+    """What the comparison doesn't tell, or tells where nothing is."""
+    for (task, page), place in PLACES.items():
+        if (found := compare.place_of(CALLS, task, page)) != place:
+            yield f"page {page} of task {task} is reckoned to show {found}, and shows {place}"
+    for what, program, must_differ, may_be_known in EXPECTED:
+        differ, known = endings(program)
+        if not must_differ <= differ or known != may_be_known:
+            yield f"{what}: it differs on {sorted(differ)}, and ends at the known difference on {sorted(known)}"
+
+
+def main() -> int:
+    compare.build()
+    found = list(faults())
+    print("".join(f"  {it}\n" for it in found), end="")
+    print(f"wrong programs told: {len(PLACES) + len(EXPECTED) - len(found)} passed, {len(found)} failed")
+    return 1 if found else 0
+
+
+if __name__ == "__main__":
+    sys.exit(main())
