@@ -3,7 +3,7 @@
 
 Each line of a script is one call that ran to its end, with what the kernel said then:
 `begin T OP = ANSWER | FREE RESV | SIZE PAGES, .. | ENTRIES ..` (one `SIZE PAGES` a file, one number of
-translations a task). A script is compared up to the first touch of a page that is cached at or above the
+translations a task), and behind it ` | used U` where the pool has a quota. A script is compared up to the first touch of a page that is cached at or above the
 file's size, where this pool answers beyond and Linux the word, or up to the first byte call (`x..`).
 """
 from __future__ import annotations
@@ -42,6 +42,7 @@ class Told(NamedTuple):
     counts: str
     files: str
     entries: str
+    used: str = ""
 
 
 @dataclass(frozen=True)
@@ -67,11 +68,13 @@ class Pool:
 
     def told(self) -> Told:
         """What is told of the last call."""
-        free, resv = re.match(r"free (\d+) resv (\d+)", self.state[0]).groups()
+        free, resv, used = re.match(r"free (\d+) resv (\d+) calls \d+(?: (used \d+))?$", self.state[0]).groups("")
         sizes = [re.match(r"file \d+ size (\d+) .* pages (\d+) ", line).groups() for line in self.state[1:1 + self.files]]
         entries = [line.rsplit(" ", 1)[1] for line in self.state[1 + self.files:]]
         answer = self.outcomes[-1].removeprefix("ended ")
-        return Told(answer, f"{free} {resv}", ", ".join(" ".join(pair) for pair in sizes), " ".join(entries))
+        # Linux has one error for want of quota and of frames (`used` is told of a pool with a quota alone)
+        answer = "noframe" if answer == "noquota" and used else answer
+        return Told(answer, f"{free} {resv}", ", ".join(" ".join(pair) for pair in sizes), " ".join(entries), used)
 
 
 def replayed(trace: list[str]) -> list[str]:

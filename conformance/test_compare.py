@@ -1,8 +1,8 @@
 #!/usr/bin/env python3
 """Compares programs that are wrong with what a Linux kernel answered: the known difference has to excuse none of them.
 
-Each is the program of this repository with some of its words for others. On which scripts of calls-fixed.txt it has to differ, and
-which alone may end at the known difference, stands in `EXPECTED`.
+Each is the program of this repository with some of its words for others. On which scripts it has to differ, and which alone may end at
+the known difference, stands in `EXPECTED`, for those of calls-fixed.txt, and in `EXPECTED_OF_QUOTAS`, for those of calls-quota.txt.
 """
 from __future__ import annotations
 
@@ -15,10 +15,15 @@ import compare
 from compare import KNOWN, LIMIT, Program
 
 SCRIPTS = Path(__file__).resolve().parent / "calls-fixed.txt"
+SCRIPTS_OF_QUOTAS = SCRIPTS.with_name("calls-quota.txt")
 # they come to a touch of a page that is cached at or above the size
 PAST_THE_END = {"d:smallest", "d:touch-of-a-cached-page-past-the-end", "d:translation-past-the-end"}
 # a task touches a page below the size that is cached, and that it hasn't touched before
 SHARED = {"w:shared", "w:alloc-instantiate-race", "row7"}
+# too few frames are free, and the pool has no quota
+SHORT = {"w:chunk-overcommit", "w:noresv-preserve-resv-page", "row2", "row9", "row13"}
+# the quota is used up
+USED_UP = {"q:row35", "q:row37", "q:zero"}
 
 
 def with_other_words(pattern: str, words: str) -> Program:
@@ -46,6 +51,11 @@ EXPECTED = [
     ("a touch looks for the page before it looks at the size", found_first, PAST_THE_END, set()),
     ("a touch finds no page", none_found, PAST_THE_END, set()),
     ("no translation is entered", none_entered, PAST_THE_END | SHARED, set()),
+    ("want of frames is told as want of quota", with_other_words(r"ended noframe", "ended noquota"), SHORT, PAST_THE_END),
+]
+EXPECTED_OF_QUOTAS = [
+    ("want of quota is answered well", with_other_words(r"ended noquota", "ended done"), USED_UP, set()),
+    ("one page too many is told as used", with_other_words(r" used (\d+)", r" used 1\1"), USED_UP, set()),
 ]
 
 # some calls, and which file and index a task's virtual pages show then
@@ -59,9 +69,9 @@ CALLS = [
 PLACES = {("1", 0): (2, 0), ("1", 3): (1, 4), ("1", 4): None, ("2", 8): (0, 13)}
 
 
-def endings(program: Program) -> tuple[set[str], set[str]]:
-    """The names of the scripts on which a program differs, and of those that end at the known difference."""
-    ends = {script.name: compare.compare(program, script)[1] for script in compare.scripts(SCRIPTS)}
+def endings(program: Program, file: Path) -> tuple[set[str], set[str]]:
+    """The names of the file's scripts on which a program differs, and of those that end at the known difference."""
+    ends = {script.name: compare.compare(program, script)[1] for script in compare.scripts(file)}
     return {name for name, end in ends.items() if end not in (None, KNOWN)}, {name for name, end in ends.items() if end == KNOWN}
 
 
@@ -70,17 +80,18 @@ def faults() -> Iterator[str]:
     for (task, page), place in PLACES.items():
         if (found := compare.place_of(CALLS, task, page)) != place:
             yield f"page {page} of task {task} is reckoned to show {found}, and shows {place}"
-    for what, program, must_differ, may_be_known in EXPECTED:
-        differ, known = endings(program)
-        if not must_differ <= differ or known != may_be_known:
-            yield f"{what}: it differs on {sorted(differ)}, and ends at the known difference on {sorted(known)}"
+    for file, expected in ((SCRIPTS, EXPECTED), (SCRIPTS_OF_QUOTAS, EXPECTED_OF_QUOTAS)):
+        for what, program, must_differ, may_be_known in expected:
+            differ, known = endings(program, file)
+            if not must_differ <= differ or known != may_be_known:
+                yield f"{what}: it differs on {sorted(differ)}, and ends at the known difference on {sorted(known)}"
 
 
 def main() -> int:
     compare.build()
     found = list(faults())
     print("".join(f"  {it}\n" for it in found), end="")
-    print(f"wrong programs told: {len(PLACES) + len(EXPECTED) - len(found)} passed, {len(found)} failed")
+    print(f"wrong programs told: {len(PLACES) + len(EXPECTED) + len(EXPECTED_OF_QUOTAS) - len(found)} passed, {len(found)} failed")
     return 1 if found else 0
 
 

@@ -1,8 +1,7 @@
 -- Where a reading of a trace stops.
-use Rattle.std.proofs.Common.{◌≡◌, ℕ, suc, ◌+◌, ◌<◌, List, [], ◌++◌, length, Option, Some, None, refl, sym, ap, subst, ◌∙◌, arith}
+use Rattle.std.proofs.Common.{◌≡◌, ℕ, suc, ◌<◌, List, [], ◌++◌, length, Option, None, refl, sym, subst, arith}
 use Rattle.std.specs.Prelude.{IfSome}
 use Rattle.std.specs.Io.KnownBytes.{Consumes}
-use Rattle.std.proofs.lemmas.List.{append-nil}
 use Rattle.hp_replay.specs.Lines.{opening_held, fault_at, held_after}
 use Rattle.hp_replay.specs.Traces.{HasNoEnd}
 use Rattle.hp_replay.specs.Collecting.{NotRead, NotReadAtMemory, AreLinesOfSome, no_line, each_line}

@@ -2,7 +2,7 @@
 ghost use Rattle.std.specs.Prelude.{◌≡◌, ◌≤◌, length, IfSome};
 ghost use Rattle.std.specs.Option.{option_map};
 ghost use Rattle.hp_base.specs.Text.{sizes};
-ghost use Rattle.hp_replay.specs.Reading.{header_at, sizes_at, last_field_at, after_word, number_at, field_at, last_at, range_at};
+ghost use Rattle.hp_replay.specs.Reading.{header_at, sizes_at, quota_at, last_field_at, after_word, number_at, field_at, last_at, range_at};
 ghost use Rattle.hp_replay.specs.Reading.{pair_at, range_op_at, plain_op_at, op_at, event_at, limit, word_limit};
 
 use hp_base::{Config, Event, File, Index, Op, Task, Vpn};

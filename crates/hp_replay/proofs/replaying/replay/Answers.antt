@@ -1,7 +1,7 @@
 use Rattle.std.proofs.Common.{arith, rules, ◌<◌, length, take, refl, ap, subst, ◌∙◌, Bool}
 use Rattle.std.proofs.lemmas.Result.{err_from_is_err_and}
 use Rattle.std.proofs.lemmas.List.{length-take-le}
-use Rattle.hp_replay.specs.Streams.{source_at, sink_at, TellsWrites}
+use Rattle.hp_replay.specs.Streams.{sink_at, TellsWrites}
 use Rattle.hp_replay.proofs.Told.{stopped_no_read, finish_no_read}
 use Rattle.hp_replay.proofs.Replays.{begins, goes_on, smaller, piece_stopped, read_failed, finished, finish_stopped, read_none}
 use Rattle.hp_replay.proofs.replaying.replay.Goals as goal
