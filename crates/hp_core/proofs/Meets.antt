@@ -50,7 +50,8 @@ record FewUsed (s : State) : Type 0 where
   limit : s.geometry.limit ≡ 4096
 
 -- a touch's step finds what it takes for granted
-touch_fits : (s : State) (t : ℕ) (phase : TouchPhase) → IsReached s → FewUsed s → s.calls t ≡ Some (call.Touch phase) → TouchFits (pool_of s) t phase
+touch_fits : (s : State) (t : ℕ) (phase : TouchPhase) → IsReached s → FewUsed s
+    → s.calls t ≡ Some (call.Touch phase) → TouchFits (pool_of s) t phase
 touch_fits s t (touch.Look p) reached few e = (caller_there s t _ reached e, entry_page s t p.vpn (s.entries t p.vpn) reached refl)
 touch_fits s t (touch.Want p) reached few e = tt
 touch_fits s t (touch.Locked p) reached few e = (stands s t _ reached e).facts.aim.file
@@ -101,7 +102,8 @@ map_fits s t (map.Enter p) reached few e =
 map_fits s t (map.Leave p) reached few e = (stands s t _ reached e).lock
 
 -- an allocation's
-alloc_fits : (s : State) (t : ℕ) (phase : AllocPhase) → IsReached s → FewUsed s → s.calls t ≡ Some (call.Alloc phase) → AllocFits (pool_of s) t phase
+alloc_fits : (s : State) (t : ℕ) (phase : AllocPhase) → IsReached s → FewUsed s
+    → s.calls t ≡ Some (call.Alloc phase) → AllocFits (pool_of s) t phase
 alloc_fits s t (alloc.Start p) reached few e = tt
 alloc_fits s t (alloc.Head p) reached few e = tt
 alloc_fits s t (alloc.Want p) reached few e = tt

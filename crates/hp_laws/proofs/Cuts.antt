@@ -151,7 +151,8 @@ cuts g s t b c f new top h l e same_held same_hand same_change balance owed held
 -- an index with no page is passed, and its slot left
 pub passes : (g : Geometry) (s : State) (t : ℕ) (b c : Option Call) (f i new : ℕ) → Inv g s → t < g.tasks + 1 → s.calls t ≡ b
     → locked_file c ≡ locked_file b → slot_held b ≡ Some (f, i) → slot_held c ≡ None
-    → hand c ≡ hand b → change_in c ≡ change_in b → less c + more b ≡ less b + more c → used_owed c ≡ used_owed b → fills b ≡ None → fills c ≡ None
+    → hand c ≡ hand b → change_in c ≡ change_in b → less c + more b ≡ less b + more c → used_owed c ≡ used_owed b
+    → fills b ≡ None → fills c ≡ None
     → HasSlot g s t f i → s.pages f i ≡ None → s.size f ≡ new
     → ((k j : ℕ) → ahead b k j ≡ true → (k ≡ f) × ((j ≡ i) ⊎ ((j < new) ⊎ (ahead c f j ≡ true))))
     → ((k j : ℕ) → passed c k j ≡ true → (passed b k j ≡ true) ⊎ ((k ≡ f) × (j ≡ i) × (new ≤ j)))

@@ -230,7 +230,8 @@ takes_lock g s t b c f h l e free same same_slot none some fill own = goes_as g 
 
 -- a call ends, and leaves its file lock; it has passed every index that it was to pass
 pub leaves_lock : (g : Geometry) (s : State) (t : ℕ) (b : Option Call) (f : ℕ) → Inv g s → t < g.tasks + 1 → s.calls t ≡ b
-    → less b ≡ 0 → more b ≡ 0 → used_owed b ≡ 0 → hand b ≡ None → change_in b ≡ None → slot_held b ≡ None → locked_file b ≡ Some f → HasLock s t f
+    → less b ≡ 0 → more b ≡ 0 → used_owed b ≡ 0 → hand b ≡ None → change_in b ≡ None
+    → slot_held b ≡ None → locked_file b ≡ Some f → HasLock s t f
     → ((k j : ℕ) → ahead b k j ≡ false)
     → Inv g (to (record s { pool = record s.pool { locks = put s.locks f None } }) t None)
 leaves_lock g s t b f h l e no_less no_more none_used no_hand no_change no_slot some held none_ahead = goes_on g s n t b None h l e (record {

@@ -153,7 +153,8 @@ change_turn call s t top grant f from to here denied changed turn new row nearer
 take_turn : {P : Type 0} (call : P → Call) (s : State) (t top m : ℕ) (here : P) (refused : Answer → P) (taken : ℕ → P)
     (turn : Turn P) (new : Pool)
     → TakeRow (pool_of s) m refused taken turn new
-    → ((b : Answer) → Nearer call s top here (Moved (refused b))) → ((x : ℕ) → Nearer call s top here (Moved (taken x))) → Turned call s t top here turn new
+    → ((b : Answer) → Nearer call s top here (Moved (refused b))) → ((x : ℕ) → Nearer call s top here (Moved (taken x)))
+    → Turned call s t top here turn new
 take_turn call s t top m here refused taken turn new row nearer nearer_taken =
     by_test (m == 0) row
     (λ _ r. plain call s t top here (Moved (taken r.0)) turn _ new r.3 refl refl refl refl (nearer_taken r.0))

@@ -7,4 +7,6 @@ invariant-loop-j g l = (k : ℕ) (d : _) → k < l.j → g.T.PartialEq.eq l.one 
 
 -- of all values each before `i` equals itself alone
 abbrev pub invariant-loop-i : goal.invariant-loop-i
-invariant-loop-i g l = (h k : ℕ) (d : _) → h < l.i → k < length l.values → g.T.PartialEq.eq (slice_index_or l.values h d) (slice_index_or l.values k d) ≡ (h == k)
+invariant-loop-i g l =
+    (h k : ℕ) (d : _) → h < l.i → k < length l.values
+    → g.T.PartialEq.eq (slice_index_or l.values h d) (slice_index_or l.values k d) ≡ (h == k)
