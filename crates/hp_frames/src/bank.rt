@@ -109,7 +109,8 @@ impl Bank {
         ensures used { result ≡ self.now.used }
         ensures within { IsWithinQuota self.now.quota self.now.used }
     {
-        self.used
+        let Bank { used, .. } = self;
+        *used
     }
 
     /// How many pages may be used, where that is limited (Linux: `max_hpages` of a subpool).
@@ -159,7 +160,7 @@ impl Bank {
         ensures { self.new ≡ with_used (with_resv self.old (self.old.resv - n)) (self.old.used - n) }
     {
         self.resv -= n;
-        self.used -= n;
+        self.drop_used(n);
     }
 
     /// n pages that weren't reserved any more are no longer used (Linux: `hugepage_subpool_put_pages`).
