@@ -14,7 +14,7 @@ use Rattle.hp_base.specs.Numbers.{bit}
 use Rattle.hp_base.proofs.Puts.{same_or_other}
 use Rattle.hp_frames.specs.Bank.{frame_at, is_free}
 use Rattle.hp_frames.specs.declared.frame.FrameState.{FrameState}
-use Rattle.hp_frames.specs.declared.frame.FrameState.TheVariants.{Free, Hand, Placed}
+use Rattle.hp_frames.specs.declared.frame.FrameState.TheVariants.{Free, Hand, Placed, Retired}
 use Rattle.hp_table.specs.Table.{Table}
 use Rattle.hp_region.specs.declared.region.Region.{Region}
 use Rattle.hp_fault.proofs.Laws.{frame_at_is}
@@ -38,6 +38,7 @@ free_test xs x b h = by_state (slice_get xs x) refl b h
     is_kept Free c e k = sym (k.1 e)
     is_kept Hand c e k = not_free c (λ t. (let d : Some Hand ≡ Some Free = sym e ∙ k.0 t in absurd (cc)))
     is_kept (Placed w) c e k = not_free c (λ t. (let d : Some (Placed w) ≡ Some Free = sym e ∙ k.0 t in absurd (cc)))
+    is_kept Retired c e k = not_free c (λ t. (let d : Some Retired ≡ Some Free = sym e ∙ k.0 t in absurd (cc)))
 
     by_state : (o : Option FrameState) → slice_get xs x ≡ o → (c : Bool) → (IsTrue c ↔ (slice_get xs x ≡ Some Free))
         → is_free (frame_at xs x) ≡ c

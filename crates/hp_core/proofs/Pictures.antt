@@ -6,7 +6,7 @@ use Rattle.hp_base.proofs.Sums.{passes, count_by-filter_map}
 use Rattle.hp_base.proofs.Totals.{cond_bit}
 use Rattle.hp_frames.specs.Bank as bank
 use Rattle.hp_frames.specs.declared.frame.FrameState.{FrameState}
-use Rattle.hp_frames.specs.declared.frame.FrameState.TheVariants.{Free, Hand, Placed}
+use Rattle.hp_frames.specs.declared.frame.FrameState.TheVariants.{Free, Hand, Placed, Retired}
 use Rattle.hp_slots.specs.Holders.{holder_of}
 use Rattle.hp_machine.specs.State.{is_free}
 use Rattle.hp_machine.specs.Views.{hand}
@@ -30,6 +30,7 @@ same_free : (s : FrameState) → bank.is_free s ≡ is_free s
 same_free Free = refl
 same_free Hand = refl
 same_free (Placed word) = refl
+same_free Retired = refl
 
 -- a frame is given as often as some seat has it
 given_times : {X : Type 0} (h : X → Option ℕ) (x : ℕ) (ys : List X)

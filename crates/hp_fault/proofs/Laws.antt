@@ -15,7 +15,7 @@ use Rattle.hp_base.proofs.Puts.{put_same, put_other, put_self, put_tells, same_o
 use Rattle.hp_base.proofs.Lists.{at_set, at_same}
 use Rattle.hp_frames.specs.Bank as bank
 use Rattle.hp_frames.specs.declared.frame.FrameState.{FrameState}
-use Rattle.hp_frames.specs.declared.frame.FrameState.TheVariants.{Free, Hand, Placed}
+use Rattle.hp_frames.specs.declared.frame.FrameState.TheVariants.{Free, Hand, Placed, Retired}
 use Rattle.hp_region.specs.Regions.{is_member}
 use Rattle.hp_region.specs.declared.region.Region.{Region}
 use Rattle.hp_table.specs.Table.{Table}
@@ -30,9 +30,10 @@ same_free : (s : FrameState) → machine.is_free s ≡ bank.is_free s
 same_free Free = refl
 same_free Hand = refl
 same_free (Placed word) = refl
+same_free Retired = refl
 
 pub free_frames_is : (xs : List FrameState) → machine.free_frames (bank.frame_at xs) (length xs) ≡ bank.free_frames xs
-unfolding machine.free_frames bank.free_frames
+unfolding machine.free_frames bank.count_of
 free_frames_is xs = count_below-ext _ _ (length xs) (λ x _. same_free (bank.frame_at xs x))
 
 -- holders

@@ -1,11 +1,11 @@
 -- The frames of a pool and its count of reserved pages, however the bank keeps them.
-use Rattle.std.specs.Prelude.{◌≡◌, ◌≤◌, ◌<◌, ◌+◌, ◌-◌, ◌^◌, ◌==◌, ℕ, Bool, true, false, List, [], ◌∷◌, length, slice_get, slice_set}
+use Rattle.std.specs.Prelude.{◌≡◌, ◌≤◌, ◌<◌, ◌+◌, ◌-◌, ◌^◌, ◌==◌, ◌⊎◌, ℕ, Bool, true, false, not, max, List, [], ◌∷◌, length, slice_get, slice_set}
 use Rattle.std.specs.Prelude.{Option, Some, None, IfSome, nat_lt}
 use Rattle.std.specs.Prelude.{slice_index_or, nat_eq}
 use Rattle.std.specs.List.{list_any}
 use Rattle.hp_base.specs.Indices.{count_below}
 use Rattle.hp_frames.specs.declared.frame.FrameState.{FrameState}
-use Rattle.hp_frames.specs.declared.frame.FrameState.TheVariants.{Free, Hand, Placed}
+use Rattle.hp_frames.specs.declared.frame.FrameState.TheVariants.{Free, Hand, Placed, Retired}
 
 -- where each frame is; how many pages are reserved; how many are used, which are all that files have reserved or
 -- cached; how many may be used, where that is limited; and for how many frames the bank has taken memory, over
@@ -21,14 +21,36 @@ abbrev pub is_free : FrameState → Bool
 is_free Free = true
 is_free Hand = false
 is_free (Placed word) = false
+is_free Retired = false
+
+abbrev pub is_retired : FrameState → Bool
+is_retired Free = false
+is_retired Hand = false
+is_retired (Placed word) = false
+is_retired Retired = true
+
+abbrev pub is_active : FrameState → Bool
+is_active s = not (is_retired s)
 
 -- where the frame is; one that isn't there is never free
 unfoldable pub frame_at : List FrameState → ℕ → FrameState
 frame_at frames x = slice_index_or frames x Hand
 
+-- of how many of the frames it holds
+unfoldable pub count_of : (holds : FrameState → Bool) → List FrameState → ℕ
+count_of holds frames = count_below (λ x. holds (frame_at frames x)) (length frames)
+
 -- how many of the frames are free
-unfoldable pub free_frames : List FrameState → ℕ
-free_frames frames = count_below (λ x. is_free (frame_at frames x)) (length frames)
+abbrev pub free_frames : List FrameState → ℕ
+free_frames frames = count_of is_free frames
+
+-- how many of the frames are retired
+abbrev pub retired_frames : List FrameState → ℕ
+retired_frames frames = count_of is_retired frames
+
+-- how many of the frames aren't retired (Linux: `nr_huge_pages`)
+abbrev pub active_frames : List FrameState → ℕ
+active_frames frames = count_of is_active frames
 
 -- how many frames of the bank are free (Linux: `free_huge_pages`)
 abbrev pub free_count : BankState → ℕ
@@ -77,16 +99,35 @@ IsWithinQuota quota used = IfSome quota (λ most. used ≤ most)
 abbrev pub CanCount : BankState → ℕ → Type 0
 CanCount b n = b.used + n < 2 ^ 32
 
--- the numbers of these are different, and each is that of a free frame
-abbrev pub AreFree : List FrameState → List ℕ → Type 0
-AreFree frames [] = Unit {0}
-AreFree frames (x ∷ xs) = (slice_get frames x ≡ Some Free) × (list_any (nat_eq x) xs ≡ false) × AreFree frames xs
+-- the numbers of these are different, and each is that of a frame of which it holds
+abbrev pub AreThose : (holds : FrameState → Bool) → List FrameState → List ℕ → Type 0
+AreThose holds frames [] = Unit {0}
+AreThose holds frames (x ∷ xs) =
+    (x < length frames) × (holds (frame_at frames x) ≡ true) × (list_any (nat_eq x) xs ≡ false) × AreThose holds frames xs
 
--- what a bank keeps of its fields: the listed frames are the free ones, and the list has room for all
-abbrev pub IsListed : List FrameState → List ℕ → (capacity : ℕ) → Type 0
-IsListed frames free capacity = record {
-  all_free : AreFree frames free;
-  counted : length free ≡ free_frames frames;
+-- what a bank keeps of a list: it has the frames of which it holds, and room for all
+abbrev pub IsListed : (holds : FrameState → Bool) → List FrameState → List ℕ → (capacity : ℕ) → Type 0
+IsListed holds frames listed capacity = record {
+  those : AreThose holds frames listed;
+  counted : length listed ≡ count_of holds frames;
   room : length frames ≤ capacity;
-  numbered : length frames < 2 ^ 32;
+}
+
+-- k free frames more: retired ones come in first, and then new numbers
+abbrev pub HasGrown : (old new : List FrameState) → (k : ℕ) → Type 0
+HasGrown old new k = record {
+  wide : length new ≡ max (length old) (active_frames old + k);
+  count : active_frames new ≡ active_frames old + k;
+  each : (x : ℕ) → x < length old
+      → (frame_at new x ≡ frame_at old x) ⊎ ((frame_at old x ≡ Retired) × (frame_at new x ≡ Free));
+  fresh : (x : ℕ) → length old ≤ x → x < length new → frame_at new x ≡ Free;
+}
+
+-- k free frames fewer, which are retired
+abbrev pub HasShrunk : (old new : List FrameState) → (k : ℕ) → Type 0
+HasShrunk old new k = record {
+  wide : length new ≡ length old;
+  count : active_frames new + k ≡ active_frames old;
+  each : (x : ℕ) → x < length old
+      → (frame_at new x ≡ frame_at old x) ⊎ ((frame_at old x ≡ Free) × (frame_at new x ≡ Retired));
 }

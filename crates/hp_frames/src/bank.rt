@@ -1,8 +1,10 @@
-//! The bank: frames, a list of the free ones, and the counts of reserved and of used pages.
+//! The bank: frames, lists of the free and of the retired ones, and the counts of reserved and of used pages.
 ghost use Rattle.std.specs.Prelude.{◌≡◌, ℕ, ◌+◌, ◌-◌, ◌<◌, ◌≤◌, ◌↔◌, ◌⊎◌, false, length, slice_get, IfOk, OnOk, OnErr, IsErr, IsErrOf};
 ghost use Rattle.std.specs.Prelude.{IsTrue, replicate, Some, slice_set, ◌++◌, ◌∷◌, [], vec_capacity};
-ghost use Rattle.hp_frames.specs.Bank.{BankState, free_count, frame_at, is_free, IsFree, InHands, HasWord, IsPlaced, with_frame};
-ghost use Rattle.hp_frames.specs.Bank.{with_resv, with_used, exceeds, is_used_up, IsWithinQuota, CanCount, AreFree};
+ghost use Rattle.hp_frames.specs.Bank.{BankState, free_count, frame_at, is_free, is_retired, IsFree, InHands, HasWord, IsPlaced, with_frame};
+ghost use Rattle.hp_frames.specs.Bank.{with_resv, with_used, exceeds, is_used_up, IsWithinQuota, CanCount, AreThose};
+
+mod resize;
 
 use crate::fault::Fault;
 use crate::frame::FrameState;
@@ -37,16 +39,18 @@ impl Held {
 #[derive(Drop)]
 pub struct Bank {
     frames: Vec<FrameState>,
-    // The free frames. Its capacity is that of `frames`, so that giving one back takes no memory.
+    // The free frames, and the retired ones. Each list has room for all, so that a frame goes from one to the
+    // other without memory.
     free: Vec<Frame>,
+    retired: Vec<Frame>,
     resv: u32,
     used: u32,
     quota: Option<u32>,
 }
 
 impl Model for Bank {
-    ghost use Rattle.std.specs.Prelude.{◌+◌, ◌≤◌, length, vec_capacity};
-    ghost use Rattle.hp_frames.specs.Bank.{BankState, IsListed, IsWithinQuota};
+    ghost use Rattle.std.specs.Prelude.{◌+◌, ◌^◌, ◌<◌, ◌≤◌, length, vec_capacity};
+    ghost use Rattle.hp_frames.specs.Bank.{BankState, is_free, is_retired, IsListed, IsWithinQuota};
 
     ghost Value = { BankState };
 
@@ -55,11 +59,13 @@ impl Model for Bank {
       resv = b.resv;
       used = b.used;
       quota = b.quota;
-      room = vec_capacity b.frames + vec_capacity b.free;
+      room = vec_capacity b.frames + vec_capacity b.free + vec_capacity b.retired;
     } };
 
     ghost invariant = { λ b. record {
-      listed : IsListed b.frames.items b.free.items (vec_capacity b.free);
+      free : IsListed is_free b.frames.items b.free.items (vec_capacity b.free);
+      retired : IsListed is_retired b.frames.items b.retired.items (vec_capacity b.retired);
+      numbered : length b.frames.items < 2 ^ 32;
       reserved : b.resv ≤ length b.free.items;
       within : IsWithinQuota b.quota b.used;
     } };
@@ -82,6 +88,7 @@ impl Bank {
         Ok(Bank {
             frames: states,
             free,
+            retired: Vec::with_capacity(alloc, frames as usize)?,
             resv: 0,
             used: 0,
             quota,
@@ -180,7 +187,7 @@ impl Bank {
         ensures held { InHands self.new result }
         ensures after { self.new ≡ with_resv (with_frame self.old result FrameState.Hand) (self.old.resv - 1) }
     {
-        let frame = take_free(&mut self.frames, &mut self.free);
+        let frame = take_free(&mut self.frames, &mut self.free, FrameState::Hand);
         self.resv -= 1;
         Held { frame }
     }
@@ -205,7 +212,7 @@ impl Bank {
         if self.free() == self.resv {
             return Err(Fault::NoFrame);
         }
-        let frame = take_free(&mut self.frames, &mut self.free);
+        let frame = take_free(&mut self.frames, &mut self.free, FrameState::Hand);
         self.used += 1;
         Ok(Held { frame })
     }
@@ -261,7 +268,7 @@ impl Bank {
     {
         match self.frames[frame.number() as usize] {
             FrameState::Placed(word) => word,
-            FrameState::Free | FrameState::Hand => unreachable!(),
+            FrameState::Free | FrameState::Hand | FrameState::Retired => unreachable!(),
         }
     }
 
@@ -295,12 +302,12 @@ fn move_frame(frames: &mut Vec<FrameState>, frame: Frame, state: FrameState)
     frames[frame.number() as usize] = state;
 }
 
-// Takes the last of the free frames.
-fn take_free(frames: &mut Vec<FrameState>, free: &mut Vec<Frame>) -> Frame
-    requires free { AreFree frames.old.items free.old.items }
+// Takes the last of the free frames, which goes there.
+fn take_free(frames: &mut Vec<FrameState>, free: &mut Vec<Frame>, state: FrameState) -> Frame
+    requires free { AreThose is_free frames.old.items free.old.items }
     requires some { 0 < length free.old.items }
     ensures was_free { slice_get frames.old.items result ≡ Some FrameState.Free }
-    ensures frames { frames.new.items ≡ slice_set frames.old.items result FrameState.Hand }
+    ensures frames { frames.new.items ≡ slice_set frames.old.items result state }
     ensures rest { free.old.items ≡ free.new.items ++ result ∷ [] }
     ensures capacity { vec_capacity free.new ≡ vec_capacity free.old }
     ensures states { vec_capacity frames.new ≡ vec_capacity frames.old }
@@ -308,7 +315,7 @@ fn take_free(frames: &mut Vec<FrameState>, free: &mut Vec<Frame>) -> Frame
     let Some(frame) = free.pop() else {
         unreachable!()
     };
-    move_frame(frames, frame, FrameState::Hand);
+    move_frame(frames, frame, state);
     frame
 }
 

@@ -8,4 +8,6 @@ pub enum FrameState {
     Hand,
     /// A page of a file, with its word.
     Placed(u64),
+    /// Not there until the pool grows again.
+    Retired,
 }

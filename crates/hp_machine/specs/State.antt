@@ -4,7 +4,7 @@ use Rattle.hp_base.specs.Indices.{count_below}
 use Rattle.hp_base.specs.declared.mapping.Mapping.{Mapping}
 use Rattle.hp_frames.specs.Bank.{exceeds, is_used_up}
 use Rattle.hp_frames.specs.declared.frame.FrameState.{FrameState}
-use Rattle.hp_frames.specs.declared.frame.FrameState.TheVariants.{Free, Hand, Placed}
+use Rattle.hp_frames.specs.declared.frame.FrameState.TheVariants.{Free, Hand, Placed, Retired}
 use Rattle.hp_machine.specs.declared.outcome.Life.{Life}
 use Rattle.hp_machine.specs.declared.outcome.Life.TheVariants.{Alive, Killed, Dead}
 use Rattle.hp_machine.specs.declared.call.Call.{Call}
@@ -57,6 +57,7 @@ abbrev pub is_free : FrameState → Bool
 is_free Free = true
 is_free Hand = false
 is_free (Placed word) = false
+is_free Retired = false
 
 -- how many of the first frames are free
 unfoldable pub free_frames : (ℕ → FrameState) → (frames : ℕ) → ℕ

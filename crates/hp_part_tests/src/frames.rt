@@ -1,6 +1,7 @@
 //! Frames that go from hand to hand, what they leave of a quota, and the texts of the faults.
 ghost use Rattle.std.specs.Prelude.{◌≡◌, IfOk};
 
+use hp_base::Frame;
 use hp_frames::{Bank, Fault};
 use std::alloc::Global;
 use std::test::Fail;
@@ -56,6 +57,23 @@ fn the_quota_is_asked_before_the_frames(rt: HostRuntime) -> Result<(), Fail> {
     assert_eq!(rt; bank.account(2), Err(Fault::Short));
     assert_eq!(rt; bank.account(1), Ok(()));
     assert!(rt; matches!(bank.take_unreserved(), Err(Fault::NoFrame)));
+    Ok(())
+}
+
+#[test]
+fn a_bank_shrinks_and_grows(rt: HostRuntime) -> Result<(), Fail> {
+    let mut bank = Bank::new(rt.alloc(), 4, None)?;
+    bank.account(1)?;
+    assert!(rt; bank.free() - bank.resv() >= 3);
+    bank.retire(3);
+    assert_eq!(rt; (bank.frames(), bank.free(), bank.resv()), (1, 1, 1));
+    assert_eq!(rt; bank.retired().len(), 3);
+    assert!(rt; bank.retired().iter().all(|frame| bank.is_retired(*frame) && !bank.is_free(*frame)));
+    bank.grow(2)?;
+    assert_eq!(rt; (bank.frames(), bank.free(), bank.retired().len()), (3, 3, 1));
+    bank.grow(3)?;
+    assert_eq!(rt; (bank.frames(), bank.free(), bank.retired().len()), (6, 6, 0));
+    assert!(rt; bank.is_free(Frame::new(5)) && !bank.is_free(Frame::new(6)));
     Ok(())
 }
 

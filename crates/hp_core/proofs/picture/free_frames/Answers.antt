@@ -2,7 +2,7 @@ use Rattle.std.proofs.Common.{◌≡◌, ℕ, ◌++◌, ◌∷◌, [], length, a
 use Rattle.std.specs.Prelude.{Bool, true, false}
 use Rattle.std.proofs.lemmas.Grind.{common_steps}
 use Rattle.hp_base.specs.Indices.{count_below}
-use Rattle.hp_frames.specs.Bank.{frame_at, is_free, free_frames}
+use Rattle.hp_frames.specs.Bank.{count_of, frame_at, is_free}
 use Rattle.hp_core.proofs.Copying.{free_test, free_more, free_same, free_all, count_more}
 use Rattle.hp_core.proofs.picture.free_frames.Goals as goal
 use Rattle.hp_core.proofs.picture.free_frames.Goals.{then-is_free+in_ok-push, else-is_free}
@@ -40,7 +40,7 @@ loop-number-preserved c =
     ]
 
 pub returns : goal.returns
-unfolding free_frames
+unfolding count_of
 returns c =
     let all : c.loop-number.number ≡ length c.args.bank.now.frames = omega arith in
     record {

@@ -21,6 +21,6 @@ pub invariant_of-result : goal.invariant_of-result
 invariant_of-result c =
     let states : c.resize.new.self.items ≡ replicate c.args.frames Free =
     grind (arith, common_steps, c.in_ok-resize.ensures.items, c.new-states.ensures.items) in
-    opened _ _ _ _ _ states c.loop-number.invariant.all_free
+    opened _ _ _ _ _ _ _ states c.loop-number.invariant.all_free
     (omega (arith, c.loop-number.invariant.listed, c.loop-number.auto.number-end, c.loop-number-test.false))
-    c.loop-number.invariant.room c.ranges.frames.fits
+    c.loop-number.invariant.room c.in_ok-with_capacity.ensures.items c.in_ok-with_capacity.ensures.capacity c.ranges.frames.fits

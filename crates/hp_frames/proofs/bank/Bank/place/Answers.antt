@@ -1,6 +1,7 @@
+use Rattle.std.proofs.lemmas.List.{length-set}
 use Rattle.std.proofs.Common.{◌≡◌, ℕ, slice_get, sym, subst, Some, refl}
 use Rattle.hp_frames.specs.declared.frame.FrameState.TheVariants.{Hand, Placed}
-use Rattle.hp_frames.specs.Bank.{BankState}
+use Rattle.hp_frames.specs.Bank.{BankState, is_free, is_retired}
 use Rattle.hp_frames.proofs.Frames.{moved}
 use Rattle.hp_frames.proofs.bank.Bank.place.Goals as goal
 
@@ -10,7 +11,9 @@ invariant_of-self c =
     subst (λ (b : BankState). slice_get b.frames c.held.inside.frame ≡ Some Hand) (sym c.self.view_is)
     (subst (λ (f : ℕ). slice_get c.args.self.now.frames f ≡ Some Hand) (sym c.held.view_is) c.requires) in
     record {
-      listed = moved _ _ _ _ _ Hand (Placed 0) c.move_frame.ensures.items was refl refl c.self.invariant.listed;
+      free = moved is_free _ _ _ _ _ Hand (Placed 0) c.move_frame.ensures.items was refl refl c.self.invariant.free;
+      retired = moved is_retired _ _ _ _ _ Hand (Placed 0) c.move_frame.ensures.items was refl refl c.self.invariant.retired;
+      numbered = rw (c.move_frame.ensures.items, length-set) c.self.invariant.numbered;
       reserved = c.self.invariant.reserved;
       within = c.self.invariant.within;
     }
