@@ -1,10 +1,10 @@
 //! The frames of a pool and the global count of reserved pages (Linux: `hstate.resv_huge_pages`).
 //!
 //! It stands on hp_base. A bank is seen as a list that says of each frame whether it is free, in a
-//! call's hand or a page with its word, beside the count, and for how many frames it has taken memory,
-//! which it does when it is made and never again: no order of the free frames shows. Each call
-//! says exactly what it does to one frame and to the count, and the count never exceeds the free
-//! frames. A frame in a hand is a token, `Held`, which only this crate makes and which is spent once. It
+//! call's hand, a page with its word or retired, beside the counts, and for how many frames it has taken
+//! memory, which it does when it is made and when it grows by new numbers: no order of the free frames
+//! shows. Each call says exactly what it does to the frames and to the counts, and the reserve count never
+//! exceeds the free frames. A frame in a hand is a token, `Held`, which only this crate makes and which is spent once. It
 //! knows nothing of files, tasks or calls.
 #![tactic(auto)]
 

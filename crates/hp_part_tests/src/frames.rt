@@ -68,11 +68,21 @@ fn a_bank_shrinks_and_grows(rt: HostRuntime) -> Result<(), Fail> {
     bank.retire(3);
     assert_eq!(rt; (bank.frames(), bank.free(), bank.resv()), (1, 1, 1));
     assert_eq!(rt; bank.retired().len(), 3);
-    assert!(rt; bank.retired().iter().all(|frame| bank.is_retired(*frame) && !bank.is_free(*frame)));
+    assert!(rt;
+        bank.retired()
+            .iter()
+            .all(|frame| bank.is_retired(*frame) && !bank.is_free(*frame))
+    );
     bank.grow(2)?;
-    assert_eq!(rt; (bank.frames(), bank.free(), bank.retired().len()), (3, 3, 1));
+    assert_eq!(rt;
+        (bank.frames(), bank.free(), bank.retired().len()),
+        (3, 3, 1)
+    );
     bank.grow(3)?;
-    assert_eq!(rt; (bank.frames(), bank.free(), bank.retired().len()), (6, 6, 0));
+    assert_eq!(rt;
+        (bank.frames(), bank.free(), bank.retired().len()),
+        (6, 6, 0)
+    );
     assert!(rt; bank.is_free(Frame::new(5)) && !bank.is_free(Frame::new(6)));
     Ok(())
 }

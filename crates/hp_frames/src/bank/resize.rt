@@ -6,7 +6,7 @@ ghost use Rattle.hp_frames.specs.Bank.{BankState, free_count, retired_frames, ac
 use super::{Bank, move_frame, take_free};
 use crate::frame::FrameState;
 use hp_base::Frame;
-use std::alloc::AllocError;
+use std::alloc::{AllocError, Global};
 
 impl Bank {
     /// How many frames aren't retired (Linux: `nr_huge_pages`).
@@ -102,9 +102,10 @@ impl Bank {
         }
         let from = self.frames.len() as u32;
         let room = (from + more) as usize;
-        let mut frames = with_room(&self.frames, room)?;
-        let mut free = with_room(&self.free, room)?;
-        let retired = with_room(&self.retired, room)?;
+        let alloc = *self.frames.allocator();
+        let mut frames = with_room(alloc, &self.frames, room)?;
+        let mut free = with_room(alloc, &self.free, room)?;
+        let retired = with_room(alloc, &self.retired, room)?;
         for number in from..from + more {
             frames.push_reserved(FrameState::Free);
             free.push_reserved(Frame::new(number));
@@ -117,11 +118,11 @@ impl Bank {
 }
 
 // A copy with room for so many.
-fn with_room<T: Copy>(items: &Vec<T>, room: usize) -> Result<Vec<T>, AllocError>
-    ensures items { IfOk result (λ copy. copy.items ≡ items.now.items) }
+fn with_room<T: Copy>(alloc: Global, items: &[T], room: usize) -> Result<Vec<T>, AllocError>
+    ensures items { IfOk result (λ copy. copy.items ≡ items.now) }
     ensures room { IfOk result (λ copy. room ≤ vec_capacity copy) }
 {
-    let mut copy = Vec::with_capacity(*items.allocator(), room)?;
+    let mut copy = Vec::with_capacity(alloc, room)?;
     copy.extend_from_slice(items)?;
     Ok(copy)
 }

@@ -1,7 +1,7 @@
-use Rattle.std.proofs.Common.{◌≡◌, ◌+◌, ◌-◌, ◌++◌, ◌∙◌, ℕ, ap, append-nil, arith, length, replicate, subst, suc, sym, vec_capacity, List}
+use Rattle.std.proofs.Common.{◌≡◌, ◌+◌, ◌-◌, ◌++◌, ◌∙◌, ℕ, ap, append-nil, arith, length, replicate, suc, sym, vec_capacity, List}
 use Rattle.hp_frames.specs.declared.frame.FrameState.{FrameState}
 use Rattle.hp_frames.specs.declared.frame.FrameState.TheVariants.{Free}
-use Rattle.hp_frames.specs.Bank.{BankState, is_free, AreThose}
+use Rattle.hp_frames.specs.Bank.{BankState, is_free}
 use Rattle.hp_frames.specs.contracts.bank.Bank.{the_view}
 use Rattle.hp_frames.proofs.Resizing.{few_listed, new_one, wider_bank, wider_count}
 use Rattle.hp_frames.proofs.bank.Bank.widen.Goals as goal
@@ -12,17 +12,13 @@ loop-number-init c =
     let from : c.len-from.result - c.len-from.result ≡ 0 = omega arith in
     let same : fs ++ replicate (c.len-from.result - c.len-from.result) Free ≡ fs =
     ap (λ (n : ℕ). fs ++ replicate n Free) from ∙ append-nil fs in
+    let frames : c.in_ok-frames.frames.items ≡ fs = c.in_ok-frames.ensures.items ∙ c.deref.ensures.value in
+    let free : c.in_ok-free.free.items ≡ c.self.inside.free.items = c.in_ok-free.ensures.items ∙ c.deref-2.ensures.value in
+    let long : length c.in_ok-free.free.items ≡ length c.self.inside.free.items = ap length free in
     record {
-      frames = c.in_ok-frames.ensures.items ∙ sym same;
-      free = subst
-          (λ (gs : List FrameState). AreThose is_free gs c.in_ok-free.free.items)
-          (sym c.in_ok-frames.ensures.items)
-          (subst
-          (λ (xs : List ℕ). AreThose is_free fs xs)
-          (sym c.in_ok-free.ensures.items)
-          c.self.invariant.free.those);
-      counted = let long : length c.in_ok-free.free.items ≡ length c.self.inside.free.items = ap length c.in_ok-free.ensures.items in
-          omega (arith, long);
+      frames = frames ∙ sym same;
+      free = rw (frames, free) c.self.invariant.free.those;
+      counted = omega (arith, long);
       frames_room = c.in_ok-frames.ensures.room;
       free_room = c.in_ok-free.ensures.room;
     }
@@ -70,7 +66,7 @@ invariant_of-self c =
     let long : length c.self.inside.frames.items ≡ length c.args.self.now.frames = ap (λ (b : BankState). length b.frames) c.self.view_is in
     wider_bank _ _ _ _ _ _ c.args.more _ _ _ _ _ _ _ (frames_are c) c.loop-number.invariant.free
     (omega (arith, c.loop-number.invariant.counted, c.loop-number-test.false, c.loop-number.auto))
-    c.in_ok-retired.ensures.items
+    (c.in_ok-retired.ensures.items ∙ c.deref-3.ensures.value)
     (omega (arith, c.len-from.ensures, c.loop-number.invariant.free_room))
     (omega (arith, c.len-from.ensures, c.in_ok-retired.ensures.room))
     (omega (arith, long, c.requires)) c.self.invariant.free c.self.invariant.retired c.self.invariant.reserved c.self.invariant.within
