@@ -56,9 +56,10 @@ count_after p fs x s t h =
     (λ j other. ap p (at_other fs x j t other)) in
     let is = at_same fs x t within in
     let was = at_is fs x s h in
-    rw length-set (subst (λ (u : FrameState). count_below (λ j. p (frame_at (set fs x t) j)) (length fs) + count_one p u
-    ≡ count_below (λ j. p (frame_at fs j)) (length fs) + count_one p t) was (subst (λ (u : FrameState). count_below (λ j. p (frame_at (set fs x t) j)) (length fs)
-    + count_one p (frame_at fs x) ≡ count_of p fs + count_one p u) is n))
+    let after = count_below (λ j. p (frame_at (set fs x t) j)) (length fs) in
+    let before = count_below (λ j. p (frame_at fs j)) (length fs) in
+    let now = subst (λ (u : FrameState). after + count_one p (frame_at fs x) ≡ before + count_one p u) is n in
+    rw length-set (subst (λ (u : FrameState). after + count_one p u ≡ before + count_one p t) was now)
 
 -- it holds of the one and not of the other
 apart : (p : FrameState → Bool) (fs : List FrameState) (x y : ℕ) (s : FrameState) → slice_get fs x ≡ Some s → p s ≡ false

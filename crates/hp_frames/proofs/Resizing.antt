@@ -188,12 +188,17 @@ new_last fs (y ∷ ys) those =
       new_last fs ys those.3,
     )
 
+-- how many frames there are with so many new ones
+pub wider_count : (fs new : List FrameState) (m : ℕ) → new ≡ fs ++ replicate m Free → length new ≡ length fs + m
+wider_count fs new m is =
+    ap length is ∙ (length-append fs (replicate m Free) ∙ ap (λ (n : ℕ). length fs + n) (length-replicate m Free))
+
 -- one more of the new numbers of a bank
 pub new_one : (fs mid new : List FrameState) (xs more : List ℕ) (m number x : ℕ) → mid ≡ fs ++ replicate m Free → new ≡ mid ++ Free ∷ []
     → number ≡ length fs + m → more ≡ xs ++ x ∷ [] → x ≡ number → AreThose is_free mid xs
     → (new ≡ fs ++ replicate (suc m) Free) × AreThose is_free new more × (length more ≡ length xs + 1)
 new_one fs mid new xs more m number x were is numbered longer same those =
-    let long : length mid ≡ length fs + m = ap length were ∙ (length-append fs (replicate m Free) ∙ ap (λ (n : ℕ). length fs + n) (length-replicate m Free)) in
+    let long = wider_count fs mid m were in
     let last : x ≡ length mid = same ∙ (numbered ∙ sym long) in (
       is ∙ (ap (λ (gs : List FrameState). gs ++ Free ∷ []) were ∙ sym (more_of fs m)),
       rw (is, longer, last) (new_last mid xs those),
@@ -226,10 +231,6 @@ wider_grown fs new k back all grown =
           let inside : x < length fs + (k - back) = omega (arith, long, many, active, sum, wide, all, below) in
           stays_free _ _ (at_new fs (k - back) x past inside) (grown.each x (omega (arith, long, many, inside)));
     }
-
--- how many frames there are with so many new ones
-pub wider_count : (fs new : List FrameState) (m : ℕ) → new ≡ fs ++ replicate m Free → length new ≡ length fs + m
-wider_count fs new m is = ap length is ∙ (length-append fs (replicate m Free) ∙ ap (λ (n : ℕ). length fs + n) (length-replicate m Free))
 
 -- no more are listed than there are
 pub few_listed : (p : FrameState → Bool) (fs : List FrameState) (xs : List ℕ) (n : ℕ) → IsListed p fs xs n → length xs ≤ length fs

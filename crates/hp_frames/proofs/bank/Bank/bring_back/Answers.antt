@@ -6,7 +6,8 @@ use Rattle.hp_frames.proofs.Frames.{given, has_room, taken}
 use Rattle.hp_frames.proofs.bank.Bank.bring_back.Goals as goal
 
 pub push_reserved-requires : goal.push_reserved-requires
-push_reserved-requires c = let room = has_room is_free _ _ _ _ Retired c.take_retired-frame.ensures.was_retired refl c.self.invariant.free in omega (arith, room)
+push_reserved-requires c =
+    let room = has_room is_free _ _ _ _ Retired c.take_retired-frame.ensures.was_retired refl c.self.invariant.free in omega (arith, room)
 
 pub invariant_of-self : goal.invariant_of-self
 invariant_of-self c =

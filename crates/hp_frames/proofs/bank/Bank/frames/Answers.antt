@@ -10,5 +10,6 @@ overflow_sub-result c =
 pub returns : goal.returns
 returns c =
     let all = active_and_retired c.self.inside.frames.items in
-    let same : active_frames c.self.inside.frames.items ≡ active_frames c.args.self.now.frames = ap (λ (b : BankState). active_frames b.frames) c.self.view_is in
+    let same : active_frames c.self.inside.frames.items ≡ active_frames c.args.self.now.frames =
+    ap (λ (b : BankState). active_frames b.frames) c.self.view_is in
     omega (arith, all, same, c.self.invariant.retired.counted)

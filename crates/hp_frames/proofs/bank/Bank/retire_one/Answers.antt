@@ -6,7 +6,8 @@ use Rattle.hp_frames.proofs.Frames.{given, has_room, taken}
 use Rattle.hp_frames.proofs.bank.Bank.retire_one.Goals as goal
 
 pub push_reserved-requires : goal.push_reserved-requires
-push_reserved-requires c = let room = has_room is_retired _ _ _ _ Free c.take_free-frame.ensures.was_free refl c.self.invariant.retired in omega (arith, room)
+push_reserved-requires c =
+    let room = has_room is_retired _ _ _ _ Free c.take_free-frame.ensures.was_free refl c.self.invariant.retired in omega (arith, room)
 
 pub invariant_of-self : goal.invariant_of-self
 invariant_of-self c =
