@@ -277,6 +277,7 @@ free_is : (f : FrameState) → is_free f ≡ true → f ≡ frame.Free
 free_is frame.Free e = refl
 free_is frame.Hand e = (let d : false ≡ true = e in absurd (cc))
 free_is (frame.Placed word) e = (let d : false ≡ true = e in absurd (cc))
+free_is frame.Retired e = (let d : false ≡ true = e in absurd (cc))
 
 -- a frame that is told as free is free
 free_at : (s : CoreState) (p : Picture) (x : ℕ) → IsPicture s p → 0 < times_in p.free.items x → IsPlaced s x Free

@@ -101,6 +101,7 @@ free_is : (frame : FrameState) → is_free frame ≡ true → frame ≡ state.Fr
 free_is state.Free e = refl
 free_is state.Hand e = (let d : false ≡ true = e in absurd (cc))
 free_is (state.Placed w) e = (let d : false ≡ true = e in absurd (cc))
+free_is state.Retired e = (let d : false ≡ true = e in absurd (cc))
 
 -- there is a free frame
 some_free : (frame : ℕ → FrameState) (frames : ℕ) → 1 ≤ free_frames frame frames → (x : ℕ) × (frame x ≡ state.Free)
