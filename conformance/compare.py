@@ -4,7 +4,8 @@
 Each line of a script is one call that ran to its end, with what the kernel said then:
 `begin T OP = ANSWER | FREE RESV | SIZE PAGES, .. | ENTRIES ..` (one `SIZE PAGES` a file, one number of
 translations a task), and behind it ` | used U` where the pool has a quota. A script is compared up to the first
-touch of a page that is cached at or above the file's size, where this pool answers beyond and Linux the word, or up to the first byte call (`x..`).
+touch of a page that is cached at or above the file's size, where this pool answers beyond and Linux the word, or
+up to the first byte call (`x..`).
 """
 from __future__ import annotations
 

@@ -23,7 +23,9 @@ use Rattle.hp_base.proofs.Totals.{total_somewhere, at_most_one, count_below_some
 use Rattle.hp_frames.specs.declared.frame.FrameState.{FrameState}
 use Rattle.hp_frames.specs.declared.frame.FrameState.TheVariants as frame
 use Rattle.hp_cache.proofs.Order.{find_at, keys_differ, found_entry, found_somewhere}
-use Rattle.hp_machine.specs.State.{State, is_free}
+use Rattle.hp_frames.specs.Bank.{is_free}
+use Rattle.hp_frames.proofs.Frames.{free_is}
+use Rattle.hp_machine.specs.State.{State}
 use Rattle.hp_machine.specs.Views.{hand}
 use Rattle.hp_machine.specs.Headline as head
 use Rattle.hp_machine.specs.Headline.{Place, Free, Hand, Page, IsAt}
@@ -273,12 +275,6 @@ bit_one true = omega arith
 bit_one false = omega arith
 
 -- a frame that counts as free is free
-free_is : (f : FrameState) → is_free f ≡ true → f ≡ frame.Free
-free_is frame.Free e = refl
-free_is frame.Hand e = (let d : false ≡ true = e in absurd (cc))
-free_is (frame.Placed word) e = (let d : false ≡ true = e in absurd (cc))
-free_is frame.Retired e = (let d : false ≡ true = e in absurd (cc))
-
 -- a frame that is told as free is free
 free_at : (s : CoreState) (p : Picture) (x : ℕ) → IsPicture s p → 0 < times_in p.free.items x → IsPlaced s x Free
 free_at s p x is some = free_is ((as_state s).frame x) (is_one (is_free ((as_state s).frame x)) (omega (arith, some, is.free x)))

@@ -8,7 +8,6 @@ use Rattle.hp_frames.specs.Bank as bank
 use Rattle.hp_frames.specs.declared.frame.FrameState.{FrameState}
 use Rattle.hp_frames.specs.declared.frame.FrameState.TheVariants.{Free, Hand, Placed, Retired}
 use Rattle.hp_slots.specs.Holders.{holder_of}
-use Rattle.hp_machine.specs.State.{is_free}
 use Rattle.hp_machine.specs.Views.{hand}
 use Rattle.hp_machine.specs.declared.call.Call.{Call}
 use Rattle.hp_audit.specs.declared.picture.Picture.{Picture}
@@ -24,13 +23,6 @@ use Rattle.hp_core.proofs.Reading.{few_tasks, few_files_of}
 use Rattle.hp_core.proofs.Sums.{sum_is}
 use Rattle.hp_core.proofs.FilePictures.{file_picture_of}
 use Rattle.hp_core.proofs.Translations.{all_counted}
-
--- the bank's free frames are the machine's
-same_free : (s : FrameState) → bank.is_free s ≡ is_free s
-same_free Free = refl
-same_free Hand = refl
-same_free (Placed word) = refl
-same_free Retired = refl
 
 -- a frame is given as often as some seat has it
 given_times : {X : Type 0} (h : X → Option ℕ) (x : ℕ) (ys : List X)
@@ -85,7 +77,7 @@ pub picture_of : (s : CoreState) (p : Picture) → IsSound s → AreCopies s p �
 unfolding free_of
 picture_of s p h c =
     record {
-      free = λ x. c.free x ∙ ap (λ (b : Bool). bit b) (same_free (bank.frame_at s.parts.bank.frames x));
+      free = c.free;
       frees = c.frees ∙ sym (free_frames_is s.parts.bank.frames);
       resv = c.resv;
       owed = c.owed;

@@ -7,7 +7,8 @@ use Rattle.hp_base.specs.Numbers.{bit, total}
 use Rattle.hp_base.specs.Indices.{count_below}
 use Rattle.hp_base.specs.Mappings.{find, is_there}
 use Rattle.hp_base.specs.declared.limits.TheConstants.{LIMIT, VPNS}
-use Rattle.hp_machine.specs.State.{State, is_free}
+use Rattle.hp_frames.specs.Bank.{is_free}
+use Rattle.hp_machine.specs.State.{State}
 use Rattle.hp_machine.specs.Views.{hand}
 use Rattle.hp_audit.specs.Findings.{is_reserved}
 use Rattle.hp_audit.specs.declared.picture.FilePicture.{FilePicture}

@@ -26,15 +26,9 @@ use Rattle.hp_fault.specs.View.{no_file, no_table, holders_of, sizes_of, pending
 use Rattle.hp_fault.specs.View.{ready_by_task, mappings_by_task, entries_of}
 
 -- the bank's count of free frames is the machine's
-same_free : (s : FrameState) → machine.is_free s ≡ bank.is_free s
-same_free Free = refl
-same_free Hand = refl
-same_free (Placed word) = refl
-same_free Retired = refl
-
 pub free_frames_is : (xs : List FrameState) → machine.free_frames (bank.frame_at xs) (length xs) ≡ bank.free_frames xs
 unfolding machine.free_frames bank.count_of
-free_frames_is xs = count_below-ext _ _ (length xs) (λ x _. same_free (bank.frame_at xs x))
+free_frames_is xs = refl
 
 -- holders
 pub holders_set : (xs : List (Option ℕ)) (k : ℕ) (h : Option ℕ) → k < length xs → holders_of (slice_set xs k h) ≡ put (holders_of xs) k h

@@ -100,7 +100,7 @@ pub last_those : (p : FrameState → Bool) (fs : List FrameState) (xs : List ℕ
 last_those p fs [] x those = (those.0, those.1)
 last_those p fs (y ∷ ys) x those = last_those p fs ys x those.3
 
-free_is : (s : FrameState) → is_free s ≡ true → s ≡ Free
+pub free_is : (s : FrameState) → is_free s ≡ true → s ≡ Free
 free_is Free like = refl
 free_is Hand unlike = absurd (cc)
 free_is (Placed word) unlike = absurd (cc)

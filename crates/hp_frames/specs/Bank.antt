@@ -7,9 +7,9 @@ use Rattle.hp_base.specs.Indices.{count_below}
 use Rattle.hp_frames.specs.declared.frame.FrameState.{FrameState}
 use Rattle.hp_frames.specs.declared.frame.FrameState.TheVariants.{Free, Hand, Placed, Retired}
 
--- where each frame is; how many pages are reserved; how many are used, which are all that files have reserved or
--- cached; how many may be used, where that is limited; and for how many frames the bank has taken memory, over
--- its lists
+-- where each frame is; how many pages are reserved; how many are used: the reserved indices, and what calls count
+-- on besides; how many may be used, where that is limited; and for how many frames the bank has taken memory,
+-- over its lists
 pub record BankState : Type 0 where
   pub frames : List FrameState
   pub resv : ℕ

@@ -4,8 +4,8 @@
 //! call's hand, a page with its word or retired, beside the counts, and for how many frames it has taken
 //! memory, which it does when it is made and when it grows by new numbers: no order of the free frames
 //! shows. Each call says exactly what it does to the frames and to the counts, and the reserve count never
-//! exceeds the free frames. A frame in a hand is a token, `Held`, which only this crate makes and which is spent once. It
-//! knows nothing of files, tasks or calls.
+//! exceeds the free frames. A frame in a hand is a token, `Held`, which only this crate makes and which is
+//! spent once. It knows nothing of files, tasks or calls.
 #![tactic(auto)]
 
 pub mod bank;

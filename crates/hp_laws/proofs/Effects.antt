@@ -8,11 +8,11 @@ use Rattle.hp_base.proofs.Puts.{put_same, put_other, same_or_other, put_tells, p
 use Rattle.hp_base.proofs.Counting.{count_below-ext, count_below-added}
 use Rattle.hp_base.proofs.Totals.{total_change, total_has, count_below-change}
 use Rattle.hp_base.proofs.Sets.{vacant_add, vacant_place, add_range_keeps, add_range_out}
-use Rattle.hp_frames.specs.Bank.{IsWithinQuota}
+use Rattle.hp_frames.specs.Bank.{is_free, IsWithinQuota}
 use Rattle.hp_frames.specs.declared.frame.FrameState.{FrameState}
 use Rattle.hp_frames.specs.declared.frame.FrameState.TheVariants as state
 use Rattle.hp_region.specs.Change.{Change}
-use Rattle.hp_machine.specs.State.{Geometry, State, slot_of, is_free, free_frames}
+use Rattle.hp_machine.specs.State.{Geometry, State, slot_of, free_frames}
 use Rattle.hp_machine.specs.Headline.{Free, Hand}
 use Rattle.hp_machine.specs.Parts.{frame_after}
 use Rattle.hp_machine.specs.Views.{less, more, used_owed, hand, change_in, opens}

@@ -12,7 +12,9 @@ use Rattle.hp_frames.specs.declared.frame.FrameState.{FrameState}
 use Rattle.hp_frames.specs.declared.frame.FrameState.TheVariants as state
 use Rattle.hp_region.specs.Change.{Change}
 use Rattle.hp_base.specs.declared.answer.Answer.TheVariants.{NoFrame, NoQuota}
-use Rattle.hp_machine.specs.State.{exceeds_quota, quota_is_used_up, Pool, State, pool_of, frees, free_frames, is_free, slot_of, is_alive, is_killed, is_dead}
+use Rattle.hp_frames.specs.Bank.{is_free}
+use Rattle.hp_frames.proofs.Frames.{free_is}
+use Rattle.hp_machine.specs.State.{exceeds_quota, quota_is_used_up, Pool, State, pool_of, frees, free_frames, slot_of, is_alive, is_killed, is_dead}
 use Rattle.hp_machine.specs.Parts.{Goes, Ends, StartRow, WantSlotRow, ChangeRow, CommitRow, TakeRow, UnmapIndexRow, EvictRow}
 use Rattle.hp_machine.specs.TouchRows.{TouchRow}
 use Rattle.hp_machine.specs.MapRows.{MapRow}
@@ -97,12 +99,6 @@ commit : {P : Type 0} (s : Pool) (f : ℕ) (c : Change) (settle next : P) → Le
 commit s f c settle next = test (nat_lt (missing (s.reserved f) c.from c.to) c.missing) (λ _. goes settle _) (λ _. goes next _)
 
 -- a frame that counts as free is free
-free_is : (frame : FrameState) → is_free frame ≡ true → frame ≡ state.Free
-free_is state.Free e = refl
-free_is state.Hand e = (let d : false ≡ true = e in absurd (cc))
-free_is (state.Placed w) e = (let d : false ≡ true = e in absurd (cc))
-free_is state.Retired e = (let d : false ≡ true = e in absurd (cc))
-
 -- there is a free frame
 some_free : (frame : ℕ → FrameState) (frames : ℕ) → 1 ≤ free_frames frame frames → (x : ℕ) × (frame x ≡ state.Free)
 unfolding free_frames

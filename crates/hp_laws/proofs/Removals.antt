@@ -9,7 +9,8 @@ use Rattle.hp_base.proofs.Totals.{total_change}
 use Rattle.hp_base.proofs.Counting.{count_below-put_false}
 use Rattle.hp_base.proofs.Sets.{vacant_evict, vacant_drop}
 use Rattle.hp_frames.specs.declared.frame.FrameState.TheVariants as state
-use Rattle.hp_machine.specs.State.{Geometry, State, slot_of, is_free, free_frames}
+use Rattle.hp_frames.specs.Bank.{is_free}
+use Rattle.hp_machine.specs.State.{Geometry, State, slot_of, free_frames}
 use Rattle.hp_machine.specs.Views.{less, more, used_owed, hand, change_in}
 use Rattle.hp_machine.specs.declared.call.Call.{Call}
 use Rattle.hp_laws.specs.Sweep.{fills, ahead}

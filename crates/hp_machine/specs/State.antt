@@ -2,7 +2,7 @@
 use Rattle.std.specs.Prelude.{ℕ, ◌+◌, ◌*◌, ◌%◌, Bool, true, false, Option, List}
 use Rattle.hp_base.specs.Indices.{count_below}
 use Rattle.hp_base.specs.declared.mapping.Mapping.{Mapping}
-use Rattle.hp_frames.specs.Bank.{exceeds, is_used_up}
+use Rattle.hp_frames.specs.Bank.{exceeds, is_free, is_used_up}
 use Rattle.hp_frames.specs.declared.frame.FrameState.{FrameState}
 use Rattle.hp_frames.specs.declared.frame.FrameState.TheVariants.{Free, Hand, Placed, Retired}
 use Rattle.hp_machine.specs.declared.outcome.Life.{Life}
@@ -19,10 +19,10 @@ pub record Geometry : Type 0 where
   pub space : ℕ
   pub quota : Option ℕ
 
--- What all calls share. Per frame: where it is; `resv` is the count of reserved pages, `used` that of used ones. Per slot and per
--- file lock: the task that holds it. Per file: size, open changes, spare descriptors, the set of reserved
--- indices, and the frame of each page. Per task: whether room for one mapping is ready, its mappings
--- and its translations.
+-- What all calls share. Per frame: where it is; `resv` is the count of reserved pages, `used` that of used ones.
+-- Per slot and per file lock: the task that holds it. Per file: size, open changes, spare descriptors, the set of
+-- reserved indices, and the frame of each page. Per task: whether room for one mapping is ready, its mappings and
+-- its translations.
 pub record Pool : Type 0 where
   pub geometry : Geometry
   pub frames : ℕ
@@ -52,12 +52,6 @@ pool_of s = s.pool
 
 abbrev pub with_pool : State → Pool → State
 with_pool s p = record s { pool = p }
-
-abbrev pub is_free : FrameState → Bool
-is_free Free = true
-is_free Hand = false
-is_free (Placed word) = false
-is_free Retired = false
 
 -- how many of the first frames are free
 unfoldable pub free_frames : (ℕ → FrameState) → (frames : ℕ) → ℕ

@@ -9,7 +9,8 @@ use Rattle.hp_base.proofs.Counting.{count_below-sum, count_below_none}
 use Rattle.hp_base.proofs.Puts.{put_same, put_other, same_or_other}
 use Rattle.hp_frames.specs.declared.frame.FrameState.{FrameState}
 use Rattle.hp_frames.specs.declared.frame.FrameState.TheVariants.{Free, Hand, Placed}
-use Rattle.hp_machine.specs.State.{is_free, free_frames}
+use Rattle.hp_frames.specs.Bank.{is_free}
+use Rattle.hp_machine.specs.State.{free_frames}
 use Rattle.hp_laws.proofs.Effects.{free_change}
 use Rattle.hp_meaning.specs.Meaning.{Filled}
 use Rattle.hp_laws.proofs.Deciding.{some_same}

@@ -12,7 +12,8 @@ use Rattle.hp_base.specs.declared.mapping.Mapping.{Mapping}
 use Rattle.hp_frames.specs.declared.frame.FrameState.{FrameState}
 use Rattle.hp_frames.specs.declared.frame.FrameState.TheVariants.{Free, Hand, Placed}
 use Rattle.hp_region.specs.Change.{Change}
-use Rattle.hp_machine.specs.State.{Pool, is_free, free_frames, frees, quota_is_used_up, slot_of}
+use Rattle.hp_frames.specs.Bank.{is_free}
+use Rattle.hp_machine.specs.State.{Pool, free_frames, frees, quota_is_used_up, slot_of}
 use Rattle.hp_machine.specs.Parts.{Gives, Goes, StartRow, WantSlotRow, ChangeRow, CommitRow, TakeRow, SettleOneRow, placed}
 use Rattle.hp_machine.specs.Parts.{UnmapIndexRow, EvictRow, cleared}
 use Rattle.hp_machine.specs.declared.call.Turn.{Turn}

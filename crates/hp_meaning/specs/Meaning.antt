@@ -74,8 +74,9 @@ abbrev pub is_bad_range : State → (from len : ℕ) → Bool
 is_bad_range s from len = (len == 0) || nat_lt s.geometry.limit (from + len)
 
 -- Map (Linux: `hugetlb_reserve_pages`). No base: NoAddress. More indices of the range are missing from the
--- reserved ones than the quota lets the files have: NoQuota. More than frames are available: NoFrame. Else the mapping is entered at the least base, the range
--- is reserved, resv gains what was missing, size grows to the end of the range: Mapped
+-- reserved ones than the quota lets the files have: NoQuota. More than frames are available: NoFrame. Else the
+-- mapping is entered at the least base, the range is reserved, resv gains what was missing, size grows to the end
+-- of the range: Mapped
 abbrev pub MapMeans : State → (task file from len : ℕ) → Answer → State → Type 0
 MapMeans s t f from len answer m =
     (found : Option ℕ) × IsRoom s.geometry.space (s.mappings t) len found

@@ -46,6 +46,8 @@ Options:
 
 A trace is lines of text. The first is the pool:
   pool FRAMES FILES SLOTS TASKS  1..=4096 frames, 1..=16 files, 1..=64 slots, 1..=64 tasks
+  pool FRAMES FILES SLOTS TASKS QUOTA
+                                 the same, and at most QUOTA pages for all files, 0..=65536
 Each other line is an event, of at most a million:
   begin TASK CALL                a task, counted from 1, begins a call
   step TASK                      its call makes one step
