@@ -8,7 +8,7 @@ use Rattle.hp_base.specs.declared.answer.Answer.TheVariants as answer
 use Rattle.hp_base.specs.declared.event.Op.{Op}
 use Rattle.hp_base.specs.declared.event.Op.TheVariants.{Map, MapNoReserve, Unmap, Load, Store, Alloc, Punch, Truncate, Exit}
 use Rattle.hp_base.specs.declared.event.Event.{Event}
-use Rattle.hp_base.specs.declared.event.Event.TheVariants.{Begin, Step, Kill}
+use Rattle.hp_base.specs.declared.event.Event.TheVariants.{Begin, Step, Kill, Resize}
 
 -- a space, and the number
 abbrev pub field : ℕ → List ℕ
@@ -64,6 +64,7 @@ abbrev pub event_text : Event → List ℕ
 event_text (Begin task op) = codes "begin" ++ field task ++ codes " " ++ op_text op
 event_text (Step task granted) = step_word granted ++ field task
 event_text (Kill task) = codes "kill" ++ field task
+event_text (Resize frames) = codes "resize" ++ field frames
 
 abbrev pub answer_text : Answer → List ℕ
 answer_text (answer.Mapped base) = codes "mapped " ++ decimal base

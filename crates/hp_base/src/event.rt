@@ -65,6 +65,8 @@ pub enum Event {
     Step(Task, bool),
     /// The task is killed. Its call goes on, and notices the kill where it looks for one.
     Kill(Task),
+    /// The pool is told how many frames it is to have (`nr_hugepages`, `set_max_huge_pages`). It is of no task.
+    Resize(u32),
 }
 
 /// The operation's words in a trace, as `map 0 0 4`.
@@ -107,6 +109,7 @@ impl fmt::Display for Event {
             Event::Step(task, true) => write!(f, "step {task}"),
             Event::Step(task, false) => write!(f, "deny {task}"),
             Event::Kill(task) => write!(f, "kill {task}"),
+            Event::Resize(frames) => write!(f, "resize {frames}"),
         }
     }
 }

@@ -20,11 +20,13 @@ pub data Place : Type 0 where
   Free : Place
   Hand : (task : ℕ) → Place
   Page : (file index : ℕ) → Place
+  Retired : Place
 
 abbrev pub IsAt : (ℕ → FrameState) → (hands : ℕ → Option ℕ) → (pages : ℕ → ℕ → Option ℕ) → ℕ → Place → Type 0
 IsAt states hands pages x Free = states x ≡ frame.Free
 IsAt states hands pages x (Hand t) = hands t ≡ Some x
 IsAt states hands pages x (Page f i) = pages f i ≡ Some x
+IsAt states hands pages x Retired = states x ≡ frame.Retired
 
 -- each frame is at exactly one place, and what is at a place is a frame
 pub record OnePlace (frames : ℕ) (frame : ℕ → FrameState) (hands : ℕ → Option ℕ) (pages : ℕ → ℕ → Option ℕ) : Type 0 where

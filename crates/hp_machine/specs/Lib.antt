@@ -5,6 +5,7 @@ pub mod Headline
 pub mod MapRows
 pub mod Parts
 pub mod PunchRows
+pub mod Resizes
 pub mod Standings
 pub mod State
 pub mod Text

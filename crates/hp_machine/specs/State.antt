@@ -2,7 +2,7 @@
 use Rattle.std.specs.Prelude.{ℕ, ◌+◌, ◌*◌, ◌%◌, Bool, true, false, Option, List}
 use Rattle.hp_base.specs.Indices.{count_below}
 use Rattle.hp_base.specs.declared.mapping.Mapping.{Mapping}
-use Rattle.hp_frames.specs.Bank.{exceeds, is_free, is_used_up}
+use Rattle.hp_frames.specs.Bank.{exceeds, is_active, is_free, is_used_up}
 use Rattle.hp_frames.specs.declared.frame.FrameState.{FrameState}
 use Rattle.hp_frames.specs.declared.frame.FrameState.TheVariants.{Free, Hand, Placed, Retired}
 use Rattle.hp_machine.specs.declared.outcome.Life.{Life}
@@ -19,10 +19,10 @@ pub record Geometry : Type 0 where
   pub space : ℕ
   pub quota : Option ℕ
 
--- What all calls share. Per frame: where it is; `resv` is the count of reserved pages, `used` that of used ones.
--- Per slot and per file lock: the task that holds it. Per file: size, open changes, spare descriptors, the set of
--- reserved indices, and the frame of each page. Per task: whether room for one mapping is ready, its mappings and
--- its translations.
+-- What all calls share. Frames have the numbers below `frames`, those that are retired too. Per frame: where it is;
+-- `resv` is the count of reserved pages, `used` that of used ones. Per slot and per file lock: the task that holds
+-- it. Per file: size, open changes, spare descriptors, the set of reserved indices, and the frame of each page. Per
+-- task: whether room for one mapping is ready, its mappings and its translations.
 pub record Pool : Type 0 where
   pub geometry : Geometry
   pub frames : ℕ
@@ -59,6 +59,14 @@ free_frames frame frames = count_below (λ x. is_free (frame x)) frames
 
 abbrev pub frees : Pool → ℕ
 frees s = free_frames s.frame s.frames
+
+-- how many of the first frames aren't retired
+unfoldable pub active_frames : (ℕ → FrameState) → (frames : ℕ) → ℕ
+active_frames frame frames = count_below (λ x. is_active (frame x)) frames
+
+-- how many frames the pool has (Linux: `nr_huge_pages`)
+abbrev pub actives : Pool → ℕ
+actives s = active_frames s.frame s.frames
 
 -- n more pages are more than the quota has left (Linux: `hugepage_subpool_get_pages`)
 abbrev pub exceeds_quota : Pool → ℕ → Bool

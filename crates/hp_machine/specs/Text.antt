@@ -44,6 +44,7 @@ abbrev pub refusal_word : Refusal → List ℕ
 refusal_word refusal.NotAlive = codes "notalive"
 refusal_word refusal.InCall = codes "incall"
 refusal_word refusal.Idle = codes "idle"
+refusal_word refusal.BadSize = codes "badsize"
 
 abbrev pub life_word : Life → List ℕ
 life_word life.Alive = codes "alive"
@@ -56,4 +57,5 @@ outcome_text (outcome.Moved phase) = codes "moved " ++ phase_word phase
 outcome_text (outcome.Blocked task) = codes "blocked " ++ decimal task
 outcome_text (outcome.Ended answer) = codes "ended " ++ answer_text answer
 outcome_text outcome.Marked = codes "marked"
+outcome_text (outcome.Resized frames) = codes "resized " ++ decimal frames
 outcome_text (outcome.Refused refusal) = codes "refused " ++ refusal_word refusal

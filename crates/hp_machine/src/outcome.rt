@@ -15,6 +15,8 @@ pub enum Refusal {
     InCall,
     /// The task has no call in flight.
     Idle,
+    /// A pool has 1 to 4,096 frames.
+    BadSize,
 }
 
 /// What came of an event.
@@ -30,6 +32,8 @@ pub enum Outcome {
     Ended(Answer),
     /// The task is killed.
     Marked,
+    /// So many frames aren't retired now.
+    Resized(u32),
     Refused(Refusal),
 }
 
@@ -49,6 +53,7 @@ impl fmt::Display for Refusal {
             Refusal::NotAlive => "notalive",
             Refusal::InCall => "incall",
             Refusal::Idle => "idle",
+            Refusal::BadSize => "badsize",
         })
     }
 }
@@ -64,6 +69,7 @@ impl fmt::Display for Outcome {
             Outcome::Blocked(task) => write!(f, "blocked {task}"),
             Outcome::Ended(answer) => write!(f, "ended {answer}"),
             Outcome::Marked => write!(f, "marked"),
+            Outcome::Resized(frames) => write!(f, "resized {frames}"),
             Outcome::Refused(refusal) => write!(f, "refused {refusal}"),
         }
     }

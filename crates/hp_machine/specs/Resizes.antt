@@ -1,0 +1,35 @@
+-- What the resize of a pool does to its frames (Linux: `set_max_huge_pages`).
+use Rattle.std.specs.Prelude.{◌≡◌, ℕ, ◌+◌, ◌-◌, ◌<◌, ◌≤◌, ◌⊎◌, Bool, max, min}
+use Rattle.hp_base.specs.Limits.{is_in}
+use Rattle.hp_frames.specs.declared.frame.FrameState.{FrameState}
+use Rattle.hp_frames.specs.declared.frame.FrameState.TheVariants.{Free, Retired}
+use Rattle.hp_machine.specs.State.{Pool, active_frames, actives, frees}
+
+-- a pool may have so many frames
+abbrev pub is_size : (frames : ℕ) → Bool
+is_size n = is_in 1 4096 n
+
+-- The pool has n frames now, which are more: retired ones are free again, and where they don't suffice, new
+-- numbers are free frames. No other frame is elsewhere
+pub record GrowsTo (s : Pool) (n : ℕ) (frame : ℕ → FrameState) : Type 0 where
+  pub count : active_frames frame (max s.frames n) ≡ n
+  pub each : (x : ℕ) → x < s.frames → (frame x ≡ s.frame x) ⊎ ((s.frame x ≡ Retired) × (frame x ≡ Free))
+  pub fresh : (x : ℕ) → s.frames ≤ x → x < max s.frames n → frame x ≡ Free
+  pub beyond : (x : ℕ) → max s.frames n ≤ x → frame x ≡ s.frame x
+
+-- k free frames are retired, and no other frame is elsewhere
+pub record Retires (s : Pool) (k : ℕ) (frame : ℕ → FrameState) : Type 0 where
+  pub count : active_frames frame s.frames + k ≡ actives s
+  pub each : (x : ℕ) → (frame x ≡ s.frame x) ⊎ ((x < s.frames) × (s.frame x ≡ Free) × (frame x ≡ Retired))
+
+-- what n frames leave over, of the free frames that nobody reserved
+abbrev pub surplus : Pool → (frames : ℕ) → ℕ
+surplus s n = min (actives s - n) (frees s - s.resv)
+
+-- the pool with n frames
+abbrev pub grown : Pool → (frames : ℕ) → (ℕ → FrameState) → Pool
+grown s n frame = record s { frames = max s.frames n; frame = frame }
+
+-- the pool with frames retired
+abbrev pub shrunk : Pool → (ℕ → FrameState) → Pool
+shrunk s frame = record s { frame = frame }
