@@ -98,7 +98,6 @@ change s grant f from to denied changed = test ((s.spare f == s.pending f) && no
 commit : {P : Type 0} (s : Pool) (f : ℕ) (c : Change) (settle next : P) → Leads (CommitRow s f c settle next)
 commit s f c settle next = test (nat_lt (missing (s.reserved f) c.from c.to) c.missing) (λ _. goes settle _) (λ _. goes next _)
 
--- a frame that counts as free is free
 -- there is a free frame
 some_free : (frame : ℕ → FrameState) (frames : ℕ) → 1 ≤ free_frames frame frames → (x : ℕ) × (frame x ≡ state.Free)
 unfolding free_frames
