@@ -1,22 +1,24 @@
 -- A resize: what its frames keep, and that there are such frames.
-use Rattle.std.proofs.Common.{◌≡◌, ◌≢◌, ℕ, zero, suc, ◌+◌, ◌-◌, ◌<◌, ◌≤◌, refl, sym, ap, ◌∙◌, subst, arith, inl, inr, ◌⊎◌}
-use Rattle.std.specs.Prelude.{Bool, true, false, not, cond, max, min, nat_lt, if◌then◌else◌, Option, Some, None}
+use Rattle.std.proofs.Common.{◌≡◌, ℕ, zero, suc, ◌+◌, ◌-◌, ◌<◌, ◌≤◌, refl, sym, ap, ◌∙◌, subst, arith, inl, inr, ◌⊎◌}
+use Rattle.std.specs.Prelude.{Bool, true, false, not, cond, max, min, nat_le, nat_lt, ◌&&◌, if◌then◌else◌, Option, Some, MatchBool}
 use Rattle.std.proofs.lemmas.Bool.Decides.{nat_tests}
 use Rattle.hp_base.specs.Numbers.{put, bit}
 use Rattle.hp_base.specs.Indices.{count_below}
-use Rattle.hp_base.proofs.Counting.{count_below-ext, count_below-pairs, count_below_mono, count_below_wider, count_below_full}
+use Rattle.hp_base.proofs.Counting.{count_below-ext, count_below_none, count_below-pairs, count_below_mono, count_below_wider, count_below_full}
 use Rattle.hp_base.proofs.Puts.{put_same, put_other, same_or_other}
-use Rattle.hp_base.proofs.Totals.{cond_bit, count_below-change, count_below_somewhere}
+use Rattle.hp_base.proofs.Totals.{count_below-change, count_below_somewhere}
 use Rattle.hp_frames.specs.Bank.{is_free, is_retired, is_active}
+use Rattle.hp_frames.proofs.Frames.{free_is, retired_is}
 use Rattle.hp_frames.specs.declared.frame.FrameState.{FrameState}
 use Rattle.hp_frames.specs.declared.frame.FrameState.TheVariants as state
-use Rattle.hp_machine.specs.Headline.{Place, Free, Hand, Page, Retired, IsAt, OnePlace}
-use Rattle.hp_machine.specs.Events.{ResizeRow}
-use Rattle.hp_machine.specs.Resizes.{is_size, GrowsTo, Retires, surplus}
+use Rattle.hp_machine.specs.Headline.{Place, Free, Hand, Page, Retired, IsAt}
+use Rattle.hp_machine.specs.Events.{ResizeRow, Tells, Refuses}
+use Rattle.hp_machine.specs.Resizes.{is_size, GrowsTo, Retires, surplus, grown, shrunk}
 use Rattle.hp_machine.specs.State.{Geometry, Pool, State, pool_of, with_pool, free_frames, active_frames, actives, frees}
 use Rattle.hp_machine.specs.declared.outcome.Outcome.{Outcome}
 use Rattle.hp_machine.specs.declared.outcome.Outcome.TheVariants as outcome
 use Rattle.hp_machine.specs.declared.outcome.Refusal.{Refusal}
+use Rattle.hp_machine.specs.declared.outcome.Refusal.TheVariants as refusal
 use Rattle.hp_laws.proofs.Invariant.{Inv}
 use Rattle.hp_laws.proofs.Moves.{Placing}
 use Rattle.hp_laws.proofs.Shared.{by_test}
@@ -59,7 +61,7 @@ in_hand n m states new hands pages t x h k e = elim (k.each x) [
 ]
 
 -- and so does a page
-on_page : (n m : ℕ) (states new : ℕ → FrameState) (hands : ℕ → Option ℕ) (pages : ℕ → ℕ → Option ℕ) (f i x : ℕ)
+pub on_page : (n m : ℕ) (states new : ℕ → FrameState) (hands : ℕ → Option ℕ) (pages : ℕ → ℕ → Option ℕ) (f i x : ℕ)
     → Placing n states hands pages → Shifts n m states new → pages f i ≡ Some x → new x ≡ states x
 on_page n m states new hands pages f i x h k e = let w = h.pages f i x e in elim (k.each x) [
   | inl a ↦ a.0
@@ -160,6 +162,114 @@ retired_frees s k frame h =
     (λ x. is_free (frame x)) s.frames (λ x l. elim (h.each x) [ inl d ↦ rw d (omega arith) | inr d ↦ rw (d.1, d.2) refl ]) in
     let c = h.count in
     omega arith
+
+-- of frames in one state as many can be turned to another as there are
+turn_some : (holds : FrameState → Bool) (a b : FrameState) → ((v : FrameState) → holds v ≡ true → v ≡ a) → holds b ≡ false
+    → (f : ℕ → FrameState) (n k : ℕ) → k ≤ count_below (λ x. holds (f x)) n
+    → (new : ℕ → FrameState) × (count_below (λ x. holds (new x)) n + k ≡ count_below (λ x. holds (f x)) n)
+    × ((x : ℕ) → (new x ≡ f x) ⊎ ((x < n) × (f x ≡ a) × (new x ≡ b)))
+turn_some holds a b is_a isnt_b f n zero l = (f, omega arith, λ x. inl refl)
+turn_some holds a b is_a isnt_b f n (suc k) l =
+    let o = count_below_somewhere (λ x. holds (f x)) n (omega arith) in
+    let change = count_below-change (λ x. holds (f x)) (λ x. holds (put f o.0 b x)) o.0 n o.1 (λ j d. ap holds (put_other f o.0 b j d)) in
+    let was : bit (holds (f o.0)) ≡ 1 = ap bit o.2 in
+    let is : bit (holds (put f o.0 b o.0)) ≡ 0 = ap (λ (v : FrameState). bit (holds v)) (put_same f o.0 b) ∙ ap bit isnt_b in
+    let rest = turn_some holds a b is_a isnt_b (put f o.0 b) n k (omega arith) in
+    let count = rest.1 in
+    (rest.0, omega arith, λ x. each o.0 o.1 (is_a (f o.0) o.2) rest.0 x (rest.2 x))
+  where
+    each : (y : ℕ) → y < n → f y ≡ a → (new : ℕ → FrameState) (x : ℕ)
+        → (new x ≡ put f y b x) ⊎ ((x < n) × (put f y b x ≡ a) × (new x ≡ b)) → (new x ≡ f x) ⊎ ((x < n) × (f x ≡ a) × (new x ≡ b))
+    each y m at new x turn = elim (same_or_other x y) [
+      | inl e ↦ inr (
+        subst (λ (z : ℕ). z < n) (sym e) m,
+        ap f e ∙ at,
+        elim turn [
+          | inl d ↦ d ∙ (ap (put f y b) e ∙ put_same f y b)
+          | inr d ↦ d.2
+        ],
+      )
+      | inr e ↦ elim turn [ inl d ↦ inl (d ∙ put_other f y b x e) | inr d ↦ inr (d.0, sym (put_other f y b x e) ∙ d.1, d.2) ]
+    ]
+
+-- each frame is either retired or not
+all_counted : (f : ℕ → FrameState) (n : ℕ) → active_frames f n + count_below (λ x. is_retired (f x)) n ≡ n
+unfolding active_frames
+all_counted f n =
+    let each = count_below-pairs (λ x. is_active (f x)) (λ x. is_retired (f x)) (λ _. true) (λ _. false) n
+    (λ x l. one (is_retired (f x))) in
+    let all = count_below_full (λ _. true) 0 n (omega arith) (λ k l m. refl) in
+    let none = count_below_none (λ _. false) n (λ k l. refl) in
+    let empty : count_below (λ _. true) 0 ≡ 0 = count_below_none (λ _. true) 0 (λ k l. absurd (omega arith)) in
+    omega arith
+  where
+    one : (b : Bool) → cond (not b) 1 0 + cond b 1 0 ≡ 1
+    one true = refl
+    one false = refl
+
+-- so many free frames can be retired as there are
+retire_some : (s : Pool) (k : ℕ) → k ≤ frees s → (frame : ℕ → FrameState) × Retires s k frame
+unfolding free_frames active_frames
+retire_some s k l =
+    let o = turn_some is_free state.Free state.Retired free_is refl s.frame s.frames k l in
+    let frees = o.1 in
+    let each = count_below-pairs (λ x. is_free (s.frame x)) (λ x. is_active (o.0 x)) (λ x. is_active (s.frame x))
+    (λ x. is_free (o.0 x)) s.frames (λ x l. elim (o.2 x) [ inl d ↦ rw d (omega arith) | inr d ↦ rw (d.1, d.2) refl ]) in
+    (o.0, record { count = omega arith; each = o.2 })
+
+-- and a pool can grow to any number of frames
+grow_some : (s : Pool) (n : ℕ) → actives s < n → (frame : ℕ → FrameState) × GrowsTo s n frame
+unfolding active_frames
+grow_some s n l =
+    let back = min (n - actives s) (count_below (λ x. is_retired (s.frame x)) s.frames) in
+    let o = turn_some is_retired state.Retired state.Free retired_is refl s.frame s.frames back (omega arith) in
+    let frame : ℕ → FrameState = λ x. if nat_lt x (max s.frames n) && nat_le s.frames x then state.Free else o.0 x in
+    let turned = o.1 in
+    let old = all_counted s.frame s.frames in
+    let new = all_counted o.0 s.frames in
+    let low = count_below-ext (λ x. is_active (frame x)) (λ x. is_active (o.0 x)) s.frames (λ x m. ap is_active (known o.0 x m)) in
+    let full = count_below_full (λ x. is_active (frame x)) s.frames (max s.frames n) (omega arith)
+    (λ x m r. ap is_active (fresh o.0 x m r)) in (
+      frame,
+      record {
+        count = omega arith;
+        each = λ x m. elim (o.2 x) [ inl d ↦ inl (known o.0 x m ∙ d) | inr d ↦ inr (d.1, known o.0 x m ∙ d.2) ];
+        fresh = λ x m r. fresh o.0 x m r;
+        beyond =
+            λ x m. elim (o.2 x) [
+              | inl d ↦ past o.0 x m ∙ d
+              | inr d ↦ (let r = d.0 in absurd (omega arith))
+            ];
+      },
+    )
+  where
+    known : (f : ℕ → FrameState) (x : ℕ) → x < s.frames
+        → (if nat_lt x (max s.frames n) && nat_le s.frames x then state.Free else f x) ≡ f x
+    known f x m = grind (arith, nat_tests)
+
+    fresh : (f : ℕ → FrameState) (x : ℕ) → s.frames ≤ x → x < max s.frames n
+        → (if nat_lt x (max s.frames n) && nat_le s.frames x then state.Free else f x) ≡ state.Free
+    fresh f x m r = grind (arith, nat_tests)
+
+    past : (f : ℕ → FrameState) (x : ℕ) → max s.frames n ≤ x
+        → (if nat_lt x (max s.frames n) && nat_le s.frames x then state.Free else f x) ≡ f x
+    past f x m = grind (arith, nat_tests)
+
+-- so there is a state after each resize
+pub resize_leads : (s : State) (size : ℕ) → (o : Outcome) × (n : State) × ResizeRow s size o n
+unfolding ResizeRow
+resize_leads s size = by_size (is_size size) (nat_lt (actives (pool_of s)) size) refl
+  where
+    by_size : (may more : Bool) → nat_lt (actives (pool_of s)) size ≡ more → (o : Outcome) × (n : State)
+        × MatchBool may
+        ((frame : ℕ → FrameState) × MatchBool more
+        (GrowsTo (pool_of s) size frame × Tells (outcome.Resized size) (with_pool s (grown (pool_of s) size frame)) o n)
+        (Retires (pool_of s) (surplus (pool_of s) size) frame
+        × Tells (outcome.Resized (actives (pool_of s) - surplus (pool_of s) size)) (with_pool s (shrunk (pool_of s) frame)) o n))
+        (Refuses refusal.BadSize s o n)
+    by_size true true e = let w = grow_some (pool_of s) size (grind (arith, nat_tests)) in (_, _, (w.0, (w.1, (refl, refl))))
+    by_size true false e = let w = retire_some (pool_of s) (surplus (pool_of s) size) (omega arith) in (_, _, (w.0, (w.1, (refl, refl))))
+    by_size false more e = (_, _, (refl, refl))
 
 -- the state with other frames
 abbrev pub reframed : State → (frames : ℕ) → (ℕ → FrameState) → State
