@@ -230,6 +230,10 @@ opening g frames = record {
   calls = λ _. None;
 }
 
--- some run from the opening state leads there
+-- some run from the opening state with so many frames leads there
+abbrev pub IsReachedFrom : (frames : ℕ) → State → Type 0
+IsReachedFrom frames s = (events : List (Event × Outcome)) × Run (opening s.geometry frames) events s
+
+-- with some number of frames
 abbrev pub IsReached : State → Type 0
-IsReached s = (frames : ℕ) × (events : List (Event × Outcome)) × Run (opening s.geometry frames) events s
+IsReached s = (frames : ℕ) × IsReachedFrom frames s
