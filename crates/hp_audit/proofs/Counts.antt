@@ -1,5 +1,5 @@
 -- How often a frame is counted, and how many indices are.
-use Rattle.std.proofs.Common.{◌≡◌, ℕ, ◌+◌, ◌<◌, ◌≤◌, true, false, cond, ◌==◌, List, [], ◌∷◌, length, take, get_or}
+use Rattle.std.proofs.Common.{◌≡◌, ℕ, ◌+◌, ◌<◌, ◌≤◌, zero, suc, true, false, cond, ◌==◌, List, [], ◌∷◌, length, take, get_or}
 use Rattle.std.proofs.Common.{refl, ap, subst, add-one, arith}
 use Rattle.std.specs.Prelude.{Bool, All, count_by, sum_by, nat_lt}
 use Rattle.std.proofs.lemmas.Bool.{eqb-true, ltb-true, ltb-false}
@@ -21,10 +21,11 @@ pages_of x file = pages_in file.pages.items x
 
 -- how many places have the frame, of the pages those of these files
 unfoldable pub count_in : Picture → ℕ → List FilePicture → ℕ
-count_in p x files = times_in p.free.items x + times_in p.hands.items x + sum_by (pages_of x) files
+count_in p x files =
+    times_in p.free.items x + times_in p.retired.items x + times_in p.hands.items x + sum_by (pages_of x) files
 
 pub count_in-none : (p : Picture) (x : ℕ) (files : List FilePicture)
-    → times_in p.free.items x + times_in p.hands.items x ≡ count_in p x (take 0 files)
+    → times_in p.free.items x + times_in p.retired.items x + times_in p.hands.items x ≡ count_in p x (take 0 files)
 unfolding count_in
 count_in-none p x files = omega arith
 
@@ -62,31 +63,30 @@ counted_in P x (file ∷ files) all some =
     counted (λ (page : ℕ × ℕ). page.1) P x (get_or (file ∷ files) at.0 file).pages.items (all at.0 file at.1) (at.2 file)
 
 -- where a fact holds of each frame that is counted, it holds of each that is anywhere
-anywhere : (P : ℕ → Type 0) (x free hands pages : ℕ) → (0 < free → P x) → (0 < hands → P x) → (0 < pages → P x)
-    → 0 < free + hands + pages → P x
-anywhere P x free hands pages in_free in_hands in_pages some =
-    elim (nat_lt 0 free) as (λ b. nat_lt 0 free ≡ b → P x) [
-      | true ↦ λ e. in_free (ltb-true 0 free e)
-      | false ↦ λ e. elim (nat_lt 0 hands) as (λ b. nat_lt 0 hands ≡ b → P x) [
-        | true ↦ λ e'. in_hands (ltb-true 0 hands e')
-        | false ↦ λ e'. in_pages (omega (arith, ltb-false 0 free e, ltb-false 0 hands e'))
-      ] refl
-    ] refl
+anywhere : (P : ℕ → Type 0) (x free retired hands pages : ℕ) → (0 < free → P x) → (0 < retired → P x)
+    → (0 < hands → P x) → (0 < pages → P x) → 0 < free + retired + hands + pages → P x
+anywhere P x zero zero zero pages in_free in_retired in_hands in_pages some = in_pages (omega (arith, some))
+anywhere P x zero zero (suc hands) pages in_free in_retired in_hands in_pages some = in_hands (omega arith)
+anywhere P x zero (suc retired) hands pages in_free in_retired in_hands in_pages some = in_retired (omega arith)
+anywhere P x (suc free) retired hands pages in_free in_retired in_hands in_pages some = in_free (omega arith)
 
 one_of_counted : (p : Picture) (P : ℕ → Type 0) (x : ℕ) → (0 < times_in p.free.items x → P x)
-    → (0 < times_in p.hands.items x → P x) → (0 < sum_by (pages_of x) p.files.items → P x) → 0 < place_count p x → P x
+    → (0 < times_in p.retired.items x → P x) → (0 < times_in p.hands.items x → P x)
+    → (0 < sum_by (pages_of x) p.files.items → P x) → 0 < place_count p x → P x
 unfolding place_count
-one_of_counted p P x in_free in_hands in_pages some =
-    anywhere P x (times_in p.free.items x) (times_in p.hands.items x) (sum_by (pages_of x) p.files.items)
-    in_free in_hands in_pages some
+one_of_counted p P x in_free in_retired in_hands in_pages some =
+    anywhere P x (times_in p.free.items x) (times_in p.retired.items x) (times_in p.hands.items x)
+    (sum_by (pages_of x) p.files.items) in_free in_retired in_hands in_pages some
 
 -- no frame is at two places where none is of those that are anywhere
-pub IsOnePlace-of_all : (p : Picture) → All (λ x. place_count p x ≤ 1) p.free.items → All (λ x. place_count p x ≤ 1) p.hands.items
+pub IsOnePlace-of_all : (p : Picture) → All (λ x. place_count p x ≤ 1) p.free.items
+    → All (λ x. place_count p x ≤ 1) p.retired.items → All (λ x. place_count p x ≤ 1) p.hands.items
     → All (λ file. All (λ page. place_count p page.1 ≤ 1) file.pages.items) p.files.items → IsOnePlace p
-IsOnePlace-of_all p free hands files x =
+IsOnePlace-of_all p free retired hands files x =
     let P : ℕ → Type 0 = λ y. place_count p y ≤ 1 in
     elim (nat_lt 0 (place_count p x)) as (λ b. nat_lt 0 (place_count p x) ≡ b → place_count p x ≤ 1) [
       | true ↦ λ e. one_of_counted p P x (λ some. counted (λ (y : ℕ). y) P x p.free.items free some)
+          (λ some. counted (λ (y : ℕ). y) P x p.retired.items retired some)
           (λ some. counted (λ (y : ℕ). y) P x p.hands.items hands some) (λ some. counted_in P x p.files.items files some)
           (ltb-true 0 (place_count p x) e)
       | false ↦ λ e. omega (arith, ltb-false 0 (place_count p x) e)

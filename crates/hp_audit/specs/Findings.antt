@@ -38,9 +38,11 @@ times_in frames x = count_by (λ frame. frame == x) frames
 abbrev pub pages_in : (pages : List (ℕ × ℕ)) → ℕ → ℕ
 pages_in pages x = count_by (λ page. page.1 == x) pages
 
--- how many places have the frame: free ones, hands and pages
+-- how many places have the frame: free ones, retired ones, hands and pages
 unfoldable pub place_count : Picture → ℕ → ℕ
-place_count p x = times_in p.free.items x + times_in p.hands.items x + sum_by (λ file. pages_in file.pages.items x) p.files.items
+place_count p x =
+    times_in p.free.items x + times_in p.retired.items x + times_in p.hands.items x
+    + sum_by (λ file. pages_in file.pages.items x) p.files.items
 
 -- no frame is at two places
 abbrev pub IsOnePlace : Picture → Type 0

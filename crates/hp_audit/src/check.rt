@@ -60,6 +60,7 @@ fn places(picture: &Picture, frame: Frame) -> u128
     ensures { result ≡ place_count picture.now frame }
 {
     let mut places = file::times_in(&picture.free, frame) as u128;
+    places += file::times_in(&picture.retired, frame) as u128;
     places += file::times_in(&picture.hands, frame) as u128;
     for file in &picture.files {
         places += file::pages_in(&file.pages, frame) as u128;
@@ -98,6 +99,7 @@ fn is_one_place(picture: &Picture) -> bool
     ensures { IsTrue result ↔ IsOnePlace picture.now }
 {
     are_alone(picture, &picture.free)
+        && are_alone(picture, &picture.retired)
         && are_alone(picture, &picture.hands)
         && are_files_alone(picture)
 }

@@ -10,7 +10,7 @@ pub enum Finding {
     /// A translation isn't borne out by its file.
     #[error("a translation names a frame that isn't the page of its file at that index")]
     Agree,
-    /// A frame is in use twice, or free and in use.
+    /// A frame is more than once among the free ones, the retired ones, those in hands and all pages.
     #[error("a frame is at two places")]
     Place,
     /// A translation lies past the end of a file.

@@ -2,9 +2,10 @@
 //!
 //! It stands on hp_base. A picture is any lists of frames, files and translations, in any order, and
 //! the audit tells the first thing that is wrong with it: its shape, a translation that the file
-//! doesn't bear out, a frame at two places, a translation past a file's end, the reserve count, or the
-//! used count. It passes exactly the pictures with which nothing is wrong, and takes no memory. It
-//! knows no core, no region map and no page cache: only numbers in lists.
+//! doesn't bear out, a frame at two places (free, retired, in a hand or in a page), a translation past
+//! a file's end, the reserve count, or the used count. It passes exactly the pictures with which
+//! nothing is wrong, and takes no memory. It knows no core, no region map and no page cache: only
+//! numbers in lists.
 #![tactic(auto)]
 
 mod check;

@@ -6,6 +6,8 @@ use hp_base::{File, Frame, Index, Task};
 pub struct Picture {
     /// The free frames.
     pub free: Vec<Frame>,
+    /// The retired frames.
+    pub retired: Vec<Frame>,
     /// The reserve count (Linux: `resv_huge_pages`).
     pub resv: u32,
     /// What the calls in flight owe to the reserve count: it is this much above the reserved indices

@@ -14,10 +14,11 @@ fn file_of_one(alloc: Global) -> Result<FilePicture, AllocError> {
     })
 }
 
-// That file, whose page task 1 translates. Frame 0 is free.
+// That file, whose page task 1 translates. Frame 0 is free, and no frame is retired.
 fn sound(alloc: Global) -> Result<Picture, AllocError> {
     Ok(Picture {
         free: vec![in alloc; Frame::new(0)]?,
+        retired: Vec::new(alloc),
         resv: 0,
         owed: 0,
         used: 1,
@@ -45,6 +46,9 @@ fn a_sound_picture(rt: HostRuntime) -> Result<(), Fail> {
     assert!(rt; picture != other);
     let mut other = sound(rt.alloc())?;
     other.quota = Some(0);
+    assert!(rt; picture != other);
+    let mut other = sound(rt.alloc())?;
+    other.retired.push(Frame::new(2))?;
     assert!(rt; picture != other);
     Ok(())
 }
@@ -109,6 +113,35 @@ fn a_frame_at_two_places(rt: HostRuntime) -> Result<(), Fail> {
 }
 
 #[test]
+fn a_retired_frame_at_no_other_place(rt: HostRuntime) -> Result<(), Fail> {
+    let mut picture = sound(rt.alloc())?;
+    picture.retired.push(Frame::new(2))?;
+    assert_eq!(rt; audit(&picture), Ok(()));
+    Ok(())
+}
+
+#[test]
+fn a_retired_frame_at_two_places(rt: HostRuntime) -> Result<(), Fail> {
+    // Frame 0 is free, frame 1 is a page, and frame 2 is in a hand.
+    for frame in 0..3 {
+        let mut picture = sound(rt.alloc())?;
+        picture.hands.push(Frame::new(2))?;
+        picture.retired.push(Frame::new(frame))?;
+        assert_eq!(rt; audit(&picture), Err(Finding::Place));
+    }
+    Ok(())
+}
+
+#[test]
+fn a_retired_frame_listed_twice(rt: HostRuntime) -> Result<(), Fail> {
+    let mut picture = sound(rt.alloc())?;
+    picture.retired.push(Frame::new(2))?;
+    picture.retired.push(Frame::new(2))?;
+    assert_eq!(rt; audit(&picture), Err(Finding::Place));
+    Ok(())
+}
+
+#[test]
 fn a_translation_past_the_size(rt: HostRuntime) -> Result<(), Fail> {
     let alloc = rt.alloc();
     let mut picture = sound(alloc)?;
@@ -142,6 +175,9 @@ fn reserve_counts(rt: HostRuntime) -> Result<(), Fail> {
     // One frame is free, so that two can't be reserved.
     picture.resv = 2;
     picture.owed = 0;
+    assert_eq!(rt; audit(&picture), Err(Finding::Count));
+    // A retired frame isn't free.
+    picture.retired.push(Frame::new(2))?;
     assert_eq!(rt; audit(&picture), Err(Finding::Count));
     Ok(())
 }

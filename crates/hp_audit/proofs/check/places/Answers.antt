@@ -9,9 +9,13 @@ loop-file-init c =
     let none = count_in-none c.args.picture.now c.args.frame c.args.picture.now.files.items in
     let free : c.times_in-places.result ≡ times_in c.args.picture.now.free.items c.args.frame =
     rw c.deref.ensures.value at c.times_in-places.ensures in
-    let hands : c.times_in.result ≡ times_in c.args.picture.now.hands.items c.args.frame =
+    let retired : c.times_in.result ≡ times_in c.args.picture.now.retired.items c.args.frame =
     rw c.deref-2.ensures.value at c.times_in.ensures in
-    (omega (arith, none, free, hands), omega (arith, c.times_in.type_inv, c.times_in-places.type_inv))
+    let hands : c.times_in-2.result ≡ times_in c.args.picture.now.hands.items c.args.frame =
+    rw c.deref-3.ensures.value at c.times_in-2.ensures in (
+      omega (arith, none, free, retired, hands),
+      omega (arith, c.times_in-places.type_inv, c.times_in.type_inv, c.times_in-2.type_inv),
+    )
 
 pub loop-file-preserved : goal.loop-file-preserved
 loop-file-preserved c =
