@@ -23,12 +23,12 @@ use Rattle.hp_base.proofs.Totals.{total_somewhere, at_most_one, count_below_some
 use Rattle.hp_frames.specs.declared.frame.FrameState.{FrameState}
 use Rattle.hp_frames.specs.declared.frame.FrameState.TheVariants as frame
 use Rattle.hp_cache.proofs.Order.{find_at, keys_differ, found_entry, found_somewhere}
-use Rattle.hp_frames.specs.Bank.{is_free}
-use Rattle.hp_frames.proofs.Frames.{free_is}
+use Rattle.hp_frames.specs.Bank.{is_free, is_retired}
+use Rattle.hp_frames.proofs.Frames.{free_is, retired_is}
 use Rattle.hp_machine.specs.State.{State}
 use Rattle.hp_machine.specs.Views.{hand}
 use Rattle.hp_machine.specs.Headline as head
-use Rattle.hp_machine.specs.Headline.{Place, Free, Hand, Page, IsAt}
+use Rattle.hp_machine.specs.Headline.{Place, Free, Hand, Page, Retired, IsAt}
 use Rattle.hp_laws.proofs.Meets.{page_inside}
 use Rattle.hp_laws.proofs.Moves.{Placing, same_place, other_hand, other_page}
 use Rattle.hp_laws.proofs.Runs.{always}
@@ -283,6 +283,14 @@ free_at s p x is some = free_is ((as_state s).frame x) (is_one (is_free ((as_sta
 free_once : (s : CoreState) (p : Picture) (x : ℕ) → IsPicture s p → times_in p.free.items x ≤ 1
 free_once s p x is = omega (arith, is.free x, bit_one (is_free ((as_state s).frame x)))
 
+-- so with the retired ones
+retired_at : (s : CoreState) (p : Picture) (x : ℕ) → IsPicture s p → 0 < times_in p.retired.items x → IsPlaced s x Retired
+retired_at s p x is some =
+    retired_is ((as_state s).frame x) (is_one (is_retired ((as_state s).frame x)) (omega (arith, some, is.retired x)))
+
+retired_once : (s : CoreState) (p : Picture) (x : ℕ) → IsPicture s p → times_in p.retired.items x ≤ 1
+retired_once s p x is = omega (arith, is.retired x, bit_one (is_retired ((as_state s).frame x)))
+
 -- one that is told in a hand is in some call's
 hand_at : (s : CoreState) (p : Picture) (x : ℕ) → IsPicture s p → 0 < times_in p.hands.items x → (t : ℕ) × IsPlaced s x (Hand t)
 hand_at s p x is some =
@@ -358,35 +366,57 @@ page_once s p x h is =
     let same : i ≡ j = (one_page s x i here.0 j there.0 h here.1 there.1).0 in
     absurd (omega (arith, lt, same)))
 
--- of three that are one at most, of which no two count
-few_places : (a b c : ℕ) → a ≤ 1 → b ≤ 1 → c ≤ 1 → (0 < a → 0 < b → ⊥) → (0 < a → 0 < c → ⊥)
-    → (0 < b → 0 < c → ⊥) → a + b + c ≤ 1
-few_places zero zero c la lb lc ab ac bc = omega (arith, lc)
-few_places zero (suc b) zero la lb lc ab ac bc = omega (arith, lb)
-few_places zero (suc b) (suc c) la lb lc ab ac bc = absurd (bc (omega arith) (omega arith))
-few_places (suc a) zero zero la lb lc ab ac bc = omega (arith, la)
-few_places (suc a) zero (suc c) la lb lc ab ac bc = absurd (ac (omega arith) (omega arith))
-few_places (suc a) (suc b) c la lb lc ab ac bc = absurd (ab (omega arith) (omega arith))
+-- of two that are one at most, of which not both count
+few_two : (b c : ℕ) → b ≤ 1 → c ≤ 1 → (0 < b → 0 < c → ⊥) → b + c ≤ 1
+few_two zero c lb lc bc = omega (arith, lc)
+few_two (suc b) zero lb lc bc = omega (arith, lb)
+few_two (suc b) (suc c) lb lc bc = absurd (bc (omega arith) (omega arith))
+
+-- of four that are one at most, of which no two count
+few_places : (a r b c : ℕ) → a ≤ 1 → r ≤ 1 → b ≤ 1 → c ≤ 1 → (0 < a → 0 < r → ⊥) → (0 < a → 0 < b → ⊥) → (0 < a → 0 < c → ⊥)
+    → (0 < r → 0 < b → ⊥) → (0 < r → 0 < c → ⊥) → (0 < b → 0 < c → ⊥) → a + r + b + c ≤ 1
+few_places zero zero b c la lr lb lc ar ab ac rb rc bc = few_two b c lb lc bc
+few_places zero (suc r) zero zero la lr lb lc ar ab ac rb rc bc = omega (arith, lr)
+few_places zero (suc r) (suc b) c la lr lb lc ar ab ac rb rc bc = absurd (rb (omega arith) (omega arith))
+few_places zero (suc r) zero (suc c) la lr lb lc ar ab ac rb rc bc = absurd (rc (omega arith) (omega arith))
+few_places (suc a) (suc r) b c la lr lb lc ar ab ac rb rc bc = absurd (ar (omega arith) (omega arith))
+few_places (suc a) zero (suc b) c la lr lb lc ar ab ac rb rc bc = absurd (ab (omega arith) (omega arith))
+few_places (suc a) zero zero (suc c) la lr lb lc ar ab ac rb rc bc = absurd (ac (omega arith) (omega arith))
+few_places (suc a) zero zero zero la lr lb lc ar ab ac rb rc bc = omega (arith, la)
 
 -- so each frame is told in one place at most
 one_place : (s : CoreState) (p : Picture) → IsSound s → IsPicture s p → IsOnePlace p
 unfolding place_count
 one_place s p h is =
-    λ x. few_places (times_in p.free.items x) (times_in p.hands.items x)
-    (sum_by (λ file. pages_in file.pages.items x) p.files.items) (free_once s p x is) (hand_once s p x h is) (page_once s p x h is)
-    (λ a b. (let there = hand_at s p x is b in not_hand (alone s x Free (Hand there.0) h (free_at s p x is a) there.1)))
-    (λ a c. (let there = page_at s p x is c in not_page (alone s x Free (Page there.0.0 there.0.1) h (free_at s p x is a) there.1)))
-    (λ b c. (let here = hand_at s p x is b in let there = page_at s p x is c in
-    apart (alone s x (Hand here.0) (Page there.0.0 there.0.1) h here.1 there.1)))
+    λ x. few_places (times_in p.free.items x) (times_in p.retired.items x) (times_in p.hands.items x)
+    (sum_by (λ file. pages_in file.pages.items x) p.files.items)
+    (free_once s p x is) (retired_once s p x is) (hand_once s p x h is) (page_once s p x h is)
+    (λ a r. free_retired (alone s x Free Retired h (free_at s p x is a) (retired_at s p x is r)))
+    (λ a b. let there = hand_at s p x is b in free_hand (alone s x Free (Hand there.0) h (free_at s p x is a) there.1))
+    (λ a c. let there = page_at s p x is c in free_page (alone s x Free (Page there.0.0 there.0.1) h (free_at s p x is a) there.1))
+    (λ r b. let there = hand_at s p x is b in retired_hand (alone s x Retired (Hand there.0) h (retired_at s p x is r) there.1))
+    (λ r c. let there = page_at s p x is c in
+    retired_page (alone s x Retired (Page there.0.0 there.0.1) h (retired_at s p x is r) there.1))
+    (λ b c. let here = hand_at s p x is b in let there = page_at s p x is c in
+    hand_page (alone s x (Hand here.0) (Page there.0.0 there.0.1) h here.1 there.1))
   where
-    not_hand : {t : ℕ} → Free ≡ Hand t → ⊥
-    not_hand e = cc
+    free_retired : Free ≡ Retired → ⊥
+    free_retired e = cc
 
-    not_page : {f i : ℕ} → Free ≡ Page f i → ⊥
-    not_page e = cc
+    free_hand : {t : ℕ} → Free ≡ Hand t → ⊥
+    free_hand e = cc
 
-    apart : {t f i : ℕ} → Hand t ≡ Page f i → ⊥
-    apart e = cc
+    free_page : {f i : ℕ} → Free ≡ Page f i → ⊥
+    free_page e = cc
+
+    retired_hand : {t : ℕ} → Retired ≡ Hand t → ⊥
+    retired_hand e = cc
+
+    retired_page : {f i : ℕ} → Retired ≡ Page f i → ⊥
+    retired_page e = cc
+
+    hand_page : {t f i : ℕ} → Hand t ≡ Page f i → ⊥
+    hand_page e = cc
 
 -- an audit finds nothing wrong with a picture of a sound core
 pub right_of : (s : CoreState) (p : Picture) → IsSound s → IsPicture s p → IsRight p

@@ -4,7 +4,8 @@ use Rattle.std.proofs.Common.{subst, arith, add-one, inl, inr}
 use Rattle.std.specs.Prelude.{Bool, true, false, cond, Option, Some, None, ◌==◌, ◌&&◌, ◌↔◌, nat_lt, IsTrue, count_by, slice_get, map}
 use Rattle.std.proofs.lemmas.Bool.{cases_lt, ne_eqb}
 use Rattle.std.proofs.lemmas.Bool.Decides.{nat_tests}
-use Rattle.std.proofs.lemmas.List.{take_more, map-append, get_or_default}
+use Rattle.std.proofs.lemmas.Grind.{common_steps}
+use Rattle.std.proofs.lemmas.List.{take_more, map-append, append-nil, get_or_default}
 use Rattle.std.proofs.lemmas.Option.{get_or_from_slice_get, slice_get_within, unwrap_or-slice_get}
 use Rattle.std.specs.Option.{option_map, unwrap_or}
 use Rattle.std.proofs.lemmas.List.Sums.{sum_by-append}
@@ -12,9 +13,9 @@ use Rattle.std.proofs.Math.ListN.{get_or-eq_default}
 use Rattle.hp_base.specs.Indices.{count_below}
 use Rattle.hp_base.specs.Numbers.{bit}
 use Rattle.hp_base.proofs.Puts.{same_or_other}
-use Rattle.hp_frames.specs.Bank.{frame_at, is_free}
+use Rattle.hp_frames.specs.Bank.{frame_at}
 use Rattle.hp_frames.specs.declared.frame.FrameState.{FrameState}
-use Rattle.hp_frames.specs.declared.frame.FrameState.TheVariants.{Free, Hand, Placed, Retired}
+use Rattle.hp_frames.specs.declared.frame.FrameState.TheVariants.{Hand}
 use Rattle.hp_table.specs.Table.{Table}
 use Rattle.hp_region.specs.declared.region.Region.{Region}
 use Rattle.hp_fault.proofs.Laws.{frame_at_is}
@@ -26,26 +27,31 @@ frame_at_none : (xs : List FrameState) (x : ℕ) → slice_get xs x ≡ None →
 unfolding frame_at
 frame_at_none xs x e = sym (unwrap_or-slice_get xs x Hand) ∙ ap (λ (o : Option FrameState). unwrap_or o Hand) e
 
--- what a bank answers about a frame
-pub free_test : (xs : List FrameState) (x : ℕ) (b : Bool) → (IsTrue b ↔ (slice_get xs x ≡ Some Free)) → is_free (frame_at xs x) ≡ b
-free_test xs x b h = by_state (slice_get xs x) refl b h
+-- what a bank answers about a frame tells whether it is in that state
+pub state_test : (holds : FrameState → Bool) (a : FrameState) → ((s : FrameState) → holds s ≡ true → s ≡ a) → holds a ≡ true
+    → holds Hand ≡ false → (xs : List FrameState) (x : ℕ) (b : Bool) → (IsTrue b ↔ (slice_get xs x ≡ Some a))
+    → holds (frame_at xs x) ≡ b
+state_test holds a is_a holds_a no_hand xs x b h = by_state (slice_get xs x) refl b h
   where
-    not_free : (c : Bool) → (IsTrue c → ⊥) → false ≡ c
-    not_free true n = absurd (n refl)
-    not_free false n = refl
+    none : (c : Bool) → (IsTrue c → ⊥) → c ≡ false
+    none true n = absurd (n refl)
+    none false n = refl
 
-    is_kept : (s : FrameState) (c : Bool) → slice_get xs x ≡ Some s → (IsTrue c ↔ (slice_get xs x ≡ Some Free)) → is_free s ≡ c
-    is_kept Free c e k = sym (k.1 e)
-    is_kept Hand c e k = not_free c (λ t. (let d : Some Hand ≡ Some Free = sym e ∙ k.0 t in absurd (cc)))
-    is_kept (Placed w) c e k = not_free c (λ t. (let d : Some (Placed w) ≡ Some Free = sym e ∙ k.0 t in absurd (cc)))
-    is_kept Retired c e k = not_free c (λ t. (let d : Some Retired ≡ Some Free = sym e ∙ k.0 t in absurd (cc)))
+    same : {s t : FrameState} → Some s ≡ Some t → s ≡ t
+    same e = cc
 
-    by_state : (o : Option FrameState) → slice_get xs x ≡ o → (c : Bool) → (IsTrue c ↔ (slice_get xs x ≡ Some Free))
-        → is_free (frame_at xs x) ≡ c
-    by_state (Some s) e c k = ap (λ (y : FrameState). is_free y) (frame_at_is xs x s e) ∙ is_kept s c e k
+    by_test : (s : FrameState) (v : Bool) → holds s ≡ v → (c : Bool) → slice_get xs x ≡ Some s → (IsTrue c ↔ (slice_get xs x ≡ Some a))
+        → holds s ≡ c
+    by_test s true e c at k = e ∙ sym (k.1 (at ∙ ap (λ (v : FrameState). Some v) (is_a s e)))
+    by_test s false e c at k = e ∙ sym (none c (λ t. (let d : true ≡ false = sym holds_a
+        ∙ (ap holds (sym (same (sym at ∙ k.0 t))) ∙ e) in cc)))
+
+    by_state : (o : Option FrameState) → slice_get xs x ≡ o → (c : Bool) → (IsTrue c ↔ (slice_get xs x ≡ Some a))
+        → holds (frame_at xs x) ≡ c
+    by_state (Some s) e c k = ap holds (frame_at_is xs x s e) ∙ by_test s (holds s) refl c e k
     by_state None e c k =
-        ap (λ (y : FrameState). is_free y) (frame_at_none xs x e)
-        ∙ not_free c (λ t. (let d : None ≡ Some Free = sym e ∙ k.0 t in absurd (cc)))
+        ap holds (frame_at_none xs x e)
+        ∙ (no_hand ∙ sym (none c (λ t. (let d : None ≡ Some a = sym e ∙ k.0 t in absurd (cc)))))
 
 -- one frame more is looked at
 one_more : (fr : ℕ → Bool) (n x : ℕ) → bit (nat_lt x n && fr x) + cond ((n == x) && fr n) 1 0 ≡ bit (nat_lt x (n + 1) && fr x)
@@ -66,11 +72,11 @@ one_more fr n x = elim (same_or_other x n) [
         same true = refl
         same false = refl
 
--- and is free
-pub free_more : (fr : ℕ → Bool) (n : ℕ) (xs ys : List ℕ) → fr n ≡ true → ys ≡ xs ++ n ∷ []
+-- and is one of those
+found_more : (fr : ℕ → Bool) (n : ℕ) (xs ys : List ℕ) → fr n ≡ true → ys ≡ xs ++ n ∷ []
     → ((x : ℕ) → count_by (λ frame. frame == x) xs ≡ bit (nat_lt x n && fr x)) → (x : ℕ)
     → count_by (λ frame. frame == x) ys ≡ bit (nat_lt x (n + 1) && fr x)
-free_more fr n xs ys free is before x =
+found_more fr n xs ys free is before x =
     let last : count_by {X = ℕ} (λ frame. frame == x) (n ∷ []) ≡ 0 + cond (n == x) 1 0 = refl in
     let both : count_by (λ frame. frame == x) (xs ++ n ∷ []) ≡ count_by (λ frame. frame == x) xs + count_by
     (λ frame. frame == x) (n ∷ []) = sum_by-append (λ (frame : ℕ). cond (frame == x) 1 0) xs (n ∷ []) in
@@ -86,10 +92,10 @@ free_more fr n xs ys free is before x =
     onto false = refl
 
 -- or isn't
-pub free_same : (fr : ℕ → Bool) (n : ℕ) (xs ys : List ℕ) → fr n ≡ false → ys ≡ xs
+found_same : (fr : ℕ → Bool) (n : ℕ) (xs ys : List ℕ) → fr n ≡ false → ys ≡ xs
     → ((x : ℕ) → count_by (λ frame. frame == x) xs ≡ bit (nat_lt x n && fr x)) → (x : ℕ)
     → count_by (λ frame. frame == x) ys ≡ bit (nat_lt x (n + 1) && fr x)
-free_same fr n xs ys taken is before x =
+found_same fr n xs ys taken is before x =
     let kept : count_by (λ frame. frame == x) ys ≡ count_by (λ frame. frame == x) xs =
     ap (λ (zs : List ℕ). count_by (λ frame. frame == x) zs) is in
     let same : cond {A = ℕ} ((n == x) && fr n) 1 0 ≡ 0 = rw taken (onto (n == x)) in
@@ -101,30 +107,37 @@ free_same fr n xs ys taken is before x =
     onto true = refl
     onto false = refl
 
--- a frame beyond the list isn't free
-pub past_none : (xs : List FrameState) (x : ℕ) → length xs ≤ x → is_free (frame_at xs x) ≡ false
+-- so by what was added
+pub found_next : (fr : ℕ → Bool) (n : ℕ) (xs ys : List ℕ) (b : Bool) → fr n ≡ b → ys ≡ xs ++ cond b (n ∷ []) []
+    → ((x : ℕ) → count_by (λ frame. frame == x) xs ≡ bit (nat_lt x n && fr x)) → (x : ℕ)
+    → count_by (λ frame. frame == x) ys ≡ bit (nat_lt x (n + 1) && fr x)
+found_next fr n xs ys true e is before = found_more fr n xs ys e is before
+found_next fr n xs ys false e is before = found_same fr n xs ys e (is ∙ append-nil xs) before
+
+-- and so many were
+pub long_next : (xs ys : List ℕ) (n : ℕ) (b : Bool) → ys ≡ xs ++ cond b (n ∷ []) [] → length ys ≡ length xs + cond b 1 0
+long_next xs ys n true is = grind (arith, common_steps, is)
+long_next xs ys n false is = grind (arith, common_steps, is)
+
+-- a frame beyond the list isn't one of those
+past_none : (holds : FrameState → Bool) → holds Hand ≡ false → (xs : List FrameState) (x : ℕ) → length xs ≤ x → holds (frame_at xs x) ≡ false
 unfolding frame_at
-past_none xs x l = ap (λ (y : FrameState). is_free y) (get_or-eq_default xs Hand l)
+past_none holds no_hand xs x l = ap holds (get_or-eq_default xs Hand l) ∙ no_hand
 
 -- all are looked at
-pub free_all : (frames : List FrameState) (n : ℕ) (xs : List ℕ) → length frames ≤ n
-    → ((x : ℕ) → count_by (λ frame. frame == x) xs ≡ bit (nat_lt x n && is_free (frame_at frames x))) → (x : ℕ)
-    → count_by (λ frame. frame == x) xs ≡ bit (is_free (frame_at frames x))
-free_all frames n xs all before x = before x ∙ elim (cases_lt x n) [
+pub found_all : (holds : FrameState → Bool) → holds Hand ≡ false → (frames : List FrameState) (n : ℕ) (xs : List ℕ) → length frames ≤ n
+    → ((x : ℕ) → count_by (λ frame. frame == x) xs ≡ bit (nat_lt x n && holds (frame_at frames x))) → (x : ℕ)
+    → count_by (λ frame. frame == x) xs ≡ bit (holds (frame_at frames x))
+found_all holds no_hand frames n xs all before x = before x ∙ elim (cases_lt x n) [
   | inl l ↦ (let q : nat_lt x n ≡ true = grind (arith, nat_tests, l) in rw q refl)
-  | inr l ↦ (let none = past_none frames x (omega arith) in rw none (off (nat_lt x n)))
+  | inr l ↦ (let none = past_none holds no_hand frames x (omega arith) in rw none (off (nat_lt x n)))
 ]
   where
     off : (b : Bool) → bit (b && false) ≡ 0
     off true = refl
     off false = refl
 
--- no frame is looked at yet
-pub count_zero : (fr : ℕ → Bool) → 0 ≡ count_below fr 0
-unfolding count_below
-count_zero fr = refl
-
--- a frame that is looked at counts where it is free
+-- a frame that is looked at counts where it is one of those
 pub count_more : (fr : ℕ → Bool) (n a b : ℕ) (t : Bool) → fr n ≡ t → a ≡ count_below fr n
     → b ≡ a + cond t 1 0 → b ≡ count_below fr (n + 1)
 unfolding count_below

@@ -61,6 +61,7 @@ few_spaces s h =
 pub record AreCopies (s : CoreState) (p : Picture) : Type 0 where
   pub free : (x : ℕ) → count_by (λ frame. frame == x) p.free.items ≡ bit (bank.is_free (bank.frame_at s.parts.bank.frames x))
   pub frees : length p.free.items ≡ bank.free_frames s.parts.bank.frames
+  pub retired : (x : ℕ) → count_by (λ frame. frame == x) p.retired.items ≡ bit (bank.is_retired (bank.frame_at s.parts.bank.frames x))
   pub resv : p.resv ≡ resv_of s
   pub owed : p.owed ≡ owed_of s
   pub used : p.used ≡ used_of s
@@ -79,6 +80,7 @@ picture_of s p h c =
     record {
       free = c.free;
       frees = c.frees ∙ sym (free_frames_is s.parts.bank.frames);
+      retired = c.retired;
       resv = c.resv;
       owed = c.owed;
       used = c.used;

@@ -7,7 +7,7 @@ use Rattle.hp_base.specs.Numbers.{bit, total}
 use Rattle.hp_base.specs.Indices.{count_below}
 use Rattle.hp_base.specs.Mappings.{find, is_there}
 use Rattle.hp_base.specs.declared.limits.TheConstants.{LIMIT, VPNS}
-use Rattle.hp_frames.specs.Bank.{is_free}
+use Rattle.hp_frames.specs.Bank.{is_free, is_retired}
 use Rattle.hp_machine.specs.State.{State}
 use Rattle.hp_machine.specs.Views.{hand}
 use Rattle.hp_audit.specs.Findings.{is_reserved}
@@ -42,11 +42,12 @@ abbrev pub translates : State → (task file index frame vpn : ℕ) → Bool
 translates s t f i x v = is_there (find (s.mappings t) v) f i && is_that x (s.entries t v)
 
 -- The picture is of the core: each frame is among the free ones once where it is free, and never where it
--- isn't; it is in as many hands as calls have it in theirs; and an entry stands there as often as virtual
+-- isn't; among the retired ones so too; it is in as many hands as calls have it in theirs; and an entry stands there as often as virtual
 -- pages of its task, all of which lie below VPNS, stand for its index and are translated to its frame.
 pub record IsPicture (s : CoreState) (p : Picture) : Type 0 where
   pub free : (x : ℕ) → count_by (λ frame. frame == x) p.free.items ≡ bit (is_free ((as_state s).frame x))
   pub frees : length p.free.items ≡ free_of s
+  pub retired : (x : ℕ) → count_by (λ frame. frame == x) p.retired.items ≡ bit (is_retired ((as_state s).frame x))
   pub resv : p.resv ≡ resv_of s
   pub owed : p.owed ≡ owed_of s
   pub used : p.used ≡ used_of s

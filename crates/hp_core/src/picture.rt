@@ -1,9 +1,9 @@
 //! A core as plain data.
-ghost use Rattle.std.specs.Prelude.{◌≡◌, ℕ, ◌<◌, ◌≤◌, ◌++◌, ◌==◌, IfOk, OnOk, All, HoldsAt, length, count_by, is_some, slice_index_or, map};
+ghost use Rattle.std.specs.Prelude.{◌≡◌, ℕ, ◌<◌, ◌≤◌, ◌++◌, ◌∷◌, [], ◌==◌, cond, IfOk, OnOk, All, HoldsAt, length, count_by, is_some, slice_index_or, map};
 ghost use Rattle.std.specs.FinMap.{entries};
 ghost use Rattle.hp_base.specs.Numbers.{bit};
 ghost use Rattle.hp_base.specs.declared.limits.TheConstants.{LIMIT};
-ghost use Rattle.hp_frames.specs.Bank.{free_frames, frame_at, is_free};
+ghost use Rattle.hp_frames.specs.Bank.{free_frames, frame_at, is_free, is_retired};
 ghost use Rattle.hp_region.specs.Regions.{IsApartFrom};
 ghost use Rattle.hp_slots.specs.Holders.{holder_of};
 ghost use Rattle.hp_audit.specs.Findings.{IsRight};
@@ -23,21 +23,31 @@ use hp_slots::SlotTable;
 use hp_table::Space;
 use std::alloc::{AllocError, Global};
 
-// The free frames in order of their numbers.
-fn free_frames(alloc: Global, bank: &Bank, frames: u32) -> Result<Vec<Frame>, AllocError>
-    requires { frames ≡ length bank.now.frames }
-    ensures each { IfOk result (λ free. (x : ℕ)
-        → count_by (λ frame. frame == x) free.items ≡ bit (is_free (frame_at bank.now.frames x))) }
-    ensures count { IfOk result (λ free. length free.items ≡ free_frames bank.now.frames) }
+// Adds the frame where it is one of those.
+fn add_if(frames: &mut Vec<Frame>, frame: Frame, is_one: bool) -> Result<(), AllocError>
+    ensures { OnOk result (frames.new.items ≡ frames.old.items ++ cond is_one (frame ∷ []) []) }
 {
-    let mut free = Vec::new(alloc);
-    for number in 0..frames {
-        let frame = Frame::new(number);
-        if bank.is_free(frame) {
-            free.push(frame)?;
-        }
+    if is_one {
+        frames.push(frame)?;
     }
-    Ok(free)
+    Ok(())
+}
+
+// The free frames and the retired ones, each in order of their numbers.
+fn unused_frames(alloc: Global, bank: &Bank) -> Result<(Vec<Frame>, Vec<Frame>), AllocError>
+    ensures free { IfOk result (λ lists. (x : ℕ)
+        → count_by (λ frame. frame == x) lists.0.items ≡ bit (is_free (frame_at bank.now.frames x))) }
+    ensures count { IfOk result (λ lists. length lists.0.items ≡ free_frames bank.now.frames) }
+    ensures retired { IfOk result (λ lists. (x : ℕ)
+        → count_by (λ frame. frame == x) lists.1.items ≡ bit (is_retired (frame_at bank.now.frames x))) }
+{
+    let (mut free, mut retired) = (Vec::new(alloc), Vec::new(alloc));
+    for number in 0..bank.numbers() {
+        let frame = Frame::new(number);
+        add_if(&mut free, frame, bank.is_free(frame))?;
+        add_if(&mut retired, frame, bank.is_retired(frame))?;
+    }
+    Ok((free, retired))
 }
 
 // The regions of a map, as pairs.
@@ -124,8 +134,10 @@ impl Core {
         // The audit passes it.
         ensures audited { IfOk result (λ picture. IsRight picture) }
     {
+        let (free, retired) = unused_frames(alloc, &self.parts.bank)?;
         Ok(Picture {
-            free: free_frames(alloc, &self.parts.bank, self.config.frames)?,
+            free,
+            retired,
             resv: self.resv(),
             owed: self.owed(),
             used: self.used(),

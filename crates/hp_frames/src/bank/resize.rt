@@ -9,6 +9,13 @@ use hp_base::Frame;
 use std::alloc::{AllocError, Global};
 
 impl Bank {
+    /// How many frames there are with the retired ones: they are numbered from 0 on.
+    pub fn numbers(&self) -> u32
+        ensures { result ≡ length self.now.frames }
+    {
+        self.frames.len() as u32
+    }
+
     /// How many frames aren't retired (Linux: `nr_huge_pages`).
     pub fn frames(&self) -> u32
         ensures { result ≡ active_frames self.now.frames }
