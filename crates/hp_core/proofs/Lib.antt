@@ -8,6 +8,7 @@ pub mod Meets
 pub mod Opens
 pub mod Pictures
 pub mod Reading
+pub mod Resizes
 pub mod Rows
 pub mod RunsOn
 pub mod Seats

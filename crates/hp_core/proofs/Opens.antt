@@ -200,10 +200,9 @@ module _ (z : Sizes) (p : PartsState) (seats : List Seat) (h : AreFresh z p seat
       → IsSound (record { sizes = z; parts = p; seats = seats; room = room })
   unfolding IsSound
   are_sound room within = (
-    ([], is_opening ∙ λ i. rows.opening (sym geometry_is i) (sym frames_long i)),
+    ([], is_opening ∙ λ i. rows.opening (sym geometry_is i) z.frames),
     record {
       locks = ap (λ (ss : List (Option ℕ)). length ss) h.all_locks ∙ (length-replicate z.files None ∙ sym h.files_long);
-      frames = frames_long;
       files = h.files_long;
       slots = ap (λ (ss : List (Option ℕ)). length ss) h.all_slots ∙ length-replicate z.slots None;
       spaces = h.spaces_long;

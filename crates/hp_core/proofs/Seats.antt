@@ -108,7 +108,7 @@ by_option None m none some = none refl m
 by_option (Some x) m none some = some x refl m
 
 -- and where it is known which way
-at_true : (P Q : Type 0) (b : Bool) → b ≡ true → P → MatchBool b P Q
+pub at_true : (P Q : Type 0) (b : Bool) → b ≡ true → P → MatchBool b P Q
 at_true P Q b e p = subst (λ (c : Bool). MatchBool c P Q) (sym e) p
 
 -- where the test fails

@@ -141,6 +141,14 @@ fn difference(more: u64, less: u64) -> i64
     more as i64 - less as i64
 }
 
+// The sum as what it is owed, which has no other way.
+fn signed(uses: u64) -> i64
+    requires { uses ≤ 2 ^ 33 * 64 }
+    ensures { result ≡ pos uses }
+{
+    uses as i64
+}
+
 impl Core {
     /// What the calls in flight owe to the reserve count: it is this much above the reserved indices
     /// without a page.
@@ -155,6 +163,6 @@ impl Core {
     pub fn used_owed(&self) -> i64
         ensures { result ≡ used_owed_of self.now }
     {
-        all_uses(&self.seats) as i64
+        signed(all_uses(&self.seats))
     }
 }

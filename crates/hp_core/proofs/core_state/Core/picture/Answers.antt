@@ -17,10 +17,6 @@ use Rattle.hp_core.proofs.Audited.{right_of}
 use Rattle.hp_core.proofs.Pictures.{AreCopies, picture_of, picture_seen, few_files, few_spaces}
 use Rattle.hp_core.proofs.core_state.Core.picture.Goals as goal
 
-pub free_frames-requires : goal.free_frames-requires
-unfolding IsSound
-free_frames-requires c = sym c.self.invariant.1.frames
-
 pub file_pictures-requires : goal.file_pictures-requires
 file_pictures-requires c =
     let few = few_files _ c.self.invariant in
@@ -44,8 +40,9 @@ returns c =
     let uses : c.used_owed.result ≡ used_owed_of s = c.used_owed.ensures ∙ ap (λ (z : CoreState). used_owed_of z) (sym c.self.view_is) in
     let used_owed_is : to_z w64 (of_z w64 c.used_owed.result) ≡ used_owed_of s = grind (arith, to_z-of_z, uses) in
     let copies : AreCopies s _ = record {
-      free = c.in_ok-free_frames.ensures.each;
-      frees = c.in_ok-free_frames.ensures.count;
+      free = c.in_ok-free.ensures.free;
+      frees = c.in_ok-free.ensures.count;
+      retired = c.in_ok-free.ensures.retired;
       resv = c.resv.ensures ∙ ap (λ (z : CoreState). resv_of z) (sym c.self.view_is);
       owed = owed_is;
       used = c.used.ensures ∙ ap (λ (z : CoreState). used_of z) (sym c.self.view_is);
