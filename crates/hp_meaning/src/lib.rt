@@ -22,7 +22,7 @@ ghost use Rattle.hp_meaning.specs.Renaming.{Alike, events_of};
 pub fn frames_do_not_show()
     ensures { (g : Geometry) (frames : ℕ) (es fs : List (Event × Outcome)) (s n : State)
         → Run (opening g frames) es s → Run (opening g frames) fs n → events_of fs ≡ events_of es
-        → (fs ≡ es) × Alike frames s n }
+        → (fs ≡ es) × Alike s n }
 {}
 
 /// Where no call is in flight, a call of an alive task, run alone by granted steps to its end, has the
