@@ -13,6 +13,15 @@ unfolding count_below
 count_below-sum p q r zero each = refl
 count_below-sum p q r (suc n) each = omega (arith, count_below-sum p q r n (λ k below. each k (omega arith)), each n (omega arith))
 
+-- two pairs of sets of which each number counts alike, count alike
+pub count_below-pairs : (p q r v : ℕ → Bool) (n : ℕ)
+    → ((k : ℕ) → k < n → cond (p k) 1 0 + cond (q k) 1 0 ≡ cond (r k) 1 0 + cond (v k) 1 0)
+    → count_below p n + count_below q n ≡ count_below r n + count_below v n
+unfolding count_below
+count_below-pairs p q r v zero each = refl
+count_below-pairs p q r v (suc n) each =
+    omega (arith, count_below-pairs p q r v n (λ k below. each k (omega arith)), each n (omega arith))
+
 pub count_below-ext : (p q : ℕ → Bool) (n : ℕ) → ((k : ℕ) → k < n → p k ≡ q k) → count_below p n ≡ count_below q n
 unfolding count_below
 count_below-ext p q zero each = refl
@@ -72,6 +81,30 @@ count_below_past p m (suc n) le none =
       | false ↦ λ e.
           let rest = count_below_past p m n (omega (arith, leb-false (suc n) m e)) none in
           rw (none n (omega (arith, leb-false (suc n) m e))) (omega (arith, rest))
+    ] refl
+
+-- further on there are no fewer
+pub count_below_wider : (p : ℕ → Bool) (m n : ℕ) → m ≤ n → count_below p m ≤ count_below p n
+unfolding count_below
+count_below_wider p m zero le = let e : m ≡ 0 = omega arith in rw e (omega arith)
+count_below_wider p m (suc n) le =
+    elim (nat_le (suc n) m) as (λ b. nat_le (suc n) m ≡ b → count_below p m ≤ count_below p n + cond (p n) 1 0) [
+      | true ↦ λ e. let same : m ≡ suc n = omega (arith, leb-true (suc n) m e) in rw same (omega arith)
+      | false ↦ λ e. let rest = count_below_wider p m n (omega (arith, leb-false (suc n) m e)) in omega (arith, rest)
+    ] refl
+
+-- where all are members from m on, so many more are there
+pub count_below_full : (p : ℕ → Bool) (m n : ℕ) → m ≤ n → ((k : ℕ) → m ≤ k → k < n → p k ≡ true)
+    → count_below p n ≡ count_below p m + (n - m)
+unfolding count_below
+count_below_full p m zero le all = let e : m ≡ 0 = omega arith in rw e refl
+count_below_full p m (suc n) le all =
+    elim (nat_le (suc n) m) as (λ b. nat_le (suc n) m ≡ b → count_below p n + cond (p n) 1 0 ≡ count_below p m + (suc n - m)) [
+      | true ↦ λ e. let same : m ≡ suc n = omega (arith, leb-true (suc n) m e) in rw same (omega arith)
+      | false ↦ λ e.
+          let low : m ≤ n = omega (arith, leb-false (suc n) m e) in
+          let rest = count_below_full p m n low (λ k l below. all k l (omega arith)) in
+          rw (all n low (omega arith)) (omega (arith, rest))
     ] refl
 
 -- what a range adds to the members that are not in c, where c lies within the set

@@ -106,7 +106,7 @@ free_is Hand unlike = absurd (cc)
 free_is (Placed word) unlike = absurd (cc)
 free_is Retired unlike = absurd (cc)
 
-retired_is : (s : FrameState) → is_retired s ≡ true → s ≡ Retired
+pub retired_is : (s : FrameState) → is_retired s ≡ true → s ≡ Retired
 retired_is Free unlike = absurd (cc)
 retired_is Hand unlike = absurd (cc)
 retired_is (Placed word) unlike = absurd (cc)

@@ -10,7 +10,7 @@ use Rattle.hp_base.specs.declared.answer.Answer.TheVariants as answer
 use Rattle.hp_base.specs.declared.event.Op.{Op}
 use Rattle.hp_base.specs.declared.event.Op.TheVariants as op
 use Rattle.hp_base.specs.declared.event.Event.{Event}
-use Rattle.hp_base.specs.declared.event.Event.TheVariants.{Begin, Step, Kill}
+use Rattle.hp_base.specs.declared.event.Event.TheVariants.{Begin, Step, Kill, Resize}
 use Rattle.hp_base.proofs.Puts.{put_same}
 use Rattle.hp_machine.specs.State.{exceeds_quota, quota_is_used_up, Geometry, Pool, State, pool_of, slot_of, frees, is_killed}
 use Rattle.hp_machine.specs.Parts.{StartRow, CommitRow, TakeRow, answer_of}
@@ -410,9 +410,11 @@ begun_or_not t (Begin u p) (outcome.Moved x) = inl refl
 begun_or_not t (Begin u p) (outcome.Blocked x) = inl refl
 begun_or_not t (Begin u p) (outcome.Ended x) = inl refl
 begun_or_not t (Begin u p) outcome.Marked = inl refl
+begun_or_not t (Begin u p) (outcome.Resized x) = inl refl
 begun_or_not t (Begin u p) (outcome.Refused x) = inl refl
 begun_or_not t (Step u grant) o = inl refl
 begun_or_not t (Kill u) o = inl refl
+begun_or_not t (Resize size) o = inl refl
 
 -- a word that task t's call carries after an event, or with which it ends, was carried before or read just then
 told_by_event : (s : State) (t w : ℕ) (event : Event) (o : Outcome) (n : State) → Always s → Row s event o n

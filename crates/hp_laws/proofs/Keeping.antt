@@ -9,7 +9,7 @@ use Rattle.hp_base.specs.declared.answer.Answer.TheVariants as answer
 use Rattle.hp_base.specs.declared.event.Op.{Op}
 use Rattle.hp_base.specs.declared.event.Op.TheVariants as op
 use Rattle.hp_base.specs.declared.event.Event.{Event}
-use Rattle.hp_base.specs.declared.event.Event.TheVariants.{Begin, Step, Kill}
+use Rattle.hp_base.specs.declared.event.Event.TheVariants.{Begin, Step, Kill, Resize}
 use Rattle.hp_base.proofs.Puts.{put_same, put_other, same_or_other}
 use Rattle.hp_base.proofs.Searches.{true_or}
 use Rattle.hp_machine.specs.State.{Geometry, Pool, State, pool_of, with_pool, is_killed}
@@ -31,6 +31,7 @@ use Rattle.hp_laws.proofs.Passing.{locks_file, same_holder}
 use Rattle.hp_laws.proofs.Shared.{stands_at}
 use Rattle.hp_laws.proofs.Runs.{Always}
 use Rattle.hp_laws.proofs.Reading.{begin_cases, step_cases, kill_cases, call_steps, same_state}
+use Rattle.hp_laws.proofs.Resizing.{resize_cases}
 use Rattle.hp_laws.proofs.Promising.{removes, removes_locked, removes_deleted, next_removes, size_set, KeptAt, Kept}
 use Rattle.hp_laws.proofs.LastWords.{moment}
 use Rattle.hp_laws.proofs.Histories.{history_well}
@@ -184,6 +185,13 @@ kept_row s (Kill t) o n ms h kept row = kill_cases s t o n (Kept n (moment s (Ki
   where
     marked_ends : {a : Answer} → outcome.Marked ≡ outcome.Ended a → ⊥
     marked_ends z = cc
+kept_row s (Resize size) o n ms h kept row = resize_cases s size o n (Kept n (moment s (Resize size) o n ∷ ms)) row
+    (λ why e d. same_kept s (Resize size) o n ms why kept e d)
+    (λ told m frame e shifts _ d k j now. subst (λ (m : State). KeptAt m k j) (sym d)
+    (kept k j (still_promised s (Resize size) o n ms k j (λ base z. resized_ends (sym e ∙ z)) now)))
+  where
+    resized_ends : {told : ℕ} {a : Answer} → outcome.Resized told ≡ outcome.Ended a → ⊥
+    resized_ends z = cc
 kept_row s (Step t grant) o n ms h kept row = step_cases s t grant o n (Kept n (moment s (Step t grant) o n ∷ ms)) row
     (λ why e d. same_kept s (Step t grant) o n ms why kept e d)
     (λ c lives e pool next r d k j now. subst (λ (m : State). KeptAt m k j) (sym d)

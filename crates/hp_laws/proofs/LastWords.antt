@@ -6,7 +6,7 @@ use Rattle.hp_base.specs.Mappings.{find}
 use Rattle.hp_base.specs.declared.answer.Answer.{Answer}
 use Rattle.hp_base.specs.declared.answer.Answer.TheVariants as answer
 use Rattle.hp_base.specs.declared.event.Event.{Event}
-use Rattle.hp_base.specs.declared.event.Event.TheVariants.{Begin, Step, Kill}
+use Rattle.hp_base.specs.declared.event.Event.TheVariants.{Begin, Step, Kill, Resize}
 use Rattle.hp_base.proofs.Puts.{put_same, put_other, put2_tells, same_or_other}
 use Rattle.hp_frames.specs.declared.frame.FrameState.{FrameState}
 use Rattle.hp_frames.specs.declared.frame.FrameState.TheVariants as state
@@ -36,6 +36,7 @@ use Rattle.hp_laws.proofs.Moves.{other_page}
 use Rattle.hp_laws.proofs.Shared.{by_test, by_option}
 use Rattle.hp_laws.proofs.Runs.{Always}
 use Rattle.hp_laws.proofs.Reading.{begin_cases, step_cases, kill_cases}
+use Rattle.hp_laws.proofs.Resizing.{reframed, resize_cases, on_page}
 use Rattle.hp_laws.proofs.Paging.{Shrinks, PlacesOne, reads, call_pages}
 
 -- an event with its outcome and the states around it
@@ -373,6 +374,15 @@ row_tells s (Kill u) o n h row = kill_cases s u o n (Tells s (Kill u) o n) row
   where
     kill_step : {t : ℕ} {g : Bool} → Kill u ≡ Step t g → ⊥
     kill_step z = cc
+row_tells s (Resize size) o n h row = resize_cases s size o n (Tells s (Resize size) o n) row
+    (λ why e d. self_tells s (Resize size) o n (ap (λ (m : State). m.pages) d) (ap (λ (m : State). m.frame) d)
+    (quiet_refused s (Resize size) why o n e d))
+    (λ told m frame _ shifts _ d. shrinks_tell s (Resize size) o n (pool_of (reframed s m frame)) (ap (λ (m : State). m.pages) d)
+    (ap (λ (m : State). m.frame) d) (λ f i v wrote. elim wrote [ inl w ↦ resize_step w.3 | inr w ↦ resize_step w.3 ])
+    (λ f i x w a b. (a, sym (on_page s.frames m s.frame frame _ s.pages f i x h.inv.place shifts a) ∙ b)))
+  where
+    resize_step : {t : ℕ} {g : Bool} → Resize size ≡ Step t g → ⊥
+    resize_step z = cc
 row_tells s (Step t grant) o n h row = step_cases s t grant o n (Tells s (Step t grant) o n) row
     (λ why e d. self_tells s (Step t grant) o n (ap (λ (m : State). m.pages) d) (ap (λ (m : State). m.frame) d)
     (quiet_refused s (Step t grant) why o n e d))

@@ -6,7 +6,7 @@ use Rattle.hp_base.specs.Indices.{missing, splits}
 use Rattle.hp_base.specs.Mappings.{find, is_base, first_base, without}
 use Rattle.hp_base.specs.declared.answer.Answer.{Answer}
 use Rattle.hp_base.specs.declared.event.Event.{Event}
-use Rattle.hp_base.specs.declared.event.Event.TheVariants.{Begin, Step, Kill}
+use Rattle.hp_base.specs.declared.event.Event.TheVariants.{Begin, Step, Kill, Resize}
 use Rattle.hp_base.proofs.Searches.{some_member, some_room, last_used}
 use Rattle.hp_frames.specs.declared.frame.FrameState.{FrameState}
 use Rattle.hp_frames.specs.declared.frame.FrameState.TheVariants as state
@@ -45,6 +45,7 @@ use Rattle.hp_machine.specs.declared.call.Call.TheVariants as call
 use Rattle.hp_machine.specs.declared.call.Turn.{Turn}
 use Rattle.hp_machine.specs.declared.call.Turn.TheVariants.{Moved, Blocked, Ended}
 use Rattle.hp_laws.proofs.Deciding.{is_nil}
+use Rattle.hp_laws.proofs.Resizing.{resize_leads}
 use Rattle.hp_laws.proofs.Meets.{HasPage, settles, stands, has_page, entry_placed, resv_covered, page_inside}
 
 -- some turn and some state after it meet the row
@@ -98,7 +99,6 @@ change s grant f from to denied changed = test ((s.spare f == s.pending f) && no
 commit : {P : Type 0} (s : Pool) (f : ℕ) (c : Change) (settle next : P) → Leads (CommitRow s f c settle next)
 commit s f c settle next = test (nat_lt (missing (s.reserved f) c.from c.to) c.missing) (λ _. goes settle _) (λ _. goes next _)
 
--- a frame that counts as free is free
 -- there is a free frame
 some_free : (frame : ℕ → FrameState) (frames : ℕ) → 1 ≤ free_frames frame frames → (x : ℕ) × (frame x ≡ state.Free)
 unfolding free_frames
@@ -328,3 +328,4 @@ no_dead_ends s (Step t grant) reached =
     (λ _. by_call (s.calls t) (λ _. (_, _, (refl, refl)))
     (λ c e. let r = call_leads s t (is_killed (s.life t)) grant c reached e in (r.0, _, (r.1, r.2, r.3, refl))))
 no_dead_ends s (Kill t) reached = by_bool (is_alive (s.life t)) (λ _. (_, _, (refl, refl))) (λ _. (_, _, (refl, refl)))
+no_dead_ends s (Resize size) reached = resize_leads s size

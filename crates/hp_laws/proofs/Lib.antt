@@ -25,6 +25,7 @@ pub mod Promising
 pub mod PunchKeeps
 pub mod Reading
 pub mod Removals
+pub mod Resizing
 pub mod Runs
 pub mod Served
 pub mod Serving

@@ -8,7 +8,7 @@ use Rattle.hp_machine.specs.Standings.{Counts}
 use Rattle.hp_base.specs.declared.answer.Answer.{Answer}
 use Rattle.hp_base.specs.declared.answer.Answer.TheVariants as answer
 use Rattle.hp_base.specs.declared.event.Event.{Event}
-use Rattle.hp_base.specs.declared.event.Event.TheVariants.{Begin, Step, Kill}
+use Rattle.hp_base.specs.declared.event.Event.TheVariants.{Begin, Step, Kill, Resize}
 use Rattle.hp_machine.specs.State.{Geometry, Pool, State, pool_of, with_pool, slot_of, is_killed}
 use Rattle.hp_machine.specs.Parts.{unlocked}
 use Rattle.hp_machine.specs.TruncateRows.{TruncateRow}
@@ -41,6 +41,7 @@ use Rattle.hp_laws.proofs.StepsLeft.{deletes}
 use Rattle.hp_laws.proofs.Runs.{Always, always}
 use Rattle.hp_laws.proofs.Apart.{works, passed_bare}
 use Rattle.hp_laws.proofs.Reading.{begin_cases, step_cases, kill_cases, call_steps}
+use Rattle.hp_laws.proofs.Resizing.{resize_cases}
 
 -- two tests for equal numbers are two equations
 same_pair : (a b f i : ℕ) → ((a == f) && (b == i)) ≡ true → (a ≡ f) × (b ≡ i)
@@ -157,6 +158,9 @@ goes_under s (Begin u p) o n f i h row a b = begin_cases s u p o n (GoesUnderLoc
 goes_under s (Kill u) o n f i h row a b = kill_cases s u o n (GoesUnderLock s (Kill u) f i) row
     (λ why e d. clash (s.reserved f i) a (ap (λ (m : State). m.reserved f i) (sym d) ∙ b))
     (λ alive e d. clash (s.reserved f i) a (ap (λ (m : State). m.reserved f i) (sym d) ∙ b))
+goes_under s (Resize size) o n f i h row a b = resize_cases s size o n (GoesUnderLock s (Resize size) f i) row
+    (λ why e d. clash (s.reserved f i) a (ap (λ (m : State). m.reserved f i) (sym d) ∙ b))
+    (λ told m frame e shifts _ d. clash (s.reserved f i) a (ap (λ (m : State). m.reserved f i) (sym d) ∙ b))
 goes_under s (Step t grant) o n f i h row a b = step_cases s t grant o n (GoesUnderLock s (Step t grant) f i) row
     (λ why e d. clash (s.reserved f i) a (ap (λ (m : State). m.reserved f i) (sym d) ∙ b))
     (λ c lives e pool next r d.

@@ -5,7 +5,7 @@ use Rattle.hp_base.specs.Numbers.{put, put2}
 use Rattle.hp_base.proofs.Puts.{put_same, put_other, same_or_other, put_tells, put2_tells, put2_same}
 use Rattle.hp_frames.specs.declared.frame.FrameState.{FrameState}
 use Rattle.hp_frames.specs.declared.frame.FrameState.TheVariants as state
-use Rattle.hp_machine.specs.Headline.{Place, Free, Hand, Page, IsAt, OnePlace}
+use Rattle.hp_machine.specs.Headline.{Place, Free, Hand, Page, Retired, IsAt, OnePlace}
 
 -- frame x goes from p to q, and no other frame goes anywhere
 pub frame_moves : (n : ℕ) (states states' : ℕ → FrameState) (hands hands' : ℕ → Option ℕ)
@@ -41,6 +41,7 @@ take_only : (states : ℕ → FrameState) (hands : ℕ → Option ℕ) (pages : 
 take_only states hands pages t x h Free a = grind (arith, put_tells)
 take_only states hands pages t x h (Hand u) a = let b = h (Hand u) in grind (arith, put_tells)
 take_only states hands pages t x h (Page f i) a = let b : Page f i ≡ Free = h (Page f i) a in cc
+take_only states hands pages t x h Retired a = grind (arith, put_tells)
 
 -- each other frame is where it was, and nowhere else
 take_back : (states : ℕ → FrameState) (hands : ℕ → Option ℕ) (pages : ℕ → ℕ → Option ℕ) (t x y : ℕ) (r : Place) → y ≢ x
@@ -48,6 +49,7 @@ take_back : (states : ℕ → FrameState) (hands : ℕ → Option ℕ) (pages : 
 take_back states hands pages t x y Free h a = grind (arith, put_tells)
 take_back states hands pages t x y (Hand u) h a = grind (arith, put_tells)
 take_back states hands pages t x y (Page f i) h a = a
+take_back states hands pages t x y Retired h a = grind (arith, put_tells)
 
 -- and still there
 take_on : (states : ℕ → FrameState) (hands : ℕ → Option ℕ) (pages : ℕ → ℕ → Option ℕ) (t x y : ℕ) (r : Place) → hands t ≡ None
@@ -55,6 +57,7 @@ take_on : (states : ℕ → FrameState) (hands : ℕ → Option ℕ) (pages : �
 take_on states hands pages t x y Free e h a = grind (arith, put_tells)
 take_on states hands pages t x y (Hand u) e h a = grind (arith, put_tells)
 take_on states hands pages t x y (Page f i) e h a = a
+take_on states hands pages t x y Retired e h a = grind (arith, put_tells)
 
 -- so each frame is in one place, where a free one is taken
 pub taken : (n : ℕ) (states : ℕ → FrameState) (hands : ℕ → Option ℕ) (pages : ℕ → ℕ → Option ℕ) (t x : ℕ)
@@ -73,6 +76,7 @@ place_only : (states : ℕ → FrameState) (hands : ℕ → Option ℕ) (pages :
 place_only states hands pages t f i x h Free a = grind (arith, put_tells)
 place_only states hands pages t f i x h (Hand u) a = let b = h (Hand u) in grind (arith, put_tells)
 place_only states hands pages t f i x h (Page k j) a = let b = h (Page k j) in grind (arith, put2_tells)
+place_only states hands pages t f i x h Retired a = grind (arith, put_tells)
 
 -- each other frame is where it was, and nowhere else
 place_back : (states : ℕ → FrameState) (hands : ℕ → Option ℕ) (pages : ℕ → ℕ → Option ℕ) (t f i x y : ℕ) (r : Place) → y ≢ x
@@ -80,6 +84,7 @@ place_back : (states : ℕ → FrameState) (hands : ℕ → Option ℕ) (pages :
 place_back states hands pages t f i x y Free h a = grind (arith, put_tells)
 place_back states hands pages t f i x y (Hand u) h a = grind (arith, put_tells)
 place_back states hands pages t f i x y (Page k j) h a = grind (arith, put2_tells)
+place_back states hands pages t f i x y Retired h a = grind (arith, put_tells)
 
 -- and still there
 place_on : (states : ℕ → FrameState) (hands : ℕ → Option ℕ) (pages : ℕ → ℕ → Option ℕ) (t f i x y : ℕ) (r : Place)
@@ -88,6 +93,7 @@ place_on : (states : ℕ → FrameState) (hands : ℕ → Option ℕ) (pages : �
 place_on states hands pages t f i x y Free e d h a = grind (arith, put_tells)
 place_on states hands pages t f i x y (Hand u) e d h a = grind (arith, put_tells)
 place_on states hands pages t f i x y (Page k j) e d h a = grind (arith, put2_tells)
+place_on states hands pages t f i x y Retired e d h a = grind (arith, put_tells)
 
 -- so each frame is in one place, where one is placed
 pub placed : (n : ℕ) (states : ℕ → FrameState) (hands : ℕ → Option ℕ) (pages : ℕ → ℕ → Option ℕ) (t f i x : ℕ)
@@ -107,6 +113,7 @@ give_only : (states : ℕ → FrameState) (hands : ℕ → Option ℕ) (pages : 
 give_only states hands pages t x h Free a = refl
 give_only states hands pages t x h (Hand u) a = let b = h (Hand u) in grind (arith, put_tells)
 give_only states hands pages t x h (Page k j) a = let b : Page k j ≡ Hand t = h (Page k j) a in cc
+give_only states hands pages t x h Retired a = grind (arith, put_tells)
 
 -- each other frame is where it was, and nowhere else
 give_back : (states : ℕ → FrameState) (hands : ℕ → Option ℕ) (pages : ℕ → ℕ → Option ℕ) (t x y : ℕ) (r : Place) → y ≢ x
@@ -114,6 +121,7 @@ give_back : (states : ℕ → FrameState) (hands : ℕ → Option ℕ) (pages : 
 give_back states hands pages t x y Free h a = grind (arith, put_tells)
 give_back states hands pages t x y (Hand u) h a = grind (arith, put_tells)
 give_back states hands pages t x y (Page k j) h a = a
+give_back states hands pages t x y Retired h a = grind (arith, put_tells)
 
 -- and still there
 give_on : (states : ℕ → FrameState) (hands : ℕ → Option ℕ) (pages : ℕ → ℕ → Option ℕ) (t x y : ℕ) (r : Place) → hands t ≡ Some x
@@ -121,6 +129,7 @@ give_on : (states : ℕ → FrameState) (hands : ℕ → Option ℕ) (pages : �
 give_on states hands pages t x y Free e h a = grind (arith, put_tells)
 give_on states hands pages t x y (Hand u) e h a = grind (arith, put_tells)
 give_on states hands pages t x y (Page k j) e h a = a
+give_on states hands pages t x y Retired e h a = grind (arith, put_tells)
 
 -- so each frame is in one place, where one is freed
 pub given : (n : ℕ) (states : ℕ → FrameState) (hands : ℕ → Option ℕ) (pages : ℕ → ℕ → Option ℕ) (t x : ℕ)
@@ -138,6 +147,7 @@ evict_only : (states : ℕ → FrameState) (hands : ℕ → Option ℕ) (pages :
 evict_only states hands pages t f i x h Free a = grind (arith, put_tells)
 evict_only states hands pages t f i x h (Hand u) a = let b = h (Hand u) in grind (arith, put_tells)
 evict_only states hands pages t f i x h (Page k j) a = let b = h (Page k j) in grind (arith, put2_tells)
+evict_only states hands pages t f i x h Retired a = grind (arith, put_tells)
 
 -- each other frame is where it was, and nowhere else
 evict_back : (states : ℕ → FrameState) (hands : ℕ → Option ℕ) (pages : ℕ → ℕ → Option ℕ) (t f i x y : ℕ) (r : Place) → y ≢ x
@@ -145,6 +155,7 @@ evict_back : (states : ℕ → FrameState) (hands : ℕ → Option ℕ) (pages :
 evict_back states hands pages t f i x y Free h a = grind (arith, put_tells)
 evict_back states hands pages t f i x y (Hand u) h a = grind (arith, put_tells)
 evict_back states hands pages t f i x y (Page k j) h a = grind (arith, put2_tells)
+evict_back states hands pages t f i x y Retired h a = grind (arith, put_tells)
 
 -- and still there
 evict_on : (states : ℕ → FrameState) (hands : ℕ → Option ℕ) (pages : ℕ → ℕ → Option ℕ) (t f i x y : ℕ) (r : Place)
@@ -153,6 +164,7 @@ evict_on : (states : ℕ → FrameState) (hands : ℕ → Option ℕ) (pages : �
 evict_on states hands pages t f i x y Free e d h a = grind (arith, put_tells)
 evict_on states hands pages t f i x y (Hand u) e d h a = grind (arith, put_tells)
 evict_on states hands pages t f i x y (Page k j) e d h a = grind (arith, put2_tells)
+evict_on states hands pages t f i x y Retired e d h a = grind (arith, put_tells)
 
 -- so each frame is in one place, where a page is taken away
 pub evicted : (n : ℕ) (states : ℕ → FrameState) (hands : ℕ → Option ℕ) (pages : ℕ → ℕ → Option ℕ) (t f i x : ℕ)
@@ -310,8 +322,11 @@ writes_frame n states hands pages x old new h e = record {
     on y Free a = put_other states x (state.Placed new) y (λ z. (let b : states x ≡ state.Free = ap states (sym z) ∙ a in absurd (cc))) ∙ a
     on y (Hand t) a = a
     on y (Page f i) a = a
+    on y Retired a =
+        put_other states x (state.Placed new) y (λ z. (let b : states x ≡ state.Retired = ap states (sym z) ∙ a in absurd (cc))) ∙ a
 
     back : (y : ℕ) (p : Place) → IsAt (put states x (state.Placed new)) hands pages y p → IsAt states hands pages y p
     back y Free a = grind (arith, put_tells)
     back y (Hand t) a = a
     back y (Page f i) a = a
+    back y Retired a = grind (arith, put_tells)

@@ -7,7 +7,7 @@ use Rattle.hp_base.specs.Indices.{vacant, count_below}
 use Rattle.hp_base.specs.declared.event.Op.{Op}
 use Rattle.hp_base.specs.declared.event.Op.TheVariants as op
 use Rattle.hp_base.specs.declared.event.Event.{Event}
-use Rattle.hp_base.specs.declared.event.Event.TheVariants.{Begin, Step, Kill}
+use Rattle.hp_base.specs.declared.event.Event.TheVariants.{Begin, Step, Kill, Resize}
 use Rattle.hp_base.proofs.Counting.{count_below_none}
 use Rattle.hp_frames.proofs.Quotas.{none_within}
 use Rattle.hp_base.proofs.Puts.{put_tells, same_or_other, put_same, put_other}
@@ -16,7 +16,7 @@ use Rattle.hp_frames.specs.declared.frame.FrameState.{FrameState}
 use Rattle.hp_frames.specs.declared.frame.FrameState.TheVariants as state
 use Rattle.hp_machine.specs.State.{Geometry, Pool, State, pool_of, with_pool, is_alive, is_killed, is_dead}
 use Rattle.hp_machine.specs.Events.{Row, CallRow, BeginRow, StepRow, KillRow, Run, IsReached, opening, first, is_exit, lives_after, left}
-use Rattle.hp_machine.specs.Headline.{Headline, Place, Free, Hand, Page, IsAt, OnePlace}
+use Rattle.hp_machine.specs.Headline.{Headline, Place, Free, Hand, Page, Retired, IsAt, OnePlace}
 use Rattle.hp_machine.specs.Views.{less, more}
 use Rattle.hp_machine.specs.declared.outcome.Life.{Life}
 use Rattle.hp_machine.specs.declared.outcome.Life.TheVariants as life
@@ -28,6 +28,7 @@ use Rattle.hp_laws.proofs.Deciding.{never}
 use Rattle.hp_laws.proofs.Invariant
 use Rattle.hp_laws.proofs.Invariant.{Inv, stays, to}
 use Rattle.hp_laws.proofs.Passing.{ahead_locked, locks_file}
+use Rattle.hp_laws.proofs.Resizing.{reframed, resize_cases, shift_keeps}
 use Rattle.hp_laws.proofs.Shared.{after, by_test, by_option}
 use Rattle.hp_laws.proofs.AllocKeeps.{alloc_row}
 use Rattle.hp_laws.proofs.MapKeeps.{map_row}
@@ -209,6 +210,12 @@ row_keeps s (Kill t) o n h row =
     not_dead life.Alive e = refl
     not_dead life.Killed e = refl
     not_dead life.Dead e = (let z : false ≡ true = e in cc)
+row_keeps s (Resize size) o n h row = resize_cases s size o n (Always n) row
+    (λ why _ d. in_state s n d h)
+    (λ told m frame _ shifts covered d. in_state (reframed s m frame) n d (record {
+      inv = shift_keeps s.geometry s m frame h.inv shifts (covered h.inv.enough);
+      lives = h.lives;
+    }))
 
 -- and the measures
 pub measures_stay : (s : State) (event : Event) (o : Outcome) (n : State) → Always s → Row s event o n → n.geometry ≡ s.geometry
@@ -233,6 +240,9 @@ measures_stay s (Kill t) o n h row =
     by_test (is_alive (s.life t)) row
     (λ alive r. ap (λ (m : State). m.geometry) r.1)
     (λ not r. ap (λ (m : State). m.geometry) r.1)
+measures_stay s (Resize size) o n h row = resize_cases s size o n (n.geometry ≡ s.geometry) row
+    (λ why _ d. ap (λ (m : State). m.geometry) d)
+    (λ told m frame _ shifts covered d. ap (λ (m : State). m.geometry) d)
 
 -- so does each run
 pub run_keeps : (s : State) (es : List (Event × Outcome)) (n : State) → Always s → Run s es n → Always n
@@ -259,6 +269,11 @@ opening_place frames = record {
     only x Free a = refl
     only x (Hand t) a = (let d : ◌≡◌ {A = Option ℕ} None (Some x) = a in cc)
     only x (Page f i) a = (let d : ◌≡◌ {A = Option ℕ} None (Some x) = a in cc)
+    only x Retired a = here (nat_lt x frames) a
+      where
+        here : (b : Bool) → (if b then state.Free else state.Hand) ≡ state.Retired → Retired ≡ Free
+        here true d = (let z : state.Free ≡ state.Retired = d in absurd (cc))
+        here false d = (let z : state.Hand ≡ state.Retired = d in absurd (cc))
 
     within : (x : ℕ) (q : Place) → IsAt (λ x. if nat_lt x frames then state.Free else state.Hand) (λ _. None) (λ _ _. None) x q → x < frames
     within x Free a = here (nat_lt x frames) refl a
@@ -268,6 +283,7 @@ opening_place frames = record {
         here false e d = (let z : state.Hand ≡ state.Free = d in absurd (cc))
     within x (Hand t) a = (let d : ◌≡◌ {A = Option ℕ} None (Some x) = a in absurd (cc))
     within x (Page f i) a = (let d : ◌≡◌ {A = Option ℕ} None (Some x) = a in absurd (cc))
+    within x Retired a = (let d : Retired ≡ Free = only x Retired a in absurd (cc))
 
 -- an empty option has no value
 no_value : {A P : Type 0} {x : A} → ◌≡◌ {A = Option A} None (Some x) → P
@@ -316,7 +332,7 @@ opens_well g frames = record {
 
 -- what holds in every reached state
 pub always : (s : State) → IsReached s → Always s
-always s reached = run_keeps (opening s.geometry s.frames) reached.0 s (opens_well s.geometry s.frames) reached.1
+always s reached = run_keeps (opening s.geometry reached.0) reached.1 s (opens_well s.geometry reached.0) reached.2
 
 -- so the headline holds in every reached state
 pub headline : (s : State) → IsReached s → Headline s

@@ -7,7 +7,7 @@ use Rattle.hp_base.specs.Indices.{missing}
 use Rattle.hp_base.specs.declared.answer.Answer.{Answer}
 use Rattle.hp_base.specs.declared.event.Op.{Op}
 use Rattle.hp_base.specs.declared.event.Event.{Event}
-use Rattle.hp_base.specs.declared.event.Event.TheVariants.{Begin, Step, Kill}
+use Rattle.hp_base.specs.declared.event.Event.TheVariants.{Begin, Step, Kill, Resize}
 use Rattle.hp_base.proofs.Puts.{put_other, same_or_other}
 use Rattle.hp_base.proofs.Sets.{missing_one}
 use Rattle.hp_frames.specs.declared.frame.FrameState.TheVariants as state
@@ -34,6 +34,7 @@ use Rattle.hp_laws.specs.Bounds.{is_begun}
 use Rattle.hp_laws.proofs.Shared.{by_test}
 use Rattle.hp_laws.proofs.Runs.{Always}
 use Rattle.hp_laws.proofs.Reading.{begin_cases, step_cases, kill_cases, call_steps}
+use Rattle.hp_laws.proofs.Resizing.{resize_cases}
 
 -- a turn where a kill isn't noticed
 abbrev pub TurnWell : (P : Type 0) → (P → Type 0) → (Answer → Type 0) → Turn P → Type 0
@@ -207,6 +208,14 @@ own_or_same s t (Kill u) o n P h quiet row same own = kill_cases s u o n P row
   where
     kill_step : {grant : Bool} → Kill u ≡ Step t grant → ⊥
     kill_step z = cc
+own_or_same s t (Resize size) o n P h quiet row same own = resize_cases s size o n P row
+    (λ why e d. same (ap (λ (m : State). m.calls t) d) (ap (λ (m : State). m.mappings t) d)
+    (inl (ap (λ (m : State). m.life t) d)) (λ grant a z. absurd (resize_step z)))
+    (λ told m frame e shifts _ d. same (ap (λ (m : State). m.calls t) d) (ap (λ (m : State). m.mappings t) d)
+    (inl (ap (λ (m : State). m.life t) d)) (λ grant a z. absurd (resize_step z)))
+  where
+    resize_step : {grant : Bool} → Resize size ≡ Step t grant → ⊥
+    resize_step z = cc
 own_or_same s t (Step u grant) o n P h quiet row same own = step_cases s u grant o n P row
     (λ why e d. same (ap (λ (m : State). m.calls t) d) (ap (λ (m : State). m.mappings t) d)
     (inl (ap (λ (m : State). m.life t) d)) (λ g a z y. refused_end why a (sym e ∙ y)))

@@ -6,7 +6,7 @@ use Rattle.hp_base.specs.Numbers.{put, bit}
 use Rattle.hp_base.specs.declared.event.Op.{Op}
 use Rattle.hp_base.specs.declared.event.Op.TheVariants as op
 use Rattle.hp_base.specs.declared.event.Event.{Event}
-use Rattle.hp_base.specs.declared.event.Event.TheVariants.{Begin, Step, Kill}
+use Rattle.hp_base.specs.declared.event.Event.TheVariants.{Begin, Step, Kill, Resize}
 use Rattle.hp_base.specs.declared.mapping.Mapping.{Mapping}
 use Rattle.hp_base.proofs.Puts.{put_same, put_other, same_or_other}
 use Rattle.hp_machine.specs.State.{Geometry, Pool, State, pool_of, with_pool, slot_of, is_dead, is_killed}
@@ -32,6 +32,7 @@ use Rattle.hp_laws.proofs.Deciding.{some_same}
 use Rattle.hp_laws.proofs.StepsLeft.{steps_left}
 use Rattle.hp_laws.proofs.Runs.{Always, always, call_keeps}
 use Rattle.hp_laws.proofs.Reading.{begin_cases, step_cases, kill_cases, Gone, Steps, call_steps, same_state}
+use Rattle.hp_laws.proofs.Resizing.{resize_cases}
 use Rattle.hp_laws.proofs.Histories.{begun_more, history_well}
 
 -- an option isn't both empty and not
@@ -248,6 +249,7 @@ one_own t u grant (outcome.Ended b) = bit_few (u == t)
 one_own t u grant outcome.Begun = omega arith
 one_own t u grant outcome.Marked = omega arith
 one_own t u grant (outcome.Blocked w) = omega arith
+one_own t u grant (outcome.Resized m) = omega arith
 one_own t u grant (outcome.Refused w) = omega arith
 
 -- a step of another task doesn't
@@ -257,6 +259,7 @@ none_own t u grant (outcome.Ended b) d = bit_other t u d
 none_own t u grant outcome.Begun d = refl
 none_own t u grant outcome.Marked d = refl
 none_own t u grant (outcome.Blocked w) d = refl
+none_own t u grant (outcome.Resized m) d = refl
 none_own t u grant (outcome.Refused w) d = refl
 
 -- what a row that isn't refused may tell
@@ -294,6 +297,9 @@ row_counts s t top (Begin u p) o n h quiet is_top row = begin_cases s u p o n (C
 row_counts s t top (Kill u) o n h quiet is_top row = kill_cases s u o n (Counts t top s (Kill u) o n) row
     (λ why e d. same_counts t top s n (Kill u) o refl d)
     (λ alive e d. let b : left t top n ≡ left t top s = ap (left t top) d in omega arith)
+row_counts s t top (Resize size) o n h quiet is_top row = resize_cases s size o n (Counts t top s (Resize size) o n) row
+    (λ why e d. same_counts t top s n (Resize size) o refl d)
+    (λ told m frame e shifts _ d. let b : left t top n ≡ left t top s = ap (left t top) d in omega arith)
 row_counts s t top (Step u grant) o n h quiet is_top row = step_cases s u grant o n (Counts t top s (Step u grant) o n) row
     (λ why e d. same_counts t top s n (Step u grant) o (ap (is_own t (Step u grant)) e) d)
     (λ c lives e pool next r d. elim (stepped s u top grant c o pool next h lives e r) [

@@ -20,7 +20,7 @@ use Rattle.hp_laws.specs.Words.{LastWord, Read, ReadTheLastWord}
 
 -- the state has a history
 abbrev pub HasHistory : State → Type 0
-HasHistory s = (moments : List Moment) × History s.geometry s.frames moments s
+HasHistory s = (frames : ℕ) × (moments : List Moment) × History s.geometry frames moments s
 
 -- of one call, from its begin on, the steps that moved or ended it are at most so many; of a truncation that has set
 -- the size the top counts, where its sweep began
