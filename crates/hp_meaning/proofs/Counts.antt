@@ -1,12 +1,18 @@
--- General laws of how many numbers below a bound are in a set. They stand here until they move down.
-use Rattle.std.proofs.Common.{◌≡◌, ℕ, ◌+◌, ◌<◌, ap, ◌∙◌, arith, refl}
+-- General laws: a number and a bound, and how many numbers below a bound are in a set. They stand here until they
+-- move down to hp_base.
+use Rattle.std.proofs.Common.{◌≡◌, ◌⊎◌, ℕ, ◌+◌, ◌<◌, ◌≤◌, ap, arith, inl, inr, refl}
+use Rattle.std.proofs.lemmas.Bool.Decides.{leb_tells}
 use Rattle.std.specs.Prelude.{Bool, true, false, cond, not, ◌&&◌}
-use Rattle.hp_base.specs.Numbers.{total, bit}
+use Rattle.hp_base.specs.Numbers.{bit}
 use Rattle.hp_base.specs.Indices.{count_below}
 use Rattle.hp_base.proofs.Counting.{count_below-sum}
 use Rattle.hp_base.proofs.Totals.{total_has, count_below-total}
 
--- what a count has not, it has of the others
+-- a number is below a bound or past it
+pub below_or_past : (x n : ℕ) → (x < n) ⊎ (n ≤ x)
+below_or_past x n = elim (leb_tells n x) [ inl h ↦ inr h.1 | inr h ↦ inl h.1 ]
+
+-- each number is in a set or not in it
 one_or_other : (b : Bool) → cond true 1 0 ≡ cond b 1 0 + cond (not b) 1 0
 one_or_other true = refl
 one_or_other false = refl
@@ -18,7 +24,7 @@ here_or_gone true false h = refl
 here_or_gone false true h = let d : false ≡ true = h refl in absurd (cc)
 here_or_gone false false h = refl
 
--- all numbers below n are in a set or not in it
+-- so all numbers below a bound are
 pub count_below-not : (p : ℕ → Bool) (n : ℕ) → count_below p n + count_below (λ x. not (p x)) n ≡ count_below (λ _. true) n
 count_below-not p n =
     let parts = count_below-sum p (λ x. not (p x)) (λ _. true) n (λ k l. one_or_other (p k)) in

@@ -1,6 +1,6 @@
 -- Two families that are each other renamed, and in which as many numbers flip from one value to another: they are each
 -- other renamed afterwards too.
-use Rattle.std.proofs.Common.{◌≡◌, ◌≢◌, ◌⊎◌, ℕ, zero, suc, ◌+◌, ◌<◌, refl, ap, sym, ◌∙◌, arith, inl, inr}
+use Rattle.std.proofs.Common.{◌≡◌, ◌≢◌, ◌⊎◌, ℕ, zero, suc, ◌<◌, refl, ap, sym, ◌∙◌, arith, inl, inr}
 use Rattle.std.proofs.Math.Path.{fun_ext}
 use Rattle.std.specs.Prelude.{Bool, true, false, not, ◌&&◌}
 use Rattle.hp_base.specs.Numbers.{put, bit}
@@ -35,8 +35,8 @@ none_ends true c same e = (let d : (true && not c) ≡ false = ap not same in cl
 none_ends false c same e = (cc)
 
 -- what flips ends
-flip_ends : {A : Type 0} (holds : A → Bool) (a b : A) (f f' : ℕ → A) (x : ℕ) → holds a ≡ true → holds b ≡ false → f x ≡ a → f' x ≡ b
-    → ends holds f f' x ≡ true
+flip_ends : {A : Type 0} (holds : A → Bool) (a b : A) (f f' : ℕ → A) (x : ℕ) → holds a ≡ true → holds b ≡ false
+    → f x ≡ a → f' x ≡ b → ends holds f f' x ≡ true
 flip_ends holds a b f f' x on off was is =
     ap (λ (v : Bool). v && not (holds (f' x))) (ap holds was ∙ on) ∙ ap not (ap holds is ∙ off)
 
@@ -91,7 +91,7 @@ one_fewer holds n b f f' x k off l e all =
     ap (λ (v : Bool). bit (v && not (holds (f' x)))) (ap holds (put_same f x b) ∙ off) in
     omega arith
 
--- One number of each family flips. Call the first family's as the second's is called.
+-- one number of each family flips: the first family's is called then as the second's is called
 flip_once : {A : Type 0} {n : ℕ} (r : Renaming n) (a b : A) (f g : ℕ → A) (x y : ℕ) → x < n → y < n → f x ≡ a → g y ≡ a
     → g ≡ (λ z. f (r.back z)) → FlipsAlike A n a r f (put f x b) (put g y b)
 flip_once {A} r a b f g x y l k was was' alike =
@@ -109,7 +109,7 @@ and_then : {A : Type 0} {n : ℕ} {a : A} {r : Renaming n} {f mid f' mid' g' : �
     → ((z : ℕ) → f z ≢ a → mid z ≢ a) → FlipsAlike A n a once.names mid f' g' → FlipsAlike A n a r f f' g'
 and_then once others rest = record { names = rest.names; keeps = λ z h. rest.keeps z (others z h) ∙ once.keeps z h; same = rest.same }
 
--- In both families k numbers flip: one of each, and then the others
+-- in both families k numbers flip: one of each, and then the others
 flips_by : {A : Type 0} (k : ℕ) (holds : A → Bool) (n : ℕ) (a b : A) (r : Renaming n) (f f' g g' : ℕ → A)
     → holds a ≡ true → holds b ≡ false → g ≡ (λ y. f (r.back y)) → Flips n a b f f' → Flips n a b g g'
     → count_below (ends holds f f') n ≡ k → count_below (ends holds g g') n ≡ k → FlipsAlike A n a r f f' g'

@@ -1,15 +1,15 @@
 -- Frames under other names: how many are in a set, and what a change at one place looks like.
-use Rattle.std.proofs.Common.{◌≡◌, ◌≢◌, ℕ, ◌+◌, ◌<◌, ◌≤◌, refl, ap, sym, ◌∙◌, subst, arith, inl, inr}
+use Rattle.std.proofs.Common.{◌≡◌, ◌≢◌, ℕ, ◌+◌, ◌<◌, ◌≤◌, refl, ap, sym, ◌∙◌, arith, inl, inr}
 use Rattle.std.proofs.Math.Path.{fun_ext}
-use Rattle.std.proofs.lemmas.Bool.{ltb-true, ltb-false}
 use Rattle.std.proofs.lemmas.Bool.Decides.{nat_tests}
-use Rattle.std.specs.Prelude.{Bool, true, false, nat_lt, ◌==◌, Option, Some, None, is_some, if◌then◌else◌}
+use Rattle.std.specs.Prelude.{Bool, ◌==◌, Option, Some, None, is_some, if◌then◌else◌}
 use Rattle.std.specs.Option.{option_map}
 use Rattle.hp_base.specs.Numbers.{put, put2, total, bit}
 use Rattle.hp_base.specs.Indices.{count_below}
 use Rattle.hp_base.proofs.Puts.{put_same, put_other, same_or_other}
 use Rattle.hp_base.proofs.Totals.{total_same, total_change, total_none, exchange, count_below-total}
 use Rattle.hp_meaning.specs.Renaming.{Renaming}
+use Rattle.hp_meaning.proofs.Counts.{below_or_past}
 
 -- a sum with one term
 one_term : (n k v : ℕ) → k < n → total n (put (λ _. 0) k v) ≡ v
@@ -34,23 +34,17 @@ fixed_back r x l = sym (ap r.back (r.fixed x l)) ∙ r.there x
 
 -- a frame's name is one of a frame
 pub to_below : {frames : ℕ} (r : Renaming frames) (x : ℕ) → x < frames → r.to x < frames
-to_below {frames} r x l = elim (nat_lt (r.to x) frames) as (λ b. nat_lt (r.to x) frames ≡ b → r.to x < frames) [
-  | true ↦ λ e. ltb-true (r.to x) frames e
-  | false ↦ λ e.
-      let past : frames ≤ r.to x = ltb-false (r.to x) frames e in
-      let same : r.to x ≡ x = sym (fixed_back r (r.to x) past) ∙ r.there x in
-      absurd (omega arith)
-] refl
+to_below {frames} r x l = elim (below_or_past (r.to x) frames) [
+  | inl below ↦ below
+  | inr past ↦ let same : r.to x ≡ x = sym (fixed_back r (r.to x) past) ∙ r.there x in absurd (omega arith)
+]
 
 -- and a name of a frame is that of one
 pub back_below : {frames : ℕ} (r : Renaming frames) (y : ℕ) → y < frames → r.back y < frames
-back_below {frames} r y l = elim (nat_lt (r.back y) frames) as (λ b. nat_lt (r.back y) frames ≡ b → r.back y < frames) [
-  | true ↦ λ e. ltb-true (r.back y) frames e
-  | false ↦ λ e.
-      let past : frames ≤ r.back y = ltb-false (r.back y) frames e in
-      let same : y ≡ r.back y = sym (r.here y) ∙ r.fixed (r.back y) past in
-      absurd (omega arith)
-] refl
+back_below {frames} r y l = elim (below_or_past (r.back y) frames) [
+  | inl below ↦ below
+  | inr past ↦ let same : y ≡ r.back y = sym (r.here y) ∙ r.fixed (r.back y) past in absurd (omega arith)
+]
 
 -- as many of the frames are in a set as under other names: each sum is that of all pairs of a frame and its name
 pub count_renamed : {frames : ℕ} (r : Renaming frames) (p : ℕ → Bool) → count_below (λ y. p (r.back y)) frames ≡ count_below p frames

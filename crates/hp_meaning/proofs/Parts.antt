@@ -42,7 +42,7 @@ turn_renamed rename (Ended a) = Ended a
 abbrev pub unnamed : {P : Type 0} → (ℕ → ℕ) → P → P
 unnamed to p = p
 
--- so is a frame that is in a hand or a page
+-- a frame in use is neither free nor retired
 abbrev pub IsUsed : FrameState → Type 0
 IsUsed state = (state ≢ Free) × (state ≢ Retired)
 
@@ -166,7 +166,7 @@ pub frees_renamed : {frames : ℕ} (s : Pool) (r : Renaming frames) → s.frames
 unfolding free_frames
 frees_renamed s r e = rw e (count_renamed r (λ x. is_free (s.frame x)))
 
--- and as many are there
+-- and as many aren't retired
 pub actives_renamed : {frames : ℕ} (s : Pool) (r : Renaming frames) → s.frames ≡ frames → actives (pool_renamed r s) ≡ actives s
 unfolding active_frames
 actives_renamed s r e = rw e (count_renamed r (λ x. is_active (s.frame x)))

@@ -1,7 +1,6 @@
 -- A resize, done to a pool and to that pool with its frames renamed.
-use Rattle.std.proofs.Common.{◌≡◌, ◌≢◌, ◌⊎◌, ℕ, ◌+◌, ◌-◌, ◌<◌, ◌≤◌, refl, ap, sym, ◌∙◌, arith, inl, inr}
+use Rattle.std.proofs.Common.{◌≡◌, ◌≢◌, ℕ, ◌+◌, ◌-◌, ◌<◌, ◌≤◌, refl, ap, sym, ◌∙◌, arith, inl, inr}
 use Rattle.std.proofs.Math.Path.{fun_ext}
-use Rattle.std.proofs.lemmas.Bool.{ltb-true, ltb-false}
 use Rattle.std.proofs.lemmas.Bool.Decides.{nat_tests}
 use Rattle.std.specs.Prelude.{true, false, ◌&&◌, max, min, nat_le, nat_lt, if◌then◌else◌}
 use Rattle.hp_base.specs.Indices.{count_below}
@@ -11,7 +10,7 @@ use Rattle.hp_frames.specs.declared.frame.FrameState.TheVariants.{Free, Retired}
 use Rattle.hp_machine.specs.Resizes.{GrowsTo, Retires, surplus}
 use Rattle.hp_machine.specs.State.{Pool, active_frames, actives, frees}
 use Rattle.hp_meaning.specs.Renaming.{Renaming}
-use Rattle.hp_meaning.proofs.Counts.{count_below-not}
+use Rattle.hp_meaning.proofs.Counts.{below_or_past, count_below-not}
 use Rattle.hp_meaning.proofs.Flips.{Flips, FlipsAlike, flips_alike}
 use Rattle.hp_meaning.proofs.Names.{wider, fixed_back, back_below}
 use Rattle.hp_meaning.proofs.Parts.{pool_renamed, actives_renamed, frees_renamed}
@@ -51,37 +50,23 @@ fresh_above {frames} more r frame y l =
 -- so the new frames are the same under any names
 fresh_renamed : {frames : ℕ} (more : ℕ) (r : Renaming frames) (frame : ℕ → FrameState)
     → ◌≡◌ {A = ℕ → FrameState} (with_fresh frames more (λ y. frame (r.back y))) (λ y. with_fresh frames more frame (r.back y))
-fresh_renamed {frames} more r frame = fun_ext (λ y. elim (nat_lt y frames) as (λ b. nat_lt y frames ≡ b
-    → with_fresh frames more (λ z. frame (r.back z)) y ≡ with_fresh frames more frame (r.back y)) [
-  | true ↦ λ e.
-      let l = ltb-true y frames e in
-      fresh_below frames more (λ z. frame (r.back z)) y l ∙ sym (fresh_below frames more frame (r.back y) (back_below r y l))
-  | false ↦ λ e. fresh_above more r frame y (ltb-false y frames e)
-] refl)
+fresh_renamed {frames} more r frame = fun_ext (λ y. elim (below_or_past y frames) [
+  | inl l ↦ fresh_below frames more (λ z. frame (r.back z)) y l ∙ sym (fresh_below frames more frame (r.back y) (back_below r y l))
+  | inr l ↦ fresh_above more r frame y l
+])
 
 -- a pool that grows has free frames in the new numbers, and retired frames of it flip to free ones
 grown_flips : (s : Pool) (n : ℕ) (frame : ℕ → FrameState) → GrowsTo s n frame
     → Flips (max s.frames n) Retired Free (with_fresh s.frames (max s.frames n) s.frame) frame
-grown_flips s n frame h x = elim (nat_lt x s.frames) as (λ b. nat_lt x s.frames ≡ b → Flip) [
-  | true ↦ λ e.
-      let l = ltb-true x s.frames e in
+grown_flips s n frame h x = elim (below_or_past x s.frames) [
+  | inl l ↦
       let was = fresh_below s.frames (max s.frames n) s.frame x l in
       elim (h.each x l) [ inl same ↦ inl (same ∙ sym was) | inr flip ↦ inr (omega arith, was ∙ flip.0, flip.1) ]
-  | false ↦ λ e.
-      let l = ltb-false x s.frames e in
-      elim (nat_lt x (max s.frames n)) as (λ b. nat_lt x (max s.frames n) ≡ b → Flip) [
-        | true ↦ λ d.
-            let m = ltb-true x (max s.frames n) d in
-            inl (h.fresh x l m ∙ sym (fresh_free s.frames (max s.frames n) s.frame x l m))
-        | false ↦ λ d.
-            let m = ltb-false x (max s.frames n) d in
-            inl (h.beyond x m ∙ sym (fresh_past s.frames (max s.frames n) s.frame x m))
-      ] refl
-] refl
-  where
-    Flip : Type 0
-    Flip = (frame x ≡ with_fresh s.frames (max s.frames n) s.frame x)
-        ⊎ ((x < max s.frames n) × (with_fresh s.frames (max s.frames n) s.frame x ≡ Retired) × (frame x ≡ Free))
+  | inr l ↦ elim (below_or_past x (max s.frames n)) [
+    | inl m ↦ inl (h.fresh x l m ∙ sym (fresh_free s.frames (max s.frames n) s.frame x l m))
+    | inr m ↦ inl (h.beyond x m ∙ sym (fresh_past s.frames (max s.frames n) s.frame x m))
+  ]
+]
 
 -- as many frames are retired in both pools once they have as many
 pub grown_alike : (s : Pool) (r : Renaming s.frames) (n : ℕ) (frame frame' : ℕ → FrameState) (l : s.frames ≤ max s.frames n)
@@ -104,12 +89,14 @@ surplus_renamed s r n =
     ∙ ap (λ (k : ℕ). min (actives s - n) (k - s.resv)) (frees_renamed s r refl)
 
 -- and as many are retired
-pub shrunk_alike : (s : Pool) (r : Renaming s.frames) (n : ℕ) (frame frame' : ℕ → FrameState) → Retires s (surplus s n) frame
-    → Retires (pool_renamed r s) (surplus (pool_renamed r s) n) frame' → FlipsAlike FrameState s.frames Free r s.frame frame frame'
+pub shrunk_alike : (s : Pool) (r : Renaming s.frames) (n : ℕ) (frame frame' : ℕ → FrameState)
+    → Retires s (surplus s n) frame → Retires (pool_renamed r s) (surplus (pool_renamed r s) n) frame'
+    → FlipsAlike FrameState s.frames Free r s.frame frame frame'
 unfolding active_frames
 shrunk_alike s r n frame frame' h k =
     let left : count_below (λ x. is_active (frame x)) s.frames + surplus s n ≡ actives s = h.count in
-    let left' : count_below (λ x. is_active (frame' x)) s.frames + surplus (pool_renamed r s) n ≡ actives (pool_renamed r s) = k.count in
+    let left' : count_below (λ x. is_active (frame' x)) s.frames + surplus (pool_renamed r s) n ≡ actives (pool_renamed r s) =
+    k.count in
     let many = surplus_renamed s r n in
     let all = actives_renamed s r refl in
     flips_alike r is_active Free Retired s.frame frame (λ y. s.frame (r.back y)) frame' refl refl refl h.each k.each (omega arith)
