@@ -30,7 +30,7 @@ same_told es os ps l m e =
 abbrev MachineSays : Type 0
 MachineSays = (g : Geometry) (frames : ℕ) (es fs : List (Event × Outcome)) (s n : State)
     → rows.Run (rows.opening g frames) es s → rows.Run (rows.opening g frames) fs n → events_of fs ≡ events_of es
-    → (fs ≡ es) × Alike frames s n
+    → (fs ≡ es) × Alike s n
 
 -- so two cores of one config to which the same happened told the same, and are equal up to names of frames
 pub frames_hidden : MachineSays → (config : Config) → FramesDontShow config

@@ -5,7 +5,7 @@ use Rattle.hp_base.specs.Numbers.{is_none}
 use Rattle.hp_machine.specs.declared.outcome.Life.TheVariants.{Dead}
 use Rattle.std.specs.declared.alloc.AllocError.{AllocError}
 use Rattle.hp_base.specs.declared.event.Event.{Event}
-use Rattle.hp_base.specs.declared.event.Event.TheVariants.{Begin, Step, Kill}
+use Rattle.hp_base.specs.declared.event.Event.TheVariants.{Begin, Step, Kill, Resize}
 use Rattle.hp_machine.specs.State.{Pool, State, is_alive, is_dead, is_killed}
 use Rattle.hp_machine.specs.Events as rows
 use Rattle.hp_machine.specs.Standings.{Want, Nothing, Lock, Slot, standing}
@@ -33,7 +33,7 @@ use Rattle.hp_core.specs.Fits.{EventFits}
 use Rattle.hp_core.specs.Seats.{StepSeats, EventSeats, BlockedStays}
 use Rattle.hp_core.specs.Sound.{IsSound}
 use Rattle.hp_core.specs.Runs.{IsIdle}
-use Rattle.hp_core.specs.Turns.{finished, IfToldBlocked}
+use Rattle.hp_core.specs.Turns.{finished, IfToldBlocked, IfToldRefused}
 use Rattle.hp_core.proofs.Headlines.{reached_of}
 use Rattle.hp_core.proofs.Rows.{Done}
 use Rattle.hp_core.proofs.Seats.{by_test, by_option}
@@ -46,6 +46,7 @@ told_any (outcome.Moved p) = tt
 told_any (outcome.Blocked u) = tt
 told_any (outcome.Ended a) = tt
 told_any outcome.Marked = tt
+told_any (outcome.Resized frames) = tt
 told_any (outcome.Refused why) = tt
 
 -- a turn that waits where something is wanted is told so
@@ -152,6 +153,8 @@ refused_same p after seats new (Begin t op) o why row e = (
 )
 refused_same p after seats new (Kill t) o why row e =
     (row.1, by_test (is_alive (seat_at seats t).life) row.0 (λ _ r. not_marked o why e r.0) (λ _ r. r.1))
+refused_same p after seats new (Resize frames) o why row e =
+    (subst (λ (told : Outcome). IfToldRefused told (after ≡ p)) e row.1, row.2)
 refused_same p after seats new (Step t grant) o why row e = by_test (is_dead (seat_at seats t).life) row
     (λ _ r. (r.1, r.0.1))
     (λ _ r. by_option (seat_at seats t).call r
@@ -165,6 +168,7 @@ blocked_same : (s : CoreState) (event : Event) (u : ℕ) (after : PartsState) (n
 unfolding calls_of
 blocked_same s (Begin t op) u after new h fits row stays = absurd stays
 blocked_same s (Kill t) u after new h fits row stays = absurd stays
+blocked_same s (Resize frames) u after new h fits row stays = absurd stays
 blocked_same s (Step t grant) u after new h fits row stays =
     let held = blocked_by_holder (as_state s) t grant u (state_with after new) (reached_of s h)
     (event_row s.parts after s.seats new (Step t grant) (outcome.Blocked u) fits row) in
@@ -185,6 +189,7 @@ idle_result s event (Ok outcome.Begun) after new h fits row stays = λ idle. abs
 idle_result s event (Ok (outcome.Moved p)) after new h fits row stays = λ idle. absurd idle
 idle_result s event (Ok (outcome.Ended a)) after new h fits row stays = λ idle. absurd idle
 idle_result s event (Ok outcome.Marked) after new h fits row stays = λ idle. absurd idle
+idle_result s event (Ok (outcome.Resized frames)) after new h fits row stays = λ idle. absurd idle
 idle_result s event (Ok (outcome.Blocked u)) after new h fits row stays =
     λ _. same_fields s after new (blocked_same s event u after new h fits row stays)
 idle_result s event (Ok (outcome.Refused why)) after new h fits row stays =
@@ -197,6 +202,7 @@ told_map (outcome.Moved p) f h = tt
 told_map (outcome.Blocked u) f h = f h
 told_map (outcome.Ended a) f h = tt
 told_map outcome.Marked f h = tt
+told_map (outcome.Resized frames) f h = tt
 told_map (outcome.Refused why) f h = tt
 
 -- so may what is asked of a call that wants something

@@ -11,17 +11,17 @@ use Rattle.hp_core.specs.Runs.{IsOfConfig, Headline}
 -- a run reached the state of a sound core
 pub reached_of : (s : CoreState) → IsSound s → IsReached (as_state s)
 unfolding IsSound
-reached_of s h = h.0
+reached_of s h = (s.sizes.frames, h.0)
 
 -- so the headline holds of it
 pub headline_of : (s : CoreState) → IsSound s → Headline s
-unfolding IsSound Headline
-headline_of s h = runs.headline (as_state s) h.0
+unfolding Headline
+headline_of s h = runs.headline (as_state s) (reached_of s h)
 
--- its state has the sizes of its config
+-- its state has the sizes of its config, and was opened so
 pub of_config : (s : CoreState) → IsSound s → IsOfConfig s
 unfolding IsSound
-of_config s h = (λ i. record { files = h.1.files i; slots = h.1.slots i; tasks = h.1.spaces i; limit = LIMIT; space = VPNS; quota = h.1.quota i }, h.1.frames)
+of_config s h = (λ i. record { files = h.1.files i; slots = h.1.slots i; tasks = h.1.spaces i; limit = LIMIT; space = VPNS; quota = h.1.quota i }, h.0)
 
 -- what is a law of states that a run reached holds of the state of a core
 pub law_of : (P : State → Type 0) → ((s : State) → IsReached s → P s) → (inside seen : CoreState) → inside ≡ seen → IsSound inside

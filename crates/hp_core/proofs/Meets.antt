@@ -6,7 +6,7 @@ use Rattle.hp_base.specs.Indices.{count_within}
 use Rattle.hp_base.specs.Mappings.{in_mapping}
 use Rattle.hp_base.proofs.Counting.{count_within-missing}
 use Rattle.hp_base.specs.declared.event.Event.{Event}
-use Rattle.hp_base.specs.declared.event.Event.TheVariants.{Begin, Step, Kill}
+use Rattle.hp_base.specs.declared.event.Event.TheVariants.{Begin, Step, Kill, Resize}
 use Rattle.hp_machine.specs.State.{State, pool_of}
 use Rattle.hp_machine.specs.Events.{IsReached}
 use Rattle.hp_machine.specs.declared.map.MapPhase.{MapPhase}
@@ -230,5 +230,6 @@ step_fits s t (Some c) reached kept e = call_fits s t c reached kept e
 pub fits_from_sound : (s : CoreState) (e : Event) → IsSound s → EventFits s.parts s.seats e
 unfolding IsSound calls_of
 fits_from_sound s (Begin t op) h = tt
-fits_from_sound s (Step t grant) h = step_fits s t (seat_at s.seats t).call h.0 h.1 refl
+fits_from_sound s (Step t grant) h = step_fits s t (seat_at s.seats t).call (s.sizes.frames, h.0) h.1 refl
 fits_from_sound s (Kill t) h = tt
+fits_from_sound s (Resize frames) h = tt

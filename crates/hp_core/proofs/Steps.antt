@@ -3,13 +3,13 @@ use Rattle.std.proofs.Common.{◌≡◌, ℕ, List, [], ◌∷◌, ◌++◌, len
 use Rattle.std.specs.Prelude.{Bool, Option, Some, IfSome, Result, Ok, Err, IfOk, OnErr}
 use Rattle.std.specs.declared.alloc.AllocError.{AllocError}
 use Rattle.hp_base.specs.declared.event.Event.{Event}
-use Rattle.hp_base.specs.declared.event.Event.TheVariants.{Begin, Step, Kill}
+use Rattle.hp_base.specs.declared.event.Event.TheVariants.{Begin, Step, Kill, Resize}
 use Rattle.hp_machine.specs.State.{Geometry, State, is_dead}
 use Rattle.hp_machine.specs.Events as rows
 use Rattle.hp_machine.specs.declared.outcome.Outcome.{Outcome}
 use Rattle.hp_laws.proofs.Runs.{always, measures_stay}
 use Rattle.hp_fault.specs.State.{PartsState, SizesStay}
-use Rattle.hp_fault.specs.View.{geometry_of}
+use Rattle.hp_fault.specs.View.{geometry_of, pool_of}
 use Rattle.hp_core.specs.declared.seat.Seat.{Seat}
 use Rattle.hp_core.specs.State.{CoreState, seat_at, state_with, as_state}
 use Rattle.hp_core.specs.Fits.{EventFits}
@@ -54,6 +54,8 @@ event_row p after seats new (Step t grant) told fits row = step_is p after seats
 event_row p after seats new (Kill t) told fits row =
     subst (λ (q : PartsState). rows.KillRow (state_with p seats) t told (state_with q new)) (sym row.1)
     (kill_row p seats new t told row.0)
+event_row p after seats new (Resize frames) told fits row =
+    (pool_of after, row.0, ap (λ (ss : List Seat). state_with after ss) row.2)
 
 -- one more event of a run
 pub run_on : (s mid new : State) (es : List (Event × Outcome)) (e : Event) (told : Outcome) → rows.Run s es mid
@@ -62,13 +64,13 @@ run_on s mid new [] e told run row = (new, subst (λ (z : State). rows.Row z e t
 run_on s mid new (x ∷ es) e told run row = (run.0, run.1, run_on run.0 mid new es e told run.2 row)
 
 -- the state after an event is reached, where the one before it is
-reached_after : (s new : State) (e : Event) (told : Outcome) → rows.IsReached s → rows.Row s e told new
-    → new.geometry ≡ s.geometry → new.frames ≡ s.frames → rows.IsReached new
-reached_after s new e told reached row same long = (
+reached_after : (frames : ℕ) (s new : State) (e : Event) (told : Outcome) → rows.IsReachedFrom frames s → rows.Row s e told new
+    → new.geometry ≡ s.geometry → rows.IsReachedFrom frames new
+reached_after frames s new e told reached row same = (
   reached.0 ++ (e, told) ∷ [],
   subst (λ (o : State). rows.Run o (reached.0 ++ (e, told) ∷ []) new)
-      (λ i. rows.opening (sym same i) (sym long i))
-      (run_on (rows.opening s.geometry s.frames) s new reached.0 e told reached.1 row),
+      (λ i. rows.opening (sym same i) frames)
+      (run_on (rows.opening s.geometry frames) s new reached.0 e told reached.1 row),
 )
 
 -- what an event ensures of a core's fields
@@ -94,11 +96,10 @@ sound_after s e told after new h fits done =
     let kept = h.1 in
     let row = event_row s.parts after s.seats new e told fits done.0 in
     let same : geometry_of after ≡ geometry_of s.parts =
-    measures_stay (as_state s) e told (state_with after new) (always (as_state s) h.0) row in (
-      reached_after (as_state s) (state_with after new) e told h.0 row same z.frames,
+    measures_stay (as_state s) e told (state_with after new) (always (as_state s) (s.sizes.frames, h.0)) row in (
+      reached_after s.sizes.frames (as_state s) (state_with after new) e told h.0 row same,
       record {
         locks = z.locks ∙ (kept.locks ∙ sym z.files);
-        frames = z.frames ∙ kept.frames;
         files = z.files ∙ kept.files;
         slots = z.slots ∙ kept.slots;
         spaces = z.spaces ∙ kept.spaces;

@@ -1,7 +1,7 @@
 -- What a step of a call takes for granted of the parts.
 use Rattle.std.specs.Prelude.{ℕ, List, IfSome}
 use Rattle.hp_base.specs.declared.event.Event.{Event}
-use Rattle.hp_base.specs.declared.event.Event.TheVariants.{Begin, Step, Kill}
+use Rattle.hp_base.specs.declared.event.Event.TheVariants.{Begin, Step, Kill, Resize}
 use Rattle.hp_machine.specs.declared.call.Call.{Call}
 use Rattle.hp_machine.specs.declared.call.Call.TheVariants as call
 use Rattle.hp_fault.specs.Fits.{MapFits, TouchFits, AllocFits}
@@ -28,3 +28,4 @@ abbrev pub EventFits : PartsState → List Seat → Event → Type 0
 EventFits p seats (Begin task op) = Unit {0}
 EventFits p seats (Step task grant) = StepFits p seats task
 EventFits p seats (Kill task) = Unit {0}
+EventFits p seats (Resize frames) = Unit {0}

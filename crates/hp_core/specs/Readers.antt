@@ -6,7 +6,7 @@ use Rattle.hp_base.specs.Numbers.{total}
 use Rattle.hp_base.specs.Indices.{count_below, region_count}
 use Rattle.hp_base.specs.Text.{Sizes}
 use Rattle.hp_base.specs.declared.limits.TheConstants.{LIMIT}
-use Rattle.hp_machine.specs.State.{free_frames}
+use Rattle.hp_machine.specs.State.{active_frames, free_frames}
 use Rattle.hp_machine.specs.Events.{word_of}
 use Rattle.hp_machine.specs.Headline.{all_less, all_more, all_used_owed}
 use Rattle.hp_machine.specs.declared.outcome.Life.{Life}
@@ -18,7 +18,11 @@ use Rattle.hp_core.specs.State.{CoreState, as_state}
 unfoldable pub config_of : CoreState → Sizes
 config_of s = s.sizes
 
--- how many frames are free
+-- how many frames the pool has, which are those that aren't retired
+unfoldable pub frames_of : CoreState → ℕ
+frames_of s = active_frames (as_state s).frame (as_state s).frames
+
+-- how many of them are free
 unfoldable pub free_of : CoreState → ℕ
 free_of s = free_frames (as_state s).frame (as_state s).frames
 

@@ -11,4 +11,4 @@ use Rattle.hp_core.specs.Runs.{Run, IsOpening}
 abbrev pub FramesDontShow : Config → Type 0
 FramesDontShow config = (a b s n : CoreState) (events : List Event) (told other : List Outcome)
     → IsOpening config a → IsOpening config b → Run a events told s → Run b events other n
-    → (other ≡ told) × Alike config.frames (as_state s) (as_state n)
+    → (other ≡ told) × Alike (as_state s) (as_state n)

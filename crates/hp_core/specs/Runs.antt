@@ -1,13 +1,14 @@
 -- What a core does: one event is a row of the machine, and a list of events a run.
-use Rattle.std.specs.Prelude.{◌≡◌, ℕ, true, List, IsSomeAnd, length}
+use Rattle.std.specs.Prelude.{◌≡◌, ◌<◌, ℕ, true, List, IsSomeAnd, length}
 use Rattle.std.specs.List.{zip}
 use Rattle.hp_base.specs.Text.{Sizes, sizes}
 use Rattle.hp_base.specs.declared.config.Config.{Config}
 use Rattle.hp_base.specs.declared.event.Event.{Event}
-use Rattle.hp_base.specs.declared.event.Event.TheVariants.{Begin, Step, Kill}
+use Rattle.hp_base.specs.declared.event.Event.TheVariants.{Begin, Step, Kill, Resize}
 use Rattle.hp_machine.specs.State as machine
 use Rattle.hp_machine.specs.Events as events
 use Rattle.hp_machine.specs.Headline as head
+use Rattle.hp_machine.specs.Resizes.{is_size}
 use Rattle.hp_machine.specs.Wants.{Wants}
 use Rattle.hp_machine.specs.declared.outcome.Outcome.{Outcome}
 use Rattle.hp_machine.specs.declared.outcome.Outcome.TheVariants as outcome
@@ -22,9 +23,9 @@ use Rattle.hp_core.specs.State.{CoreState, as_state, seat_at}
 abbrev pub geometry : Sizes → machine.Geometry
 geometry z = record { files = z.files; slots = z.slots; tasks = z.tasks; limit = LIMIT; space = VPNS; quota = z.quota }
 
--- the state of the machine has the sizes of the core's config
+-- the state of the machine has the sizes of the core's config, and was opened with as many frames
 abbrev pub IsOfConfig : CoreState → Type 0
-IsOfConfig s = ((as_state s).geometry ≡ geometry s.sizes) × ((as_state s).frames ≡ s.sizes.frames)
+IsOfConfig s = ((as_state s).geometry ≡ geometry s.sizes) × events.IsReachedFrom s.sizes.frames (as_state s)
 
 -- the core is the machine's opening state of that config
 unfoldable pub IsOpening : Config → CoreState → Type 0
@@ -45,6 +46,7 @@ IsIdle (outcome.Moved p) = ⊥
 IsIdle (outcome.Blocked holder) = Unit {0}
 IsIdle (outcome.Ended a) = ⊥
 IsIdle outcome.Marked = ⊥
+IsIdle (outcome.Resized frames) = ⊥
 IsIdle (outcome.Refused why) = Unit {0}
 
 -- the headline of the machine's state
@@ -55,11 +57,12 @@ Headline s = head.Headline (as_state s)
 abbrev pub StepWants : PartsState → List Seat → (task : ℕ) → Type 0
 StepWants p seats t = IsSomeAnd (seat_at seats t).call (λ inflight. Wants (pool_of p) t inflight)
 
--- the event is a granted step whose row wants growth
+-- the event is a granted step whose row wants growth, or a resize that brings in new numbers
 abbrev pub WantsGrowth : PartsState → List Seat → Event → Type 0
 WantsGrowth p seats (Begin task op) = ⊥
 WantsGrowth p seats (Step task grant) = (grant ≡ true) × StepWants p seats task
 WantsGrowth p seats (Kill task) = ⊥
+WantsGrowth p seats (Resize frames) = (is_size frames ≡ true) × ((pool_of p).frames < frames)
 
 -- no memory was taken, and none given back: each part and the list of seats have as much room as before
 abbrev pub TakesNoMemory : CoreState → CoreState → Type 0

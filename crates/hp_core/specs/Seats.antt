@@ -9,14 +9,15 @@ use Rattle.hp_machine.specs.declared.outcome.Outcome.TheVariants as outcome
 use Rattle.hp_machine.specs.declared.outcome.Refusal.{Refusal}
 use Rattle.hp_machine.specs.declared.outcome.Refusal.TheVariants as refusal
 use Rattle.hp_base.specs.declared.event.Event.{Event}
-use Rattle.hp_base.specs.declared.event.Event.TheVariants.{Begin, Step, Kill}
+use Rattle.hp_base.specs.declared.event.Event.TheVariants.{Begin, Step, Kill, Resize}
+use Rattle.hp_machine.specs.Resizes.{ResizeRow}
 use Rattle.hp_machine.specs.Standings.{standing}
 use Rattle.hp_fault.specs.Turns.{IfWanting}
 use Rattle.hp_fault.specs.State.{PartsState}
 use Rattle.hp_fault.specs.View.{pool_of}
 use Rattle.hp_core.specs.declared.seat.Seat.{Seat}
 use Rattle.hp_core.specs.State.{seat_at}
-use Rattle.hp_core.specs.Turns.{life_after}
+use Rattle.hp_core.specs.Turns.{IfToldRefused, life_after}
 
 abbrev pub RefusesSeats : Refusal → List Seat → Outcome → List Seat → Type 0
 RefusesSeats why seats told new = (told ≡ outcome.Refused why) × (new ≡ seats)
@@ -55,10 +56,13 @@ unfoldable pub EventSeats : PartsState → List Seat → Event → Outcome → P
 EventSeats p seats (Begin t op) told after new = BeginSeats seats t op told new × (after ≡ p)
 EventSeats p seats (Step t grant) told after new = StepSeats p seats t grant told after new
 EventSeats p seats (Kill t) told after new = KillSeats seats t told new × (after ≡ p)
+EventSeats p seats (Resize frames) told after new =
+    ResizeRow (pool_of p) frames told (pool_of after) × IfToldRefused told (after ≡ p) × (new ≡ seats)
 
--- where a step is blocked, parts and seats are what they were; no begin and no kill is
+-- where a step is blocked, parts and seats are what they were; no other event is
 abbrev pub BlockedStays : PartsState → List Seat → Event → PartsState → List Seat → Type 0
 BlockedStays p seats (Begin t op) after new = ⊥
 BlockedStays p seats (Step t grant) after new =
     IfSome (seat_at seats t).call (λ inflight. IfWanting (standing inflight).wants ((after ≡ p) × (new ≡ seats)))
 BlockedStays p seats (Kill t) after new = ⊥
+BlockedStays p seats (Resize frames) after new = ⊥

@@ -1,14 +1,13 @@
--- What holds of every core: a run of the machine reached it, and its lists fit each other.
+-- What holds of every core: a run of the machine from the frames of its config reached it, and its lists fit.
 use Rattle.std.specs.Prelude.{◌≡◌, length}
 use Rattle.hp_base.specs.Limits.{IsWithinLimits}
-use Rattle.hp_machine.specs.Events.{IsReached}
+use Rattle.hp_machine.specs.Events.{IsReachedFrom}
 use Rattle.hp_fault.specs.State.{IsSized}
 use Rattle.hp_core.specs.State.{CoreState, as_state}
 
 -- what the machine doesn't see
 pub record IsKept (s : CoreState) : Type 0 where
   pub locks : IsSized s.parts
-  pub frames : length s.parts.bank.frames ≡ s.sizes.frames
   pub files : length s.parts.files ≡ s.sizes.files
   pub slots : length s.parts.slots ≡ s.sizes.slots
   pub spaces : length s.parts.spaces ≡ s.sizes.tasks
@@ -17,4 +16,4 @@ pub record IsKept (s : CoreState) : Type 0 where
   pub limits : IsWithinLimits s.sizes.frames s.sizes.files s.sizes.slots s.sizes.tasks
 
 unfoldable pub IsSound : CoreState → Type 0
-IsSound s = IsReached (as_state s) × IsKept s
+IsSound s = IsReachedFrom s.sizes.frames (as_state s) × IsKept s

@@ -18,7 +18,18 @@ IfToldBlocked (outcome.Moved p) Q = Unit {0}
 IfToldBlocked (outcome.Blocked holder) Q = Q
 IfToldBlocked (outcome.Ended a) Q = Unit {0}
 IfToldBlocked outcome.Marked Q = Unit {0}
+IfToldBlocked (outcome.Resized frames) Q = Unit {0}
 IfToldBlocked (outcome.Refused why) Q = Unit {0}
+
+-- where an outcome is Refused, that holds
+abbrev pub IfToldRefused : Outcome → Type 0 → Type 0
+IfToldRefused outcome.Begun Q = Unit {0}
+IfToldRefused (outcome.Moved p) Q = Unit {0}
+IfToldRefused (outcome.Blocked holder) Q = Unit {0}
+IfToldRefused (outcome.Ended a) Q = Unit {0}
+IfToldRefused outcome.Marked Q = Unit {0}
+IfToldRefused (outcome.Resized frames) Q = Unit {0}
+IfToldRefused (outcome.Refused why) Q = Q
 
 -- how a turn is told and the call that it leaves; without memory the call as it stood
 abbrev pub finished : {P : Type 0} → (P → Call) → Result (Turn P) (Stopped P) → Result (Outcome × Option Call) Call

@@ -13,6 +13,7 @@ ghost use Rattle.hp_base.specs.declared.event.Event.TheVariants.{Step};
 ghost use Rattle.hp_core.specs.State.{state_with, seat_at};
 ghost use Rattle.hp_core.specs.Runs.{StepWants, WantsGrowth};
 
+use crate::resizing::resize;
 use crate::seat::{Seat, is_dead, is_killed, step_seat};
 use hp_base::{Event, File, Index, Op, Task, Vpn};
 use hp_fault::Parts;
@@ -192,5 +193,6 @@ pub fn step_event(
         Event::Begin(task, op) => Ok(begin(seats, task, op)),
         Event::Step(task, grant) => step_task(parts, seats, task, grant),
         Event::Kill(task) => Ok(kill(seats, task)),
+        Event::Resize(frames) => resize(parts, frames),
     }
 }

@@ -15,6 +15,7 @@ mod opening;
 mod owing;
 mod picture;
 pub mod readers;
+mod resizing;
 pub mod run;
 mod run_laws;
 pub mod seat;

@@ -4,7 +4,7 @@ ghost use Rattle.hp_base.specs.Numbers.{total};
 ghost use Rattle.hp_base.specs.Indices.{count_below};
 ghost use Rattle.hp_fault.specs.View.{sets_of};
 ghost use Rattle.hp_core.specs.State.{CoreState, seat_at};
-ghost use Rattle.hp_core.specs.Readers.{config_of, free_of, resv_of, used_of, quota_of, calls_of, size_of, reserved_of, regions_of, pages_of};
+ghost use Rattle.hp_core.specs.Readers.{config_of, frames_of, free_of, resv_of, used_of, quota_of, calls_of, size_of, reserved_of, regions_of, pages_of};
 ghost use Rattle.hp_core.specs.Readers.{changes_of, spare_of, life_of, mappings_of, entries_of, translation_of, phase_of};
 ghost use Rattle.hp_core.specs.Readers.{all_reserved_of, all_pages_of};
 ghost use Rattle.hp_core.specs.Runs.{Headline};
@@ -43,6 +43,13 @@ fn count_calls(seats: &[Seat]) -> usize
 
 /// Readers of the pool.
 impl Core {
+    /// How many frames the pool has, free or in use; retired ones don't count (Linux: `nr_huge_pages`).
+    pub fn frames(&self) -> u32
+        ensures { result ≡ frames_of self.now }
+    {
+        self.parts.bank.frames()
+    }
+
     /// How many frames are free (Linux: `free_huge_pages`).
     pub fn free(&self) -> u32
         ensures { result ≡ free_of self.now }

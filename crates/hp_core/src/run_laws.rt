@@ -26,9 +26,10 @@ impl Core {
         hp_meaning::frames_do_not_show();
     }
 
-    /// This core has a history: a list of moments, each an event with the states around it, from the opening on.
+    /// This core has a history: a list of moments, each an event with the states around it, from the
+    /// opening with the frames that its config tells on.
     pub fn has_a_history(&self)
-        ensures { HasHistory (as_state self.now) }
+        ensures { HasHistory self.now.sizes.frames (as_state self.now) }
     {
         hp_laws::a_reached_state_has_a_history();
         let _ = &self.config;

@@ -28,10 +28,9 @@ state_of p = record {
 abbrev pub IsSized : PartsState → Type 0
 IsSized p = length p.locks ≡ length p.files
 
--- as many of each thing as before
+-- as many of each thing as before; how many frames there are, each row tells
 abbrev pub SizesStay : PartsState → PartsState → Type 0
 SizesStay old new = record {
-  frames : length new.bank.frames ≡ length old.bank.frames;
   files : length new.files ≡ length old.files;
   slots : length new.slots ≡ length old.slots;
   locks : length new.locks ≡ length old.locks;

@@ -328,4 +328,4 @@ no_dead_ends s (Step t grant) reached =
     (λ _. by_call (s.calls t) (λ _. (_, _, (refl, refl)))
     (λ c e. let r = call_leads s t (is_killed (s.life t)) grant c reached e in (r.0, _, (r.1, r.2, r.3, refl))))
 no_dead_ends s (Kill t) reached = by_bool (is_alive (s.life t)) (λ _. (_, _, (refl, refl))) (λ _. (_, _, (refl, refl)))
-no_dead_ends s (Resize size) reached = resize_leads s size
+no_dead_ends s (Resize size) reached = let r = resize_leads (pool_of s) size in (r.0, _, (r.1, r.2, refl))

@@ -4,6 +4,7 @@ use Rattle.std.specs.Prelude.{Bool, true, false, not, cond, max, min, nat_le, na
 use Rattle.std.proofs.lemmas.Bool.Decides.{nat_tests}
 use Rattle.hp_base.specs.Numbers.{put, bit}
 use Rattle.hp_base.specs.Indices.{count_below}
+use Rattle.hp_base.specs.declared.event.Event.TheVariants.{Resize}
 use Rattle.hp_base.proofs.Counting.{count_below-ext, count_below_none, count_below-pairs, count_below_mono, count_below_wider, count_below_full}
 use Rattle.hp_base.proofs.Puts.{put_same, put_other, same_or_other}
 use Rattle.hp_base.proofs.Totals.{count_below-change, count_below_somewhere}
@@ -12,8 +13,8 @@ use Rattle.hp_frames.proofs.Frames.{free_is, retired_is}
 use Rattle.hp_frames.specs.declared.frame.FrameState.{FrameState}
 use Rattle.hp_frames.specs.declared.frame.FrameState.TheVariants as state
 use Rattle.hp_machine.specs.Headline.{Place, Free, Hand, Page, Retired, IsAt}
-use Rattle.hp_machine.specs.Events.{ResizeRow, Tells, Refuses}
-use Rattle.hp_machine.specs.Resizes.{is_size, GrowsTo, Retires, surplus, grown, shrunk}
+use Rattle.hp_machine.specs.Events.{Row}
+use Rattle.hp_machine.specs.Resizes.{is_size, GrowsTo, Retires, ResizeRow, surplus}
 use Rattle.hp_machine.specs.State.{Geometry, Pool, State, pool_of, with_pool, free_frames, active_frames, actives, frees}
 use Rattle.hp_machine.specs.declared.outcome.Outcome.{Outcome}
 use Rattle.hp_machine.specs.declared.outcome.Outcome.TheVariants as outcome
@@ -255,40 +256,39 @@ grow_some s n l =
         → (if nat_lt x (max s.frames n) && nat_le s.frames x then state.Free else f x) ≡ f x
     past f x m = grind (arith, nat_tests)
 
--- so there is a state after each resize
-pub resize_leads : (s : State) (size : ℕ) → (o : Outcome) × (n : State) × ResizeRow s size o n
-unfolding ResizeRow
-resize_leads s size = by_size (is_size size) (nat_lt (actives (pool_of s)) size) refl
-  where
-    by_size : (may more : Bool) → nat_lt (actives (pool_of s)) size ≡ more → (o : Outcome) × (n : State)
-        × MatchBool may
-        ((frame : ℕ → FrameState) × MatchBool more
-        (GrowsTo (pool_of s) size frame × Tells (outcome.Resized size) (with_pool s (grown (pool_of s) size frame)) o n)
-        (Retires (pool_of s) (surplus (pool_of s) size) frame
-        × Tells (outcome.Resized (actives (pool_of s) - surplus (pool_of s) size)) (with_pool s (shrunk (pool_of s) frame)) o n))
-        (Refuses refusal.BadSize s o n)
-    by_size true true e = let w = grow_some (pool_of s) size (grind (arith, nat_tests)) in (_, _, (w.0, (w.1, (refl, refl))))
-    by_size true false e = let w = retire_some (pool_of s) (surplus (pool_of s) size) (omega arith) in (_, _, (w.0, (w.1, (refl, refl))))
-    by_size false more e = (_, _, (refl, refl))
-
 -- the state with other frames
 abbrev pub reframed : State → (frames : ℕ) → (ℕ → FrameState) → State
 reframed s m frame = with_pool s (record (pool_of s) { frames = m; frame = frame })
 
+-- so there is a pool after each resize
+pub resize_leads : (s : Pool) (size : ℕ) → (o : Outcome) × (new : Pool) × ResizeRow s size o new
+unfolding ResizeRow
+resize_leads s size = by_size (is_size size) (nat_lt (actives s) size) refl
+  where
+    by_size : (may more : Bool) → nat_lt (actives s) size ≡ more → (o : Outcome) × (new : Pool)
+        × MatchBool may
+        ((frame : ℕ → FrameState) × MatchBool more
+        (GrowsTo s size frame × (o ≡ outcome.Resized size) × (new ≡ record s { frames = max s.frames size; frame = frame }))
+        (Retires s (surplus s size) frame × (o ≡ outcome.Resized (actives s - surplus s size)) × (new ≡ record s { frame = frame })))
+        ((o ≡ outcome.Refused refusal.BadSize) × (new ≡ s))
+    by_size true true e = let w = grow_some s size (grind (arith, nat_tests)) in (_, _, (w.0, (w.1, refl, refl)))
+    by_size true false e = let w = retire_some s (surplus s size) (omega arith) in (_, _, (w.0, (w.1, refl, refl)))
+    by_size false more e = (_, _, (refl, refl))
+
 -- a Resize is refused and changes nothing, or frames come in or go, and the reserve count is covered still
-pub resize_cases : (s : State) (size : ℕ) (o : Outcome) (n : State) (P : Type 0) → ResizeRow s size o n
+pub resize_cases : (s : State) (size : ℕ) (o : Outcome) (n : State) (P : Type 0) → Row s (Resize size) o n
     → ((why : Refusal) → o ≡ outcome.Refused why → n ≡ s → P)
     → ((told m : ℕ) (frame : ℕ → FrameState) → o ≡ outcome.Resized told → Shifts s.frames m s.frame frame
     → (s.resv ≤ frees (pool_of s) → s.resv ≤ free_frames frame m) → n ≡ reframed s m frame → P) → P
 unfolding ResizeRow
-resize_cases s size o n P row refused shifts =
+resize_cases s size o n P (pool, row, is) refused shifts =
     by_test (is_size size) row
     (λ _ r. by_test (nat_lt (actives (pool_of s)) size) r.1
-    (λ _ q. shifts size (max s.frames size) r.0 q.1.0 (grows (pool_of s) size r.0 q.0)
-    (λ covered. let more = grown_frees (pool_of s) size r.0 q.0 in omega arith) q.1.1)
-    (λ _ q. shifts _ s.frames r.0 q.1.0 (retires (pool_of s) _ r.0 q.0)
-    (λ covered. let fewer = retired_frees (pool_of s) _ r.0 q.0 in omega arith) q.1.1))
-    (λ _ r. refused _ r.0 r.1)
+    (λ _ q. shifts size (max s.frames size) r.0 q.1 (grows (pool_of s) size r.0 q.0)
+    (λ covered. let more = grown_frees (pool_of s) size r.0 q.0 in omega arith) (is ∙ ap (with_pool s) q.2))
+    (λ _ q. shifts _ s.frames r.0 q.1 (retires (pool_of s) _ r.0 q.0)
+    (λ covered. let fewer = retired_frees (pool_of s) _ r.0 q.0 in omega arith) (is ∙ ap (with_pool s) q.2)))
+    (λ _ r. refused _ r.0 (is ∙ ap (with_pool s) r.1))
 
 -- a shift keeps what every row keeps
 pub shift_keeps : (g : Geometry) (s : State) (m : ℕ) (frame : ℕ → FrameState) → Inv g s → Shifts s.frames m s.frame frame

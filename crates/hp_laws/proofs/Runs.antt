@@ -332,7 +332,7 @@ opens_well g frames = record {
 
 -- what holds in every reached state
 pub always : (s : State) → IsReached s → Always s
-always s reached = run_keeps (opening s.geometry reached.0) reached.1 s (opens_well s.geometry reached.0) reached.2
+always s (frames, (events, run)) = run_keeps (opening s.geometry frames) events s (opens_well s.geometry frames) run
 
 -- so the headline holds in every reached state
 pub headline : (s : State) → IsReached s → Headline s

@@ -18,9 +18,9 @@ use Rattle.hp_laws.specs.Histories.{Moment, History, in_order}
 use Rattle.hp_laws.specs.Promises.{IsPromised, IsUndisturbed, IsServed, TellsNoLack}
 use Rattle.hp_laws.specs.Words.{LastWord, Read, ReadTheLastWord}
 
--- the state has a history
-abbrev pub HasHistory : State → Type 0
-HasHistory s = (frames : ℕ) × (moments : List Moment) × History s.geometry frames moments s
+-- the state has a history, from the opening with so many frames on
+abbrev pub HasHistory : (frames : ℕ) → State → Type 0
+HasHistory frames s = (moments : List Moment) × History s.geometry frames moments s
 
 -- of one call, from its begin on, the steps that moved or ended it are at most so many; of a truncation that has set
 -- the size the top counts, where its sweep began

@@ -15,7 +15,7 @@ ghost use Rattle.hp_base.specs.declared.event.Op.{Op};
 ghost use Rattle.hp_base.specs.declared.event.Event.{Event};
 ghost use Rattle.hp_base.specs.declared.event.Event.TheVariants.{Begin, Step};
 ghost use Rattle.hp_machine.specs.State.{Geometry, State, pool_of, is_dead, is_killed};
-ghost use Rattle.hp_machine.specs.Events.{IsReached, Row, Run, first, opening, word_of};
+ghost use Rattle.hp_machine.specs.Events.{IsReached, IsReachedFrom, Row, Run, first, opening, word_of};
 ghost use Rattle.hp_machine.specs.Headline.{Headline};
 ghost use Rattle.hp_machine.specs.Wants.{Wants};
 ghost use Rattle.hp_machine.specs.Views.{slot_held, locked_file};
@@ -220,7 +220,7 @@ pub fn a_run_has_its_history()
 
 /// So each reached state has a history.
 pub fn a_reached_state_has_a_history()
-    ensures { (s : State) → IsReached s → HasHistory s }
+    ensures { (frames : ℕ) (s : State) → IsReachedFrom frames s → HasHistory frames s }
 {}
 
 /// A load tells the last word of its page at the step that reads it: that of the last store that

@@ -1,14 +1,13 @@
 -- The machine: what each event may do, and what a list of events leads to.
-use Rattle.std.specs.Prelude.{◌≡◌, ℕ, ◌-◌, ◌&&◌, Bool, true, false, not, Option, Some, None, List, [], ◌∷◌, MatchBool, MatchOption}
+use Rattle.std.specs.Prelude.{◌≡◌, ℕ, ◌&&◌, Bool, true, false, not, Option, Some, None, List, [], ◌∷◌, MatchBool, MatchOption}
 use Rattle.std.specs.Prelude.{nat_le, nat_lt, if◌then◌else◌}
 use Rattle.hp_base.specs.Numbers.{put}
 use Rattle.hp_base.specs.declared.event.Op.{Op}
 use Rattle.hp_base.specs.declared.event.Op.TheVariants as op
 use Rattle.hp_base.specs.declared.event.Event.{Event}
 use Rattle.hp_base.specs.declared.event.Event.TheVariants.{Begin, Step, Kill, Resize}
-use Rattle.hp_frames.specs.declared.frame.FrameState.{FrameState}
 use Rattle.hp_frames.specs.declared.frame.FrameState.TheVariants.{Free, Hand}
-use Rattle.hp_machine.specs.State.{Geometry, Pool, State, pool_of, with_pool, actives, is_alive, is_killed, is_dead}
+use Rattle.hp_machine.specs.State.{Geometry, Pool, State, pool_of, with_pool, is_alive, is_killed, is_dead}
 use Rattle.hp_machine.specs.TouchRows.{TouchRow}
 use Rattle.hp_machine.specs.MapRows.{MapRow}
 use Rattle.hp_machine.specs.AllocRows.{AllocRow}
@@ -16,7 +15,7 @@ use Rattle.hp_machine.specs.PunchRows.{PunchRow}
 use Rattle.hp_machine.specs.TruncateRows.{TruncateRow}
 use Rattle.hp_machine.specs.UnmapRows.{UnmapRow}
 use Rattle.hp_machine.specs.ExitRows.{ExitRow}
-use Rattle.hp_machine.specs.Resizes.{is_size, GrowsTo, Retires, surplus, grown, shrunk}
+use Rattle.hp_machine.specs.Resizes.{ResizeRow}
 use Rattle.hp_machine.specs.declared.touch.Access.TheVariants as access
 use Rattle.hp_machine.specs.declared.touch.TouchPhase.TheVariants as touch
 use Rattle.hp_machine.specs.declared.map.MapPhase.TheVariants as map
@@ -194,23 +193,12 @@ KillRow s t tells new =
     (Tells outcome.Marked (record s { life = put s.life t life.Killed }) tells new)
     (Refuses refusal.NotAlive s tells new)
 
--- a number of frames that no pool may have: BadSize. More than there are: free ones come in. Else the surplus is
--- retired, as far as it is free and nobody reserved it. The frames that there are then are told
-unfoldable pub ResizeRow : State → (frames : ℕ) → Outcome → State → Type 0
-ResizeRow s n tells new =
-    MatchBool (is_size n)
-    ((frame : ℕ → FrameState) × MatchBool (nat_lt (actives (pool_of s)) n)
-    (GrowsTo (pool_of s) n frame × Tells (outcome.Resized n) (with_pool s (grown (pool_of s) n frame)) tells new)
-    (Retires (pool_of s) (surplus (pool_of s) n) frame
-    × Tells (outcome.Resized (actives (pool_of s) - surplus (pool_of s) n)) (with_pool s (shrunk (pool_of s) frame)) tells new))
-    (Refuses refusal.BadSize s tells new)
-
 -- what an event may do
 abbrev pub Row : State → Event → Outcome → State → Type 0
 Row s (Begin t op) tells new = BeginRow s t op tells new
 Row s (Step t grant) tells new = StepRow s t grant tells new
 Row s (Kill t) tells new = KillRow s t tells new
-Row s (Resize n) tells new = ResizeRow s n tells new
+Row s (Resize n) tells new = (pool : Pool) × ResizeRow (pool_of s) n tells pool × (new ≡ with_pool s pool)
 
 -- the events with their outcomes lead from one state to the other
 abbrev pub Run : State → List (Event × Outcome) → State → Type 0
@@ -242,6 +230,10 @@ opening g frames = record {
   calls = λ _. None;
 }
 
--- some run from the opening state leads there
+-- some run from the opening state with so many frames leads there
+abbrev pub IsReachedFrom : (frames : ℕ) → State → Type 0
+IsReachedFrom frames s = (events : List (Event × Outcome)) × Run (opening s.geometry frames) events s
+
+-- with some number of frames
 abbrev pub IsReached : State → Type 0
-IsReached s = (frames : ℕ) × (events : List (Event × Outcome)) × Run (opening s.geometry frames) events s
+IsReached s = (frames : ℕ) × IsReachedFrom frames s

@@ -1,9 +1,12 @@
 -- What the resize of a pool does to its frames (Linux: `set_max_huge_pages`).
-use Rattle.std.specs.Prelude.{◌≡◌, ℕ, ◌+◌, ◌-◌, ◌<◌, ◌≤◌, ◌⊎◌, Bool, max, min}
+use Rattle.std.specs.Prelude.{◌≡◌, ℕ, ◌+◌, ◌-◌, ◌<◌, ◌≤◌, ◌⊎◌, Bool, MatchBool, max, min, nat_lt}
 use Rattle.hp_base.specs.Limits.{is_in}
 use Rattle.hp_frames.specs.declared.frame.FrameState.{FrameState}
 use Rattle.hp_frames.specs.declared.frame.FrameState.TheVariants.{Free, Retired}
 use Rattle.hp_machine.specs.State.{Pool, active_frames, actives, frees}
+use Rattle.hp_machine.specs.declared.outcome.Outcome.{Outcome}
+use Rattle.hp_machine.specs.declared.outcome.Outcome.TheVariants.{Resized, Refused}
+use Rattle.hp_machine.specs.declared.outcome.Refusal.TheVariants.{BadSize}
 
 -- a pool may have so many frames
 abbrev pub is_size : (frames : ℕ) → Bool
@@ -26,10 +29,12 @@ pub record Retires (s : Pool) (k : ℕ) (frame : ℕ → FrameState) : Type 0 wh
 abbrev pub surplus : Pool → (frames : ℕ) → ℕ
 surplus s n = min (actives s - n) (frees s - s.resv)
 
--- the pool with n frames
-abbrev pub grown : Pool → (frames : ℕ) → (ℕ → FrameState) → Pool
-grown s n frame = record s { frames = max s.frames n; frame = frame }
-
--- the pool with frames retired
-abbrev pub shrunk : Pool → (ℕ → FrameState) → Pool
-shrunk s frame = record s { frame = frame }
+-- A number of frames that no pool may have: BadSize. More than there are: free frames come in. Else what is left over
+-- is retired. The frames that the pool has then are told
+unfoldable pub ResizeRow : Pool → (frames : ℕ) → Outcome → Pool → Type 0
+ResizeRow s n tells new =
+    MatchBool (is_size n)
+    ((frame : ℕ → FrameState) × MatchBool (nat_lt (actives s) n)
+    (GrowsTo s n frame × (tells ≡ Resized n) × (new ≡ record s { frames = max s.frames n; frame = frame }))
+    (Retires s (surplus s n) frame × (tells ≡ Resized (actives s - surplus s n)) × (new ≡ record s { frame = frame })))
+    ((tells ≡ Refused BadSize) × (new ≡ s))
