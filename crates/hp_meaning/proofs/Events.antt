@@ -1,32 +1,25 @@
 -- The events, taken by a state and by that state with its frames renamed.
-use Rattle.std.proofs.Common.{◌≡◌, ℕ, ◌-◌, ◌≤◌, refl, ap, sym, ◌∙◌, arith}
+use Rattle.std.proofs.Common.{◌≡◌, ℕ, refl, ap, sym, ◌∙◌}
 use Rattle.std.proofs.Math.Path.{fun_ext}
-use Rattle.std.specs.Prelude.{not, ◌&&◌, max, nat_lt, Option, Some, None}
+use Rattle.std.specs.Prelude.{not, ◌&&◌, Option, Some, None}
 use Rattle.std.specs.Option.{option_map}
 use Rattle.hp_base.specs.Numbers.{put}
 use Rattle.hp_base.specs.declared.event.Op.{Op}
 use Rattle.hp_base.specs.declared.event.Op.TheVariants as op
 use Rattle.hp_base.specs.declared.event.Event.{Event}
 use Rattle.hp_base.specs.declared.event.Event.TheVariants.{Begin, Step, Kill, Resize}
-use Rattle.hp_frames.specs.declared.frame.FrameState.{FrameState}
-use Rattle.hp_machine.specs.Resizes.{is_size, surplus}
-use Rattle.hp_machine.specs.State.{Pool, State, pool_of, with_pool, actives, is_alive, is_killed, is_dead}
-use Rattle.hp_machine.specs.Events.{Row, BeginRow, StepRow, KillRow, ResizeRow, first, is_exit, Tells, lives_after}
+use Rattle.hp_machine.specs.State.{Pool, State, pool_of, with_pool, is_alive, is_killed, is_dead}
+use Rattle.hp_machine.specs.Events.{Row, BeginRow, StepRow, KillRow, first, is_exit, Tells, lives_after}
 use Rattle.hp_machine.specs.Views.{hand}
 use Rattle.hp_machine.specs.declared.outcome.Life.{Life}
 use Rattle.hp_machine.specs.declared.outcome.Outcome.{Outcome}
-use Rattle.hp_machine.specs.declared.outcome.Outcome.TheVariants as outcome
 use Rattle.hp_machine.specs.declared.call.Call.{Call}
 use Rattle.hp_machine.specs.declared.call.Call.TheVariants as call
 use Rattle.hp_meaning.specs.Renaming.{Renaming, call_renamed, renamed}
-use Rattle.hp_meaning.proofs.Names.{put_map, wider}
-use Rattle.hp_meaning.proofs.Parts.{IsUsed, Used, by_tests, by_like_tests, by_names, actives_renamed, elsewhere}
+use Rattle.hp_meaning.proofs.Names.{as_many, put_map, wider}
+use Rattle.hp_meaning.proofs.Parts.{IsUsed, Used, by_tests, by_names}
 use Rattle.hp_meaning.proofs.Calls.{CallFollows, call_agrees, call_row}
-use Rattle.hp_meaning.proofs.Resizes.{grown_alike, shrunk_alike, surplus_renamed, fresh_used}
-
--- what is as much is no less
-pub as_many : {m n : ℕ} → n ≡ m → m ≤ n
-as_many e = omega arith
+use Rattle.hp_meaning.proofs.Resizes.{ResizeFollows, resize_row}
 
 -- a call begins with no frame in its hand
 first_renamed : (to : ℕ → ℕ) (o : Op) → call_renamed to (first o) ≡ first o
@@ -90,43 +83,18 @@ after_call s r t c o o' pool pool' next next' after after' h k e d =
       states = d ∙ ((λ i. record (with_pool (renamed r s) (k.pools i)) { life = lives i; calls = calls i }) ∙ sym (ap (renamed names) e));
     }
 
--- after a resize, which moves frames that aren't in use
-after_resize : (s : State) (r : Renaming s.frames) (n : ℕ) (frame frame' : ℕ → FrameState) (names : Renaming n)
-    {wanted o o' : Outcome} {after after' : State}
-    → InUse s → ((x : ℕ) → IsUsed (s.frame x) → names.to x ≡ r.to x) → frame' ≡ (λ y. frame (names.back y))
-    → Tells wanted (with_pool s (record (pool_of s) { frames = n; frame = frame })) o after
-    → Tells wanted (with_pool (renamed r s) (record (pool_of (renamed r s)) { frames = n; frame = frame' })) o' after'
+-- after a resize
+after_resize : (s : State) (r : Renaming s.frames) (o o' : Outcome) (pool pool' : Pool) (after after' : State)
+    → InUse s → ResizeFollows (pool_of s) r o pool o' pool' → after ≡ with_pool s pool → after' ≡ with_pool (renamed r s) pool'
     → EventFollows o after o' after'
 unfolding wider
-after_resize s r n frame frame' names h keeps same a b =
-    let pools = elsewhere (pool_of s) r names n s.resv s.used frame frame' h.pool keeps same in
-    let calls = calls_agree s r.to names.to h keeps in
+after_resize s r o o' pool pool' after after' h k e d =
+    let calls = calls_agree s r.to k.names.to h k.keeps in
     record {
-      names = wider (as_many (ap (λ (m : State). m.frames) a.1)) names;
-      tells = b.0 ∙ sym a.0;
-      states = b.1 ∙ ((λ i. record (with_pool (renamed r s) (pools i)) { calls = calls i }) ∙ sym (ap (renamed names) a.1));
+      names = wider (as_many (ap (λ (m : State). m.frames) e)) k.names;
+      tells = k.tells;
+      states = d ∙ ((λ i. record (with_pool (renamed r s) (k.pools i)) { calls = calls i }) ∙ sym (ap (renamed k.names) e));
     }
-
--- a resize and the same resize of the renamed state
-resize_row : (s : State) (r : Renaming s.frames) (n : ℕ) (o o' : Outcome) (after after' : State)
-    → InUse s → ResizeRow s n o after → ResizeRow (renamed r s) n o' after' → EventFollows o after o' after'
-unfolding ResizeRow wider
-resize_row s r n o o' after after' h a b =
-    by_tests (is_size n) a b
-    (λ _ a b. by_like_tests (nat_lt (actives (pool_of s)) n) (nat_lt (actives (pool_of (renamed r s))) n)
-    (ap (λ (k : ℕ). nat_lt k n) (actives_renamed (pool_of s) r refl)) a.1 b.1
-    (λ _ c d.
-    let grown = grown_alike (pool_of s) r n a.0 b.0 (omega arith) c.0 d.0 in
-    after_resize s r (max s.frames n) a.0 b.0 grown.names h
-    (λ x used. grown.keeps x (fresh_used s.frames (max s.frames n) s.frame x used.1)) grown.same c.1 d.1)
-    (λ _ c d.
-    let shrunk = shrunk_alike (pool_of s) r n a.0 b.0 c.0 d.0 in
-    let left : actives (pool_of (renamed r s)) - surplus (pool_of (renamed r s)) n ≡ actives (pool_of s) - surplus (pool_of s) n =
-    ap (λ (k : ℕ). k - surplus (pool_of (renamed r s)) n) (actives_renamed (pool_of s) r refl)
-    ∙ ap (λ (k : ℕ). actives (pool_of s) - k) (surplus_renamed (pool_of s) r n) in
-    after_resize s r s.frames a.0 b.0 shrunk.names h (λ x used. shrunk.keeps x used.0) shrunk.same c.1
-    (d.1.0 ∙ ap (λ (k : ℕ). outcome.Resized k) left, d.1.1)))
-    (λ _ a b. under r a b refl)
 
 -- an event and the same event of the renamed state have one outcome, and lead to states that are each other renamed
 pub event_row : (s : State) (r : Renaming s.frames) (event : Event) (o o' : Outcome) (after after' : State)
@@ -150,4 +118,5 @@ event_row s r (Step t grant) o o' after after' h a b =
     (λ _ a b. under r a b refl)
     (λ c _ a b. after_call s r t c o o' a.0 b.0 a.1 b.1 after after' h (call_row t (is_killed (s.life t)) grant c h.pool a.2 b.2) a.3 b.3))
 event_row s r (Kill t) o o' after after' h a b = by_tests (is_alive (s.life t)) a b (λ _ a b. under r a b refl) (λ _ a b. under r a b refl)
-event_row s r (Resize n) o o' after after' h a b = resize_row s r n o o' after after' h a b
+event_row s r (Resize n) o o' after after' h a b =
+    after_resize s r o o' a.0 b.0 after after' h (resize_row (pool_of s) r n o o' a.0 b.0 h.pool a.1 b.1) a.2 b.2

@@ -24,6 +24,10 @@ one_term n k v l =
 unfoldable pub wider : {frames more : ℕ} → frames ≤ more → Renaming frames → Renaming more
 wider l r = record { to = r.to; back = r.back; there = r.there; here = r.here; fixed = λ x m. r.fixed x (omega arith) }
 
+-- what is as much is no less
+pub as_many : {m n : ℕ} → n ≡ m → m ≤ n
+as_many e = omega arith
+
 -- each frame keeps its name
 unfoldable pub own_names : (frames : ℕ) → Renaming frames
 own_names frames = record { to = λ x. x; back = λ x. x; there = λ x. refl; here = λ x. refl; fixed = λ x l. refl }

@@ -10,8 +10,8 @@ use Rattle.hp_machine.specs.declared.outcome.Outcome.{Outcome}
 use Rattle.hp_laws.proofs.Invariant.{Inv}
 use Rattle.hp_laws.proofs.Runs.{Always, row_keeps, opens_well}
 use Rattle.hp_meaning.specs.Renaming.{Renaming, renamed, Alike, events_of}
-use Rattle.hp_meaning.proofs.Events.{InUse, event_row, as_many}
-use Rattle.hp_meaning.proofs.Names.{own_names, wider}
+use Rattle.hp_meaning.proofs.Events.{InUse, event_row}
+use Rattle.hp_meaning.proofs.Names.{as_many, own_names, wider}
 use Rattle.hp_meaning.proofs.Parts.{IsUsed}
 
 -- in a reached state what names a frame names one in use
