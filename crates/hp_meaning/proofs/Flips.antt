@@ -107,7 +107,11 @@ flip_once {A} r a b f g x y l k was was' alike =
 -- some flip, and then others
 and_then : {A : Type 0} {n : ℕ} {a : A} {r : Renaming n} {f mid f' mid' g' : ℕ → A} (once : FlipsAlike A n a r f mid mid')
     → ((z : ℕ) → f z ≢ a → mid z ≢ a) → FlipsAlike A n a once.names mid f' g' → FlipsAlike A n a r f f' g'
-and_then once others rest = record { names = rest.names; keeps = λ z h. rest.keeps z (others z h) ∙ once.keeps z h; same = rest.same }
+and_then once others rest = record {
+  names = rest.names;
+  keeps = λ z h. rest.keeps z (others z h) ∙ once.keeps z h;
+  same = rest.same;
+}
 
 -- in both families k numbers flip: one of each, and then the others
 flips_by : {A : Type 0} (k : ℕ) (holds : A → Bool) (n : ℕ) (a b : A) (r : Renaming n) (f f' g g' : ℕ → A)

@@ -211,7 +211,9 @@ takes {rename = rename} {s = s} {r = r} resv used x y taken h e d a b same =
       turns =
           b.0 ∙ (ap (λ (w : ℕ). Moved (taken w)) (sym called)
           ∙ (ap (λ p. Moved p) (same names.to x) ∙ sym (ap (turn_renamed (rename names.to)) a.0)));
-      pools = b.1 ∙ (elsewhere s r names s.frames resv used (put s.frame x Hand) _ h keeps frame ∙ sym (ap (pool_renamed names) a.1));
+      pools =
+          b.1
+          ∙ (elsewhere s r names s.frames resv used (put s.frame x Hand) _ h keeps frame ∙ sym (ap (pool_renamed names) a.1));
       count = ap (λ (m : Pool). m.frames) a.1;
     }
 

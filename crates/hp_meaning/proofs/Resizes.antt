@@ -15,13 +15,14 @@ use Rattle.hp_meaning.specs.Renaming.{Renaming}
 use Rattle.hp_meaning.proofs.Counts.{below_or_past, count_below-not}
 use Rattle.hp_meaning.proofs.Flips.{Flips, FlipsAlike, flips_alike}
 use Rattle.hp_meaning.proofs.Names.{as_many, wider, fixed_back, back_below}
-use Rattle.hp_meaning.proofs.Parts.{pool_renamed, IsUsed, Used, by_tests, by_like_tests, actives_renamed, frees_renamed, elsewhere}
+use Rattle.hp_meaning.proofs.Parts.{pool_renamed, IsUsed, Used, by_tests, by_like_tests}
+use Rattle.hp_meaning.proofs.Parts.{actives_renamed, frees_renamed, elsewhere}
 
 -- numbers from `frames` on to `more` are free frames
 with_fresh : (frames more : ℕ) → (ℕ → FrameState) → ℕ → FrameState
 with_fresh frames more frame x = if nat_le frames x && nat_lt x more then Free else frame x
 
--- a number below them is where it was
+-- a frame below them is where it was
 fresh_below : (frames more : ℕ) (frame : ℕ → FrameState) (x : ℕ) → x < frames → with_fresh frames more frame x ≡ frame x
 unfolding with_fresh
 fresh_below frames more frame x l = grind (arith, nat_tests)
@@ -53,7 +54,8 @@ fresh_above {frames} more r frame y l =
 fresh_renamed : {frames : ℕ} (more : ℕ) (r : Renaming frames) (frame : ℕ → FrameState)
     → ◌≡◌ {A = ℕ → FrameState} (with_fresh frames more (λ y. frame (r.back y))) (λ y. with_fresh frames more frame (r.back y))
 fresh_renamed {frames} more r frame = fun_ext (λ y. elim (below_or_past y frames) [
-  | inl l ↦ fresh_below frames more (λ z. frame (r.back z)) y l ∙ sym (fresh_below frames more frame (r.back y) (back_below r y l))
+  | inl l ↦
+      fresh_below frames more (λ z. frame (r.back z)) y l ∙ sym (fresh_below frames more frame (r.back y) (back_below r y l))
   | inr l ↦ fresh_above more r frame y l
 ])
 
@@ -70,7 +72,7 @@ grown_flips s n frame h x = elim (below_or_past x s.frames) [
   ]
 ]
 
--- as many frames are retired in both pools once they have as many
+-- once both pools have n frames, as many are retired in both
 grown_alike : (s : Pool) (r : Renaming s.frames) (n : ℕ) (frame frame' : ℕ → FrameState) (l : s.frames ≤ max s.frames n)
     → GrowsTo s n frame → GrowsTo (pool_renamed r s) n frame'
     → FlipsAlike FrameState (max s.frames n) Retired (wider l r) (with_fresh s.frames (max s.frames n) s.frame) frame frame'
