@@ -1,8 +1,7 @@
 -- One step of a call, taken by a pool and by that pool with its frames renamed.
-use Rattle.std.proofs.Common.{◌≡◌, ◌≢◌, ℕ, refl, ap, sym, ◌∙◌}
+use Rattle.std.proofs.Common.{◌≡◌, ℕ, refl, ap, sym, ◌∙◌}
 use Rattle.std.specs.Prelude.{Bool, Option, Some, None}
 use Rattle.std.specs.Option.{option_map}
-use Rattle.hp_frames.specs.declared.frame.FrameState.TheVariants.{Free}
 use Rattle.hp_machine.specs.State.{Pool}
 use Rattle.hp_machine.specs.Events.{CallRow, word_of, told, left}
 use Rattle.hp_machine.specs.Views.{hand}
@@ -17,7 +16,7 @@ use Rattle.hp_machine.specs.declared.call.Call.TheVariants as call
 use Rattle.hp_machine.specs.declared.call.Turn.{Turn}
 use Rattle.hp_machine.specs.declared.call.Turn.TheVariants.{Moved, Blocked, Ended}
 use Rattle.hp_meaning.specs.Renaming.{Renaming, call_renamed, touch_renamed, alloc_renamed, punch_renamed, truncate_renamed}
-use Rattle.hp_meaning.proofs.Parts.{pool_renamed, turn_renamed, unnamed, Used, Follows}
+use Rattle.hp_meaning.proofs.Parts.{pool_renamed, turn_renamed, unnamed, IsUsed, Used, Follows}
 use Rattle.hp_meaning.proofs.Touches.{touch_row, alloc_row}
 use Rattle.hp_meaning.proofs.Maps.{map_row, unmap_row, exit_row}
 use Rattle.hp_meaning.proofs.Removals.{punch_row, truncate_row}
@@ -66,7 +65,7 @@ call_agrees p q (Some c) h = refl
 pub record CallFollows (frames : ℕ) (s : Pool) (r : Renaming frames) (o : Outcome) (new : Pool) (next : Option Call)
     (o' : Outcome) (new' : Pool) (next' : Option Call) : Type 0 where
   pub names : Renaming frames
-  pub keeps : (x : ℕ) → s.frame x ≢ Free → names.to x ≡ r.to x
+  pub keeps : (x : ℕ) → IsUsed (s.frame x) → names.to x ≡ r.to x
   pub tells : o' ≡ o
   pub calls : next' ≡ option_map (call_renamed names.to) next
   pub pools : new' ≡ pool_renamed names new

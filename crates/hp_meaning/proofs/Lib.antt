@@ -1,9 +1,11 @@
 pub mod AllocAlone
 pub mod Alone
 pub mod Calls
+pub mod Counts
 pub mod Emptying
 pub mod Events
 pub mod Filling
+pub mod Flips
 pub mod Idle
 pub mod MapAlone
 pub mod Maps
@@ -12,8 +14,9 @@ pub mod Parts
 pub mod PlainMeaning
 pub mod PunchAlone
 pub mod Removals
+pub mod Resizes
 pub mod Runs
 pub mod TouchAlone
+pub mod Touches
 pub mod TruncateAlone
 pub mod UnmapAlone
-pub mod Touches

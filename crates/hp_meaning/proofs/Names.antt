@@ -1,5 +1,5 @@
--- Frames under other names: how many are free, and what a change at one place looks like.
-use Rattle.std.proofs.Common.{◌≡◌, ◌≢◌, ℕ, ◌+◌, ◌<◌, refl, ap, sym, ◌∙◌, subst, arith, inl, inr}
+-- Frames under other names: how many are in a set, and what a change at one place looks like.
+use Rattle.std.proofs.Common.{◌≡◌, ◌≢◌, ℕ, ◌+◌, ◌<◌, ◌≤◌, refl, ap, sym, ◌∙◌, arith, inl, inr}
 use Rattle.std.proofs.Math.Path.{fun_ext}
 use Rattle.std.proofs.lemmas.Bool.Decides.{nat_tests}
 use Rattle.std.specs.Prelude.{Bool, ◌==◌, Option, Some, None, is_some, if◌then◌else◌}
@@ -9,6 +9,7 @@ use Rattle.hp_base.specs.Indices.{count_below}
 use Rattle.hp_base.proofs.Puts.{put_same, put_other, same_or_other}
 use Rattle.hp_base.proofs.Totals.{total_same, total_change, total_none, exchange, count_below-total}
 use Rattle.hp_meaning.specs.Renaming.{Renaming}
+use Rattle.hp_meaning.proofs.Counts.{below_or_past}
 
 -- a sum with one term
 one_term : (n k v : ℕ) → k < n → total n (put (λ _. 0) k v) ≡ v
@@ -19,22 +20,49 @@ one_term n k v l =
     let c : put (λ _. 0) k v k ≡ v = put_same (λ _. 0) k v in
     omega arith
 
+-- names of frames are names of more of them
+unfoldable pub wider : {frames more : ℕ} → frames ≤ more → Renaming frames → Renaming more
+wider l r = record { to = r.to; back = r.back; there = r.there; here = r.here; fixed = λ x m. r.fixed x (omega arith) }
+
+-- what is as much is no less
+pub as_many : {m n : ℕ} → n ≡ m → m ≤ n
+as_many e = omega arith
+
+-- each frame keeps its name
+unfoldable pub own_names : (frames : ℕ) → Renaming frames
+own_names frames = record { to = λ x. x; back = λ x. x; there = λ x. refl; here = λ x. refl; fixed = λ x l. refl }
+
+-- what keeps its name has it back
+pub fixed_back : {frames : ℕ} (r : Renaming frames) (x : ℕ) → frames ≤ x → r.back x ≡ x
+fixed_back r x l = sym (ap r.back (r.fixed x l)) ∙ r.there x
+
+-- a frame's name is one of a frame
+pub to_below : {frames : ℕ} (r : Renaming frames) (x : ℕ) → x < frames → r.to x < frames
+to_below {frames} r x l = elim (below_or_past (r.to x) frames) [
+  | inl below ↦ below
+  | inr past ↦ let same : r.to x ≡ x = sym (fixed_back r (r.to x) past) ∙ r.there x in absurd (omega arith)
+]
+
+-- and a name of a frame is that of one
+pub back_below : {frames : ℕ} (r : Renaming frames) (y : ℕ) → y < frames → r.back y < frames
+back_below {frames} r y l = elim (below_or_past (r.back y) frames) [
+  | inl below ↦ below
+  | inr past ↦ let same : y ≡ r.back y = sym (r.here y) ∙ r.fixed (r.back y) past in absurd (omega arith)
+]
+
 -- as many of the frames are in a set as under other names: each sum is that of all pairs of a frame and its name
 pub count_renamed : {frames : ℕ} (r : Renaming frames) (p : ℕ → Bool) → count_below (λ y. p (r.back y)) frames ≡ count_below p frames
 count_renamed {frames} r p =
     count_below-total (λ y. p (r.back y)) frames
     ∙ (sym (total_same frames (λ y. bit (p (r.back y))) (λ y. total frames (λ x. pair x y))
     (λ y l. total_same frames (put (λ _. 0) (r.back y) (bit (p (r.back y)))) (λ x. pair x y) (λ x _. from_name x y)
-    ∙ one_term frames (r.back y) _ (below y l)))
+    ∙ one_term frames (r.back y) _ (back_below r y l)))
     ∙ (sym (exchange frames frames pair)
-    ∙ (total_same frames (λ x. bit (p x)) (λ x. total frames (pair x)) (λ x l. one_term frames (r.to x) _ ((r.inside x).0 l))
+    ∙ (total_same frames (λ x. bit (p x)) (λ x. total frames (pair x)) (λ x l. one_term frames (r.to x) _ (to_below r x l))
     ∙ sym (count_below-total p frames))))
   where
     pair : ℕ → ℕ → ℕ
     pair x = put (λ _. 0) (r.to x) (bit (p x))
-
-    below : (y : ℕ) → y < frames → r.back y < frames
-    below y l = (r.inside (r.back y)).1 (subst (λ (w : ℕ). w < frames) (sym (r.here y)) l)
 
     from_name : (x y : ℕ) → put (λ _. 0) (r.to x) (bit (p x)) y ≡ put (λ _. 0) (r.back y) (bit (p (r.back y))) x
     from_name x y = elim (same_or_other x (r.back y)) [
@@ -88,11 +116,6 @@ swap_swap : (x y z : ℕ) → swap x y (swap x y z) ≡ z
 unfolding swap
 swap_swap x y z = grind (arith, nat_tests)
 
--- two frames that are there swap among those that are there
-swap_below : (n x y z : ℕ) → x < n → y < n → z < n → swap x y z < n
-unfolding swap
-swap_below n x y z l m k = grind (arith, nat_tests)
-
 -- the first gets the second's name
 swap_first : (x y : ℕ) → swap x y x ≡ y
 unfolding swap
@@ -115,10 +138,7 @@ turned {frames} r x y l m = record {
   back = λ z. swap x y (r.back z);
   there = λ z. ap (swap x y) (r.there (swap x y z)) ∙ swap_swap x y z;
   here = λ z. ap r.to (swap_swap x y (r.back z)) ∙ r.here z;
-  inside = λ z. (
-    λ k. (r.inside (swap x y z)).0 (swap_below frames x y z l m k),
-    λ k. subst (λ (w : ℕ). w < frames) (swap_swap x y z) (swap_below frames x y (swap x y z) l m ((r.inside (swap x y z)).1 k)),
-  );
+  fixed = λ z k. ap r.to (swap_other x y z (λ e. omega arith) (λ e. omega arith)) ∙ r.fixed z k;
 }
 
 -- the turned renaming calls the first what the second was called
@@ -146,3 +166,11 @@ turned_back r x y l m f e z = here (r.back z)
         | inr k ↦ ap f (swap_other x y w h k)
       ]
     ]
+
+-- so a change at the first is one at the second, under that renaming
+pub turned_put : {A : Type 0} {frames : ℕ} (r : Renaming frames) (x y : ℕ) (l : x < frames) (m : y < frames) (f : ℕ → A) (v : A)
+    → f x ≡ f y → ◌≡◌ {A = ℕ → A} (put (λ z. f (r.back z)) (r.to y) v) (λ z. put f x v ((turned r x y l m).back z))
+turned_put {A} r x y l m f v e =
+    let names = turned r x y l m in
+    ap (λ (old : ℕ → A). put old (r.to y) v) (sym (fun_ext (turned_back r x y l m f e)))
+    ∙ (ap (λ (w : ℕ). put (λ z. f (names.back z)) w v) (sym (turned_first r x y l m)) ∙ put_renamed names f x v)

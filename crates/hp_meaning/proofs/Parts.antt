@@ -10,10 +10,10 @@ use Rattle.hp_base.specs.Mappings.{is_there, find, in_mapping, without_index, wi
 use Rattle.hp_base.specs.declared.answer.Answer.{Answer}
 use Rattle.hp_base.specs.declared.mapping.Mapping.{Mapping}
 use Rattle.hp_frames.specs.declared.frame.FrameState.{FrameState}
-use Rattle.hp_frames.specs.declared.frame.FrameState.TheVariants.{Free, Hand, Placed}
+use Rattle.hp_frames.specs.declared.frame.FrameState.TheVariants.{Free, Hand, Placed, Retired}
 use Rattle.hp_region.specs.Change.{Change}
-use Rattle.hp_frames.specs.Bank.{is_free}
-use Rattle.hp_machine.specs.State.{Pool, free_frames, frees, quota_is_used_up, slot_of}
+use Rattle.hp_frames.specs.Bank.{is_active, is_free}
+use Rattle.hp_machine.specs.State.{Pool, active_frames, actives, free_frames, frees, quota_is_used_up, slot_of}
 use Rattle.hp_machine.specs.Parts.{Gives, Goes, StartRow, WantSlotRow, ChangeRow, CommitRow, TakeRow, SettleOneRow, placed}
 use Rattle.hp_machine.specs.Parts.{UnmapIndexRow, EvictRow, cleared}
 use Rattle.hp_machine.specs.declared.call.Turn.{Turn}
@@ -21,7 +21,7 @@ use Rattle.hp_machine.specs.declared.call.Turn.TheVariants.{Moved, Blocked, Ende
 use Rattle.hp_meaning.specs.Renaming.{Renaming}
 use Rattle.hp_laws.proofs.Deciding.{some_same}
 use Rattle.hp_meaning.proofs.Names.{count_renamed, put_map, put2_map, put_renamed, map_agrees, turned, turned_first}
-use Rattle.hp_meaning.proofs.Names.{turned_other, turned_back}
+use Rattle.hp_meaning.proofs.Names.{turned_other, turned_put}
 
 -- the pool with its frames renamed
 abbrev pub pool_renamed : {frames : ℕ} → Renaming frames → Pool → Pool
@@ -42,10 +42,14 @@ turn_renamed rename (Ended a) = Ended a
 abbrev pub unnamed : {P : Type 0} → (ℕ → ℕ) → P → P
 unnamed to p = p
 
+-- a frame in use is neither free nor retired
+abbrev pub IsUsed : FrameState → Type 0
+IsUsed state = (state ≢ Free) × (state ≢ Retired)
+
 -- pages and entries name frames in use, and the free ones are there
 pub record Used (frames : ℕ) (s : Pool) : Type 0 where
-  pub pages : (f i x : ℕ) → s.pages f i ≡ Some x → s.frame x ≢ Free
-  pub entries : (t v x : ℕ) → s.entries t v ≡ Some x → s.frame x ≢ Free
+  pub pages : (f i x : ℕ) → s.pages f i ≡ Some x → IsUsed (s.frame x)
+  pub entries : (t v x : ℕ) → s.entries t v ≡ Some x → IsUsed (s.frame x)
   pub real : (x : ℕ) → s.frame x ≡ Free → x < frames
   pub count : s.frames ≡ frames
 
@@ -54,7 +58,7 @@ pub record Used (frames : ℕ) (s : Pool) : Type 0 where
 pub record Follows (P : Type 0) (rename : (ℕ → ℕ) → P → P) (frames : ℕ) (s : Pool) (r : Renaming frames)
     (turn : Turn P) (new : Pool) (other : Turn P) (there : Pool) : Type 0 where
   pub names : Renaming frames
-  pub keeps : (x : ℕ) → s.frame x ≢ Free → names.to x ≡ r.to x
+  pub keeps : (x : ℕ) → IsUsed (s.frame x) → names.to x ≡ r.to x
   pub turns : other ≡ turn_renamed (rename names.to) turn
   pub pools : there ≡ pool_renamed names new
   pub count : new.frames ≡ s.frames
@@ -162,6 +166,27 @@ pub frees_renamed : {frames : ℕ} (s : Pool) (r : Renaming frames) → s.frames
 unfolding free_frames
 frees_renamed s r e = rw e (count_renamed r (λ x. is_free (s.frame x)))
 
+-- and as many aren't retired
+pub actives_renamed : {frames : ℕ} (s : Pool) (r : Renaming frames) → s.frames ≡ frames → actives (pool_renamed r s) ≡ actives s
+unfolding active_frames
+actives_renamed s r e = rw e (count_renamed r (λ x. is_active (s.frame x)))
+
+-- a table of frames under names that call those alike which stand in it
+table_agrees : (p q : ℕ → ℕ) (o : ℕ → ℕ → Option ℕ) → ((k j x : ℕ) → o k j ≡ Some x → q x ≡ p x)
+    → ◌≡◌ {A = ℕ → ℕ → Option ℕ} (λ k j. option_map p (o k j)) (λ k j. option_map q (o k j))
+table_agrees p q o h = fun_ext (λ k. fun_ext (λ j. sym (map_agrees p q (o k j) (λ x e. h k j x e))))
+
+-- frames go elsewhere: pages and entries are named as before by names that call all in use as before
+pub elsewhere : {frames more : ℕ} (s : Pool) (r : Renaming frames) (names : Renaming more) (n resv used : ℕ)
+    (frame frame' : ℕ → FrameState)
+    → Used frames s → ((x : ℕ) → IsUsed (s.frame x) → names.to x ≡ r.to x) → frame' ≡ (λ y. frame (names.back y))
+    → ◌≡◌ {A = Pool} (record (pool_renamed r s) { frames = n; frame = frame'; resv = resv; used = used })
+    (pool_renamed names (record s { frames = n; frame = frame; resv = resv; used = used }))
+elsewhere s r names n resv used frame frame' h keeps same =
+    let pages = table_agrees r.to names.to s.pages (λ f i x e. keeps x (h.pages f i x e)) in
+    let entries = table_agrees r.to names.to s.entries (λ t v x e. keeps x (h.entries t v x e)) in
+    λ i. record s { frames = n; frame = same i; resv = resv; used = used; pages = pages i; entries = entries i }
+
 -- Each pool takes a free frame of its own. Call the first one's frame as the second one's is called: nothing that is
 -- in use has another name then.
 takes : {P : Type 0} {rename : (ℕ → ℕ) → P → P} {frames : ℕ} {s : Pool} {r : Renaming frames} {turn other : Turn P}
@@ -170,19 +195,16 @@ takes : {P : Type 0} {rename : (ℕ → ℕ) → P → P} {frames : ℕ} {s : Po
     → Goes (taken x) (record s { frame = put s.frame x Hand; resv = resv; used = used }) turn new
     → Goes (taken y) (record (pool_renamed r s) { frame = put (λ z. s.frame (r.back z)) y Hand; resv = resv; used = used }) other there
     → ((to : ℕ → ℕ) (z : ℕ) → taken (to z) ≡ rename to (taken z)) → Follows P rename frames s r turn new other there
-takes {rename = rename} {frames = frames} {s = s} {r = r} resv used x y taken h e d a b same =
+takes {rename = rename} {s = s} {r = r} resv used x y taken h e d a b same =
     let l = h.real x e in
     let m = h.real (r.back y) d in
     let names = turned r x (r.back y) l m in
     let called : names.to x ≡ y = turned_first r x (r.back y) l m ∙ r.here y in
-    let keeps : (z : ℕ) → s.frame z ≢ Free → names.to z ≡ r.to z =
-    λ z used. turned_other r x (r.back y) l m z (λ q. used (ap s.frame q ∙ e)) (λ q. used (ap s.frame q ∙ d)) in
+    let keeps : (z : ℕ) → IsUsed (s.frame z) → names.to z ≡ r.to z =
+    λ z used. turned_other r x (r.back y) l m z (λ q. used.0 (ap s.frame q ∙ e)) (λ q. used.0 (ap s.frame q ∙ d)) in
     let frame : ◌≡◌ {A = ℕ → FrameState} (put (λ z. s.frame (r.back z)) y Hand) (λ z. put s.frame x Hand (names.back z)) =
-    ap (λ (old : ℕ → FrameState). put old y Hand) (sym (fun_ext (turned_back r x (r.back y) l m s.frame (e ∙ sym d))))
-    ∙ (ap (λ (w : ℕ). put (λ z. s.frame (names.back z)) w Hand) (sym called) ∙ put_renamed names s.frame x Hand) in
-    let agrees : (o : ℕ → ℕ → Option ℕ) → ((k j z : ℕ) → o k j ≡ Some z → s.frame z ≢ Free)
-    → ◌≡◌ {A = ℕ → ℕ → Option ℕ} (λ k j. option_map r.to (o k j)) (λ k j. option_map names.to (o k j)) =
-    λ o used. fun_ext (λ k. fun_ext (λ j. sym (map_agrees r.to names.to (o k j) (λ z q. keeps z (used k j z q))))) in
+    ap (λ (w : ℕ). put (λ z. s.frame (r.back z)) w Hand) (sym (r.here y))
+    ∙ turned_put r x (r.back y) l m s.frame Hand (e ∙ sym d) in
     record {
       names = names;
       keeps = keeps;
@@ -190,13 +212,8 @@ takes {rename = rename} {frames = frames} {s = s} {r = r} resv used x y taken h 
           b.0 ∙ (ap (λ (w : ℕ). Moved (taken w)) (sym called)
           ∙ (ap (λ p. Moved p) (same names.to x) ∙ sym (ap (turn_renamed (rename names.to)) a.0)));
       pools =
-          b.1 ∙ ((λ i. record s {
-            frame = frame i;
-            resv = resv;
-            used = used;
-            pages = agrees s.pages h.pages i;
-            entries = agrees s.entries h.entries i;
-          }) ∙ sym (ap (pool_renamed names) a.1));
+          b.1
+          ∙ (elsewhere s r names s.frames resv used (put s.frame x Hand) _ h keeps frame ∙ sym (ap (pool_renamed names) a.1));
       count = ap (λ (m : Pool). m.frames) a.1;
     }
 

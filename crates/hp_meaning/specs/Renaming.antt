@@ -1,5 +1,5 @@
 -- Frames under other names, and states that differ in the names of frames alone.
-use Rattle.std.specs.Prelude.{◌≡◌, ℕ, ◌<◌, List, [], ◌∷◌}
+use Rattle.std.specs.Prelude.{◌≡◌, ℕ, ◌≤◌, List, [], ◌∷◌}
 use Rattle.std.specs.Option.{option_map}
 use Rattle.hp_base.specs.declared.event.Event.{Event}
 use Rattle.hp_machine.specs.State.{State}
@@ -15,13 +15,13 @@ use Rattle.hp_machine.specs.declared.call.Call.{Call}
 use Rattle.hp_machine.specs.declared.call.Call.TheVariants as call
 use Rattle.hp_machine.specs.declared.outcome.Outcome.{Outcome}
 
--- another name for each frame, and the way back; the first `frames` of them stay the first
+-- another name for each frame, and the way back; a number of which there is no frame keeps its own
 pub record Renaming (frames : ℕ) : Type 0 where
   pub to : ℕ → ℕ
   pub back : ℕ → ℕ
   pub there : (x : ℕ) → back (to x) ≡ x
   pub here : (x : ℕ) → to (back x) ≡ x
-  pub inside : (x : ℕ) → (x < frames → to x < frames) × (to x < frames → x < frames)
+  pub fixed : (x : ℕ) → frames ≤ x → to x ≡ x
 
 -- a phase with another name for the frame in the call's hand
 abbrev pub touch_renamed : (ℕ → ℕ) → TouchPhase → TouchPhase
@@ -68,8 +68,8 @@ renamed r s = record s {
 }
 
 -- the second state is the first with its frames renamed
-abbrev pub Alike : (frames : ℕ) → State → State → Type 0
-Alike frames s n = (r : Renaming frames) × (n ≡ renamed r s)
+abbrev pub Alike : State → State → Type 0
+Alike s n = (r : Renaming s.frames) × (n ≡ renamed r s)
 
 -- the events without their outcomes
 abbrev pub events_of : List (Event × Outcome) → List Event
