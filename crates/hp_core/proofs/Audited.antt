@@ -20,8 +20,6 @@ use Rattle.hp_base.proofs.Counting.{count_below-ext}
 use Rattle.hp_base.proofs.Spaces.{both_true}
 use Rattle.hp_base.proofs.Sums.{sum_by-total, sum_at_most_one}
 use Rattle.hp_base.proofs.Totals.{total_somewhere, at_most_one, count_below_somewhere}
-use Rattle.hp_frames.specs.declared.frame.FrameState.{FrameState}
-use Rattle.hp_frames.specs.declared.frame.FrameState.TheVariants as frame
 use Rattle.hp_cache.proofs.Order.{find_at, keys_differ, found_entry, found_somewhere}
 use Rattle.hp_frames.specs.Bank.{is_free, is_retired}
 use Rattle.hp_frames.proofs.Frames.{free_is, retired_is}

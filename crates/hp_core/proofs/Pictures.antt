@@ -1,12 +1,10 @@
 -- What a core copies of its lists is its picture.
 use Rattle.std.proofs.Common.{◌≡◌, ℕ, ◌+◌, ◌<◌, ◌≤◌, List, length, get_or, refl, sym, ◌∙◌, ap, subst, arith}
-use Rattle.std.specs.Prelude.{Bool, cond, Option, Some, None, ◌==◌, HoldsAt, is_some, count_by, sum_by, filter_map}
+use Rattle.std.specs.Prelude.{cond, Option, Some, None, ◌==◌, HoldsAt, is_some, count_by, sum_by, filter_map}
 use Rattle.hp_base.specs.Numbers.{bit, total}
 use Rattle.hp_base.proofs.Sums.{passes, count_by-filter_map}
 use Rattle.hp_base.proofs.Totals.{cond_bit}
 use Rattle.hp_frames.specs.Bank as bank
-use Rattle.hp_frames.specs.declared.frame.FrameState.{FrameState}
-use Rattle.hp_frames.specs.declared.frame.FrameState.TheVariants.{Free, Hand, Placed, Retired}
 use Rattle.hp_slots.specs.Holders.{holder_of}
 use Rattle.hp_machine.specs.Views.{hand}
 use Rattle.hp_machine.specs.declared.call.Call.{Call}

@@ -1,16 +1,15 @@
 -- A bank that grows or shrinks is a row of the machine.
 use Rattle.std.proofs.Common.{◌≡◌, ℕ, ◌+◌, ◌-◌, ◌<◌, ◌≤◌, List, length, refl, sym, ap, ◌∙◌, subst, arith, inl, inr, ◌⊎◌}
 use Rattle.std.proofs.Math.ListN.{get_or-eq_default}
-use Rattle.std.specs.Prelude.{Bool, true, false, max, min, nat_le, nat_lt, ◌&&◌, MatchBool}
+use Rattle.std.specs.Prelude.{true, false, max, min, nat_lt}
 use Rattle.std.proofs.lemmas.Bool.Decides.{nat_tests}
 use Rattle.std.proofs.lemmas.Bool.{cases_lt}
 use Rattle.hp_frames.specs.Bank as bank
 use Rattle.hp_frames.specs.Bank.{BankState, HasGrown, HasShrunk, frame_at, free_count}
 use Rattle.hp_frames.specs.declared.frame.FrameState.{FrameState}
 use Rattle.hp_frames.specs.declared.frame.FrameState.TheVariants.{Free, Hand, Retired}
-use Rattle.hp_machine.specs.Resizes.{is_size, ResizeRow, GrowsTo, Retires, surplus}
-use Rattle.hp_machine.specs.State.{Pool, active_frames, free_frames, actives, frees}
-use Rattle.hp_machine.specs.declared.outcome.Outcome.{Outcome}
+use Rattle.hp_machine.specs.Resizes.{is_size, ResizeRow, Retires, surplus}
+use Rattle.hp_machine.specs.State.{active_frames, actives}
 use Rattle.hp_machine.specs.declared.outcome.Outcome.TheVariants as outcome
 use Rattle.hp_machine.specs.declared.outcome.Refusal.TheVariants as refusal
 use Rattle.hp_fault.specs.State.{PartsState}

@@ -4,7 +4,7 @@ ghost use Rattle.hp_machine.specs.Resizes.{ResizeRow, is_size};
 ghost use Rattle.hp_fault.specs.State.{state_of, SizesStay};
 ghost use Rattle.hp_fault.specs.Room.{RoomStays};
 ghost use Rattle.hp_fault.specs.View.{pool_of};
-ghost use Rattle.hp_core.specs.Turns.{IfToldRefused};
+ghost use Rattle.hp_core.specs.Turns.{IfToldBlocked, IfToldRefused};
 
 use hp_base::Config;
 use hp_fault::Parts;
@@ -15,6 +15,7 @@ use std::alloc::AllocError;
 // (Linux: `set_max_huge_pages`, which leaves surplus pages there).
 pub fn resize(parts: &mut Parts, frames: u32) -> Result<Outcome, AllocError>
     ensures row { IfOk result (λ told. ResizeRow (pool_of (state_of parts.old)) frames told (pool_of (state_of parts.new))) }
+    ensures told { IfOk result (λ told. IfToldBlocked told ⊥) }
     ensures refused { IfOk result (λ told. IfToldRefused told (state_of parts.new ≡ state_of parts.old)) }
     ensures sizes { SizesStay (state_of parts.old) (state_of parts.new) }
     ensures room { ¬ ((is_size frames ≡ true) × ((pool_of (state_of parts.old)).frames < frames))

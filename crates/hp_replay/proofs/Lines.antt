@@ -11,7 +11,7 @@ use Rattle.hp_base.specs.Limits.{is_quota}
 use Rattle.hp_base.specs.declared.event.Op.{Op}
 use Rattle.hp_base.specs.declared.event.Op.TheVariants.{Map, MapNoReserve, Unmap, Load, Store, Alloc, Punch, Truncate, Exit}
 use Rattle.hp_base.specs.declared.event.Event.{Event}
-use Rattle.hp_base.specs.declared.event.Event.TheVariants.{Begin, Step, Kill}
+use Rattle.hp_base.specs.declared.event.Event.TheVariants.{Begin, Step, Kill, Resize}
 use Rattle.hp_replay.specs.Fits.{IsShort, OpFits, EventFits}
 use Rattle.hp_replay.specs.Reading.{◌>>=◌, after_word, number_at, field_at, ended, last_at, range_at, pair_at, option_or, behind}
 use Rattle.hp_replay.specs.Reading.{range_op_at, plain_op_at, op_at, event_at, last_field_at, quota_at, sizes_at, header_at, limit}
@@ -257,11 +257,12 @@ event_again (Begin task op) is =
 event_again (Step task true) is = rw (last_again task is) refl
 event_again (Step task false) is = rw (last_again task is) refl
 event_again (Kill task) is = rw (last_again task is) refl
+event_again (Resize frames) is = rw (last_again frames is) refl
 
-task_case : (word bytes rest : List ℕ) (make : ℕ → Event) (event : Event) → ((n : ℕ) → IsShort n → EventFits (make n))
+number_case : (word bytes rest : List ℕ) (make : ℕ → Event) (event : Event) → ((n : ℕ) → IsShort n → EventFits (make n))
     → ((n : ℕ) → word ++ decimal n ≡ event_text (make n)) → bytes ≡ word ++ rest
     → (last_at rest >>= λ n. Some (make n)) ≡ Some event → SpellsEvent bytes event
-task_case word bytes rest make event is spelled parts e =
+number_case word bytes rest make event is spelled parts e =
     let a = bind_some (last_at rest) (λ n. Some (make n)) event e in
     let t = last_takes rest a.0 a.1 in
     let whole : bytes ≡ event_text (make a.0) = parts ∙ ap (λ (t : List ℕ). word ++ t) t.0 ∙ spelled a.0 in
@@ -290,14 +291,17 @@ pub event_takes : (bytes : List ℕ) (event : Event) → event_at bytes ≡ Some
 unfolding event_at
 event_takes bytes event e =
     elim (behind_some (codes "step ") bytes _ _ event e) [
-      | inl w ↦ task_case (codes "step ") bytes w.0 (λ n. Step n true) event (λ _ f. f) (λ _. refl) w.1 w.2
+      | inl w ↦ number_case (codes "step ") bytes w.0 (λ n. Step n true) event (λ _ f. f) (λ _. refl) w.1 w.2
       | inr e0 ↦ elim (behind_some (codes "deny ") bytes _ _ event e0) [
-        | inl w ↦ task_case (codes "deny ") bytes w.0 (λ n. Step n false) event (λ _ f. f) (λ _. refl) w.1 w.2
+        | inl w ↦ number_case (codes "deny ") bytes w.0 (λ n. Step n false) event (λ _ f. f) (λ _. refl) w.1 w.2
         | inr e1 ↦ elim (behind_some (codes "kill ") bytes _ _ event e1) [
-          | inl w ↦ task_case (codes "kill ") bytes w.0 Kill event (λ _ f. f) (λ _. refl) w.1 w.2
-          | inr e2 ↦ elim (behind_some (codes "begin ") bytes _ _ event e2) [
-            | inl w ↦ begin_case bytes w.0 event w.1 w.2
-            | inr e3 ↦ absurd (none_some e3)
+          | inl w ↦ number_case (codes "kill ") bytes w.0 Kill event (λ _ f. f) (λ _. refl) w.1 w.2
+          | inr e2 ↦ elim (behind_some (codes "resize ") bytes _ _ event e2) [
+            | inl w ↦ number_case (codes "resize ") bytes w.0 Resize event (λ _ f. f) (λ _. refl) w.1 w.2
+            | inr e3 ↦ elim (behind_some (codes "begin ") bytes _ _ event e3) [
+              | inl w ↦ begin_case bytes w.0 event w.1 w.2
+              | inr e4 ↦ absurd (none_some e4)
+            ]
           ]
         ]
       ]

@@ -10,7 +10,7 @@ use Rattle.hp_base.specs.Limits.{is_quota}
 use Rattle.hp_base.specs.declared.event.Op.{Op}
 use Rattle.hp_base.specs.declared.event.Op.TheVariants.{Map, MapNoReserve, Unmap, Load, Store, Alloc, Punch, Truncate, Exit}
 use Rattle.hp_base.specs.declared.event.Event.{Event}
-use Rattle.hp_base.specs.declared.event.Event.TheVariants.{Begin, Step, Kill}
+use Rattle.hp_base.specs.declared.event.Event.TheVariants.{Begin, Step, Kill, Resize}
 use Rattle.hp_replay.specs.Fits.{IsShort, OpFits, EventFits}
 use Rattle.hp_replay.specs.Traces.{AreWithinLimits, HasNoEnd}
 use Rattle.hp_replay.proofs.Ends.{HasNoEnd-append}
@@ -99,6 +99,7 @@ event_width (Begin task op) fits =
 event_width (Step task true) fits = step_width (codes "step") task (short_word (codes "step") (omega arith) refl) fits
 event_width (Step task false) fits = step_width (codes "deny") task (short_word (codes "deny") (omega arith) refl) fits
 event_width (Kill task) fits = step_width (codes "kill") task (short_word (codes "kill") (omega arith) refl) fits
+event_width (Resize frames) fits = step_width (codes "resize") frames (short_word (codes "resize") (omega arith) refl) fits
 
 -- a quota's
 quota_width : (quota : Option ℕ) → is_quota quota ≡ true → IsInLine 6 (quota_field quota)

@@ -3,7 +3,7 @@ use Rattle.std.specs.Prelude.{ℕ, ◌^◌, ◌<◌}
 use Rattle.hp_base.specs.declared.event.Op.{Op}
 use Rattle.hp_base.specs.declared.event.Op.TheVariants.{Map, MapNoReserve, Unmap, Load, Store, Alloc, Punch, Truncate, Exit}
 use Rattle.hp_base.specs.declared.event.Event.{Event}
-use Rattle.hp_base.specs.declared.event.Event.TheVariants.{Begin, Step, Kill}
+use Rattle.hp_base.specs.declared.event.Event.TheVariants.{Begin, Step, Kill, Resize}
 
 -- a number of 32 bits, as each but a word is
 abbrev pub IsShort : ℕ → Type 0
@@ -25,3 +25,4 @@ abbrev pub EventFits : Event → Type 0
 EventFits (Begin task op) = IsShort task × OpFits op
 EventFits (Step task granted) = IsShort task
 EventFits (Kill task) = IsShort task
+EventFits (Resize frames) = IsShort frames

@@ -8,7 +8,7 @@ use Rattle.hp_base.specs.Text.{Sizes, are_sizes}
 use Rattle.hp_base.specs.declared.event.Op.{Op}
 use Rattle.hp_base.specs.declared.event.Op.TheVariants.{Map, MapNoReserve, Unmap, Load, Store, Alloc, Punch, Truncate, Exit}
 use Rattle.hp_base.specs.declared.event.Event.{Event}
-use Rattle.hp_base.specs.declared.event.Event.TheVariants.{Begin, Step, Kill}
+use Rattle.hp_base.specs.declared.event.Event.TheVariants.{Begin, Step, Kill, Resize}
 
 infixl 10 ◌>>=◌
 abbrev pub ◌>>=◌ : {A B : Type 0} → Option A → (A → Option B) → Option B
@@ -106,11 +106,12 @@ event_at bytes =
     behind (codes "step ") bytes (λ rest. last_at rest >>= λ n. Some (Step n true))
     (behind (codes "deny ") bytes (λ rest. last_at rest >>= λ n. Some (Step n false))
     (behind (codes "kill ") bytes (λ rest. last_at rest >>= λ n. Some (Kill n))
+    (behind (codes "resize ") bytes (λ rest. last_at rest >>= λ n. Some (Resize n))
     (behind (codes "begin ") bytes (λ rest. do
       task ← number_at limit rest
       text ← after_word (codes " ") task.1
       op ← op_at text
-      Some (Begin task.0 op)) None)))
+      Some (Begin task.0 op)) None))))
 
 -- a space, and the last number of a line
 unfoldable pub last_field_at : List ℕ → Option ℕ

@@ -204,6 +204,9 @@ pub(crate) fn event_at(bytes: &[u8]) -> Option<Event>
     } else if let Some(rest) = after_word(b"kill ", bytes) {
         let task = Task::new(last_at(rest)?);
         Some(Event::Kill(task))
+    } else if let Some(rest) = after_word(b"resize ", bytes) {
+        let frames = last_at(rest)?;
+        Some(Event::Resize(frames))
     } else if let Some(rest) = after_word(b"begin ", bytes) {
         let (task, rest) = short_at(rest)?;
         let op = op_at(after_word(b" ", rest)?)?;

@@ -1,14 +1,11 @@
-use Rattle.std.proofs.Common.{ℕ, refl, subst, ◌≡◌, ◌<◌, ◌-◌, true, false, arith, sym, ◌∙◌, ap, inl, inr, length}
+use Rattle.std.proofs.Common.{refl, ◌≡◌, ◌-◌, true, false, arith, inl, inr, length}
 use Rattle.std.specs.Prelude.{Result, Ok, Err, OnErr}
 use Rattle.std.proofs.lemmas.Bool.{cases_lt}
 use Rattle.std.proofs.lemmas.Bool.Decides.{nat_tests}
 use Rattle.std.proofs.lemmas.Grind.{common_steps}
-use Rattle.hp_machine.specs.Resizes.{is_size, ResizeRow}
-use Rattle.hp_machine.specs.declared.outcome.Outcome.TheVariants.{Resized}
-use Rattle.hp_frames.specs.Bank.{active_frames, retired_frames}
+use Rattle.hp_frames.specs.Bank.{retired_frames}
 use Rattle.hp_frames.proofs.Resizing.{active_and_retired}
 use Rattle.hp_fault.specs.State.{state_of}
-use Rattle.hp_fault.specs.View.{pool_of}
 use Rattle.hp_core.proofs.Resizes.{refused_row, grown_row, shrunk_row, sized}
 use Rattle.hp_core.proofs.resizing.resize.Goals as goal
 

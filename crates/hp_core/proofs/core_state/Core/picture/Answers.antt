@@ -11,7 +11,6 @@ use Rattle.hp_fault.specs.View.{no_file}
 use Rattle.hp_core.specs.declared.seat.Seat.{Seat}
 use Rattle.hp_core.specs.Copies.{IsCopy, all_translations}
 use Rattle.hp_core.specs.State.{CoreState}
-use Rattle.hp_core.specs.Sound.{IsSound}
 use Rattle.hp_core.specs.Readers.{resv_of, owed_of, used_of, used_owed_of, quota_of}
 use Rattle.hp_core.proofs.Audited.{right_of}
 use Rattle.hp_core.proofs.Pictures.{AreCopies, picture_of, picture_seen, few_files, few_spaces}
