@@ -118,6 +118,8 @@ fn words_of_events(rt: HostRuntime) -> Result<(), Fail> {
         (Event::Step(many, false), "deny 4294967295"),
         (Event::Kill(one), "kill 1"),
         (Event::Kill(many), "kill 4294967295"),
+        (Event::Resize(0), "resize 0"),
+        (Event::Resize(4_294_967_295), "resize 4294967295"),
     ] {
         assert_eq!(rt; format!(in rt.alloc(); "{event}")?.as_str(), text);
     }

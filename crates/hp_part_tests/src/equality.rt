@@ -145,6 +145,8 @@ fn events_differ(rt: HostRuntime) {
         Event::Step(two, false),
         Event::Kill(one),
         Event::Kill(two),
+        Event::Resize(1),
+        Event::Resize(2),
     ];
     assert!(rt; all_differ(&events));
 }

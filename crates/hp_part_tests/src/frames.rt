@@ -67,6 +67,7 @@ fn a_bank_shrinks_and_grows(rt: HostRuntime) -> Result<(), Fail> {
     assert!(rt; bank.free() - bank.resv() >= 3);
     bank.retire(3);
     assert_eq!(rt; (bank.frames(), bank.free(), bank.resv()), (1, 1, 1));
+    assert_eq!(rt; bank.numbers(), 4);
     assert_eq!(rt; bank.retired().len(), 3);
     assert!(rt;
         bank.retired()
@@ -83,6 +84,7 @@ fn a_bank_shrinks_and_grows(rt: HostRuntime) -> Result<(), Fail> {
         (bank.frames(), bank.free(), bank.retired().len()),
         (6, 6, 0)
     );
+    assert_eq!(rt; bank.numbers(), 6);
     assert!(rt; bank.is_free(Frame::new(5)) && !bank.is_free(Frame::new(6)));
     Ok(())
 }

@@ -51,9 +51,12 @@ fn outcomes_differ(rt: HostRuntime) {
         Outcome::Ended(Answer::Mapped(Vpn::new(1))),
         Outcome::Ended(Answer::Word(0)),
         Outcome::Marked,
+        Outcome::Resized(1),
+        Outcome::Resized(2),
         Outcome::Refused(Refusal::NotAlive),
         Outcome::Refused(Refusal::InCall),
         Outcome::Refused(Refusal::Idle),
+        Outcome::Refused(Refusal::BadSize),
     ];
     assert!(rt; all_differ(&outcomes));
 }
@@ -61,7 +64,12 @@ fn outcomes_differ(rt: HostRuntime) {
 #[test]
 fn lives_and_refusals_differ(rt: HostRuntime) {
     assert!(rt; all_differ(&[Life::Alive, Life::Killed, Life::Dead]));
-    assert!(rt; all_differ(&[Refusal::NotAlive, Refusal::InCall, Refusal::Idle]));
+    assert!(rt; all_differ(&[
+        Refusal::NotAlive,
+        Refusal::InCall,
+        Refusal::Idle,
+        Refusal::BadSize,
+    ]));
 }
 
 #[test]

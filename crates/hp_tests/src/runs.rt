@@ -30,6 +30,7 @@ fn numbers_of_a_new_pool(rt: HostRuntime) -> Result<(), Fail> {
     let core = new_pool(rt.alloc())?;
     core.always();
     assert_eq!(rt; core.config().frames, 4);
+    assert_eq!(rt; core.frames(), 4);
     assert_eq!(rt; core.free(), 4);
     assert_eq!(rt; core.resv(), 0);
     assert_eq!(rt; core.calls(), 0);
@@ -234,6 +235,30 @@ fn a_picture_of_the_tables(rt: HostRuntime) -> Result<(), Fail> {
         (Task::new(2), file, first, frame),
     ];
     assert_eq!(rt; picture.tables.as_slice(), entries.as_slice());
+    Ok(())
+}
+
+#[test]
+fn a_pool_shrinks(rt: HostRuntime) -> Result<(), Fail> {
+    let mut core = new_pool(rt.alloc())?;
+    assert_eq!(rt; happens(&mut core, Event::Resize(3))?, Outcome::Resized(3));
+    assert_eq!(rt; (core.frames(), core.free()), (3, 3));
+    assert_eq!(rt; core.config().frames, 4);
+    let picture = core.picture(rt.alloc())?;
+    assert_eq!(rt; audit(&picture), Ok(()));
+    assert_eq!(rt; (picture.free.len(), picture.retired.len()), (3, 1));
+    Ok(())
+}
+
+#[test]
+fn a_pool_grows(rt: HostRuntime) -> Result<(), Fail> {
+    let mut core = new_pool(rt.alloc())?;
+    assert_eq!(rt; happens(&mut core, Event::Resize(1))?, Outcome::Resized(1));
+    assert_eq!(rt; happens(&mut core, Event::Resize(6))?, Outcome::Resized(6));
+    assert_eq!(rt; (core.frames(), core.free()), (6, 6));
+    let picture = core.picture(rt.alloc())?;
+    assert_eq!(rt; audit(&picture), Ok(()));
+    assert_eq!(rt; (picture.free.len(), picture.retired.len()), (6, 0));
     Ok(())
 }
 

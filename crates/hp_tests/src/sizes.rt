@@ -43,6 +43,25 @@ fn the_most_pages(rt: HostRuntime) -> Result<(), Fail> {
     Ok(())
 }
 
+/// A pool of one frame grows to the most frames, all of which are used, and then has none to give up.
+#[test]
+fn the_most_frames(rt: HostRuntime) -> Result<(), Fail> {
+    let mut text = String::new(rt.alloc());
+    text.push_str("pool 1 1 1 1\nresize 4097\nresize 4096\nbegin 1 alloc 0 0 4096\n")?;
+    add_steps(&mut text, 50_000)?;
+    text.push_str("resize 1\nbegin 1 punch 0 0 4096\n")?;
+    add_steps(&mut text, 50_000)?;
+    text.push_str("resize 1\n")?;
+    let (answer, out) = replayed(rt.alloc(), text.as_str());
+    assert_eq!(rt; answer, Ok(()));
+    assert!(rt; out.starts_with(b"refused badsize\nresized 4096\nbegun\n"));
+    let told = b"resized 1\nfree 1 resv 0 calls 0\n\
+        file 0 size 4096 reserved 0 regions 0 pages 0 changes 0 spare 1\n\
+        task 1 alive mappings 0 entries 0\n";
+    assert!(rt; out.ends_with(told));
+    Ok(())
+}
+
 /// A page at every other index of a file, each by a call of its own.
 fn every_other_index(alloc: Global) -> Result<String, AllocError> {
     let mut text = String::new(alloc);
