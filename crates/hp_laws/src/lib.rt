@@ -1,9 +1,9 @@
 //! The theorems of the machine, each the contract of a public function with an empty body.
 //!
 //! It stands on the machine's rows (hp_machine) and on the words that these are written in (hp_base, hp_frames,
-//! hp_region): what is proved here holds after every list of events by any number of tasks, with kills and
-//! refused memory anywhere. It knows no code;
-//! the crates above prove that their steps are the machine's rows, and have these theorems then.
+//! hp_region): what is proved here holds after every list of events by any number of tasks, with kills,
+//! resizes of the pool and refused memory anywhere. It knows no code; the crates above prove that their steps
+//! are the machine's rows, and have these theorems then.
 #![tactic(auto)]
 
 ghost use Rattle.std.specs.Prelude.{◌≡◌, ◌≢◌, ◌↔◌, ◌≤◌, ◌<◌, ℕ, Bool, true, false, Some, List, ◌∷◌, ◌++◌, length};
