@@ -1,6 +1,6 @@
 -- A resize: what its frames keep, and that there are such frames.
 use Rattle.std.proofs.Common.{◌≡◌, ℕ, zero, suc, ◌+◌, ◌-◌, ◌<◌, ◌≤◌, refl, sym, ap, ◌∙◌, subst, arith, inl, inr, ◌⊎◌}
-use Rattle.std.specs.Prelude.{Bool, true, false, not, cond, max, min, nat_le, nat_lt, ◌&&◌, if◌then◌else◌, Option, Some, MatchBool}
+use Rattle.std.specs.Prelude.{Bool, true, false, max, min, nat_le, nat_lt, ◌&&◌, if◌then◌else◌, Option, Some, MatchBool}
 use Rattle.std.proofs.lemmas.Bool.Decides.{nat_tests}
 use Rattle.hp_base.specs.Numbers.{put, bit}
 use Rattle.hp_base.specs.Indices.{count_below}
