@@ -11,7 +11,8 @@ use Rattle.hp_frames.specs.declared.frame.FrameState.{FrameState}
 use Rattle.hp_frames.specs.declared.frame.FrameState.TheVariants as state
 use Rattle.hp_machine.specs.State.{Geometry, State, free_frames}
 use Rattle.hp_machine.specs.Events.{EventRows, opening}
-use Rattle.hp_machine.specs.Headline.{Headline, Agrees, IsBelow, Place, Hand, Retired, vacant_in, all_less, all_more, reserved_in, all_used_owed}
+use Rattle.hp_machine.specs.Headline.{Headline, Agrees, IsBelow, Place, Hand, Retired, vacant_in, all_less, all_more}
+use Rattle.hp_machine.specs.Headline.{reserved_in, all_used_owed}
 use Rattle.hp_machine.specs.Standings.{Progress, NoChange, Counts, GivesUp, standing_of}
 use Rattle.hp_machine.specs.Views.{hand, opens}
 use Rattle.hp_machine.specs.declared.truncate.TruncatePhase.TheVariants as truncate
@@ -22,7 +23,7 @@ use Rattle.hp_laws.specs.Laws.{NeverShort}
 use Rattle.hp_laws.specs.Protocol.{ChangesAreCalls, SparesSuffice}
 use Rattle.hp_needed.specs.Runs.{Leads, Breaks, IsAtRest, Miscounts, Misuses, LacksDescriptor, Lacks, Strands}
 use Rattle.hp_needed.specs.Runs.{FramesAreInOnePlace, FreeFramesSuffice, QuotaSuffices}
-use Rattle.hp_needed.proofs.Steps.{Tries, Ran, run}
+use Rattle.hp_needed.proofs.Running.{Ran, Tries, run}
 
 -- ---- what tests say
 
@@ -73,7 +74,8 @@ none_found (suc n) p e k l = elim (eqb_tells k n) [
 
 -- ---- a run that ends where a test passes
 
-abbrev pub ends : (rows : EventRows) (s : State) (events : List Event) (test : State → Bool) → Option (Ran rows s events) → Bool
+abbrev pub ends : (rows : EventRows) (s : State) (events : List Event) (test : State → Bool) → Option (Ran rows s events)
+    → Bool
 ends rows s events test None = false
 ends rows s events test (Some r) = test r.1
 
@@ -81,11 +83,13 @@ abbrev pub is_led : (rows : EventRows) → Tries rows → Geometry → (frames :
 is_led rows tries g frames events test =
     ends rows (opening g frames) events test (run rows tries (opening g frames) events (λ f i l. refl))
 
-leads : (rows : EventRows) (tries : Tries rows) (g : Geometry) (frames : ℕ) (events : List Event) (test : State → Bool) (end : State → Type 0)
+leads : (rows : EventRows) (tries : Tries rows) (g : Geometry) (frames : ℕ) (events : List Event) (test : State → Bool)
+    (end : State → Type 0)
     → ((s : State) → test s ≡ true → end s) → is_led rows tries g frames events test ≡ true → Leads rows g frames events end
 leads rows tries g frames events test end tells e = here (run rows tries (opening g frames) events (λ f i l. refl)) e
   where
-    here : (o : Option (Ran rows (opening g frames) events)) → ends rows (opening g frames) events test o ≡ true → Leads rows g frames events end
+    here : (o : Option (Ran rows (opening g frames) events)) → ends rows (opening g frames) events test o ≡ true
+        → Leads rows g frames events end
     here None e = never e
     here (Some r) e = (r.0, r.1, r.2, r.3, tells r.1 e)
 
@@ -105,7 +109,8 @@ abbrev pub miscounts : (counted waiting : ℕ) → State → Bool
 miscounts counted waiting s =
     rests s && ((s.resv == counted) && ((vacant_in s == waiting) && not (s.resv + all_less s == vacant_in s + all_more s)))
 
-pub miscounts_so : (rows : EventRows) (tries : Tries rows) (g : Geometry) (frames : ℕ) (events : List Event) (counted waiting : ℕ)
+pub miscounts_so : (rows : EventRows) (tries : Tries rows) (g : Geometry) (frames : ℕ) (events : List Event)
+    (counted waiting : ℕ)
     → is_led rows tries g frames events (miscounts counted waiting) ≡ true → Miscounts rows g frames events counted waiting
 miscounts_so rows tries g frames events counted waiting = leads rows tries g frames events (miscounts counted waiting)
     (λ s. IsAtRest s × (s.resv ≡ counted) × (vacant_in s ≡ waiting) × (Headline s → ⊥))
@@ -116,11 +121,13 @@ abbrev pub misuses : (counted reserved : ℕ) → State → Bool
 misuses counted reserved s =
     rests s && ((s.used == counted) && ((reserved_in s == reserved) && not (s.used == reserved_in s + all_used_owed s)))
 
-pub misuses_so : (rows : EventRows) (tries : Tries rows) (g : Geometry) (frames : ℕ) (events : List Event) (counted reserved : ℕ)
+pub misuses_so : (rows : EventRows) (tries : Tries rows) (g : Geometry) (frames : ℕ) (events : List Event)
+    (counted reserved : ℕ)
     → is_led rows tries g frames events (misuses counted reserved) ≡ true → Misuses rows g frames events counted reserved
 misuses_so rows tries g frames events counted reserved = leads rows tries g frames events (misuses counted reserved)
     (λ s. IsAtRest s × (s.used ≡ counted) × (reserved_in s ≡ reserved) × (Headline s → ⊥))
-    (λ s e. let a = both (rests s) _ e in let b = both (s.used == counted) _ a.1 in let c = both (reserved_in s == reserved) _ b.1 in
+    (λ s e. let a = both (rests s) _ e in let b = both (s.used == counted) _ a.1 in
+    let c = both (reserved_in s == reserved) _ b.1 in
     (at_rest s a.0, equal _ _ b.0, equal _ _ c.0, λ h. differ _ _ c.1 h.used))
 
 -- ---- clauses of the headline, each with the test that it fails
@@ -233,7 +240,9 @@ abbrev pub tears : State → Bool
 tears s = any_below (suc s.geometry.tasks) (λ t. is_torn s (hand (s.calls t)))
 
 pub torn : Fails FramesAreInOnePlace tears
-torn s e h = let t = found_below (suc s.geometry.tasks) (λ t. is_torn s (hand (s.calls t))) e in here t.0 (hand (s.calls t.0)) refl t.2
+torn s e h =
+    let t = found_below (suc s.geometry.tasks) (λ t. is_torn s (hand (s.calls t))) e in here t.0
+    (hand (s.calls t.0)) refl t.2
   where
     below : (a b : ℕ) → nat_lt a b ≡ true → a < b
     below a b e = grind (arith, nat_tests)
@@ -285,7 +294,8 @@ lacks t s = needs_one s (standing_of (s.calls t)).change
 
 pub lacks_so : (rows : EventRows) (tries : Tries rows) (g : Geometry) (frames : ℕ) (events : List Event) (t : ℕ)
     → is_led rows tries g frames events (lacks t) ≡ true → Lacks rows g frames events t
-lacks_so rows tries g frames events t = leads rows tries g frames events (lacks t) (λ s. LacksDescriptor s t × (SparesSuffice s → ⊥))
+lacks_so rows tries g frames events t =
+    leads rows tries g frames events (lacks t) (λ s. LacksDescriptor s t × (SparesSuffice s → ⊥))
     (λ s e. here s (standing_of (s.calls t)).change refl e)
   where
     is_not : (b : Bool) → not b ≡ true → b ≡ false

@@ -1,4 +1,4 @@
--- Machines that cut a file short wrongly, run.
+-- Machines that cut a file short wrongly. Of each: how a step of it is found, and that its run ends as the theorem says.
 use Rattle.std.proofs.Common.{refl}
 use Rattle.hp_machine.specs.Events.{CallRow}
 use Rattle.hp_machine.specs.declared.call.Call.TheVariants as call
@@ -8,8 +8,11 @@ use Rattle.hp_laws.specs.Laws.{NeverShort}
 use Rattle.hp_needed.specs.Runs.{Breaks, Miscounts, small, with_calls}
 use Rattle.hp_machine.specs.declared.touch.TouchPhase.TheVariants as touch
 use Rattle.hp_machine.specs.declared.truncate.TruncatePhase.TheVariants as truncate
-use Rattle.hp_needed.specs.Cutting.{VisitsPagesOnly, pages_only_run, short_run, SweepsFromSize, low_top_run, LooksNoMore, no_look_run, SizesLast, size_last_run}
-use Rattle.hp_needed.proofs.Steps.{TriesCalls, bind, by, by_calls, goes, machine, test, try_call, try_truncate, want}
+use Rattle.hp_needed.specs.Cutting.{VisitsPagesOnly, pages_only_run, short_run, SweepsFromSize, low_top_run, LooksNoMore}
+use Rattle.hp_needed.specs.Cutting.{no_look_run, SizesLast, size_last_run}
+use Rattle.hp_needed.proofs.Searching.{bind}
+use Rattle.hp_needed.proofs.Steps.{by, goes, test, try_call, try_truncate, want}
+use Rattle.hp_needed.proofs.Running.{TriesCalls, by_calls, machine}
 use Rattle.hp_needed.proofs.Breaking.{breaks, miscounts_so, shorted, shorts}
 
 abbrev pub try_VisitsPagesOnly : TriesCalls VisitsPagesOnly
@@ -21,11 +24,15 @@ try_VisitsPagesOnly s t killed grant c h = try_call s t killed grant c h
 
 pub bare_indices_are_visited : Miscounts (with_calls VisitsPagesOnly) (small 2 1) 1 pages_only_run 0 1
 unfolding machine VisitsPagesOnly
-bare_indices_are_visited = miscounts_so (with_calls VisitsPagesOnly) (by_calls VisitsPagesOnly try_VisitsPagesOnly) (small 2 1) 1 pages_only_run 0 1 refl
+bare_indices_are_visited =
+    miscounts_so (with_calls VisitsPagesOnly) (by_calls VisitsPagesOnly try_VisitsPagesOnly)
+    (small 2 1) 1 pages_only_run 0 1 refl
 
 pub the_count_stays_above_zero : Breaks (with_calls VisitsPagesOnly) (small 2 1) 1 short_run NeverShort
 unfolding machine VisitsPagesOnly
-the_count_stays_above_zero = breaks (with_calls VisitsPagesOnly) (by_calls VisitsPagesOnly try_VisitsPagesOnly) (small 2 1) 1 short_run NeverShort shorts shorted refl
+the_count_stays_above_zero =
+    breaks (with_calls VisitsPagesOnly) (by_calls VisitsPagesOnly try_VisitsPagesOnly)
+    (small 2 1) 1 short_run NeverShort shorts shorted refl
 
 abbrev pub try_SweepsFromSize : TriesCalls SweepsFromSize
 unfolding SweepsFromSize CallRow
@@ -35,7 +42,9 @@ try_SweepsFromSize s t killed grant c h = try_call s t killed grant c h
 
 pub pages_above_the_size_are_swept : Miscounts (with_calls SweepsFromSize) (small 1 2) 2 low_top_run 0 1
 unfolding machine SweepsFromSize
-pages_above_the_size_are_swept = miscounts_so (with_calls SweepsFromSize) (by_calls SweepsFromSize try_SweepsFromSize) (small 1 2) 2 low_top_run 0 1 refl
+pages_above_the_size_are_swept =
+    miscounts_so (with_calls SweepsFromSize) (by_calls SweepsFromSize try_SweepsFromSize)
+    (small 1 2) 2 low_top_run 0 1 refl
 
 abbrev pub try_LooksNoMore : TriesCalls LooksNoMore
 unfolding LooksNoMore CallRow
@@ -45,7 +54,8 @@ try_LooksNoMore s t killed grant c h = try_call s t killed grant c h
 
 pub the_size_is_looked_at_under_the_slot : Miscounts (with_calls LooksNoMore) (small 2 1) 2 no_look_run 0 1
 unfolding machine LooksNoMore
-the_size_is_looked_at_under_the_slot = miscounts_so (with_calls LooksNoMore) (by_calls LooksNoMore try_LooksNoMore) (small 2 1) 2 no_look_run 0 1 refl
+the_size_is_looked_at_under_the_slot =
+    miscounts_so (with_calls LooksNoMore) (by_calls LooksNoMore try_LooksNoMore) (small 2 1) 2 no_look_run 0 1 refl
 
 abbrev pub try_SizesLast : TriesCalls SizesLast
 unfolding SizesLast CallRow
@@ -59,4 +69,5 @@ try_SizesLast s t killed grant c h = try_call s t killed grant c h
 
 pub the_size_is_set_first : Miscounts (with_calls SizesLast) (small 2 1) 2 size_last_run 0 1
 unfolding machine SizesLast
-the_size_is_set_first = miscounts_so (with_calls SizesLast) (by_calls SizesLast try_SizesLast) (small 2 1) 2 size_last_run 0 1 refl
+the_size_is_set_first =
+    miscounts_so (with_calls SizesLast) (by_calls SizesLast try_SizesLast) (small 2 1) 2 size_last_run 0 1 refl

@@ -5,4 +5,7 @@ pub mod Cutting
 pub mod Laws
 pub mod Locking
 pub mod Promising
+pub mod Resizing
+pub mod Running
+pub mod Searching
 pub mod Steps

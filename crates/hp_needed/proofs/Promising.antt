@@ -1,4 +1,4 @@
--- Machines that promise or take what they may not, run.
+-- Machines that promise or take what they may not. Of each: how a step of it is found, and that its run ends as the theorem says.
 use Rattle.std.proofs.Common.{◌≡◌, ℕ, refl, inl, inr}
 use Rattle.hp_machine.specs.Events.{CallRow}
 use Rattle.hp_machine.specs.declared.call.Call.TheVariants as call
@@ -8,11 +8,17 @@ use Rattle.hp_frames.specs.declared.frame.FrameState.{FrameState}
 use Rattle.hp_frames.specs.declared.frame.FrameState.TheVariants as state
 use Rattle.hp_machine.specs.State.{Pool, active_frames, actives, frees}
 use Rattle.hp_machine.specs.Resizes.{is_size, surplus}
-use Rattle.hp_needed.specs.Runs.{Breaks, FreeFramesSuffice, FramesAreInOnePlace, QuotaSuffices, small, with_calls, with_resizes}
+use Rattle.hp_needed.specs.Runs.{Breaks, FreeFramesSuffice, FramesAreInOnePlace, QuotaSuffices, small, with_calls}
+use Rattle.hp_needed.specs.Runs.{with_resizes}
 use Rattle.hp_machine.specs.declared.touch.TouchPhase.TheVariants as touch
 use Rattle.hp_machine.specs.declared.map.MapPhase.TheVariants as map
-use Rattle.hp_needed.specs.Promising.{RetiresAny, all_surplus, TakesAnyFrame, any_frame_run, PromisesAnyFrame, any_promise_run, AsksNoQuota, quota_run, RetiresReserved, resize_reserved_run, RetiresHands, resize_hand_run}
-use Rattle.hp_needed.proofs.Steps.{Shrunk, TriesResizes, as_many, pick_bool, retired, retires, try_resize, TriesCalls, bind, by, by_calls, by_resizes, goes, machine, test, try_call, try_map, try_touch}
+use Rattle.hp_needed.specs.Promising.{RetiresAny, all_surplus, TakesAnyFrame, any_frame_run, PromisesAnyFrame}
+use Rattle.hp_needed.specs.Promising.{any_promise_run, AsksNoQuota, quota_run, RetiresReserved, resize_reserved_run}
+use Rattle.hp_needed.specs.Promising.{RetiresHands, resize_hand_run}
+use Rattle.hp_needed.proofs.Searching.{bind}
+use Rattle.hp_needed.proofs.Steps.{by, goes, test, try_call, try_map, try_touch}
+use Rattle.hp_needed.proofs.Resizing.{Shrunk, TriesResizes, as_many, pick_bool, retired, retires, try_resize}
+use Rattle.hp_needed.proofs.Running.{TriesCalls, by_calls, by_resizes, machine}
 use Rattle.hp_needed.proofs.Breaking.{breaks, exceeded, exceeds, overdrawn, overdraws, tears, torn}
 
 abbrev pub try_TakesAnyFrame : TriesCalls TakesAnyFrame
@@ -25,7 +31,9 @@ try_TakesAnyFrame s t killed grant c h = try_call s t killed grant c h
 
 pub promised_frames_are_left_alone : Breaks (with_calls TakesAnyFrame) (small 1 2) 1 any_frame_run FreeFramesSuffice
 unfolding machine TakesAnyFrame
-promised_frames_are_left_alone = breaks (with_calls TakesAnyFrame) (by_calls TakesAnyFrame try_TakesAnyFrame) (small 1 2) 1 any_frame_run FreeFramesSuffice overdraws overdrawn refl
+promised_frames_are_left_alone =
+    breaks (with_calls TakesAnyFrame) (by_calls TakesAnyFrame try_TakesAnyFrame)
+    (small 1 2) 1 any_frame_run FreeFramesSuffice overdraws overdrawn refl
 
 abbrev pub try_PromisesAnyFrame : TriesCalls PromisesAnyFrame
 unfolding PromisesAnyFrame CallRow
@@ -34,9 +42,12 @@ try_PromisesAnyFrame s t killed grant (call.Map (map.Changed p)) h =
     (λ r. Some (r.0, record r.1 { resv = s.resv + (r.1).resv }, (r.1, r.2, refl), r.3)))
 try_PromisesAnyFrame s t killed grant c h = try_call s t killed grant c h
 
-pub promised_frames_are_not_promised_again : Breaks (with_calls PromisesAnyFrame) (small 1 2) 1 any_promise_run FreeFramesSuffice
+pub promised_frames_are_not_promised_again : Breaks (with_calls PromisesAnyFrame)
+    (small 1 2) 1 any_promise_run FreeFramesSuffice
 unfolding machine PromisesAnyFrame
-promised_frames_are_not_promised_again = breaks (with_calls PromisesAnyFrame) (by_calls PromisesAnyFrame try_PromisesAnyFrame) (small 1 2) 1 any_promise_run FreeFramesSuffice overdraws overdrawn refl
+promised_frames_are_not_promised_again =
+    breaks (with_calls PromisesAnyFrame) (by_calls PromisesAnyFrame try_PromisesAnyFrame)
+    (small 1 2) 1 any_promise_run FreeFramesSuffice overdraws overdrawn refl
 
 abbrev pub try_AsksNoQuota : TriesCalls AsksNoQuota
 unfolding AsksNoQuota CallRow
@@ -47,7 +58,9 @@ try_AsksNoQuota s t killed grant c h = try_call s t killed grant c h
 
 pub the_quota_is_asked : Breaks (with_calls AsksNoQuota) (record (small 1 2) { quota = Some 1 }) 2 quota_run QuotaSuffices
 unfolding machine AsksNoQuota
-the_quota_is_asked = breaks (with_calls AsksNoQuota) (by_calls AsksNoQuota try_AsksNoQuota) (record (small 1 2) { quota = Some 1 }) 2 quota_run QuotaSuffices exceeds exceeded refl
+the_quota_is_asked =
+    breaks (with_calls AsksNoQuota) (by_calls AsksNoQuota try_AsksNoQuota)
+    (record (small 1 2) { quota = Some 1 }) 2 quota_run QuotaSuffices exceeds exceeded refl
 
 abbrev pub try_RetiresReserved : TriesResizes RetiresReserved
 unfolding RetiresReserved
@@ -57,9 +70,12 @@ try_RetiresReserved s n h =
     bind (as_many s (all_surplus s n) new.0) (λ e. Some (_, _, (new.0, retires s (all_surplus s n) new e, refl, refl), h)))
     (try_resize s n h)
 
-pub reserved_frames_are_not_retired : Breaks (with_resizes RetiresReserved) (small 1 2) 2 resize_reserved_run FreeFramesSuffice
+pub reserved_frames_are_not_retired : Breaks (with_resizes RetiresReserved)
+    (small 1 2) 2 resize_reserved_run FreeFramesSuffice
 unfolding machine RetiresReserved
-reserved_frames_are_not_retired = breaks (with_resizes RetiresReserved) (by_resizes RetiresReserved try_RetiresReserved) (small 1 2) 2 resize_reserved_run FreeFramesSuffice overdraws overdrawn refl
+reserved_frames_are_not_retired =
+    breaks (with_resizes RetiresReserved) (by_resizes RetiresReserved try_RetiresReserved)
+    (small 1 2) 2 resize_reserved_run FreeFramesSuffice overdraws overdrawn refl
 
 abbrev pub is_in_hand : FrameState → Bool
 is_in_hand state.Free = false
@@ -73,7 +89,8 @@ hand_is state.Hand e = refl
 hand_is (state.Placed word) e = (let d : false ≡ true = e in absurd (cc))
 hand_is state.Retired e = (let d : false ≡ true = e in absurd (cc))
 
-pub retires_any : (s : Pool) (k : ℕ) (new : Shrunk is_in_hand s.frames s.frame) → active_frames new.0 s.frames + k ≡ actives s
+pub retires_any : (s : Pool) (k : ℕ) (new : Shrunk is_in_hand s.frames s.frame)
+    → active_frames new.0 s.frames + k ≡ actives s
     → RetiresAny s k new.0
 retires_any s k new e = record {
   count = e;
@@ -91,4 +108,6 @@ try_RetiresHands s n h =
 
 pub frames_in_hands_are_not_retired : Breaks (with_resizes RetiresHands) (small 1 1) 2 resize_hand_run FramesAreInOnePlace
 unfolding machine RetiresHands
-frames_in_hands_are_not_retired = breaks (with_resizes RetiresHands) (by_resizes RetiresHands try_RetiresHands) (small 1 1) 2 resize_hand_run FramesAreInOnePlace tears torn refl
+frames_in_hands_are_not_retired =
+    breaks (with_resizes RetiresHands) (by_resizes RetiresHands try_RetiresHands)
+    (small 1 1) 2 resize_hand_run FramesAreInOnePlace tears torn refl

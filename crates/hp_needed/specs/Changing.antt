@@ -6,6 +6,7 @@ use Rattle.hp_base.specs.declared.answer.Answer.TheVariants as answer
 use Rattle.hp_base.specs.declared.event.Op.TheVariants as op
 use Rattle.hp_base.specs.declared.event.Event.{Event}
 use Rattle.hp_base.specs.declared.event.Event.TheVariants.{Kill}
+use Rattle.hp_region.specs.Change.{Change}
 use Rattle.hp_machine.specs.State.{Geometry, Pool}
 use Rattle.hp_machine.specs.Parts.{Goes}
 use Rattle.hp_machine.specs.Events.{CallRow, CallRows, TurnRow}
@@ -49,9 +50,10 @@ abbrev pub SharedSpareRow : Pool → (grant : Bool) → Missing → Turn TouchPh
 SharedSpareRow s grant p turn new =
     let f = p.touch.file in
     let i = p.touch.index in
+    let change : Change = record { from = i; to = i + 1; missing = missing (s.reserved f) i (i + 1) } in
     MatchBool ((s.spare f == 0) && not grant)
     (Goes (touch.Leave (record { touch = p.touch; answer = answer.NoMemory })) s turn new)
-    (Goes (touch.Changed (record { touch = p.touch; pending = record { from = i; to = i + 1; missing = missing (s.reserved f) i (i + 1) } }))
+    (Goes (touch.Changed (record { touch = p.touch; pending = change }))
     (record s { pending = put s.pending f (s.pending f + 1); spare = put s.spare f (max (s.spare f) 1) }) turn new)
 
 unfoldable pub SharesSpare : CallRows

@@ -34,7 +34,8 @@ Unused s row turn new = (right : Pool) × row turn right × (new ≡ record righ
 
 -- ---- a map doesn't give back what it counted and didn't add
 unfoldable pub MapKeepsExcess : CallRows
-MapKeepsExcess s t killed grant (call.Map (map.Settle p)) = TurnRow call.Map (Uncounted s (λ turn new. MapSettleRow s p turn new))
+MapKeepsExcess s t killed grant (call.Map (map.Settle p)) =
+    TurnRow call.Map (Uncounted s (λ turn new. MapSettleRow s p turn new))
 MapKeepsExcess s t killed grant other = CallRow s t killed grant other
 
 -- a touch and a map find one index missing, and the touch commits first
@@ -49,7 +50,8 @@ TouchKeepsExcess s t killed grant other = CallRow s t killed grant other
 
 -- a touch and a map find one index missing, and the map commits first
 abbrev pub touch_settles_run : List Event
-touch_settles_run = calls 2 (op.MapNoReserve 0 0 1) 4 (calls 1 (op.Map 0 0 1) 4 (calls 2 (op.Load 0) 5 (steps 1 3 (steps 2 5 []))))
+touch_settles_run =
+    calls 2 (op.MapNoReserve 0 0 1) 4 (calls 1 (op.Map 0 0 1) 4 (calls 2 (op.Load 0) 5 (steps 1 3 (steps 2 5 []))))
 
 -- ---- a map that gives back what it didn't add still counts it as used
 unfoldable pub MapKeepsUsed : CallRows
@@ -84,7 +86,8 @@ RestoresUnmarked s t killed grant other = CallRow s t killed grant other
 
 -- ---- a punch forgets that its delete was denied, and doesn't count the index, which stays in the reserve map
 unfoldable pub ForgetsDenial : CallRows
-ForgetsDenial s t killed grant (call.Punch (punch.Free p)) = TurnRow call.Punch (Uncounted s (λ turn new. PunchFreeRow s p turn new))
+ForgetsDenial s t killed grant (call.Punch (punch.Free p)) =
+    TurnRow call.Punch (Uncounted s (λ turn new. PunchFreeRow s p turn new))
 ForgetsDenial s t killed grant other = CallRow s t killed grant other
 
 -- ---- a punch lowers the used count whether its delete was denied or not
@@ -98,7 +101,8 @@ UnusesDenied s t killed grant other = CallRow s t killed grant other
 -- a punch inside a region, where no descriptor is spare, is denied one
 abbrev pub denial_run : List Event
 denial_run =
-    calls 1 (op.Map 0 0 3) 7 (calls 1 (op.Load 1) 9 (calls 1 (op.Map 0 4 1) 7 (calls 1 (op.Punch 0 1 1) 5 (deny 1 (steps 1 3 [])))))
+    calls 1 (op.Map 0 0 3) 7
+    (calls 1 (op.Load 1) 9 (calls 1 (op.Map 0 4 1) 7 (calls 1 (op.Punch 0 1 1) 5 (deny 1 (steps 1 3 [])))))
 
 -- ---- a truncation gives nothing back
 unfoldable pub GivesNothingBack : CallRows
@@ -120,7 +124,8 @@ GivesBackEvicted s t killed grant other = CallRow s t killed grant other
 
 -- ---- a truncation lowers the used count by what it gives back alone, and not by the pages that it took away
 abbrev pub ExcessSettleRow : Pool → truncate_settle.Settle → Turn TruncatePhase → Pool → Type 0
-ExcessSettleRow s p turn new = (right : Pool) × TruncateSettleRow s p turn right × (new ≡ record right { used = s.used - p.excess })
+ExcessSettleRow s p turn new =
+    (right : Pool) × TruncateSettleRow s p turn right × (new ≡ record right { used = s.used - p.excess })
 
 unfoldable pub KeepsEvictedUsed : CallRows
 KeepsEvictedUsed s t killed grant (call.Truncate (truncate.Settle p)) = TurnRow call.Truncate (ExcessSettleRow s p)

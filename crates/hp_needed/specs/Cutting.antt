@@ -80,7 +80,8 @@ UnsizingRow s p turn new = (right : Pool) × TruncateSizeRow s p turn right × (
 
 abbrev pub SizingTailRow : Pool → Tail → Turn TruncatePhase → Pool → Type 0
 SizingTailRow s p turn new =
-    (right : Pool) × TruncateTailRow s p turn right × (new ≡ record right { size = put s.size p.truncation.file p.truncation.new })
+    (right : Pool) × TruncateTailRow s p turn right
+    × (new ≡ record right { size = put s.size p.truncation.file p.truncation.new })
 
 unfoldable pub SizesLast : CallRows
 SizesLast s t killed grant (call.Truncate (truncate.Size p)) = TurnRow call.Truncate (UnsizingRow s p)
@@ -90,4 +91,5 @@ SizesLast s t killed grant other = CallRow s t killed grant other
 -- a touch takes its slot after the truncation has passed it, and sees the old size
 abbrev pub size_last_run : List Event
 size_last_run =
-    calls 1 (op.Map 0 0 1) 7 (calls 1 (op.Load 0) 1 (calls 2 (op.Truncate 0 0) 5 (steps 1 4 (steps 2 1 (steps 1 4 (steps 2 2 []))))))
+    calls 1 (op.Map 0 0 1) 7
+    (calls 1 (op.Load 0) 1 (calls 2 (op.Truncate 0 0) 5 (steps 1 4 (steps 2 1 (steps 1 4 (steps 2 2 []))))))

@@ -87,7 +87,8 @@ truncate_slot_run = calls 1 (op.Map 0 0 1) 7 (calls 1 (op.Load 0) 5 (calls 2 (op
 -- ---- a punch evicts the page once one task's entries are cleared
 abbrev pub OneTaskUnmapRow : Pool → punch_unmap.Unmap → Turn PunchPhase → Pool → Type 0
 OneTaskUnmapRow s p turn new =
-    (right : Turn PunchPhase) × PunchUnmapRow s p right new × (turn ≡ Moved (punch.Evict (record { hole = p.hole; index = p.index })))
+    (right : Turn PunchPhase) × PunchUnmapRow s p right new
+    × (turn ≡ Moved (punch.Evict (record { hole = p.hole; index = p.index })))
 
 unfoldable pub PunchesEarly : CallRows
 PunchesEarly s t killed grant (call.Punch (punch.Unmap p)) = TurnRow call.Punch (OneTaskUnmapRow s p)

@@ -41,7 +41,8 @@ any_frame_run = calls 1 (op.Map 0 0 1) 7 (calls 1 (op.MapNoReserve 0 1 1) 4 (cal
 -- ---- a map may promise any free frame, as if none were reserved
 abbrev pub AnyPromiseRow : Pool → (killed : Bool) → map_changed.Changed → Turn MapPhase → Pool → Type 0
 AnyPromiseRow s killed p turn new =
-    (right : Pool) × MapChangedRow (record s { resv = 0 }) killed p turn right × (new ≡ record right { resv = s.resv + right.resv })
+    (right : Pool) × MapChangedRow (record s { resv = 0 }) killed p turn right
+    × (new ≡ record right { resv = s.resv + right.resv })
 
 unfoldable pub PromisesAnyFrame : CallRows
 PromisesAnyFrame s t killed grant (call.Map (map.Changed p)) = TurnRow call.Map (AnyPromiseRow s killed p)
