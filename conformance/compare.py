@@ -1,11 +1,12 @@
 #!/usr/bin/env python3
 """Replays what a Linux kernel was asked, call by call, and compares the answers.
 
-Each line of a script is one call that ran to its end, with what the kernel said then:
+Each line of a script is one call that ran to its end, or a resize of the pool, with what the kernel said then:
 `begin T OP = ANSWER | FREE RESV | SIZE PAGES, .. | ENTRIES ..` (one `SIZE PAGES` a file, one number of
-translations a task), and behind it ` | used U` where the pool has a quota. A script is compared up to the first
-touch of a page that is cached at or above the file's size, where this pool answers beyond and Linux the word, or
-up to the first byte call (`x..`).
+translations a task), and behind it ` | used U` where the pool has a quota, or ` | total T surplus S` once it was
+resized. A script is compared up to the first touch of a page that is cached at or above the file's size, where
+this pool answers beyond and Linux the word; up to the first byte call (`x..`) or `resize 0`, which is refused here;
+or through the first resize that leaves a surplus, of which this pool knows nothing.
 """
 from __future__ import annotations
 
@@ -22,6 +23,8 @@ PROGRAM = TOP / "crates" / "hugepool" / "out" / "hugepool"
 LIMIT = 4096
 # a touch of a page that is cached at or above the file's size
 KNOWN = "known"
+# a resize that leaves more pages than were asked for, or asks for none
+SURPLUS = "surplus"
 
 # what a program writes of a trace, both line by line
 Program = Callable[[list[str]], list[str]]
@@ -44,6 +47,15 @@ class Told(NamedTuple):
     files: str
     entries: str
     used: str = ""
+    total: str = ""
+
+
+class Line(NamedTuple):
+    """A script's call, what the kernel said of it, and how many surplus pages it had then."""
+
+    call: str
+    linux: Told
+    surplus: int
 
 
 @dataclass(frozen=True)
@@ -56,16 +68,19 @@ class Pool:
     tasks: int
     outcomes: list[str] = field(default_factory=list)
     state: list[str] = field(default_factory=list)
+    # how many frames the last resize told, if there was one
+    total: str = ""
 
     def after(self, call: str) -> Pool:
-        """The pool after one more call, which is stepped until it ends."""
+        """The pool after one more call, which is stepped until it ends, or after a resize."""
         words = call.split()
-        steps = [f"step {words[1]}"] * most_steps(words, self.tasks)
+        steps = [f"step {words[1]}"] * most_steps(words, self.tasks) if words[0] == "begin" else []
         written = self.program([*self.trace, call, *steps])
         outcomes, state = written[len(self.trace) - 1:], written[-(1 + self.files + self.tasks):]
         end = next((k for k, what in enumerate(outcomes) if what.startswith(("ended ", "refused "))), len(steps))
+        total = outcomes[0].removeprefix("resized ") if words[0] == "resize" else self.total
         # (the steps that are left over were refused, which changes nothing)
-        return replace(self, trace=[*self.trace, call, *steps[:end]], outcomes=outcomes[:end + 1], state=state)
+        return replace(self, trace=[*self.trace, call, *steps[:end]], outcomes=outcomes[:end + 1], state=state, total=total)
 
     def told(self) -> Told:
         """What is told of the last call."""
@@ -75,7 +90,8 @@ class Pool:
         answer = self.outcomes[-1].removeprefix("ended ")
         # Linux has one error for want of quota and of frames (`used` is told of a pool with a quota alone)
         answer = "noframe" if answer == "noquota" and used else answer
-        return Told(answer, f"{free} {resv}", ", ".join(" ".join(pair) for pair in sizes), " ".join(entries), used)
+        files = ", ".join(" ".join(pair) for pair in sizes)
+        return Told(answer, f"{free} {resv}", files, " ".join(entries), used, self.total)
 
 
 def replayed(trace: list[str]) -> list[str]:
@@ -104,10 +120,14 @@ def scripts(path: Path) -> Iterator[Script]:
             lines.append(line)
 
 
-def read(line: str) -> tuple[str, Told]:
-    """A script's call, and what the kernel said."""
+def read(line: str) -> Line:
+    """A line of a script."""
     call, said = line.split(" = ", 1)
-    return call, Told(*(part.strip() for part in said.split("|")))
+    parts = [part.strip() for part in said.split("|")]
+    resized = re.match(r"total (\d+) surplus (\d+)$", parts[-1])
+    if resized is None:
+        return Line(call, Told(*parts), 0)
+    return Line(call, Told(*parts[:-1], total=resized[1]), int(resized[2]))
 
 
 def most_steps(words: list[str], tasks: int) -> int:
@@ -138,6 +158,8 @@ def is_known(pool: Pool, lines: list[str], call: str, linux: Told) -> bool:
     That it isn't below the size is reckoned from what Linux said. That this pool has it cached shows once the size is raised to the
     limit (by a truncation, which then takes nothing away): the same touch has to find the page, and to tell all else that Linux told.
     """
+    if not call.startswith("begin "):
+        return False
     _, task, op, *numbers = call.split()
     place = place_of(lines, task, int(numbers[0])) if op in ("load", "store") else None
     if place is None:
@@ -154,16 +176,20 @@ def is_known(pool: Pool, lines: list[str], call: str, linux: Told) -> bool:
 
 
 def compare(program: Program, script: Script) -> tuple[int, str | None]:
-    """How many calls agree, and how the script ended: None, KNOWN, or what was different."""
+    """How many calls agree, and how the script ended: None, KNOWN, SURPLUS, or what was different."""
     pool = opened(program, script.header)
     for agreed, line in enumerate(script.lines):
-        call, linux = read(line)
-        if call.split()[2].startswith("x"):
+        call, linux, surplus = read(line)
+        if re.match(r"begin \d+ x", call):
             return agreed, None
+        if call == "resize 0":
+            return agreed, SURPLUS
         new = pool.after(call)
         if new.told() != linux:
             is_excused = is_known(pool, script.lines[:agreed], call, linux)
             return agreed, KNOWN if is_excused else f"{script.name}: {call}: {tuple(new.told())}, but Linux: {tuple(linux)}"
+        if surplus:
+            return agreed + 1, SURPLUS
         pool = new
     return len(script.lines), None
 
@@ -175,16 +201,16 @@ def build() -> None:
 
 def main() -> int:
     build()
-    total, calls, known, different = 0, 0, 0, []
+    total, asked, calls, known, surplus, different = 0, 0, 0, 0, 0, []
     for path in sorted(Path(__file__).parent.glob("calls-*.txt")):
         for script in scripts(path):
             agreed, difference = compare(replayed, script)
-            total, calls = total + 1, calls + agreed
-            if difference == KNOWN:
-                known += 1
-            elif difference:
+            total, asked, calls = total + 1, asked + len(script.lines), calls + agreed
+            known, surplus = known + (difference == KNOWN), surplus + (difference == SURPLUS)
+            if difference not in (None, KNOWN, SURPLUS):
                 different.append(difference)
-    print(f"{total} scripts, {calls} calls agree, {known} scripts end at the known difference, {len(different)} differ")
+    print(f"{total} scripts, {calls} of their {asked} calls agree, {known} scripts end at the known difference")
+    print(f"{surplus} end at a surplus or at a resize to nothing, {len(different)} differ")
     print("".join(f"  {difference}\n" for difference in different), end="")
     print(f"linux: {total - len(different)} passed, {len(different)} failed")
     return 1 if different else 0

@@ -1,8 +1,9 @@
 #!/usr/bin/env python3
-"""Compares programs that are wrong with what a Linux kernel answered: the known difference has to excuse none of them.
+"""Compares programs that are wrong with what a Linux kernel answered: what ends a script early has to excuse none of them.
 
-Each is the program of this repository with some of its words for others. On which scripts it has to differ, and which alone may end at
-the known difference, stands in `EXPECTED`, for those of calls-fixed.txt, and in `EXPECTED_OF_QUOTAS`, for those of calls-quota.txt.
+Each is the program of this repository with some of its words for others, or some lines of what it reads. On which scripts
+it has to differ, and which alone may end at the known difference, stands in `EXPECTED`, for those of calls-fixed.txt, and
+in `EXPECTED_OF_QUOTAS` and `EXPECTED_OF_RESIZES`, for those of calls-quota.txt and calls-resize.txt.
 """
 from __future__ import annotations
 
@@ -16,6 +17,7 @@ from compare import KNOWN, LIMIT, Program
 
 SCRIPTS = Path(__file__).resolve().parent / "calls-fixed.txt"
 SCRIPTS_OF_QUOTAS = SCRIPTS.with_name("calls-quota.txt")
+SCRIPTS_OF_RESIZES = SCRIPTS.with_name("calls-resize.txt")
 # they come to a touch of a page that is cached at or above the size
 PAST_THE_END = {"d:smallest", "d:touch-of-a-cached-page-past-the-end", "d:translation-past-the-end"}
 # a task touches a page below the size that is cached, and that it hasn't touched before
@@ -24,6 +26,10 @@ SHARED = {"w:shared", "w:alloc-instantiate-race", "row7"}
 SHORT = {"w:chunk-overcommit", "w:noresv-preserve-resv-page", "row2", "row9", "row13"}
 # the quota is used up
 USED_UP = {"q:row35", "q:row37", "q:zero"}
+# a resize leaves a surplus
+SURPLUS = {"z:row38", "z:in-use", "z:grow-takes-surplus-first"}
+# touches of cached pages above the size, before or after a resize
+PAST_THE_END_RESIZED = {"resize4.2", "resize4.8"}
 
 
 def with_other_words(pattern: str, words: str) -> Program:
@@ -35,6 +41,17 @@ def until_a_size_is_raised(program: Program) -> Program:
     """That program, but the right one once a file was truncated to the limit."""
     is_raised = lambda trace: any(re.search(rf" trunc \d+ {LIMIT}$", line) for line in trace)
     return lambda trace: (compare.replayed if is_raised(trace) else program)(trace)
+
+
+def each_resize(frames: str) -> Program:
+    """The program, but each resize asks for so many frames."""
+    return lambda trace: compare.replayed([re.sub(r"resize (\d+)", frames, line) for line in trace])
+
+
+def told_as_asked(trace: list[str]) -> list[str]:
+    """What the program writes, but each resize tells what it was asked for."""
+    asked = iter(line.removeprefix("resize ") for line in trace if line.startswith("resize "))
+    return [f"resized {next(asked)}" if line.startswith("resized ") else line for line in compare.replayed(trace)]
 
 
 all_beyond = with_other_words(r"(begun|moved found\nmoved leave)\nended (?:word \d+|done)", r"\1\nended beyond")
@@ -57,6 +74,11 @@ EXPECTED_OF_QUOTAS = [
     ("want of quota is answered well", with_other_words(r"ended noquota", "ended done"), USED_UP, set()),
     ("one page too many is told as used", with_other_words(r" used (\d+)", r" used 1\1"), USED_UP, set()),
 ]
+EXPECTED_OF_RESIZES = [
+    ("resizes are right", compare.replayed, set(), PAST_THE_END_RESIZED),
+    ("a resize tells what it was asked for", told_as_asked, SURPLUS, PAST_THE_END_RESIZED),
+    ("a resize brings in more frames", each_resize(r"resize 1\1"), SURPLUS | {"z:room-only", "resize4.8"}, {"resize4.2"}),
+]
 
 # some calls, and which file and index a task's virtual pages show then
 CALLS = [
@@ -72,7 +94,11 @@ PLACES = {("1", 0): (2, 0), ("1", 3): (1, 4), ("1", 4): None, ("2", 8): (0, 13)}
 def endings(program: Program, file: Path) -> tuple[set[str], set[str]]:
     """The names of the file's scripts on which a program differs, and of those that end at the known difference."""
     ends = {script.name: compare.compare(program, script)[1] for script in compare.scripts(file)}
-    return {name for name, end in ends.items() if end not in (None, KNOWN)}, {name for name, end in ends.items() if end == KNOWN}
+    return {name for name, end in ends.items() if end not in (None, KNOWN, compare.SURPLUS)}, {name for name, end in ends.items() if end == KNOWN}
+
+
+# what is expected on the scripts of each file
+EXPECTATIONS = ((SCRIPTS, EXPECTED), (SCRIPTS_OF_QUOTAS, EXPECTED_OF_QUOTAS), (SCRIPTS_OF_RESIZES, EXPECTED_OF_RESIZES))
 
 
 def faults() -> Iterator[str]:
@@ -80,7 +106,7 @@ def faults() -> Iterator[str]:
     for (task, page), place in PLACES.items():
         if (found := compare.place_of(CALLS, task, page)) != place:
             yield f"page {page} of task {task} is reckoned to show {found}, and shows {place}"
-    for file, expected in ((SCRIPTS, EXPECTED), (SCRIPTS_OF_QUOTAS, EXPECTED_OF_QUOTAS)):
+    for file, expected in EXPECTATIONS:
         for what, program, must_differ, may_be_known in expected:
             differ, known = endings(program, file)
             if not must_differ <= differ or known != may_be_known:
@@ -91,7 +117,8 @@ def main() -> int:
     compare.build()
     found = list(faults())
     print("".join(f"  {it}\n" for it in found), end="")
-    print(f"wrong programs told: {len(PLACES) + len(EXPECTED) + len(EXPECTED_OF_QUOTAS) - len(found)} passed, {len(found)} failed")
+    tried = len(PLACES) + sum(len(expected) for _, expected in EXPECTATIONS)
+    print(f"wrong programs told: {tried - len(found)} passed, {len(found)} failed")
     return 1 if found else 0
 
 

@@ -83,6 +83,29 @@ count_below_past p m (suc n) le none =
           rw (none n (omega (arith, leb-false (suc n) m e))) (omega (arith, rest))
     ] refl
 
+-- each number is in a set or not in it
+one_or_other : (b : Bool) → cond true 1 0 ≡ cond b 1 0 + cond (not b) 1 0
+one_or_other true = refl
+one_or_other false = refl
+
+-- so a set and the other numbers are all
+pub count_below-not : (p : ℕ → Bool) (n : ℕ) → count_below p n + count_below (λ x. not (p x)) n ≡ count_below (λ _. true) n
+count_below-not p n =
+    let parts = count_below-sum p (λ x. not (p x)) (λ _. true) n (λ k l. one_or_other (p k)) in
+    omega (arith, parts)
+
+-- what is in the larger set is in the smaller one, or in it alone
+here_or_gone : (a b : Bool) → (b ≡ true → a ≡ true) → cond a 1 0 ≡ cond b 1 0 + cond (a && not b) 1 0
+here_or_gone true true h = refl
+here_or_gone true false h = refl
+here_or_gone false true h = let d : false ≡ true = h refl in absurd (cc)
+here_or_gone false false h = refl
+
+-- a set that is within another, and what is in the other alone
+pub count_below-within : (p q : ℕ → Bool) (n : ℕ) → ((x : ℕ) → x < n → q x ≡ true → p x ≡ true)
+    → count_below p n ≡ count_below q n + count_below (λ x. p x && not (q x)) n
+count_below-within p q n h = count_below-sum q (λ x. p x && not (q x)) p n (λ k l. here_or_gone (p k) (q k) (h k l))
+
 -- further on there are no fewer
 pub count_below_wider : (p : ℕ → Bool) (m n : ℕ) → m ≤ n → count_below p m ≤ count_below p n
 unfolding count_below

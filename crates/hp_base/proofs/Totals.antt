@@ -91,6 +91,14 @@ count_below_somewhere p n some =
     let at = total_somewhere n (λ k. bit (p k)) (omega (arith, some, count_below-total p n)) in
     (at.0, at.1, bit_true (p at.0) at.2)
 
+-- a set that has a number isn't empty
+pub count_below_has : (p : ℕ → Bool) (k n : ℕ) → k < n → p k ≡ true → 0 < count_below p n
+count_below_has p k n l e =
+    let has = total_has n k (λ j. bit (p j)) l in
+    let one : bit (p k) ≡ 1 = ap bit e in
+    let all = count_below-total p n in
+    omega arith
+
 -- one number changes
 pub count_below-change : (p q : ℕ → Bool) (k n : ℕ) → k < n → ((j : ℕ) → j ≢ k → q j ≡ p j)
     → count_below q n + bit (p k) ≡ count_below p n + bit (q k)

@@ -1,10 +1,11 @@
 -- What the readers read: a file, a space, a seat of a sound core.
 use Rattle.std.proofs.Common.{◌≡◌, ℕ, ◌-◌, ◌<◌, ◌≤◌, length, get_or, ◌∙◌, ap, sym, subst, arith}
-use Rattle.std.specs.Prelude.{false, ◌==◌}
+use Rattle.std.specs.Prelude.{true, false, ◌==◌}
 use Rattle.std.proofs.lemmas.Bool.{ne_eqb}
 use Rattle.std.proofs.lemmas.Bool.Decides.{nat_tests}
 use Rattle.std.proofs.lemmas.List.{get_or_default}
 use Rattle.hp_base.specs.Limits.{IsWithinLimits}
+use Rattle.hp_machine.specs.Resizes.{is_size}
 use Rattle.hp_fault.specs.declared.parts.FileState.{FileState}
 use Rattle.hp_fault.specs.View.{no_file, no_table, table_of}
 use Rattle.hp_table.specs.Table.{Table}
@@ -69,6 +70,15 @@ seat_read {inside} {n = n} {task = task} {y = y} same h e low high is =
     let q : (task == 0) ≡ false = ne_eqb task 0 (λ z. omega (arith, z, low)) in
     rw q (is ∙ (get_or_default inside.seats (n - 1) y no_seat (seat_in same h e low high)
     ∙ (ap (λ (k : ℕ). get_or inside.seats (k - 1) no_seat) e ∙ ap (λ (s : CoreState). get_or s.seats (task - 1) no_seat) same)))
+
+-- a pool may have so many frames as the limits allow
+few_frames : (a b c d : ℕ) → IsWithinLimits a b c d → is_size a ≡ true
+few_frames a b c d h = grind (arith, nat_tests, h)
+
+-- so many a sound core was opened with
+pub opened_sized : (s : CoreState) → IsSound s → is_size s.sizes.frames ≡ true
+unfolding IsSound
+opened_sized s h = few_frames s.sizes.frames s.sizes.files s.sizes.slots s.sizes.tasks h.1.limits
 
 -- the limits allow 64 tasks at most
 pub few_tasks : (a b c d : ℕ) → IsWithinLimits a b c d → d ≤ 64

@@ -75,14 +75,16 @@ impl Core {
     }
 
     /// One event. After want of memory nothing changed; it comes only in a granted step whose row wants
-    /// growth. A step that is blocked and an event that is refused change nothing either.
+    /// growth, and in a resize that brings in new numbers. A step that is blocked and an event that is
+    /// refused change nothing either.
     pub fn step(&mut self, event: Event) -> Result<Outcome, AllocError>
         ensures row { IfOk result (λ told. Row self.old event told self.new) }
         ensures err { OnErr result (self.new ≡ self.old) }
         ensures growth { OnErr result (WantsGrowth self.old.parts self.old.seats event) }
         ensures idle { IfOk result (λ told. IsIdle told → self.new ≡ self.old) }
 
-        // A begin, a kill, a step that isn't granted and one whose row wants no growth take no memory.
+        // A begin, a kill, a step that isn't granted and one whose row wants no growth take no memory, nor
+        // does a resize without new numbers.
         ensures room { ¬ WantsGrowth self.old.parts self.old.seats event → TakesNoMemory self.old self.new }
         ensures headline { Headline self.new }
         ensures config { config_of self.new ≡ config_of self.old }

@@ -1,5 +1,5 @@
 //! Readers: the numbers of a core, and of each file and task.
-ghost use Rattle.std.specs.Prelude.{◌≡◌, ◌≤◌, ◌<◌, ◌+◌, ℕ, Bool, Some, None, MatchOption, IfSome, length, count_by, is_some};
+ghost use Rattle.std.specs.Prelude.{◌≡◌, ◌≤◌, ◌<◌, ◌+◌, ℕ, Bool, true, Some, None, MatchOption, IfSome, length, count_by, is_some};
 ghost use Rattle.hp_base.specs.Numbers.{total};
 ghost use Rattle.hp_base.specs.Indices.{count_below};
 ghost use Rattle.hp_fault.specs.View.{sets_of};
@@ -8,6 +8,7 @@ ghost use Rattle.hp_core.specs.Readers.{config_of, frames_of, free_of, resv_of, 
 ghost use Rattle.hp_core.specs.Readers.{changes_of, spare_of, life_of, mappings_of, entries_of, translation_of, phase_of};
 ghost use Rattle.hp_core.specs.Readers.{all_reserved_of, all_pages_of};
 ghost use Rattle.hp_core.specs.Runs.{Headline};
+ghost use Rattle.hp_machine.specs.Resizes.{is_size};
 
 use crate::core_state::Core;
 use crate::seat::Seat;
@@ -43,10 +44,13 @@ fn count_calls(seats: &[Seat]) -> usize
 
 /// Readers of the pool.
 impl Core {
-    /// How many frames the pool has, free or in use; retired ones don't count (Linux: `nr_huge_pages`).
+    /// How many frames the pool has, free or in use; retired ones don't count (Linux: `nr_huge_pages`). They are
+    /// 1 to 4,096 at every moment.
     pub fn frames(&self) -> u32
-        ensures { result ≡ frames_of self.now }
+        ensures frames { result ≡ frames_of self.now }
+        ensures within { is_size result ≡ true }
     {
+        hp_laws::frames_stay_within_limits();
         self.parts.bank.frames()
     }
 

@@ -21,7 +21,7 @@ impl Core {
     pub fn run(&mut self, alloc: Global, events: &[Event]) -> Result<Vec<Outcome>, RunFault>
         ensures run { IfOk result (λ told. Run self.old events.now told.items self.new) }
         ensures within { IfErr result (λ fault. fault.done < length events.now) }
-        // There was no room for the outcomes, or the event that didn't happen is a step whose row wants growth.
+        // There was no room for the outcomes, or the event that didn't happen wants growth.
         ensures wanted { IfErr result (λ fault. (fault.done ≡ 0)
             ⊎ HoldsAt (λ event. WantsGrowth self.new.parts self.new.seats event) events.now fault.done) }
         ensures stopped { IfErr result (λ fault. (told : List Outcome) × Run self.old (take fault.done events.now) told self.new) }

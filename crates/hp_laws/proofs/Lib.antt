@@ -19,6 +19,7 @@ pub mod Losing
 pub mod MapKeeps
 pub mod Meets
 pub mod Moves
+pub mod Numbered
 pub mod Paging
 pub mod Passing
 pub mod Promising

@@ -1,11 +1,11 @@
 -- A resize: what its frames keep, and that there are such frames.
 use Rattle.std.proofs.Common.{◌≡◌, ℕ, zero, suc, ◌+◌, ◌-◌, ◌<◌, ◌≤◌, refl, sym, ap, ◌∙◌, subst, arith, inl, inr, ◌⊎◌}
-use Rattle.std.specs.Prelude.{Bool, true, false, not, cond, max, min, nat_le, nat_lt, ◌&&◌, if◌then◌else◌, Option, Some, MatchBool}
+use Rattle.std.specs.Prelude.{Bool, true, false, max, min, nat_le, nat_lt, ◌&&◌, if◌then◌else◌, Option, Some, MatchBool}
 use Rattle.std.proofs.lemmas.Bool.Decides.{nat_tests}
 use Rattle.hp_base.specs.Numbers.{put, bit}
 use Rattle.hp_base.specs.Indices.{count_below}
 use Rattle.hp_base.specs.declared.event.Event.TheVariants.{Resize}
-use Rattle.hp_base.proofs.Counting.{count_below-ext, count_below_none, count_below-pairs, count_below_mono, count_below_wider, count_below_full}
+use Rattle.hp_base.proofs.Counting.{count_below-ext, count_below_none, count_below-not, count_below-pairs, count_below_mono, count_below_wider, count_below_full}
 use Rattle.hp_base.proofs.Puts.{put_same, put_other, same_or_other}
 use Rattle.hp_base.proofs.Totals.{count_below-change, count_below_somewhere}
 use Rattle.hp_frames.specs.Bank.{is_free, is_retired, is_active}
@@ -197,16 +197,10 @@ turn_some holds a b is_a isnt_b f n (suc k) l =
 all_counted : (f : ℕ → FrameState) (n : ℕ) → active_frames f n + count_below (λ x. is_retired (f x)) n ≡ n
 unfolding active_frames
 all_counted f n =
-    let each = count_below-pairs (λ x. is_active (f x)) (λ x. is_retired (f x)) (λ _. true) (λ _. false) n
-    (λ x l. one (is_retired (f x))) in
+    let each = count_below-not (λ x. is_retired (f x)) n in
     let all = count_below_full (λ _. true) 0 n (omega arith) (λ k l m. refl) in
-    let none = count_below_none (λ _. false) n (λ k l. refl) in
     let empty : count_below (λ _. true) 0 ≡ 0 = count_below_none (λ _. true) 0 (λ k l. absurd (omega arith)) in
     omega arith
-  where
-    one : (b : Bool) → cond (not b) 1 0 + cond b 1 0 ≡ 1
-    one true = refl
-    one false = refl
 
 -- so many free frames can be retired as there are
 retire_some : (s : Pool) (k : ℕ) → k ≤ frees s → (frame : ℕ → FrameState) × Retires s k frame

@@ -5,7 +5,8 @@ use Rattle.hp_base.specs.Indices.{is_within}
 use Rattle.hp_base.specs.Mappings.{find, is_there}
 use Rattle.hp_base.specs.declared.event.Event.{Event}
 use Rattle.hp_base.specs.declared.event.Event.TheVariants.{Step}
-use Rattle.hp_machine.specs.State.{State}
+use Rattle.hp_frames.specs.Bank.{is_retired}
+use Rattle.hp_machine.specs.State.{Pool, State}
 use Rattle.hp_machine.specs.Events.{word_of}
 use Rattle.hp_machine.specs.Standings.{Progress, NoChange, Counts, GivesUp, Work, NoWork, Makes, Uses, Removes, Removed, standing_of}
 use Rattle.hp_machine.specs.Views.{hand, opens, slot_held}
@@ -34,6 +35,10 @@ LiesWithin s = record {
   reserved : (f i : ℕ) → s.reserved f i ≡ true → (f < s.geometry.files) × (i < s.geometry.limit);
   cached : (f i x : ℕ) → s.pages f i ≡ Some x → (f < s.geometry.files) × (i < s.geometry.limit);
 }
+
+-- the frames have the same numbers, and the same of them are retired
+abbrev pub KeepsItsFrames : (old new : Pool) → Type 0
+KeepsItsFrames s new = (new.frames ≡ s.frames) × ((x : ℕ) → is_retired (new.frame x) ≡ is_retired (s.frame x))
 
 abbrev pub is_bare_at : Work → Bool
 is_bare_at NoWork = false

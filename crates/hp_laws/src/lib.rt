@@ -1,9 +1,9 @@
 //! The theorems of the machine, each the contract of a public function with an empty body.
 //!
 //! It stands on the machine's rows (hp_machine) and on the words that these are written in (hp_base, hp_frames,
-//! hp_region): what is proved here holds after every list of events by any number of tasks, with kills and
-//! refused memory anywhere. It knows no code;
-//! the crates above prove that their steps are the machine's rows, and have these theorems then.
+//! hp_region): what is proved here holds after every list of events by any number of tasks, with kills,
+//! resizes of the pool and refused memory anywhere. It knows no code; the crates above prove that their steps
+//! are the machine's rows, and have these theorems then.
 #![tactic(auto)]
 
 ghost use Rattle.std.specs.Prelude.{◌≡◌, ◌≢◌, ◌↔◌, ◌≤◌, ◌<◌, ℕ, Bool, true, false, Some, List, ◌∷◌, ◌++◌, length};
@@ -13,10 +13,11 @@ ghost use Rattle.hp_base.specs.declared.answer.Answer.{Answer};
 ghost use Rattle.hp_base.specs.declared.answer.Answer.TheVariants.{Done, Word};
 ghost use Rattle.hp_base.specs.declared.event.Op.{Op};
 ghost use Rattle.hp_base.specs.declared.event.Event.{Event};
-ghost use Rattle.hp_base.specs.declared.event.Event.TheVariants.{Begin, Step};
-ghost use Rattle.hp_machine.specs.State.{Geometry, State, pool_of, is_dead, is_killed};
+ghost use Rattle.hp_base.specs.declared.event.Event.TheVariants.{Begin, Step, Resize};
+ghost use Rattle.hp_machine.specs.State.{Geometry, State, actives, pool_of, is_dead, is_killed};
 ghost use Rattle.hp_machine.specs.Events.{IsReached, IsReachedFrom, Row, Run, first, opening, word_of};
 ghost use Rattle.hp_machine.specs.Headline.{Headline};
+ghost use Rattle.hp_machine.specs.Resizes.{is_size};
 ghost use Rattle.hp_machine.specs.Wants.{Wants};
 ghost use Rattle.hp_machine.specs.Views.{slot_held, locked_file};
 ghost use Rattle.hp_machine.specs.declared.call.Call.{Call};
@@ -45,7 +46,7 @@ ghost use Rattle.hp_laws.specs.Laws.{NeverShort, HasNoDeadEnd, LosesUnderLock, M
 ghost use Rattle.hp_laws.specs.Laws.{TouchNeverLacks, AllocNeverLacks, TruncationCuts, EvictedStays, EvictsFew, BlockedByHolders};
 ghost use Rattle.hp_laws.specs.Laws.{SlotHoldersGoOn, LockHoldersWaitForSlots, SomeCallGoesOn};
 ghost use Rattle.hp_laws.specs.Histories.{Moment, History, in_order};
-ghost use Rattle.hp_laws.specs.Protocol.{ChangesAreCalls, SparesSuffice, PagesAreReserved, LiesWithin, HandsApart, BareWhereMade};
+ghost use Rattle.hp_laws.specs.Protocol.{ChangesAreCalls, SparesSuffice, PagesAreReserved, LiesWithin, HandsApart, KeepsItsFrames, BareWhereMade};
 ghost use Rattle.hp_laws.specs.Protocol.{GoesUnderLock, PassedIsBare, truncation_of, IsCut};
 
 /// After every list of events by any number of tasks, with kills and refused memory anywhere:
@@ -83,6 +84,19 @@ pub fn pages_are_reserved()
 /// pool's files is the whole count.
 pub fn nothing_lies_beyond_the_limits()
     ensures { (s : State) → IsReached s → LiesWithin s }
+{}
+
+/// Only a resize brings frames in or retires some: each other event leaves the pool the frames that it has.
+pub fn calls_leave_the_pool_its_frames()
+    ensures { (s : State) (event : Event) (told : Outcome) (after : State) → IsReached s → Row s event told after
+        → ((frames : ℕ) → event ≢ Resize frames) → KeepsItsFrames (pool_of s) (pool_of after) }
+{}
+
+/// A pool that opens with 1 to 4,096 frames has 1 to 4,096 at every moment, whatever resizes come, and no
+/// number of a frame, retired or not, is above these.
+pub fn frames_stay_within_limits()
+    ensures { (frames : ℕ) (s : State) → IsReachedFrom frames s → is_size frames ≡ true
+        → (is_size (actives (pool_of s)) ≡ true) × (s.frames ≤ 4096) }
 {}
 
 /// Two calls that hold a frame stand at different indices.

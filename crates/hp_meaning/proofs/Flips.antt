@@ -8,7 +8,8 @@ use Rattle.hp_base.specs.Indices.{count_below}
 use Rattle.hp_base.proofs.Puts.{put_same, put_other, same_or_other}
 use Rattle.hp_base.proofs.Totals.{count_below_somewhere, count_below-change}
 use Rattle.hp_meaning.specs.Renaming.{Renaming}
-use Rattle.hp_meaning.proofs.Counts.{count_below-within, count_below_has}
+use Rattle.hp_base.proofs.Counting.{count_below-within}
+use Rattle.hp_base.proofs.Totals.{count_below_has}
 use Rattle.hp_meaning.proofs.Names.{count_renamed, back_below, turned, turned_other, turned_put}
 
 -- some of the first n numbers flip from a to b, and nothing else changes

@@ -1,7 +1,6 @@
 pub mod AllocAlone
 pub mod Alone
 pub mod Calls
-pub mod Counts
 pub mod Emptying
 pub mod Events
 pub mod Filling

@@ -9,7 +9,7 @@ use Rattle.hp_base.specs.Indices.{count_below}
 use Rattle.hp_base.proofs.Puts.{put_same, put_other, same_or_other}
 use Rattle.hp_base.proofs.Totals.{total_same, total_change, total_none, exchange, count_below-total}
 use Rattle.hp_meaning.specs.Renaming.{Renaming}
-use Rattle.hp_meaning.proofs.Counts.{below_or_past}
+use Rattle.std.proofs.lemmas.Bool.{cases_lt}
 
 -- a sum with one term
 one_term : (n k v : ℕ) → k < n → total n (put (λ _. 0) k v) ≡ v
@@ -38,14 +38,14 @@ fixed_back r x l = sym (ap r.back (r.fixed x l)) ∙ r.there x
 
 -- a frame's name is one of a frame
 pub to_below : {frames : ℕ} (r : Renaming frames) (x : ℕ) → x < frames → r.to x < frames
-to_below {frames} r x l = elim (below_or_past (r.to x) frames) [
+to_below {frames} r x l = elim (cases_lt (r.to x) frames) [
   | inl below ↦ below
   | inr past ↦ let same : r.to x ≡ x = sym (fixed_back r (r.to x) past) ∙ r.there x in absurd (omega arith)
 ]
 
 -- and a name of a frame is that of one
 pub back_below : {frames : ℕ} (r : Renaming frames) (y : ℕ) → y < frames → r.back y < frames
-back_below {frames} r y l = elim (below_or_past (r.back y) frames) [
+back_below {frames} r y l = elim (cases_lt (r.back y) frames) [
   | inl below ↦ below
   | inr past ↦ let same : y ≡ r.back y = sym (r.here y) ∙ r.fixed (r.back y) past in absurd (omega arith)
 ]

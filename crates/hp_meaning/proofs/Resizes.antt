@@ -12,7 +12,8 @@ use Rattle.hp_machine.specs.State.{Pool, active_frames, actives, frees}
 use Rattle.hp_machine.specs.declared.outcome.Outcome.{Outcome}
 use Rattle.hp_machine.specs.declared.outcome.Outcome.TheVariants.{Resized}
 use Rattle.hp_meaning.specs.Renaming.{Renaming}
-use Rattle.hp_meaning.proofs.Counts.{below_or_past, count_below-not}
+use Rattle.std.proofs.lemmas.Bool.{cases_lt}
+use Rattle.hp_base.proofs.Counting.{count_below-not}
 use Rattle.hp_meaning.proofs.Flips.{Flips, FlipsAlike, flips_alike}
 use Rattle.hp_meaning.proofs.Names.{as_many, wider, fixed_back, back_below}
 use Rattle.hp_meaning.proofs.Parts.{pool_renamed, IsUsed, Used, by_tests, by_like_tests}
@@ -53,7 +54,7 @@ fresh_above {frames} more r frame y l =
 -- so the new frames are the same under any names
 fresh_renamed : {frames : ℕ} (more : ℕ) (r : Renaming frames) (frame : ℕ → FrameState)
     → ◌≡◌ {A = ℕ → FrameState} (with_fresh frames more (λ y. frame (r.back y))) (λ y. with_fresh frames more frame (r.back y))
-fresh_renamed {frames} more r frame = fun_ext (λ y. elim (below_or_past y frames) [
+fresh_renamed {frames} more r frame = fun_ext (λ y. elim (cases_lt y frames) [
   | inl l ↦
       fresh_below frames more (λ z. frame (r.back z)) y l ∙ sym (fresh_below frames more frame (r.back y) (back_below r y l))
   | inr l ↦ fresh_above more r frame y l
@@ -62,11 +63,11 @@ fresh_renamed {frames} more r frame = fun_ext (λ y. elim (below_or_past y frame
 -- a pool that grows has free frames in the new numbers, and retired frames of it flip to free ones
 grown_flips : (s : Pool) (n : ℕ) (frame : ℕ → FrameState) → GrowsTo s n frame
     → Flips (max s.frames n) Retired Free (with_fresh s.frames (max s.frames n) s.frame) frame
-grown_flips s n frame h x = elim (below_or_past x s.frames) [
+grown_flips s n frame h x = elim (cases_lt x s.frames) [
   | inl l ↦
       let was = fresh_below s.frames (max s.frames n) s.frame x l in
       elim (h.each x l) [ inl same ↦ inl (same ∙ sym was) | inr flip ↦ inr (omega arith, was ∙ flip.0, flip.1) ]
-  | inr l ↦ elim (below_or_past x (max s.frames n)) [
+  | inr l ↦ elim (cases_lt x (max s.frames n)) [
     | inl m ↦ inl (h.fresh x l m ∙ sym (fresh_free s.frames (max s.frames n) s.frame x l m))
     | inr m ↦ inl (h.beyond x m ∙ sym (fresh_past s.frames (max s.frames n) s.frame x m))
   ]

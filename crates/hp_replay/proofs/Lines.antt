@@ -259,10 +259,10 @@ event_again (Step task false) is = rw (last_again task is) refl
 event_again (Kill task) is = rw (last_again task is) refl
 event_again (Resize frames) is = rw (last_again frames is) refl
 
-number_case : (word bytes rest : List ℕ) (make : ℕ → Event) (event : Event) → ((n : ℕ) → IsShort n → EventFits (make n))
+event_case : (word bytes rest : List ℕ) (make : ℕ → Event) (event : Event) → ((n : ℕ) → IsShort n → EventFits (make n))
     → ((n : ℕ) → word ++ decimal n ≡ event_text (make n)) → bytes ≡ word ++ rest
     → (last_at rest >>= λ n. Some (make n)) ≡ Some event → SpellsEvent bytes event
-number_case word bytes rest make event is spelled parts e =
+event_case word bytes rest make event is spelled parts e =
     let a = bind_some (last_at rest) (λ n. Some (make n)) event e in
     let t = last_takes rest a.0 a.1 in
     let whole : bytes ≡ event_text (make a.0) = parts ∙ ap (λ (t : List ℕ). word ++ t) t.0 ∙ spelled a.0 in
@@ -291,13 +291,13 @@ pub event_takes : (bytes : List ℕ) (event : Event) → event_at bytes ≡ Some
 unfolding event_at
 event_takes bytes event e =
     elim (behind_some (codes "step ") bytes _ _ event e) [
-      | inl w ↦ number_case (codes "step ") bytes w.0 (λ n. Step n true) event (λ _ f. f) (λ _. refl) w.1 w.2
+      | inl w ↦ event_case (codes "step ") bytes w.0 (λ n. Step n true) event (λ _ f. f) (λ _. refl) w.1 w.2
       | inr e0 ↦ elim (behind_some (codes "deny ") bytes _ _ event e0) [
-        | inl w ↦ number_case (codes "deny ") bytes w.0 (λ n. Step n false) event (λ _ f. f) (λ _. refl) w.1 w.2
+        | inl w ↦ event_case (codes "deny ") bytes w.0 (λ n. Step n false) event (λ _ f. f) (λ _. refl) w.1 w.2
         | inr e1 ↦ elim (behind_some (codes "kill ") bytes _ _ event e1) [
-          | inl w ↦ number_case (codes "kill ") bytes w.0 Kill event (λ _ f. f) (λ _. refl) w.1 w.2
+          | inl w ↦ event_case (codes "kill ") bytes w.0 Kill event (λ _ f. f) (λ _. refl) w.1 w.2
           | inr e2 ↦ elim (behind_some (codes "resize ") bytes _ _ event e2) [
-            | inl w ↦ number_case (codes "resize ") bytes w.0 Resize event (λ _ f. f) (λ _. refl) w.1 w.2
+            | inl w ↦ event_case (codes "resize ") bytes w.0 Resize event (λ _ f. f) (λ _. refl) w.1 w.2
             | inr e3 ↦ elim (behind_some (codes "begin ") bytes _ _ event e3) [
               | inl w ↦ begin_case bytes w.0 event w.1 w.2
               | inr e4 ↦ absurd (none_some e4)

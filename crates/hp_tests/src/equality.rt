@@ -64,12 +64,14 @@ fn outcomes_differ(rt: HostRuntime) {
 #[test]
 fn lives_and_refusals_differ(rt: HostRuntime) {
     assert!(rt; all_differ(&[Life::Alive, Life::Killed, Life::Dead]));
-    assert!(rt; all_differ(&[
-        Refusal::NotAlive,
-        Refusal::InCall,
-        Refusal::Idle,
-        Refusal::BadSize,
-    ]));
+    assert!(rt;
+        all_differ(&[
+            Refusal::NotAlive,
+            Refusal::InCall,
+            Refusal::Idle,
+            Refusal::BadSize,
+        ])
+    );
 }
 
 #[test]

