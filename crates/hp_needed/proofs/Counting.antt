@@ -6,7 +6,7 @@ use Rattle.std.specs.Prelude.{◌-◌, false, Some}
 use Rattle.hp_base.specs.Numbers.{put2}
 use Rattle.hp_machine.specs.State.{Pool}
 use Rattle.hp_machine.specs.declared.call.Turn.{Turn}
-use Rattle.hp_needed.specs.Runs.{Miscounts, Misuses, small, with_calls}
+use Rattle.hp_needed.specs.Runs.{Miscounts, Misuses, bounded, small, with_calls}
 use Rattle.hp_machine.specs.declared.touch.TouchPhase.TheVariants as touch
 use Rattle.hp_machine.specs.declared.map.MapPhase.TheVariants as map
 use Rattle.hp_machine.specs.declared.punch.PunchPhase.TheVariants as punch
@@ -14,7 +14,7 @@ use Rattle.hp_machine.specs.declared.truncate.TruncatePhase.TheVariants as trunc
 use Rattle.hp_needed.specs.Counting.{Uncounted, Unused, MapKeepsExcess, map_settles_run, TouchKeepsExcess}
 use Rattle.hp_needed.specs.Counting.{touch_settles_run, MapKeepsUsed, TouchKeepsUsed, RestoresUncounted, restore_run}
 use Rattle.hp_needed.specs.Counting.{RestoresUnmarked, ForgetsDenial, UnusesDenied, denial_run, GivesNothingBack}
-use Rattle.hp_needed.specs.Counting.{nothing_back_run, GivesBackEvicted, KeepsEvictedUsed, evicted_run}
+use Rattle.hp_needed.specs.Counting.{nothing_back_run, GivesBackEvicted, KeepsEvictedUsed, evicted_run, evicted_used_run}
 use Rattle.hp_needed.proofs.Searching.{bind}
 use Rattle.hp_needed.proofs.Steps.{Tried, by, try_call, try_map, try_punch, try_touch, try_truncate}
 use Rattle.hp_needed.proofs.Running.{TriesCalls, by_calls, machine}
@@ -56,10 +56,10 @@ try_MapKeepsUsed s t killed grant (call.Map (map.Settle p)) h =
     by call.Map _ (unused s (try_map s t killed grant (map.Settle p) h))
 try_MapKeepsUsed s t killed grant c h = try_call s t killed grant c h
 
-pub a_map_settles_the_used_count : Misuses (with_calls MapKeepsUsed) (small 2 1) 2 map_settles_run 2 1
+pub a_map_settles_the_used_count : Misuses (with_calls MapKeepsUsed) (bounded 2 1 2) 2 map_settles_run 2 1
 unfolding machine MapKeepsUsed
 a_map_settles_the_used_count =
-    misuses_so (with_calls MapKeepsUsed) (by_calls MapKeepsUsed try_MapKeepsUsed) (small 2 1) 2 map_settles_run 2 1 refl
+    misuses_so (with_calls MapKeepsUsed) (by_calls MapKeepsUsed try_MapKeepsUsed) (bounded 2 1 2) 2 map_settles_run 2 1 refl
 
 abbrev pub try_TouchKeepsUsed : TriesCalls TouchKeepsUsed
 unfolding TouchKeepsUsed CallRow
@@ -67,11 +67,11 @@ try_TouchKeepsUsed s t killed grant (call.Touch (touch.Settle p)) h =
     by call.Touch _ (unused s (try_touch s t killed grant (touch.Settle p) h))
 try_TouchKeepsUsed s t killed grant c h = try_call s t killed grant c h
 
-pub a_touch_settles_the_used_count : Misuses (with_calls TouchKeepsUsed) (small 2 1) 2 touch_settles_run 2 1
+pub a_touch_settles_the_used_count : Misuses (with_calls TouchKeepsUsed) (bounded 2 1 2) 2 touch_settles_run 2 1
 unfolding machine TouchKeepsUsed
 a_touch_settles_the_used_count =
     misuses_so (with_calls TouchKeepsUsed) (by_calls TouchKeepsUsed try_TouchKeepsUsed)
-    (small 2 1) 2 touch_settles_run 2 1 refl
+    (bounded 2 1 2) 2 touch_settles_run 2 1 refl
 
 abbrev pub try_RestoresUncounted : TriesCalls RestoresUncounted
 unfolding RestoresUncounted CallRow
@@ -116,10 +116,10 @@ try_UnusesDenied s t killed grant (call.Punch (punch.Free p)) h =
     (λ r. Some (r.0, record r.1 { used = s.used - 1 }, (r.1, r.2, refl), r.3)))
 try_UnusesDenied s t killed grant c h = try_call s t killed grant c h
 
-pub a_denied_delete_stays_used : Misuses (with_calls UnusesDenied) (small 1 5) 4 denial_run 3 4
+pub a_denied_delete_stays_used : Misuses (with_calls UnusesDenied) (bounded 1 5 4) 4 denial_run 3 4
 unfolding machine UnusesDenied
 a_denied_delete_stays_used =
-    misuses_so (with_calls UnusesDenied) (by_calls UnusesDenied try_UnusesDenied) (small 1 5) 4 denial_run 3 4 refl
+    misuses_so (with_calls UnusesDenied) (by_calls UnusesDenied try_UnusesDenied) (bounded 1 5 4) 4 denial_run 3 4 refl
 
 abbrev pub try_GivesNothingBack : TriesCalls GivesNothingBack
 unfolding GivesNothingBack CallRow
@@ -152,8 +152,8 @@ try_KeepsEvictedUsed s t killed grant (call.Truncate (truncate.Settle p)) h =
     (λ r. Some (r.0, record r.1 { used = s.used - p.excess }, (r.1, r.2, refl), r.3)))
 try_KeepsEvictedUsed s t killed grant c h = try_call s t killed grant c h
 
-pub evicted_pages_are_no_longer_used : Misuses (with_calls KeepsEvictedUsed) (small 1 2) 2 evicted_run 2 1
+pub evicted_pages_are_no_longer_used : Misuses (with_calls KeepsEvictedUsed) (bounded 1 1 1) 1 evicted_used_run 1 0
 unfolding machine KeepsEvictedUsed
 evicted_pages_are_no_longer_used =
     misuses_so (with_calls KeepsEvictedUsed) (by_calls KeepsEvictedUsed try_KeepsEvictedUsed)
-    (small 1 2) 2 evicted_run 2 1 refl
+    (bounded 1 1 1) 1 evicted_used_run 1 0 refl

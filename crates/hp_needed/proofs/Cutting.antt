@@ -9,7 +9,7 @@ use Rattle.hp_needed.specs.Runs.{Breaks, Miscounts, small, with_calls}
 use Rattle.hp_machine.specs.declared.touch.TouchPhase.TheVariants as touch
 use Rattle.hp_machine.specs.declared.truncate.TruncatePhase.TheVariants as truncate
 use Rattle.hp_needed.specs.Cutting.{VisitsPagesOnly, pages_only_run, short_run, SweepsFromSize, low_top_run, LooksNoMore}
-use Rattle.hp_needed.specs.Cutting.{no_look_run, SizesLast, size_last_run}
+use Rattle.hp_needed.specs.Cutting.{late_touch_run, SizesLast}
 use Rattle.hp_needed.proofs.Searching.{bind}
 use Rattle.hp_needed.proofs.Steps.{by, goes, test, try_call, try_truncate, want}
 use Rattle.hp_needed.proofs.Running.{TriesCalls, by_calls, machine}
@@ -52,10 +52,10 @@ try_LooksNoMore s t killed grant (call.Touch (touch.Locked p)) h =
     by call.Touch _ (test (is_some (s.pages p.touch.file p.touch.index)) (λ _. goes _ s h) (λ _. goes _ s h))
 try_LooksNoMore s t killed grant c h = try_call s t killed grant c h
 
-pub the_size_is_looked_at_under_the_slot : Miscounts (with_calls LooksNoMore) (small 2 1) 2 no_look_run 0 1
+pub the_size_is_looked_at_under_the_slot : Miscounts (with_calls LooksNoMore) (small 2 1) 2 late_touch_run 0 1
 unfolding machine LooksNoMore
 the_size_is_looked_at_under_the_slot =
-    miscounts_so (with_calls LooksNoMore) (by_calls LooksNoMore try_LooksNoMore) (small 2 1) 2 no_look_run 0 1 refl
+    miscounts_so (with_calls LooksNoMore) (by_calls LooksNoMore try_LooksNoMore) (small 2 1) 2 late_touch_run 0 1 refl
 
 abbrev pub try_SizesLast : TriesCalls SizesLast
 unfolding SizesLast CallRow
@@ -67,7 +67,7 @@ try_SizesLast s t killed grant (call.Truncate (truncate.Tail p)) h =
     (λ r. Some (r.0, record r.1 { size = put s.size p.truncation.file p.truncation.new }, (r.1, r.2, refl), r.3)))
 try_SizesLast s t killed grant c h = try_call s t killed grant c h
 
-pub the_size_is_set_first : Miscounts (with_calls SizesLast) (small 2 1) 2 size_last_run 0 1
+pub the_size_is_set_first : Miscounts (with_calls SizesLast) (small 2 1) 2 late_touch_run 0 1
 unfolding machine SizesLast
 the_size_is_set_first =
-    miscounts_so (with_calls SizesLast) (by_calls SizesLast try_SizesLast) (small 2 1) 2 size_last_run 0 1 refl
+    miscounts_so (with_calls SizesLast) (by_calls SizesLast try_SizesLast) (small 2 1) 2 late_touch_run 0 1 refl

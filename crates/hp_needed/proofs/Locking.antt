@@ -55,11 +55,11 @@ try_TouchBreaksSlot s t killed grant (call.Touch (touch.Want p)) h =
     by call.Touch _ (try_touch (unslotted s p.touch.file p.touch.index) t killed grant (touch.Want p) h)
 try_TouchBreaksSlot s t killed grant c h = try_call s t killed grant c h
 
-pub a_touch_waits_for_its_slot : Breaks (with_calls TouchBreaksSlot) (small 2 2) 3 touch_slot_run Agrees
+pub a_touch_waits_for_its_slot : Breaks (with_calls TouchBreaksSlot) (small 2 1) 1 touch_slot_run Agrees
 unfolding machine TouchBreaksSlot
 a_touch_waits_for_its_slot =
     breaks (with_calls TouchBreaksSlot) (by_calls TouchBreaksSlot try_TouchBreaksSlot)
-    (small 2 2) 3 touch_slot_run Agrees disagrees disagreed refl
+    (small 2 1) 1 touch_slot_run Agrees disagrees disagreed refl
 
 abbrev pub try_PunchBreaksSlot : TriesCalls PunchBreaksSlot
 unfolding PunchBreaksSlot CallRow

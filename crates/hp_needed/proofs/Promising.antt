@@ -8,7 +8,7 @@ use Rattle.hp_frames.specs.declared.frame.FrameState.{FrameState}
 use Rattle.hp_frames.specs.declared.frame.FrameState.TheVariants as state
 use Rattle.hp_machine.specs.State.{Pool, active_frames, actives, frees}
 use Rattle.hp_machine.specs.Resizes.{is_size, surplus}
-use Rattle.hp_needed.specs.Runs.{Breaks, FreeFramesSuffice, FramesAreInOnePlace, QuotaSuffices, small, with_calls}
+use Rattle.hp_needed.specs.Runs.{Breaks, FreeFramesSuffice, FramesAreInOnePlace, QuotaSuffices, bounded, small, with_calls}
 use Rattle.hp_needed.specs.Runs.{with_resizes}
 use Rattle.hp_machine.specs.declared.touch.TouchPhase.TheVariants as touch
 use Rattle.hp_machine.specs.declared.map.MapPhase.TheVariants as map
@@ -56,11 +56,11 @@ try_AsksNoQuota s t killed grant (call.Map (map.Changed p)) h =
     (λ _. test (nat_lt (frees s - s.resv) p.pending.missing) (λ _. goes _ s h) (λ _. goes _ _ h)))
 try_AsksNoQuota s t killed grant c h = try_call s t killed grant c h
 
-pub the_quota_is_asked : Breaks (with_calls AsksNoQuota) (record (small 1 2) { quota = Some 1 }) 2 quota_run QuotaSuffices
+pub the_quota_is_asked : Breaks (with_calls AsksNoQuota) (bounded 1 2 1) 2 quota_run QuotaSuffices
 unfolding machine AsksNoQuota
 the_quota_is_asked =
     breaks (with_calls AsksNoQuota) (by_calls AsksNoQuota try_AsksNoQuota)
-    (record (small 1 2) { quota = Some 1 }) 2 quota_run QuotaSuffices exceeds exceeded refl
+    (bounded 1 2 1) 2 quota_run QuotaSuffices exceeds exceeded refl
 
 abbrev pub try_RetiresReserved : TriesResizes RetiresReserved
 unfolding RetiresReserved

@@ -42,7 +42,7 @@ TakesAnySpare s t killed grant other = CallRow s t killed grant other
 -- a touch has a change open elsewhere in the file, and then a punch splits a region
 abbrev pub split_run : List Event
 split_run =
-    calls 1 (op.Map 0 0 3) 7 (calls 1 (op.Load 1) 9 (calls 2 (op.MapNoReserve 0 4 1) 4 (calls 2 (op.Load 0) 5
+    calls 1 (op.Map 0 0 3) 7 (calls 1 (op.Load 1) 9 (calls 2 (op.MapNoReserve 0 4 1) 4 (calls 2 (op.Load 0) 4
     (calls 1 (op.Punch 0 1 1) 7 []))))
 
 -- ---- a change that finds a spare descriptor counts on it, though another pending change does

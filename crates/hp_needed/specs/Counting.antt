@@ -1,5 +1,5 @@
 -- Machines that count wrongly: each differs from the right one in one row.
-use Rattle.std.specs.Prelude.{◌≡◌, ◌-◌, false, List, []}
+use Rattle.std.specs.Prelude.{◌≡◌, ◌-◌, true, false, List, []}
 use Rattle.hp_base.specs.Numbers.{put2}
 use Rattle.hp_base.specs.declared.event.Op.TheVariants as op
 use Rattle.hp_base.specs.declared.event.Event.{Event}
@@ -122,6 +122,10 @@ unfoldable pub GivesBackEvicted : CallRows
 GivesBackEvicted s t killed grant (call.Truncate (truncate.Tail p)) = TurnRow call.Truncate (WholeTailRow s p)
 GivesBackEvicted s t killed grant other = CallRow s t killed grant other
 
+-- a truncation takes one page of two away
+abbrev pub evicted_run : List Event
+evicted_run = calls 1 (op.Map 0 0 2) 7 (calls 1 (op.Load 1) 9 (calls 1 (op.Truncate 0 1) 11 []))
+
 -- ---- a truncation lowers the used count by what it gives back alone, and not by the pages that it took away
 abbrev pub ExcessSettleRow : Pool → truncate_settle.Settle → Turn TruncatePhase → Pool → Type 0
 ExcessSettleRow s p turn new =
@@ -131,6 +135,6 @@ unfoldable pub KeepsEvictedUsed : CallRows
 KeepsEvictedUsed s t killed grant (call.Truncate (truncate.Settle p)) = TurnRow call.Truncate (ExcessSettleRow s p)
 KeepsEvictedUsed s t killed grant other = CallRow s t killed grant other
 
--- a truncation takes one page of two away
-abbrev pub evicted_run : List Event
-evicted_run = calls 1 (op.Map 0 0 2) 7 (calls 1 (op.Load 1) 9 (calls 1 (op.Truncate 0 1) 11 []))
+-- a file of one page is truncated
+abbrev pub evicted_used_run : List Event
+evicted_used_run = calls 1 (op.Alloc 0 0 1 true) 10 (calls 1 (op.Truncate 0 0) 11 [])

@@ -36,9 +36,9 @@ VisitsPagesOnly s t killed grant other = CallRow s t killed grant other
 abbrev pub pages_only_run : List Event
 pages_only_run = calls 1 (op.Map 0 0 1) 7 (calls 1 (op.Load 0) 5 (calls 2 (op.Truncate 0 0) 4 (steps 1 4 (steps 2 2 []))))
 
--- and before the touch goes on, the truncation is to give its index back
+-- a touch made its index a reserved one and hasn't placed its page, and the truncation is to give the index back
 abbrev pub short_run : List Event
-short_run = calls 1 (op.Map 0 0 1) 7 (calls 1 (op.Load 0) 5 (calls 2 (op.Truncate 0 0) 4 []))
+short_run = calls 1 (op.MapNoReserve 0 0 1) 4 (calls 1 (op.Load 0) 6 (calls 2 (op.Truncate 0 0) 4 []))
 
 -- ---- a truncation sweeps from the size down, and not from the end of the pages
 abbrev pub LowTopRow : Pool → Size → Turn TruncatePhase → Pool → Type 0
@@ -68,11 +68,11 @@ unfoldable pub LooksNoMore : CallRows
 LooksNoMore s t killed grant (call.Touch (touch.Locked p)) = TurnRow call.Touch (UnsizedLockedRow s p)
 LooksNoMore s t killed grant other = CallRow s t killed grant other
 
--- a touch takes its slot after the truncation has passed it, and is to settle for what the tail took out
-abbrev pub no_look_run : List Event
-no_look_run =
-    calls 1 (op.MapNoReserve 0 0 1) 4 (calls 1 (op.Load 0) 6 (calls 2 (op.Truncate 0 0) 2
-    (steps 1 3 (calls 1 (op.Load 0) 1 (steps 2 3 (steps 1 4 (steps 2 1 (steps 1 4 (steps 2 2 [])))))))))
+-- a touch takes its slot after a truncation has passed it, and finds its index reserved before the tail takes it out
+abbrev pub late_touch_run : List Event
+late_touch_run =
+    calls 1 (op.Map 0 0 1) 7 (calls 1 (op.Load 0) 1 (calls 2 (op.Truncate 0 0) 5
+    (steps 1 4 (steps 2 1 (steps 1 4 (steps 2 2 []))))))
 
 -- ---- a truncation sets the size at its end, and not before its sweep
 abbrev pub UnsizingRow : Pool → Size → Turn TruncatePhase → Pool → Type 0
@@ -87,9 +87,3 @@ unfoldable pub SizesLast : CallRows
 SizesLast s t killed grant (call.Truncate (truncate.Size p)) = TurnRow call.Truncate (UnsizingRow s p)
 SizesLast s t killed grant (call.Truncate (truncate.Tail p)) = TurnRow call.Truncate (SizingTailRow s p)
 SizesLast s t killed grant other = CallRow s t killed grant other
-
--- a touch takes its slot after the truncation has passed it, and sees the old size
-abbrev pub size_last_run : List Event
-size_last_run =
-    calls 1 (op.Map 0 0 1) 7
-    (calls 1 (op.Load 0) 1 (calls 2 (op.Truncate 0 0) 5 (steps 1 4 (steps 2 1 (steps 1 4 (steps 2 2 []))))))

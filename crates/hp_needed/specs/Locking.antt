@@ -38,7 +38,7 @@ unlock_run = calls 1 (op.MapNoReserve 0 0 1) 4 (calls 1 (op.Load 0) 9 (calls 1 (
 -- a map counts on an index that a truncation is about to take out
 abbrev pub unlock_count_run : List Event
 unlock_count_run =
-    calls 1 (op.Map 0 0 1) 7 (calls 2 (op.Truncate 0 0) 2 (calls 1 (op.Map 0 0 1) 4 (steps 2 4 (steps 1 3 (steps 2 2 [])))))
+    calls 2 (op.Truncate 0 0) 2 (calls 1 (op.Map 0 0 1) 7 (calls 1 (op.Map 0 0 1) 4 (steps 2 1 (steps 1 3 (steps 2 2 [])))))
 
 -- ---- a map takes the file lock though another task holds it
 unfoldable pub BreaksLock : CallRows
@@ -46,7 +46,7 @@ BreaksLock s t killed grant (call.Map (map.Start p)) =
     TurnRow call.Map (λ turn new. MapStartRow (unlocked s p.map.file) t killed p turn new)
 BreaksLock s t killed grant other = CallRow s t killed grant other
 
--- the same, with the lock held to the end
+-- a map counts on an index that a truncation, which holds the lock, is about to take out
 abbrev pub lock_run : List Event
 lock_run =
     calls 1 (op.Map 0 0 1) 0 (calls 2 (op.Truncate 0 0) 1 (steps 1 5 (steps 2 1
@@ -58,11 +58,11 @@ TouchBreaksSlot s t killed grant (call.Touch (touch.Want p)) =
     TurnRow call.Touch (λ turn new. TouchWantRow (unslotted s p.touch.file p.touch.index) t killed p turn new)
 TouchBreaksSlot s t killed grant other = CallRow s t killed grant other
 
--- two touches of one index both find no page
+-- a touch makes a page and translates it, while a punch that holds the slot is about to take it away
 abbrev pub touch_slot_run : List Event
 touch_slot_run =
-    calls 1 (op.MapNoReserve 0 0 1) 4 (calls 1 (op.Load 0) 6 (calls 2 (op.Map 0 0 2) 7 (calls 2 (op.Load 0) 3
-    (steps 1 3 (steps 2 6 [])))))
+    calls 1 (op.MapNoReserve 0 0 1) 4 (calls 1 (op.Load 0) 1 (calls 2 (op.Punch 0 0 1) 2
+    (steps 1 6 (steps 2 2 (steps 1 1 (steps 2 2 []))))))
 
 -- ---- a punch takes its slot though another task holds it
 unfoldable pub PunchBreaksSlot : CallRows
@@ -72,7 +72,8 @@ PunchBreaksSlot s t killed grant other = CallRow s t killed grant other
 
 -- a touch translates a page that a punch is about to take away
 abbrev pub punch_slot_run : List Event
-punch_slot_run = calls 1 (op.Map 0 0 1) 7 (calls 1 (op.Load 0) 7 (calls 2 (op.Punch 0 0 1) 4 (steps 1 2 (steps 2 6 []))))
+punch_slot_run =
+    calls 1 (op.MapNoReserve 0 0 1) 4 (calls 1 (op.Load 0) 7 (calls 2 (op.Punch 0 0 1) 4 (steps 1 1 (steps 2 2 []))))
 
 -- ---- a truncation takes its slots though another task holds them
 unfoldable pub TruncateBreaksSlot : CallRows
@@ -96,7 +97,7 @@ PunchesEarly s t killed grant other = CallRow s t killed grant other
 
 -- task 2 translates the page that task 1 takes away
 abbrev pub punch_early_run : List Event
-punch_early_run = calls 2 (op.MapNoReserve 0 0 1) 4 (calls 2 (op.Load 0) 9 (calls 1 (op.Punch 0 0 1) 9 []))
+punch_early_run = calls 2 (op.MapNoReserve 0 0 1) 4 (calls 2 (op.Load 0) 9 (calls 1 (op.Punch 0 0 1) 5 []))
 
 -- ---- a truncation evicts the page once one task's entries are cleared
 abbrev pub OneTaskTruncateRow : Pool → truncate_unmap.Unmap → Turn TruncatePhase → Pool → Type 0
@@ -110,4 +111,4 @@ TruncatesEarly s t killed grant other = CallRow s t killed grant other
 
 -- task 2 translates the page that task 1 takes away
 abbrev pub truncate_early_run : List Event
-truncate_early_run = calls 2 (op.MapNoReserve 0 0 1) 4 (calls 2 (op.Load 0) 9 (calls 1 (op.Truncate 0 0) 11 []))
+truncate_early_run = calls 2 (op.MapNoReserve 0 0 1) 4 (calls 2 (op.Load 0) 9 (calls 1 (op.Truncate 0 0) 6 []))

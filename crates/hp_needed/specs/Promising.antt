@@ -1,5 +1,5 @@
 -- Machines that promise or take what they may not: each differs from the right one in one row.
-use Rattle.std.specs.Prelude.{◌≡◌, ℕ, ◌+◌, ◌-◌, ◌<◌, ◌⊎◌, ◌==◌, ◌&&◌, Bool, MatchBool, min, nat_lt, List, [], ◌∷◌}
+use Rattle.std.specs.Prelude.{◌≡◌, ℕ, ◌+◌, ◌-◌, ◌<◌, ◌⊎◌, ◌==◌, ◌&&◌, Bool, true, MatchBool, min, nat_lt, List, [], ◌∷◌}
 use Rattle.hp_base.specs.declared.answer.Answer.TheVariants as answer
 use Rattle.hp_base.specs.declared.event.Op.TheVariants as op
 use Rattle.hp_base.specs.declared.event.Event.{Event}
@@ -36,7 +36,7 @@ TakesAnyFrame s t killed grant other = CallRow s t killed grant other
 
 -- a touch at an index that nobody reserved, where the one frame is promised for another
 abbrev pub any_frame_run : List Event
-any_frame_run = calls 1 (op.Map 0 0 1) 7 (calls 1 (op.MapNoReserve 0 1 1) 4 (calls 1 (op.Load 1) 9 []))
+any_frame_run = calls 1 (op.Map 0 0 1) 7 (calls 1 (op.MapNoReserve 0 1 1) 4 (calls 1 (op.Load 1) 5 []))
 
 -- ---- a map may promise any free frame, as if none were reserved
 abbrev pub AnyPromiseRow : Pool → (killed : Bool) → map_changed.Changed → Turn MapPhase → Pool → Type 0
@@ -50,7 +50,7 @@ PromisesAnyFrame s t killed grant other = CallRow s t killed grant other
 
 -- a second map, where the one frame is promised
 abbrev pub any_promise_run : List Event
-any_promise_run = calls 1 (op.Map 0 0 1) 7 (calls 1 (op.Map 0 0 2) 7 [])
+any_promise_run = calls 1 (op.Map 0 0 1) 7 (calls 1 (op.Map 0 0 2) 4 [])
 
 -- ---- a map doesn't ask the quota
 abbrev pub UnboundRow : Pool → (killed : Bool) → map_changed.Changed → Turn MapPhase → Pool → Type 0
@@ -68,7 +68,7 @@ AsksNoQuota s t killed grant other = CallRow s t killed grant other
 
 -- a map of two pages, under a quota of one
 abbrev pub quota_run : List Event
-quota_run = calls 1 (op.Map 0 0 2) 7 []
+quota_run = calls 1 (op.Map 0 0 2) 4 []
 
 -- ---- a resize retires what is left over of all free frames, also the reserved ones
 abbrev pub all_surplus : Pool → (frames : ℕ) → ℕ
@@ -83,7 +83,7 @@ RetiresReserved s n tells new =
 
 -- a pool of two reserved frames is to have one
 abbrev pub resize_reserved_run : List Event
-resize_reserved_run = calls 1 (op.Map 0 0 2) 7 (Resize 1 ∷ [])
+resize_reserved_run = calls 1 (op.Map 0 0 2) 4 (Resize 1 ∷ [])
 
 -- ---- a resize retires frames that are free or in a hand
 pub record RetiresAny (s : Pool) (k : ℕ) (frame : ℕ → FrameState) : Type 0 where
@@ -98,6 +98,6 @@ RetiresHands s n tells new =
     × (tells ≡ Resized (actives s - surplus s n)) × (new ≡ record s { frame = frame }))
     (ResizeRow s n tells new)
 
--- a pool of two frames, one of which is in a hand, is to have one
+-- a pool of two frames, one of which is in the hand of an allocation, is to have one
 abbrev pub resize_hand_run : List Event
-resize_hand_run = calls 1 (op.MapNoReserve 0 0 1) 4 (calls 1 (op.Load 0) 5 (Resize 1 ∷ []))
+resize_hand_run = calls 1 (op.Alloc 0 0 1 true) 6 (Resize 1 ∷ [])

@@ -1,5 +1,5 @@
 -- A machine with other rows, and what it is for a list of events to break a law on it.
-use Rattle.std.specs.Prelude.{◌≡◌, ℕ, zero, suc, ◌≤◌, true, false, None, List, [], ◌∷◌}
+use Rattle.std.specs.Prelude.{◌≡◌, ℕ, zero, suc, ◌≤◌, true, false, Some, None, List, [], ◌∷◌}
 use Rattle.hp_base.specs.Indices.{touches}
 use Rattle.hp_base.specs.declared.event.Op.{Op}
 use Rattle.hp_base.specs.declared.event.Event.{Event}
@@ -26,6 +26,10 @@ with_resizes rows = RowBy StepRow rows
 -- one file and one slot, of so many tasks and indices, and no quota
 abbrev pub small : (tasks limit : ℕ) → Geometry
 small tasks limit = record { files = 1; slots = 1; tasks = tasks; limit = limit; space = 4; quota = None }
+
+-- the same, with a quota
+abbrev pub bounded : (tasks limit quota : ℕ) → Geometry
+bounded tasks limit quota = record (small tasks limit) { quota = Some quota }
 
 -- so many granted steps of a task, and then the rest
 abbrev pub steps : (task times : ℕ) → List Event → List Event

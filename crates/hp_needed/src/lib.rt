@@ -7,23 +7,22 @@
 //! rules; `examples/needed/` has the same events for the right machine. It knows no code.
 #![tactic(auto)]
 
-ghost use Rattle.std.specs.Prelude.{Some};
 ghost use Rattle.hp_machine.specs.State.{State};
 ghost use Rattle.hp_machine.specs.Events.{IsReached};
 ghost use Rattle.hp_machine.specs.Headline.{Agrees, IsBelow};
 ghost use Rattle.hp_laws.specs.Laws.{NeverShort};
 ghost use Rattle.hp_laws.specs.Protocol.{ChangesAreCalls, SparesSuffice};
-ghost use Rattle.hp_needed.specs.Runs.{small, with_calls, with_resizes, Breaks, Miscounts, Misuses, Lacks, Strands};
+ghost use Rattle.hp_needed.specs.Runs.{bounded, small, with_calls, with_resizes, Breaks, Miscounts, Misuses, Lacks, Strands};
 ghost use Rattle.hp_needed.specs.Runs.{FramesAreInOnePlace, FreeFramesSuffice, QuotaSuffices};
 ghost use Rattle.hp_needed.specs.Counting.{MapKeepsExcess, map_settles_run, TouchKeepsExcess, touch_settles_run};
 ghost use Rattle.hp_needed.specs.Counting.{MapKeepsUsed, TouchKeepsUsed, RestoresUncounted, restore_run};
 ghost use Rattle.hp_needed.specs.Counting.{RestoresUnmarked, ForgetsDenial, UnusesDenied, denial_run, GivesNothingBack};
-ghost use Rattle.hp_needed.specs.Counting.{nothing_back_run, GivesBackEvicted, KeepsEvictedUsed, evicted_run};
+ghost use Rattle.hp_needed.specs.Counting.{nothing_back_run, GivesBackEvicted, KeepsEvictedUsed, evicted_run, evicted_used_run};
 ghost use Rattle.hp_needed.specs.Promising.{TakesAnyFrame, any_frame_run, PromisesAnyFrame, any_promise_run};
 ghost use Rattle.hp_needed.specs.Promising.{AsksNoQuota, quota_run, RetiresReserved, resize_reserved_run, RetiresHands};
 ghost use Rattle.hp_needed.specs.Promising.{resize_hand_run};
 ghost use Rattle.hp_needed.specs.Cutting.{VisitsPagesOnly, pages_only_run, short_run, SweepsFromSize, low_top_run};
-ghost use Rattle.hp_needed.specs.Cutting.{LooksNoMore, no_look_run, SizesLast, size_last_run};
+ghost use Rattle.hp_needed.specs.Cutting.{LooksNoMore, late_touch_run, SizesLast};
 ghost use Rattle.hp_needed.specs.Locking.{UnlocksEarly, unlock_run, unlock_count_run, BreaksLock, lock_run};
 ghost use Rattle.hp_needed.specs.Locking.{TouchBreaksSlot, touch_slot_run, PunchBreaksSlot, punch_slot_run};
 ghost use Rattle.hp_needed.specs.Locking.{TruncateBreaksSlot, truncate_slot_run, PunchesEarly, punch_early_run};
@@ -50,12 +49,12 @@ pub fn a_touch_settles()
 
 /// And it has to lower the used count by that.
 pub fn a_map_settles_the_used_count()
-    ensures { Misuses (with_calls MapKeepsUsed) (small 2 1) 2 map_settles_run 2 1 }
+    ensures { Misuses (with_calls MapKeepsUsed) (bounded 2 1 2) 2 map_settles_run 2 1 }
 {}
 
 /// So has a touch.
 pub fn a_touch_settles_the_used_count()
-    ensures { Misuses (with_calls TouchKeepsUsed) (small 2 1) 2 touch_settles_run 2 1 }
+    ensures { Misuses (with_calls TouchKeepsUsed) (bounded 2 1 2) 2 touch_settles_run 2 1 }
 {}
 
 /// A touch that gives its frame back has to raise the count.
@@ -75,7 +74,7 @@ pub fn a_denied_delete_is_counted()
 
 /// And it has to leave the used count.
 pub fn a_denied_delete_stays_used()
-    ensures { Misuses (with_calls UnusesDenied) (small 1 5) 4 denial_run 3 4 }
+    ensures { Misuses (with_calls UnusesDenied) (bounded 1 5 4) 4 denial_run 3 4 }
 {}
 
 /// A truncation has to give back the indices that had no page.
@@ -90,7 +89,7 @@ pub fn evicted_pages_are_not_given_back()
 
 /// Of the used count it has to take the pages that it evicted, too.
 pub fn evicted_pages_are_no_longer_used()
-    ensures { Misuses (with_calls KeepsEvictedUsed) (small 1 2) 2 evicted_run 2 1 }
+    ensures { Misuses (with_calls KeepsEvictedUsed) (bounded 1 1 1) 1 evicted_used_run 1 0 }
 {}
 
 /// A touch without a reservation has to leave promised frames alone.
@@ -105,7 +104,7 @@ pub fn promised_frames_are_not_promised_again()
 
 /// A map has to ask the quota.
 pub fn the_quota_is_asked()
-    ensures { Breaks (with_calls AsksNoQuota) (record (small 1 2) { quota = Some 1 }) 2 quota_run QuotaSuffices }
+    ensures { Breaks (with_calls AsksNoQuota) (bounded 1 2 1) 2 quota_run QuotaSuffices }
 {}
 
 /// A resize has to leave reserved frames.
@@ -135,12 +134,12 @@ pub fn pages_above_the_size_are_swept()
 
 /// A touch has to look at the size once it has the slot.
 pub fn the_size_is_looked_at_under_the_slot()
-    ensures { Miscounts (with_calls LooksNoMore) (small 2 1) 2 no_look_run 0 1 }
+    ensures { Miscounts (with_calls LooksNoMore) (small 2 1) 2 late_touch_run 0 1 }
 {}
 
 /// A truncation has to set the size before it sweeps.
 pub fn the_size_is_set_first()
-    ensures { Miscounts (with_calls SizesLast) (small 2 1) 2 size_last_run 0 1 }
+    ensures { Miscounts (with_calls SizesLast) (small 2 1) 2 late_touch_run 0 1 }
 {}
 
 /// A truncation has to hold its file lock to the end, else translations lie beyond the size of an unlocked file.
@@ -158,12 +157,12 @@ pub fn a_map_waits_for_the_lock()
     ensures { Miscounts (with_calls BreaksLock) (small 2 1) 1 lock_run 0 1 }
 {}
 
-/// A touch has to wait for its slot: else two pages are made of one index.
+/// A touch has to wait for its slot: else it translates a page that a punch takes away.
 pub fn a_touch_waits_for_its_slot()
-    ensures { Breaks (with_calls TouchBreaksSlot) (small 2 2) 3 touch_slot_run Agrees }
+    ensures { Breaks (with_calls TouchBreaksSlot) (small 2 1) 1 touch_slot_run Agrees }
 {}
 
-/// So has a punch: else a page that went is translated.
+/// So has a punch: else it takes the page away that a touch translates.
 pub fn a_punch_waits_for_its_slot()
     ensures { Breaks (with_calls PunchBreaksSlot) (small 2 1) 1 punch_slot_run Agrees }
 {}
