@@ -1,4 +1,4 @@
--- Machines that promise or take what they may not. Of each: how a step of it is found, and that its run ends as the theorem says.
+-- Machines that promise or take what they may not. Of each, how a step of it is found.
 use Rattle.std.proofs.Common.{◌≡◌, ℕ, refl, inl, inr}
 use Rattle.hp_machine.specs.Events.{CallRow}
 use Rattle.hp_machine.specs.declared.call.Call.TheVariants as call
@@ -8,18 +8,15 @@ use Rattle.hp_frames.specs.declared.frame.FrameState.{FrameState}
 use Rattle.hp_frames.specs.declared.frame.FrameState.TheVariants as state
 use Rattle.hp_machine.specs.State.{Pool, active_frames, actives, frees}
 use Rattle.hp_machine.specs.Resizes.{is_size, surplus}
-use Rattle.hp_needed.specs.Runs.{Breaks, FreeFramesSuffice, FramesAreInOnePlace, QuotaSuffices, bounded, small, with_calls}
-use Rattle.hp_needed.specs.Runs.{with_resizes}
 use Rattle.hp_machine.specs.declared.touch.TouchPhase.TheVariants as touch
 use Rattle.hp_machine.specs.declared.map.MapPhase.TheVariants as map
-use Rattle.hp_needed.specs.Promising.{RetiresAny, all_surplus, TakesAnyFrame, any_frame_run, PromisesAnyFrame}
-use Rattle.hp_needed.specs.Promising.{any_promise_run, AsksNoQuota, quota_run, RetiresReserved, resize_reserved_run}
-use Rattle.hp_needed.specs.Promising.{RetiresHands, resize_hand_run}
+use Rattle.hp_needed.specs.Promising.{RetiresAny, all_surplus, TakesAnyFrame, PromisesAnyFrame}
+use Rattle.hp_needed.specs.Promising.{AsksNoQuota, RetiresReserved}
+use Rattle.hp_needed.specs.Promising.{RetiresHands}
 use Rattle.hp_needed.proofs.Searching.{bind}
 use Rattle.hp_needed.proofs.Steps.{by, goes, test, try_call, try_map, try_touch}
 use Rattle.hp_needed.proofs.Resizing.{Shrunk, TriesResizes, as_many, pick_bool, retired, retires, try_resize}
-use Rattle.hp_needed.proofs.Running.{TriesCalls, by_calls, by_resizes, machine}
-use Rattle.hp_needed.proofs.Breaking.{breaks, exceeded, exceeds, overdrawn, overdraws, tears, torn}
+use Rattle.hp_needed.proofs.Running.{TriesCalls}
 
 abbrev pub try_TakesAnyFrame : TriesCalls TakesAnyFrame
 unfolding TakesAnyFrame CallRow
@@ -29,25 +26,12 @@ try_TakesAnyFrame s t killed grant (call.Touch (touch.Changed p)) h =
     (λ r. Some (r.0, record r.1 { resv = s.resv }, (r.1, r.2, refl), r.3))))
 try_TakesAnyFrame s t killed grant c h = try_call s t killed grant c h
 
-pub promised_frames_are_left_alone : Breaks (with_calls TakesAnyFrame) (small 1 2) 1 any_frame_run FreeFramesSuffice
-unfolding machine TakesAnyFrame
-promised_frames_are_left_alone =
-    breaks (with_calls TakesAnyFrame) (by_calls TakesAnyFrame try_TakesAnyFrame)
-    (small 1 2) 1 any_frame_run FreeFramesSuffice overdraws overdrawn refl
-
 abbrev pub try_PromisesAnyFrame : TriesCalls PromisesAnyFrame
 unfolding PromisesAnyFrame CallRow
 try_PromisesAnyFrame s t killed grant (call.Map (map.Changed p)) h =
     by call.Map _ (bind (try_map (record s { resv = 0 }) t killed grant (map.Changed p) h)
     (λ r. Some (r.0, record r.1 { resv = s.resv + (r.1).resv }, (r.1, r.2, refl), r.3)))
 try_PromisesAnyFrame s t killed grant c h = try_call s t killed grant c h
-
-pub promised_frames_are_not_promised_again : Breaks (with_calls PromisesAnyFrame)
-    (small 1 2) 1 any_promise_run FreeFramesSuffice
-unfolding machine PromisesAnyFrame
-promised_frames_are_not_promised_again =
-    breaks (with_calls PromisesAnyFrame) (by_calls PromisesAnyFrame try_PromisesAnyFrame)
-    (small 1 2) 1 any_promise_run FreeFramesSuffice overdraws overdrawn refl
 
 abbrev pub try_AsksNoQuota : TriesCalls AsksNoQuota
 unfolding AsksNoQuota CallRow
@@ -56,12 +40,6 @@ try_AsksNoQuota s t killed grant (call.Map (map.Changed p)) h =
     (λ _. test (nat_lt (frees s - s.resv) p.pending.missing) (λ _. goes _ s h) (λ _. goes _ _ h)))
 try_AsksNoQuota s t killed grant c h = try_call s t killed grant c h
 
-pub the_quota_is_asked : Breaks (with_calls AsksNoQuota) (bounded 1 2 1) 2 quota_run QuotaSuffices
-unfolding machine AsksNoQuota
-the_quota_is_asked =
-    breaks (with_calls AsksNoQuota) (by_calls AsksNoQuota try_AsksNoQuota)
-    (bounded 1 2 1) 2 quota_run QuotaSuffices exceeds exceeded refl
-
 abbrev pub try_RetiresReserved : TriesResizes RetiresReserved
 unfolding RetiresReserved
 try_RetiresReserved s n h =
@@ -69,13 +47,6 @@ try_RetiresReserved s n h =
     (let new = retired is_free (all_surplus s n) s.frames s.frame in
     bind (as_many s (all_surplus s n) new.0) (λ e. Some (_, _, (new.0, retires s (all_surplus s n) new e, refl, refl), h)))
     (try_resize s n h)
-
-pub reserved_frames_are_not_retired : Breaks (with_resizes RetiresReserved)
-    (small 1 2) 2 resize_reserved_run FreeFramesSuffice
-unfolding machine RetiresReserved
-reserved_frames_are_not_retired =
-    breaks (with_resizes RetiresReserved) (by_resizes RetiresReserved try_RetiresReserved)
-    (small 1 2) 2 resize_reserved_run FreeFramesSuffice overdraws overdrawn refl
 
 abbrev pub is_in_hand : FrameState → Bool
 is_in_hand state.Free = false
@@ -105,9 +76,3 @@ try_RetiresHands s n h =
     (let new = retired is_in_hand (surplus s n) s.frames s.frame in
     bind (as_many s (surplus s n) new.0) (λ e. Some (_, _, (new.0, retires_any s (surplus s n) new e, refl, refl), h)))
     (try_resize s n h)
-
-pub frames_in_hands_are_not_retired : Breaks (with_resizes RetiresHands) (small 1 1) 2 resize_hand_run FramesAreInOnePlace
-unfolding machine RetiresHands
-frames_in_hands_are_not_retired =
-    breaks (with_resizes RetiresHands) (by_resizes RetiresHands try_RetiresHands)
-    (small 1 1) 2 resize_hand_run FramesAreInOnePlace tears torn refl

@@ -11,11 +11,11 @@ use Rattle.hp_machine.specs.State.{Pool, State, pool_of, free_frames, active_fra
 use Rattle.hp_machine.specs.State.{is_alive, is_killed, is_dead}
 use Rattle.hp_machine.specs.Resizes.{ResizeRow}
 use Rattle.hp_machine.specs.Events.{CallRow, CallRows, StepRows, ResizeRows, EventRows, BeginRow, StepBy, StepRow}
-use Rattle.hp_machine.specs.Events.{KillRow, RowBy, Row, RunBy}
+use Rattle.hp_machine.specs.Events.{KillRow, RowBy, RunBy}
 use Rattle.hp_machine.specs.Events.{is_exit}
 use Rattle.hp_machine.specs.declared.outcome.Outcome.{Outcome}
 use Rattle.hp_machine.specs.declared.call.Call.{Call}
-use Rattle.hp_needed.specs.Runs.{events_of, with_calls, with_resizes}
+use Rattle.hp_needed.specs.Runs.{as_it_is, events_of, with_calls, with_resizes}
 use Rattle.hp_needed.proofs.Searching.{Clear, bind}
 use Rattle.hp_needed.proofs.Steps.{Made, try_call}
 use Rattle.hp_needed.proofs.Resizing.{TriesResizes, try_resize}
@@ -90,8 +90,8 @@ by_calls rows tries = event (StepBy rows) ResizeRow (steps_by rows tries) try_re
 abbrev pub by_resizes : (rows : ResizeRows) → TriesResizes rows → Tries (with_resizes rows)
 by_resizes rows tries = event StepRow rows right_steps tries
 
--- the right machine
-abbrev pub by_row : Tries Row
+-- the machine as it is
+abbrev pub by_row : Tries as_it_is
 by_row = event StepRow ResizeRow right_steps try_resize
 
 -- what a run computes with: to unfold this is to unfold them all

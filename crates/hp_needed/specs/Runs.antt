@@ -8,12 +8,16 @@ use Rattle.hp_frames.specs.Bank.{IsWithinQuota}
 use Rattle.hp_region.specs.Change.{Change}
 use Rattle.hp_machine.specs.State.{Geometry, State, free_frames}
 use Rattle.hp_machine.specs.Resizes.{ResizeRow}
-use Rattle.hp_machine.specs.Events.{CallRows, ResizeRows, EventRows, StepBy, StepRow, RowBy, RunBy, opening}
+use Rattle.hp_machine.specs.Events.{CallRows, ResizeRows, EventRows, StepBy, StepRow, Row, RowBy, RunBy, opening}
 use Rattle.hp_machine.specs.Headline.{Headline, OnePlace, vacant_in, reserved_in}
 use Rattle.hp_machine.specs.Standings.{Counts, standing_of}
 use Rattle.hp_machine.specs.Views.{hand}
 use Rattle.hp_machine.specs.declared.outcome.Outcome.{Outcome}
 use Rattle.hp_laws.specs.Protocol.{ChangesAreCalls, SparesSuffice}
+
+-- the machine with each row as it is: of it, edits say what is proved of the others, and it is refused
+abbrev pub as_it_is : EventRows
+as_it_is = Row
 
 -- the machine, but the steps of calls are by these rows
 abbrev pub with_calls : CallRows → EventRows
