@@ -30,6 +30,7 @@ abbrev pub two_slots : (tasks limit : ℕ) → Geometry
 two_slots tasks limit = record { files = 1; slots = 2; tasks = tasks; limit = limit; space = 4; quota = None }
 
 -- ---- a punch that splits a region takes any spare descriptor, as if no change were pending
+-- (right: PunchDeleteRow takes one only where more are spare than changes are pending)
 abbrev pub AnySpareRow : Pool → (grant : Bool) → Delete → Turn PunchPhase → Pool → Type 0
 AnySpareRow s grant p turn new =
     (right : Pool) × PunchDeleteRow (record s { pending = put s.pending p.hole.file 0 }) grant p turn right
@@ -46,6 +47,7 @@ split_run =
     (calls 1 (op.Punch 0 1 1) 7 []))))
 
 -- ---- a change that finds a spare descriptor counts on it, though another pending change does
+-- (right: ChangeRow has as many spare as are pending, with this one)
 abbrev pub SharedSpareRow : Pool → (grant : Bool) → Missing → Turn TouchPhase → Pool → Type 0
 SharedSpareRow s grant p turn new =
     let f = p.touch.file in
@@ -65,6 +67,7 @@ abbrev pub shared_spare_run : List Event
 shared_spare_run = calls 1 (op.MapNoReserve 0 0 1) 4 (calls 2 (op.Map 0 2 1) 3 (calls 1 (op.Load 0) 5 (steps 2 2 [])))
 
 -- ---- a map that notices a kill leaves its change open
+-- (right: MapChangedRow goes to abort)
 abbrev pub DroppingRow : Pool → (killed : Bool) → Changed → Turn MapPhase → Pool → Type 0
 DroppingRow s killed p turn new =
     MatchBool killed

@@ -33,6 +33,7 @@ abbrev pub Unused : {P : Type 0} → Pool → (Turn P → Pool → Type 0) → T
 Unused s row turn new = (right : Pool) × row turn right × (new ≡ record right { used = s.used })
 
 -- ---- a map doesn't give back what it counted and didn't add
+-- (right: MapSettleRow lowers the reserve count by it)
 unfoldable pub MapKeepsExcess : CallRows
 MapKeepsExcess s t killed grant (call.Map (map.Settle p)) =
     TurnRow call.Map (Uncounted s (λ turn new. MapSettleRow s p turn new))
@@ -43,6 +44,7 @@ abbrev pub map_settles_run : List Event
 map_settles_run = calls 2 (op.MapNoReserve 0 0 1) 4 (calls 1 (op.Map 0 0 1) 4 (calls 2 (op.Load 0) 9 (steps 1 4 [])))
 
 -- ---- a touch doesn't give back what it counted and didn't add
+-- (right: TouchSettleRow lowers the reserve count by one)
 unfoldable pub TouchKeepsExcess : CallRows
 TouchKeepsExcess s t killed grant (call.Touch (touch.Settle p)) =
     TurnRow call.Touch (Uncounted s (λ turn new. TouchSettleRow s p turn new))
@@ -54,17 +56,20 @@ touch_settles_run =
     calls 2 (op.MapNoReserve 0 0 1) 4 (calls 1 (op.Map 0 0 1) 4 (calls 2 (op.Load 0) 5 (steps 1 3 (steps 2 5 []))))
 
 -- ---- a map that gives back what it didn't add still counts it as used
+-- (right: MapSettleRow lowers the used count by it, too)
 unfoldable pub MapKeepsUsed : CallRows
 MapKeepsUsed s t killed grant (call.Map (map.Settle p)) = TurnRow call.Map (Unused s (λ turn new. MapSettleRow s p turn new))
 MapKeepsUsed s t killed grant other = CallRow s t killed grant other
 
 -- ---- a touch that gives back what it didn't add still counts it as used
+-- (right: TouchSettleRow lowers the used count by one, too)
 unfoldable pub TouchKeepsUsed : CallRows
 TouchKeepsUsed s t killed grant (call.Touch (touch.Settle p)) =
     TurnRow call.Touch (Unused s (λ turn new. TouchSettleRow s p turn new))
 TouchKeepsUsed s t killed grant other = CallRow s t killed grant other
 
 -- ---- a touch that gives its frame back doesn't count the index, which stays in the reserve map
+-- (right: TouchRestoreRow raises the reserve count by one)
 unfoldable pub RestoresUncounted : CallRows
 RestoresUncounted s t killed grant (call.Touch (touch.Restore p)) =
     TurnRow call.Touch (Uncounted s (λ turn new. TouchRestoreRow s p turn new))
@@ -75,6 +80,7 @@ abbrev pub restore_run : List Event
 restore_run = calls 1 (op.MapNoReserve 0 0 1) 4 (calls 1 (op.Load 0) 6 (deny 1 (steps 1 2 [])))
 
 -- ---- a touch that gives its frame back takes the index out of the reserve map
+-- (right: TouchRestoreRow leaves the reserve map)
 abbrev pub UnmarkingRestoreRow : Pool → Restore → Turn TouchPhase → Pool → Type 0
 UnmarkingRestoreRow s p turn new =
     (right : Pool) × TouchRestoreRow s p turn right
@@ -85,12 +91,14 @@ RestoresUnmarked s t killed grant (call.Touch (touch.Restore p)) = TurnRow call.
 RestoresUnmarked s t killed grant other = CallRow s t killed grant other
 
 -- ---- a punch forgets that its delete was denied, and doesn't count the index, which stays in the reserve map
+-- (right: PunchFreeRow raises the reserve count by one where it was denied)
 unfoldable pub ForgetsDenial : CallRows
 ForgetsDenial s t killed grant (call.Punch (punch.Free p)) =
     TurnRow call.Punch (Uncounted s (λ turn new. PunchFreeRow s p turn new))
 ForgetsDenial s t killed grant other = CallRow s t killed grant other
 
 -- ---- a punch lowers the used count whether its delete was denied or not
+-- (right: PunchFreeRow leaves the used count where it was denied)
 abbrev pub UnusingFreeRow : Pool → Free → Turn PunchPhase → Pool → Type 0
 UnusingFreeRow s p turn new = (right : Pool) × PunchFreeRow s p turn right × (new ≡ record right { used = s.used - 1 })
 
@@ -105,6 +113,7 @@ denial_run =
     (calls 1 (op.Load 1) 9 (calls 1 (op.Map 0 4 1) 7 (calls 1 (op.Punch 0 1 1) 5 (deny 1 (steps 1 3 [])))))
 
 -- ---- a truncation gives nothing back
+-- (right: TruncateSettleRow lowers the reserve count by the indices that went and had no page)
 unfoldable pub GivesNothingBack : CallRows
 GivesNothingBack s t killed grant (call.Truncate (truncate.Settle p)) =
     TurnRow call.Truncate (Uncounted s (λ turn new. TruncateSettleRow s p turn new))
@@ -115,6 +124,7 @@ abbrev pub nothing_back_run : List Event
 nothing_back_run = calls 1 (op.Map 0 0 1) 7 (calls 1 (op.Truncate 0 0) 8 [])
 
 -- ---- a truncation gives back all that it removed, also the indices whose pages it took away
+-- (right: TruncateTailRow takes the number of those pages off what is given back)
 abbrev pub WholeTailRow : Pool → Tail → Turn TruncatePhase → Pool → Type 0
 WholeTailRow s p turn new = TruncateTailRow s (record { truncation = p.truncation; evicted = 0 }) turn new
 
@@ -127,6 +137,7 @@ abbrev pub evicted_run : List Event
 evicted_run = calls 1 (op.Map 0 0 2) 7 (calls 1 (op.Load 1) 9 (calls 1 (op.Truncate 0 1) 11 []))
 
 -- ---- a truncation lowers the used count by what it gives back alone, and not by the pages that it took away
+-- (right: TruncateSettleRow lowers the used count by both)
 abbrev pub ExcessSettleRow : Pool → truncate_settle.Settle → Turn TruncatePhase → Pool → Type 0
 ExcessSettleRow s p turn new =
     (right : Pool) × TruncateSettleRow s p turn right × (new ≡ record right { used = s.used - p.excess })

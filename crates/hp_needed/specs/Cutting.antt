@@ -20,6 +20,7 @@ use Rattle.hp_machine.specs.declared.call.Turn.{Turn}
 use Rattle.hp_needed.specs.Runs.{steps, calls}
 
 -- ---- a truncation visits only the indices that have a page, as Linux 6.1 does: past the others it goes on without their slots
+-- (right: TruncateWantRow takes the slot of each index)
 abbrev pub PagesOnlyWantRow : Pool → (task : ℕ) → Want → Turn TruncatePhase → Pool → Type 0
 PagesOnlyWantRow s t p turn new =
     MatchBool (is_some (s.pages p.truncation.file p.index))
@@ -41,6 +42,7 @@ abbrev pub short_run : List Event
 short_run = calls 1 (op.MapNoReserve 0 0 1) 4 (calls 1 (op.Load 0) 6 (calls 2 (op.Truncate 0 0) 4 []))
 
 -- ---- a truncation sweeps from the size down, and not from the end of the pages
+-- (right: TruncateSizeRow begins at the larger of both)
 abbrev pub LowTopRow : Pool → Size → Turn TruncatePhase → Pool → Type 0
 LowTopRow s p turn new =
     let f = p.truncation.file in
@@ -58,6 +60,7 @@ abbrev pub low_top_run : List Event
 low_top_run = calls 1 (op.Map 0 0 1) 7 (calls 1 (op.Alloc 0 1 1 true) 10 (calls 1 (op.Truncate 0 1) 5 []))
 
 -- ---- a touch that has the slot doesn't look at the size
+-- (right: TouchLockedRow leaves with Beyond where the index is at or above the size)
 abbrev pub UnsizedLockedRow : Pool → touch_locked.Locked → Turn TouchPhase → Pool → Type 0
 UnsizedLockedRow s p turn new =
     MatchBool (is_some (s.pages p.touch.file p.touch.index))
@@ -75,6 +78,7 @@ late_touch_run =
     (steps 1 4 (steps 2 1 (steps 1 4 (steps 2 2 []))))))
 
 -- ---- a truncation sets the size at its end, and not before its sweep
+-- (right: TruncateSizeRow sets it, and TruncateTailRow leaves it)
 abbrev pub UnsizingRow : Pool → Size → Turn TruncatePhase → Pool → Type 0
 UnsizingRow s p turn new = (right : Pool) × TruncateSizeRow s p turn right × (new ≡ record right { size = s.size })
 

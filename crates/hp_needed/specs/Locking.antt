@@ -24,6 +24,7 @@ use Rattle.hp_machine.specs.declared.call.Turn.TheVariants.{Moved}
 use Rattle.hp_needed.specs.Runs.{steps, calls}
 
 -- ---- a truncation leaves its file lock once the size is set
+-- (right: TruncateSizeRow leaves the lock as it is; TruncateLeaveRow is where it is left)
 abbrev pub UnlockingSizeRow : Pool → Size → Turn TruncatePhase → Pool → Type 0
 UnlockingSizeRow s p turn new = (right : Pool) × TruncateSizeRow s p turn right × (new ≡ unlocked right p.truncation.file)
 
@@ -41,6 +42,7 @@ unlock_count_run =
     calls 2 (op.Truncate 0 0) 2 (calls 1 (op.Map 0 0 1) 7 (calls 1 (op.Map 0 0 1) 4 (steps 2 1 (steps 1 3 (steps 2 2 [])))))
 
 -- ---- a map takes the file lock though another task holds it
+-- (right: MapStartRow waits)
 unfoldable pub BreaksLock : CallRows
 BreaksLock s t killed grant (call.Map (map.Start p)) =
     TurnRow call.Map (λ turn new. MapStartRow (unlocked s p.map.file) t killed p turn new)
@@ -53,6 +55,7 @@ lock_run =
     (steps 1 2 (calls 1 (op.Map 0 0 1) 4 (steps 2 1 (steps 1 3 (steps 2 2 []))))))))
 
 -- ---- a touch takes its slot though another task holds it
+-- (right: TouchWantRow waits)
 unfoldable pub TouchBreaksSlot : CallRows
 TouchBreaksSlot s t killed grant (call.Touch (touch.Want p)) =
     TurnRow call.Touch (λ turn new. TouchWantRow (unslotted s p.touch.file p.touch.index) t killed p turn new)
@@ -65,6 +68,7 @@ touch_slot_run =
     (steps 1 6 (steps 2 2 (steps 1 1 (steps 2 2 []))))))
 
 -- ---- a punch takes its slot though another task holds it
+-- (right: PunchWantRow waits)
 unfoldable pub PunchBreaksSlot : CallRows
 PunchBreaksSlot s t killed grant (call.Punch (punch.Want p)) =
     TurnRow call.Punch (λ turn new. PunchWantRow (unslotted s p.hole.file p.index) t p turn new)
@@ -76,6 +80,7 @@ punch_slot_run =
     calls 1 (op.MapNoReserve 0 0 1) 4 (calls 1 (op.Load 0) 7 (calls 2 (op.Punch 0 0 1) 4 (steps 1 1 (steps 2 2 []))))
 
 -- ---- a truncation takes its slots though another task holds them
+-- (right: TruncateWantRow waits)
 unfoldable pub TruncateBreaksSlot : CallRows
 TruncateBreaksSlot s t killed grant (call.Truncate (truncate.Want p)) =
     TurnRow call.Truncate (λ turn new. TruncateWantRow (unslotted s p.truncation.file p.index) t p turn new)
@@ -86,6 +91,7 @@ abbrev pub truncate_slot_run : List Event
 truncate_slot_run = calls 1 (op.Map 0 0 1) 7 (calls 1 (op.Load 0) 5 (calls 2 (op.Truncate 0 0) 6 (steps 1 4 (steps 2 2 []))))
 
 -- ---- a punch evicts the page once one task's entries are cleared
+-- (right: PunchUnmapRow goes on to the next task, and evicts after the last)
 abbrev pub OneTaskUnmapRow : Pool → punch_unmap.Unmap → Turn PunchPhase → Pool → Type 0
 OneTaskUnmapRow s p turn new =
     (right : Turn PunchPhase) × PunchUnmapRow s p right new
@@ -100,6 +106,7 @@ abbrev pub punch_early_run : List Event
 punch_early_run = calls 2 (op.MapNoReserve 0 0 1) 4 (calls 2 (op.Load 0) 9 (calls 1 (op.Punch 0 0 1) 5 []))
 
 -- ---- a truncation evicts the page once one task's entries are cleared
+-- (right: TruncateUnmapRow goes on to the next task, and evicts after the last)
 abbrev pub OneTaskTruncateRow : Pool → truncate_unmap.Unmap → Turn TruncatePhase → Pool → Type 0
 OneTaskTruncateRow s p turn new =
     (right : Turn TruncatePhase) × TruncateUnmapRow s p right new

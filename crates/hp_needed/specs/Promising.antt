@@ -24,6 +24,7 @@ use Rattle.hp_machine.specs.declared.call.Turn.{Turn}
 use Rattle.hp_needed.specs.Runs.{calls}
 
 -- ---- a touch without a reservation takes any free frame, as if none were reserved
+-- (right: TakeRow takes none where as many are reserved as are free)
 abbrev pub AnyFrameRow : Pool → (killed : Bool) → touch_changed.Changed → Turn TouchPhase → Pool → Type 0
 AnyFrameRow s killed p turn new =
     MatchBool (p.pending.missing == 0)
@@ -39,6 +40,7 @@ abbrev pub any_frame_run : List Event
 any_frame_run = calls 1 (op.Map 0 0 1) 7 (calls 1 (op.MapNoReserve 0 1 1) 4 (calls 1 (op.Load 1) 5 []))
 
 -- ---- a map may promise any free frame, as if none were reserved
+-- (right: MapChangedRow promises no more than the free frames that aren't reserved)
 abbrev pub AnyPromiseRow : Pool → (killed : Bool) → map_changed.Changed → Turn MapPhase → Pool → Type 0
 AnyPromiseRow s killed p turn new =
     (right : Pool) × MapChangedRow (record s { resv = 0 }) killed p turn right
@@ -53,6 +55,7 @@ abbrev pub any_promise_run : List Event
 any_promise_run = calls 1 (op.Map 0 0 1) 7 (calls 1 (op.Map 0 0 2) 4 [])
 
 -- ---- a map doesn't ask the quota
+-- (right: MapChangedRow goes to abort with NoQuota where the quota has less left)
 abbrev pub UnboundRow : Pool → (killed : Bool) → map_changed.Changed → Turn MapPhase → Pool → Type 0
 UnboundRow s killed p turn new =
     MatchBool killed
@@ -71,6 +74,7 @@ abbrev pub quota_run : List Event
 quota_run = calls 1 (op.Map 0 0 2) 4 []
 
 -- ---- a resize retires what is left over of all free frames, also the reserved ones
+-- (right: ResizeRow retires what is left over of the free frames that nobody reserved)
 abbrev pub all_surplus : Pool → (frames : ℕ) → ℕ
 all_surplus s n = min (actives s - n) (frees s)
 
@@ -86,6 +90,7 @@ abbrev pub resize_reserved_run : List Event
 resize_reserved_run = calls 1 (op.Map 0 0 2) 4 (Resize 1 ∷ [])
 
 -- ---- a resize retires frames that are free or in a hand
+-- (right: ResizeRow retires free frames alone)
 pub record RetiresAny (s : Pool) (k : ℕ) (frame : ℕ → FrameState) : Type 0 where
   pub count : active_frames frame s.frames + k ≡ actives s
   pub each : (x : ℕ) → (frame x ≡ s.frame x)

@@ -7,8 +7,12 @@
 //! rules; `examples/needed/` has the same events for the right machine. It knows no code.
 #![tactic(auto)]
 
+ghost use Rattle.std.specs.Prelude.{◌↔◌, List};
+ghost use Rattle.hp_base.specs.declared.event.Event.{Event};
 ghost use Rattle.hp_machine.specs.State.{State};
-ghost use Rattle.hp_machine.specs.Events.{IsReached};
+ghost use Rattle.hp_machine.specs.Resizes.{ResizeRow};
+ghost use Rattle.hp_machine.specs.Events.{CallRow, IsReached, Run, RunBy};
+ghost use Rattle.hp_machine.specs.declared.outcome.Outcome.{Outcome};
 ghost use Rattle.hp_machine.specs.Headline.{Agrees, IsBelow};
 ghost use Rattle.hp_laws.specs.Laws.{NeverShort};
 ghost use Rattle.hp_laws.specs.Protocol.{ChangesAreCalls, SparesSuffice};
@@ -29,6 +33,12 @@ ghost use Rattle.hp_needed.specs.Locking.{TruncateBreaksSlot, truncate_slot_run,
 ghost use Rattle.hp_needed.specs.Locking.{TruncatesEarly, truncate_early_run};
 ghost use Rattle.hp_needed.specs.Changing.{two_slots, TakesAnySpare, split_run, SharesSpare, shared_spare_run};
 ghost use Rattle.hp_needed.specs.Changing.{DropsChange, drop_run};
+
+/// With the right rows, a machine with other rows is the machine.
+pub fn the_right_rows_are_the_machine()
+    ensures calls { (s n : State) (events : List (Event × Outcome)) → RunBy (with_calls CallRow) s events n ↔ Run s events n }
+    ensures resizes { (s n : State) (events : List (Event × Outcome)) → RunBy (with_resizes ResizeRow) s events n ↔ Run s events n }
+{}
 
 /// The right machine has each of the laws that the machines below break.
 pub fn the_right_machine_has_these_laws()
