@@ -115,7 +115,7 @@ def examples(step: Step, _: list[str]) -> None:
 
 
 def linux(step: Step, _: list[str]) -> None:
-    for script in ("compare.py", "test_compare.py"):
+    for script in ("compare.py", "races.py", "test_compare.py"):
         step.run([sys.executable, str(TOP / "conformance" / script)])
 
 

@@ -1,5 +1,5 @@
 #!/usr/bin/env python3
-"""Replays each trace of examples/, and compares what is printed with the file NAME.out beside it.
+"""Replays each trace of examples/ and of the folders in it, and compares what is printed with the file NAME.out beside it.
 
 What is complained is compared with NAME.err, and the status with NAME.status; without these files, with nothing and 0.
 """
@@ -44,7 +44,7 @@ def main() -> int:
     # (the first call builds the program, which proves it)
     subprocess.run([TOP / "hugepool", "--help"], stdout=subprocess.DEVNULL, check=True)
     passed, faults = 0, []
-    traces, told = ({file.stem for file in FOLDER.glob(pattern)} for pattern in ("*.trace", "*.out"))
+    traces, told = ({str(file.relative_to(FOLDER).with_suffix("")) for file in FOLDER.rglob(pattern)} for pattern in ("*.trace", "*.out"))
     faults += [f"{name}: there is a {'.out' if name in told else '.trace'} alone" for name in sorted(traces ^ told)]
     for name in sorted(traces & told):
         if differs := difference(name):

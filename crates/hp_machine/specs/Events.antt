@@ -136,8 +136,21 @@ left call (Ended a) = None
 abbrev pub TurnRow : {P : Type 0} → (P → Call) → (Turn P → Pool → Type 0) → Outcome → Pool → Option Call → Type 0
 TurnRow {P} call row tells new next = (turn : Turn P) × row turn new × (tells ≡ told call turn) × (next ≡ left call turn)
 
+-- what a step of a call may do, what a step of a task, what a resize, and what an event: the machine's own are below
+abbrev pub CallRows : Type 1
+CallRows = Pool → (task : ℕ) → (killed grant : Bool) → Call → Outcome → Pool → Option Call → Type 0
+
+abbrev pub StepRows : Type 1
+StepRows = State → (task : ℕ) → (grant : Bool) → Outcome → State → Type 0
+
+abbrev pub ResizeRows : Type 1
+ResizeRows = Pool → (frames : ℕ) → Outcome → Pool → Type 0
+
+abbrev pub EventRows : Type 1
+EventRows = State → Event → Outcome → State → Type 0
+
 -- one step of a call: the rows of its operation
-unfoldable pub CallRow : Pool → (task : ℕ) → (killed grant : Bool) → Call → Outcome → Pool → Option Call → Type 0
+unfoldable pub CallRow : CallRows
 CallRow s t killed grant (call.Touch p) = TurnRow call.Touch (TouchRow s t killed grant p)
 CallRow s t killed grant (call.Map p) = TurnRow call.Map (MapRow s t killed grant p)
 CallRow s t killed grant (call.Alloc p) = TurnRow call.Alloc (AllocRow s t killed grant p)
@@ -176,15 +189,19 @@ lives_after lives t (call.Punch p) next = lives
 lives_after lives t (call.Truncate p) next = lives
 lives_after lives t (call.Unmap p) next = lives
 
--- no such task, or dead: NotAlive. No call in flight: Idle. Else the row of the phase
-unfoldable pub StepRow : State → (task : ℕ) → (grant : Bool) → Outcome → State → Type 0
-StepRow s t grant tells new =
+-- no such task, or dead: NotAlive. No call in flight: Idle. Else one of these rows, that of the call's phase
+abbrev pub StepBy : CallRows → StepRows
+StepBy rows s t grant tells new =
     MatchBool (is_dead (s.life t))
     (Refuses refusal.NotAlive s tells new)
     (MatchOption (s.calls t)
     (Refuses refusal.Idle s tells new)
-    (λ call. (pool : Pool) × (next : Option Call) × CallRow (pool_of s) t (is_killed (s.life t)) grant call tells pool next
+    (λ call. (pool : Pool) × (next : Option Call) × rows (pool_of s) t (is_killed (s.life t)) grant call tells pool next
     × (new ≡ record (with_pool s pool) { life = lives_after s.life t call next; calls = put s.calls t next })))
+
+-- a step by the rows of the operations
+unfoldable pub StepRow : StepRows
+StepRow s t grant tells new = StepBy CallRow s t grant tells new
 
 -- no such task, killed or dead: NotAlive. Else the task is killed
 unfoldable pub KillRow : State → (task : ℕ) → Outcome → State → Type 0
@@ -193,17 +210,25 @@ KillRow s t tells new =
     (Tells outcome.Marked (record s { life = put s.life t life.Killed }) tells new)
     (Refuses refusal.NotAlive s tells new)
 
+-- what an event may do, by these rows of steps and of resizes
+abbrev pub RowBy : StepRows → ResizeRows → EventRows
+RowBy steps resizes s (Begin t op) tells new = BeginRow s t op tells new
+RowBy steps resizes s (Step t grant) tells new = steps s t grant tells new
+RowBy steps resizes s (Kill t) tells new = KillRow s t tells new
+RowBy steps resizes s (Resize n) tells new = (pool : Pool) × resizes (pool_of s) n tells pool × (new ≡ with_pool s pool)
+
 -- what an event may do
-abbrev pub Row : State → Event → Outcome → State → Type 0
-Row s (Begin t op) tells new = BeginRow s t op tells new
-Row s (Step t grant) tells new = StepRow s t grant tells new
-Row s (Kill t) tells new = KillRow s t tells new
-Row s (Resize n) tells new = (pool : Pool) × ResizeRow (pool_of s) n tells pool × (new ≡ with_pool s pool)
+abbrev pub Row : EventRows
+Row = RowBy StepRow ResizeRow
+
+-- by these rows of events, the events with their outcomes lead from one state to the other
+abbrev pub RunBy : EventRows → State → List (Event × Outcome) → State → Type 0
+RunBy rows s [] new = new ≡ s
+RunBy rows s (e ∷ es) new = (mid : State) × rows s e.0 e.1 mid × RunBy rows mid es new
 
 -- the events with their outcomes lead from one state to the other
 abbrev pub Run : State → List (Event × Outcome) → State → Type 0
-Run s [] new = new ≡ s
-Run s (e ∷ es) new = (mid : State) × Row s e.0 e.1 mid × Run mid es new
+Run = RunBy Row
 
 -- All frames are free and the tasks 1 to `tasks` alive, and nothing else is. Frames that aren't there are in
 -- no free set, and tasks that aren't there are dead

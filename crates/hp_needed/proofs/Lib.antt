@@ -1,0 +1,11 @@
+pub mod Breaking
+pub mod Changing
+pub mod Counting
+pub mod Cutting
+pub mod Laws
+pub mod Locking
+pub mod Promising
+pub mod Resizing
+pub mod Running
+pub mod Searching
+pub mod Steps
