@@ -1,0 +1,48 @@
+use Rattle.std.proofs.Common.{◌≡◌, ◌<◌, Some, arith, refl, slice_get, subst, sym}
+use Rattle.hp_frames.specs.declared.frame.FrameState.TheVariants.{Free, Hand}
+use Rattle.hp_frames.specs.declared.record.Record.TheVariants as kept_as
+use Rattle.hp_frames.specs.Bank.{BankState, free_count, free_frames, is_free, is_in_hand}
+use Rattle.hp_frames.specs.Records.{states}
+use Rattle.hp_frames.proofs.Chains.{first_free, has_first}
+use Rattle.hp_frames.proofs.Frames.{set_same}
+use Rattle.hp_frames.proofs.Kept.{one_short, taken_kept}
+use Rattle.hp_frames.proofs.States.{states_set, within}
+use Rattle.hp_frames.proofs.bank.Bank.take_free.Goals as goal
+
+pub take-frame-requires : goal.take-frame-requires
+take-frame-requires c =
+    let some : c.self.inside.resv < free_frames (states c.self.inside.records.items) =
+    subst (λ (b : BankState). b.resv < free_count b) (sym c.self.view_is) c.requires in
+    has_first is_free _ _ _ c.deref.ensures.value (omega (arith, some, c.self.invariant.kept.free.counted)) c.self.invariant.kept.free
+
+pub move_frame-requires : goal.move_frame-requires
+move_frame-requires c = within _ _ Free (first_free _ _ _ c.take-frame.ensures.first c.self.invariant.kept.free)
+
+pub overflow_add-self : goal.overflow_add-self
+overflow_add-self c =
+    let at = first_free _ _ _ c.take-frame.ensures.first c.self.invariant.kept.free in
+    let short = one_short is_in_hand c.self.inside.records.items _ Free at refl in
+    omega (arith, short, c.self.invariant.kept.in_hands, c.self.invariant.kept.numbered)
+
+pub invariant_of-self : goal.invariant_of-self
+invariant_of-self c =
+    let some : c.self.inside.resv < free_frames (states c.self.inside.records.items) =
+    subst (λ (b : BankState). b.resv < free_count b) (sym c.self.view_is) c.requires in
+    let less = c.take-frame.ensures.count in
+    record {
+      kept = taken_kept _ _ _ _ _ _ _ _ c.deref.ensures.value c.move_frame.ensures.items c.take-frame.ensures.first
+          c.take-frame.ensures.rest less c.self.invariant.kept;
+      reserved = omega (arith, some, less, c.self.invariant.kept.free.counted);
+      within = c.self.invariant.within;
+    }
+
+pub returns-clause-free : goal.returns-clause-free
+returns-clause-free c = subst
+    (λ (b : BankState). slice_get b.frames c.take-frame.result ≡ Some Free)
+    c.self.view_is
+    (first_free _ _ _ c.take-frame.ensures.first c.self.invariant.kept.free)
+
+pub returns-clause-held : goal.returns-clause-held
+returns-clause-held c =
+    let at = first_free _ _ _ c.take-frame.ensures.first c.self.invariant.kept.free in
+    rw (states_set _ _ _ kept_as.Hand c.move_frame.ensures.items) (set_same _ c.take-frame.result Free Hand at)
