@@ -205,7 +205,6 @@ impl Bank {
 
     /// Takes a free frame for a reservation that the caller has (Linux: `dequeue_huge_page_vma`
     /// with `gbl_chg` 0). Its word is 0 once it is placed.
-    #[tactic(auto, using(std::proofs::lemmas::Grind::common_steps, crate::proofs::Frames::set_same, crate::proofs::States::set_states, crate::proofs::States::within))]
     pub fn take_reserved(&mut self) -> Held
         requires { 1 ≤ self.old.resv }
         ensures free { IsFree self.old result }
@@ -218,7 +217,6 @@ impl Bank {
 
     /// Takes a free frame that nobody reserved, for a page that is used from now on. The quota is asked first,
     /// and then the frames. Its word is 0 once it is placed.
-    #[tactic(auto, using(std::proofs::lemmas::Grind::common_steps, crate::proofs::Frames::set_same, crate::proofs::States::set_states, crate::proofs::States::within))]
     pub fn take_unreserved(&mut self) -> Result<Held, Fault>
         requires { CanCount self.old 1 }
         ensures quota { IsErrOf result Fault.Quota ↔ IsTrue (is_used_up self.old.quota self.old.used) }
@@ -241,7 +239,7 @@ impl Bank {
     }
 
     /// The frame becomes a page, with the word 0.
-    #[tactic(auto, using(std::proofs::lemmas::Grind::common_steps, crate::proofs::Frames::set_same, crate::proofs::States::set_states, crate::proofs::States::within))]
+    #[tactic(auto, using(crate::proofs::States::places))]
     pub fn place(&mut self, held: Held) -> Frame
         requires { InHands self.old held }
         ensures same { result ≡ held }
@@ -255,7 +253,7 @@ impl Bank {
     }
 
     /// The page's frame comes into the caller's hand.
-    #[tactic(auto, using(std::proofs::lemmas::Grind::common_steps, crate::proofs::Frames::set_same, crate::proofs::States::set_states, crate::proofs::States::within))]
+    #[tactic(auto, using(crate::proofs::States::places))]
     pub fn evict(&mut self, frame: Frame) -> Held
         requires { IsPlaced self.old frame }
         ensures same { result ≡ frame }
@@ -268,7 +266,7 @@ impl Bank {
     }
 
     /// The frame is free again (Linux: `free_huge_page`).
-    #[tactic(auto, using(std::proofs::lemmas::Grind::common_steps, crate::proofs::Frames::set_same, crate::proofs::States::set_states, crate::proofs::States::within))]
+    #[tactic(auto, using(crate::proofs::States::places))]
     pub fn give(&mut self, held: Held)
         requires { InHands self.old held }
         ensures { self.new ≡ with_frame self.old held FrameState.Free }
@@ -301,7 +299,7 @@ impl Bank {
     }
 
     /// Writes the word of a page.
-    #[tactic(auto, using(std::proofs::lemmas::Grind::common_steps, crate::proofs::Frames::set_same, crate::proofs::States::set_states, crate::proofs::States::within))]
+    #[tactic(auto, using(crate::proofs::States::places))]
     pub fn store(&mut self, frame: Frame, word: u64)
         requires { IsPlaced self.old frame }
         ensures word { HasWord self.new frame word }
@@ -311,7 +309,7 @@ impl Bank {
     }
 
     // A free and unreserved frame comes into the caller's hand.
-    #[tactic(auto, using(std::proofs::lemmas::Grind::common_steps, crate::proofs::Frames::set_same, crate::proofs::States::set_states, crate::proofs::States::within))]
+    #[tactic(auto, using(crate::proofs::States::places))]
     fn take_free(&mut self) -> Held
         requires { self.old.resv < free_count self.old }
         ensures free { IsFree self.old result }

@@ -77,7 +77,7 @@ impl Bank {
     }
 
     // A retired frame is free again.
-    #[tactic(auto, using(std::proofs::lemmas::Grind::common_steps, crate::proofs::Frames::set_same, crate::proofs::States::set_states, crate::proofs::States::within))]
+    #[tactic(auto, using(crate::proofs::States::places))]
     fn bring_back(&mut self) -> Frame
         requires { 1 ≤ retired_frames self.old.frames }
         ensures retired { slice_get self.old.frames result ≡ Some FrameState.Retired }
@@ -90,7 +90,7 @@ impl Bank {
     }
 
     // A free and unreserved frame is retired.
-    #[tactic(auto, using(std::proofs::lemmas::Grind::common_steps, crate::proofs::Frames::set_same, crate::proofs::States::set_states, crate::proofs::States::within))]
+    #[tactic(auto, using(crate::proofs::States::places))]
     fn retire_one(&mut self) -> Frame
         requires { self.old.resv < free_count self.old }
         ensures free { IsFree self.old result }
