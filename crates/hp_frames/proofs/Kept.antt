@@ -47,10 +47,10 @@ moved_kept rs new free retired hands after x s r is at not_free still_not not_re
     }
 
 -- the first free frame comes into a hand
-pub taken_kept : (rs seen new : List Record) (free rest retired : Chain) (hands x : ℕ) → seen ≡ rs → new ≡ set rs x Hand → free.first ≡ Some x
-    → rest.first ≡ next_of (record_at seen x) → rest.count + 1 ≡ free.count → IsKept rs free retired hands
-    → IsKept new rest retired (hands + 1)
-taken_kept rs seen new free rest retired hands x same is first next less kept =
+pub taken_kept : (rs seen new : List Record) (free rest retired : Chain) (hands after x : ℕ) → seen ≡ rs → new ≡ set rs x Hand → free.first ≡ Some x
+    → rest.first ≡ next_of (record_at seen x) → rest.count + 1 ≡ free.count → after ≡ hands + 1 → IsKept rs free retired hands
+    → IsKept new rest retired after
+taken_kept rs seen new free rest retired hands after x same is first next less more kept =
     let long : length new ≡ length rs = ap length is ∙ length-set rs x Hand in
     let second : rest.first ≡ next_of (record_at rs x) = next ∙ ap (λ (ss : List Record). next_of (record_at ss x)) same in
     let at = first_free rs free x first kept.free in
@@ -58,7 +58,7 @@ taken_kept rs seen new free rest retired hands x same is first next less kept =
     record {
       free = taken is_free rs new free rest x state.Free Hand is at refl refl first second less kept.free;
       retired = passed is_retired rs new retired x state.Free Hand is at refl refl kept.retired;
-      in_hands = omega (arith, moved, kept.in_hands);
+      in_hands = omega (arith, moved, kept.in_hands, more);
       numbered = omega (arith, long, kept.numbered);
     }
 

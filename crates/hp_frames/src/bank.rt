@@ -1,5 +1,6 @@
 //! The bank: a record of each frame, and the counts of free, retired, reserved and used ones.
-ghost use Rattle.std.specs.Prelude.{◌≡◌, ℕ, ◌+◌, ◌-◌, ◌<◌, ◌≤◌, ◌↔◌, ◌⊎◌, false, IfOk, OnOk, OnErr, IsErr, IsErrOf, IsTrue, replicate};
+ghost use Rattle.std.specs.Prelude.{◌≡◌, ℕ, ◌+◌, ◌-◌, ◌^◌, ◌<◌, ◌≤◌, ◌↔◌, ◌⊎◌, false, length, replicate, slice_set, vec_capacity};
+ghost use Rattle.std.specs.Prelude.{IfOk, OnOk, OnErr, IsErr, IsErrOf, IsTrue};
 ghost use Rattle.hp_frames.specs.Bank.{BankState, free_count, hand_count, IsFree, InHands, HasWord, IsPlaced, with_frame};
 ghost use Rattle.hp_frames.specs.Bank.{with_resv, with_used, exceeds, is_used_up, IsWithinQuota, CanCount};
 
@@ -124,7 +125,8 @@ impl Bank {
     pub fn hands(&self) -> u32
         ensures { result ≡ hand_count self.now }
     {
-        self.hands
+        let Bank { hands, .. } = self;
+        *hands
     }
 
     /// How many pages are reserved (Linux: `resv_huge_pages`).
@@ -260,9 +262,7 @@ impl Bank {
         ensures held { InHands self.new frame }
         ensures after { self.new ≡ with_frame self.old frame FrameState.Hand }
     {
-        move_frame(&mut self.records, frame, Record::Hand);
-        self.hands += 1;
-        Held { frame }
+        hold(&mut self.records, &mut self.hands, frame)
     }
 
     /// The frame is free again (Linux: `free_huge_page`).
@@ -317,9 +317,7 @@ impl Bank {
         ensures after { self.new ≡ with_frame self.old result FrameState.Hand }
     {
         let frame = self.free.take(&self.records);
-        move_frame(&mut self.records, frame, Record::Hand);
-        self.hands += 1;
-        Held { frame }
+        hold(&mut self.records, &mut self.hands, frame)
     }
 
     // Whether n more pages are more than the quota has left.
@@ -331,4 +329,18 @@ impl Bank {
             Some(most) => n > most - self.used,
         }
     }
+}
+
+// The frame comes into the caller's hand.
+fn hold(records: &mut Vec<Record>, hands: &mut u32, frame: Frame) -> Held
+    requires there { frame < length records.old.items }
+    requires few { hands.old + 1 < 2 ^ 32 }
+    ensures same { result ≡ frame }
+    ensures items { records.new.items ≡ slice_set records.old.items frame Record.Hand }
+    ensures capacity { vec_capacity records.new ≡ vec_capacity records.old }
+    ensures more { hands.new ≡ hands.old + 1 }
+{
+    move_frame(records, frame, Record::Hand);
+    *hands += 1;
+    Held { frame }
 }

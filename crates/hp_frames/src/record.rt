@@ -50,7 +50,8 @@ impl Chain {
     pub const fn count(&self) -> u32
         ensures { result ≡ self.now.count }
     {
-        self.count
+        let Chain { count, .. } = self;
+        *count
     }
 
     /// Takes the first one.

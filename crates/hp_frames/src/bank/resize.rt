@@ -2,7 +2,8 @@
 ghost use Rattle.std.specs.Prelude.{◌≡◌, ◌↔◌, ◌+◌, ◌-◌, ◌^◌, ◌<◌, ◌≤◌, ◌++◌, ◌∷◌, [], length, slice_get};
 ghost use Rattle.std.specs.Prelude.{IsOk, IsTrue, OnErr, OnOk, Some, replicate};
 ghost use Rattle.std.specs.Iterator.{YieldsFirst, item_count};
-ghost use Rattle.hp_frames.specs.Bank.{BankState, free_count, retired_frames, active_frames, is_retired, IsFree, with_frame, AreThose, HasGrown, HasShrunk};
+ghost use Rattle.hp_frames.specs.Bank.{BankState, free_count, retired_frames, active_frames, is_retired, IsFree, with_frame};
+ghost use Rattle.hp_frames.specs.Bank.{AreThose, HasGrown, HasShrunk};
 
 use super::Bank;
 use crate::frame::FrameState;
@@ -128,8 +129,8 @@ impl Bank {
         requires few { length self.old.frames + 1 < 2 ^ 32 }
         ensures { self.new ≡ record self.old { frames = self.old.frames ++ FrameState.Free ∷ [] } }
     {
-        let frame = Frame::new(self.numbers());
-        let next = self.free.put(frame);
+        let number = self.numbers();
+        let next = self.free.put(Frame::new(number));
         self.records.push_reserved(Record::Free { next });
     }
 }

@@ -16,8 +16,8 @@ pub invariant_of-self : goal.invariant_of-self
 invariant_of-self c =
     let long : length (states c.self.inside.records.items) ≡ length c.args.self.now.frames =
     ap (λ (b : BankState). length b.frames) c.self.view_is in
-    let number : c.new-frame.result ≡ length c.self.inside.records.items =
-    omega (arith, long, many c.self.inside.records.items, c.new-frame.ensures, c.numbers.ensures) in
+    let number : c.new.result ≡ length c.self.inside.records.items =
+    omega (arith, long, many c.self.inside.records.items, c.new.ensures, c.numbers-number.ensures) in
     let put = c.put-next.ensures in
     record {
       kept = added_kept _ _ _ _ _ _ _ c.push_reserved.ensures.items put.next (put.first ∙ ap Some number) put.count
