@@ -1,17 +1,17 @@
 -- What becomes of the frames of a bank that grows or shrinks.
-use Rattle.std.proofs.Common.{◌≡◌, ◌⊎◌, ℕ, suc, zero, ◌+◌, ◌-◌, ◌<◌, ◌≤◌, ◌^◌, Bool, true, false, cond, List, [], ◌∷◌, ◌++◌, length, set, min}
-use Rattle.std.proofs.Common.{Option, Some, slice_get, replicate, arith, ap, refl, ◌∙◌, subst, sym, inl, inr, not, append_assoc, append-nil}
+use Rattle.std.proofs.Common.{◌≡◌, ◌⊎◌, ℕ, suc, zero, ◌+◌, ◌-◌, ◌<◌, ◌≤◌, Bool, true, false, cond, List, [], ◌∷◌, ◌++◌, length, set, min}
+use Rattle.std.proofs.Common.{Some, slice_get, replicate, arith, ap, refl, ◌∙◌, subst, sym, inl, inr, not, append_assoc, append-nil}
 use Rattle.std.proofs.lemmas.Option.{slice_get_within}
 use Rattle.std.proofs.lemmas.List.{length-set, length-append, length-replicate, replicate-append-replicate}
 use Rattle.std.proofs.lemmas.List.{get_or_append_left, get_or-append_right, get_or-replicate, get_or_at}
 use Rattle.hp_base.specs.Indices.{count_below}
-use Rattle.hp_base.proofs.Counting.{count_below-ext, count_below-sum, count_below_le}
+use Rattle.hp_base.proofs.Counting.{count_below-ext, count_below-sum}
 use Rattle.hp_base.proofs.Puts.{same_or_other}
 use Rattle.hp_frames.specs.declared.frame.FrameState.{FrameState}
 use Rattle.hp_frames.specs.declared.frame.FrameState.TheVariants.{Free, Hand, Retired}
 use Rattle.hp_frames.specs.Bank.{is_active, is_free, is_retired, frame_at, count_of, free_frames, retired_frames, active_frames}
-use Rattle.hp_frames.specs.Bank.{BankState, with_frame, IsWithinQuota, AreThose, IsListed, HasGrown, HasShrunk}
-use Rattle.hp_frames.proofs.Frames.{any_last, at_is, at_other, at_same, count_after, count_one, every, one_longer}
+use Rattle.hp_frames.specs.Bank.{BankState, with_frame, AreThose, HasGrown, HasShrunk}
+use Rattle.hp_frames.proofs.Frames.{at_is, at_other, at_same, count_after, count_one, every}
 
 -- each frame is active or retired
 pub active_and_retired : (fs : List FrameState) → length fs ≡ active_frames fs + retired_frames fs
@@ -126,7 +126,7 @@ at_left : (fs gs : List FrameState) (x : ℕ) → x < length fs → frame_at (fs
 unfolding frame_at
 at_left fs gs x below = get_or_append_left fs gs Hand x below
 
-at_end : (fs : List FrameState) (s : FrameState) → frame_at (fs ++ s ∷ []) (length fs) ≡ s
+pub at_end : (fs : List FrameState) (s : FrameState) → frame_at (fs ++ s ∷ []) (length fs) ≡ s
 unfolding frame_at
 at_end fs s = get_or_at fs s [] Hand (length fs) refl
 
@@ -176,34 +176,10 @@ those_left p fs gs (x ∷ xs) those =
     let long = length-append fs gs in
     (omega (arith, below, long), ap p (at_left fs gs x below) ∙ those.1, those.2, those_left p fs gs xs those.3)
 
--- one more new frame, which is free
-new_last : (fs : List FrameState) (xs : List ℕ) → AreThose is_free fs xs → AreThose is_free (fs ++ Free ∷ []) (xs ++ length fs ∷ [])
-new_last fs [] those = let long = length-append fs (Free ∷ []) in (omega (arith, long), ap is_free (at_end fs Free), refl, tt)
-new_last fs (y ∷ ys) those =
-    let below = those.0 in
-    let long = length-append fs (Free ∷ []) in (
-      omega (arith, below, long),
-      ap is_free (at_left fs (Free ∷ []) y below) ∙ those.1,
-      any_last (length fs) y ys those.2 (λ same. omega (arith, same, below)),
-      new_last fs ys those.3,
-    )
-
 -- how many frames there are with so many new ones
 pub wider_count : (fs new : List FrameState) (m : ℕ) → new ≡ fs ++ replicate m Free → length new ≡ length fs + m
 wider_count fs new m is =
     ap length is ∙ (length-append fs (replicate m Free) ∙ ap (λ (n : ℕ). length fs + n) (length-replicate m Free))
-
--- one more of the new numbers of a bank
-pub new_one : (fs mid new : List FrameState) (xs more : List ℕ) (m number x : ℕ) → mid ≡ fs ++ replicate m Free → new ≡ mid ++ Free ∷ []
-    → number ≡ length fs + m → more ≡ xs ++ x ∷ [] → x ≡ number → AreThose is_free mid xs
-    → (new ≡ fs ++ replicate (suc m) Free) × AreThose is_free new more × (length more ≡ length xs + 1)
-new_one fs mid new xs more m number x were is numbered longer same those =
-    let long = wider_count fs mid m were in
-    let last : x ≡ length mid = same ∙ (numbered ∙ sym long) in (
-      is ∙ (ap (λ (gs : List FrameState). gs ++ Free ∷ []) were ∙ sym (more_of fs m)),
-      rw (is, longer, last) (new_last mid xs those),
-      rw longer (one_longer xs x),
-    )
 
 at_new : (fs : List FrameState) (m x : ℕ) → length fs ≤ x → x < length fs + m → frame_at (fs ++ replicate m Free) x ≡ Free
 unfolding frame_at
@@ -230,38 +206,6 @@ wider_grown fs new k back all grown =
       fresh = λ x past below.
           let inside : x < length fs + (k - back) = omega (arith, long, many, active, sum, wide, all, below) in
           stays_free _ _ (at_new fs (k - back) x past inside) (grown.each x (omega (arith, long, many, inside)));
-    }
-
--- no more are listed than there are
-pub few_listed : (p : FrameState → Bool) (fs : List FrameState) (xs : List ℕ) (n : ℕ) → IsListed p fs xs n → length xs ≤ length fs
-unfolding count_of
-few_listed p fs xs n listed = let most = count_below_le (λ x. p (frame_at fs x)) (length fs) in omega (arith, listed.counted, most)
-
--- a bank with so many new numbers
-pub wider_bank : (fs new : List FrameState) (xs listed ys back : List ℕ) (m a b i j resv : ℕ) (quota : Option ℕ) (used : ℕ)
-    → new ≡ fs ++ replicate m Free → AreThose is_free new listed → length listed ≡ length xs + m → back ≡ ys → length fs + m ≤ a
-    → length fs + m ≤ b → length fs + m < 2 ^ 32 → IsListed is_free fs xs i → IsListed is_retired fs ys j → resv ≤ length xs
-    → IsWithinQuota quota used → record {
-      free : IsListed is_free new listed a;
-      retired : IsListed is_retired new back b;
-      numbered : length new < 2 ^ 32;
-      reserved : resv ≤ length listed;
-      within : IsWithinQuota quota used;
-    }
-wider_bank fs new xs listed ys back m a b i j resv quota used is those more same a_fits b_fits fits some others reserved within =
-    let long = wider_count fs new m is in
-    let frees = ap (count_of is_free) is ∙ count_like is_free fs m refl in
-    let all = ap (count_of is_retired) is ∙ count_unlike is_retired fs m refl in
-    record {
-      free = record { those = those; counted = omega (arith, more, frees, some.counted); room = omega (arith, long, a_fits) };
-      retired = rw same (record {
-        those = rw is (those_left is_retired fs (replicate m Free) ys others.those);
-        counted = others.counted ∙ sym all;
-        room = omega (arith, long, b_fits);
-      });
-      numbered = omega (arith, long, fits);
-      reserved = omega (arith, more, reserved);
-      within = within;
     }
 
 -- one frame elsewhere, and the rest as it was

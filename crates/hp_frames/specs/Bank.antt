@@ -8,8 +8,7 @@ use Rattle.hp_frames.specs.declared.frame.FrameState.{FrameState}
 use Rattle.hp_frames.specs.declared.frame.FrameState.TheVariants.{Free, Hand, Placed, Retired}
 
 -- where each frame is; how many pages are reserved; how many are used: the reserved indices, and what calls count
--- on besides; how many may be used, where that is limited; and for how many frames the bank has taken memory,
--- over its lists
+-- on besides; how many may be used, where that is limited; and for how many frames the bank has taken memory
 pub record BankState : Type 0 where
   pub frames : List FrameState
   pub resv : ℕ
@@ -22,6 +21,12 @@ is_free Free = true
 is_free Hand = false
 is_free (Placed word) = false
 is_free Retired = false
+
+abbrev pub is_in_hand : FrameState → Bool
+is_in_hand Free = false
+is_in_hand Hand = true
+is_in_hand (Placed word) = false
+is_in_hand Retired = false
 
 abbrev pub is_retired : FrameState → Bool
 is_retired Free = false
@@ -55,6 +60,10 @@ active_frames frames = count_of is_active frames
 -- how many frames of the bank are free (Linux: `free_huge_pages`)
 abbrev pub free_count : BankState → ℕ
 free_count b = free_frames b.frames
+
+-- how many frames of the bank are in hands
+abbrev pub hand_count : BankState → ℕ
+hand_count b = count_of is_in_hand b.frames
 
 abbrev pub IsFree : BankState → ℕ → Type 0
 IsFree b x = slice_get b.frames x ≡ Some Free
@@ -104,14 +113,6 @@ abbrev pub AreThose : (holds : FrameState → Bool) → List FrameState → List
 AreThose holds frames [] = Unit {0}
 AreThose holds frames (x ∷ xs) =
     (x < length frames) × (holds (frame_at frames x) ≡ true) × (list_any (nat_eq x) xs ≡ false) × AreThose holds frames xs
-
--- what a bank keeps of a list: it has the frames of which it holds, and room for all
-abbrev pub IsListed : (holds : FrameState → Bool) → List FrameState → List ℕ → (capacity : ℕ) → Type 0
-IsListed holds frames listed capacity = record {
-  those : AreThose holds frames listed;
-  counted : length listed ≡ count_of holds frames;
-  room : length frames ≤ capacity;
-}
 
 -- k free frames more: retired ones come in first, and then new numbers
 abbrev pub HasGrown : (old new : List FrameState) → (k : ℕ) → Type 0

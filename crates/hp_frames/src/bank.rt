@@ -1,13 +1,14 @@
-//! The bank: frames, lists of the free and of the retired ones, and the counts of reserved and of used pages.
-ghost use Rattle.std.specs.Prelude.{◌≡◌, ℕ, ◌+◌, ◌-◌, ◌<◌, ◌≤◌, ◌↔◌, ◌⊎◌, false, length, slice_get, IfOk, OnOk, OnErr, IsErr, IsErrOf};
-ghost use Rattle.std.specs.Prelude.{IsTrue, replicate, Some, slice_set, ◌++◌, ◌∷◌, [], vec_capacity};
-ghost use Rattle.hp_frames.specs.Bank.{BankState, free_count, frame_at, is_free, is_retired, IsFree, InHands, HasWord, IsPlaced, with_frame};
-ghost use Rattle.hp_frames.specs.Bank.{with_resv, with_used, exceeds, is_used_up, IsWithinQuota, CanCount, AreThose};
+//! The bank: a record of each frame, and the counts of free, retired, reserved and used ones.
+ghost use Rattle.std.specs.Prelude.{◌≡◌, ℕ, ◌+◌, ◌-◌, ◌^◌, ◌<◌, ◌≤◌, ◌↔◌, ◌⊎◌, false, length, replicate, slice_set, vec_capacity};
+ghost use Rattle.std.specs.Prelude.{IfOk, OnOk, OnErr, IsErr, IsErrOf, IsTrue};
+ghost use Rattle.hp_frames.specs.Bank.{BankState, free_count, hand_count, IsFree, InHands, HasWord, IsPlaced, with_frame};
+ghost use Rattle.hp_frames.specs.Bank.{with_resv, with_used, exceeds, is_used_up, IsWithinQuota, CanCount};
 
 mod resize;
 
 use crate::fault::Fault;
 use crate::frame::FrameState;
+use crate::record::{Chain, Record, move_frame};
 use hp_base::Frame;
 use std::alloc::{AllocError, Global};
 use std::marker::Model;
@@ -38,35 +39,36 @@ impl Held {
 /// quota.
 #[derive(Drop)]
 pub struct Bank {
-    frames: Vec<FrameState>,
-    // The free frames, and the retired ones. Each list has room for all, so that a frame goes from one to the
-    // other without memory.
-    free: Vec<Frame>,
-    retired: Vec<Frame>,
+    records: Vec<Record>,
+    // The free frames, and the retired ones. They are linked through their records, so that a frame goes from
+    // one to the other without memory.
+    free: Chain,
+    retired: Chain,
+    // How many frames are in hands.
+    hands: u32,
     resv: u32,
     used: u32,
     quota: Option<u32>,
 }
 
 impl Model for Bank {
-    ghost use Rattle.std.specs.Prelude.{◌+◌, ◌^◌, ◌<◌, ◌≤◌, length, vec_capacity};
-    ghost use Rattle.hp_frames.specs.Bank.{BankState, is_free, is_retired, IsListed, IsWithinQuota};
+    ghost use Rattle.std.specs.Prelude.{◌≤◌, vec_capacity};
+    ghost use Rattle.hp_frames.specs.Bank.{BankState, IsWithinQuota};
+    ghost use Rattle.hp_frames.specs.Records.{states, IsKept};
 
     ghost Value = { BankState };
 
     ghost view = { λ b. record {
-      frames = b.frames.items;
+      frames = states b.records.items;
       resv = b.resv;
       used = b.used;
       quota = b.quota;
-      room = vec_capacity b.frames + vec_capacity b.free + vec_capacity b.retired;
+      room = vec_capacity b.records;
     } };
 
     ghost invariant = { λ b. record {
-      free : IsListed is_free b.frames.items b.free.items (vec_capacity b.free);
-      retired : IsListed is_retired b.frames.items b.retired.items (vec_capacity b.retired);
-      numbered : length b.frames.items < 2 ^ 32;
-      reserved : b.resv ≤ length b.free.items;
+      kept : IsKept b.records.items b.free b.retired b.hands;
+      reserved : b.resv ≤ b.free.count;
       within : IsWithinQuota b.quota b.used;
     } };
 }
@@ -79,19 +81,36 @@ impl Bank {
         ensures used { IfOk result (λ bank. bank.used ≡ 0) }
         ensures quota { IfOk result (λ bank. bank.quota ≡ quota) }
     {
-        let mut states = Vec::new(alloc);
-        states.resize(frames as usize, FrameState::Free)?;
-        let mut free = Vec::with_capacity(alloc, frames as usize)?;
-        for number in 0..frames {
-            free.push_reserved(Frame::new(number));
-        }
-        Ok(Bank {
-            frames: states,
-            free,
-            retired: Vec::with_capacity(alloc, frames as usize)?,
+        let mut bank = Bank {
+            records: Vec::new(alloc),
+            free: Chain::new(),
+            retired: Chain::new(),
+            hands: 0,
             resv: 0,
             used: 0,
             quota,
+        };
+        bank.widen(frames)?;
+        Ok(bank)
+    }
+
+    /// The same frames, counts and words in another bank, for which memory is taken. No frame may be in a hand,
+    /// since its token could be given back to only one of the two. A running pool keeps the bank of its last cut
+    /// so, to compare histories from there on.
+    pub fn copy(&self, alloc: Global) -> Result<Bank, AllocError>
+        requires { hand_count self.now ≡ 0 }
+        ensures { IfOk result (λ copy. copy ≡ record self.now { room = copy.room }) }
+    {
+        let mut records = Vec::with_capacity(alloc, self.records.len())?;
+        records.extend_from_slice(&self.records)?;
+        Ok(Bank {
+            records,
+            free: self.free,
+            retired: self.retired,
+            hands: self.hands,
+            resv: self.resv,
+            used: self.used,
+            quota: self.quota,
         })
     }
 
@@ -99,7 +118,15 @@ impl Bank {
     pub fn free(&self) -> u32
         ensures { result ≡ free_count self.now }
     {
-        self.free.len() as u32
+        self.free.count()
+    }
+
+    /// How many frames are in hands.
+    pub fn hands(&self) -> u32
+        ensures { result ≡ hand_count self.now }
+    {
+        let Bank { hands, .. } = self;
+        *hands
     }
 
     /// How many pages are reserved (Linux: `resv_huge_pages`).
@@ -132,8 +159,8 @@ impl Bank {
         ensures { IsTrue result ↔ IsFree self.now frame }
     {
         matches!(
-            self.frames.get(frame.number() as usize),
-            Some(FrameState::Free)
+            self.records.get(frame.number() as usize),
+            Some(Record::Free { .. })
         )
     }
 
@@ -180,21 +207,18 @@ impl Bank {
 
     /// Takes a free frame for a reservation that the caller has (Linux: `dequeue_huge_page_vma`
     /// with `gbl_chg` 0). Its word is 0 once it is placed.
-    #[tactic(auto, using(std::proofs::lemmas::Grind::common_steps, crate::proofs::Frames::set_same))]
     pub fn take_reserved(&mut self) -> Held
         requires { 1 ≤ self.old.resv }
         ensures free { IsFree self.old result }
         ensures held { InHands self.new result }
         ensures after { self.new ≡ with_resv (with_frame self.old result FrameState.Hand) (self.old.resv - 1) }
     {
-        let frame = take_free(&mut self.frames, &mut self.free, FrameState::Hand);
         self.resv -= 1;
-        Held { frame }
+        self.take_free()
     }
 
     /// Takes a free frame that nobody reserved, for a page that is used from now on. The quota is asked first,
     /// and then the frames. Its word is 0 once it is placed.
-    #[tactic(auto, using(std::proofs::lemmas::Grind::common_steps, crate::proofs::Frames::set_same))]
     pub fn take_unreserved(&mut self) -> Result<Held, Fault>
         requires { CanCount self.old 1 }
         ensures quota { IsErrOf result Fault.Quota ↔ IsTrue (is_used_up self.old.quota self.old.used) }
@@ -212,13 +236,12 @@ impl Bank {
         if self.free() == self.resv {
             return Err(Fault::NoFrame);
         }
-        let frame = take_free(&mut self.frames, &mut self.free, FrameState::Hand);
         self.used += 1;
-        Ok(Held { frame })
+        Ok(self.take_free())
     }
 
     /// The frame becomes a page, with the word 0.
-    #[tactic(auto, using(std::proofs::lemmas::Grind::common_steps, crate::proofs::Frames::set_same))]
+    #[tactic(auto, using(crate::proofs::States::places))]
     pub fn place(&mut self, held: Held) -> Frame
         requires { InHands self.old held }
         ensures same { result ≡ held }
@@ -226,29 +249,32 @@ impl Bank {
         ensures after { self.new ≡ with_frame self.old held (FrameState.Placed 0) }
     {
         let Held { frame } = held;
-        move_frame(&mut self.frames, frame, FrameState::Placed(0));
+        move_frame(&mut self.records, frame, Record::Placed(0));
+        self.hands -= 1;
         frame
     }
 
     /// The page's frame comes into the caller's hand.
-    #[tactic(auto, using(std::proofs::lemmas::Grind::common_steps, crate::proofs::Frames::set_same))]
+    #[tactic(auto, using(crate::proofs::States::places))]
     pub fn evict(&mut self, frame: Frame) -> Held
         requires { IsPlaced self.old frame }
         ensures same { result ≡ frame }
         ensures held { InHands self.new frame }
         ensures after { self.new ≡ with_frame self.old frame FrameState.Hand }
     {
-        move_frame(&mut self.frames, frame, FrameState::Hand);
-        Held { frame }
+        hold(&mut self.records, &mut self.hands, frame)
     }
 
     /// The frame is free again (Linux: `free_huge_page`).
+    #[tactic(auto, using(crate::proofs::States::places))]
     pub fn give(&mut self, held: Held)
         requires { InHands self.old held }
         ensures { self.new ≡ with_frame self.old held FrameState.Free }
     {
         let Held { frame } = held;
-        give_free(&mut self.frames, &mut self.free, frame);
+        let next = self.free.put(frame);
+        move_frame(&mut self.records, frame, Record::Free { next });
+        self.hands -= 1;
     }
 
     /// The frame is free again, and reserved (Linux: `free_huge_page` with `restore_reserve`).
@@ -256,9 +282,9 @@ impl Bank {
         requires { InHands self.old held }
         ensures { self.new ≡ with_resv (with_frame self.old held FrameState.Free) (self.old.resv + 1) }
     {
-        let Held { frame } = held;
-        give_free(&mut self.frames, &mut self.free, frame);
-        self.resv += 1;
+        let resv = self.resv + 1;
+        self.give(held);
+        self.resv = resv;
     }
 
     /// The word of a page.
@@ -266,20 +292,32 @@ impl Bank {
         requires { IsPlaced self.now frame }
         ensures { HasWord self.now frame result }
     {
-        match self.frames[frame.number() as usize] {
-            FrameState::Placed(word) => word,
-            FrameState::Free | FrameState::Hand | FrameState::Retired => unreachable!(),
+        match self.records[frame.number() as usize] {
+            Record::Placed(word) => word,
+            Record::Free { .. } | Record::Hand | Record::Retired { .. } => unreachable!(),
         }
     }
 
     /// Writes the word of a page.
-    #[tactic(auto, using(std::proofs::lemmas::Grind::common_steps, crate::proofs::Frames::set_same))]
+    #[tactic(auto, using(crate::proofs::States::places))]
     pub fn store(&mut self, frame: Frame, word: u64)
         requires { IsPlaced self.old frame }
         ensures word { HasWord self.new frame word }
         ensures after { self.new ≡ with_frame self.old frame (FrameState.Placed word) }
     {
-        move_frame(&mut self.frames, frame, FrameState::Placed(word));
+        move_frame(&mut self.records, frame, Record::Placed(word));
+    }
+
+    // A free and unreserved frame comes into the caller's hand.
+    #[tactic(auto, using(crate::proofs::States::places))]
+    fn take_free(&mut self) -> Held
+        requires { self.old.resv < free_count self.old }
+        ensures free { IsFree self.old result }
+        ensures held { InHands self.new result }
+        ensures after { self.new ≡ with_frame self.old result FrameState.Hand }
+    {
+        let frame = self.free.take(&self.records);
+        hold(&mut self.records, &mut self.hands, frame)
     }
 
     // Whether n more pages are more than the quota has left.
@@ -293,41 +331,16 @@ impl Bank {
     }
 }
 
-// The frame goes elsewhere.
-fn move_frame(frames: &mut Vec<FrameState>, frame: Frame, state: FrameState)
-    requires { frame < length frames.old.items }
-    ensures items { frames.new.items ≡ slice_set frames.old.items frame state }
-    ensures capacity { vec_capacity frames.new ≡ vec_capacity frames.old }
+// The frame comes into the caller's hand.
+fn hold(records: &mut Vec<Record>, hands: &mut u32, frame: Frame) -> Held
+    requires there { frame < length records.old.items }
+    requires few { hands.old + 1 < 2 ^ 32 }
+    ensures same { result ≡ frame }
+    ensures items { records.new.items ≡ slice_set records.old.items frame Record.Hand }
+    ensures capacity { vec_capacity records.new ≡ vec_capacity records.old }
+    ensures more { hands.new ≡ hands.old + 1 }
 {
-    frames[frame.number() as usize] = state;
-}
-
-// Takes the last of the free frames, which goes there.
-fn take_free(frames: &mut Vec<FrameState>, free: &mut Vec<Frame>, state: FrameState) -> Frame
-    requires free { AreThose is_free frames.old.items free.old.items }
-    requires some { 0 < length free.old.items }
-    ensures was_free { slice_get frames.old.items result ≡ Some FrameState.Free }
-    ensures frames { frames.new.items ≡ slice_set frames.old.items result state }
-    ensures rest { free.old.items ≡ free.new.items ++ result ∷ [] }
-    ensures capacity { vec_capacity free.new ≡ vec_capacity free.old }
-    ensures states { vec_capacity frames.new ≡ vec_capacity frames.old }
-{
-    let Some(frame) = free.pop() else {
-        unreachable!()
-    };
-    move_frame(frames, frame, state);
-    frame
-}
-
-// Puts a frame that is in a hand behind the free ones.
-fn give_free(frames: &mut Vec<FrameState>, free: &mut Vec<Frame>, frame: Frame)
-    requires hand { slice_get frames.old.items frame ≡ Some FrameState.Hand }
-    requires room { length free.old.items < vec_capacity free.old }
-    ensures frames { frames.new.items ≡ slice_set frames.old.items frame FrameState.Free }
-    ensures free { free.new.items ≡ free.old.items ++ frame ∷ [] }
-    ensures capacity { vec_capacity free.new ≡ vec_capacity free.old }
-    ensures states { vec_capacity frames.new ≡ vec_capacity frames.old }
-{
-    move_frame(frames, frame, FrameState::Free);
-    free.push_reserved(frame);
+    move_frame(records, frame, Record::Hand);
+    *hands += 1;
+    Held { frame }
 }

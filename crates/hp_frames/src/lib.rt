@@ -11,6 +11,7 @@
 pub mod bank;
 pub mod fault;
 pub mod frame;
+mod record;
 
 pub use bank::{Bank, Held};
 pub use fault::Fault;

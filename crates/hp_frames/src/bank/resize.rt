@@ -1,34 +1,41 @@
 //! A bank that grows and shrinks.
-ghost use Rattle.std.specs.Prelude.{◌≡◌, ◌↔◌, ◌+◌, ◌-◌, ◌^◌, ◌<◌, ◌≤◌, ◌++◌, ◌∷◌, [], length, slice_get, slice_set, vec_capacity};
-ghost use Rattle.std.specs.Prelude.{IfOk, IsOk, IsTrue, OnErr, OnOk, Some, replicate};
-ghost use Rattle.hp_frames.specs.Bank.{BankState, free_count, retired_frames, active_frames, is_retired, IsFree, with_frame, AreThose, HasGrown, HasShrunk};
+ghost use Rattle.std.specs.Prelude.{◌≡◌, ◌↔◌, ◌+◌, ◌-◌, ◌^◌, ◌<◌, ◌≤◌, ◌++◌, ◌∷◌, [], length, slice_get};
+ghost use Rattle.std.specs.Prelude.{IsOk, IsTrue, OnErr, OnOk, Some, replicate};
+ghost use Rattle.std.specs.Iterator.{YieldsFirst, item_count};
+ghost use Rattle.hp_frames.specs.Bank.{BankState, free_count, retired_frames, active_frames, is_retired, IsFree, with_frame};
+ghost use Rattle.hp_frames.specs.Bank.{AreThose, HasGrown, HasShrunk};
 
-use super::{Bank, move_frame, take_free};
+use super::Bank;
 use crate::frame::FrameState;
+use crate::record::{Chain, Record, move_frame};
 use hp_base::Frame;
-use std::alloc::{AllocError, Global};
+use std::alloc::AllocError;
+use std::marker::Model;
 
 impl Bank {
     /// How many frames there are with the retired ones: they are numbered from 0 on.
     pub fn numbers(&self) -> u32
         ensures { result ≡ length self.now.frames }
     {
-        self.frames.len() as u32
+        self.records.len() as u32
     }
 
     /// How many frames aren't retired (Linux: `nr_huge_pages`).
     pub fn frames(&self) -> u32
         ensures { result ≡ active_frames self.now.frames }
     {
-        (self.frames.len() - self.retired.len()) as u32
+        self.numbers() - self.retired.count()
     }
 
     /// The retired frames, in no order.
-    pub fn retired(&self) -> &[Frame]
-        ensures those { AreThose is_retired self.now.frames result.now }
-        ensures count { length result.now ≡ retired_frames self.now.frames }
+    pub fn retired(&self) -> Retired<'_>
+        ensures those { AreThose is_retired self.now.frames result }
+        ensures count { length result ≡ retired_frames self.now.frames }
     {
-        &self.retired
+        Retired {
+            records: &self.records,
+            left: self.retired,
+        }
     }
 
     /// Whether that frame is retired; false for a number that isn't there.
@@ -36,8 +43,8 @@ impl Bank {
         ensures { IsTrue result ↔ (slice_get self.now.frames frame ≡ Some FrameState.Retired) }
     {
         matches!(
-            self.frames.get(frame.number() as usize),
-            Some(FrameState::Retired)
+            self.records.get(frame.number() as usize),
+            Some(Record::Retired { .. })
         )
     }
 
@@ -50,7 +57,7 @@ impl Bank {
         ensures room { k ≤ retired_frames self.old.frames → IsOk result × (self.new.room ≡ self.old.room) }
         ensures err { OnErr result (self.new ≡ self.old) }
     {
-        let back = k.min(self.retired.len() as u32);
+        let back = k.min(self.retired.count());
         self.widen(k - back)?;
         for _ in 0..back {
             self.bring_back();
@@ -71,31 +78,33 @@ impl Bank {
     }
 
     // A retired frame is free again.
-    #[tactic(auto, using(std::proofs::lemmas::Grind::common_steps, crate::proofs::Frames::set_same))]
+    #[tactic(auto, using(crate::proofs::States::places))]
     fn bring_back(&mut self) -> Frame
         requires { 1 ≤ retired_frames self.old.frames }
         ensures retired { slice_get self.old.frames result ≡ Some FrameState.Retired }
         ensures after { self.new ≡ with_frame self.old result FrameState.Free }
     {
-        let frame = take_retired(&mut self.frames, &mut self.retired);
-        self.free.push_reserved(frame);
+        let frame = self.retired.take(&self.records);
+        let next = self.free.put(frame);
+        move_frame(&mut self.records, frame, Record::Free { next });
         frame
     }
 
     // A free and unreserved frame is retired.
-    #[tactic(auto, using(std::proofs::lemmas::Grind::common_steps, crate::proofs::Frames::set_same))]
+    #[tactic(auto, using(crate::proofs::States::places))]
     fn retire_one(&mut self) -> Frame
         requires { self.old.resv < free_count self.old }
         ensures free { IsFree self.old result }
         ensures after { self.new ≡ with_frame self.old result FrameState.Retired }
     {
-        let frame = take_free(&mut self.frames, &mut self.free, FrameState::Retired);
-        self.retired.push_reserved(frame);
+        let frame = self.free.take(&self.records);
+        let next = self.retired.put(frame);
+        move_frame(&mut self.records, frame, Record::Retired { next });
         frame
     }
 
-    // So many new numbers, of free frames. The lists are copied before the first of them changes.
-    fn widen(&mut self, more: u32) -> Result<(), AllocError>
+    // So many new numbers, of free frames. Room for all is made before the first of them comes in.
+    pub(super) fn widen(&mut self, more: u32) -> Result<(), AllocError>
         requires { length self.old.frames + more < 2 ^ 32 }
         ensures wider { OnOk result (self.new ≡ record self.old {
           frames = self.old.frames ++ replicate more FrameState.Free;
@@ -107,46 +116,57 @@ impl Bank {
         if more == 0 {
             return Ok(());
         }
-        let from = self.frames.len() as u32;
-        let room = (from + more) as usize;
-        let alloc = *self.frames.allocator();
-        let mut frames = with_room(alloc, &self.frames, room)?;
-        let mut free = with_room(alloc, &self.free, room)?;
-        let retired = with_room(alloc, &self.retired, room)?;
-        for number in from..from + more {
-            frames.push_reserved(FrameState::Free);
-            free.push_reserved(Frame::new(number));
+        self.records.reserve(more as usize)?;
+        for _ in 0..more {
+            self.add_one();
         }
-        self.frames = frames;
-        self.free = free;
-        self.retired = retired;
         Ok(())
+    }
+
+    // One more number, of a free frame. There is room for it.
+    fn add_one(&mut self)
+        requires room { length self.old.frames < self.old.room }
+        requires few { length self.old.frames + 1 < 2 ^ 32 }
+        ensures { self.new ≡ record self.old { frames = self.old.frames ++ FrameState.Free ∷ [] } }
+    {
+        let number = self.numbers();
+        let next = self.free.put(Frame::new(number));
+        self.records.push_reserved(Record::Free { next });
     }
 }
 
-// A copy with room for so many.
-fn with_room<T: Copy>(alloc: Global, items: &[T], room: usize) -> Result<Vec<T>, AllocError>
-    ensures items { IfOk result (λ copy. copy.items ≡ items.now) }
-    ensures room { IfOk result (λ copy. room ≤ vec_capacity copy) }
-{
-    let mut copy = Vec::with_capacity(alloc, room)?;
-    copy.extend_from_slice(items)?;
-    Ok(copy)
+/// The retired frames of a bank, in no order.
+#[derive(Drop)]
+pub struct Retired<'a> {
+    records: &'a [Record],
+    left: Chain,
 }
 
-// Takes the last of the retired frames, which is free now.
-fn take_retired(frames: &mut Vec<FrameState>, retired: &mut Vec<Frame>) -> Frame
-    requires retired { AreThose is_retired frames.old.items retired.old.items }
-    requires some { 0 < length retired.old.items }
-    ensures was_retired { slice_get frames.old.items result ≡ Some FrameState.Retired }
-    ensures frames { frames.new.items ≡ slice_set frames.old.items result FrameState.Free }
-    ensures rest { retired.old.items ≡ retired.new.items ++ result ∷ [] }
-    ensures capacity { vec_capacity retired.new ≡ vec_capacity retired.old }
-    ensures states { vec_capacity frames.new ≡ vec_capacity frames.old }
-{
-    let Some(frame) = retired.pop() else {
-        unreachable!()
-    };
-    move_frame(frames, frame, FrameState::Free);
-    frame
+impl<'a> Model for Retired<'a> {
+    ghost use Rattle.std.specs.Prelude.{◌≡◌, List, ℕ, length};
+    ghost use Rattle.hp_frames.specs.Records.{chained, AreLinked, AreWithin};
+
+    ghost Value = { List ℕ };
+
+    ghost view = { λ r. chained r.records.now r.left.count r.left.first };
+
+    ghost invariant = { λ r. record {
+      within : AreWithin (length r.records.now) (chained r.records.now r.left.count r.left.first);
+      counted : length (chained r.records.now r.left.count r.left.first) ≡ r.left.count;
+    } };
+}
+
+impl<'a> Iterator for Retired<'a> {
+    type Item = Frame;
+
+    ghost next_gives = { YieldsFirst (λ frames. frames) };
+
+    ghost remaining = { item_count (λ frames. frames) };
+
+    fn next(&mut self) -> Option<Frame> {
+        if self.left.count() == 0 {
+            return None;
+        }
+        Some(self.left.take(self.records))
+    }
 }

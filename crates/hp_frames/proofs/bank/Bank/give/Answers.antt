@@ -1,28 +1,30 @@
-use Rattle.std.proofs.Common.{◌≡◌, ℕ, slice_get, sym, subst, arith, Some, refl}
-use Rattle.hp_frames.specs.declared.frame.FrameState.TheVariants.{Free, Hand}
-use Rattle.hp_frames.specs.Bank.{BankState, is_free, is_retired}
-use Rattle.std.proofs.lemmas.List.{length-set}
-use Rattle.hp_frames.proofs.Frames.{given, moved, has_room}
+use Rattle.std.proofs.Common.{◌≡◌, ◌+◌, ◌-◌, arith, refl}
+use Rattle.hp_frames.specs.declared.frame.FrameState.TheVariants.{Hand}
+use Rattle.hp_frames.specs.Bank.{is_free}
+use Rattle.hp_frames.proofs.Frames.{held_place}
+use Rattle.hp_frames.proofs.Kept.{given_kept, one_short, some_hand}
 use Rattle.hp_frames.proofs.bank.Bank.give.Goals as goal
 
-pub give_free-requires-clause-room : goal.give_free-requires-clause-room
-give_free-requires-clause-room c =
-    let was : slice_get c.self.inside.frames.items c.held.inside.frame ≡ Some Hand =
-    subst (λ (b : BankState). slice_get b.frames c.held.inside.frame ≡ Some Hand) (sym c.self.view_is)
-    (subst (λ (f : ℕ). slice_get c.args.self.now.frames f ≡ Some Hand) (sym c.held.view_is) c.requires) in
-    has_room is_free _ _ _ _ Hand was refl c.self.invariant.free
+pub put-next-requires : goal.put-next-requires
+put-next-requires c =
+    let was = held_place _ _ _ _ c.self.view_is c.held.view_is c.requires in
+    let short = one_short is_free c.self.inside.records.items _ Hand was refl in
+    omega (arith, short, c.self.invariant.kept.free.counted, c.self.invariant.kept.numbered)
+
+pub overflow_sub-self : goal.overflow_sub-self
+overflow_sub-self c =
+    let was = held_place _ _ _ _ c.self.view_is c.held.view_is c.requires in
+    let some = some_hand c.self.inside.records.items _ was in
+    omega (arith, some, c.self.invariant.kept.in_hands)
 
 pub invariant_of-self : goal.invariant_of-self
 invariant_of-self c =
-    let was : slice_get c.self.inside.frames.items c.held.inside.frame ≡ Some Hand =
-    subst (λ (b : BankState). slice_get b.frames c.held.inside.frame ≡ Some Hand) (sym c.self.view_is)
-    (subst (λ (f : ℕ). slice_get c.args.self.now.frames f ≡ Some Hand) (sym c.held.view_is) c.requires) in
-    let after = given is_free _ _ _ _ _ _ _ Hand Free c.give_free.ensures.frames c.give_free.ensures.free c.give_free.ensures.capacity
-    was refl refl c.self.invariant.free in
+    let was = held_place _ _ _ _ c.self.view_is c.held.view_is c.requires in
+    let some = some_hand c.self.inside.records.items _ was in
+    let fewer : c.self.inside.hands - 1 + 1 ≡ c.self.inside.hands = omega (arith, some, c.self.invariant.kept.in_hands) in
+    let put = c.put-next.ensures in
     record {
-      free = after.0;
-      retired = moved is_retired _ _ _ _ _ Hand Free c.give_free.ensures.frames was refl refl c.self.invariant.retired;
-      numbered = rw (c.give_free.ensures.frames, length-set) c.self.invariant.numbered;
-      reserved = omega (arith, after.1, c.self.invariant.reserved);
+      kept = given_kept _ _ _ _ _ _ _ _ _ c.move_frame.ensures.items was put.next put.first put.count fewer c.self.invariant.kept;
+      reserved = omega (arith, put.count, c.self.invariant.reserved);
       within = c.self.invariant.within;
     }

@@ -2,26 +2,23 @@ use Rattle.std.proofs.Common.{◌≡◌, ◌∙◌, ◌-◌, ℕ, ap, arith, len
 use Rattle.hp_frames.specs.declared.frame.FrameState.{FrameState}
 use Rattle.hp_frames.specs.declared.frame.FrameState.TheVariants.{Free}
 use Rattle.hp_frames.specs.Bank.{BankState, retired_frames, is_retired, HasGrown}
-use Rattle.hp_frames.proofs.Frames.{few}
+use Rattle.hp_frames.specs.Records.{states}
+use Rattle.hp_frames.proofs.States.{many}
 use Rattle.hp_frames.proofs.Resizing.{active_and_retired, count_unlike, more_back, none_grown, one_back, same_rest, wider_grown}
 use Rattle.hp_frames.proofs.bank.Bank.grow.Goals as goal
 
-pub overflow_cast-len : goal.overflow_cast-len
-overflow_cast-len c =
-    let fits = few is_retired _ _ _ c.self.invariant.numbered c.self.invariant.retired in omega (arith, fits, c.len.ensures)
-
 -- the retired frames that are listed are those of the state
-listed : (c : goal.After-widen-arg-1) → c.len.result ≡ retired_frames c.args.self.now.frames
+listed : (c : goal.After-widen-arg-1) → c.count.result ≡ retired_frames c.args.self.now.frames
 listed c =
-    let same : retired_frames c.self.inside.frames.items ≡ retired_frames c.args.self.now.frames =
+    let same : retired_frames (states c.self.inside.records.items) ≡ retired_frames c.args.self.now.frames =
     ap (λ (b : BankState). retired_frames b.frames) c.self.view_is in
-    omega (arith, c.len.ensures, c.self.invariant.retired.counted, same)
+    omega (arith, c.count.ensures, c.self.invariant.kept.retired.counted, same)
 
 pub widen-requires : goal.widen-requires
 widen-requires c =
     let all = active_and_retired c.args.self.now.frames in
-    let long : length c.self.inside.frames.items ≡ length c.args.self.now.frames = ap (λ (b : BankState). length b.frames) c.self.view_is in
-    omega (arith, all, listed c, c.min-back.ensures, c.requires, long, c.self.invariant.numbered)
+    let long : length (states c.self.inside.records.items) ≡ length c.args.self.now.frames = ap (λ (b : BankState). length b.frames) c.self.view_is in
+    omega (arith, all, listed c, c.min-back.ensures, c.requires, long, c.self.invariant.kept.numbered, many c.self.inside.records.items)
 
 pub loop-init : goal.loop-init
 loop-init c = record { grown = none_grown _; retired = omega arith; rest = refl }
@@ -31,14 +28,14 @@ bring_back-requires c =
     let wider : retired_frames c.widen.new.self.frames ≡ retired_frames c.args.self.now.frames =
     ap (λ (b : BankState). retired_frames b.frames) c.in_ok-widen.ensures.wider
     ∙ count_unlike is_retired c.args.self.now.frames (c.args.k - c.min-back.result) refl in
-    let same : retired_frames c.self.inside.frames.items ≡ retired_frames c.args.self.now.frames =
+    let same : retired_frames (states c.self.inside.records.items) ≡ retired_frames c.args.self.now.frames =
     ap (λ (b : BankState). retired_frames b.frames) c.self.view_is in
     omega (
       arith,
       wider,
       same,
-      c.len.ensures,
-      c.self.invariant.retired.counted,
+      c.count.ensures,
+      c.self.invariant.kept.retired.counted,
       c.min-back.ensures,
       c.loop-test.true,
       c.loop.invariant.retired,
@@ -58,14 +55,14 @@ loop-preserved c =
 
 pub returns-clause-grown : goal.returns-clause-grown
 returns-clause-grown c =
-    let same : retired_frames c.self.inside.frames.items ≡ retired_frames c.args.self.now.frames =
+    let same : retired_frames (states c.self.inside.records.items) ≡ retired_frames c.args.self.now.frames =
     ap (λ (b : BankState). retired_frames b.frames) c.self.view_is in
     let grown : HasGrown c.widen.new.self.frames c.loop.self.frames c.min-back.result = subst
     (λ (n : ℕ). HasGrown c.widen.new.self.frames c.loop.self.frames n)
     (omega (arith, c.loop-test.false, c.loop.auto.counter-end))
     c.loop.invariant.grown in
     wider_grown c.args.self.now.frames c.loop.self.frames c.args.k c.min-back.result
-    (omega (arith, same, c.len.ensures, c.self.invariant.retired.counted, c.min-back.ensures))
+    (omega (arith, same, c.count.ensures, c.self.invariant.kept.retired.counted, c.min-back.ensures))
     (subst
     (λ (fs : List FrameState). HasGrown fs c.loop.self.frames c.min-back.result)
     (ap (λ (b : BankState). b.frames) c.in_ok-widen.ensures.wider)
@@ -78,7 +75,7 @@ returns-clause-rest c =
 
 pub returns-clause-room : goal.returns-clause-room
 returns-clause-room c enough =
-    let same : retired_frames c.self.inside.frames.items ≡ retired_frames c.args.self.now.frames =
+    let same : retired_frames (states c.self.inside.records.items) ≡ retired_frames c.args.self.now.frames =
     ap (λ (b : BankState). retired_frames b.frames) c.self.view_is in
-    let none : c.args.k - c.min-back.result ≡ 0 = omega (arith, same, enough, c.len.ensures, c.self.invariant.retired.counted, c.min-back.ensures) in
+    let none : c.args.k - c.min-back.result ≡ 0 = omega (arith, same, enough, c.count.ensures, c.self.invariant.kept.retired.counted, c.min-back.ensures) in
     (refl, ap (λ (b : BankState). b.room) c.loop.invariant.rest ∙ (c.in_ok-widen.ensures.room none).1)

@@ -1,19 +1,23 @@
-use Rattle.std.proofs.lemmas.List.{length-set}
-use Rattle.std.proofs.Common.{◌≡◌, ℕ, slice_get, sym, subst, Some, refl}
-use Rattle.hp_frames.specs.declared.frame.FrameState.TheVariants.{Hand, Placed}
-use Rattle.hp_frames.specs.Bank.{BankState, is_free, is_retired}
-use Rattle.hp_frames.proofs.Frames.{moved}
+use Rattle.std.proofs.Common.{◌≡◌, ◌+◌, ◌-◌, arith, refl}
+use Rattle.hp_frames.specs.declared.frame.FrameState.TheVariants.{Hand}
+use Rattle.hp_frames.specs.declared.record.Record.TheVariants.{Placed}
+use Rattle.hp_frames.proofs.Frames.{held_place}
+use Rattle.hp_frames.proofs.Kept.{moved_kept, some_hand}
 use Rattle.hp_frames.proofs.bank.Bank.place.Goals as goal
+
+pub overflow_sub-self : goal.overflow_sub-self
+overflow_sub-self c =
+    let was = held_place _ _ _ _ c.self.view_is c.held.view_is c.requires in
+    let some = some_hand c.self.inside.records.items _ was in
+    omega (arith, some, c.self.invariant.kept.in_hands)
 
 pub invariant_of-self : goal.invariant_of-self
 invariant_of-self c =
-    let was : slice_get c.self.inside.frames.items c.held.inside.frame ≡ Some Hand =
-    subst (λ (b : BankState). slice_get b.frames c.held.inside.frame ≡ Some Hand) (sym c.self.view_is)
-    (subst (λ (f : ℕ). slice_get c.args.self.now.frames f ≡ Some Hand) (sym c.held.view_is) c.requires) in
+    let was = held_place _ _ _ _ c.self.view_is c.held.view_is c.requires in
+    let some = some_hand c.self.inside.records.items _ was in
+    let fewer : c.self.inside.hands - 1 + 1 ≡ c.self.inside.hands + 0 = omega (arith, some, c.self.invariant.kept.in_hands) in
     record {
-      free = moved is_free _ _ _ _ _ Hand (Placed 0) c.move_frame.ensures.items was refl refl c.self.invariant.free;
-      retired = moved is_retired _ _ _ _ _ Hand (Placed 0) c.move_frame.ensures.items was refl refl c.self.invariant.retired;
-      numbered = rw (c.move_frame.ensures.items, length-set) c.self.invariant.numbered;
+      kept = moved_kept _ _ _ _ _ _ _ Hand (Placed 0) c.move_frame.ensures.items was refl refl refl refl fewer c.self.invariant.kept;
       reserved = c.self.invariant.reserved;
       within = c.self.invariant.within;
     }

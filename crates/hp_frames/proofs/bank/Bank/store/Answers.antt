@@ -1,18 +1,16 @@
-use Rattle.std.proofs.lemmas.List.{length-set}
-use Rattle.std.proofs.Common.{◌≡◌, slice_get, sym, subst, Some, refl}
+use Rattle.std.proofs.Common.{refl}
 use Rattle.hp_frames.specs.declared.frame.FrameState.TheVariants.{Placed}
-use Rattle.hp_frames.specs.Bank.{BankState, is_free, is_retired}
-use Rattle.hp_frames.proofs.Frames.{moved}
+use Rattle.hp_frames.specs.declared.record.Record.TheVariants as kept_as
+use Rattle.hp_frames.proofs.Frames.{same_place}
+use Rattle.hp_frames.proofs.Kept.{moved_kept}
 use Rattle.hp_frames.proofs.bank.Bank.store.Goals as goal
 
 pub invariant_of-self : goal.invariant_of-self
 invariant_of-self c =
-    let was : slice_get c.self.inside.frames.items c.args.frame ≡ Some (Placed c.requires.0) =
-    subst (λ (b : BankState). slice_get b.frames c.args.frame ≡ Some (Placed c.requires.0)) (sym c.self.view_is) c.requires.1 in
+    let was = same_place _ _ c.args.frame (Placed c.requires.0) c.self.view_is c.requires.1 in
     record {
-      free = moved is_free _ _ _ _ _ (Placed c.requires.0) (Placed c.args.word) c.move_frame.ensures.items was refl refl c.self.invariant.free;
-      retired = moved is_retired _ _ _ _ _ (Placed c.requires.0) (Placed c.args.word) c.move_frame.ensures.items was refl refl c.self.invariant.retired;
-      numbered = rw (c.move_frame.ensures.items, length-set) c.self.invariant.numbered;
+      kept = moved_kept _ _ _ _ _ _ _ (Placed c.requires.0) (kept_as.Placed c.args.word) c.move_frame.ensures.items was refl refl
+          refl refl refl c.self.invariant.kept;
       reserved = c.self.invariant.reserved;
       within = c.self.invariant.within;
     }
