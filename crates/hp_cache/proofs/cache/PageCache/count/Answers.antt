@@ -1,28 +1,23 @@
-use Rattle.std.proofs.Common.{◌≡◌, length, ◌∙◌, arith}
+use Rattle.std.proofs.Common.{◌≡◌, ℕ, sym, ap, ◌∙◌, arith}
+use Rattle.std.specs.Prelude.{is_some}
+use Rattle.std.specs.FinMap as map
 use Rattle.hp_base.specs.declared.limits.TheConstants.{LIMIT}
-use Rattle.hp_cache.proofs.Maps.{as_seen, length-keys, length_le_limit}
+use Rattle.hp_base.proofs.Counting.{count_below-ext, count_below_le}
+use Rattle.hp_cache.specs.Cached.{Cached}
+use Rattle.hp_cache.specs.Chunks.{frame_of}
+use Rattle.hp_cache.proofs.Frames.{chunks_end}
+use Rattle.hp_cache.proofs.Tables.{get-seen}
 use Rattle.hp_cache.proofs.cache.PageCache.count.Goals as goal
-
-pub overflow_cast-result : goal.overflow_cast-result
-overflow_cast-result c =
-    omega (
-      arith,
-      c.len.ensures,
-      length_le_limit LIMIT c.self.inside.pages.items c.args.self.now.pages (as_seen _ c.self.invariant.in_order c.self.view_is)
-          c.self.invariant.in_file,
-    )
 
 pub returns-clause-count : goal.returns-clause-count
 returns-clause-count c =
-    let pages = c.self.inside.pages.items in
-    let all : c.len.result ≡ length pages = omega (arith, c.len.ensures) in
-    all ∙ length-keys LIMIT pages c.args.self.now.pages (as_seen _ c.self.invariant.in_order c.self.view_is) c.self.invariant.in_file
+    let chunks = c.self.inside.chunks in
+    let seen = get-seen (frame_of chunks) LIMIT c.args.self.now.pages (ap (λ (v : Cached). v.pages) c.self.view_is)
+    (chunks_end chunks c.self.invariant.whole) in
+    c.self.invariant.counted
+    ∙ count_below-ext (λ i. is_some (frame_of chunks i)) (λ i. is_some (map.get c.args.self.now.pages i)) LIMIT
+    (λ i below. ap is_some (sym (seen i)))
 
 pub returns-clause-in_limit : goal.returns-clause-in_limit
 returns-clause-in_limit c =
-    omega (
-      arith,
-      c.len.ensures,
-      length_le_limit LIMIT c.self.inside.pages.items c.args.self.now.pages (as_seen _ c.self.invariant.in_order c.self.view_is)
-          c.self.invariant.in_file,
-    )
+    omega (arith, c.self.invariant.counted, count_below_le (λ i. is_some (frame_of c.self.inside.chunks i)) LIMIT)
