@@ -46,7 +46,7 @@ module _ {X : Type 0} where
       ]
 
 -- a place with a frame is counted
-pub counted_there : (places : Places) (k : ℕ) → is_some (get_or places k None) ≡ true → HasFrame places
+counted_there : (places : Places) (k : ℕ) → is_some (get_or places k None) ≡ true → HasFrame places
 counted_there places k there =
     elim (cases_lt 0 (count_by is_some places)) [
       | inl some ↦ some
@@ -77,10 +77,11 @@ bare = replicate 64 None
 -- a chunk is kept with its first frame
 pub kept_first : (place frame : ℕ) → place < 64 → (length (set bare place (Some frame)) ≡ 64) × HasFrame (set bare place (Some frame))
 kept_first place frame within =
-    let long : length bare ≡ 64 = length-replicate {A = Option ℕ} 64 None in
-    (length-set bare place (Some frame) ∙ long,
-     counted_there (set bare place (Some frame)) place
-     (ap is_some (get_or-set_same bare place (Some frame) None (omega (arith, long)))))
+    let long : length bare ≡ 64 = length-replicate {A = Option ℕ} 64 None in (
+      length-set bare place (Some frame) ∙ long,
+      counted_there (set bare place (Some frame)) place
+          (ap is_some (get_or-set_same bare place (Some frame) None (omega (arith, long)))),
+    )
 
 listed-append : (first : ℕ) (places more : Places) → listed first (places ++ more) ≡ listed first places ++ listed (first + length places) more
 listed-append first [] more = ap (λ n. listed n more) (omega arith)

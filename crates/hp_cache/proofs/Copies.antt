@@ -1,14 +1,12 @@
 -- Chunks that have the same places, in memory of their own.
-use Rattle.std.proofs.Common.{◌≡◌, ℕ, ◌+◌, ◌/◌, ◌%◌, ◌<◌, ◌≤◌, List, Option, None, Some, length, get_or, set, refl, sym, ap, subst, ◌∙◌}
+use Rattle.std.proofs.Common.{◌≡◌, ℕ, ◌/◌, ◌%◌, ◌<◌, ◌≤◌, List, Option, None, Some, length, refl, sym, ap, ◌∙◌}
 use Rattle.std.proofs.Common.{arith, inl, inr}
 use Rattle.std.specs.Prelude.{All, is_some}
-use Rattle.std.specs.Global.{Box}
 use Rattle.std.specs.Option.{option_map}
-use Rattle.std.proofs.lemmas.Bool.{cases_eq, cases_lt}
-use Rattle.std.proofs.lemmas.List.{get_or_default, get_or_past, get_or-set_same, get_or-set_other, length-set}
+use Rattle.std.proofs.lemmas.Bool.{cases_lt}
+use Rattle.std.proofs.lemmas.List.{get_or_default, get_or_past}
 use Rattle.hp_base.proofs.Counting.{count_below-ext}
-use Rattle.hp_cache.specs.Cached.{Cached}
-use Rattle.hp_cache.specs.Chunks.{Places, Slot, IsKept, frame_in, frame_of, map_below, seen_as}
+use Rattle.hp_cache.specs.Chunks.{Places, Slot, IsKept, frame_in, frame_of, map_below}
 use Rattle.hp_cache.proofs.Frames.{slot_at, frame_of-is, chunks_end}
 use Rattle.hp_cache.proofs.Tables.{map_below-ext}
 use Rattle.hp_cache.proofs.Views.{page_count}
@@ -33,35 +31,6 @@ pub record IsCopyBelow (copies chunks : List Slot) (at : ℕ) : Type 0 where
   pub whole : length copies ≡ 64
   pub same : (k : ℕ) → k < at → places_of (slot_at copies k) ≡ places_of (slot_at chunks k)
   pub none : (k : ℕ) → at ≤ k → slot_at copies k ≡ None
-
--- one more is copied
-pub copy_more : (copies chunks : List Slot) (at : ℕ) (slot : Slot) → at < 64 → IsCopyBelow copies chunks at
-    → places_of slot ≡ places_of (slot_at chunks at) → IsCopyBelow (set copies at slot) chunks (at + 1)
-copy_more copies chunks at slot within copy same = record {
-  whole = length-set copies at slot ∙ copy.whole;
-  same = λ k below.
-      elim (cases_eq k at) [
-        | inl e ↦
-            let long : at < length copies = omega (arith, copy.whole) in
-            rw (e, get_or-set_same copies at slot None long) same
-        | inr other ↦ rw (get_or-set_other copies at k slot None other) (copy.same k (omega arith))
-      ];
-  none = λ k past.
-      let other : k ≡ at → ⊥ = λ e. omega arith in
-      get_or-set_other copies at k slot None other ∙ copy.none k (omega arith);
-}
-
--- nothing is there to copy
-pub copy_none : (copies chunks : List Slot) (at : ℕ) → IsCopyBelow copies chunks at → slot_at chunks at ≡ None → IsCopyBelow copies chunks (at + 1)
-copy_none copies chunks at copy gone = record {
-  whole = copy.whole;
-  same = λ k below.
-      elim (cases_eq k at) [
-        | inl e ↦ rw (e, gone, copy.none at (omega arith)) refl
-        | inr other ↦ copy.same k (omega arith)
-      ];
-  none = λ k past. copy.none k (omega arith);
-}
 
 -- once all are copied, the frames are the same
 module _ (copies chunks : List Slot) (copy : IsCopyBelow copies chunks 64) (whole : length chunks ≡ 64) where

@@ -1,17 +1,16 @@
 -- The frame of each index, as the chunks keep it.
-use Rattle.std.proofs.Common.{◌≡◌, ℕ, ◌+◌, ◌*◌, ◌/◌, ◌%◌, ◌<◌, ◌≤◌, Bool, true, false, cond, List, Option, None, Some, length, get_or, set}
+use Rattle.std.proofs.Common.{◌≡◌, ℕ, ◌+◌, ◌*◌, ◌/◌, ◌%◌, ◌<◌, ◌≤◌, true, List, Option, None, Some, length, get_or, set}
 use Rattle.std.proofs.Common.{refl, sym, ap, ◌∙◌, arith, inl, inr, true≢false}
-use Rattle.std.specs.Prelude.{All, is_some, count_by, nat_eq}
-use Rattle.std.proofs.lemmas.Bool.{cases_eq, cases_lt, cases_Bool}
+use Rattle.std.specs.Prelude.{is_some}
+use Rattle.std.proofs.lemmas.Bool.{cases_eq, cases_lt}
 use Rattle.std.proofs.lemmas.Bool.Decides.{nat_tests}
 use Rattle.std.proofs.lemmas.List.{get_or_past, get_or-set_same, get_or-set_other}
-use Rattle.std.proofs.lemmas.List.Sums.{sum_by-set}
 use Rattle.std.proofs.lemmas.Nat.{div-mul-add, mod-mul-add}
 use Rattle.hp_base.specs.Indices.{count_below}
 use Rattle.hp_base.specs.Numbers.{put}
 use Rattle.hp_base.specs.Pages.{IsPagesEnd}
-use Rattle.hp_base.proofs.Counting.{count_below_one, count_below_none}
-use Rattle.hp_cache.specs.Chunks.{Slot, IsKept, frame_in, frame_of, room_of}
+use Rattle.hp_base.proofs.Counting.{count_below_one}
+use Rattle.hp_cache.specs.Chunks.{Slot, frame_in, frame_of}
 use Rattle.hp_cache.proofs.Tables.{EndsBy}
 
 -- the chunk of an index
@@ -58,18 +57,6 @@ frame_of-set chunks index slot frame within differs q =
       | inr other ↦
           rw (get_or-set_other chunks (index / 64) (q / 64) slot None other) (grind (arith, nat_tests))
     ]
-
--- 1 for a chunk that is there
-abbrev one : Slot → ℕ
-one slot = cond (is_some slot) 1 0
-
--- where a chunk goes or is kept, no more memory is taken
-pub room_of-set : (chunks : List Slot) (at : ℕ) (slot : Slot) → at < length chunks → one slot ≤ one (slot_at chunks at)
-    → room_of (set chunks at slot) ≤ room_of chunks
-room_of-set chunks at slot within le =
-    let e = sum_by-set one chunks at slot None within in
-    let fewer : count_by is_some (set chunks at slot) ≤ count_by is_some chunks = omega (arith, e, le) in
-    omega (arith, fewer)
 
 -- one page more
 pub count_of-more : (before after : ℕ → Option ℕ) (index frame limit : ℕ) → index < limit → before index ≡ None

@@ -59,7 +59,7 @@ entries-map_below values (suc n) =
     ∙ ap (λ es. es ++ page_at n (values n)) rest
 
 -- places that have the function's values, from a first index on
-pub pages_below-listed : (values : ℕ → Option ℕ) (first : ℕ) (places : Places)
+pages_below-listed : (values : ℕ → Option ℕ) (first : ℕ) (places : Places)
     → ((k : ℕ) → k < length places → values (first + k) ≡ get_or places k None)
     → pages_below values (first + length places) ≡ pages_below values first ++ listed first places
 unfolding pages_below
@@ -77,7 +77,7 @@ pages_below-listed values first (place ∷ places) same =
     ∙ append_assoc (pages_below values first) (page_at first place) (listed (suc first) places)
 
 -- and where it has none, nothing is listed
-pub pages_below_none : (values : ℕ → Option ℕ) (first n : ℕ) → ((k : ℕ) → k < n → values (first + k) ≡ None)
+pages_below_none : (values : ℕ → Option ℕ) (first n : ℕ) → ((k : ℕ) → k < n → values (first + k) ≡ None)
     → pages_below values (first + n) ≡ pages_below values first
 unfolding pages_below
 pages_below_none values first zero none = let e : first + 0 ≡ first = omega arith in rw e refl

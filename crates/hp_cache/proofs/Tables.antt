@@ -1,19 +1,14 @@
 -- A finite map that has the values of a function below a limit.
-use Rattle.std.proofs.Common.{◌≡◌, ℕ, suc, zero, ◌+◌, ◌<◌, ◌≤◌, true, false, List, [], ◌∷◌, ◌++◌, Option, None, Some, length}
-use Rattle.std.proofs.Common.{get_or, refl, sym, ap, ◌∙◌, arith, inl, inr}
-use Rattle.std.specs.Prelude.{All, is_some}
+use Rattle.std.proofs.Common.{◌≡◌, ℕ, suc, zero, ◌<◌, ◌≤◌, Option, None, Some}
+use Rattle.std.proofs.Common.{refl, sym, ap, ◌∙◌, arith, inl, inr}
 use Rattle.std.specs.Ordering.{nat_cmp}
 use Rattle.std.specs.Cmp.{nat_cmp_total}
 use Rattle.std.specs.FinMap as map
 use Rattle.std.proofs.lemmas.Bool.{cases_eq, cases_lt}
 use Rattle.std.proofs.lemmas.Bool.Decides.{nat_tests}
-use Rattle.std.proofs.lemmas.List.{append-nil, append_assoc}
-use Rattle.std.proofs.lemmas.List.Elements.{All-append}
-use Rattle.hp_base.specs.Indices.{count_below}
 use Rattle.hp_base.specs.Numbers.{put}
 use Rattle.hp_base.specs.Pages.{IsPagesEnd}
-use Rattle.hp_base.proofs.Counting.{count_below_one}
-use Rattle.hp_cache.specs.Chunks.{Places, page_at, listed, with_value, map_below}
+use Rattle.hp_cache.specs.Chunks.{with_value, map_below}
 
 abbrev Pages : Type 0
 Pages = map.FinMap nat_cmp ℕ
@@ -46,7 +41,7 @@ abbrev pub EndsBy : (ℕ → Option ℕ) → ℕ → Type 0
 EndsBy values limit = (q : ℕ) → limit ≤ q → values q ≡ None
 
 -- the map answers as the function does
-pub get-map_below : (values : ℕ → Option ℕ) (limit : ℕ) → EndsBy values limit → (q : ℕ) → map.get (map_below values limit) q ≡ values q
+get-map_below : (values : ℕ → Option ℕ) (limit : ℕ) → EndsBy values limit → (q : ℕ) → map.get (map_below values limit) q ≡ values q
 get-map_below values limit ends q =
     elim (cases_lt q limit) [
       | inl below ↦ get_below values limit q below

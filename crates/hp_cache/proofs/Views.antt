@@ -1,16 +1,15 @@
 -- What a cache is seen as, by its chunks: where it is read, and where one place of a chunk is written.
 use Rattle.std.proofs.Common.{◌≡◌, ℕ, ◌+◌, ◌/◌, ◌%◌, ◌<◌, ◌≤◌, true, List, Option, None, Some, length, get_or, set, sym, ap, ◌∙◌, arith, inl, inr, true≢false}
 use Rattle.std.proofs.lemmas.Bool.{cases_lt}
-use Rattle.std.specs.Prelude.{All, is_some, IsSome}
+use Rattle.std.specs.Prelude.{is_some}
 use Rattle.std.specs.FinMap as map
-use Rattle.std.proofs.lemmas.List.{get_or_default, length-set}
-use Rattle.std.proofs.lemmas.List.Elements.{All-set}
+use Rattle.std.proofs.lemmas.List.{get_or_default}
 use Rattle.hp_base.specs.Indices.{count_below}
 use Rattle.hp_base.specs.Numbers.{put}
 use Rattle.hp_base.specs.Pages.{IsPagesEnd}
 use Rattle.hp_base.proofs.Counting.{count_below_le}
 use Rattle.hp_cache.specs.Cached.{Cached}
-use Rattle.hp_cache.specs.Chunks.{Slot, IsKept, frame_in, frame_of, map_below, room_of, seen_as}
+use Rattle.hp_cache.specs.Chunks.{Slot, frame_in, frame_of, map_below, seen_as}
 use Rattle.hp_cache.proofs.Frames.{slot_at, frame_of_slot, frame_of-set, chunks_end, count_of-more, count_of-less}
 use Rattle.hp_cache.proofs.Tables.{get-seen, end_seen, map_below-insert, map_below-remove}
 
@@ -21,12 +20,17 @@ page_count chunks = count_below (λ i. is_some (frame_of chunks i)) 4096
 pub page_count_le : (chunks : List Slot) → page_count chunks ≤ 4096
 page_count_le chunks = count_below_le (λ i. is_some (frame_of chunks i)) 4096
 
-module _ (chunks : List Slot) (cached : Cached) (is : seen_as chunks ≡ cached) (whole : length chunks ≡ 64) where
+-- a cache's chunks, and what it is seen as
+pub record Shows (chunks : List Slot) (cached : Cached) : Type 0 where
+  pub is : seen_as chunks ≡ cached
+  pub whole : length chunks ≡ 64
+
+module _ {chunks : List Slot} {cached : Cached} (shows : Shows chunks cached) where
   same_pages : map_below (frame_of chunks) 4096 ≡ cached.pages
-  same_pages = ap (λ (v : Cached). v.pages) is
+  same_pages = ap (λ (v : Cached). v.pages) shows.is
 
   pub get_frame : (index : ℕ) → map.get cached.pages index ≡ frame_of chunks index
-  get_frame = get-seen (frame_of chunks) 4096 cached.pages same_pages (chunks_end chunks whole)
+  get_frame = get-seen (frame_of chunks) 4096 cached.pages same_pages (chunks_end chunks shows.whole)
 
   pub get_slot : (index : ℕ) (slot : Slot) → slot_at chunks (index / 64) ≡ slot → map.get cached.pages index ≡ frame_in slot (index % 64)
   get_slot index slot at = get_frame index ∙ frame_of_slot chunks index slot at
@@ -36,31 +40,29 @@ module _ (chunks : List Slot) (cached : Cached) (is : seen_as chunks ≡ cached)
   present_below index there =
       elim (cases_lt index 4096) [
         | inl below ↦ below
-        | inr past ↦ absurd (true≢false (sym there ∙ ap is_some (get_frame index ∙ chunks_end chunks whole index past)))
+        | inr past ↦ absurd (true≢false (sym there ∙ ap is_some (get_frame index ∙ chunks_end chunks shows.whole index past)))
       ]
 
   pub end_of : (end : ℕ) → IsPagesEnd (frame_of chunks) end → IsPagesEnd (map.get cached.pages) end
-  end_of = end_seen (frame_of chunks) 4096 cached.pages same_pages (chunks_end chunks whole)
+  end_of = end_seen (frame_of chunks) 4096 cached.pages same_pages (chunks_end chunks shows.whole)
+
+  -- what the slot of an index has at its place
+  pub slot_read : (index : ℕ) (d : Slot) → index < 4096
+      → frame_in (get_or chunks (index / 64) d) (index % 64) ≡ map.get cached.pages index
+  slot_read index d below =
+      sym (get_slot index (get_or chunks (index / 64) d)
+      (get_or_default chunks (index / 64) None d (omega (arith, shows.whole, below))))
 
   -- a chunk is written that differs at the place of an index
   module _ (index : ℕ) (slot d : Slot) (below : index < 4096) where
     abbrev Writes : Option ℕ → Type 0
     Writes frame = (k : ℕ) → k < 64 → frame_in slot k ≡ put (frame_in (get_or chunks (index / 64) d)) (index % 64) frame k
 
-    within : index / 64 < length chunks
-    within = omega (arith, whole, below)
-
-    -- what it had there before
-    pub slot_read : frame_in (get_or chunks (index / 64) d) (index % 64) ≡ map.get cached.pages index
-    slot_read = sym (get_slot index (get_or chunks (index / 64) d) (get_or_default chunks (index / 64) None d within))
-
     differs : (frame : Option ℕ) → Writes frame → (q : ℕ) → frame_of (set chunks (index / 64) slot) q ≡ put (frame_of chunks) index frame q
     differs frame writes =
+        let within : index / 64 < length chunks = omega (arith, shows.whole, below) in
         let same = get_or_default chunks (index / 64) d None within in
         frame_of-set chunks index slot frame within (rw same at writes)
-
-    pub written_whole : length (set chunks (index / 64) slot) ≡ 64
-    written_whole = length-set chunks (index / 64) slot ∙ whole
 
     -- a frame was put there
     pub written_more : (frame : ℕ) → map.get cached.pages index ≡ None → Writes (Some frame)
@@ -68,9 +70,10 @@ module _ (chunks : List Slot) (cached : Cached) (is : seen_as chunks ≡ cached)
         × (map_below (frame_of (set chunks (index / 64) slot)) 4096 ≡ map.insert cached.pages index frame)
     written_more frame none writes =
         let same = differs (Some frame) writes in
-        let after = frame_of (set chunks (index / 64) slot) in
-        (count_of-more (frame_of chunks) after index frame 4096 below (sym (get_frame index) ∙ none) same,
-         map_below-insert (frame_of chunks) 4096 cached.pages same_pages (chunks_end chunks whole) after index frame below same)
+        let after = frame_of (set chunks (index / 64) slot) in (
+          count_of-more (frame_of chunks) after index frame 4096 below (sym (get_frame index) ∙ none) same,
+          map_below-insert (frame_of chunks) 4096 cached.pages same_pages (chunks_end chunks shows.whole) after index frame below same,
+        )
 
     -- the frame was taken from there
     pub written_less : is_some (map.get cached.pages index) ≡ true → Writes None
@@ -78,6 +81,7 @@ module _ (chunks : List Slot) (cached : Cached) (is : seen_as chunks ≡ cached)
         × (map_below (frame_of (set chunks (index / 64) slot)) 4096 ≡ map.remove cached.pages index)
     written_less there writes =
         let same = differs None writes in
-        let after = frame_of (set chunks (index / 64) slot) in
-        (count_of-less (frame_of chunks) after index 4096 below (ap is_some (sym (get_frame index)) ∙ there) same,
-         map_below-remove (frame_of chunks) 4096 cached.pages same_pages (chunks_end chunks whole) after index below same)
+        let after = frame_of (set chunks (index / 64) slot) in (
+          count_of-less (frame_of chunks) after index 4096 below (ap is_some (sym (get_frame index)) ∙ there) same,
+          map_below-remove (frame_of chunks) 4096 cached.pages same_pages (chunks_end chunks shows.whole) after index below same,
+        )

@@ -10,17 +10,18 @@ use std::alloc::{AllocError, Global};
 use std::array;
 use std::marker::Model;
 
-// How many chunks the indices below `LIMIT` fill.
+// How many chunks there can be: as many as the indices below `LIMIT` fill.
 const CHUNKS: usize = LIMIT as usize / PLACES;
 
 /// The frame of each index of a file that has a page.
 #[derive(Drop)]
 pub struct PageCache {
-    // the places of an index in order: those below `PLACES` in the first chunk, and so on. A chunk is there where
-    // one of its places has a frame.
+    // The place of an index is in the chunk `index / PLACES`, at `index % PLACES`. A chunk is there where one of its
+    // places has a frame.
     chunks: [Option<Box<Chunk>>; CHUNKS],
-    // how many pages there are
-    count: u32,
+    // how many places of all chunks have a frame
+    count: usize,
+    // where chunks come from
     alloc: Global,
 }
 
@@ -58,7 +59,7 @@ impl PageCache {
         }
     }
 
-    /// The frame of an index, where it has a page (Linux: `find_lock_page`). It takes one look at a chunk.
+    /// The frame of an index, where it has a page (Linux: `find_lock_page`). It takes a look at one chunk.
     pub fn get(&self, index: Index) -> Option<Frame>
         ensures { result ≡ map.get self.now.pages index }
     {
@@ -67,7 +68,7 @@ impl PageCache {
         chunk.get(number % PLACES)
     }
 
-    /// Puts a page into the cache (Linux: `hugetlb_add_to_page_cache`). The first page of a chunk makes it.
+    /// Puts a page into the cache (Linux: `hugetlb_add_to_page_cache`). Memory is wanted for the first page of a chunk.
     pub fn place(&mut self, index: Index, frame: Frame) -> Result<(), AllocError>
         requires vacant { map.get self.old.pages index ≡ None }
         requires in_file { index < LIMIT }
@@ -75,13 +76,18 @@ impl PageCache {
         ensures err { OnErr result (self.new ≡ self.old) }
     {
         let number = index.number() as usize;
-        put_into(self.alloc, &mut self.chunks[number / PLACES], number % PLACES, frame)?;
+        put_into(
+            self.alloc,
+            &mut self.chunks[number / PLACES],
+            number % PLACES,
+            frame,
+        )?;
         self.count += 1;
         Ok(())
     }
 
-    /// Takes a page out of the cache and tells its frame (Linux: `hugetlb_delete_from_page_cache`). A chunk goes
-    /// with its last page.
+    /// Takes a page out of the cache and tells its frame (Linux: `hugetlb_delete_from_page_cache`). With the last
+    /// page of a chunk its memory is given back.
     pub fn evict(&mut self, index: Index) -> Frame
         requires present { IsSome (map.get self.old.pages index) }
         ensures frame { map.get self.old.pages index ≡ Some result }
@@ -94,8 +100,8 @@ impl PageCache {
         frame
     }
 
-    /// One more than the highest index that has a page, 0 where none has. It looks at the chunks from above, and
-    /// then at the places of the first that is there.
+    /// One more than the highest index that has a page, 0 where none has. It looks for the highest chunk, and in it
+    /// for the highest place.
     pub fn top(&self) -> u32
         ensures end { IsPagesEnd (map.get self.now.pages) result }
         ensures in_limit { result ≤ LIMIT }
@@ -113,7 +119,7 @@ impl PageCache {
         ensures pages { IfOk result (λ pages. pages.items ≡ map.entries self.now.pages) }
         ensures in_file { IfOk result (λ pages. All (λ page. page.0 < LIMIT) pages.items) }
     {
-        let mut pages = Vec::with_capacity(alloc, self.count as usize)?;
+        let mut pages = Vec::with_capacity(alloc, self.count)?;
         for (at, chunk) in self.chunks.iter().enumerate() {
             if let Some(chunk) = chunk {
                 chunk.append_to((at * PLACES) as u32, &mut pages)?;
@@ -127,10 +133,11 @@ impl PageCache {
         ensures count { result ≡ count_below (λ i. is_some (map.get self.now.pages i)) LIMIT }
         ensures in_limit { result ≤ LIMIT }
     {
-        self.count
+        self.count as u32
     }
 
-    /// A cache with the same pages.
+    /// A cache with the same pages. A running pool keeps the core of its last cut, to compare histories from there
+    /// on.
     pub fn copy(&self, alloc: Global) -> Result<Self, AllocError>
         ensures { IfOk result (λ copy. copy.pages ≡ self.now.pages) }
     {

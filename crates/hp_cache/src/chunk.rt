@@ -1,7 +1,8 @@
 //! A chunk: places of a page cache that stand next to each other.
-ghost use Rattle.std.specs.Prelude.{◌≡◌, ℕ, ◌+◌, ◌^◌, ◌<◌, ◌≤◌, ◌↔◌, ◌++◌, IsTrue, IfOk, OnOk, OnErr, Some, None, IsSome, slice_index_or, slice_set, is_some, count_by, replicate};
-ghost use Rattle.hp_cache.specs.Chunks.{HasFrame, IsKept, frame_in, listed};
+ghost use Rattle.std.specs.Prelude.{◌≡◌, ℕ, ◌+◌, ◌^◌, ◌<◌, ◌↔◌, ◌++◌, IsTrue, IfOk, OnOk, OnErr, Some, None, IsSome, is_some};
+ghost use Rattle.std.specs.Prelude.{slice_index_or, slice_set, count_by, replicate};
 ghost use Rattle.hp_base.specs.Numbers.{put};
+ghost use Rattle.hp_cache.specs.Chunks.{HasFrame, IsKept, frame_in, listed};
 
 use hp_base::{Frame, Index};
 use std::alloc::{AllocError, Global};
@@ -10,12 +11,12 @@ use std::marker::Model;
 /// How many places a chunk has.
 pub const PLACES: usize = 64;
 
-/// The frame of each of its places that has one.
+/// The frame of each of its places that has one. Where a chunk lies in its file it doesn't know.
 #[derive(Drop)]
 pub struct Chunk {
     frames: [Option<Frame>; PLACES],
-    // how many places have a frame
-    count: u32,
+    // how many places have one
+    count: usize,
 }
 
 impl Model for Chunk {
@@ -95,7 +96,7 @@ impl Chunk {
         unreachable!()
     }
 
-    /// Appends the frames of its places, each with its index, of which the first place has the one that is told.
+    /// Appends its frames in order, each with its index: that of the first place is told.
     pub fn append_to(&self, first: u32, pages: &mut Vec<(Index, Frame)>) -> Result<(), AllocError>
         requires { first + PLACES < 2 ^ 32 }
         ensures { IfOk result (λ _. pages.new.items ≡ pages.old.items ++ listed first self.now) }
@@ -119,8 +120,13 @@ impl Chunk {
     }
 }
 
-/// Puts a frame into a place that has none. The first frame of a chunk makes it.
-pub fn put_into(alloc: Global, slot: &mut Option<Box<Chunk>>, place: usize, frame: Frame) -> Result<(), AllocError>
+/// Puts a frame into a place that has none. A chunk is made for its first frame.
+pub fn put_into(
+    alloc: Global,
+    slot: &mut Option<Box<Chunk>>,
+    place: usize,
+    frame: Frame,
+) -> Result<(), AllocError>
     requires kept { IsKept slot.old }
     requires in_chunk { place < PLACES }
     requires vacant { frame_in slot.old place ≡ None }

@@ -1,4 +1,4 @@
-use Rattle.std.proofs.Common.{◌≡◌, ℕ, ◌<◌, Bool, true, List, Some, None, Option, length, get_or, set, Box, refl, sym, ap, ◌∙◌, arith}
+use Rattle.std.proofs.Common.{◌≡◌, ℕ, ◌<◌, Some, None, get_or, set, Box, refl, sym, ap, ◌∙◌, arith}
 use Rattle.std.specs.Prelude.{is_some, count_by}
 use Rattle.std.specs.Global.{Global}
 use Rattle.std.specs.Option.{option_copied_mut}

@@ -1,10 +1,7 @@
-use Rattle.std.proofs.Common.{◌≡◌, ℕ, None, Some, sym, ap, ◌∙◌, arith}
-use Rattle.std.specs.Prelude.{is_some, count_by}
-use Rattle.std.proofs.lemmas.List.{get_or_default}
+use Rattle.std.proofs.Common.{◌≡◌, sym, ap, ◌∙◌, arith}
 use Rattle.hp_cache.specs.Cached.{Cached}
 use Rattle.hp_cache.proofs.Chunks.{none_counted}
-use Rattle.hp_cache.proofs.Copies.{IsCopyBelow, copy_more, copy_none, copies_kept, copies_count, copies_pages}
-use Rattle.hp_cache.proofs.Frames.{slot_at}
+use Rattle.hp_cache.proofs.Copies.{IsCopyBelow, copies_kept, copies_count, copies_pages}
 use Rattle.hp_cache.proofs.cache.PageCache.copy.Goals as goal
 
 pub loop-at-init : goal.loop-at-init

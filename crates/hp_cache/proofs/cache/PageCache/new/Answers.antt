@@ -1,9 +1,9 @@
-use Rattle.std.proofs.Common.{◌≡◌, ℕ, length, None, rules, sym, ap, arith}
+use Rattle.std.proofs.Common.{◌≡◌, ℕ, None, rules, sym, ap, arith}
 use Rattle.std.specs.Prelude.{is_some}
 use Rattle.std.proofs.lemmas.List.{get_or_default}
 use Rattle.hp_base.specs.declared.limits.TheConstants.{LIMIT}
 use Rattle.hp_base.proofs.Counting.{count_below_none}
-use Rattle.hp_cache.specs.Chunks.{IsKept, frame_of}
+use Rattle.hp_cache.specs.Chunks.{frame_of}
 use Rattle.hp_cache.proofs.Chunks.{none_there}
 use Rattle.hp_cache.proofs.Frames.{slot_at, no_slots, frame_of_no_chunk}
 use Rattle.hp_cache.proofs.Tables.{map_below-none}

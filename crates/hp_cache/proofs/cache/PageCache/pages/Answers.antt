@@ -1,10 +1,9 @@
-use Rattle.std.proofs.Common.{◌≡◌, ℕ, ◌∙◌, ◌++◌, ◌*◌, ◌<◌, None, Some, get_or, sym, ap, arith}
-use Rattle.std.specs.Prelude.{All}
+use Rattle.std.proofs.Common.{◌≡◌, ◌∙◌, ◌*◌, None, get_or, sym, ap, arith}
 use Rattle.std.specs.FinMap as map
 use Rattle.std.proofs.lemmas.List.{get_or_default}
 use Rattle.hp_base.specs.declared.limits.TheConstants.{LIMIT}
 use Rattle.hp_cache.specs.Cached.{Cached}
-use Rattle.hp_cache.specs.Chunks.{frame_of, listed, map_below}
+use Rattle.hp_cache.specs.Chunks.{frame_of}
 use Rattle.hp_cache.proofs.Frames.{slot_at}
 use Rattle.hp_cache.proofs.Listing.{pages_below, pages_below-chunk, pages_below_gap, pages_under, entries-map_below, pages_below_start}
 use Rattle.hp_cache.proofs.cache.PageCache.pages.Goals as goal

@@ -1,22 +1,22 @@
-use Rattle.std.proofs.Common.{◌≡◌, ℕ, ◌-◌, ◌+◌, ◌*◌, ◌<◌, ◌≤◌, None, Some, get_or, sym, ap, ◌∙◌, arith}
-use Rattle.std.specs.Prelude.{is_some}
+use Rattle.std.proofs.Common.{◌≡◌, ◌-◌, ◌+◌, ◌*◌, ◌<◌, None, Some, ◌∙◌, arith}
 use Rattle.std.proofs.lemmas.List.{get_or_default}
 use Rattle.hp_cache.proofs.Frames.{slot_at, end_at, end_of_none}
-use Rattle.hp_cache.proofs.Views.{end_of}
+use Rattle.hp_cache.proofs.Views.{Shows, end_of}
 use Rattle.hp_cache.proofs.cache.PageCache.top.Goals as goal
 
 pub returns-in-Some-clause-end : goal.returns-in-Some-clause-end
 returns-in-Some-clause-end c =
     let chunks = c.self.inside.chunks in
+    let shows : Shows chunks c.args.self.now = record { is = c.self.view_is; whole = c.self.invariant.whole } in
     let at = c.loop-at.at - 1 in
     let within : at < 64 = omega arith in
     let here : slot_at chunks at ≡ Some c.in-Some.chunk =
     get_or_default chunks at None c.index-self-at.result (omega (arith, within, c.self.invariant.whole)) ∙ c.in-Some.is in
-    end_of chunks c.args.self.now c.self.view_is c.self.invariant.whole (at * 64 + c.highest.result + 1)
+    end_of shows (at * 64 + c.highest.result + 1)
     (end_at chunks at c.highest.result c.highest.ensures.in_chunk (λ k above. c.loop-at.invariant k (omega arith))
     (rw (here, ← c.deref.ensures) c.highest.ensures.present) (rw (here, ← c.deref.ensures) c.highest.ensures.none_above))
 
 pub returns-clause-end : goal.returns-clause-end
 returns-clause-end c =
-    end_of c.self.inside.chunks c.args.self.now c.self.view_is c.self.invariant.whole 0
-    (end_of_none c.self.inside.chunks (λ k. c.loop-at.invariant k (omega arith)))
+    let shows : Shows c.self.inside.chunks c.args.self.now = record { is = c.self.view_is; whole = c.self.invariant.whole } in
+    end_of shows 0 (end_of_none c.self.inside.chunks (λ k. c.loop-at.invariant k (omega arith)))

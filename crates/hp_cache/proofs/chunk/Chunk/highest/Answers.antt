@@ -1,9 +1,6 @@
 use Rattle.std.proofs.Common.{◌≡◌, arith}
 use Rattle.std.specs.Prelude.{is_some, count_by}
 use Rattle.hp_cache.proofs.Chunks.{none_there}
-use Rattle.hp_cache.proofs.Frames.{end_of_none}
-use Rattle.hp_cache.proofs.Listing.{pages_below_none}
-use Rattle.hp_cache.proofs.Tables.{end_seen}
 use Rattle.hp_cache.proofs.chunk.Chunk.highest.Goals as goal
 
 pub unreachable-requires : goal.unreachable-requires
