@@ -26,15 +26,15 @@ loop-at-preserved c =
           rw (w.pages-is, c.loop-at.invariant) (sym (pages_below_gap chunks at (here ∙ w.in_default.is)))
     ]
 
--- all pages are listed
-all : (c : goal.After-loop-at) → c.loop-at.pages.items ≡ pages_below (frame_of c.self.inside.chunks) 4096
-all c =
-    let end : c.loop-at.at * 64 ≡ 4096 = omega arith in
-    c.loop-at.invariant ∙ ap (pages_below (frame_of c.self.inside.chunks)) end
-
 pub returns-clause-pages : goal.returns-clause-pages
 returns-clause-pages c =
-    all c ∙ sym (entries-map_below (frame_of c.self.inside.chunks) 4096) ∙ ap (λ (v : Cached). map.entries v.pages) c.self.view_is
+    let chunks = c.self.inside.chunks in
+    let end : c.loop-at.at * 64 ≡ LIMIT = omega arith in
+    c.loop-at.invariant
+    ∙ ap (pages_below (frame_of chunks)) end
+    ∙ sym (entries-map_below (frame_of chunks) LIMIT)
+    ∙ ap (λ (v : Cached). map.entries v.pages) c.self.view_is
 
 pub returns-clause-in_file : goal.returns-clause-in_file
-returns-clause-in_file c = rw (all c) (pages_under (frame_of c.self.inside.chunks) LIMIT 4096 (omega arith))
+returns-clause-in_file c =
+    rw c.loop-at.invariant (pages_under (frame_of c.self.inside.chunks) LIMIT (c.loop-at.at * 64) (omega arith))
