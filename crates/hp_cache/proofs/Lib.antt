@@ -1,6 +1,6 @@
-pub mod Counts
-pub mod Edits
-pub mod Ends
-pub mod Maps
-pub mod Order
-pub mod Places
+pub mod Chunks
+pub mod Copies
+pub mod Frames
+pub mod Listing
+pub mod Tables
+pub mod Views

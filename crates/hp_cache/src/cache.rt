@@ -1,47 +1,49 @@
 //! The page cache of a file.
-ghost use Rattle.std.specs.Prelude.{◌≡◌, ◌<◌, ◌≤◌, IsTrue, OnOk, OnErr, IfOk, Some, None, IsSome, is_some, nat_lt, All};
-ghost use Rattle.std.specs.List.{prefix_len};
-ghost use Rattle.std.specs.Ordering.{nat_cmp};
+ghost use Rattle.std.specs.Prelude.{◌≡◌, ◌<◌, ◌≤◌, OnOk, OnErr, IfOk, Some, None, IsSome, is_some, All};
 ghost use Rattle.std.specs.FinMap as map;
 ghost use Rattle.hp_base.specs.Indices.{count_below};
 ghost use Rattle.hp_base.specs.Pages.{IsPagesEnd};
 
+use crate::chunk::{Chunk, PLACES, put_into, take_from};
 use hp_base::{Frame, Index, LIMIT};
 use std::alloc::{AllocError, Global};
+use std::array;
 use std::marker::Model;
+
+// How many chunks there can be: as many as the indices below `LIMIT` fill.
+const CHUNKS: usize = LIMIT as usize / PLACES;
 
 /// The frame of each index of a file that has a page.
 #[derive(Drop)]
 pub struct PageCache {
-    // in order of the indices
-    pages: Vec<(Index, Frame)>,
+    // The place of an index is in the chunk `index / PLACES`, at `index % PLACES`. A chunk is there where one of its
+    // places has a frame.
+    chunks: [Option<Box<Chunk>>; CHUNKS],
+    // how many places of all chunks have a frame
+    count: usize,
+    // where chunks come from
+    alloc: Global,
 }
 
 impl Model for PageCache {
-    ghost use Rattle.std.specs.Prelude.{◌<◌, IsTrue, All, vec_capacity};
-    ghost use Rattle.std.specs.Ordering.{nat_cmp};
-    ghost use Rattle.std.specs.FinMap as map;
+    ghost use Rattle.std.specs.Prelude.{◌≡◌, All, is_some, length};
     ghost use Rattle.hp_base.specs.declared.limits.TheConstants.{LIMIT};
+    ghost use Rattle.hp_base.specs.Indices.{count_below};
+    ghost use Rattle.hp_cache.specs.declared.cache.TheConstants.{CHUNKS};
     ghost use Rattle.hp_cache.specs.Cached.{Cached, cached_code};
+    ghost use Rattle.hp_cache.specs.Chunks.{IsKept, frame_of, seen_as};
 
     ghost Value = { Cached };
 
     ghost coded = { cached_code };
 
-    ghost view = { λ c. record { pages = map.from_sorted c.pages.items; room = vec_capacity c.pages } };
+    ghost view = { λ c. seen_as c.chunks };
 
     ghost invariant = { λ c. record {
-      in_order : IsTrue (map.is_sorted nat_cmp c.pages.items);
-      in_file : All (λ page. page.0 < LIMIT) c.pages.items;
+      whole : length c.chunks ≡ CHUNKS;
+      kept : All IsKept c.chunks;
+      counted : c.count ≡ count_below (λ i. is_some (frame_of c.chunks i)) LIMIT;
     } };
-}
-
-// How many pages stand before an index: where its own stands, or would.
-fn place_of(pages: &[(Index, Frame)], index: Index) -> usize
-    requires { IsTrue (map.is_sorted nat_cmp pages.now) }
-    ensures { result ≡ prefix_len (λ page. nat_lt page.0 index) pages.now }
-{
-    pages.partition_point(|page| page.0 < index)
 }
 
 impl PageCache {
@@ -51,55 +53,65 @@ impl PageCache {
         ensures room { result.room ≡ 0 }
     {
         PageCache {
-            pages: Vec::new(alloc),
+            chunks: array::from_fn(|_| None),
+            count: 0,
+            alloc,
         }
     }
 
-    /// The frame of an index, where it has a page (Linux: `find_lock_page`). It is found by binary
-    /// search, which looks at O(log n) of n pages.
+    /// The frame of an index, where it has a page (Linux: `find_lock_page`). It takes a look at one chunk.
     pub fn get(&self, index: Index) -> Option<Frame>
         ensures { result ≡ map.get self.now.pages index }
     {
-        let &(found, frame) = self.pages.get(place_of(&self.pages, index))?;
-        (found == index).then_some(frame)
+        let number = index.number() as usize;
+        let chunk = self.chunks.get(number / PLACES)?.as_ref()?;
+        chunk.get(number % PLACES)
     }
 
-    /// Puts a page into the cache (Linux: `hugetlb_add_to_page_cache`). Its place is found as `get`
-    /// finds it; the pages above are moved.
+    /// Puts a page into the cache (Linux: `hugetlb_add_to_page_cache`). Memory is wanted for the first page of a chunk.
     pub fn place(&mut self, index: Index, frame: Frame) -> Result<(), AllocError>
         requires vacant { map.get self.old.pages index ≡ None }
         requires in_file { index < LIMIT }
         ensures ok { OnOk result (self.new.pages ≡ map.insert self.old.pages index frame) }
         ensures err { OnErr result (self.new ≡ self.old) }
     {
-        self.pages.reserve(1)?;
-        let at = place_of(&self.pages, index);
-        self.pages.insert(at, (index, frame)).unwrap();
+        let number = index.number() as usize;
+        put_into(
+            self.alloc,
+            &mut self.chunks[number / PLACES],
+            number % PLACES,
+            frame,
+        )?;
+        self.count += 1;
         Ok(())
     }
 
-    /// Takes a page out of the cache and tells its frame (Linux: `hugetlb_delete_from_page_cache`).
-    /// It is found as `get` finds it; the pages above are moved.
+    /// Takes a page out of the cache and tells its frame (Linux: `hugetlb_delete_from_page_cache`). With the last
+    /// page of a chunk its memory is given back.
     pub fn evict(&mut self, index: Index) -> Frame
         requires present { IsSome (map.get self.old.pages index) }
         ensures frame { map.get self.old.pages index ≡ Some result }
         ensures pages { self.new.pages ≡ map.remove self.old.pages index }
-        ensures room { self.new.room ≡ self.old.room }
+        ensures room { self.new.room ≤ self.old.room }
     {
-        let at = place_of(&self.pages, index);
-        self.pages.remove(at).1
+        let number = index.number() as usize;
+        let frame = take_from(&mut self.chunks[number / PLACES], number % PLACES);
+        self.count -= 1;
+        frame
     }
 
-    /// One more than the highest index that has a page, 0 where none has. It is read from the last
-    /// page.
+    /// One more than the highest index that has a page, 0 where none has. It looks for the highest chunk, and in it
+    /// for the highest place.
     pub fn top(&self) -> u32
         ensures end { IsPagesEnd (map.get self.now.pages) result }
         ensures in_limit { result ≤ LIMIT }
     {
-        match self.pages.last() {
-            Some(page) => page.0.number() + 1,
-            None => 0,
+        for at in (0..CHUNKS).rev() {
+            if let Some(chunk) = &self.chunks[at] {
+                return (at * PLACES + chunk.highest()) as u32 + 1;
+            }
         }
+        0
     }
 
     /// A copy of the pages, in order of their indices.
@@ -107,7 +119,13 @@ impl PageCache {
         ensures pages { IfOk result (λ pages. pages.items ≡ map.entries self.now.pages) }
         ensures in_file { IfOk result (λ pages. All (λ page. page.0 < LIMIT) pages.items) }
     {
-        Vec::from_slice(alloc, &self.pages)
+        let mut pages = Vec::with_capacity(alloc, self.count)?;
+        for (at, chunk) in self.chunks.iter().enumerate() {
+            if let Some(chunk) = chunk {
+                chunk.append_to((at * PLACES) as u32, &mut pages)?;
+            }
+        }
+        Ok(pages)
     }
 
     /// How many indices have a page (Linux: `nrpages`).
@@ -115,6 +133,21 @@ impl PageCache {
         ensures count { result ≡ count_below (λ i. is_some (map.get self.now.pages i)) LIMIT }
         ensures in_limit { result ≤ LIMIT }
     {
-        self.pages.len() as u32
+        self.count as u32
+    }
+
+    /// A cache with the same pages. A running pool keeps the core of its last cut, to compare histories from there
+    /// on.
+    pub fn copy(&self, alloc: Global) -> Result<Self, AllocError>
+        ensures { IfOk result (λ copy. copy.pages ≡ self.now.pages) }
+    {
+        let mut copy = PageCache::new(alloc);
+        for (at, chunk) in self.chunks.iter().enumerate() {
+            if let Some(chunk) = chunk {
+                copy.chunks[at] = Some(Box::new(alloc, chunk.copy())?);
+            }
+        }
+        copy.count = self.count;
+        Ok(copy)
     }
 }

@@ -7,5 +7,6 @@
 #![tactic(auto)]
 
 pub mod cache;
+mod chunk;
 
 pub use cache::PageCache;

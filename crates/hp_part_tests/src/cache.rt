@@ -1,5 +1,5 @@
-//! Pages that come and go, with ample memory and with a growth refused.
-use hp_base::{Frame, Index};
+//! Pages that come and go, in files of all sizes, with ample memory and with a growth refused.
+use hp_base::{Frame, Index, LIMIT};
 use hp_cache::PageCache;
 use std::alloc::{AllocError, Global};
 use std::process::Abort;
@@ -64,5 +64,59 @@ fn refused_growth_changes_nothing(rt: HostRuntime) -> Result<(), Fail> {
         cache.place(Index::new(3), Frame::new(7))?;
     }
     assert_eq!(rt; cache.get(Index::new(3)), Some(Frame::new(7)));
+    Ok(())
+}
+
+// Index i of a whole file has frame 4,096 - i.
+fn whole_file(rt: &impl Abort, alloc: Global) -> Result<PageCache, AllocError> {
+    let mut cache = PageCache::new(alloc);
+    for number in 0..LIMIT {
+        let index = Index::new(number);
+        assert_eq!(rt; cache.get(index), None);
+        cache.place(index, Frame::new(LIMIT - number))?;
+    }
+    Ok(cache)
+}
+
+#[test]
+fn a_whole_file_comes_and_goes(rt: HostRuntime) -> Result<(), Fail> {
+    let mut cache = whole_file(&rt, rt.alloc())?;
+    assert_eq!(rt; (cache.top(), cache.count()), (LIMIT, LIMIT));
+
+    // Each index comes once, since 1,001 and 4,096 have no divisor in common.
+    for turn in 0..LIMIT {
+        let number = turn * 1_001 % LIMIT;
+        let index = Index::new(number);
+        let frame = Frame::new(LIMIT - number);
+        assert_eq!(rt; cache.get(index), Some(frame));
+        assert_eq!(rt; cache.evict(index), frame);
+        assert_eq!(rt; (cache.get(index), cache.count()), (None, LIMIT - turn - 1));
+    }
+    assert_eq!(rt; cache.top(), 0);
+    Ok(())
+}
+
+#[test]
+fn a_copy_is_compared_with_its_source(rt: HostRuntime) -> Result<(), Fail> {
+    for source in [two_pages(&rt, rt.alloc())?, whole_file(&rt, rt.alloc())?] {
+        let copy = source.copy(rt.alloc())?;
+        assert_eq!(rt; (copy.top(), copy.count()), (source.top(), source.count()));
+        assert_eq!(rt;
+            copy.pages(rt.alloc())?.as_slice(),
+            source.pages(rt.alloc())?.as_slice()
+        );
+    }
+    Ok(())
+}
+
+#[test]
+fn a_copy_stays_as_it_was(rt: HostRuntime) -> Result<(), Fail> {
+    let mut source = two_pages(&rt, rt.alloc())?;
+    let copy = source.copy(rt.alloc())?;
+    assert_eq!(rt; source.get(Index::new(3)), Some(Frame::new(7)));
+    assert_eq!(rt; source.evict(Index::new(3)), Frame::new(7));
+    assert_eq!(rt; (source.top(), source.count()), (2, 1));
+    assert_eq!(rt; copy.get(Index::new(3)), Some(Frame::new(7)));
+    assert_eq!(rt; (copy.top(), copy.count()), (4, 2));
     Ok(())
 }

@@ -1,43 +1,62 @@
-use Rattle.std.proofs.Common.{◌≡◌, ℕ, ◌<◌, Some, get_or, sym, ap, ◌∙◌, arith}
-use Rattle.std.specs.Prelude.{is_some}
-use Rattle.hp_base.specs.declared.limits.TheConstants.{LIMIT}
-use Rattle.hp_cache.proofs.Edits.{All-remove}
-use Rattle.hp_cache.proofs.Maps.{as_seen, get-find, IsSeenAs-remove}
-use Rattle.hp_cache.proofs.Places.{place, place_within, find_present}
+use Rattle.std.proofs.Common.{◌/◌, sym, ◌∙◌, arith}
+use Rattle.std.proofs.lemmas.List.{length-set}
+use Rattle.std.proofs.lemmas.List.Elements.{All-set}
+use Rattle.hp_cache.specs.Chunks.{IsKept}
+use Rattle.hp_cache.proofs.Views.{Shows, present_below, slot_read, written_less}
 use Rattle.hp_cache.proofs.cache.PageCache.evict.Goals as goal
 
-pub remove-requires : goal.remove-requires
-remove-requires c =
-    let pages = c.self.inside.pages.items in
-    let placed : c.place_of-at.result ≡ place c.args.index pages = rw c.deref.ensures.value at c.place_of-at.ensures in
-    let found = get-find pages c.args.self.now.pages c.args.index (as_seen _ c.self.invariant.in_order c.self.view_is) in
-    omega (arith, placed, place_within c.args.index pages c.self.invariant.in_order (ap is_some (sym found) ∙ c.requires.present))
+-- an index that has a page lies in the file, and so its chunk among the chunks
+pub bounds-self-inside-number : goal.bounds-self-inside-number
+bounds-self-inside-number c =
+    let shows : Shows c.self.inside.chunks c.args.self.now = record { is = c.self.view_is; whole = c.self.invariant.whole } in
+    omega (arith, present_below shows c.args.index c.requires.present, c.number-number.ensures)
+
+pub listed : goal.listed
+listed c =
+    let shows : Shows c.self.inside.chunks c.args.self.now = record { is = c.self.view_is; whole = c.self.invariant.whole } in
+    omega (arith, present_below shows c.args.index c.requires.present, c.number-number.ensures, shows.whole)
+
+pub take_from-frame-requires-clause-kept : goal.take_from-frame-requires-clause-kept
+take_from-frame-requires-clause-kept c =
+    let shows : Shows c.self.inside.chunks c.args.self.now = record { is = c.self.view_is; whole = c.self.invariant.whole } in
+    c.self.invariant.kept _ _ (omega (arith, present_below shows c.args.index c.requires.present, c.number-number.ensures, shows.whole))
+
+pub take_from-frame-requires-clause-present : goal.take_from-frame-requires-clause-present
+take_from-frame-requires-clause-present c =
+    let shows : Shows c.self.inside.chunks c.args.self.now = record { is = c.self.view_is; whole = c.self.invariant.whole } in
+    let below = present_below shows c.args.index c.requires.present in
+    rw (c.number-number.ensures, slot_read shows c.args.index c.index-self-number.result below) c.requires.present
+
+pub overflow_sub-self : goal.overflow_sub-self
+overflow_sub-self c =
+    let shows : Shows c.self.inside.chunks c.args.self.now = record { is = c.self.view_is; whole = c.self.invariant.whole } in
+    let below = present_below shows c.args.index c.requires.present in
+    let less = written_less shows c.args.index c.take_from-frame.new.slot c.index-self-number.result below c.requires.present
+    (rw c.number-number.ensures at c.take_from-frame.ensures.rest) in
+    omega (arith, c.self.invariant.counted, less.0)
 
 pub invariant_of-self : goal.invariant_of-self
 invariant_of-self c =
-    let pages = c.self.inside.pages.items in
-    let placed = rw c.deref.ensures.value at c.place_of-at.ensures in
-    let seen = IsSeenAs-remove pages c.remove.new.self.items c.args.self.now.pages c.args.index c.place_of-at.result
-    (as_seen _ c.self.invariant.in_order c.self.view_is) c.requires.present placed c.remove.ensures.items in
-    record {
-      in_order = seen.0;
-      in_file =
-          rw c.remove.ensures.items
-          (All-remove (λ (page : ℕ × ℕ). page.0 < LIMIT) pages c.place_of-at.result c.self.invariant.in_file);
+    let shows : Shows c.self.inside.chunks c.args.self.now = record { is = c.self.view_is; whole = c.self.invariant.whole } in
+    let below = present_below shows c.args.index c.requires.present in
+    let less = written_less shows c.args.index c.take_from-frame.new.slot c.index-self-number.result below c.requires.present
+    (rw c.number-number.ensures at c.take_from-frame.ensures.rest) in
+    rw c.number-number.ensures record {
+      whole = length-set c.self.inside.chunks (c.args.index / 64) c.take_from-frame.new.slot ∙ shows.whole;
+      kept = All-set IsKept c.self.inside.chunks _ c.take_from-frame.new.slot c.take_from-frame.ensures.kept c.self.invariant.kept;
+      counted = omega (arith, c.self.invariant.counted, less.0);
     }
 
 pub returns-clause-frame : goal.returns-clause-frame
 returns-clause-frame c =
-    let pages = c.self.inside.pages.items in
-    let placed : c.place_of-at.result ≡ place c.args.index pages = rw c.deref.ensures.value at c.place_of-at.ensures in
-    let page : c.remove.result ≡ get_or pages (place c.args.index pages) c.remove.result = rw placed at c.remove.ensures.value in
-    let found = get-find pages c.args.self.now.pages c.args.index (as_seen _ c.self.invariant.in_order c.self.view_is) in
-    let there = find_present c.args.index pages c.remove.result c.self.invariant.in_order (ap is_some (sym found) ∙ c.requires.present) in
-    found ∙ (there ∙ ap (λ (page : ℕ × ℕ). Some page.1) (sym page))
+    let shows : Shows c.self.inside.chunks c.args.self.now = record { is = c.self.view_is; whole = c.self.invariant.whole } in
+    let below = present_below shows c.args.index c.requires.present in
+    sym (slot_read shows c.args.index c.index-self-number.result below) ∙ rw c.number-number.ensures at c.take_from-frame.ensures.frame
 
 pub returns-clause-pages : goal.returns-clause-pages
 returns-clause-pages c =
-    let placed = rw c.deref.ensures.value at c.place_of-at.ensures in
-    (IsSeenAs-remove c.self.inside.pages.items c.remove.new.self.items c.args.self.now.pages c.args.index
-    c.place_of-at.result (as_seen _ c.self.invariant.in_order c.self.view_is) c.requires.present
-    placed c.remove.ensures.items).1
+    let shows : Shows c.self.inside.chunks c.args.self.now = record { is = c.self.view_is; whole = c.self.invariant.whole } in
+    let below = present_below shows c.args.index c.requires.present in
+    let less = written_less shows c.args.index c.take_from-frame.new.slot c.index-self-number.result below c.requires.present
+    (rw c.number-number.ensures at c.take_from-frame.ensures.rest) in
+    rw c.number-number.ensures less.1

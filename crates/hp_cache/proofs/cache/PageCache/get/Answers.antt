@@ -1,27 +1,26 @@
-use Rattle.std.proofs.Common.{◌≡◌, ◌≤◌, ◌<◌, length, get_or, sym, ◌∙◌}
-use Rattle.hp_cache.proofs.Maps.{as_seen, get-find}
-use Rattle.hp_cache.proofs.Places.{place, find_past, find_within}
+use Rattle.std.proofs.Common.{◌/◌, None, Some, sym, ◌∙◌}
+use Rattle.std.proofs.lemmas.List.{get_or_past}
+use Rattle.hp_cache.proofs.Views.{Shows, get_slot}
 use Rattle.hp_cache.proofs.cache.PageCache.get.Goals as goal
 
-pub returns-in_err-found : goal.returns-in_err-found
-returns-in_err-found c =
-    let pages = c.self.inside.pages.items in
-    let sorted = c.self.invariant.in_order in
-    let at : c.place_of.result ≡ place c.args.index pages = rw c.deref-2.ensures.value at c.place_of.ensures in
-    let look = (c.in_err-found.ensures {u = tt}).lookup in
-    let past : length pages ≤ place c.args.index pages = rw (c.deref.ensures.value, at) at look.3 in
-    c.from_residual.ensures
-    ∙ sym (get-find pages c.args.self.now.pages c.args.index (as_seen _ sorted c.self.view_is) ∙ find_past c.args.index pages sorted past)
+pub returns-in_err-get : goal.returns-in_err-get
+returns-in_err-get c =
+    let shows : Shows c.self.inside.chunks c.args.self.now = record { is = c.self.view_is; whole = c.self.invariant.whole } in
+    let past = (c.in_err-get.ensures {u = tt}).lookup.3 in
+    let none = get_or_past c.self.inside.chunks (c.number-number.result / 64) None past in
+    c.from_residual.ensures ∙ sym (get_slot shows c.args.index None (rw c.number-number.ensures at none))
+
+pub returns-in_err-chunk : goal.returns-in_err-chunk
+returns-in_err-chunk c =
+    let shows : Shows c.self.inside.chunks c.args.self.now = record { is = c.self.view_is; whole = c.self.invariant.whole } in
+    let read = (c.in_ok-get.ensures {u = tt}).lookup.3.1 None in
+    let none = sym read ∙ sym (c.in_err-chunk.ensures {u = tt}).value in
+    c.from_residual-in_err-chunk.ensures ∙ sym (get_slot shows c.args.index None (rw c.number-number.ensures at none))
 
 pub returns : goal.returns
 returns c =
-    let pages = c.self.inside.pages.items in
-    let sorted = c.self.invariant.in_order in
-    let page = c.in_ok-found.field-0.now in
-    let at : c.place_of.result ≡ place c.args.index pages = rw c.deref-2.ensures.value at c.place_of.ensures in
-    let look = (c.in_ok-found.ensures {u = tt}).lookup in
-    let within : place c.args.index pages < length pages = rw (c.deref.ensures.value, at) at look.3.0 in
-    let there : page ≡ get_or pages (place c.args.index pages) page = rw (c.deref.ensures.value, at) at look.1 in
-    let found = get-find pages c.args.self.now.pages c.args.index (as_seen _ sorted c.self.view_is)
-    ∙ find_within c.args.index pages page sorted within in
-    rw (c.then_some.ensures, c.eq.ensures) (sym (rw (← there) at found))
+    let shows : Shows c.self.inside.chunks c.args.self.now = record { is = c.self.view_is; whole = c.self.invariant.whole } in
+    let read = (c.in_ok-get.ensures {u = tt}).lookup.3.1 None in
+    let there = sym read ∙ sym (c.in_ok-chunk.ensures {u = tt}).value in
+    rw (c.get-2.ensures, c.deref.ensures, c.number-number.ensures)
+    (sym (get_slot shows c.args.index (Some c.in_ok-chunk.chunk.now) (rw c.number-number.ensures at there)))

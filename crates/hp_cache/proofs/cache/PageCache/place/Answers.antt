@@ -1,38 +1,32 @@
-use Rattle.std.proofs.Common.{◌≡◌, ℕ, ◌<◌, ◌∙◌, arith}
-use Rattle.std.specs.List.{insert}
-use Rattle.std.specs.FinMap as map
-use Rattle.std.proofs.lemmas.List.Sums.{prefix_len-le-length}
-use Rattle.hp_base.specs.declared.limits.TheConstants.{LIMIT}
-use Rattle.hp_cache.proofs.Edits.{All-insert}
-use Rattle.hp_cache.proofs.Maps.{as_seen, IsSeenAs, IsSeenAs-insert}
-use Rattle.hp_cache.proofs.Places.{before}
+use Rattle.std.proofs.Common.{◌/◌, ◌∙◌, arith}
+use Rattle.std.proofs.lemmas.List.{length-set}
+use Rattle.std.proofs.lemmas.List.Elements.{All-set}
+use Rattle.hp_cache.specs.Chunks.{IsKept}
+use Rattle.hp_cache.proofs.Views.{Shows, page_count_le, slot_read, written_more}
 use Rattle.hp_cache.proofs.cache.PageCache.place.Goals as goal
 
-pub insert-requires : goal.insert-requires
-insert-requires c = omega (arith, c.place_of-at.ensures, c.deref.ensures.len, prefix_len-le-length (before c.args.index) c.deref.result.now)
+pub put_into-requires-clause-vacant : goal.put_into-requires-clause-vacant
+put_into-requires-clause-vacant c =
+    let shows : Shows c.self.inside.chunks c.args.self.now = record { is = c.self.view_is; whole = c.self.invariant.whole } in
+    rw c.number-number.ensures (slot_read shows c.args.index c.index-self-number.result c.requires.in_file ∙ c.requires.vacant)
 
--- the pages, as they are kept
-kept : (c : goal.After-unwrap) → c.reserve.new.self.items ≡ c.self.inside.pages.items
-kept c = (c.in_ok-reserve.ensures {u = tt}).items
-
-edited : (c : goal.After-unwrap)
-    → c.insert.new.self.items ≡ insert c.self.inside.pages.items c.place_of-at.result (c.args.index, c.args.frame)
-edited c = rw (c.unwrap.ensures, kept c) at c.insert.ensures.items
-
-seen : (c : goal.After-unwrap) → IsSeenAs c.insert.new.self.items (map.insert c.args.self.now.pages c.args.index c.args.frame)
-seen c =
-    let placed = rw (c.deref.ensures.value ∙ kept c) at c.place_of-at.ensures in
-    IsSeenAs-insert c.self.inside.pages.items c.insert.new.self.items c.args.self.now.pages c.args.index
-    c.place_of-at.result c.args.frame (as_seen _ c.self.invariant.in_order c.self.view_is)
-    c.requires.vacant placed (edited c)
+pub overflow_add-self : goal.overflow_add-self
+overflow_add-self c = omega (arith, c.self.invariant.counted, page_count_le c.self.inside.chunks)
 
 pub invariant_of-self-2 : goal.invariant_of-self-2
-invariant_of-self-2 c = record {
-  in_order = (seen c).0;
-  in_file =
-      rw (edited c) (All-insert (λ (page : ℕ × ℕ). page.0 < LIMIT) c.self.inside.pages.items c.place_of-at.result
-      (c.args.index, c.args.frame) c.self.invariant.in_file c.requires.in_file);
-}
+invariant_of-self-2 c =
+    let shows : Shows c.self.inside.chunks c.args.self.now = record { is = c.self.view_is; whole = c.self.invariant.whole } in
+    let more = written_more shows c.args.index c.put_into.new.slot c.index-self-number.result c.requires.in_file
+    c.args.frame c.requires.vacant (rw c.number-number.ensures at (c.in_ok-put_into.ensures {u = tt}).ok) in
+    rw c.number-number.ensures record {
+      whole = length-set c.self.inside.chunks (c.args.index / 64) c.put_into.new.slot ∙ c.self.invariant.whole;
+      kept = All-set IsKept c.self.inside.chunks _ c.put_into.new.slot (c.in_ok-put_into.ensures {u = tt}).kept c.self.invariant.kept;
+      counted = omega (arith, c.self.invariant.counted, more.0);
+    }
 
 pub returns-clause-ok : goal.returns-clause-ok
-returns-clause-ok c = (seen c).1
+returns-clause-ok c =
+    let shows : Shows c.self.inside.chunks c.args.self.now = record { is = c.self.view_is; whole = c.self.invariant.whole } in
+    let more = written_more shows c.args.index c.put_into.new.slot c.index-self-number.result c.requires.in_file
+    c.args.frame c.requires.vacant (rw c.number-number.ensures at (c.in_ok-put_into.ensures {u = tt}).ok) in
+    rw c.number-number.ensures more.1

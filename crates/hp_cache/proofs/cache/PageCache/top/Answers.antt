@@ -1,23 +1,22 @@
-use Rattle.std.proofs.Common.{◌≡◌, ◌-◌, None, Some, length, sym, ap, ◌∙◌}
-use Rattle.std.specs.Prelude.{slice_get}
-use Rattle.std.specs.Option.{option_copied}
-use Rattle.hp_cache.proofs.Ends.{end_of_same, end_of_empty, end_at_last}
-use Rattle.hp_cache.proofs.Maps.{as_seen, get-find}
+use Rattle.std.proofs.Common.{◌≡◌, ◌-◌, ◌+◌, ◌*◌, ◌<◌, None, Some, ◌∙◌, arith}
+use Rattle.std.proofs.lemmas.List.{get_or_default}
+use Rattle.hp_cache.proofs.Frames.{slot_at, end_at, end_of_none}
+use Rattle.hp_cache.proofs.Views.{Shows, end_of}
 use Rattle.hp_cache.proofs.cache.PageCache.top.Goals as goal
 
 pub returns-in-Some-clause-end : goal.returns-in-Some-clause-end
 returns-in-Some-clause-end c =
-    let pages = c.self.inside.pages.items in
-    let sorted = c.self.invariant.in_order in
-    let last : slice_get pages (length pages - 1) ≡ Some c.in-Some.page.now =
-    rw c.deref.ensures.value at (sym c.last.ensures.value ∙ ap option_copied c.in-Some.is) in
-    rw c.number.ensures (end_of_same _ _ _ (λ i. get-find pages c.args.self.now.pages i (as_seen _ sorted c.self.view_is))
-    (end_at_last pages c.in-Some.page.now sorted last))
+    let chunks = c.self.inside.chunks in
+    let shows : Shows chunks c.args.self.now = record { is = c.self.view_is; whole = c.self.invariant.whole } in
+    let at = c.loop-at.at - 1 in
+    let within : at < 64 = omega arith in
+    let here : slot_at chunks at ≡ Some c.in-Some.chunk =
+    get_or_default chunks at None c.index-self-at.result (omega (arith, within, c.self.invariant.whole)) ∙ c.in-Some.is in
+    end_of shows (at * 64 + c.highest.result + 1)
+    (end_at chunks at c.highest.result c.highest.ensures.in_chunk (λ k above. c.loop-at.invariant k (omega arith))
+    (rw (here, ← c.deref.ensures) c.highest.ensures.present) (rw (here, ← c.deref.ensures) c.highest.ensures.none_above))
 
-pub returns-in-None-clause-end : goal.returns-in-None-clause-end
-returns-in-None-clause-end c =
-    let pages = c.self.inside.pages.items in
-    let none : slice_get pages (length pages - 1) ≡ None =
-    rw c.deref.ensures.value at (sym c.last.ensures.value ∙ ap option_copied c.in-None.is) in
-    end_of_same _ _ _ (λ i. get-find pages c.args.self.now.pages i (as_seen _ c.self.invariant.in_order c.self.view_is))
-    (end_of_empty pages none)
+pub returns-clause-end : goal.returns-clause-end
+returns-clause-end c =
+    let shows : Shows c.self.inside.chunks c.args.self.now = record { is = c.self.view_is; whole = c.self.invariant.whole } in
+    end_of shows 0 (end_of_none c.self.inside.chunks (λ k. c.loop-at.invariant k (omega arith)))
