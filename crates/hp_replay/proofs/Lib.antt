@@ -3,6 +3,7 @@ pub mod Lines
 pub mod Feeding
 pub mod Spelled
 pub mod Ends
+pub mod WholeLines
 pub mod Widths
 pub mod Bytes
 pub mod BadLines

@@ -1,6 +1,6 @@
 -- The lines of a trace, and what is held of a trace while it comes in pieces.
 use Rattle.std.specs.Prelude.{ℕ, zero, suc, ◌+◌, List, [], ◌∷◌, ◌++◌, length, Option, Some, None, Result, Ok, Err, ◌==◌}
-use Rattle.std.specs.Prelude.{if◌then◌else◌, IsTrue}
+use Rattle.std.specs.Prelude.{◌≡◌, ◌≢◌, ◌<◌, if◌then◌else◌, IsTrue, slice_index_or}
 use Rattle.hp_base.specs.Text.{Sizes, sizes, sizes_text, event_text, are_sizes}
 use Rattle.hp_replay.specs.Fits.{EventFits}
 use Rattle.hp_base.specs.declared.event.Event.{Event}
@@ -84,6 +84,11 @@ end_at None (suc n) (b ∷ rest) = Err (BadLine (n + 2))
 
 abbrev pub end_of : Held → Result (Unit {0}) ReplayFault
 end_of h = end_at h.fault h.lines h.rest
+
+-- the first line end of the piece stands there
+abbrev pub IsFirstEnd : (piece : List ℕ) → (end : ℕ) → Type 0
+IsFirstEnd piece end =
+    (end < length piece) × (slice_index_or piece end 0 ≡ 10) × ((j : ℕ) → j < end → slice_index_or piece j 0 ≢ 10)
 
 -- a line's one spelling, with its end
 abbrev pub line_text : Line → List ℕ

@@ -1,14 +1,15 @@
 //! Takes a trace in pieces, cut anywhere.
-ghost use Rattle.std.specs.Prelude.{◌≡◌, ◌≤◌, IfOk, IfErr, IfSome, OnOk, OnErr, take, length, [], None, Some};
+ghost use Rattle.std.specs.Prelude.{◌≡◌, ◌≤◌, IfOk, IfErr, IfSome, OnOk, OnErr, MatchOption, take, length, [], ◌∷◌, None, Some};
 ghost use Rattle.std.specs.Option.{option_map};
 ghost use Rattle.std.specs.Io.BufRead.{take_through};
-ghost use Rattle.hp_replay.specs.Lines.{Held, line_of, line_at, opening_held, fault_at, with_fault, take_byte, held_after};
+ghost use Rattle.hp_replay.specs.Lines.{Held, IsFirstEnd, line_of, line_at, opening_held, fault_at, with_fault, take_byte, held_after};
 ghost use Rattle.hp_replay.specs.Lines.{lines_after, listed, end_of};
 ghost use Rattle.hp_replay.specs.Traces.{IsLineFault};
 
 use crate::fault::ReplayFault;
 use crate::reading::{event_at, header_at};
 use hp_base::{Config, Event};
+use memchr::memchr;
 use std::marker::Model;
 
 /// A line of a trace.
@@ -39,6 +40,14 @@ impl Model for TraceFeed {
     ghost view = { λ f. record { lines = f.lines; rest = take f.len f.rest; fault = f.fault } };
 
     ghost invariant = { λ f. (f.len ≤ 56) × (f.lines ≤ 1000001) × IfSome f.fault IsLineFault };
+}
+
+// Where the first line of the piece ends, if it is no longer than a line may be.
+fn line_end(piece: &[u8]) -> Option<usize>
+    ensures end { IfSome result (λ end. IsFirstEnd piece.now end) }
+    ensures short { IfSome result (λ end. end ≤ 56) }
+{
+    memchr(b'\n', &piece[..piece.len().min(LONGEST_LINE + 1)])
 }
 
 impl TraceFeed {
@@ -75,16 +84,40 @@ impl TraceFeed {
         fault
     }
 
-    /// The line that the rest spells.
-    fn line_held(&self) -> Option<TraceLine>
-        ensures { option_map line_of result ≡ line_at self.now.lines self.now.rest }
+    /// The line that the text spells behind those that were taken.
+    fn line_at(&self, text: &[u8]) -> Option<TraceLine>
+        ensures { option_map line_of result ≡ line_at self.now.lines text.now }
     {
-        let text = &self.rest[..self.len];
         if self.lines == 0 {
             Some(TraceLine::Header(header_at(text)?))
         } else {
             Some(TraceLine::Event(event_at(text)?))
         }
+    }
+
+    /// The line that the rest spells.
+    fn line_held(&self) -> Option<TraceLine>
+        ensures { option_map line_of result ≡ line_at self.now.lines self.now.rest }
+    {
+        self.line_at(&self.rest[..self.len])
+    }
+
+    /// Takes the line with which the piece begins, where all of it is there and it is one; else nothing. It is
+    /// read where it stands: so most lines come without being copied.
+    fn take_whole(&mut self, piece: &[u8]) -> Option<(usize, TraceLine)>
+        requires { self.old.fault ≡ None }
+        ensures held { IfSome result (λ _. self.new ≡ held_after self.old (take_through 10 piece.now)) }
+        ensures used { IfSome result (λ taken. taken.0 ≡ length (take_through 10 piece.now)) }
+        ensures line { IfSome result (λ taken. lines_after self.old (take_through 10 piece.now) ≡ line_of taken.1 ∷ []) }
+        ensures none { MatchOption result (self.new ≡ self.old) (λ _. self.new.fault ≡ None) }
+    {
+        if self.len != 0 || self.lines == MOST_LINES {
+            return None;
+        }
+        let end = line_end(piece)?;
+        let line = self.line_at(&piece[..end])?;
+        self.lines += 1;
+        Some((end + 1, line))
     }
 
     fn fault(&self) -> Option<ReplayFault>
@@ -140,6 +173,9 @@ impl TraceFeed {
     {
         if let Some(fault) = self.fault() {
             return Err(fault);
+        }
+        if let Some((used, line)) = self.take_whole(piece) {
+            return Ok((used, Some(line)));
         }
         for (i, byte) in piece.iter().enumerate() {
             let line = self.push(*byte)?;

@@ -11,6 +11,7 @@
 mod fault;
 mod feed;
 mod laws;
+mod outcomes;
 mod reading;
 mod replaying;
 mod state;

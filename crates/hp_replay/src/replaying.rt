@@ -12,9 +12,10 @@ ghost use Rattle.hp_replay.specs.Streams.{TellsReads, TellsWrites};
 
 use crate::fault::ReplayFault;
 use crate::feed::{TraceFeed, TraceLine};
+use crate::outcomes::write_outcome;
 use crate::state::push_state;
 use crate::streams::{PIECE, Sink, Source};
-use crate::writing::{write_line, write_text};
+use crate::writing::write_text;
 use hp_core::Core;
 use std::alloc::Global;
 
@@ -40,7 +41,7 @@ fn run_line<W: Sink>(
         TraceLine::Event(event) => match core {
             Some(core) => {
                 let outcome = core.step(event)?;
-                write_line(writer, outcome, text)
+                write_outcome(writer, outcome, text)
             }
             None => unreachable!(),
         },

@@ -9,11 +9,11 @@ returns-in_ok-opened-in-Header-clause-ok g c =
 pub returns-in_ok-outcome-in-Some-clause-ok : goal.returns-in_ok-outcome-in-Some-clause-ok
 returns-in_ok-outcome-in-Some-clause-ok g c =
     event_ran c.args.core.now c.in-Some.core c.step.new.self c.args.line c.in-Event.event
-    c.in_ok-outcome-in-Some.outcome _ _ c.write_line.result c.in-Event.is c.in-Some.is
-    c.in_ok-outcome-in-Some.ensures.row c.write_line.ensures.ok
+    c.in_ok-outcome-in-Some.outcome _ _ c.write_outcome.result c.in-Event.is c.in-Some.is
+    c.in_ok-outcome-in-Some.ensures.row c.write_outcome.ensures.ok
 
 pub returns-in_ok-outcome-in-Some-clause-err : goal.returns-in_ok-outcome-in-Some-clause-err
 returns-in_ok-outcome-in-Some-clause-err g c =
     event_stopped c.args.core.now c.in-Some.core c.step.new.self c.args.line c.in-Event.event
-    c.in_ok-outcome-in-Some.outcome _ _ c.write_line.result c.in-Event.is c.in-Some.is
-    c.in_ok-outcome-in-Some.ensures.row c.write_line.ensures.front
+    c.in_ok-outcome-in-Some.outcome _ _ c.write_outcome.result c.in-Event.is c.in-Some.is
+    c.in_ok-outcome-in-Some.ensures.row c.write_outcome.ensures.front

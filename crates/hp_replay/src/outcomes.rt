@@ -1,0 +1,112 @@
+//! The lines of outcomes. Those without a number stand ready.
+ghost use Rattle.std.specs.Prelude.{◌≡◌, OnOk, IfErr, IfSome};
+ghost use Rattle.std.specs.Io.KnownBytes.{Appends};
+ghost use Rattle.hp_replay.specs.Streams.{TellsWrites};
+ghost use Rattle.hp_replay.specs.Writing.{Wrote, IsWriteFault};
+ghost use Rattle.hp_replay.specs.Outcomes.{outcome_line};
+
+use crate::fault::ReplayFault;
+use crate::streams::Sink;
+use crate::writing::write_text;
+use hp_base::Answer;
+use hp_machine::{Outcome, Phase, Refusal};
+
+// The line of a move to a phase.
+fn moved_line(phase: Phase) -> &'static [u8]
+    ensures { result.now ≡ outcome_line (Outcome.Moved phase) }
+{
+    match phase {
+        Phase::Start => b"moved start\n",
+        Phase::Look => b"moved look\n",
+        Phase::Want => b"moved want\n",
+        Phase::Locked => b"moved locked\n",
+        Phase::Missing => b"moved missing\n",
+        Phase::Changed => b"moved changed\n",
+        Phase::Abort => b"moved abort\n",
+        Phase::Taken => b"moved taken\n",
+        Phase::Settle => b"moved settle\n",
+        Phase::Committed => b"moved committed\n",
+        Phase::Restore => b"moved restore\n",
+        Phase::Found => b"moved found\n",
+        Phase::Leave => b"moved leave\n",
+        Phase::Room => b"moved room\n",
+        Phase::Accounted => b"moved accounted\n",
+        Phase::Enter => b"moved enter\n",
+        Phase::Head => b"moved head\n",
+        Phase::Unslot => b"moved unslot\n",
+        Phase::Extend => b"moved extend\n",
+        Phase::Unmap => b"moved unmap\n",
+        Phase::Evict => b"moved evict\n",
+        Phase::Delete => b"moved delete\n",
+        Phase::Free => b"moved free\n",
+        Phase::Size => b"moved size\n",
+        Phase::Tail => b"moved tail\n",
+        Phase::Clear => b"moved clear\n",
+        Phase::Drop => b"moved drop\n",
+    }
+}
+
+// The line of an end, where its answer has no number.
+fn ended_line(answer: Answer) -> Option<&'static [u8]>
+    ensures { IfSome result (λ line. line.now ≡ outcome_line (Outcome.Ended answer)) }
+{
+    match answer {
+        Answer::Mapped(_) | Answer::Word(_) => None,
+        Answer::Done => Some(b"ended done\n"),
+        Answer::Segv => Some(b"ended segv\n"),
+        Answer::Beyond => Some(b"ended beyond\n"),
+        Answer::NoFrame => Some(b"ended noframe\n"),
+        Answer::NoQuota => Some(b"ended noquota\n"),
+        Answer::NoMemory => Some(b"ended nomemory\n"),
+        Answer::Interrupted => Some(b"ended interrupted\n"),
+        Answer::Killed => Some(b"ended killed\n"),
+        Answer::BadFile => Some(b"ended badfile\n"),
+        Answer::BadRange => Some(b"ended badrange\n"),
+        Answer::NotMapped => Some(b"ended notmapped\n"),
+        Answer::NoAddress => Some(b"ended noaddress\n"),
+    }
+}
+
+fn refused_line(refusal: Refusal) -> &'static [u8]
+    ensures { result.now ≡ outcome_line (Outcome.Refused refusal) }
+{
+    match refusal {
+        Refusal::NotAlive => b"refused notalive\n",
+        Refusal::InCall => b"refused incall\n",
+        Refusal::Idle => b"refused idle\n",
+        Refusal::BadSize => b"refused badsize\n",
+    }
+}
+
+// The line of an outcome that has no number.
+fn ready_line(outcome: Outcome) -> Option<&'static [u8]>
+    ensures { IfSome result (λ line. line.now ≡ outcome_line outcome) }
+{
+    match outcome {
+        Outcome::Begun => Some(b"begun\n"),
+        Outcome::Moved(phase) => Some(moved_line(phase)),
+        Outcome::Ended(answer) => ended_line(answer),
+        Outcome::Marked => Some(b"marked\n"),
+        Outcome::Refused(refusal) => Some(refused_line(refusal)),
+        Outcome::Blocked(_) | Outcome::Resized(_) => None,
+    }
+}
+
+/// Writes the outcome's line. `line` is where it is laid out, if it doesn't stand ready.
+pub(crate) fn write_outcome<W: Sink>(
+    writer: &mut W,
+    outcome: Outcome,
+    line: &mut String,
+) -> Result<(), ReplayFault>
+    ensures ok { OnOk result (Appends (W.contents writer.old) (W.contents writer.new) (outcome_line outcome)) }
+    ensures front { IfErr result (λ fault. IsWriteFault fault
+        × Wrote (W.contents writer.old) (W.contents writer.new) (outcome_line outcome)) }
+    ensures writes { TellsWrites result (W.failed writer.old) (W.failed writer.new) }
+{
+    let Some(text) = ready_line(outcome) else {
+        line.clear();
+        writeln!(line, "{outcome}")?;
+        return write_text(writer, line.as_bytes());
+    };
+    write_text(writer, text)
+}
