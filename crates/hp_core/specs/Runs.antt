@@ -64,6 +64,6 @@ WantsGrowth p seats (Step task grant) = (grant ≡ true) × StepWants p seats ta
 WantsGrowth p seats (Kill task) = ⊥
 WantsGrowth p seats (Resize frames) = (is_size frames ≡ true) × ((pool_of p).frames < frames)
 
--- no memory was taken, and none given back: each part and the list of seats have as much room as before
+-- no memory was taken: no part has more room than before, and the list of seats has as much
 abbrev pub TakesNoMemory : CoreState → CoreState → Type 0
 TakesNoMemory old new = RoomStays old.parts new.parts × (new.room ≡ old.room)

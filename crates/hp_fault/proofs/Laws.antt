@@ -168,6 +168,22 @@ pub cache_rooms_same : (xs : List FileState) (f : ℕ) (y : FileState) → f < l
 unfolding cache_rooms_of
 cache_rooms_same xs f y l e = at_same (λ file. file.cache.room) no_file xs f y l e
 
+-- a cache may give some back
+pub cache_rooms_less : (xs : List FileState) (f : ℕ) (y : FileState) (file : ℕ) → f < length xs
+    → y.cache.room ≤ (slice_index_or xs f no_file).cache.room → cache_rooms_of (slice_set xs f y) file ≤ cache_rooms_of xs file
+unfolding cache_rooms_of
+cache_rooms_less xs f y file l le = elim (same_or_other file f) [
+  | inl e ↦
+      (let new : cache_rooms_of (slice_set xs f y) f ≡ y.cache.room =
+      ap (λ (x : FileState). x.cache.room) (get_or-set_same xs f y no_file l) in
+      let old : cache_rooms_of xs f ≡ (slice_index_or xs f no_file).cache.room = refl in
+      rw e (omega (arith, new, old, le)))
+  | inr other ↦
+      (let same : cache_rooms_of (slice_set xs f y) file ≡ cache_rooms_of xs file =
+      ap (λ (x : FileState). x.cache.room) (get_or-set_other xs f file y no_file other) in
+      omega (arith, same))
+]
+
 -- tasks
 pub ready_at : (xs : List Table) (t : ℕ) → ready_by_task xs t ≡ (table_of xs t).ready
 unfolding ready_by_task
@@ -415,7 +431,7 @@ pub ruleset evict_laws = (
   slice_get_within,
   length-set,
   map_rooms_same,
-  cache_rooms_same,
+  cache_rooms_less,
 )
 
 pub ruleset delete_laws = (

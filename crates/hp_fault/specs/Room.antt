@@ -1,5 +1,5 @@
 -- The memory that the parts have taken: to say that a step took none.
-use Rattle.std.specs.Prelude.{◌≡◌, ℕ, Bool, true, List, slice_index_or}
+use Rattle.std.specs.Prelude.{◌≡◌, ◌≤◌, ℕ, Bool, true, List, slice_index_or}
 use Rattle.hp_table.specs.Table.{Table}
 use Rattle.hp_fault.specs.declared.parts.FileState.{FileState}
 use Rattle.hp_fault.specs.State.{PartsState}
@@ -17,17 +17,18 @@ cache_rooms_of files f = (slice_index_or files f no_file).cache.room
 unfoldable pub rooms_by_task : List Table → ℕ → ℕ
 rooms_by_task spaces t = (table_of spaces t).room
 
--- each part has as much room as before: no memory was taken, and none given back. Slots and locks have room for their
--- places and no more, so that `SizesStay` says it of them.
+-- no memory was taken: each part has as much room as before, and each file's cache no more, since it gives memory back
+-- with the last page of a chunk. Slots and locks have room for their places and no more, so that `SizesStay` says it of
+-- them.
 abbrev pub RoomStays : PartsState → PartsState → Type 0
 RoomStays old new = record {
   bank : new.bank.room ≡ old.bank.room;
   maps : map_rooms_of new.files ≡ map_rooms_of old.files;
-  caches : cache_rooms_of new.files ≡ cache_rooms_of old.files;
+  caches : (file : ℕ) → cache_rooms_of new.files file ≤ cache_rooms_of old.files file;
   spaces : rooms_by_task new.spaces ≡ rooms_by_task old.spaces;
   lists : new.room ≡ old.room;
 }
 
--- each part has, unless growth is granted and wanted
+-- none was, unless growth is granted and wanted
 abbrev pub RoomStaysUnless : (grant : Bool) → (wants : Type 0) → PartsState → PartsState → Type 0
 RoomStaysUnless grant wants old new = ¬ ((grant ≡ true) × wants) → RoomStays old new

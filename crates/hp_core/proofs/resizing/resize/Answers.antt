@@ -42,7 +42,7 @@ returns-then-now-frames-clause-room c = λ unwanted.
         | inr l ↦ (c.in_ok-grow.ensures.room (omega (arith, all, l))).1
       ];
       maps = refl;
-      caches = refl;
+      caches = λ file. omega arith;
       spaces = refl;
       lists = refl;
     }
