@@ -68,24 +68,70 @@ fn a_bank_shrinks_and_grows(rt: HostRuntime) -> Result<(), Fail> {
     bank.retire(3);
     assert_eq!(rt; (bank.frames(), bank.free(), bank.resv()), (1, 1, 1));
     assert_eq!(rt; bank.numbers(), 4);
-    assert_eq!(rt; bank.retired().len(), 3);
+    assert_eq!(rt; bank.retired().count(), 3);
     assert!(rt;
         bank.retired()
-            .iter()
-            .all(|frame| bank.is_retired(*frame) && !bank.is_free(*frame))
+            .all(|frame| bank.is_retired(frame) && !bank.is_free(frame))
     );
     bank.grow(2)?;
     assert_eq!(rt;
-        (bank.frames(), bank.free(), bank.retired().len()),
+        (bank.frames(), bank.free(), bank.retired().count()),
         (3, 3, 1)
     );
     bank.grow(3)?;
     assert_eq!(rt;
-        (bank.frames(), bank.free(), bank.retired().len()),
+        (bank.frames(), bank.free(), bank.retired().count()),
         (6, 6, 0)
     );
     assert_eq!(rt; bank.numbers(), 6);
     assert!(rt; bank.is_free(Frame::new(5)) && !bank.is_free(Frame::new(6)));
+    Ok(())
+}
+
+#[test]
+fn a_copy_tells_the_same(rt: HostRuntime) -> Result<(), Fail> {
+    let mut bank = Bank::new(rt.alloc(), 5, Some(9))?;
+    bank.account(1)?;
+    assert!(rt; bank.free() - bank.resv() >= 2);
+    bank.retire(2);
+    let held = bank.take_unreserved()?;
+    assert_eq!(rt; bank.hands(), 1);
+    let page = bank.place(held);
+    bank.store(page, 9);
+    assert_eq!(rt; bank.hands(), 0);
+    let copy = bank.copy(rt.alloc())?;
+    assert_eq!(rt; copy.load(page), 9);
+    assert_eq!(rt;
+        (copy.numbers(), copy.frames(), copy.free(), copy.hands()),
+        (bank.numbers(), bank.frames(), bank.free(), bank.hands())
+    );
+    assert_eq!(rt;
+        (copy.resv(), copy.used(), copy.quota()),
+        (bank.resv(), bank.used(), bank.quota())
+    );
+    for number in 0..bank.numbers() {
+        let frame = Frame::new(number);
+        assert_eq!(rt; copy.is_free(frame), bank.is_free(frame));
+        assert_eq!(rt; copy.is_retired(frame), bank.is_retired(frame));
+    }
+    assert!(rt; copy.retired().eq(bank.retired()));
+    Ok(())
+}
+
+#[test]
+fn a_copy_goes_on_apart(rt: HostRuntime) -> Result<(), Fail> {
+    let mut bank = Bank::new(rt.alloc(), 3, None)?;
+    let held = bank.take_unreserved()?;
+    let page = bank.place(held);
+    bank.store(page, 9);
+    assert_eq!(rt; bank.hands(), 0);
+    let mut copy = bank.copy(rt.alloc())?;
+    bank.store(page, 8);
+    assert_eq!(rt; (bank.load(page), copy.load(page)), (8, 9));
+    let held = copy.evict(page);
+    copy.give(held);
+    assert_eq!(rt; (copy.free(), copy.hands()), (3, 0));
+    assert_eq!(rt; (bank.free(), bank.used()), (2, 1));
     Ok(())
 }
 
