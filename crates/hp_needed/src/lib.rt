@@ -28,6 +28,7 @@ ghost use Rattle.hp_needed.specs.Promising.{resize_hand_run};
 ghost use Rattle.hp_needed.specs.Cutting.{VisitsPagesOnly, pages_only_run, short_run, SweepsFromSize, low_top_run};
 ghost use Rattle.hp_needed.specs.Cutting.{LooksNoMore, late_touch_run, SizesLast};
 ghost use Rattle.hp_needed.specs.Locking.{UnlocksEarly, unlock_run, unlock_count_run, BreaksLock, lock_run};
+ghost use Rattle.hp_needed.specs.Locking.{PunchBreaksLock, punch_lock_run, TruncateBreaksLock, truncate_lock_run};
 ghost use Rattle.hp_needed.specs.Locking.{TouchBreaksSlot, touch_slot_run, PunchBreaksSlot, punch_slot_run};
 ghost use Rattle.hp_needed.specs.Locking.{TruncateBreaksSlot, truncate_slot_run, PunchesEarly, punch_early_run};
 ghost use Rattle.hp_needed.specs.Locking.{TruncatesEarly, truncate_early_run};
@@ -165,6 +166,16 @@ pub fn the_lock_is_held_for_the_count()
 /// A map has to wait for the file lock.
 pub fn a_map_waits_for_the_lock()
     ensures { Miscounts (with_calls BreaksLock) (small 2 1) 1 lock_run 0 1 }
+{}
+
+/// A punch has to wait for the file lock.
+pub fn a_punch_waits_for_the_lock()
+    ensures { Miscounts (with_calls PunchBreaksLock) (small 2 1) 1 punch_lock_run 0 1 }
+{}
+
+/// A truncation has to wait for the file lock.
+pub fn a_truncation_waits_for_the_lock()
+    ensures { Miscounts (with_calls TruncateBreaksLock) (small 2 1) 1 truncate_lock_run 0 1 }
 {}
 
 /// A touch has to wait for its slot: else it translates a page that a punch takes away.
