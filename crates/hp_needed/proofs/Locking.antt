@@ -9,7 +9,7 @@ use Rattle.hp_machine.specs.declared.touch.TouchPhase.TheVariants as touch
 use Rattle.hp_machine.specs.declared.map.MapPhase.TheVariants as map
 use Rattle.hp_machine.specs.declared.punch.PunchPhase.TheVariants as punch
 use Rattle.hp_machine.specs.declared.truncate.TruncatePhase.TheVariants as truncate
-use Rattle.hp_needed.specs.Locking.{UnlocksEarly, BreaksLock, TouchBreaksSlot}
+use Rattle.hp_needed.specs.Locking.{PunchBreaksLock, TruncateBreaksLock, UnlocksEarly, BreaksLock, TouchBreaksSlot}
 use Rattle.hp_needed.specs.Locking.{PunchBreaksSlot, TruncateBreaksSlot}
 use Rattle.hp_needed.specs.Locking.{PunchesEarly, TruncatesEarly}
 use Rattle.hp_needed.proofs.Searching.{bind}
@@ -28,6 +28,18 @@ unfolding BreaksLock CallRow
 try_BreaksLock s t killed grant (call.Map (map.Start p)) h =
     by call.Map _ (try_map (unlocked s p.map.file) t killed grant (map.Start p) h)
 try_BreaksLock s t killed grant c h = try_call s t killed grant c h
+
+abbrev pub try_PunchBreaksLock : TriesCalls PunchBreaksLock
+unfolding PunchBreaksLock CallRow
+try_PunchBreaksLock s t killed grant (call.Punch (punch.Start p)) h =
+    by call.Punch _ (try_punch (unlocked s p.hole.file) t killed grant (punch.Start p) h)
+try_PunchBreaksLock s t killed grant c h = try_call s t killed grant c h
+
+abbrev pub try_TruncateBreaksLock : TriesCalls TruncateBreaksLock
+unfolding TruncateBreaksLock CallRow
+try_TruncateBreaksLock s t killed grant (call.Truncate (truncate.Start p)) h =
+    by call.Truncate _ (try_truncate (unlocked s p.truncation.file) t killed grant (truncate.Start p) h)
+try_TruncateBreaksLock s t killed grant c h = try_call s t killed grant c h
 
 abbrev pub try_TouchBreaksSlot : TriesCalls TouchBreaksSlot
 unfolding TouchBreaksSlot CallRow

@@ -1,5 +1,5 @@
 -- Machines that don't wait, or don't clear in time: each differs from the right one in one row.
-use Rattle.std.specs.Prelude.{◌≡◌, List, []}
+use Rattle.std.specs.Prelude.{◌≡◌, true, List, []}
 use Rattle.hp_base.specs.declared.event.Op.TheVariants as op
 use Rattle.hp_base.specs.declared.event.Event.{Event}
 use Rattle.hp_machine.specs.State.{Pool}
@@ -7,8 +7,8 @@ use Rattle.hp_machine.specs.Parts.{unlocked, unslotted}
 use Rattle.hp_machine.specs.Events.{CallRow, CallRows, TurnRow}
 use Rattle.hp_machine.specs.TouchRows.{TouchWantRow}
 use Rattle.hp_machine.specs.MapRows.{MapStartRow}
-use Rattle.hp_machine.specs.PunchRows.{PunchWantRow, PunchUnmapRow}
-use Rattle.hp_machine.specs.TruncateRows.{TruncateSizeRow, TruncateWantRow, TruncateUnmapRow}
+use Rattle.hp_machine.specs.PunchRows.{PunchStartRow, PunchWantRow, PunchUnmapRow}
+use Rattle.hp_machine.specs.TruncateRows.{TruncateStartRow, TruncateSizeRow, TruncateWantRow, TruncateUnmapRow}
 use Rattle.hp_machine.specs.declared.touch.TouchPhase.TheVariants as touch
 use Rattle.hp_machine.specs.declared.map.MapPhase.TheVariants as map
 use Rattle.hp_machine.specs.declared.punch.Unmap as punch_unmap
@@ -53,6 +53,30 @@ abbrev pub lock_run : List Event
 lock_run =
     calls 1 (op.Map 0 0 1) 0 (calls 2 (op.Truncate 0 0) 1 (steps 1 5 (steps 2 1
     (steps 1 2 (calls 1 (op.Map 0 0 1) 4 (steps 2 1 (steps 1 3 (steps 2 2 []))))))))
+
+-- ---- a punch takes the file lock though another task holds it
+-- (right: PunchStartRow waits)
+unfoldable pub PunchBreaksLock : CallRows
+PunchBreaksLock s t killed grant (call.Punch (punch.Start p)) =
+    TurnRow call.Punch (λ turn new. PunchStartRow (unlocked s p.hole.file) t killed p turn new)
+PunchBreaksLock s t killed grant other = CallRow s t killed grant other
+
+-- a map counts on an index that a punch takes out
+abbrev pub punch_lock_run : List Event
+punch_lock_run = calls 1 (op.Alloc 0 0 1 true) 10 (calls 1 (op.Map 0 0 1) 3 (calls 2 (op.Punch 0 0 1) 10 (steps 1 4 [])))
+
+-- ---- a truncation takes the file lock though another task holds it
+-- (right: TruncateStartRow waits)
+unfoldable pub TruncateBreaksLock : CallRows
+TruncateBreaksLock s t killed grant (call.Truncate (truncate.Start p)) =
+    TurnRow call.Truncate (λ turn new. TruncateStartRow (unlocked s p.truncation.file) t killed p turn new)
+TruncateBreaksLock s t killed grant other = CallRow s t killed grant other
+
+-- two maps of one task, one after the other, count on an index that the truncation takes out between them
+abbrev pub truncate_lock_run : List Event
+truncate_lock_run =
+    calls 1 (op.Map 0 0 1) 5 (calls 2 (op.Truncate 0 0) 2 (steps 1 2
+    (calls 1 (op.Map 0 0 1) 4 (steps 2 1 (steps 1 3 (steps 2 2 []))))))
 
 -- ---- a touch takes its slot though another task holds it
 -- (right: TouchWantRow waits)

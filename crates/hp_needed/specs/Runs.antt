@@ -15,7 +15,7 @@ use Rattle.hp_machine.specs.Views.{hand}
 use Rattle.hp_machine.specs.declared.outcome.Outcome.{Outcome}
 use Rattle.hp_laws.specs.Protocol.{ChangesAreCalls, SparesSuffice}
 
--- the machine with each row as it is: of it, edits say what is proved of the others, and it is refused
+-- the machine with each row as it is. Edits claim of it what is proved of the others, and are refused
 abbrev pub as_it_is : EventRows
 as_it_is = Row
 

@@ -28,6 +28,7 @@ ghost use Rattle.hp_needed.specs.Promising.{resize_hand_run};
 ghost use Rattle.hp_needed.specs.Cutting.{VisitsPagesOnly, pages_only_run, short_run, SweepsFromSize, low_top_run};
 ghost use Rattle.hp_needed.specs.Cutting.{LooksNoMore, late_touch_run, SizesLast};
 ghost use Rattle.hp_needed.specs.Locking.{UnlocksEarly, unlock_run, unlock_count_run, BreaksLock, lock_run};
+ghost use Rattle.hp_needed.specs.Locking.{PunchBreaksLock, punch_lock_run, TruncateBreaksLock, truncate_lock_run};
 ghost use Rattle.hp_needed.specs.Locking.{TouchBreaksSlot, touch_slot_run, PunchBreaksSlot, punch_slot_run};
 ghost use Rattle.hp_needed.specs.Locking.{TruncateBreaksSlot, truncate_slot_run, PunchesEarly, punch_early_run};
 ghost use Rattle.hp_needed.specs.Locking.{TruncatesEarly, truncate_early_run};
@@ -52,17 +53,17 @@ pub fn a_map_settles()
     ensures { Miscounts (with_calls MapKeepsExcess) (small 2 1) 2 map_settles_run 1 0 }
 {}
 
-/// So has a touch.
+/// A touch has to give back what it counted and didn't add.
 pub fn a_touch_settles()
     ensures { Miscounts (with_calls TouchKeepsExcess) (small 2 1) 2 touch_settles_run 1 0 }
 {}
 
-/// And it has to lower the used count by that.
+/// What a map gives back it has to take off the used count, too.
 pub fn a_map_settles_the_used_count()
     ensures { Misuses (with_calls MapKeepsUsed) (bounded 2 1 2) 2 map_settles_run 2 1 }
 {}
 
-/// So has a touch.
+/// What a touch gives back it has to take off the used count, too.
 pub fn a_touch_settles_the_used_count()
     ensures { Misuses (with_calls TouchKeepsUsed) (bounded 2 1 2) 2 touch_settles_run 2 1 }
 {}
@@ -72,7 +73,7 @@ pub fn a_touch_restores_the_count()
     ensures { Miscounts (with_calls RestoresUncounted) (small 1 1) 1 restore_run 0 1 }
 {}
 
-/// And it has to leave the index in the reserve map.
+/// A touch that gives its frame back has to leave the index in the reserve map.
 pub fn a_restored_index_stays_reserved()
     ensures { Miscounts (with_calls RestoresUnmarked) (small 1 1) 1 restore_run 1 0 }
 {}
@@ -82,7 +83,7 @@ pub fn a_denied_delete_is_counted()
     ensures { Miscounts (with_calls ForgetsDenial) (small 1 5) 4 denial_run 3 4 }
 {}
 
-/// And it has to leave the used count.
+/// A punch whose delete was denied has to leave the used count.
 pub fn a_denied_delete_stays_used()
     ensures { Misuses (with_calls UnusesDenied) (bounded 1 5 4) 4 denial_run 3 4 }
 {}
@@ -92,12 +93,12 @@ pub fn a_truncation_settles()
     ensures { Miscounts (with_calls GivesNothingBack) (small 1 1) 1 nothing_back_run 1 0 }
 {}
 
-/// And only those.
+/// A truncation has to give back no index whose page it took away.
 pub fn evicted_pages_are_not_given_back()
     ensures { Miscounts (with_calls GivesBackEvicted) (small 1 2) 2 evicted_run 0 1 }
 {}
 
-/// Of the used count it has to take the pages that it evicted, too.
+/// A truncation has to take the pages that it took away off the used count, too.
 pub fn evicted_pages_are_no_longer_used()
     ensures { Misuses (with_calls KeepsEvictedUsed) (bounded 1 1 1) 1 evicted_used_run 1 0 }
 {}
@@ -122,7 +123,7 @@ pub fn reserved_frames_are_not_retired()
     ensures { Breaks (with_resizes RetiresReserved) (small 1 2) 2 resize_reserved_run FreeFramesSuffice }
 {}
 
-/// And frames in a hand.
+/// A resize has to leave frames in hands.
 pub fn frames_in_hands_are_not_retired()
     ensures { Breaks (with_resizes RetiresHands) (small 1 1) 2 resize_hand_run FramesAreInOnePlace }
 {}
@@ -132,7 +133,7 @@ pub fn bare_indices_are_visited()
     ensures { Miscounts (with_calls VisitsPagesOnly) (small 2 1) 1 pages_only_run 0 1 }
 {}
 
-/// Else its settling can want more than the count is.
+/// Where a truncation passes an index without a page, its settling can want more than the count is.
 pub fn the_count_stays_above_zero()
     ensures { Breaks (with_calls VisitsPagesOnly) (small 2 1) 1 short_run NeverShort }
 {}
@@ -152,12 +153,12 @@ pub fn the_size_is_set_first()
     ensures { Miscounts (with_calls SizesLast) (small 2 1) 2 late_touch_run 0 1 }
 {}
 
-/// A truncation has to hold its file lock to the end, else translations lie beyond the size of an unlocked file.
+/// A truncation has to hold its file lock to the end: else a translation lies beyond the size of an unlocked file.
 pub fn the_lock_is_held()
     ensures { Breaks (with_calls UnlocksEarly) (small 1 1) 1 unlock_run IsBelow }
 {}
 
-/// And the count is wrong when all is over.
+/// A truncation that leaves its file lock early leaves a wrong count.
 pub fn the_lock_is_held_for_the_count()
     ensures { Miscounts (with_calls UnlocksEarly) (small 2 1) 1 unlock_count_run 0 1 }
 {}
@@ -167,17 +168,27 @@ pub fn a_map_waits_for_the_lock()
     ensures { Miscounts (with_calls BreaksLock) (small 2 1) 1 lock_run 0 1 }
 {}
 
+/// A punch has to wait for the file lock.
+pub fn a_punch_waits_for_the_lock()
+    ensures { Miscounts (with_calls PunchBreaksLock) (small 2 1) 1 punch_lock_run 0 1 }
+{}
+
+/// A truncation has to wait for the file lock.
+pub fn a_truncation_waits_for_the_lock()
+    ensures { Miscounts (with_calls TruncateBreaksLock) (small 2 1) 1 truncate_lock_run 0 1 }
+{}
+
 /// A touch has to wait for its slot: else it translates a page that a punch takes away.
 pub fn a_touch_waits_for_its_slot()
     ensures { Breaks (with_calls TouchBreaksSlot) (small 2 1) 1 touch_slot_run Agrees }
 {}
 
-/// So has a punch: else it takes the page away that a touch translates.
+/// A punch has to wait for its slot: else it takes the page away that a touch translates.
 pub fn a_punch_waits_for_its_slot()
     ensures { Breaks (with_calls PunchBreaksSlot) (small 2 1) 1 punch_slot_run Agrees }
 {}
 
-/// So has a truncation.
+/// A truncation has to wait for its slots: else it passes a touch that is about to place its page.
 pub fn a_truncation_waits_for_its_slots()
     ensures { Miscounts (with_calls TruncateBreaksSlot) (small 2 1) 1 truncate_slot_run 0 1 }
 {}
@@ -187,7 +198,7 @@ pub fn entries_of_all_tasks_are_cleared()
     ensures { Breaks (with_calls PunchesEarly) (small 2 1) 1 punch_early_run Agrees }
 {}
 
-/// So has a truncation.
+/// A truncation has to clear all tasks' entries of the page before it goes.
 pub fn pages_are_unmapped_before_they_go()
     ensures { Breaks (with_calls TruncatesEarly) (small 2 1) 1 truncate_early_run Agrees }
 {}
