@@ -15,7 +15,7 @@ use Rattle.hp_base.specs.declared.mapping.Mapping.{Mapping}
 use Rattle.hp_base.proofs.Counting.{count_below-ext, count_below_none}
 use Rattle.hp_base.proofs.Puts.{same_or_other}
 use Rattle.hp_base.proofs.Sums.{passes, count_by-filter_map, count_by_none}
-use Rattle.hp_cache.proofs.Order.{find_at}
+use Rattle.hp_core.proofs.Order.{find_at}
 use Rattle.hp_table.specs.Table.{Table}
 use Rattle.hp_table.proofs.Counts.{count_by-find}
 use Rattle.hp_table.proofs.Mapped.{found_in_space}
