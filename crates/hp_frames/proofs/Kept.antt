@@ -1,5 +1,6 @@
 -- What a bank keeps of its frames stays right.
-use Rattle.std.proofs.Common.{◌≡◌, ℕ, ◌+◌, ◌<◌, ◌≤◌, ◌^◌, Bool, false, List, [], ◌∷◌, ◌++◌, length, set, Option, Some, None, slice_get, arith, ap, refl, ◌∙◌}
+use Rattle.std.proofs.Common.{◌≡◌, ℕ, ◌+◌, ◌<◌, ◌≤◌, ◌^◌, Bool, false, List, [], ◌∷◌, ◌++◌, length, set}
+use Rattle.std.proofs.Common.{Option, Some, None, slice_get, arith, ap, refl, ◌∙◌}
 use Rattle.std.proofs.lemmas.List.{length-set, length-append}
 use Rattle.hp_base.specs.Indices.{count_below}
 use Rattle.hp_base.proofs.Counting.{count_below_le}
@@ -10,7 +11,8 @@ use Rattle.hp_frames.specs.declared.record.Record.{Record}
 use Rattle.hp_frames.specs.declared.record.Record.TheVariants.{Free, Hand, Placed, Retired}
 use Rattle.hp_frames.specs.Bank.{is_free, is_in_hand, is_retired, count_of, frame_at}
 use Rattle.hp_frames.specs.Records.{state_of, states, next_of, record_at, IsKept, IsThreaded}
-use Rattle.hp_frames.proofs.Chains.{count_more, count_moved, first_free, first_retired, given, given_more, none_threaded, passed, passed_more, taken}
+use Rattle.hp_frames.proofs.Chains.{count_more, count_moved, first_free, first_retired, given, given_more}
+use Rattle.hp_frames.proofs.Chains.{none_threaded, passed, passed_more, taken}
 use Rattle.hp_frames.proofs.Frames.{count_one, not_all}
 use Rattle.hp_frames.proofs.States.{many}
 
@@ -47,7 +49,8 @@ moved_kept rs new free retired hands after x s r is at not_free still_not not_re
     }
 
 -- the first free frame comes into a hand
-pub taken_kept : (rs seen new : List Record) (free rest retired : Chain) (hands after x : ℕ) → seen ≡ rs → new ≡ set rs x Hand → free.first ≡ Some x
+pub taken_kept : (rs seen new : List Record) (free rest retired : Chain) (hands after x : ℕ) → seen ≡ rs
+    → new ≡ set rs x Hand → free.first ≡ Some x
     → rest.first ≡ next_of (record_at seen x) → rest.count + 1 ≡ free.count → after ≡ hands + 1 → IsKept rs free retired hands
     → IsKept new rest retired after
 taken_kept rs seen new free rest retired hands after x same is first next less more kept =

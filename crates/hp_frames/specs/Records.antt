@@ -1,5 +1,6 @@
 -- What a bank keeps of its frames: a record of each, and the free and the retired ones linked through their records.
-use Rattle.std.specs.Prelude.{◌≡◌, ◌<◌, ◌^◌, ℕ, zero, suc, Bool, List, [], ◌∷◌, length, map, Option, None, Some, IsSomeAnd, slice_index_or}
+use Rattle.std.specs.Prelude.{◌≡◌, ◌<◌, ◌^◌, ℕ, zero, suc, Bool, List, [], ◌∷◌, length, map, slice_index_or}
+use Rattle.std.specs.Prelude.{Option, None, Some, IsSomeAnd}
 use Rattle.hp_frames.specs.declared.frame.FrameState.{FrameState}
 use Rattle.hp_frames.specs.declared.frame.FrameState.TheVariants as state
 use Rattle.hp_frames.specs.declared.record.Chain.{Chain}
@@ -42,7 +43,7 @@ pub record IsThreaded (holds : FrameState → Bool) (records : List Record) (cha
   pub all : length listed ≡ count_of holds (states records)
   pub counted : chain.count ≡ count_of holds (states records)
 
--- what a bank keeps of its frames: a record of each, and how many are in hands
+-- what a bank keeps of its frames is right: the two chains, and how many frames are in hands
 abbrev pub IsKept : List Record → (free retired : Chain) → (hands : ℕ) → Type 0
 IsKept records free retired hands = record {
   free : IsThreaded is_free records free;

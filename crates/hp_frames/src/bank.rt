@@ -10,6 +10,7 @@ use crate::fault::Fault;
 use crate::frame::FrameState;
 use crate::record::{Chain, Record, move_frame};
 use hp_base::Frame;
+pub use resize::Retired;
 use std::alloc::{AllocError, Global};
 use std::marker::Model;
 
@@ -40,8 +41,8 @@ impl Held {
 #[derive(Drop)]
 pub struct Bank {
     records: Vec<Record>,
-    // The free frames, and the retired ones. They are linked through their records, so that a frame goes from
-    // one to the other without memory.
+    // The free frames, and the retired ones. Both are linked through their records, so that a frame goes from the
+    // ones to the others without memory.
     free: Chain,
     retired: Chain,
     // How many frames are in hands.
@@ -94,9 +95,9 @@ impl Bank {
         Ok(bank)
     }
 
-    /// The same frames, counts and words in another bank, for which memory is taken. No frame may be in a hand,
-    /// since its token could be given back to only one of the two. A running pool keeps the bank of its last cut
-    /// so, to compare histories from there on.
+    /// The same frames, words and counts in a bank of its own, for which memory is taken. It is for a running pool
+    /// whose journal is cut: the pool keeps the core of its last cut, to compare histories from there on. No frame
+    /// may be in a hand, since its token could be given back to only one of the two banks.
     pub fn copy(&self, alloc: Global) -> Result<Bank, AllocError>
         requires { hand_count self.now ≡ 0 }
         ensures { IfOk result (λ copy. copy ≡ record self.now { room = copy.room }) }
@@ -121,7 +122,7 @@ impl Bank {
         self.free.count()
     }
 
-    /// How many frames are in hands.
+    /// How many frames are in hands: taken or evicted, and not yet placed or given back.
     pub fn hands(&self) -> u32
         ensures { result ≡ hand_count self.now }
     {

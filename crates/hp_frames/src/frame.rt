@@ -1,6 +1,6 @@
 //! Where a frame is.
 
-/// Where a frame is.
+/// Where a frame is: what contracts see of the record that a bank keeps of it.
 #[derive(Clone, Copy, Debug, PartialEq, Eq)]
 pub enum FrameState {
     Free,

@@ -5,7 +5,8 @@
 //! memory, which it does when it is made and when it grows by new numbers: no order of the free frames
 //! shows. Each call says exactly what it does to the frames and to the counts, and the reserve count never
 //! exceeds the free frames. A frame in a hand is a token, `Held`, which only this crate makes and which is
-//! spent once. It knows nothing of files, tasks or calls.
+//! spent once. It keeps one record a frame, and links the free frames and the retired ones through their
+//! records, so that a step on a frame looks at no other. It knows nothing of files, tasks or calls.
 #![tactic(auto)]
 
 pub mod bank;
@@ -13,6 +14,6 @@ pub mod fault;
 pub mod frame;
 mod record;
 
-pub use bank::{Bank, Held};
+pub use bank::{Bank, Held, Retired};
 pub use fault::Fault;
 pub use frame::FrameState;
