@@ -20,7 +20,6 @@ use Rattle.hp_base.proofs.Counting.{count_below-ext}
 use Rattle.hp_base.proofs.Spaces.{both_true}
 use Rattle.hp_base.proofs.Sums.{sum_by-total, sum_at_most_one}
 use Rattle.hp_base.proofs.Totals.{total_somewhere, at_most_one, count_below_somewhere}
-use Rattle.hp_cache.proofs.Order.{find_at, keys_differ, found_entry, found_somewhere}
 use Rattle.hp_frames.specs.Bank.{is_free, is_retired}
 use Rattle.hp_frames.proofs.Frames.{free_is, retired_is}
 use Rattle.hp_machine.specs.State.{State}
@@ -42,6 +41,7 @@ use Rattle.hp_core.specs.Runs.{Headline}
 use Rattle.hp_core.specs.Pictures.{IsPicture, IsFilePicture, is_that, is_entry, translates}
 use Rattle.hp_core.specs.Readers.{free_of, resv_of, owed_of, used_of, used_owed_of, quota_of}
 use Rattle.hp_core.proofs.Headlines.{reached_of, headline_of}
+use Rattle.hp_core.proofs.Order.{find_at, keys_differ, found_entry, found_somewhere}
 
 -- the headline, seen as the machine's
 head_of : (s : CoreState) → IsSound s → head.Headline (as_state s)

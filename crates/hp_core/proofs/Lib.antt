@@ -6,6 +6,7 @@ pub mod FilePictures
 pub mod Headlines
 pub mod Meets
 pub mod Opens
+pub mod Order
 pub mod Pictures
 pub mod Reading
 pub mod Resizes

@@ -15,7 +15,6 @@ use Rattle.hp_base.specs.declared.mapping.Mapping.{Mapping}
 use Rattle.hp_base.proofs.Counting.{count_below-ext, count_below_none}
 use Rattle.hp_base.proofs.Puts.{same_or_other}
 use Rattle.hp_base.proofs.Sums.{passes, count_by-filter_map, count_by_none}
-use Rattle.hp_cache.proofs.Order.{find_at}
 use Rattle.hp_table.specs.Table.{Table}
 use Rattle.hp_table.proofs.Counts.{count_by-find}
 use Rattle.hp_table.proofs.Mapped.{found_in_space}
@@ -27,6 +26,7 @@ use Rattle.hp_core.specs.Sound.{IsSound}
 use Rattle.hp_core.specs.Copies.{translation, translations, all_translations}
 use Rattle.hp_core.specs.Pictures.{is_that, is_entry, translates}
 use Rattle.hp_core.proofs.Headlines.{reached_of}
+use Rattle.hp_core.proofs.Order.{find_at}
 
 -- how often an entry of that task, index and frame is told
 abbrev times : (t f i x : ℕ) → List (ℕ × ℕ × ℕ × ℕ) → ℕ
