@@ -45,20 +45,17 @@ grown_row p new n k size all some h rest =
     let is = actives_is p.bank.frames in
     let wide : length new.frames ≡ max (length p.bank.frames) n = let w = h.wide in omega (arith, w, all) in
     let more : nat_lt (actives (pool_of p)) n ≡ true = grind (arith, nat_tests, is, all, some) in
-    at_true _ _ (is_size n) size (
-      frame_at new.frames,
-      at_true _ _ (nat_lt (actives (pool_of p)) n) more (
-        record {
-          count = subst (λ (m : ℕ). active_frames (frame_at new.frames) m ≡ n) wide (actives_is new.frames ∙ (h.count ∙ sym all));
-          each = h.each;
-          fresh = λ x l m. h.fresh x l (omega (arith, wide, m));
-          beyond = λ x l. past new.frames x (omega (arith, wide, l)) ∙ sym (past p.bank.frames x (omega (arith, wide, l)));
-        },
-        refl,
-        ap (λ (b : BankState). pool_of (record p { bank = b })) rest
-            ∙ ap (λ (m : ℕ). record (pool_of p) { frames = m; frame = frame_at new.frames }) wide,
-      ),
-    )
+    at_true _ _ (is_size n) size (frame_at new.frames, at_true _ _ (nat_lt (actives (pool_of p)) n) more (
+      record {
+        count = subst (λ (m : ℕ). active_frames (frame_at new.frames) m ≡ n) wide (actives_is new.frames ∙ (h.count ∙ sym all));
+        each = h.each;
+        fresh = λ x l m. h.fresh x l (omega (arith, wide, m));
+        beyond = λ x l. past new.frames x (omega (arith, wide, l)) ∙ sym (past p.bank.frames x (omega (arith, wide, l)));
+      },
+      refl,
+      ap (λ (b : BankState). pool_of (record p { bank = b })) rest
+          ∙ ap (λ (m : ℕ). record (pool_of p) { frames = m; frame = frame_at new.frames }) wide,
+    ))
 
 -- and one that has shrunk
 pub shrunk_row : (p : PartsState) (new : BankState) (n now k : ℕ) → is_size n ≡ true → now ≡ bank.active_frames p.bank.frames → n ≤ now
@@ -72,22 +69,19 @@ shrunk_row p new n now k size there few is_surplus h rest =
     let wide = h.wide in
     let fewer : nat_lt (actives (pool_of p)) n ≡ false = grind (arith, nat_tests, is, few) in
     let same : k ≡ surplus (pool_of p) n = omega (arith, is, free, is_surplus) in
-    at_true _ _ (is_size n) size (
-      frame_at new.frames,
-      at_false _ _ (nat_lt (actives (pool_of p)) n) fewer (
-        subst (λ (m : ℕ). Retires (pool_of p) m (frame_at new.frames)) same (record {
-          count =
-              (let a = actives_is new.frames in let b = h.count in
-              let c : active_frames (frame_at new.frames) (length p.bank.frames) ≡ bank.active_frames new.frames =
-              subst (λ (m : ℕ). active_frames (frame_at new.frames) m ≡ bank.active_frames new.frames) wide a in
-              omega (arith, b, c, is, there));
-          each = λ x. each x (cases_lt x (length p.bank.frames));
-        }),
-        (λ i. outcome.Resized (sym is i - same i)),
-        ap (λ (b : BankState). pool_of (record p { bank = b })) rest
-            ∙ ap (λ (m : ℕ). record (pool_of p) { frames = m; frame = frame_at new.frames }) wide,
-      ),
-    )
+    at_true _ _ (is_size n) size (frame_at new.frames, at_false _ _ (nat_lt (actives (pool_of p)) n) fewer (
+      subst (λ (m : ℕ). Retires (pool_of p) m (frame_at new.frames)) same (record {
+        count =
+            (let a = actives_is new.frames in let b = h.count in
+            let c : active_frames (frame_at new.frames) (length p.bank.frames) ≡ bank.active_frames new.frames =
+            subst (λ (m : ℕ). active_frames (frame_at new.frames) m ≡ bank.active_frames new.frames) wide a in
+            omega (arith, b, c, is, there));
+        each = λ x. each x (cases_lt x (length p.bank.frames));
+      }),
+      (λ i. outcome.Resized (sym is i - same i)),
+      ap (λ (b : BankState). pool_of (record p { bank = b })) rest
+          ∙ ap (λ (m : ℕ). record (pool_of p) { frames = m; frame = frame_at new.frames }) wide,
+    ))
   where
     each : (x : ℕ) → (x < length p.bank.frames) ⊎ (length p.bank.frames ≤ x) → (frame_at new.frames x ≡ frame_at p.bank.frames x)
         ⊎ ((x < length p.bank.frames) × (frame_at p.bank.frames x ≡ Free) × (frame_at new.frames x ≡ Retired))
