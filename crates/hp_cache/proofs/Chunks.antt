@@ -64,7 +64,8 @@ set_place old places place frame within same k =
     ]
 
 -- what is known of a chunk that is kept
-pub kept_at : (slot : Slot) (chunk : Box Places) → IsKept slot → slot ≡ Some chunk → (length chunk.value ≡ 64) × HasFrame chunk.value
+pub kept_at : (slot : Slot) (chunk : Box Places) → IsKept slot → slot ≡ Some chunk
+    → (length chunk.value ≡ 64) × HasFrame chunk.value
 kept_at slot chunk kept is = subst IsKept is kept
 
 pub frames_at : (slot : Slot) (chunk : Box Places) → slot ≡ Some chunk → (k : ℕ) → get_or chunk.value k None ≡ frame_in slot k
@@ -75,7 +76,8 @@ abbrev pub bare : Places
 bare = replicate 64 None
 
 -- a chunk is kept with its first frame
-pub kept_first : (place frame : ℕ) → place < 64 → (length (set bare place (Some frame)) ≡ 64) × HasFrame (set bare place (Some frame))
+pub kept_first : (place frame : ℕ) → place < 64
+    → (length (set bare place (Some frame)) ≡ 64) × HasFrame (set bare place (Some frame))
 kept_first place frame within =
     let long : length bare ≡ 64 = length-replicate {A = Option ℕ} 64 None in (
       length-set bare place (Some frame) ∙ long,
@@ -83,7 +85,8 @@ kept_first place frame within =
           (ap is_some (get_or-set_same bare place (Some frame) None (omega (arith, long)))),
     )
 
-listed-append : (first : ℕ) (places more : Places) → listed first (places ++ more) ≡ listed first places ++ listed (first + length places) more
+listed-append : (first : ℕ) (places more : Places)
+    → listed first (places ++ more) ≡ listed first places ++ listed (first + length places) more
 listed-append first [] more = ap (λ n. listed n more) (omega arith)
 listed-append first (place ∷ places) more =
     ap (λ xs. page_at first place ++ xs) (listed-append (suc first) places more)

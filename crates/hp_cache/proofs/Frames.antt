@@ -17,7 +17,8 @@ use Rattle.hp_cache.proofs.Tables.{EndsBy}
 abbrev pub slot_at : List Slot → ℕ → Slot
 slot_at chunks at = get_or chunks at None
 
-pub frame_of-at : (chunks : List Slot) (at place : ℕ) → place < 64 → frame_of chunks (at * 64 + place) ≡ frame_in (slot_at chunks at) place
+pub frame_of-at : (chunks : List Slot) (at place : ℕ) → place < 64
+    → frame_of chunks (at * 64 + place) ≡ frame_in (slot_at chunks at) place
 unfolding frame_of
 frame_of-at chunks at place within = rw (div-mul-add at 64 place within, mod-mul-add at 64 place within) refl
 
@@ -34,7 +35,8 @@ pub frame_of_no_chunk : (chunks : List Slot) (index : ℕ) → slot_at chunks (i
 frame_of_no_chunk chunks index none = frame_of-is chunks index ∙ ap (λ (slot : Slot). frame_in slot (index % 64)) none
 
 -- where none of 64 chunks is there, there is none
-pub no_slots : (chunks : List Slot) → length chunks ≡ 64 → ((k : ℕ) → k < 64 → slot_at chunks k ≡ None) → (k : ℕ) → slot_at chunks k ≡ None
+pub no_slots : (chunks : List Slot) → length chunks ≡ 64 → ((k : ℕ) → k < 64 → slot_at chunks k ≡ None)
+    → (k : ℕ) → slot_at chunks k ≡ None
 no_slots chunks whole none k =
     elim (cases_lt k 64) [
       | inl below ↦ none k below
@@ -53,7 +55,8 @@ unfolding frame_of put
 frame_of-set chunks index slot frame within differs q =
     elim (cases_eq (q / 64) (index / 64)) [
       | inl same ↦
-          rw (same, get_or-set_same chunks (index / 64) slot None within) (differs (q % 64) (omega arith) ∙ grind (arith, nat_tests))
+          rw (same, get_or-set_same chunks (index / 64) slot None within)
+          (differs (q % 64) (omega arith) ∙ grind (arith, nat_tests))
       | inr other ↦
           rw (get_or-set_other chunks (index / 64) (q / 64) slot None other) (grind (arith, nat_tests))
     ]

@@ -90,7 +90,8 @@ pages_below_none values first (suc n) none =
     ∙ append-nil (pages_below values (first + n)) ∙ rest
 
 -- so a chunk's pages come after those of the chunks before it
-pub pages_below-chunk : (chunks : List Slot) (at : ℕ) (chunk : Box Places) → IsKept (slot_at chunks at) → slot_at chunks at ≡ Some chunk
+pub pages_below-chunk : (chunks : List Slot) (at : ℕ) (chunk : Box Places) → IsKept (slot_at chunks at)
+    → slot_at chunks at ≡ Some chunk
     → pages_below (frame_of chunks) ((at + 1) * 64) ≡ pages_below (frame_of chunks) (at * 64) ++ listed (at * 64) chunk.value
 pages_below-chunk chunks at chunk kept is =
     let long = (kept_at (slot_at chunks at) chunk kept is).0 in

@@ -41,7 +41,8 @@ abbrev pub EndsBy : (ℕ → Option ℕ) → ℕ → Type 0
 EndsBy values limit = (q : ℕ) → limit ≤ q → values q ≡ None
 
 -- the map answers as the function does
-get-map_below : (values : ℕ → Option ℕ) (limit : ℕ) → EndsBy values limit → (q : ℕ) → map.get (map_below values limit) q ≡ values q
+get-map_below : (values : ℕ → Option ℕ) (limit : ℕ) → EndsBy values limit → (q : ℕ)
+    → map.get (map_below values limit) q ≡ values q
 get-map_below values limit ends q =
     elim (cases_lt q limit) [
       | inl below ↦ get_below values limit q below
@@ -90,7 +91,8 @@ module _ (values : ℕ → Option ℕ) (limit : ℕ) (m : Pages) (is : map_below
       grind (arith, nat_tests))
 
   -- one value less
-  pub map_below-remove : (after : ℕ → Option ℕ) (key : ℕ) → key < limit → ((q : ℕ) → after q ≡ put values key None q)
+  pub map_below-remove : (after : ℕ → Option ℕ) (key : ℕ) → key < limit
+      → ((q : ℕ) → after q ≡ put values key None q)
       → map_below after limit ≡ map.remove m key
   unfolding put
   map_below-remove after key below same =

@@ -1,5 +1,6 @@
 -- What a cache is seen as, by its chunks: where it is read, and where one place of a chunk is written.
-use Rattle.std.proofs.Common.{◌≡◌, ℕ, ◌+◌, ◌/◌, ◌%◌, ◌<◌, ◌≤◌, true, List, Option, None, Some, length, get_or, set, sym, ap, ◌∙◌, arith, inl, inr, true≢false}
+use Rattle.std.proofs.Common.{◌≡◌, ℕ, ◌+◌, ◌/◌, ◌%◌, ◌<◌, ◌≤◌, true, List, Option, None, Some, length, get_or, set}
+use Rattle.std.proofs.Common.{sym, ap, ◌∙◌, arith, inl, inr, true≢false}
 use Rattle.std.proofs.lemmas.Bool.{cases_lt}
 use Rattle.std.specs.Prelude.{is_some}
 use Rattle.std.specs.FinMap as map
@@ -32,7 +33,8 @@ module _ {chunks : List Slot} {cached : Cached} (shows : Shows chunks cached) wh
   pub get_frame : (index : ℕ) → map.get cached.pages index ≡ frame_of chunks index
   get_frame = get-seen (frame_of chunks) 4096 cached.pages same_pages (chunks_end chunks shows.whole)
 
-  pub get_slot : (index : ℕ) (slot : Slot) → slot_at chunks (index / 64) ≡ slot → map.get cached.pages index ≡ frame_in slot (index % 64)
+  pub get_slot : (index : ℕ) (slot : Slot) → slot_at chunks (index / 64) ≡ slot
+      → map.get cached.pages index ≡ frame_in slot (index % 64)
   get_slot index slot at = get_frame index ∙ frame_of_slot chunks index slot at
 
   -- an index that has a page lies in the file
@@ -58,7 +60,8 @@ module _ {chunks : List Slot} {cached : Cached} (shows : Shows chunks cached) wh
     abbrev Writes : Option ℕ → Type 0
     Writes frame = (k : ℕ) → k < 64 → frame_in slot k ≡ put (frame_in (get_or chunks (index / 64) d)) (index % 64) frame k
 
-    differs : (frame : Option ℕ) → Writes frame → (q : ℕ) → frame_of (set chunks (index / 64) slot) q ≡ put (frame_of chunks) index frame q
+    differs : (frame : Option ℕ) → Writes frame → (q : ℕ)
+        → frame_of (set chunks (index / 64) slot) q ≡ put (frame_of chunks) index frame q
     differs frame writes =
         let within : index / 64 < length chunks = omega (arith, shows.whole, below) in
         let same = get_or_default chunks (index / 64) d None within in

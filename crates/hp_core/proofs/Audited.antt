@@ -371,7 +371,8 @@ few_two (suc b) zero lb lc bc = omega (arith, lb)
 few_two (suc b) (suc c) lb lc bc = absurd (bc (omega arith) (omega arith))
 
 -- of four that are one at most, of which no two count
-few_places : (a r b c : ℕ) → a ≤ 1 → r ≤ 1 → b ≤ 1 → c ≤ 1 → (0 < a → 0 < r → ⊥) → (0 < a → 0 < b → ⊥) → (0 < a → 0 < c → ⊥)
+few_places : (a r b c : ℕ) → a ≤ 1 → r ≤ 1 → b ≤ 1 → c ≤ 1
+    → (0 < a → 0 < r → ⊥) → (0 < a → 0 < b → ⊥) → (0 < a → 0 < c → ⊥)
     → (0 < r → 0 < b → ⊥) → (0 < r → 0 < c → ⊥) → (0 < b → 0 < c → ⊥) → a + r + b + c ≤ 1
 few_places zero zero b c la lr lb lc ar ab ac rb rc bc = let two = few_two b c lb lc bc in omega (arith, two)
 few_places zero (suc r) zero zero la lr lb lc ar ab ac rb rc bc = omega (arith, lr)

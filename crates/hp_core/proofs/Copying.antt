@@ -120,7 +120,8 @@ long_next xs ys n true is = grind (arith, common_steps, is)
 long_next xs ys n false is = grind (arith, common_steps, is)
 
 -- a frame beyond the list isn't one of those
-past_none : (holds : FrameState → Bool) → holds Hand ≡ false → (xs : List FrameState) (x : ℕ) → length xs ≤ x → holds (frame_at xs x) ≡ false
+past_none : (holds : FrameState → Bool) → holds Hand ≡ false → (xs : List FrameState) (x : ℕ) → length xs ≤ x
+    → holds (frame_at xs x) ≡ false
 unfolding frame_at
 past_none holds no_hand xs x l = ap holds (get_or-eq_default xs Hand l) ∙ no_hand
 

@@ -81,7 +81,8 @@ given_kept rs new free longer retired hands after x next is at names first more 
 
 -- the first free frame is retired
 pub retired_kept : (rs seen new : List Record) (free rest retired longer : Chain) (hands x : ℕ) (next : Option ℕ)
-    → seen ≡ rs → new ≡ set rs x (Retired next) → free.first ≡ Some x → rest.first ≡ next_of (record_at seen x) → rest.count + 1 ≡ free.count
+    → seen ≡ rs → new ≡ set rs x (Retired next) → free.first ≡ Some x
+    → rest.first ≡ next_of (record_at seen x) → rest.count + 1 ≡ free.count
     → next ≡ retired.first → longer.first ≡ Some x → longer.count ≡ retired.count + 1 → IsKept rs free retired hands
     → IsKept new rest longer hands
 retired_kept rs seen new free rest retired longer hands x next same is first after less names before more kept =
@@ -98,7 +99,8 @@ retired_kept rs seen new free rest retired longer hands x next same is first aft
 
 -- the first retired frame is free again
 pub returned_kept : (rs seen new : List Record) (free longer retired rest : Chain) (hands x : ℕ) (next : Option ℕ)
-    → seen ≡ rs → new ≡ set rs x (Free next) → retired.first ≡ Some x → rest.first ≡ next_of (record_at seen x) → rest.count + 1 ≡ retired.count
+    → seen ≡ rs → new ≡ set rs x (Free next) → retired.first ≡ Some x
+    → rest.first ≡ next_of (record_at seen x) → rest.count + 1 ≡ retired.count
     → next ≡ free.first → longer.first ≡ Some x → longer.count ≡ free.count + 1 → IsKept rs free retired hands
     → IsKept new longer rest hands
 returned_kept rs seen new free longer retired rest hands x next same is first after less names before more kept =

@@ -14,7 +14,8 @@ returns-in-Some-clause-ok c k below =
 
 -- the chunk that is made has its one frame
 made : (c : goal.Joined-slot-2) → c.put-in_default.new.self ≡ set bare c.args.place (Some c.args.frame)
-made c = rw (c.put-in_default.ensures, c.deref_mut-in_default.ensures.value, (c.in_ok-chunk.ensures {u = tt}).ok, c.new.ensures) refl
+made c =
+    rw (c.put-in_default.ensures, c.deref_mut-in_default.ensures.value, (c.in_ok-chunk.ensures {u = tt}).ok, c.new.ensures) refl
 
 pub returns-in_ok-chunk-clause-kept : goal.returns-in_ok-chunk-clause-kept
 returns-in_ok-chunk-clause-kept c = rw (made c) (kept_first c.args.place c.args.frame c.requires.in_chunk)

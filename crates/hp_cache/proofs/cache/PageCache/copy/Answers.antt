@@ -6,7 +6,8 @@ use Rattle.hp_cache.proofs.cache.PageCache.copy.Goals as goal
 
 pub loop-at-init : goal.loop-at-init
 loop-at-init c =
-    let none = none_counted c.copy.inside.chunks (omega (arith, ap (λ (v : Cached). v.room) c.copy.view_is, c.new-copy.ensures.room)) in
+    let none = none_counted c.copy.inside.chunks
+    (omega (arith, ap (λ (v : Cached). v.room) c.copy.view_is, c.new-copy.ensures.room)) in
     record {
       whole = c.copy.invariant.whole;
       same = λ k below. absurd (omega arith);

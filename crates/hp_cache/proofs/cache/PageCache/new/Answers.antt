@@ -18,11 +18,14 @@ pub invariant_of-result : goal.invariant_of-result
 invariant_of-result c = record {
   whole = c.from_fn.ensures.items.long;
   kept = λ k d within. rw (get_or_default c.from_fn.result k d None within, none c k) tt;
-  counted = sym (count_below_none (λ i. is_some (frame_of c.from_fn.result i)) LIMIT (λ i below. ap is_some (frame_of_no_chunk c.from_fn.result i (none c _))));
+  counted =
+      sym (count_below_none (λ i. is_some (frame_of c.from_fn.result i)) LIMIT
+      (λ i below. ap is_some (frame_of_no_chunk c.from_fn.result i (none c _))));
 }
 
 pub returns-clause-pages : goal.returns-clause-pages
-returns-clause-pages c = map_below-none (frame_of c.from_fn.result) LIMIT (λ i. frame_of_no_chunk c.from_fn.result i (none c _))
+returns-clause-pages c =
+    map_below-none (frame_of c.from_fn.result) LIMIT (λ i. frame_of_no_chunk c.from_fn.result i (none c _))
 
 pub returns-clause-room : goal.returns-clause-room
 returns-clause-room c = omega (arith, none_there c.from_fn.result (none c))

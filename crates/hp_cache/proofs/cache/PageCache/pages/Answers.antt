@@ -5,7 +5,8 @@ use Rattle.hp_base.specs.declared.limits.TheConstants.{LIMIT}
 use Rattle.hp_cache.specs.Cached.{Cached}
 use Rattle.hp_cache.specs.Chunks.{frame_of}
 use Rattle.hp_cache.proofs.Frames.{slot_at}
-use Rattle.hp_cache.proofs.Listing.{pages_below, pages_below-chunk, pages_below_gap, pages_under, entries-map_below, pages_below_start}
+use Rattle.hp_cache.proofs.Listing.{pages_below, pages_below-chunk, pages_below_gap, pages_below_start, pages_under}
+use Rattle.hp_cache.proofs.Listing.{entries-map_below}
 use Rattle.hp_cache.proofs.cache.PageCache.pages.Goals as goal
 use Rattle.hp_cache.proofs.cache.PageCache.pages.Goals.{in-Some+in_ok-append_to, in_default}
 
@@ -16,7 +17,8 @@ pub loop-at-preserved : goal.loop-at-preserved
 loop-at-preserved c =
     let chunks = c.self.inside.chunks in
     let at = c.loop-at.at in
-    let here : slot_at chunks at ≡ get_or chunks at c.chunk-item.result = get_or_default chunks at None c.chunk-item.result (omega arith) in
+    let here : slot_at chunks at ≡ get_or chunks at c.chunk-item.result =
+    get_or_default chunks at None c.chunk-item.result (omega arith) in
     let kept = c.self.invariant.kept at None (omega arith) in
     elim c.match-chunk.branch [
       | in-Some+in_ok-append_to w ↦

@@ -18,5 +18,6 @@ returns-in-Some-clause-end c =
 
 pub returns-clause-end : goal.returns-clause-end
 returns-clause-end c =
-    let shows : Shows c.self.inside.chunks c.args.self.now = record { is = c.self.view_is; whole = c.self.invariant.whole } in
+    let shows : Shows c.self.inside.chunks c.args.self.now =
+    record { is = c.self.view_is; whole = c.self.invariant.whole } in
     end_of shows 0 (end_of_none c.self.inside.chunks (λ k. c.loop-at.invariant k (omega arith)))
