@@ -38,17 +38,19 @@ def processor_time(words, trace):
     return used.ru_utime + used.ru_stime
 
 
+def best_of(trace, programs, rounds):
+    """Runs the programs in turn, so many rounds, and tells the best time of each."""
+    seen = [[processor_time(words, trace) for words in programs] for _ in range(rounds)]
+    return [min(times) for times in zip(*seen)]
+
+
 def in_turn(name, trace, programs, rounds):
-    """Runs the programs in turn, so many rounds, and prints the best and worst of each and the ratio of the best."""
-    seen = {program: [] for program in programs}
-    for _ in range(rounds):
-        for program, words in programs.items():
-            seen[program].append(processor_time(words, trace))
-    print(f"{name}, seconds of processor time, {rounds} rounds in turn:")
-    for program, seconds in seen.items():
-        print(f"  {program:8} best {min(seconds):.3f}, worst {max(seconds):.3f}")
-    best = [min(seconds) for seconds in seen.values()]
-    print(f"  ratio of the best: {best[0] / best[1]:.2f}")
+    """Runs the programs in turn, so many rounds, and prints the best of each and the ratio of these."""
+    best = best_of(trace, programs.values(), rounds)
+    print(f"{name}, seconds of processor time, best of {rounds} rounds in turn:")
+    for program, seconds in zip(programs, best):
+        print(f"  {program:8} {seconds:.3f}")
+    print(f"  ratio    {best[0] / best[1]:.2f}")
 
 
 def peak_memory(words, trace):

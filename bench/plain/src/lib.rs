@@ -1,4 +1,6 @@
-//! The same steps with nothing proved: what a plain program makes of a trace.
+//! The same steps with nothing proved: what a plain program makes of a trace. Regions, pages, mappings and entries are
+//! kept in balanced trees.
+use std::collections::BTreeMap;
 
 const LIMIT: u32 = 4096;
 const VPNS: u32 = 16_384;
@@ -41,9 +43,9 @@ pub enum Life { Alive, Killed, Dead }
 pub struct Mapping { base: u32, file: u32, from: u32, len: u32 }
 
 #[derive(Default, Clone)]
-pub struct File { pub size: u32, pub regions: Vec<(u32, u32)>, pub pending: u32, pub spare: u32, pub pages: Vec<(u32, u32)> }
+pub struct File { pub size: u32, pub regions: BTreeMap<u32, u32>, pub pending: u32, pub spare: u32, pub pages: BTreeMap<u32, u32> }
 
-pub struct Task { pub life: Life, pub call: Option<Call>, pub mappings: Vec<Mapping>, pub entries: Vec<(u32, u32)> }
+pub struct Task { pub life: Life, pub call: Option<Call>, pub mappings: BTreeMap<u32, Mapping>, pub entries: BTreeMap<u32, u32> }
 
 pub struct Pool {
     words: Vec<u64>, pub free: Vec<u32>, pub resv: u32, pub files: Vec<File>, slots: Vec<Option<u32>>,
@@ -51,24 +53,25 @@ pub struct Pool {
 }
 
 impl File {
-    fn first(&self, i: u32) -> usize { self.regions.partition_point(|r| r.1 <= i) }
+    // the region that begins last at or below an index
+    fn before(&self, i: u32) -> Option<(u32, u32)> { self.regions.range(..=i).next_back().map(|(&from, &to)| (from, to)) }
     fn missing(&self, from: u32, to: u32) -> u32 {
-        let held: u32 = self.regions[self.first(from)..].iter().take_while(|r| r.0 < to)
-            .map(|r| r.1.min(to) - r.0.max(from)).sum();
+        let first = self.before(from).map_or(from, |r| r.0);
+        let held: u32 = self.regions.range(first..to).map(|(&a, &b)| b.min(to).saturating_sub(a.max(from))).sum();
         to - from - held
     }
     fn add(&mut self, from: u32, to: u32) -> u32 {
         let added = self.missing(from, to);
-        let first = self.regions.partition_point(|r| r.1 < from);
-        let end = self.regions.partition_point(|r| r.0 <= to);
-        if first == end {
-            self.regions.insert(first, (from, to));
-            self.spare -= 1;
-        } else {
-            let merged = (from.min(self.regions[first].0), to.max(self.regions[end - 1].1));
-            self.regions[first] = merged;
-            self.regions.drain(first + 1..end);
+        let first = self.before(from).filter(|r| r.1 >= from).map_or(from, |r| r.0);
+        let mut merged = (from, to);
+        let mut alone = true;
+        while let Some((&a, &b)) = self.regions.range(first..=to).next() {
+            self.regions.remove(&a);
+            merged = (merged.0.min(a), merged.1.max(b));
+            alone = false;
         }
+        self.regions.insert(merged.0, merged.1);
+        self.spare -= u32::from(alone);
         self.pending -= 1;
         added
     }
@@ -81,65 +84,45 @@ impl File {
         true
     }
     fn delete(&mut self, grant: bool, i: u32) -> bool {
-        let at = self.first(i);
-        let Some(&(from, to)) = self.regions.get(at) else { return true };
-        if i < from { return true; }
-        match (from == i, i + 1 == to) {
-            (true, true) => { self.regions.remove(at); }
-            (true, false) => self.regions[at].0 = i + 1,
-            (false, true) => self.regions[at].1 = i,
-            (false, false) => {
-                if self.spare > self.pending { self.spare -= 1 } else if !grant { return false; }
-                self.regions[at].1 = i;
-                self.regions.insert(at + 1, (i + 1, to));
-            }
+        let Some((from, to)) = self.before(i).filter(|r| i < r.1) else { return true };
+        if from < i && i + 1 < to {
+            if self.spare > self.pending { self.spare -= 1 } else if !grant { return false; }
         }
+        self.regions.remove(&from);
+        if from < i { self.regions.insert(from, i); }
+        if i + 1 < to { self.regions.insert(i + 1, to); }
         true
     }
     fn tail(&mut self, from: u32) -> u32 {
-        let removed = LIMIT - from - self.missing(from, LIMIT.max(from));
-        let at = self.first(from);
-        if let Some(region) = self.regions.get_mut(at) {
-            if region.0 < from { region.1 = from; self.regions.truncate(at + 1) } else { self.regions.truncate(at) }
-        }
+        let removed = LIMIT - from - self.missing(from, LIMIT);
+        self.regions.split_off(&from);
+        if let Some(mut last) = self.regions.last_entry() { *last.get_mut() = from.min(*last.get()); }
         removed
     }
-    fn page(&self, i: u32) -> Option<u32> {
-        self.pages.binary_search_by_key(&i, |p| p.0).ok().map(|at| self.pages[at].1)
-    }
+    fn page(&self, i: u32) -> Option<u32> { self.pages.get(&i).copied() }
 }
 
 impl Task {
     fn find(&self, vpn: u32) -> Option<(u32, u32)> {
-        let at = self.mappings.partition_point(|m| m.base <= vpn).checked_sub(1)?;
-        let m = self.mappings[at];
+        let (_, m) = self.mappings.range(..=vpn).next_back()?;
         (vpn - m.base < m.len).then(|| (m.file, m.from + vpn - m.base))
     }
-    fn translate(&self, vpn: u32) -> Option<u32> {
-        self.entries.binary_search_by_key(&vpn, |e| e.0).ok().map(|at| self.entries[at].1)
-    }
+    fn translate(&self, vpn: u32) -> Option<u32> { self.entries.get(&vpn).copied() }
     fn room(&self, len: u32) -> Option<u32> {
         let mut base = 0;
-        for m in &self.mappings {
+        for m in self.mappings.values() {
             if len <= m.base - base { return Some(base); }
             base = m.base + m.len;
         }
         (len <= VPNS - base).then_some(base)
     }
     fn clear(&mut self, base: u32) {
-        if let Ok(at) = self.mappings.binary_search_by_key(&base, |m| m.base) {
-            let end = base + self.mappings[at].len;
-            let first = self.entries.partition_point(|e| e.0 < base);
-            let last = self.entries.partition_point(|e| e.0 < end);
-            self.entries.drain(first..last);
-        }
+        let Some(m) = self.mappings.get(&base) else { return };
+        while let Some((&vpn, _)) = self.entries.range(base..base + m.len).next() { self.entries.remove(&vpn); }
     }
     fn clear_index(&mut self, file: u32, i: u32) {
-        for m in &self.mappings {
-            if m.file == file && m.from <= i && i - m.from < m.len {
-                let vpn = m.base + i - m.from;
-                if let Ok(at) = self.entries.binary_search_by_key(&vpn, |e| e.0) { self.entries.remove(at); }
-            }
+        for m in self.mappings.values() {
+            if m.file == file && m.from <= i && i - m.from < m.len { self.entries.remove(&(m.base + i - m.from)); }
         }
     }
 }
@@ -149,7 +132,7 @@ impl Pool {
         Pool {
             words: vec![0; frames as usize], free: (0..frames).collect(), resv: 0, files: vec![File::default(); files as usize],
             slots: vec![None; slots as usize], locks: vec![None; files as usize],
-            tasks: (0..tasks).map(|_| Task { life: Life::Alive, call: None, mappings: vec![], entries: vec![] }).collect(),
+            tasks: (0..tasks).map(|_| Task { life: Life::Alive, call: None, mappings: BTreeMap::new(), entries: BTreeMap::new() }).collect(),
         }
     }
 
@@ -179,7 +162,7 @@ impl Pool {
         let touches = matches!(c.kind, Kind::Load | Kind::Store);
         match c.phase {
             Start => match c.kind {
-                Kind::Unmap => if self.tasks[at].mappings.iter().any(|m| m.base == c.base) { Outcome::Moved(Clear) } else { Outcome::Ended(Answer::NotMapped) },
+                Kind::Unmap => if self.tasks[at].mappings.contains_key(&c.base) { Outcome::Moved(Clear) } else { Outcome::Ended(Answer::NotMapped) },
                 Kind::Exit => self.next_mapping(at, c),
                 _ => self.start(t, killed, c),
             },
@@ -254,9 +237,7 @@ impl Pool {
             Committed => {
                 if touches && c.index >= self.files[f].size { return go(c, Restore, Answer::Beyond); }
                 if !grant { return go(c, Restore, Answer::NoMemory); }
-                let pages = &mut self.files[f].pages;
-                let place = pages.partition_point(|p| p.0 < c.index);
-                pages.insert(place, (c.index, c.held));
+                self.files[f].pages.insert(c.index, c.held);
                 self.words[c.held as usize] = 0;
                 Outcome::Moved(if touches { Found } else { Unslot })
             }
@@ -265,16 +246,12 @@ impl Pool {
                 if c.index >= self.files[f].size { return go(c, Leave, Answer::Beyond); }
                 if !grant { return go(c, Leave, Answer::NoMemory); }
                 let frame = self.files[f].page(c.index).expect("a page");
-                let entries = &mut self.tasks[at].entries;
-                let place = entries.partition_point(|e| e.0 < c.vpn);
-                entries.insert(place, (c.vpn, frame));
+                self.tasks[at].entries.insert(c.vpn, frame);
                 let answer = self.access(c, frame);
                 go(c, Leave, answer)
             }
             Enter => {
-                let mappings = &mut self.tasks[at].mappings;
-                let place = mappings.partition_point(|m| m.base < c.base);
-                mappings.insert(place, Mapping { base: c.base, file: c.file, from: c.from, len: c.len });
+                self.tasks[at].mappings.insert(c.base, Mapping { base: c.base, file: c.file, from: c.from, len: c.len });
                 self.files[f].size = self.files[f].size.max(c.from + c.len);
                 go(c, Leave, Answer::Mapped(c.base))
             }
@@ -285,9 +262,7 @@ impl Pool {
                 Outcome::Moved(if c.task as usize <= self.tasks.len() { Unmap } else { Evict })
             }
             Evict => {
-                let pages = &mut self.files[f].pages;
-                let place = pages.binary_search_by_key(&c.index, |p| p.0).expect("a page");
-                c.held = pages.remove(place).1;
+                c.held = self.files[f].pages.remove(&c.index).expect("a page");
                 c.evicted += 1;
                 Outcome::Moved(if c.kind == Kind::Punch { Delete } else { Free })
             }
@@ -306,7 +281,7 @@ impl Pool {
                 }
             }
             Size => {
-                let end = self.files[f].pages.last().map_or(0, |p| p.0 + 1);
+                let end = self.files[f].pages.last_key_value().map_or(0, |(i, _)| i + 1);
                 let top = self.files[f].size.max(end);
                 self.files[f].size = c.len;
                 if top > c.len { c.index = top - 1; Outcome::Moved(Want) } else { Outcome::Moved(Tail) }
@@ -314,7 +289,7 @@ impl Pool {
             Tail => { c.excess = self.files[f].tail(c.len) - c.evicted; Outcome::Moved(Settle) }
             Clear => { self.tasks[at].clear(c.base); Outcome::Moved(Drop) }
             Drop => {
-                self.tasks[at].mappings.retain(|m| m.base != c.base);
+                self.tasks[at].mappings.remove(&c.base);
                 if c.kind == Kind::Exit { self.next_mapping(at, c) } else { Outcome::Ended(Answer::Done) }
             }
             Leave => {
@@ -336,8 +311,8 @@ impl Pool {
     }
 
     fn next_mapping(&self, at: usize, c: &mut Call) -> Outcome {
-        match self.tasks[at].mappings.first() {
-            Some(m) => { c.base = m.base; Outcome::Moved(Phase::Clear) }
+        match self.tasks[at].mappings.first_key_value() {
+            Some((&base, _)) => { c.base = base; Outcome::Moved(Phase::Clear) }
             None => Outcome::Moved(Phase::Leave),
         }
     }
@@ -346,6 +321,24 @@ impl Pool {
 
     fn access(&mut self, c: &Call, frame: u32) -> Answer {
         if c.kind == Kind::Store { self.words[frame as usize] = c.word; Answer::Done } else { Answer::Word(self.words[frame as usize]) }
+    }
+
+    /// Whom the task's next step would be blocked by.
+    pub fn waits_for(&self, t: u32) -> Option<u32> {
+        let task = &self.tasks[t as usize - 1];
+        let c = task.call.as_ref()?;
+        let killed = task.life == Life::Killed;
+        let locks = !matches!(c.kind, Kind::Unmap | Kind::Exit);
+        let bad = match c.kind {
+            Kind::Truncate => c.len > LIMIT,
+            _ => c.len == 0 || u64::from(c.from) + u64::from(c.len) > u64::from(LIMIT),
+        };
+        match c.phase {
+            Phase::Want if killed && !matches!(c.kind, Kind::Punch | Kind::Truncate) => None,
+            Phase::Want => self.slots[self.slot(c)],
+            Phase::Start if locks && !bad && !killed => *self.locks.get(c.file as usize)?,
+            _ => None,
+        }
     }
 
     pub fn begin(&mut self, t: u32, call: Call) -> Outcome {

@@ -12,6 +12,7 @@ pub mod config;
 pub mod event;
 pub mod limits;
 pub mod mapping;
+pub mod mode;
 pub mod numbers;
 
 pub use answer::Answer;
@@ -19,4 +20,5 @@ pub use config::{Config, Fault};
 pub use event::{Event, Op};
 pub use limits::{LIMIT, VPNS};
 pub use mapping::Mapping;
+pub use mode::Mode;
 pub use numbers::{File, Frame, Index, Task, Vpn};

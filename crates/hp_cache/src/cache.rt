@@ -4,10 +4,9 @@ ghost use Rattle.std.specs.FinMap as map;
 ghost use Rattle.hp_base.specs.Indices.{count_below};
 ghost use Rattle.hp_base.specs.Pages.{IsPagesEnd};
 
-use crate::chunk::{Chunk, PLACES, put_into, take_from};
 use hp_base::{Frame, Index, LIMIT};
+use hp_chunks::{FrameMap, PLACES};
 use std::alloc::{AllocError, Global};
-use std::array;
 use std::marker::Model;
 
 // How many chunks there can be: as many as the indices below `LIMIT` fill.
@@ -16,34 +15,17 @@ const CHUNKS: usize = LIMIT as usize / PLACES;
 /// The frame of each index of a file that has a page.
 #[derive(Drop)]
 pub struct PageCache {
-    // The place of an index is in the chunk `index / PLACES`, at `index % PLACES`. A chunk is there where one of its
-    // places has a frame.
-    chunks: [Option<Box<Chunk>>; CHUNKS],
-    // how many places of all chunks have a frame
-    count: usize,
-    // where chunks come from
-    alloc: Global,
+    frames: FrameMap<CHUNKS>,
 }
 
 impl Model for PageCache {
-    ghost use Rattle.std.specs.Prelude.{◌≡◌, All, is_some, length};
-    ghost use Rattle.hp_base.specs.declared.limits.TheConstants.{LIMIT};
-    ghost use Rattle.hp_base.specs.Indices.{count_below};
-    ghost use Rattle.hp_cache.specs.declared.cache.TheConstants.{CHUNKS};
     ghost use Rattle.hp_cache.specs.Cached.{Cached, cached_code};
-    ghost use Rattle.hp_cache.specs.Chunks.{IsKept, frame_of, seen_as};
 
     ghost Value = { Cached };
 
     ghost coded = { cached_code };
 
-    ghost view = { λ c. seen_as c.chunks };
-
-    ghost invariant = { λ c. record {
-      whole : length c.chunks ≡ CHUNKS;
-      kept : All IsKept c.chunks;
-      counted : c.count ≡ count_below (λ i. is_some (frame_of c.chunks i)) LIMIT;
-    } };
+    ghost view = { λ c. record { pages = c.frames.frames; room = c.frames.room } };
 }
 
 impl PageCache {
@@ -53,9 +35,7 @@ impl PageCache {
         ensures room { result.room ≡ 0 }
     {
         PageCache {
-            chunks: array::from_fn(|_| None),
-            count: 0,
-            alloc,
+            frames: FrameMap::new(alloc),
         }
     }
 
@@ -63,9 +43,7 @@ impl PageCache {
     pub fn get(&self, index: Index) -> Option<Frame>
         ensures { result ≡ map.get self.now.pages index }
     {
-        let number = index.number() as usize;
-        let chunk = self.chunks.get(number / PLACES)?.as_ref()?;
-        chunk.get(number % PLACES)
+        self.frames.get(index.number())
     }
 
     /// Puts a page into the cache (Linux: `hugetlb_add_to_page_cache`). Memory is wanted for the first page of a chunk.
@@ -75,15 +53,7 @@ impl PageCache {
         ensures ok { OnOk result (self.new.pages ≡ map.insert self.old.pages index frame) }
         ensures err { OnErr result (self.new ≡ self.old) }
     {
-        let number = index.number() as usize;
-        put_into(
-            self.alloc,
-            &mut self.chunks[number / PLACES],
-            number % PLACES,
-            frame,
-        )?;
-        self.count += 1;
-        Ok(())
+        self.frames.insert(index.number(), frame)
     }
 
     /// Takes a page out of the cache and tells its frame (Linux: `hugetlb_delete_from_page_cache`). With the last
@@ -94,10 +64,7 @@ impl PageCache {
         ensures pages { self.new.pages ≡ map.remove self.old.pages index }
         ensures room { self.new.room ≤ self.old.room }
     {
-        let number = index.number() as usize;
-        let frame = take_from(&mut self.chunks[number / PLACES], number % PLACES);
-        self.count -= 1;
-        frame
+        self.frames.remove(index.number())
     }
 
     /// One more than the highest index that has a page, 0 where none has. It looks for the highest chunk, and in it
@@ -106,12 +73,7 @@ impl PageCache {
         ensures end { IsPagesEnd (map.get self.now.pages) result }
         ensures in_limit { result ≤ LIMIT }
     {
-        for at in (0..CHUNKS).rev() {
-            if let Some(chunk) = &self.chunks[at] {
-                return (at * PLACES + chunk.highest()) as u32 + 1;
-            }
-        }
-        0
+        self.frames.end()
     }
 
     /// A copy of the pages, in order of their indices.
@@ -119,11 +81,9 @@ impl PageCache {
         ensures pages { IfOk result (λ pages. pages.items ≡ map.entries self.now.pages) }
         ensures in_file { IfOk result (λ pages. All (λ page. page.0 < LIMIT) pages.items) }
     {
-        let mut pages = Vec::with_capacity(alloc, self.count)?;
-        for (at, chunk) in self.chunks.iter().enumerate() {
-            if let Some(chunk) = chunk {
-                chunk.append_to((at * PLACES) as u32, &mut pages)?;
-            }
+        let mut pages = Vec::with_capacity(alloc, self.frames.count() as usize)?;
+        for (number, frame) in self.frames.iter() {
+            pages.push((Index::new(number), frame))?;
         }
         Ok(pages)
     }
@@ -133,7 +93,7 @@ impl PageCache {
         ensures count { result ≡ count_below (λ i. is_some (map.get self.now.pages i)) LIMIT }
         ensures in_limit { result ≤ LIMIT }
     {
-        self.count as u32
+        self.frames.count()
     }
 
     /// A cache with the same pages. A running pool keeps the core of its last cut, to compare histories from there
@@ -141,13 +101,7 @@ impl PageCache {
     pub fn copy(&self, alloc: Global) -> Result<Self, AllocError>
         ensures { IfOk result (λ copy. copy.pages ≡ self.now.pages) }
     {
-        let mut copy = PageCache::new(alloc);
-        for (at, chunk) in self.chunks.iter().enumerate() {
-            if let Some(chunk) = chunk {
-                copy.chunks[at] = Some(Box::new(alloc, chunk.copy())?);
-            }
-        }
-        copy.count = self.count;
-        Ok(copy)
+        let frames = self.frames.copy(alloc)?;
+        Ok(PageCache { frames })
     }
 }

@@ -1,13 +1,12 @@
 //! The pages of a file: which of its indices have one, and in which frame (Linux: the page cache of
 //! an inode, `i_pages`).
 //!
-//! It stands on hp_base. A cache is seen as the finite map from index to frame, beside for how many pages it has taken
-//! memory, and each call says what it reads of that map or does to both; how the pages are kept doesn't show. They are
-//! kept in chunks of 64 places, and a chunk is there as long as one of its places has a page. Each index lies below
-//! `LIMIT`. A cache knows neither whether an index is reserved nor who else owns a frame.
+//! It stands on hp_base and hp_chunks. A cache is seen as the finite map from index to frame, beside for how many pages
+//! it has taken memory, and each call says what it reads of that map or does to both; how the pages are kept, in
+//! chunks, doesn't show. Each index lies below `LIMIT`. A cache knows neither whether an index is reserved nor who else
+//! owns a frame.
 #![tactic(auto)]
 
 pub mod cache;
-mod chunk;
 
 pub use cache::PageCache;

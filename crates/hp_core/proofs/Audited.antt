@@ -37,16 +37,16 @@ use Rattle.hp_audit.specs.Findings.{place_count, is_vacant, vacant_of, vacant_in
 use Rattle.hp_audit.proofs.Counts.{counts as passed, counted, counted_in}
 use Rattle.hp_fault.specs.View.{no_file, pages_of}
 use Rattle.hp_core.specs.State.{CoreState, as_state}
-use Rattle.hp_core.specs.Sound.{IsSound}
+use Rattle.hp_machine.specs.Events.{IsReached}
 use Rattle.hp_core.specs.Runs.{Headline}
 use Rattle.hp_core.specs.Pictures.{IsPicture, IsFilePicture, is_that, is_entry, translates}
 use Rattle.hp_core.specs.Readers.{free_of, resv_of, owed_of, used_of, used_owed_of, quota_of}
-use Rattle.hp_core.proofs.Headlines.{reached_of, headline_of}
+use Rattle.hp_core.proofs.Headlines.{headline_at}
 
 -- the headline, seen as the machine's
-head_of : (s : CoreState) → IsSound s → head.Headline (as_state s)
+head_of : (s : CoreState) → IsReached (as_state s) → head.Headline (as_state s)
 unfolding Headline
-head_of s h = headline_of s h
+head_of s h = headline_at s h
 
 -- each page that a file's picture tells is the state's
 pages_told : (s : CoreState) (f : ℕ) (file : FilePicture) → IsFilePicture (as_state s) f file
@@ -129,16 +129,17 @@ told s p is = λ k d within. of_entry (get_or p.tables.items k d) (there k d wit
         (at.0, that_is e.3 frame both.1, there_is e.1 e.2 place both.0)
 
 -- a translation is to its file's page
-page_told : (s : CoreState) (e : ℕ × ℕ × ℕ × ℕ) → IsSound s → IsTranslation (as_state s) e → (as_state s).pages e.1 e.2 ≡ Some e.3
+page_told : (s : CoreState) (e : ℕ × ℕ × ℕ × ℕ) → IsReached (as_state s) → IsTranslation (as_state s) e
+    → (as_state s).pages e.1 e.2 ≡ Some e.3
 page_told s e h is =
     let a = (head_of s h).agree e.0 is.0 e.3 is.1 in
     let same : Some (e.1, e.2) ≡ Some a.0 = sym is.2 ∙ a.1 in
     let place : (e.1, e.2) ≡ a.0 = ap (λ (o : Option (ℕ × ℕ)). unwrap_or o (e.1, e.2)) same in
     ap (λ (q : ℕ × ℕ). (as_state s).pages q.0 q.1) place ∙ a.2
 
--- a picture of a sound core is shaped as one: its files are, and each entry is of a file that is told, at an index below
+-- a picture of a reached core is shaped as one: its files are, and each entry is of a file that is told, at an index below
 -- the limit
-shaped : (s : CoreState) (p : Picture) → IsSound s → IsPicture s p → IsShaped p
+shaped : (s : CoreState) (p : Picture) → IsReached (as_state s) → IsPicture s p → IsShaped p
 shaped s p h is = record {
   files = each_file s p IsFileShaped is (λ f file of. file_shaped s f file of);
   tables =
@@ -150,7 +151,7 @@ shaped s p h is = record {
     within : (e : ℕ × ℕ × ℕ × ℕ) → IsTranslation (as_state s) e → (e.1 < length p.files.items) × (e.2 < LIMIT)
     within e of =
         let page = page_told s e h of in
-        (omega (arith, file_there s e.1 e.2 e.3 page, is.as_many), page_inside (as_state s) e.1 e.2 e.3 (reached_of s h) page)
+        (omega (arith, file_there s e.1 e.2 e.3 page, is.as_many), page_inside (as_state s) e.1 e.2 e.3 h page)
 
 -- the picture of a file that is there
 file_told : (s : CoreState) (p : Picture) (f : ℕ) → IsPicture s p → f < length s.parts.files
@@ -161,7 +162,7 @@ file_told s p f h l = elim (slice_get_cases p.files.items f).1 [
 ]
 
 -- each translation that is told agrees with the pages that are told
-agrees : (s : CoreState) (p : Picture) → IsSound s → IsPicture s p → Agrees p
+agrees : (s : CoreState) (p : Picture) → IsReached (as_state s) → IsPicture s p → Agrees p
 agrees s p h is = λ k d within. of_entry (get_or p.tables.items k d) (told s p is k d within)
   where
     of_entry : (e : ℕ × ℕ × ℕ × ℕ) → IsTranslation (as_state s) e
@@ -172,7 +173,7 @@ agrees s p h is = λ k d within. of_entry (get_or p.tables.items k d) (told s p 
         rw told.1 (found_entry e.2 e.3 told.0.pages.items (told.2.pages e.2 ∙ page))
 
 -- and lies below the size of its file, where that isn't locked
-below : (s : CoreState) (p : Picture) → IsSound s → IsPicture s p → IsBelow p
+below : (s : CoreState) (p : Picture) → IsReached (as_state s) → IsPicture s p → IsBelow p
 below s p h is = λ k d within. of_entry (get_or p.tables.items k d) (told s p is k d within)
   where
     unlocked : (o : Option ℕ) → is_some o ≡ false → o ≡ None
@@ -216,7 +217,7 @@ signed : (r v less more : ℕ) → r + less ≡ v + more → pos r ≡ pos v +�
 signed r v less more h = grind (arith, ints, h)
 
 -- the reserve count that is told is right, and at most the free frames
-counts : (s : CoreState) (p : Picture) → IsSound s → IsPicture s p → IsCounted p
+counts : (s : CoreState) (p : Picture) → IsReached (as_state s) → IsPicture s p → IsCounted p
 unfolding owed_of resv_of free_of
 counts s p h is =
     let top = head_of s h in
@@ -244,7 +245,7 @@ reserved_all s p is =
     ∙ ap (λ (n : ℕ). total n of_files) is.as_many
 
 -- the used count that is told is right, and within the quota
-uses_counted : (s : CoreState) (p : Picture) → IsSound s → IsPicture s p → IsUsedCounted p
+uses_counted : (s : CoreState) (p : Picture) → IsReached (as_state s) → IsPicture s p → IsUsedCounted p
 unfolding used_of used_owed_of quota_of
 uses_counted s p h is =
     let top = head_of s h in
@@ -262,7 +263,7 @@ abbrev IsPlaced : CoreState → ℕ → Place → Type 0
 IsPlaced s x q = IsAt (as_state s).frame (λ t. hand ((as_state s).calls t)) (as_state s).pages x q
 
 -- a frame has one place
-alone : (s : CoreState) (x : ℕ) (q r : Place) → IsSound s → IsPlaced s x q → IsPlaced s x r → q ≡ r
+alone : (s : CoreState) (x : ℕ) (q r : Place) → IsReached (as_state s) → IsPlaced s x q → IsPlaced s x r → q ≡ r
 alone s x q r h a b =
     same_place (as_state s).frames (as_state s).frame (λ t. hand ((as_state s).calls t)) (as_state s).pages
     (head_of s h).place x q r a b
@@ -297,11 +298,11 @@ hand_at s p x is some =
     (at.0, that_is x (hand ((as_state s).calls at.0)) (is_one (is_that x (hand ((as_state s).calls at.0))) at.2))
 
 -- each frame has its place, as the machine's invariant says it
-placing : (s : CoreState) → IsSound s → Placing (as_state s).frames (as_state s).frame (λ t. hand ((as_state s).calls t)) (as_state s).pages
-placing s h = (always (as_state s) (reached_of s h)).inv.place
+placing : (s : CoreState) → IsReached (as_state s) → Placing (as_state s).frames (as_state s).frame (λ t. hand ((as_state s).calls t)) (as_state s).pages
+placing s h = (always (as_state s) h).inv.place
 
 -- and in a hand once at most
-hand_once : (s : CoreState) (p : Picture) (x : ℕ) → IsSound s → IsPicture s p → times_in p.hands.items x ≤ 1
+hand_once : (s : CoreState) (p : Picture) (x : ℕ) → IsReached (as_state s) → IsPicture s p → times_in p.hands.items x ≤ 1
 hand_once s p x h is =
     let holds : ℕ → Bool = λ t. is_that x (hand ((as_state s).calls t)) in
     let few = at_most_one ((as_state s).geometry.tasks + 1) holds true (λ t e. refl)
@@ -311,7 +312,7 @@ hand_once s p x h is =
     omega (arith, few, is.hands x)
 
 -- two pages in one frame are one
-one_page : (s : CoreState) (x f i k j : ℕ) → IsSound s → (as_state s).pages f i ≡ Some x → (as_state s).pages k j ≡ Some x
+one_page : (s : CoreState) (x f i k j : ℕ) → IsReached (as_state s) → (as_state s).pages f i ≡ Some x → (as_state s).pages k j ≡ Some x
     → (f ≡ k) × (i ≡ j)
 one_page s x f i k j h a b =
     other_page (as_state s).frames (as_state s).frame (λ t. hand ((as_state s).calls t)) (as_state s).pages k j f i x
@@ -334,7 +335,7 @@ page_at s p x is some =
     (λ f file of k d within. ((f, (get_or file.pages.items k d).0), pages_told s f file of k d within))) some
 
 -- a file has a frame at one index
-once_in_file : (s : CoreState) (f x : ℕ) (file : FilePicture) → IsSound s → IsFilePicture (as_state s) f file
+once_in_file : (s : CoreState) (f x : ℕ) (file : FilePicture) → IsReached (as_state s) → IsFilePicture (as_state s) f file
     → pages_in file.pages.items x ≤ 1
 once_in_file s f x file h is =
     sum_at_most_one (λ (page : ℕ × ℕ). cond (page.1 == x) 1 0) file.pages.items
@@ -354,7 +355,7 @@ once_in_file s f x file h is =
         ∙ ap (λ (y : ℕ). Some y) (eqb-true (get_or file.pages.items k d).1 x (passed ((get_or file.pages.items k d).1 == x) some))
 
 -- and as a page once at most
-page_once : (s : CoreState) (p : Picture) (x : ℕ) → IsSound s → IsPicture s p
+page_once : (s : CoreState) (p : Picture) (x : ℕ) → IsReached (as_state s) → IsPicture s p
     → sum_by (λ file. pages_in file.pages.items x) p.files.items ≤ 1
 page_once s p x h is =
     sum_at_most_one (λ (file : FilePicture). pages_in file.pages.items x) p.files.items
@@ -384,7 +385,7 @@ few_places (suc a) zero zero (suc c) la lr lb lc ar ab ac rb rc bc = absurd (ac 
 few_places (suc a) zero zero zero la lr lb lc ar ab ac rb rc bc = omega (arith, la)
 
 -- so each frame is told in one place at most
-one_place : (s : CoreState) (p : Picture) → IsSound s → IsPicture s p → IsOnePlace p
+one_place : (s : CoreState) (p : Picture) → IsReached (as_state s) → IsPicture s p → IsOnePlace p
 unfolding place_count
 one_place s p h is =
     λ x. few_places (times_in p.free.items x) (times_in p.retired.items x) (times_in p.hands.items x)
@@ -417,7 +418,7 @@ one_place s p h is =
     hand_page : {t f i : ℕ} → Hand t ≡ Page f i → ⊥
     hand_page e = cc
 
--- an audit finds nothing wrong with a picture of a sound core
-pub right_of : (s : CoreState) (p : Picture) → IsSound s → IsPicture s p → IsRight p
+-- an audit finds nothing wrong with a picture of a reached core
+pub right_of : (s : CoreState) (p : Picture) → IsReached (as_state s) → IsPicture s p → IsRight p
 right_of s p h is =
     (shaped s p h is, agrees s p h is, one_place s p h is, below s p h is, counts s p h is, uses_counted s p h is)

@@ -14,9 +14,12 @@ unfolding IsSound
 reached_of s h = (s.sizes.frames, h.0)
 
 -- so the headline holds of it
-pub headline_of : (s : CoreState) → IsSound s → Headline s
+pub headline_at : (s : CoreState) → IsReached (as_state s) → Headline s
 unfolding Headline
-headline_of s h = runs.headline (as_state s) (reached_of s h)
+headline_at s h = runs.headline (as_state s) h
+
+pub headline_of : (s : CoreState) → IsSound s → Headline s
+headline_of s h = headline_at s (reached_of s h)
 
 -- its state has the sizes of its config, and was opened so
 pub of_config : (s : CoreState) → IsSound s → IsOfConfig s

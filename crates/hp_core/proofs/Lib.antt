@@ -2,8 +2,10 @@ pub mod Alike
 pub mod Audited
 pub mod Blocked
 pub mod Copying
+pub mod Duplicates
 pub mod FilePictures
 pub mod Headlines
+pub mod HeldBack
 pub mod Meets
 pub mod Opens
 pub mod Order

@@ -1,12 +1,13 @@
 -- A core that nothing has happened to is the machine's opening, and sound.
-use Rattle.std.proofs.Common.{◌≡◌, ℕ, ◌-◌, List, [], length, get_or, refl, sym, ◌∙◌, ap, subst, arith, inl, inr}
+use Rattle.std.proofs.Common.{◌≡◌, ℕ, suc, ◌-◌, List, [], ◌∷◌, length, get_or, refl, sym, ◌∙◌, ap, subst, arith, inl, inr}
 use Rattle.std.proofs.Math.Path.{fun_ext}
 use Rattle.std.proofs.Math.ListN.{get_or-eq_default}
 use Rattle.std.proofs.lemmas.Bool.{cases_lt, ne_eqb}
 use Rattle.std.proofs.lemmas.Bool.Decides.{nat_tests}
 use Rattle.std.proofs.lemmas.List.{get_or-replicate, length-replicate}
 use Rattle.std.proofs.lemmas.List.Elements.{All-get_or}
-use Rattle.std.specs.Prelude.{true, false, Option, None, All, nat_lt, nat_le, ◌==◌, ◌&&◌, replicate, if◌then◌else◌}
+use Rattle.std.proofs.lemmas.List.Sums.{sum_by-cons}
+use Rattle.std.specs.Prelude.{Bool, true, false, Option, None, All, cond, count_by, is_some, nat_lt, nat_le, ◌==◌, ◌&&◌, replicate, if◌then◌else◌}
 use Rattle.std.specs.FinMap.{FinMap, get, get-empty}
 use Rattle.std.specs.Ordering.{nat_cmp}
 use Rattle.hp_base.specs.Text.{Sizes, sizes}
@@ -19,6 +20,7 @@ use Rattle.hp_frames.specs.declared.frame.FrameState.TheVariants as frame
 use Rattle.hp_region.specs.Regions.{is_member}
 use Rattle.hp_table.specs.Table.{Table}
 use Rattle.hp_machine.specs.Events as rows
+use Rattle.hp_machine.specs.declared.call.Call.{Call}
 use Rattle.hp_machine.specs.declared.outcome.Life.TheVariants as life
 use Rattle.hp_fault.specs.declared.parts.FileState.{FileState}
 use Rattle.hp_fault.specs.State.{PartsState}
@@ -217,3 +219,18 @@ pub opens_as : (config : Config) (p : PartsState) (seats : List Seat) (room : �
     → IsOpening config (record { sizes = sizes config; parts = p; seats = seats; room = room })
 unfolding IsOpening
 opens_as config p seats room h = (refl, is_opening (sizes config) p seats h)
+
+-- a seat without a call counts for none
+one_vacant : (seat : Seat) (seats : List Seat) → is_some seat.call ≡ false → count_by (λ s. is_some s.call) seats ≡ 0
+    → count_by (λ s. is_some s.call) (seat ∷ seats) ≡ 0
+one_vacant seat seats here rest =
+    let cons = sum_by-cons (λ (s : Seat). cond (is_some s.call) 1 0) seat seats in
+    let none : ◌≡◌ {A = ℕ} (cond (is_some seat.call) 1 0) 0 = ap (λ (b : Bool). cond b 1 0) here in
+    omega (arith, cons, none, rest)
+
+-- so no call is in flight at first
+pub none_in_flight : (seats : List Seat) → All IsVacant seats → count_by (λ s. is_some s.call) seats ≡ 0
+none_in_flight [] h = refl
+none_in_flight (seat ∷ seats) h =
+    one_vacant seat seats (ap (λ (call : Option Call). is_some call) (h 0 seat (omega arith)).call)
+    (none_in_flight seats (λ k d within. h (suc k) d (omega (arith, within))))

@@ -1,6 +1,8 @@
 pub mod Blockers
 pub mod Copies
+pub mod Duplicates
 pub mod Fits
+pub mod HeldBack
 pub mod Opening
 pub mod Pictures
 pub mod Readers

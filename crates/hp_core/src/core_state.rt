@@ -3,7 +3,7 @@ ghost use Rattle.std.specs.Prelude.{◌≡◌, IfOk, OnErr, All};
 ghost use Rattle.hp_base.specs.Text.{sizes};
 ghost use Rattle.hp_core.specs.State.{CoreState};
 ghost use Rattle.hp_core.specs.Runs.{Row, Run, IsOpening, IsOfConfig, IsIdle, Headline, WantsGrowth, TakesNoMemory};
-ghost use Rattle.hp_core.specs.Readers.{config_of};
+ghost use Rattle.hp_core.specs.Readers.{calls_of, config_of};
 
 use crate::events::step_event;
 use crate::opening::{new_files, new_seats, new_spaces};
@@ -58,6 +58,7 @@ impl Core {
     pub fn new(alloc: Global, config: Config) -> Result<Self, AllocError>
         ensures opening { IfOk result (λ core. IsOpening config core) }
         ensures config { IfOk result (λ core. config_of core ≡ sizes config) }
+        ensures calls { IfOk result (λ core. calls_of core ≡ 0) }
     {
         let parts = Parts {
             bank: Bank::new(alloc, config.frames, config.quota)?,

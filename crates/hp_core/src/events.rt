@@ -81,7 +81,8 @@ fn first_touch(vpn: Vpn, access: Access) -> Call
     Call::Touch(TouchPhase::Look(Look { vpn, access }))
 }
 
-fn is_exit(op: &Op) -> bool
+/// Whether the operation is the end of its task.
+pub fn is_exit(op: &Op) -> bool
     ensures { result ≡ rows.is_exit op.now }
 {
     matches!(op, Op::Exit)

@@ -1,6 +1,9 @@
 //! The laws of the machine, said of a core. There is nothing to run: a body names the theorem that it stands
 //! on, and looks at a field, which brings to hand what always holds of a core.
+ghost use Rattle.hp_audit.specs.Findings.{IsRight};
+ghost use Rattle.hp_audit.specs.declared.picture.Picture.{Picture};
 ghost use Rattle.hp_machine.specs.Events.{IsReached};
+ghost use Rattle.hp_core.specs.Pictures.{IsPicture};
 ghost use Rattle.hp_core.specs.State.{as_state};
 ghost use Rattle.hp_laws.specs.Laws.{AllocNeverLacks, AllocTakes, BlockedByHolders, EvictedStays, EvictsFew};
 ghost use Rattle.hp_laws.specs.Laws.{LockHoldersWaitForSlots, LosesUnderLock, NeverShort, SlotHoldersGoOn, SomeCallGoesOn};
@@ -14,6 +17,13 @@ impl Core {
     /// A run of the machine reached this core: so every theorem on such states holds of it.
     pub fn is_reached(&self)
         ensures { IsReached (as_state self.now) }
+    {
+        let _ = &self.config;
+    }
+
+    /// Every picture of this core passes the audit: so whoever takes one need not look.
+    pub fn every_picture_is_right(&self)
+        ensures { (picture : Picture) → IsPicture self.now picture → IsRight picture }
     {
         let _ = &self.config;
     }

@@ -7,6 +7,7 @@
 #![tactic(auto)]
 
 pub mod core_state;
+mod duplicate;
 mod events;
 mod hands;
 mod in_flight;
@@ -15,6 +16,7 @@ mod opening;
 mod owing;
 mod picture;
 pub mod readers;
+mod refusing;
 mod resizing;
 pub mod run;
 mod run_laws;

@@ -104,7 +104,7 @@ fn add_translations(
     ensures { OnOk result (tables.new.items
         ≡ tables.old.items ++ translations task space.now) }
 {
-    for &(vpn, frame) in space.translations() {
+    for (vpn, frame) in space.translations() {
         if let Some((file, index)) = space.find(vpn) {
             tables.push((task, file, index, frame))?;
         }

@@ -120,7 +120,8 @@ fn call_blocker(parts: &Parts, killed: bool, call: &Call) -> Option<Task>
     }
 }
 
-fn seat_blocker(parts: &Parts, seat: &Seat) -> Option<Task>
+/// Who holds up the next step of the seat's task.
+pub fn seat_blocker(parts: &Parts, seat: &Seat) -> Option<Task>
     requires { IsSized (state_of parts.now) }
     ensures { result ≡ task_blocker (state_of parts.now) seat.now }
 {

@@ -10,12 +10,11 @@ use Rattle.std.proofs.lemmas.Grind.{common_steps}
 use Rattle.std.proofs.lemmas.List.{get_or-set_same, get_or-set_other, get_or_past, get_or_read, set-get_or, length-set}
 use Rattle.std.proofs.lemmas.Option.{get_or_from_slice_get, slice_get-get_or, slice_get_within}
 use Rattle.hp_base.specs.Numbers.{put, put2}
-use Rattle.hp_base.proofs.Counting.{count_below-ext}
 use Rattle.hp_base.proofs.Puts.{put_same, put_other, put_self, put_tells, same_or_other}
 use Rattle.hp_base.proofs.Lists.{at_set, at_same}
 use Rattle.hp_frames.specs.Bank as bank
 use Rattle.hp_frames.specs.declared.frame.FrameState.{FrameState}
-use Rattle.hp_frames.specs.declared.frame.FrameState.TheVariants.{Free, Hand, Placed, Retired}
+use Rattle.hp_frames.specs.declared.frame.FrameState.TheVariants.{Hand, Placed}
 use Rattle.hp_region.specs.Regions.{is_member}
 use Rattle.hp_region.specs.declared.region.Region.{Region}
 use Rattle.hp_table.specs.Table.{Table}
@@ -281,12 +280,17 @@ pub entries_set : (xs : List Table) (t : ℕ) (y : Table) → 1 ≤ t → t ≤ 
 unfolding entries_of
 entries_set xs t y low high = seen_set {B = ℕ → Option ℕ} (λ (d : Table) (w : ℕ). get d.entries w) xs t y low high
 
--- the room of a task's space
-pub task_rooms_same : (xs : List Table) (t : ℕ) (y : Table) → 1 ≤ t → t ≤ length xs → y.room ≡ (table_of xs t).room
-    → rooms_by_task (slice_set xs (t - 1) y) ≡ rooms_by_task xs
-unfolding rooms_by_task
-task_rooms_same xs t y low high e =
-    seen_set (λ (d : Table). d.room) xs t y low high ∙ put_known (λ j. (table_of xs j).room) t y.room (sym e)
+-- the room of a task's space, which may give some back
+pub task_rooms_less : (xs : List Table) (t : ℕ) (y : Table) (task : ℕ) → 1 ≤ t → t ≤ length xs → y.room ≤ (table_of xs t).room
+    → rooms_by_task (slice_set xs (t - 1) y) task ≤ rooms_by_task xs task
+unfolding rooms_by_task put
+task_rooms_less xs t y task low high le =
+    let new : (table_of (slice_set xs (t - 1) y) task).room ≡ put (λ j. (table_of xs j).room) t y.room task =
+    ap (λ (f : ℕ → ℕ). f task) (seen_set (λ (d : Table). d.room) xs t y low high) in
+    elim (same_or_other task t) [
+      | inl e ↦ let here : (table_of xs task).room ≡ (table_of xs t).room = ap (λ j. (table_of xs j).room) e in grind (arith, nat_tests)
+      | inr other ↦ grind (arith, nat_tests)
+    ]
 
 -- frames
 pub frame_at_set : (xs : List FrameState) (x : ℕ) (s : FrameState) → x < length xs
@@ -309,7 +313,7 @@ word_of xs x l placed = (placed.0, frame_got xs x (Placed placed.0) l placed.1)
 
 pub ruleset lock_laws = (holders_at, holders_set, get_or_past, length-set)
 
-pub ruleset room_laws = (nat_tests, ne_eqb, set-get_or, mappings_at, mappings_same, ready_set, entries_same, length-set, task_rooms_same)
+pub ruleset room_laws = (nat_tests, ne_eqb, set-get_or, mappings_at, mappings_same, ready_set, entries_same, length-set, task_rooms_less)
 
 pub ruleset change_laws = (
   nat_tests,
@@ -359,7 +363,7 @@ pub ruleset enter_laws = (
   length-set,
   map_rooms_same,
   cache_rooms_same,
-  task_rooms_same,
+  task_rooms_less,
 )
 
 pub ruleset frame_laws = (frame_at_set, frame_at_is, frame_got, slice_get_within, length-set)
@@ -411,12 +415,12 @@ pub ruleset install_laws = (
   frame_at_is,
   frame_got,
   length-set,
-  task_rooms_same,
+  task_rooms_less,
 )
 
-pub ruleset clear_laws = (nat_tests, ne_eqb, mappings_at, mappings_same, ready_same, entries_are, entries_set, length-set, task_rooms_same)
+pub ruleset clear_laws = (nat_tests, ne_eqb, mappings_at, mappings_same, ready_same, entries_are, entries_set, length-set, task_rooms_less)
 
-pub ruleset drop_laws = (nat_tests, ne_eqb, mappings_at, mappings_set, ready_same, entries_at, entries_same, length-set, task_rooms_same)
+pub ruleset drop_laws = (nat_tests, ne_eqb, mappings_at, mappings_set, ready_same, entries_at, entries_same, length-set, task_rooms_less)
 
 pub ruleset evict_laws = (
   sizes_same,

@@ -17,15 +17,15 @@ cache_rooms_of files f = (slice_index_or files f no_file).cache.room
 unfoldable pub rooms_by_task : List Table → ℕ → ℕ
 rooms_by_task spaces t = (table_of spaces t).room
 
--- no memory was taken: each part has as much room as before, and each file's cache no more, since it gives memory back
--- with the last page of a chunk. Slots and locks have room for their places and no more, so that `SizesStay` says it of
--- them.
+-- no memory was taken: each part has as much room as before, and each file's cache and each task's space no more, since
+-- they give memory back with the last page, or the last translation, of a chunk. Slots and locks have room for their
+-- places and no more, so that `SizesStay` says it of them.
 abbrev pub RoomStays : PartsState → PartsState → Type 0
 RoomStays old new = record {
   bank : new.bank.room ≡ old.bank.room;
   maps : map_rooms_of new.files ≡ map_rooms_of old.files;
   caches : (file : ℕ) → cache_rooms_of new.files file ≤ cache_rooms_of old.files file;
-  spaces : rooms_by_task new.spaces ≡ rooms_by_task old.spaces;
+  spaces : (task : ℕ) → rooms_by_task new.spaces task ≤ rooms_by_task old.spaces task;
   lists : new.room ≡ old.room;
 }
 

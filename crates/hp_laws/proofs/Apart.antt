@@ -1,9 +1,12 @@
 -- Calls that hold frames stand apart, and what a truncation passed stays bare.
-use Rattle.std.proofs.Common.{◌≡◌, ◌≢◌, ℕ, ◌≤◌, refl, ap, ◌∙◌, subst, arith, inl, inr, ◌⊎◌}
+use Rattle.std.proofs.Common.{◌≡◌, ◌≢◌, ℕ, ◌+◌, ◌≤◌, ◌<◌, refl, ap, sym, ◌∙◌, subst, arith, inl, inr, ◌⊎◌}
 use Rattle.std.specs.Prelude.{true, false, Option, Some, None, IfSome}
+use Rattle.hp_base.proofs.Totals.{total_same, total_none}
+use Rattle.hp_frames.specs.Bank.{is_in_hand}
 use Rattle.hp_machine.specs.State.{Geometry, State, slot_of}
+use Rattle.hp_machine.specs.Headline.{Place, Free, Hand, Page, Retired, IsAt}
 use Rattle.hp_machine.specs.Events.{IsReached}
-use Rattle.hp_machine.specs.Views.{hand, slot_held, locked_file}
+use Rattle.hp_machine.specs.Views.{hand, opens, slot_held, locked_file}
 use Rattle.hp_machine.specs.declared.touch.TouchPhase.TheVariants as touch
 use Rattle.hp_machine.specs.declared.alloc.AllocPhase.TheVariants as alloc
 use Rattle.hp_machine.specs.declared.punch.PunchPhase.TheVariants as punch
@@ -15,6 +18,7 @@ use Rattle.hp_machine.specs.declared.call.Call.{Call}
 use Rattle.hp_machine.specs.declared.call.Call.TheVariants as call
 use Rattle.hp_laws.specs.Enough.{CanSettle}
 use Rattle.hp_laws.specs.Protocol.{ChangesAreCalls, SparesSuffice, PagesAreReserved, LiesWithin, is_bare, HandsApart}
+use Rattle.hp_laws.specs.Protocol.{IsAtRest, HoldsNothing}
 use Rattle.hp_laws.specs.Protocol.{BareWhereMade, works_at, PassedIsBare}
 use Rattle.hp_laws.specs.Sweep.{fills, ahead}
 use Rattle.hp_laws.proofs.Deciding.{some_same}
@@ -171,3 +175,39 @@ passed_bare s all t f j cases =
 -- so in every reached state
 pub passed_is_bare : (s : State) → IsReached s → PassedIsBare s
 passed_is_bare s reached = passed_bare s (always s reached)
+
+-- a pool at rest holds nothing
+module _ (s : State) (reached : IsReached s) (rest : IsAtRest s) where
+  no_change : (f : ℕ) → s.pending f ≡ 0
+  no_change f =
+      changes_are_calls s reached f
+      ∙ total_same (s.geometry.tasks + 1) (λ _. 0) (λ u. opens f (s.calls u)) (λ u l. ap (opens f) (rest u)) ∙ total_none (s.geometry.tasks + 1)
+
+  -- a frame at a place that is no call's isn't in a hand
+  placed : (x : ℕ) (p : Place) → IsAt s.frame (λ u. hand (s.calls u)) s.pages x p → is_in_hand (s.frame x) ≡ false
+  placed x Free e = ap is_in_hand e
+  placed x (Hand u) e = let d : ◌≡◌ {A = Option ℕ} None (Some x) = sym (ap hand (rest u)) ∙ e in absurd (cc)
+  placed x (Page f i) e = ap is_in_hand ((always s reached).inv.place.pages f i x e).1
+  placed x Retired e = ap is_in_hand e
+
+  no_hand : (x : ℕ) → x < s.frames → is_in_hand (s.frame x) ≡ false
+  no_hand x l = let found = (always s reached).inv.place.one.one x l in placed x found.0 found.1
+
+  no_slot : (k : ℕ) (o : Option ℕ) → s.slots k ≡ o → o ≡ None
+  no_slot k None e = refl
+  no_slot k (Some u) e =
+      let held = (always s reached).inv.holders.slot k u e in
+      let d : ◌≡◌ {A = Option (ℕ × ℕ)} None (Some held.0) = sym (ap slot_held (rest u)) ∙ held.1 in absurd (cc)
+
+  no_lock : (f : ℕ) (o : Option ℕ) → s.locks f ≡ o → o ≡ None
+  no_lock f None e = refl
+  no_lock f (Some u) e =
+      let d : ◌≡◌ {A = Option ℕ} None (Some f) = sym (ap locked_file (rest u)) ∙ (always s reached).inv.holders.lock f u e in absurd (cc)
+
+  pub holds_nothing : HoldsNothing s
+  holds_nothing = record {
+    changes = no_change;
+    hands = no_hand;
+    slots = λ k. no_slot k (s.slots k) refl;
+    locks = λ f. no_lock f (s.locks f) refl;
+  }

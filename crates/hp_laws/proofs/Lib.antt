@@ -5,6 +5,7 @@ pub mod Claims
 pub mod Cover
 pub mod Cuts
 pub mod Deciding
+pub mod Deletes
 pub mod Denials
 pub mod Effects
 pub mod Evicted
@@ -19,6 +20,7 @@ pub mod Losing
 pub mod MapKeeps
 pub mod Meets
 pub mod Moves
+pub mod Nearing
 pub mod Numbered
 pub mod Paging
 pub mod Passing
@@ -33,8 +35,8 @@ pub mod Serving
 pub mod Shared
 pub mod Standing
 pub mod Staying
-pub mod StepsLeft
 pub mod Tables
+pub mod Telling
 pub mod TouchKeeps
 pub mod TruncateKeeps
 pub mod Turns

@@ -37,7 +37,7 @@ use Rattle.hp_laws.proofs.Standing.{HasSlot, HasLock, Stands, IsOne}
 use Rattle.hp_laws.proofs.Invariant.{Inv}
 use Rattle.hp_laws.proofs.Passing.{ahead_locked, locks_file, holds_slot, same_holder}
 use Rattle.hp_laws.proofs.Shared.{by_test, by_option, stands_at}
-use Rattle.hp_laws.proofs.StepsLeft.{deletes}
+use Rattle.hp_laws.proofs.Deletes.{deletes}
 use Rattle.hp_laws.proofs.Runs.{Always, always}
 use Rattle.hp_laws.proofs.Apart.{works, passed_bare}
 use Rattle.hp_laws.proofs.Reading.{begin_cases, step_cases, kill_cases, call_steps}

@@ -32,7 +32,7 @@ use Rattle.hp_base.proofs.Spaces.{both_true}
 use Rattle.hp_laws.proofs.Deciding.{same_of, file_told, never, clash}
 use Rattle.hp_laws.proofs.Invariant.{Inv}
 use Rattle.hp_laws.proofs.Shared.{by_test, by_option, stands_at}
-use Rattle.hp_laws.proofs.StepsLeft.{deletes}
+use Rattle.hp_laws.proofs.Deletes.{deletes}
 
 -- the range of a punch, in each phase
 abbrev pub hole_of : PunchPhase → Hole

@@ -16,7 +16,8 @@ use Rattle.hp_machine.specs.declared.call.Call.TheVariants as call
 use Rattle.hp_machine.specs.declared.call.Turn.{Turn}
 use Rattle.hp_machine.specs.declared.call.Turn.TheVariants.{Moved, Blocked, Ended}
 use Rattle.hp_laws.specs.Bounds.{sizes, IsTop, WaitsFor}
-use Rattle.hp_laws.proofs.StepsLeft.{steps_left, deletes}
+use Rattle.hp_laws.specs.StepsLeft.{steps_left}
+use Rattle.hp_laws.proofs.Deletes.{deletes}
 use Rattle.hp_laws.proofs.Invariant.{Inv, put_known}
 use Rattle.hp_laws.proofs.Shared.{by_test, by_option}
 use Rattle.hp_laws.proofs.Turns.{is_blocked, Turned, touch_turn, map_turn, alloc_turn, punch_turn, truncate_turn, unmap_turn, exit_turn}

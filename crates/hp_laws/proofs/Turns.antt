@@ -45,7 +45,8 @@ use Rattle.hp_machine.specs.declared.call.Turn.{Turn}
 use Rattle.hp_machine.specs.declared.call.Turn.TheVariants.{Moved, Blocked, Ended}
 use Rattle.hp_laws.specs.Bounds.{times, sizes, IsTop, WaitsFor}
 use Rattle.hp_laws.proofs.Deciding.{lt, le}
-use Rattle.hp_laws.proofs.StepsLeft.{steps_left, unslot_left, deletes}
+use Rattle.hp_laws.specs.StepsLeft.{steps_left, unslot_left}
+use Rattle.hp_laws.proofs.Deletes.{deletes}
 use Rattle.hp_laws.proofs.Invariant.{Inv}
 use Rattle.hp_laws.proofs.Effects.{grown_keeps}
 use Rattle.hp_laws.proofs.Tables.{grown_size}

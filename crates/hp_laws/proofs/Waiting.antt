@@ -29,7 +29,7 @@ use Rattle.hp_laws.specs.Bounds.{most_steps, is_own, own_steps, is_begun, calls_
 use Rattle.hp_laws.specs.Bounds.{WaitsFor, HoldsUp, IsUnblocked}
 use Rattle.hp_laws.specs.Histories.{Moment, History, in_order}
 use Rattle.hp_laws.proofs.Deciding.{some_same}
-use Rattle.hp_laws.proofs.StepsLeft.{steps_left}
+use Rattle.hp_laws.specs.StepsLeft.{steps_left}
 use Rattle.hp_laws.proofs.Runs.{Always, always, call_keeps}
 use Rattle.hp_laws.proofs.Reading.{begin_cases, step_cases, kill_cases, Gone, Steps, call_steps, same_state}
 use Rattle.hp_laws.proofs.Resizing.{resize_cases}

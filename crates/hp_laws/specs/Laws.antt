@@ -1,18 +1,19 @@
 -- What the theorems say of one state that a run reached: each is the contract of a function of this crate, and of a call of a core.
-use Rattle.std.specs.Prelude.{◌≡◌, ◌≢◌, ◌≤◌, ℕ, Bool, true, false, Some, IfSome, List}
+use Rattle.std.specs.Prelude.{◌≡◌, ◌≢◌, ◌≤◌, ◌+◌, ℕ, Bool, true, false, Some, None, IsSome, IfSome, List}
 use Rattle.hp_base.specs.Indices.{count_within}
 use Rattle.hp_frames.specs.declared.frame.FrameState.TheVariants.{Free}
 use Rattle.hp_base.specs.declared.answer.Answer.{Answer}
 use Rattle.hp_base.specs.declared.answer.Answer.TheVariants.{Done}
+use Rattle.hp_base.specs.declared.event.Op.{Op}
 use Rattle.hp_base.specs.declared.event.Event.{Event}
-use Rattle.hp_base.specs.declared.event.Event.TheVariants.{Step}
+use Rattle.hp_base.specs.declared.event.Event.TheVariants.{Begin, Step, Kill, Resize}
 use Rattle.hp_machine.specs.State.{State, is_dead, is_killed}
-use Rattle.hp_machine.specs.Events.{Row, Run, word_of}
+use Rattle.hp_machine.specs.Events.{Row, Run, first, word_of}
 use Rattle.hp_machine.specs.Views.{slot_held, locked_file}
 use Rattle.hp_machine.specs.declared.call.Call.{Call}
 use Rattle.hp_machine.specs.declared.call.Call.TheVariants as call
 use Rattle.hp_machine.specs.declared.outcome.Outcome.{Outcome}
-use Rattle.hp_machine.specs.declared.outcome.Outcome.TheVariants.{Moved, Blocked, Ended}
+use Rattle.hp_machine.specs.declared.outcome.Outcome.TheVariants.{Begun, Moved, Blocked, Ended, Marked, Resized, Refused}
 use Rattle.hp_machine.specs.declared.phase.Phase.{Phase}
 use Rattle.hp_machine.specs.declared.phase.Phase.TheVariants as word
 use Rattle.hp_machine.specs.declared.alloc.AllocPhase.TheVariants as alloc
@@ -28,6 +29,7 @@ use Rattle.hp_laws.specs.Bounds.{calls_begun, HoldsUp, IsUnblocked}
 use Rattle.hp_laws.specs.Enough.{CanSettle}
 use Rattle.hp_laws.specs.Promises.{TellsNoLack}
 use Rattle.hp_laws.specs.Protocol.{GoesUnderLock, truncation_of, IsCut}
+use Rattle.hp_laws.specs.StepsLeft.{goes_on, left_to, left_to_all}
 use Rattle.hp_laws.specs.Sweep.{gone}
 
 -- whenever a call is about to lower the reserve count or the used count, the count is at least what it takes
@@ -118,3 +120,53 @@ abbrev pub SomeCallGoesOn : State → Type 0
 SomeCallGoesOn s =
     (t : ℕ) (c : Call) → s.calls t ≡ Some c
     → (u : ℕ) × (d : Call) × (s.calls u ≡ Some d) × (is_dead (s.life u) ≡ false) × IsUnblocked s u
+
+-- a step that moves or ends its call leaves it a step fewer at least, and every other call as many; so all together have
+-- fewer left
+abbrev pub StepsRunOut : State → Type 0
+StepsRunOut s = (t : ℕ) (grant : Bool) (outcome : Outcome) (after : State) → Row s (Step t grant) outcome after
+    → (left_to after t + goes_on outcome ≤ left_to s t) × ((u : ℕ) → u ≢ t → left_to after u ≡ left_to s u)
+    × (left_to_all after + goes_on outcome ≤ left_to_all s)
+
+-- the event is of that task; a resize is of none
+abbrev pub IsOf : (task : ℕ) → Event → Type 0
+IsOf u (Begin t op) = u ≡ t
+IsOf u (Step t grant) = u ≡ t
+IsOf u (Kill t) = u ≡ t
+IsOf u (Resize frames) = ⊥
+
+-- an event leaves the calls and the lives of the tasks that it isn't of
+abbrev pub OthersStay : State → Type 0
+OthersStay s = (event : Event) (outcome : Outcome) (after : State) (u : ℕ) → Row s event outcome after → ¬ IsOf u event
+    → (after.calls u ≡ s.calls u) × (after.life u ≡ s.life u)
+
+-- what a begin leaves: it is begun, and the call stands where its operation begins, or refused, and nothing changed
+abbrev pub Began : State → (task : ℕ) → Op → Outcome → State → Type 0
+Began s t op Begun after = after.calls t ≡ Some (first op)
+Began s t op (Refused why) after = after ≡ s
+Began s t op (Moved p) after = ⊥
+Began s t op (Blocked holder) after = ⊥
+Began s t op (Ended a) after = ⊥
+Began s t op Marked after = ⊥
+Began s t op (Resized frames) after = ⊥
+
+abbrev pub BeginsBegin : State → Type 0
+BeginsBegin s = (t : ℕ) (op : Op) (outcome : Outcome) (after : State) → Row s (Begin t op) outcome after → Began s t op outcome after
+
+-- what a step of a call in flight leaves of it: it goes on, is blocked, and nothing changed, or has ended
+abbrev pub Went : State → (task : ℕ) → Outcome → State → Type 0
+Went s t (Moved p) after = IsSome (after.calls t)
+Went s t (Blocked holder) after = after ≡ s
+Went s t (Ended a) after = after.calls t ≡ None
+Went s t Begun after = ⊥
+Went s t (Refused why) after = ⊥
+Went s t Marked after = ⊥
+Went s t (Resized frames) after = ⊥
+
+abbrev pub CallsStep : State → Type 0
+CallsStep s = (t : ℕ) (grant : Bool) (c : Call) (outcome : Outcome) (after : State) → s.calls t ≡ Some c
+    → Row s (Step t grant) outcome after → Went s t outcome after
+
+-- whoever has a call in flight is a task that is there and isn't dead
+abbrev pub CallersLive : State → Type 0
+CallersLive s = (t : ℕ) (c : Call) → s.calls t ≡ Some c → (1 ≤ t) × (t ≤ s.geometry.tasks) × (is_dead (s.life t) ≡ false)

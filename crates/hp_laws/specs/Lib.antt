@@ -6,4 +6,5 @@ pub mod Laws
 pub mod Promises
 pub mod Protocol
 pub mod Sweep
+pub mod StepsLeft
 pub mod Words

@@ -5,7 +5,7 @@ use Rattle.hp_base.specs.Indices.{is_within}
 use Rattle.hp_base.specs.Mappings.{find, is_there}
 use Rattle.hp_base.specs.declared.event.Event.{Event}
 use Rattle.hp_base.specs.declared.event.Event.TheVariants.{Step}
-use Rattle.hp_frames.specs.Bank.{is_retired}
+use Rattle.hp_frames.specs.Bank.{is_in_hand, is_retired}
 use Rattle.hp_machine.specs.State.{Pool, State}
 use Rattle.hp_machine.specs.Events.{word_of}
 use Rattle.hp_machine.specs.Standings.{Progress, NoChange, Counts, GivesUp, Work, NoWork, Makes, Uses, Removes, Removed, standing_of}
@@ -120,4 +120,17 @@ IsCut s f new = record {
   translated : (t v x j : ℕ) → s.entries t v ≡ Some x → find (s.mappings t) v ≡ Some (f, j) → j < new;
   cached : (j : ℕ) → new ≤ j → s.pages f j ≡ None;
   reserved : (j : ℕ) → new ≤ j → s.reserved f j ≡ false;
+}
+
+-- no call is in flight
+abbrev pub IsAtRest : State → Type 0
+IsAtRest s = (t : ℕ) → s.calls t ≡ None
+
+-- no change of a reserve map is in progress, no frame is in a hand, and nobody holds a slot or a lock
+abbrev pub HoldsNothing : State → Type 0
+HoldsNothing s = record {
+  changes : (f : ℕ) → s.pending f ≡ 0;
+  hands : (x : ℕ) → x < s.frames → is_in_hand (s.frame x) ≡ false;
+  slots : (k : ℕ) → s.slots k ≡ None;
+  locks : (f : ℕ) → s.locks f ≡ None;
 }

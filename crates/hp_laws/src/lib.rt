@@ -45,9 +45,10 @@ ghost use Rattle.hp_laws.specs.HistoryLaws.{LoadsTellLastWords, LoadsEndWithLast
 ghost use Rattle.hp_laws.specs.Laws.{NeverShort, HasNoDeadEnd, LosesUnderLock, MovesTellPhases, TouchTakes, AllocTakes};
 ghost use Rattle.hp_laws.specs.Laws.{TouchNeverLacks, AllocNeverLacks, TruncationCuts, EvictedStays, EvictsFew, BlockedByHolders};
 ghost use Rattle.hp_laws.specs.Laws.{SlotHoldersGoOn, LockHoldersWaitForSlots, SomeCallGoesOn};
+ghost use Rattle.hp_laws.specs.Laws.{StepsRunOut, OthersStay, BeginsBegin, CallsStep, CallersLive};
 ghost use Rattle.hp_laws.specs.Histories.{Moment, History, in_order};
 ghost use Rattle.hp_laws.specs.Protocol.{ChangesAreCalls, SparesSuffice, PagesAreReserved, LiesWithin, HandsApart, KeepsItsFrames, BareWhereMade};
-ghost use Rattle.hp_laws.specs.Protocol.{GoesUnderLock, PassedIsBare, truncation_of, IsCut};
+ghost use Rattle.hp_laws.specs.Protocol.{GoesUnderLock, PassedIsBare, truncation_of, IsCut, IsAtRest, HoldsNothing};
 
 /// After every list of events by any number of tasks, with kills and refused memory anywhere:
 /// translations of one file index name one frame, no frame is free and in use or in two places, no
@@ -104,6 +105,12 @@ pub fn hands_are_apart()
     ensures { (s : State) → IsReached s → HandsApart s }
 {}
 
+/// Where no call is in flight nothing is held: no map is being changed, no frame is in a hand, no slot and no lock is
+/// taken.
+pub fn a_pool_at_rest_holds_nothing()
+    ensures { (s : State) → IsReached s → IsAtRest s → HoldsNothing s }
+{}
+
 /// Where a call makes a page there is none yet.
 pub fn pages_are_made_where_none_is()
     ensures { (s : State) → IsReached s → BareWhereMade s }
@@ -134,6 +141,33 @@ pub fn a_move_tells_its_phase()
 /// the size the top counts, where its sweep began.
 pub fn own_steps_are_few()
     ensures { (s : State) → FewOwnSteps s }
+{}
+
+/// Each step that moves or ends a call leaves it a step fewer at least, and every other call as many. So whoever
+/// makes such steps comes to an end, whatever the calls are.
+pub fn steps_run_out()
+    ensures { (s : State) → IsReached s → StepsRunOut s }
+{}
+
+/// An event of one task leaves the calls and the lives of the others as they were; a resize leaves all of them.
+pub fn others_stay()
+    ensures { (s : State) → OthersStay s }
+{}
+
+/// Whoever has a call in flight is a task that is there and isn't dead.
+pub fn callers_live()
+    ensures { (s : State) → IsReached s → CallersLive s }
+{}
+
+/// A begin is begun, and the call stands where its operation begins, or it is refused and changes nothing.
+pub fn a_begin_begins_or_is_refused()
+    ensures { (s : State) → BeginsBegin s }
+{}
+
+/// A step of a call in flight is never refused: the call goes on, or waits, and nothing changes, or it has ended and is in
+/// flight no more.
+pub fn a_call_in_flight_makes_its_step()
+    ensures { (s : State) → IsReached s → CallsStep s }
 {}
 
 /// A step is blocked only by another task, whose call in flight holds the slot or the file lock

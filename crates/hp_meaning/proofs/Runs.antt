@@ -42,7 +42,7 @@ same_lists a b c = λ i. (a i, b i) ∷ c i
 
 -- two runs of the same events, from a state and from the renamed one, tell the same and end in states that are each
 -- other renamed
-run_alike : (s : State) (r : Renaming s.frames) (es fs : List (Event × Outcome)) (after after' : State) → Always s
+pub run_alike : (s : State) (r : Renaming s.frames) (es fs : List (Event × Outcome)) (after after' : State) → Always s
     → Run s es after → Run (renamed r s) fs after' → events_of fs ≡ events_of es → (fs ≡ es) × Alike after after'
 unfolding wider
 run_alike s r [] [] after after' h a b e =

@@ -2,6 +2,7 @@
 use hp_base::Index;
 use hp_region::{ChangeFault, DelFault, RegionMap};
 use std::alloc::Global;
+use std::process::Abort;
 use std::test::Fail;
 
 // The indices 0 to 3 are reserved, by two changes that overlap: so there is one region, and a spare descriptor.
@@ -45,6 +46,50 @@ fn the_later_change_commits_first(rt: HostRuntime) -> Result<(), Fail> {
     assert_eq!(rt; map.commit(second), 3);
     assert_eq!(rt; map.spare(), 1);
     assert_eq!(rt; map.commit(first), 1);
+    Ok(())
+}
+
+// What the readers of a map and of its copy tell.
+fn compare(rt: &impl Abort, copy: &RegionMap, source: &RegionMap) {
+    assert_eq!(rt; copy.count(), source.count());
+    assert_eq!(rt;
+        (copy.pending(), copy.spare()),
+        (source.pending(), source.spare())
+    );
+    assert_eq!(rt; copy.regions(), source.regions());
+    for place in 0..3 {
+        assert_eq!(rt; copy.region(place), source.region(place));
+    }
+    for index in [0, 1, 2, 3, 4].map(Index::new) {
+        assert_eq!(rt; copy.contains(index), source.contains(index));
+        assert_eq!(rt; copy.seek(index), source.seek(index));
+    }
+    let all = (Index::new(0), Index::new(8));
+    assert_eq!(rt; copy.missing(all.0, all.1), source.missing(all.0, all.1));
+}
+
+#[test]
+fn a_copy_is_compared_with_its_source(rt: HostRuntime) -> Result<(), Fail> {
+    for source in [four_reserved(rt.alloc())?, two_regions(rt.alloc())?] {
+        assert_eq!(rt; source.pending(), 0);
+        let copy = source.copy(rt.alloc())?;
+        compare(&rt, &copy, &source);
+    }
+    Ok(())
+}
+
+#[test]
+fn a_copy_goes_on_apart(rt: HostRuntime) -> Result<(), Fail> {
+    let mut source = four_reserved(rt.alloc())?;
+    assert_eq!(rt; source.pending(), 0);
+    let mut copy = source.copy(rt.alloc())?;
+    copy.remove_one(false, Index::new(2))?;
+    source.remove_tail(Index::new(1));
+    assert_eq!(rt; (copy.count(), copy.regions(), copy.spare()), (3, 2, 0));
+    assert_eq!(rt;
+        (source.count(), source.regions(), source.spare()),
+        (1, 1, 1)
+    );
     Ok(())
 }
 

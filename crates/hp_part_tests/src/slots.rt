@@ -37,6 +37,23 @@ fn a_place_is_left(rt: HostRuntime) -> Result<(), Fail> {
 }
 
 #[test]
+fn a_copy_is_compared_with_its_source(rt: HostRuntime) -> Result<(), Fail> {
+    let mut source = SlotTable::new(rt.alloc(), 3)?;
+    let (one, two) = (Task::new(1), Task::new(2));
+    assert_eq!(rt; source.try_take(1, one), Ok(()));
+    assert_eq!(rt; source.try_take(2, two), Ok(()));
+    let copy = source.copy(rt.alloc())?;
+    for place in 0..4 {
+        assert_eq!(rt; copy.holder(place), source.holder(place));
+    }
+    let (file, index) = (File::new(0), Index::new(5));
+    assert_eq!(rt; copy.slot_of(file, index), source.slot_of(file, index));
+    source.leave(1, one);
+    assert_eq!(rt; copy.holder(1), Some(one));
+    Ok(())
+}
+
+#[test]
 fn texts(rt: HostRuntime) -> Result<(), Fail> {
     for (task, text) in [
         (1, "task 1 holds the place"),

@@ -4,6 +4,7 @@ ghost use Rattle.std.specs.Prelude.{◌≤◌};
 use hp_base::{File, Frame, Index, LIMIT, Vpn};
 use hp_table::Space;
 use std::alloc::{AllocError, Global};
+use std::process::Abort;
 use std::test::Fail;
 
 // Maps `len` pages of file 1 from its begin on, where they fit.
@@ -127,7 +128,7 @@ fn translations_are_told_in_order(rt: HostRuntime) -> Result<(), Fail> {
         (Vpn::new(2), Frame::new(7)),
         (Vpn::new(3), Frame::new(8)),
     ];
-    assert_eq!(rt; space.translations(), translations.as_slice());
+    assert!(rt; space.translations().eq(translations));
     Ok(())
 }
 
@@ -208,5 +209,52 @@ fn refused_growth_changes_nothing(rt: HostRuntime) -> Result<(), Fail> {
         assert!(rt; touch(&mut space, 2, 7)?);
     }
     assert_eq!(rt; frames(&space), [None, None, Some(7), None, None, None]);
+    Ok(())
+}
+
+// What each reader of both tells of six pages, and of the room that is left, is the same.
+fn compare(rt: &impl Abort, copy: &Space, source: &Space) {
+    assert_eq!(rt; frames(copy), frames(source));
+    for vpn in [0, 1, 2, 3, 4, 5, 6].map(Vpn::new) {
+        assert_eq!(rt; copy.find(vpn), source.find(vpn));
+        assert_eq!(rt; copy.base_of(vpn), source.base_of(vpn));
+    }
+    assert!(rt; copy.translations().eq(source.translations()));
+    assert_eq!(rt;
+        (copy.mappings(), copy.entries()),
+        (source.mappings(), source.entries())
+    );
+    for len in [1, 3, LIMIT] {
+        assert_eq!(rt; copy.room(len), source.room(len));
+    }
+    assert_eq!(rt; copy.first(), source.first());
+}
+
+#[test]
+fn a_copy_is_compared_with_its_source(rt: HostRuntime) -> Result<(), Fail> {
+    let alloc = rt.alloc();
+    for source in [
+        Space::new(alloc),
+        three_entries(alloc)?,
+        three_mappings(alloc)?,
+    ] {
+        let copy = source.copy(alloc)?;
+        assert!(rt; !copy.ready());
+        compare(&rt, &copy, &source);
+    }
+    Ok(())
+}
+
+#[test]
+fn a_copy_stays_as_it_was(rt: HostRuntime) -> Result<(), Fail> {
+    let mut source = three_mappings(rt.alloc())?;
+    source.prepare()?;
+    let copy = source.copy(rt.alloc())?;
+    assert!(rt; source.ready());
+    assert!(rt; !copy.ready());
+
+    unmap(&mut source, 2);
+    assert_eq!(rt; (source.mappings(), source.entries()), (2, 2));
+    compare(&rt, &copy, &three_mappings(rt.alloc())?);
     Ok(())
 }

@@ -1,5 +1,5 @@
 //! The map, and what reads it.
-ghost use Rattle.std.specs.Prelude.{◌≡◌, ℕ, Bool, List, ◌+◌, ◌^◌, ◌<◌, ◌≤◌, [], length, nat_le, slice_get, count_by, IsTrue};
+ghost use Rattle.std.specs.Prelude.{◌≡◌, ℕ, Bool, List, ◌+◌, ◌^◌, ◌<◌, ◌≤◌, [], length, nat_le, slice_get, count_by, IsTrue, IfOk};
 ghost use Rattle.std.specs.Option.{option_map};
 ghost use Rattle.hp_base.specs.Indices.{count_below, missing, region_count, HasAllWithin};
 ghost use Rattle.hp_region.specs.Regions.{is_member, IsApartFrom};
@@ -7,7 +7,7 @@ ghost use Rattle.hp_region.specs.Regions.{is_member, IsApartFrom};
 use crate::region::Region;
 use crate::walk;
 use hp_base::{Index, LIMIT};
-use std::alloc::Global;
+use std::alloc::{AllocError, Global};
 use std::marker::Model;
 
 pub mod change;
@@ -57,6 +57,23 @@ impl RegionMap {
             pending: 0,
             spare: 0,
         }
+    }
+
+    /// The same set and the same prepared room in a map of its own, for which memory is taken. It is for a running
+    /// pool whose journal is cut: the pool keeps the core of its last cut, to compare histories from there on. No
+    /// change may be in progress, since its token could end it in only one of the two maps.
+    pub fn copy(&self, alloc: Global) -> Result<RegionMap, AllocError>
+        requires { self.now.pending ≡ 0 }
+        ensures { IfOk result (λ copy. copy ≡ record self.now { room = copy.room }) }
+    {
+        let mut regions = Vec::with_capacity(alloc, self.regions.len() + self.spare)?;
+        regions.extend_from_slice(&self.regions)?;
+        Ok(RegionMap {
+            regions,
+            count: self.count,
+            pending: self.pending,
+            spare: self.spare,
+        })
     }
 
     /// How many indices of [from, to) are not in the set. Of the regions those in the range are

@@ -18,3 +18,6 @@ pub mod ReadStops
 pub mod Drafts
 pub mod WrittenTraces
 pub mod Told
+pub mod Calls
+pub mod ScriptFaults
+pub mod WrittenLines

@@ -21,13 +21,13 @@ some_is : {A : Type 0} (x y : A) → Some x ≡ Some y → x ≡ y
 some_is x y e = cc
 
 -- equal lines are of equal events, and what follows them is equal
-same_event : (e f : Event) (xs ys : List ℕ) → EventFits e → EventFits f → event_line e ++ xs ≡ event_line f ++ ys → (e ≡ f) × (xs ≡ ys)
+pub same_event : (e f : Event) (xs ys : List ℕ) → EventFits e → EventFits f → event_line e ++ xs ≡ event_line f ++ ys → (e ≡ f) × (xs ≡ ys)
 same_event e f xs ys is of same =
     let t = line_is (event_text e) (event_text f) xs ys (event_width e is).no_end (event_width f of).no_end
     (sym (append_assoc (event_text e) (10 ∷ []) xs) ∙ same ∙ append_assoc (event_text f) (10 ∷ []) ys) in
     (some_is e f (sym (event_again e is) ∙ ap event_at t.0 ∙ event_again f of), t.1)
 
-same_header : (s t : Sizes) (xs ys : List ℕ) → AreWithinLimits s → AreWithinLimits t
+pub same_header : (s t : Sizes) (xs ys : List ℕ) → AreWithinLimits s → AreWithinLimits t
     → header_line s ++ xs ≡ header_line t ++ ys → (s ≡ t) × (xs ≡ ys)
 same_header s t xs ys is of same =
     let l = line_is (sizes_text s) (sizes_text t) xs ys (sizes_width s is).no_end (sizes_width t of).no_end
@@ -38,7 +38,7 @@ same_header s t xs ys is of same =
 abbrev pub EndsAt : ℕ → List ℕ → Type 0
 EndsAt n rest = IsBadRest n rest ⊎ (rest ≡ [])
 
-first_is : (e : Event) (events : List Event) → All EventFits (e ∷ events) → EventFits e × All EventFits events
+pub first_is : (e : Event) (events : List Event) → All EventFits (e ∷ events) → EventFits e × All EventFits events
 first_is e events all = let p = recursion_from_All EventFits (e ∷ events) all in (p.0, All-from_recursion EventFits events p.1)
 
 -- where the events end, no more event follows

@@ -8,3 +8,6 @@ pub mod Writing
 pub mod Running
 pub mod Replaying
 pub mod Collecting
+pub mod Scripts
+pub mod Checking
+pub mod RunLines

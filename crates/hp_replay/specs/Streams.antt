@@ -28,6 +28,14 @@ sink_at Read failed = failed
 sink_at Write failed = true
 sink_at Memory failed = failed
 
+-- the faults of reading a trace of which nothing is kept
+abbrev pub IsReadFault : ReplayFault → Type 0
+IsReadFault BadHeader = Unit {0}
+IsReadFault (BadLine n) = Unit {0}
+IsReadFault Read = Unit {0}
+IsReadFault Write = ⊥
+IsReadFault Memory = ⊥
+
 -- a fault of reading is answered where a read failed, and nowhere else
 abbrev pub TellsReads : {A : Type 0} → Result A ReplayFault → Bool → Bool → Type 0
 TellsReads result old new = MatchResult result (λ _. new ≡ old) (λ fault. new ≡ source_at fault old)

@@ -8,23 +8,32 @@
 //! and no files or streams: it works over any source and sink.
 #![tactic(auto)]
 
+mod checking;
+mod exploring;
 mod fault;
 mod feed;
 mod laws;
 mod outcomes;
 mod reading;
 mod replaying;
+mod run_lines;
+mod script;
 mod state;
 mod streams;
 mod trace;
 mod writing;
 
+pub use checking::{check_trace, write_count};
+pub use exploring::{Exploration, explore, explore_hostile, schedule, write_explored};
 pub use fault::ReplayFault;
 pub use feed::{TraceFeed, TraceLine};
+pub use hp_explore::{Chances, Finish, RunLine, Script};
 pub use laws::{
     a_stopped_replay_names_the_fault, bytes_have_one_reading, pieces_do_not_show,
     what_is_held_is_spelled,
 };
 pub use replaying::replay;
+pub use run_lines::write_lines;
+pub use script::read_script;
 pub use streams::{Sink, Source, Watched};
 pub use trace::{MOST_EVENTS, Trace, read_trace, write_trace};

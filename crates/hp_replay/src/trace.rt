@@ -60,7 +60,7 @@ pub fn write_trace<W: Sink>(alloc: Global, trace: &Trace, writer: &mut W) -> Res
 
 /// A trace while it is read: contracts see the lines that it has so far.
 #[derive(Drop)]
-struct Draft {
+pub(crate) struct Draft {
     trace: Option<Trace>,
     /// Names for the check what it doesn't find by itself inside a trace.
     _inside: PhantomData<(Event, Op)>,
@@ -77,7 +77,7 @@ impl Model for Draft {
 }
 
 impl Draft {
-    fn new() -> Self
+    pub(crate) fn new() -> Self
         ensures { result ≡ [] }
     {
         Draft {
@@ -109,7 +109,11 @@ impl Draft {
     }
 
     /// Adds the line that came, if one did.
-    fn add_taken(&mut self, alloc: Global, line: Option<TraceLine>) -> Result<(), AllocError>
+    pub(crate) fn add_taken(
+        &mut self,
+        alloc: Global,
+        line: Option<TraceLine>,
+    ) -> Result<(), AllocError>
         requires { CanFollowIfSome self.old (option_map line_of line) }
         ensures ok { OnOk result (self.new ≡ self.old ++ listed (option_map line_of line) []) }
         ensures err { OnErr result ((0 < length self.old) × IsSome (option_map line_of line)) }
@@ -121,7 +125,7 @@ impl Draft {
     }
 
     /// The trace, where there is a header.
-    fn whole(self) -> Trace
+    pub(crate) fn whole(self) -> Trace
         requires { 0 < length self }
         ensures { self ≡ header (sizes result.config) ∷ map event result.events.items }
     {

@@ -61,6 +61,16 @@ impl SlotTable {
         Ok(SlotTable { holders })
     }
 
+    /// The same holders in a table of its own, for which memory is taken. It is for a running pool whose journal is
+    /// cut: the pool keeps the core of its last cut, to compare histories from there on.
+    pub fn copy(&self, alloc: Global) -> Result<SlotTable, AllocError>
+        ensures { IfOk result (λ copy. copy ≡ self.now) }
+    {
+        let mut copy = SlotTable::new(alloc, self.holders.len() as u32)?;
+        copy.holders.copy_from_slice(&self.holders);
+        Ok(copy)
+    }
+
     /// The place of a page's fault mutex (Linux: `hugetlb_fault_mutex_hash`).
     pub fn slot_of(&self, file: File, index: Index) -> u32
         ensures number { result ≡ slot_number (length self.now) file index }

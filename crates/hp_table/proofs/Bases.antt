@@ -2,10 +2,7 @@
 use Rattle.std.proofs.Common.{◌≡◌, ℕ, zero, suc, ◌+◌, ◌<◌, ◌≤◌, Bool, true, false, cond, not, ◌==◌, List, [], ◌∷◌, Option, Some}
 use Rattle.std.proofs.Common.{None, length, get_or, refl, sym, ap, ◌∙◌, arith}
 use Rattle.std.proofs.Math.Path.{fun_ext}
-use Rattle.std.specs.FinMap as map
-use Rattle.std.specs.FinMap.{from_sorted, is_sorted}
-use Rattle.std.specs.Ordering.{nat_cmp}
-use Rattle.std.specs.Prelude.{filter, IsTrue, nat_le, nat_lt, if◌then◌else◌}
+use Rattle.std.specs.Prelude.{IsTrue, nat_le, nat_lt, if◌then◌else◌}
 use Rattle.std.specs.List.{position, position_or_len, prefix_len, remove}
 use Rattle.std.proofs.lemmas.Bool.{leb-false, ltb-true, ltb-false, lt-ltb, le-ltb}
 use Rattle.std.proofs.lemmas.List.Sums.{prefix_len-le-length}
@@ -13,8 +10,8 @@ use Rattle.std.proofs.lemmas.Bool.Decides.{nat_tests}
 use Rattle.hp_base.specs.Indices.{is_within}
 use Rattle.hp_base.specs.declared.mapping.Mapping.{Mapping}
 use Rattle.hp_base.specs.Mappings.{covers, in_mapping, without, without_mapping, IsSpread}
+use Rattle.hp_table.specs.Table.{cleared}
 use Rattle.hp_table.proofs.Mapped.{ends_in_space}
-use Rattle.hp_table.proofs.PageTable.{get-cleared}
 use Rattle.hp_table.proofs.Spread.{begins, past_first}
 
 -- whether a mapping begins at a page
@@ -172,18 +169,15 @@ without-none (m ∷ ms) base none = here (λ none. without-none ms base none) (m
     here rest false none = ap (λ xs. m ∷ xs) (rest (omega arith))
 
 -- the entries of that mapping are those of its pages
-pub get-within : (ms : List Mapping) (base k : ℕ) (m : Mapping) (es : List (ℕ × ℕ)) → Some k ≡ position (begins_at base) ms
-    → m ≡ get_or ms k m → IsTrue (is_sorted nat_cmp es)
-    → map.get (from_sorted {R = nat_cmp} (filter (λ e. not (is_within base (base + m.len) e.0)) es)) ≡ without_mapping
-    ms (map.get (from_sorted {R = nat_cmp} es)) base
+pub within_mapping : (ms : List Mapping) (base k : ℕ) (m : Mapping) (entries : ℕ → Option ℕ) → Some k ≡ position (begins_at base) ms
+    → m ≡ get_or ms k m → (v : ℕ) → cleared (is_within base (base + m.len)) entries v ≡ without_mapping ms entries base v
 unfolding without_mapping
-get-within ms base k m es found is sorted =
+within_mapping ms base k m entries found is v =
     let place = place_found (begins_at base) ms k found in
-    let same = λ (v : ℕ). ap (λ (b : ℕ). is_within b (b + m.len) v)
+    let same = ap (λ (b : ℕ). is_within b (b + m.len) v)
     (sym (ap (λ (x : Mapping). x.base) is ∙ base_at ms base k m place.0 place.1))
     ∙ (ap (λ (x : Mapping). covers x v) is ∙ sym (in_mapping-at ms base k m v place.0 place.1)) in
-    fun_ext (λ v. get-cleared (is_within base (base + m.len)) es v sorted
-    ∙ ap (λ (b : Bool). if b then None else map.get (from_sorted {R = nat_cmp} es) v) (same v))
+    ap (λ (b : Bool). if b then None else entries v) same
 
 pub without_mapping-none : (ms : List Mapping) (base : ℕ) (f : ℕ → Option ℕ) → None ≡ position (begins_at base) ms
     → f ≡ without_mapping ms f base

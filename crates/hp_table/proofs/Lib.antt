@@ -1,6 +1,7 @@
+pub mod Agreeing
 pub mod Bases
+pub mod Clearing
 pub mod Counts
-pub mod IndexPages
 pub mod Mapped
 pub mod PageTable
 pub mod Room

@@ -1,5 +1,5 @@
 -- What the space of a task is seen as.
-use Rattle.std.specs.Prelude.{ℕ, Bool, List, refl}
+use Rattle.std.specs.Prelude.{ℕ, Bool, List, Option, None, refl, if◌then◌else◌}
 use Rattle.std.specs.Ordering.{nat_cmp}
 use Rattle.std.specs.FinMap.{FinMap, code}
 use Rattle.std.specs.Coded.{Coded, code_by, coded×, coded_list, coded_bool, coded_ℕ}
@@ -12,6 +12,10 @@ pub record Table : Type 0 where
   pub entries : FinMap nat_cmp ℕ
   pub ready : Bool
   pub room : ℕ
+
+-- entries without those of some pages
+abbrev pub cleared : (ℕ → Bool) → (ℕ → Option ℕ) → ℕ → Option ℕ
+cleared gone entries v = if gone v then None else entries v
 
 -- how a proof tells two of them apart
 abbrev pub mapping_code : Coded Mapping

@@ -34,20 +34,6 @@ pub fn place_of(mappings: &[Mapping], base: Vpn) -> Option<usize>
     (mappings[last].base == base).then_some(last)
 }
 
-// The page of a mapping that stands for that index of the file.
-pub fn page_of(mapping: Mapping, file: File, index: Index) -> Option<Vpn>
-    requires { mapping.base + mapping.len ≤ VPNS }
-    ensures { result
-        ≡ (if (mapping.file == file) && is_within mapping.from (mapping.from + mapping.len) index
-        then Some (mapping.base + (index - mapping.from)) else None) }
-{
-    let offset = index.number().checked_sub(mapping.from.number())?;
-    if mapping.file != file || mapping.len <= offset {
-        return None;
-    }
-    Some(Vpn::new(mapping.base.number() + offset))
-}
-
 // The least base at which a mapping of that length fits.
 pub fn room(mappings: &[Mapping], len: u32) -> Option<Vpn>
     requires { IsSpread VPNS 0 mappings.now }

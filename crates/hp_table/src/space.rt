@@ -1,32 +1,42 @@
 //! The space of a task.
-ghost use Rattle.std.specs.Prelude.{◌≡◌, ◌+◌, ◌<◌, ◌≤◌, ◌↔◌, [], ℕ, None, length, true, false, IsTrue, IsSome, OnOk, OnErr, IfSome, All};
+ghost use Rattle.std.specs.Prelude.{◌≡◌, ◌+◌, ◌<◌, ◌≤◌, ◌↔◌, [], ℕ, None, length, true, false, IsTrue, IsSome, IfOk, OnOk, OnErr, IfSome, IfNone, All};
 ghost use Rattle.std.specs.FinMap as map;
-ghost use Rattle.hp_base.specs.Mappings.{find, base_of, is_base, fits, entered, in_mapping, first_base, without, without_index};
+ghost use Rattle.std.specs.Iterator.{YieldsFirst, item_count};
+ghost use Rattle.hp_base.specs.Mappings.{find, base_of, is_base, is_there, fits, entered, in_mapping, first_base, without, without_index};
 ghost use Rattle.hp_base.specs.Mappings.{without_mapping, IsRoom, IsSpread};
 ghost use Rattle.hp_table.specs.Table.{Table};
 
-use crate::{entries, search};
+use crate::places::{self, Place};
+use crate::search;
 use hp_base::{File, Frame, Index, LIMIT, Mapping, VPNS, Vpn};
+use hp_chunks::{FrameMap, Frames, PLACES};
 use std::alloc::{AllocError, Global};
+use std::collections::BTreeSet;
 use std::marker::Model;
+
+// How many chunks of entries there can be: as many as the pages below `VPNS` fill.
+const CHUNKS: usize = VPNS as usize / PLACES;
 
 /// The mappings of a task, and its page table.
 #[derive(Drop)]
 pub struct Space {
     // in order of their bases
     mappings: Vec<Mapping>,
-    // in order of the virtual pages, each of which lies in a mapping
-    entries: Vec<(Vpn, Frame)>,
+    // the frame of each virtual page that is translated, and that lies in a mapping
+    entries: FrameMap<CHUNKS>,
+    // for each of these the file and the index for which it stands, so that those of an index are found
+    places: BTreeSet<Place, Global>,
     // whether room for one mapping more is prepared
     ready: bool,
 }
 
 impl Model for Space {
     ghost use Rattle.std.specs.Prelude.{◌+◌, ◌<◌, ◌≤◌, ℕ, IsTrue, IsSome, All, vec_len, vec_capacity};
-    ghost use Rattle.std.specs.Ordering.{nat_cmp};
     ghost use Rattle.std.specs.FinMap as map;
     ghost use Rattle.hp_base.specs.declared.limits.TheConstants.{LIMIT, VPNS};
     ghost use Rattle.hp_base.specs.Mappings.{find, IsSpread};
+    ghost use Rattle.std.specs.BTreeSet.{btree_set_len};
+    ghost use Rattle.hp_table.specs.Places.{Agrees};
     ghost use Rattle.hp_table.specs.Table.{Table, table_code};
 
     ghost Value = { Table };
@@ -35,16 +45,16 @@ impl Model for Space {
 
     ghost view = { λ s. record {
       mappings = s.mappings.items;
-      entries = map.from_sorted s.entries.items;
+      entries = s.entries.frames;
       ready = s.ready;
-      room = vec_capacity s.mappings + vec_capacity s.entries;
+      room = vec_capacity s.mappings + s.entries.room + btree_set_len s.places;
     } };
 
     ghost invariant = { λ s. record {
       spread : IsSpread VPNS 0 s.mappings.items;
       in_files : All (λ m. m.from + m.len ≤ LIMIT) s.mappings.items;
-      in_order : IsTrue (map.is_sorted nat_cmp s.entries.items);
-      mapped : (vpn : ℕ) → IsSome (map.find nat_cmp vpn s.entries.items) → IsSome (find s.mappings.items vpn);
+      mapped : (vpn : ℕ) → IsSome (map.get s.entries.frames vpn) → IsSome (find s.mappings.items vpn);
+      agree : Agrees (find s.mappings.items) (map.get s.entries.frames) s.places;
       room : IsTrue s.ready → vec_len s.mappings < vec_capacity s.mappings;
     } };
 }
@@ -59,7 +69,8 @@ impl Space {
     {
         Space {
             mappings: Vec::new(alloc),
-            entries: Vec::new(alloc),
+            entries: FrameMap::new(alloc),
+            places: BTreeSet::new(alloc),
             ready: false,
         }
     }
@@ -134,15 +145,14 @@ impl Space {
         Some(holder.base)
     }
 
-    /// The frame that a virtual page is translated to, found by binary search (Linux: `huge_pte_offset`).
+    /// The frame that a virtual page is translated to, at which it looks at once (Linux: `huge_pte_offset`).
     pub fn translate(&self, vpn: Vpn) -> Option<Frame>
         ensures { result ≡ map.get self.now.entries vpn }
     {
-        entries::frame_of(&self.entries, vpn)
+        self.entries.get(vpn.number())
     }
 
-    /// Translates a mapped virtual page to a frame. The entry's place is found by binary search
-    /// (Linux: `set_huge_pte_at`).
+    /// Translates a mapped virtual page to a frame (Linux: `set_huge_pte_at`). No other entry is looked at.
     pub fn install(&mut self, vpn: Vpn, frame: Frame) -> Result<(), AllocError>
         requires mapped { IsSome (find self.old.mappings vpn) }
         requires bare { map.get self.old.entries vpn ≡ None }
@@ -150,33 +160,68 @@ impl Space {
             (self.new ≡ record self.old { entries = map.insert self.old.entries vpn frame; room = self.new.room }) }
         ensures err { OnErr result (self.new ≡ self.old) }
     {
-        self.entries.reserve(1)?;
-        let at = entries::before(&self.entries, vpn);
-        self.entries.insert(at, (vpn, frame)).unwrap();
+        let (file, index) = self.find(vpn).unwrap();
+        places::add(&mut self.places, file, index, vpn)?;
+        if let Err(refused) = self.entries.insert(vpn.number(), frame) {
+            places::take(&mut self.places, file, index, vpn);
+            return Err(refused);
+        }
         Ok(())
     }
 
-    /// Clears every entry that stands for that index of the file, and no other. The mappings are
-    /// looked at once, and the entry of each is found by binary search (Linux: `hugetlb_vmdelete_list`).
+    // Clears the entry of a page that has one.
+    fn clear(&mut self, vpn: Vpn)
+        requires { IsSome (map.get self.old.entries vpn) }
+        ensures mappings { self.new.mappings ≡ self.old.mappings }
+        ensures entries { self.new.entries ≡ map.remove self.old.entries vpn }
+        ensures ready { self.new.ready ≡ self.old.ready }
+        ensures room { self.new.room ≤ self.old.room }
+    {
+        let (file, index) = self.find(vpn).unwrap();
+        places::take(&mut self.places, file, index, vpn);
+        self.entries.remove(vpn.number());
+    }
+
+    // A page that has an entry and stands for that index of the file.
+    fn page_of(&self, file: File, index: Index) -> Option<Vpn>
+        ensures found { IfSome result (λ vpn. IsSome (map.get self.now.entries vpn)
+            × (is_there (find self.now.mappings vpn) file index ≡ true)) }
+        ensures none { IfNone result ((vpn : ℕ) → is_there (find self.now.mappings vpn) file index ≡ true
+            → map.get self.now.entries vpn ≡ None) }
+    {
+        let vpn = places::first(&self.places, file, index)?;
+        Some(vpn)
+    }
+
+    /// Clears every entry that stands for that index of the file, and no other. Each is found in a balanced tree
+    /// (Linux: `hugetlb_vmdelete_list`).
     pub fn clear_index(&mut self, file: File, index: Index)
         ensures mappings { self.new.mappings ≡ self.old.mappings }
         ensures entries { map.get self.new.entries ≡ without_index self.old.mappings (map.get self.old.entries) file index }
         ensures ready { self.new.ready ≡ self.old.ready }
-        ensures room { self.new.room ≡ self.old.room }
+        ensures room { self.new.room ≤ self.old.room }
     {
-        entries::clear_index(&mut self.entries, &self.mappings, file, index);
+        while let Some(vpn) = self.page_of(file, index) {
+            self.clear(vpn);
+        }
     }
 
-    /// Clears the entries of the mapping that begins at that base, where one does. It and its entries
-    /// are found by binary search, and go at once (Linux: `unmap_vmas`).
+    /// Clears the entries of the mapping that begins at that base, where one does. It is found by binary search, and
+    /// its entries by a look at its chunks (Linux: `unmap_vmas`).
     pub fn clear_mapping(&mut self, base: Vpn)
         ensures mappings { self.new.mappings ≡ self.old.mappings }
         ensures entries { map.get self.new.entries ≡ without_mapping self.old.mappings (map.get self.old.entries) base }
         ensures ready { self.new.ready ≡ self.old.ready }
-        ensures room { self.new.room ≡ self.old.room }
+        ensures room { self.new.room ≤ self.old.room }
     {
-        if let Some(at) = search::place_of(&self.mappings, base) {
-            entries::clear(&mut self.entries, base, self.mappings[at].len);
+        let Some(at) = search::place_of(&self.mappings, base) else {
+            return;
+        };
+        let end = base.number() + self.mappings[at].len;
+        let mut next = base.number();
+        while let Some((vpn, _)) = self.entries.first_within(next, end) {
+            self.clear(Vpn::new(vpn));
+            next = vpn + 1;
         }
     }
 
@@ -211,11 +256,13 @@ impl Space {
         self.mappings.len()
     }
 
-    /// The translations in order of the virtual pages. Nothing is copied.
-    pub fn translations(&self) -> &[(Vpn, Frame)]
-        ensures { result.now ≡ map.entries self.now.entries }
+    /// The translations in order of the virtual pages. No memory is taken.
+    pub fn translations(&self) -> Translations<'_>
+        ensures { result ≡ map.entries self.now.entries }
     {
-        &self.entries
+        Translations {
+            entries: self.entries.iter(),
+        }
     }
 
     /// The number of virtual pages that are translated.
@@ -225,6 +272,46 @@ impl Space {
         // Each of them lies in a mapping.
         ensures mapped { (vpn : ℕ) → IsSome (map.get self.now.entries vpn) → IsSome (find self.now.mappings vpn) }
     {
-        self.entries.len()
+        self.entries.count() as usize
+    }
+
+    /// A space with the same mappings and translations, for which memory is taken. No room for a mapping is prepared
+    /// in it, also where it is here. A running pool keeps the core of its last cut, to compare histories from there
+    /// on.
+    pub fn copy(&self, alloc: Global) -> Result<Self, AllocError>
+        ensures { IfOk result (λ copy. copy ≡ record self.now { ready = false; room = copy.room }) }
+    {
+        let mut copy = Space::new(alloc);
+        copy.mappings.extend_from_slice(&self.mappings)?;
+        copy.entries = self.entries.copy(alloc)?;
+        copy.places = places::copy(&self.places)?;
+        Ok(copy)
+    }
+}
+
+/// The translations of a space, in order of the virtual pages, seen as the list of those that are left.
+#[derive(Drop)]
+pub struct Translations<'a> {
+    entries: Frames<'a, CHUNKS>,
+}
+
+impl<'a> Model for Translations<'a> {
+    ghost use Rattle.std.specs.Prelude.{ℕ, List};
+
+    ghost Value = { List (ℕ × ℕ) };
+
+    ghost view = { λ it. it.entries };
+}
+
+impl<'a> Iterator for Translations<'a> {
+    type Item = (Vpn, Frame);
+
+    ghost next_gives = { YieldsFirst (λ entries. entries) };
+
+    ghost remaining = { item_count (λ entries. entries) };
+
+    fn next(&mut self) -> Option<(Vpn, Frame)> {
+        let (number, frame) = self.entries.next()?;
+        Some((Vpn::new(number), frame))
     }
 }

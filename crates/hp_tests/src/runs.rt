@@ -1,7 +1,7 @@
 //! Runs that no clause says: that ample memory meets no want of it, and what the readers tell then.
 use crate::pool::new_pool;
 use hp_base::{Answer, Config, Event, File, Frame, Index, Op, Task, Vpn};
-use hp_core::{Core, Life, Outcome, Phase, Picture, RunFault, Tally, audit};
+use hp_core::{Core, Life, Outcome, Phase, Picture, Refusal, RunFault, Tally, audit};
 use std::alloc::{AllocError, Global};
 use std::test::Fail;
 
@@ -124,6 +124,52 @@ fn a_second_map_is_blocked_by_the_first(rt: HostRuntime) -> Result<(), Fail> {
     let (one, two) = (Task::new(1), Task::new(2));
     let told = happens(&mut core, Event::Step(two, true))?;
     assert_eq!(rt; told, Outcome::Blocked(one));
+    Ok(())
+}
+
+// What is told of an event that changes nothing. The tests ask for no row.
+fn held_back(core: &Core, event: Event) -> Option<Outcome> {
+    core.held_back(event)
+}
+
+#[test]
+fn events_that_change_nothing_are_held_back(rt: HostRuntime) -> Result<(), Fail> {
+    let core = two_maps(rt.alloc())?;
+    let (one, two, three) = (Task::new(1), Task::new(2), Task::new(3));
+    let refused = |why| Some(Outcome::Refused(why));
+    assert_eq!(rt;
+        held_back(&core, Event::Step(two, true)),
+        Some(Outcome::Blocked(one))
+    );
+    assert_eq!(rt;
+        held_back(&core, Event::Begin(one, Op::Exit)),
+        refused(Refusal::InCall)
+    );
+    assert_eq!(rt;
+        held_back(&core, Event::Step(three, true)),
+        refused(Refusal::NotAlive)
+    );
+    assert_eq!(rt;
+        held_back(&core, Event::Kill(three)),
+        refused(Refusal::NotAlive)
+    );
+    assert_eq!(rt;
+        held_back(&core, Event::Resize(0)),
+        refused(Refusal::BadSize)
+    );
+    Ok(())
+}
+
+#[test]
+fn events_that_change_something_are_not(rt: HostRuntime) -> Result<(), Fail> {
+    let core = two_maps(rt.alloc())?;
+    for event in [
+        Event::Step(Task::new(1), false),
+        Event::Kill(Task::new(2)),
+        Event::Resize(4),
+    ] {
+        assert_eq!(rt; held_back(&core, event), None);
+    }
     Ok(())
 }
 

@@ -17,7 +17,7 @@ use Rattle.hp_replay.specs.Writing.{Wrote}
 use Rattle.hugepool.specs.Endings.{HoldsFront, CutShort, DidReplay}
 
 -- an empty buffer adds nothing
-unbuffered : (known : Option (List ℕ)) → append_known known [] ≡ known
+pub unbuffered : (known : Option (List ℕ)) → append_known known [] ≡ known
 unbuffered None = refl
 unbuffered (Some xs) = ap Some (append-nil xs)
 

@@ -7,7 +7,6 @@ use Rattle.clap.specs.declared.error.kind.ErrorKind.TheVariants.{OutOfMemory, Di
 use Rattle.hp_replay.specs.declared.fault.ReplayFault.{ReplayFault}
 use Rattle.hp_replay.specs.declared.fault.ReplayFault.TheVariants.{BadLine, BadHeader, Read, Write, Memory}
 use Rattle.hp_replay.specs.Replaying.{Replayed, StoppedAtHeader, StoppedAtLine, StoppedAtRead, StoppedEarly, RunWrites}
-use Rattle.hugepool.specs.Status.{status_at}
 use Rattle.hugepool.specs.declared.program.Stop.{Stop}
 use Rattle.hugepool.specs.declared.program.Stop.TheVariants as stop
 
@@ -56,36 +55,27 @@ abbrev pub AnsweredReplay : Result (Unit {0}) Stop → Option (List ℕ) → Opt
     → Option (List ℕ) → Option (Option (List ℕ)) → Type 0
 AnsweredReplay (Ok x) from to old new before after = DidReplay (Ok x) from to old new before after
 AnsweredReplay (Err (stop.Replay fault)) from to old new before after = DidReplay (Err fault) from to old new before after
+AnsweredReplay (Err (stop.Work fault)) from to old new before after = ⊥
 AnsweredReplay (Err (stop.Usage error)) from to old new before after = ⊥
+AnsweredReplay (Err stop.Unfinished) from to old new before after = ⊥
 
 -- the output is there, as it was
 abbrev pub IsKept : Option (List ℕ) → Option (Option (List ℕ)) → Type 0
 IsKept before None = ⊥
 IsKept before (Some after) = Keeps before after
 
--- what is written where nothing is replayed: help, which may fail, or nothing
+-- what is written where nothing is replayed: help or the line of a workload, which may fail, or nothing
 abbrev pub Told : Result (Unit {0}) Stop → Option (List ℕ) → Option (Option (List ℕ)) → Type 0
 Told (Ok x) before after = Unit {0}
 Told (Err (stop.Replay fault)) before after = (fault ≡ Write) ⊎ ((fault ≡ Memory) × IsKept before after)
+Told (Err (stop.Work fault)) before after = Unit {0}
 Told (Err (stop.Usage error)) before after = IsKept before after
+Told (Err stop.Unfinished) before after = ⊥
 
 -- and nothing is read
 abbrev pub AnsweredElse : Result (Unit {0}) Stop → Option (List ℕ) → Option (List ℕ) → Bool → Bool
     → Option (List ℕ) → Option (Option (List ℕ)) → Type 0
 AnsweredElse answer from to old new before after = (new ≡ old) × Keeps from to × Told answer before after
-
--- what the program does
-abbrev pub Did : Result (Unit {0}) Stop → Option (List ℕ) → Option (List ℕ) → Bool → Bool
-    → Option (List ℕ) → Option (Option (List ℕ)) → Type 0
-Did answer from to old new before after =
-    AnsweredReplay answer from to old new before after ⊎ AnsweredElse answer from to old new before after
-
--- and the status with which it ends
-pub record EndsWith (status : ℕ) (from to : Option (List ℕ)) (old new : Bool) (before : Option (List ℕ))
-    (after : Option (Option (List ℕ))) : Type 0 where
-  pub answer : Result (Unit {0}) Stop
-  pub is : status ≡ status_at answer
-  pub did : Did answer from to old new before after
 
 -- the words ask for help
 abbrev pub IsHelp : Error → Type 0

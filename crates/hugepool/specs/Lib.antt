@@ -1,2 +1,4 @@
 pub mod Endings
+pub mod Requests
 pub mod Status
+pub mod Working

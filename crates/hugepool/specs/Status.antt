@@ -1,12 +1,15 @@
 -- The status that the program ends with.
 use Rattle.std.specs.Prelude.{ℕ, Result, Ok, Err}
 use Rattle.hugepool.specs.declared.program.Stop.{Stop}
-use Rattle.hugepool.specs.declared.program.Stop.TheVariants.{Usage, Replay}
+use Rattle.hugepool.specs.declared.program.Stop.TheVariants.{Usage, Replay, Work, Unfinished}
+use Rattle.hugepool.specs.Working.{work_status}
 
--- 2 where the words ask for nothing, 1 after a fault
+-- 2 where the words ask for nothing, 1 after a fault, or where a run didn't finish
 abbrev pub status_of : Stop → ℕ
 status_of (Usage error) = 2
 status_of (Replay fault) = 1
+status_of Unfinished = 1
+status_of (Work fault) = work_status fault
 
 -- and 0 where what was asked is done
 abbrev pub status_at : Result (Unit {0}) Stop → ℕ

@@ -1,19 +1,65 @@
 //! The words of the command line.
-use clap::{Command, Error};
+use crate::working::{WorkWords, work_command, work_words};
+use clap::{Arg, ArgAction, ArgMatches, Command, Error};
+use hp_replay::{Chances, Exploration};
 use std::alloc::Global;
 use std::convert::AsStr;
 
-/// What the command line asks for.
+/// Which run of a script is written as a trace.
 #[derive(Clone, Copy)]
+pub(crate) struct Scheduling {
+    pub(crate) seed: u64,
+    pub(crate) chances: Chances,
+}
+
+/// What the command line asks for.
+#[derive(Drop)]
 pub(crate) enum Request {
     /// To read a trace and run it.
     Replay,
+    /// To read a script, and tell of runs of it.
+    Explore(Exploration),
+    /// To read a trace, and count its events.
+    Check,
+    /// To read a script, and write one run of it as a trace.
+    Schedule(Scheduling),
+    /// To run a workload.
+    Work(WorkWords),
 }
 
 /// Reads the words of a command line.
 pub(crate) fn read_words<S: AsStr>(alloc: Global, words: &[S]) -> Result<Request, Error> {
-    let _matches = command(alloc)?.try_get_matches_from(words)?;
-    Ok(Request::Replay)
+    let matches = command(alloc)?.try_get_matches_from(words)?;
+    Ok(match matches.subcommand() {
+        Some(("explore", given)) => Request::Explore(exploration(given)),
+        Some(("check", _)) => Request::Check,
+        Some(("schedule", given)) => Request::Schedule(Scheduling {
+            seed: seed(given),
+            chances: chances(given),
+        }),
+        Some(("work", given)) => Request::Work(work_words(alloc, given)?),
+        _ => Request::Replay,
+    })
+}
+
+fn exploration(given: &ArgMatches) -> Exploration {
+    Exploration {
+        seed: seed(given),
+        runs: given.get_one::<u32>("runs").unwrap_or(10),
+        chances: chances(given),
+        audited: given.get_flag("audit"),
+    }
+}
+
+fn seed(given: &ArgMatches) -> u64 {
+    given.get_one::<u64>("seed").unwrap_or(1)
+}
+
+fn chances(given: &ArgMatches) -> Chances {
+    Chances {
+        deny: given.get_one::<u32>("deny").unwrap_or(0),
+        kill: given.get_one::<u32>("kill").unwrap_or(0),
+    }
 }
 
 // What is told below the options.
@@ -33,18 +79,102 @@ The calls, of files counted from 0, whose pages are 0 to 4095:
 Some traces, each beside what it writes, stand in examples/:
   hugepool replay < examples/map-four-of-four.trace";
 
+// What is told below the options of those that read a script.
+const SCRIPTS: &str =
+    "A script is a trace whose events are begins alone: the calls that each task makes, in order. Tasks take turns
+by chance: a turn begins the next call of a task, or makes a step of the call that it is in. Run K goes by the
+generator that is seeded with SEED + K, so that it is the same each time, whatever comes before it.
+Some scripts stand in examples/:
+  hugepool explore --seed 7 --runs 3 < examples/truncate-against-store.script
+  hugepool schedule --seed 7 < examples/truncate-against-store.script | hugepool replay";
+
 fn command<'a>(alloc: Global) -> Result<Command<'a>, Error> {
-    let replay = Command::new(alloc, "replay")
-        .about(
-            "Reads a trace from standard input, runs it, and writes a line for each outcome and then the state",
-        )
-        .override_usage("hugepool replay < FILE")
-        .after_help(TRACES);
     Ok(
         Command::new(alloc, "hugepool")
             .about("A pool of huge pages: Linux's hugetlbfs reservations, step by step")
             .after_help(TRACES)
             .subcommand_required(true)
-            .subcommand(replay)?,
+            .subcommand(replay(alloc))?
+            .subcommand(explore(alloc)?)?
+            .subcommand(check(alloc))?
+            .subcommand(schedule(alloc)?)?
+            .subcommand(work_command(alloc)?)?,
     )
+}
+
+fn replay<'a>(alloc: Global) -> Command<'a> {
+    Command::new(alloc, "replay")
+        .about(
+            "Reads a trace from standard input, runs it, and writes a line for each outcome and then the state",
+        )
+        .override_usage("hugepool replay < FILE")
+        .after_help(TRACES)
+}
+
+fn check<'a>(alloc: Global) -> Command<'a> {
+    Command::new(alloc, "check")
+        .about("Reads a trace from standard input, and writes how many events it has")
+        .override_usage("hugepool check < FILE")
+        .after_help(TRACES)
+}
+
+fn explore<'a>(alloc: Global) -> Result<Command<'a>, Error> {
+    let runs = number(alloc, "runs", "10")
+        .value_parser(clap::value_parser!(u32).range(1..=65_536))
+        .help("How many runs");
+    let audit = Arg::new(alloc, "audit")
+        .long("audit")
+        .action(ArgAction::SetTrue)
+        .help(
+            "Audits the pool after each turn; the audit is proved to pass, so it changes nothing but the time",
+        );
+    Ok(
+        Command::new(alloc, "explore")
+            .about("Reads a script from standard input, and writes a line for each of its runs")
+            .override_usage("hugepool explore [OPTIONS] < FILE")
+            .after_help(SCRIPTS)
+            .arg(seed_option(alloc))?
+            .arg(runs)?
+            .arg(deny_option(alloc))?
+            .arg(kill_option(alloc))?
+            .arg(audit)?,
+    )
+}
+
+fn schedule<'a>(alloc: Global) -> Result<Command<'a>, Error> {
+    Ok(
+        Command::new(alloc, "schedule")
+            .about("Reads a script from standard input, and writes its run 0 as a trace")
+            .override_usage("hugepool schedule [OPTIONS] < FILE")
+            .after_help(SCRIPTS)
+            .arg(seed_option(alloc))?
+            .arg(deny_option(alloc))?
+            .arg(kill_option(alloc))?,
+    )
+}
+
+fn seed_option<'a>(alloc: Global) -> Arg<'a> {
+    number(alloc, "seed", "1")
+        .value_parser(clap::value_parser!(u64))
+        .help("The seed of run 0, of 64 bits")
+}
+
+fn deny_option<'a>(alloc: Global) -> Arg<'a> {
+    number(alloc, "deny", "0")
+        .value_parser(clap::value_parser!(u32).range(0..=1000))
+        .help("Of 1000 steps, how many are denied the memory that they want")
+}
+
+fn kill_option<'a>(alloc: Global) -> Arg<'a> {
+    number(alloc, "kill", "0")
+        .value_parser(clap::value_parser!(u32).range(0..=1000))
+        .help("Of 1000 turns, how many kill their task")
+}
+
+fn number<'a>(alloc: Global, name: &'a str, default: &'a str) -> Arg<'a> {
+    Arg::new(alloc, name)
+        .long(name)
+        .value_name("N")
+        .action(ArgAction::Set)
+        .default_value(default)
 }

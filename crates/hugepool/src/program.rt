@@ -4,25 +4,36 @@ ghost use Rattle.std.specs.Io.Buffered.{writer_buffer, writer_contents};
 ghost use Rattle.std.specs.Io.KnownBytes.{Keeps};
 ghost use Rattle.std.specs.Option.{option_map};
 ghost use Rattle.clap.specs.Values.{kind_of};
-ghost use Rattle.hugepool.specs.Endings.{IsHelp, IsRefusal, DidReplay, AnsweredReplay, Did, EndsWith};
+ghost use Rattle.hugepool.specs.Endings.{IsHelp, IsRefusal, DidReplay};
+ghost use Rattle.hugepool.specs.Requests.{Answered, Did, EndsWith};
 ghost use Rattle.hugepool.specs.Status.{status_of, status_at};
 
+use crate::checking::run_check;
 use crate::command::{Request, read_words};
+use crate::exploring::run_explore;
+use crate::scheduling::run_schedule;
+use crate::working::{WorkFault, work};
 use clap::error::ErrorKind;
 use hp_replay::{ReplayFault, Source, Watched, replay};
 use std::alloc::Global;
 use std::convert::AsStr;
 use std::io;
 use std::io::{BufWriter, Write};
+use std::thread::Threads;
 use thiserror::Error;
 
 /// Why the program ends with another status than 0.
 #[derive(Debug, Drop, Error)]
-enum Stop {
+pub(crate) enum Stop {
     #[error("{0}")]
     Usage(clap::Error),
     #[error("hugepool: {0}\n")]
     Replay(ReplayFault),
+    /// A run didn't finish. Its line says so.
+    #[error("")]
+    Unfinished,
+    #[error("{0}")]
+    Work(WorkFault),
 }
 
 impl Stop {
@@ -31,7 +42,8 @@ impl Stop {
     {
         match self {
             Stop::Usage(_) => 2,
-            Stop::Replay(_) => 1,
+            Stop::Replay(_) | Stop::Unfinished => 1,
+            Stop::Work(fault) => fault.status(),
         }
     }
 }
@@ -39,7 +51,7 @@ impl Stop {
 /// Runs the program on these words and streams, and tells its status: 0 where it did what was asked, 1
 /// after a fault, 2 where the words ask for nothing. A fault is told in one line on `faults`. The output
 /// is handed back, unless it went with a buffer for which there was no memory.
-pub(crate) fn program<H, S: AsStr, R: Source, W: Write + Drop>(
+pub(crate) fn program<H: Threads + Sync, S: AsStr, R: Source, W: Write + Drop>(
     rt: &H,
     alloc: Global,
     words: &[S],
@@ -50,8 +62,7 @@ pub(crate) fn program<H, S: AsStr, R: Source, W: Write + Drop>(
     ensures { EndsWith result.0 (R.remaining reader.old) (R.remaining reader.new) (R.failed reader.old) (R.failed reader.new)
         (W.contents out) (option_map W.contents result.1) }
 {
-    let _ = rt;
-    let (answer, out) = run(alloc, words, reader, out);
+    let (answer, out) = run(rt, alloc, words, reader, out);
     (end(answer, faults), out)
 }
 
@@ -68,7 +79,8 @@ fn end(answer: Result<(), Stop>, faults: &mut impl Write) -> u8
     }
 }
 
-fn run<S: AsStr, R: Source, W: Write + Drop>(
+fn run<H: Threads + Sync, S: AsStr, R: Source, W: Write + Drop>(
+    rt: &H,
     alloc: Global,
     words: &[S],
     reader: &mut R,
@@ -78,17 +90,18 @@ fn run<S: AsStr, R: Source, W: Write + Drop>(
         (W.contents out) (option_map W.contents result.1) }
 {
     let asked = read_words(alloc, words);
-    answer(alloc, asked, reader, out)
+    answer(rt, alloc, asked, reader, out)
 }
 
 // Does what the words were read as.
-fn answer<R: Source, W: Write + Drop>(
+fn answer<H: Threads + Sync, R: Source, W: Write + Drop>(
+    rt: &H,
     alloc: Global,
     asked: Result<Request, clap::Error>,
     reader: &mut R,
     mut out: W,
 ) -> (Result<(), Stop>, Option<W>)
-    ensures replay { OnOk asked (AnsweredReplay result.0 (R.remaining reader.old) (R.remaining reader.new)
+    ensures asked { IfOk asked (λ request. Answered request result.0 (R.remaining reader.old) (R.remaining reader.new)
         (R.failed reader.old) (R.failed reader.new) (W.contents out) (option_map W.contents result.1)) }
     ensures help { IfErr asked (λ error. IsHelp error → IfErr result.0 (λ stop. stop ≡ Stop.Replay ReplayFault.Write)) }
     ensures refused { IfErr asked (λ error. ¬ (IsHelp error) → IfErr result.0 (IsRefusal error)) }
@@ -101,6 +114,13 @@ fn answer<R: Source, W: Write + Drop>(
             let (replayed, out) = run_replay(alloc, reader, out);
             (stopped(replayed), out)
         }
+        Ok(Request::Explore(exploration)) => run_explore(rt, alloc, exploration, reader, out),
+        Ok(Request::Check) => run_check(alloc, reader, out),
+        Ok(Request::Schedule(scheduling)) => run_schedule(alloc, scheduling, reader, out),
+        Ok(Request::Work(words)) => {
+            let worked = work(alloc, words, &mut out);
+            (worked.map_err(Stop::Work), Some(out))
+        }
         Err(error) => match error.kind() {
             ErrorKind::DisplayHelp | ErrorKind::DisplayVersion => {
                 let written = write_help(&error, &mut out);
@@ -111,7 +131,7 @@ fn answer<R: Source, W: Write + Drop>(
     }
 }
 
-fn stopped(answer: Result<(), ReplayFault>) -> Result<(), Stop>
+pub(crate) fn stopped(answer: Result<(), ReplayFault>) -> Result<(), Stop>
     ensures ok { OnOk answer (result ≡ Ok tt) }
     ensures err { IfErr answer (λ fault. result ≡ Err (Stop.Replay fault)) }
 {
@@ -163,7 +183,10 @@ fn run_replay<R: Source, W: Write + Drop>(
 
 // After a failed write nothing more is written: what is left in the buffer could arrive behind a gap, or all of it
 // although a failure is told.
-fn flush_unless<W: Write + Drop>(has_failed: bool, buffered: &mut BufWriter<W>) -> io::Result<()>
+pub(crate) fn flush_unless<W: Write + Drop>(
+    has_failed: bool,
+    buffered: &mut BufWriter<W>,
+) -> io::Result<()>
     ensures bytes { Keeps (writer_contents W.contents buffered.old) (writer_contents W.contents buffered.new) }
     ensures empty { OnOk result (has_failed ≡ false → writer_buffer buffered.new ≡ []) }
     ensures untouched { has_failed ≡ true → IsOk result × (buffered.new ≡ buffered.old) }
@@ -174,8 +197,19 @@ fn flush_unless<W: Write + Drop>(has_failed: bool, buffered: &mut BufWriter<W>) 
     buffered.flush()
 }
 
+// The same of an output without a buffer.
+pub(crate) fn flush_out<W: Write>(failed: bool, out: &mut W) -> io::Result<()>
+    ensures bytes { Keeps (W.contents out.old) (W.contents out.new) }
+    ensures untouched { failed ≡ true → IsOk result × (out.new ≡ out.old) }
+{
+    if failed {
+        return Ok(());
+    }
+    out.flush()
+}
+
 // A flush that fails is a failed write. It is told before any other fault, since that stands behind it.
-fn flushed_answer(
+pub(crate) fn flushed_answer(
     replayed: Result<(), ReplayFault>,
     flushed: io::Result<()>,
 ) -> Result<(), ReplayFault>

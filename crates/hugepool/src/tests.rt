@@ -5,9 +5,15 @@ use std::alloc::Global;
 use std::io;
 use std::io::{ErrorKind, Read, Write};
 use std::test::Fail;
+use std::thread::Threads;
 
 /// The status, the output and the fault lines.
-fn told<R>(rt: &R, alloc: Global, words: &[&str], input: &str) -> (u8, Vec<u8>, Vec<u8>) {
+fn told<R: Threads + Sync>(
+    rt: &R,
+    alloc: Global,
+    words: &[&str],
+    input: &str,
+) -> (u8, Vec<u8>, Vec<u8>) {
     let mut out = Vec::new(alloc);
     let mut faults = Vec::new(alloc);
     let mut bytes = input.as_bytes();
@@ -66,8 +72,33 @@ const HELP: &str = "A pool of huge pages: Linux's hugetlbfs reservations, step b
 Usage: hugepool <COMMAND>
 
 Commands:
-  replay  Reads a trace from standard input, runs it, and writes a line for each outcome and then the state
-  help    Print this message or the help of the given subcommand(s)
+  replay    Reads a trace from standard input, runs it, and writes a line for each outcome and then the state
+  explore   Reads a script from standard input, and writes a line for each of its runs
+  check     Reads a trace from standard input, and writes how many events it has
+  schedule  Reads a script from standard input, and writes its run 0 as a trace
+  work      Runs a workload, and tells whether each answer and the numbers at the end are those of its table
+  help      Print this message or the help of the given subcommand(s)
+";
+
+const EXPLORE_HELP: &str =
+    "Reads a script from standard input, and writes a line for each of its runs
+
+Usage: hugepool explore [OPTIONS] < FILE
+
+Options:
+      --seed <N>  The seed of run 0, of 64 bits [default: 1]
+      --runs <N>  How many runs [default: 10]
+      --deny <N>  Of 1000 steps, how many are denied the memory that they want [default: 0]
+      --kill <N>  Of 1000 turns, how many kill their task [default: 0]
+      --audit     Audits the pool after each turn; the audit is proved to pass, so it changes nothing but the time
+  -h, --help      Print help
+
+A script is a trace whose events are begins alone: the calls that each task makes, in order. Tasks take turns
+by chance: a turn begins the next call of a task, or makes a step of the call that it is in. Run K goes by the
+generator that is seeded with SEED + K, so that it is the same each time, whatever comes before it.
+Some scripts stand in examples/:
+  hugepool explore --seed 7 --runs 3 < examples/truncate-against-store.script
+  hugepool schedule --seed 7 < examples/truncate-against-store.script | hugepool replay
 ";
 
 const REPLAY_HELP: &str =
@@ -104,8 +135,114 @@ fn help_of_replay_is_told(rt: HostRuntime) {
     }
 }
 
+#[test]
+fn help_of_explore_is_told(rt: HostRuntime) {
+    let (status, out, faults) = told(&rt, rt.alloc(), &["hugepool", "explore", "--help"], "");
+    assert_eq!(rt; status, 0);
+    assert!(rt; faults.is_empty());
+    assert_eq!(rt; out.as_slice(), EXPLORE_HELP.as_bytes());
+}
+
+const MAP: &str = "pool 4 1 4 1\nbegin 1 map 0 0 4\n";
+
+#[test]
+fn a_script_is_explored(rt: HostRuntime) {
+    for words in [
+        ["hugepool", "explore", "--runs", "2"].as_slice(),
+        &["hugepool", "explore", "--runs=2", "--audit"],
+    ] {
+        let (status, out, faults) = told(&rt, rt.alloc(), words, MAP);
+        assert_eq!(rt; status, 0);
+        assert!(rt; faults.is_empty());
+        assert_eq!(rt;
+            out.as_slice(),
+            b"run 0 finished turns 8 free 4 resv 4\nrun 1 finished turns 8 free 4 resv 4\n".as_slice()
+        );
+    }
+}
+
+#[test]
+fn a_killed_script_is_explored(rt: HostRuntime) {
+    let (status, out, _) = told(
+        &rt,
+        rt.alloc(),
+        &[
+            "hugepool", "explore", "--seed", "1", "--runs", "1", "--kill", "1000",
+        ],
+        "pool 4 1 4 1\nbegin 1 map 0 0 4\nbegin 1 exit\n",
+    );
+    assert_eq!(rt; status, 0);
+    assert_eq!(rt;
+        out.as_slice(),
+        b"run 0 finished turns 5 free 4 resv 0\n".as_slice()
+    );
+}
+
+#[test]
+fn a_schedule_is_written(rt: HostRuntime) {
+    let words = ["hugepool", "schedule", "--deny", "1000"];
+    let (status, out, faults) = told(&rt, rt.alloc(), &words, MAP);
+    assert_eq!(rt; status, 0);
+    assert!(rt; faults.is_empty());
+    assert_eq!(rt;
+        out.as_slice(),
+        b"pool 4 1 4 1\nbegin 1 map 0 0 4\ndeny 1\ndeny 1\ndeny 1\n".as_slice()
+    );
+}
+
+#[test]
+fn a_trace_is_checked(rt: HostRuntime) {
+    let words = ["hugepool", "check"];
+    let (status, out, faults) = told(&rt, rt.alloc(), &words, "pool 1 1 1 1\nstep 1\ndeny 1\n");
+    assert_eq!(rt; status, 0);
+    assert!(rt; faults.is_empty());
+    assert_eq!(rt; out.as_slice(), b"events 2\n".as_slice());
+}
+
+#[test]
+fn bad_lines_of_scripts_are_told(rt: HostRuntime) {
+    for word in ["explore", "schedule"] {
+        let (status, out, faults) = told(
+            &rt,
+            rt.alloc(),
+            &["hugepool", word],
+            "pool 4 1 4 1\nstep 1\n",
+        );
+        assert_eq!(rt; status, 1);
+        assert!(rt; out.is_empty());
+        assert_eq!(rt;
+            faults.as_slice(),
+            b"hugepool: line 2 is not allowed here\n".as_slice()
+        );
+    }
+}
+
+/// Numbers outside their ranges are the command line's fault, and nothing is explored.
+#[test]
+fn numbers_out_of_range(rt: HostRuntime) {
+    for (option, number) in [
+        ("--seed", "18446744073709551616"),
+        ("--seed", "-1"),
+        ("--runs", "0"),
+        ("--runs", "65537"),
+        ("--deny", "1001"),
+        ("--kill", "1001"),
+        ("--kill", "x"),
+    ] {
+        let (status, out, faults) = told(
+            &rt,
+            rt.alloc(),
+            &["hugepool", "explore", option, number],
+            MAP,
+        );
+        assert_eq!(rt; status, 2);
+        assert!(rt; out.is_empty());
+        assert!(rt; faults.as_slice().starts_with(b"error: "));
+    }
+}
+
 /// The status and the fault lines of words that ask for nothing; nothing is written then.
-fn refused<R>(rt: &R, alloc: Global, words: &[&str]) -> Option<(u8, Vec<u8>)> {
+fn refused<R: Threads + Sync>(rt: &R, alloc: Global, words: &[&str]) -> Option<(u8, Vec<u8>)> {
     let (status, out, faults) = told(rt, alloc, words, "pool 1 1 1 1\n");
     out.is_empty().then_some((status, faults))
 }
@@ -113,7 +250,7 @@ fn refused<R>(rt: &R, alloc: Global, words: &[&str]) -> Option<(u8, Vec<u8>)> {
 #[test]
 fn no_word(rt: HostRuntime) {
     let text = "error: 'hugepool' requires a subcommand but one was not provided
-  [subcommands: replay, help]
+  [subcommands: replay, explore, check, schedule, work, help]
 
 Usage: hugepool <COMMAND>
 
@@ -129,13 +266,13 @@ For more information, try '--help'.
 
 #[test]
 fn an_unknown_word(rt: HostRuntime) {
-    let text = "error: unrecognized subcommand 'x'
+    let text = "error: unrecognized subcommand '42'
 
 Usage: hugepool <COMMAND>
 
 For more information, try '--help'.
 ";
-    let (status, faults) = refused(&rt, rt.alloc(), &["hugepool", "x"]).unwrap_or((
+    let (status, faults) = refused(&rt, rt.alloc(), &["hugepool", "42"]).unwrap_or((
         0,
         Vec::new(rt.alloc()),
     ));
@@ -225,7 +362,7 @@ impl Write for Output {
 }
 
 /// The status, and the fault lines, where the output is such a one, and what that takes.
-fn told_to<R>(
+fn told_to<R: Threads + Sync>(
     rt: &R,
     alloc: Global,
     words: &[&str],
@@ -377,7 +514,7 @@ impl Read for Input<'_> {
 }
 
 /// The status where the input fails behind these bytes, with what is written and the fault lines.
-fn told_of<R>(rt: &R, alloc: Global, bytes: &[u8]) -> (u8, Vec<u8>, Vec<u8>) {
+fn told_of<R: Threads + Sync>(rt: &R, alloc: Global, bytes: &[u8]) -> (u8, Vec<u8>, Vec<u8>) {
     let mut out = Vec::new(alloc);
     let mut faults = Vec::new(alloc);
     let words = ["hugepool", "replay"];
@@ -426,4 +563,88 @@ fn a_fault_that_is_not_told_is_one(rt: HostRuntime) {
         );
         assert_eq!(rt; status, wanted);
     }
+}
+
+/// What a `work` of these words answers: its status, what is written, and the fault line. Nothing is read.
+fn worked<R: Threads + Sync>(rt: &R, alloc: Global, words: &[&str]) -> (u8, Vec<u8>, Vec<u8>) {
+    told(rt, alloc, words, "no trace")
+}
+
+#[test]
+fn work_tells_of_each_workload(rt: HostRuntime) -> Result<(), Fail> {
+    for (name, calls) in [
+        ("readback", 3),
+        ("alloc-instantiate-race", 4),
+        ("fallocate_align", 3),
+        ("counters", 6),
+    ] {
+        let text = format!(in rt.alloc(); "{name} ok calls {calls}\n")?;
+        let (status, out, faults) = worked(&rt, rt.alloc(), &["hugepool", "work", name]);
+        assert_eq!(rt; status, 0);
+        assert_eq!(rt; out.as_slice(), text.as_bytes());
+        assert!(rt; faults.is_empty());
+        let words = ["hugepool", "work", name, "--on", "core"];
+        let (status, out, _faults) = worked(&rt, rt.alloc(), &words);
+        assert_eq!(rt; status, 0);
+        assert_eq!(rt; out.as_slice(), text.as_bytes());
+    }
+    Ok(())
+}
+
+#[test]
+fn work_refuses_other_names(rt: HostRuntime) {
+    let (status, out, faults) = worked(&rt, rt.alloc(), &["hugepool", "work", "nothing"]);
+    assert_eq!(rt; status, 2);
+    assert!(rt; out.is_empty());
+    assert_eq!(rt;
+        faults.as_slice(),
+        b"hugepool: no workload nothing\n".as_slice()
+    );
+    let words = ["hugepool", "work", "nothing", "--on", "moon"];
+    let (_status, _out, faults) = worked(&rt, rt.alloc(), &words);
+    assert_eq!(rt;
+        faults.as_slice(),
+        b"hugepool: no workload nothing\n".as_slice()
+    );
+    let words = ["hugepool", "work", "readback", "--on", "moon"];
+    let (status, out, faults) = worked(&rt, rt.alloc(), &words);
+    assert_eq!(rt; status, 2);
+    assert!(rt; out.is_empty());
+    assert_eq!(rt; faults.as_slice(), b"hugepool: no driver moon\n".as_slice());
+    let words = ["hugepool", "work", "readback", "--on", "pool"];
+    let (status, _out, faults) = worked(&rt, rt.alloc(), &words);
+    assert_eq!(rt; status, 2);
+    assert_eq!(rt; faults.as_slice(), b"hugepool: no driver pool\n".as_slice());
+}
+
+#[test]
+fn work_needs_a_name(rt: HostRuntime) {
+    let (status, out, faults) = worked(&rt, rt.alloc(), &["hugepool", "work"]);
+    assert_eq!(rt; status, 2);
+    assert!(rt; out.is_empty());
+    assert!(rt;
+        faults.starts_with(
+            b"error: the following required arguments were not provided:\n  <NAME>\n"
+        )
+    );
+}
+
+/// The help of `work` has a line on each workload, in their order.
+#[test]
+fn help_of_work_is_told(rt: HostRuntime) -> Result<(), Fail> {
+    let (status, out, faults) = worked(&rt, rt.alloc(), &["hugepool", "work", "--help"]);
+    assert_eq!(rt; status, 0);
+    assert!(rt; faults.is_empty());
+    let text = str::from_utf8(out.as_slice())?;
+    let (_front, list) = text
+        .split_once("The workloads")
+        .ok_or("the list of workloads")?;
+    let mut lines = list.lines().skip(1);
+    for workload in hp_client::Workload::ALL {
+        let line = lines.next().ok_or("a line on each workload")?;
+        let name = format!(in rt.alloc(); "  {} ", workload.name())?;
+        assert!(rt; line.starts_with(name.as_str()));
+    }
+    assert_eq!(rt; lines.next(), None);
+    Ok(())
 }

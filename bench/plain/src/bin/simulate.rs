@@ -53,7 +53,7 @@ fn main() -> std::io::Result<()> {
     let calls = pool.tasks.iter().filter(|t| t.call.is_some()).count();
     writeln!(out, "free {} resv {} calls {calls}", pool.free.len(), pool.resv)?;
     for (k, f) in pool.files.iter().enumerate() {
-        let reserved: u32 = f.regions.iter().map(|r| r.1 - r.0).sum();
+        let reserved: u32 = f.regions.iter().map(|(from, to)| to - from).sum();
         writeln!(out, "file {k} size {} reserved {reserved} regions {} pages {} changes {} spare {}", f.size, f.regions.len(), f.pages.len(), f.pending, f.spare)?;
     }
     for (k, t) in pool.tasks.iter().enumerate() {

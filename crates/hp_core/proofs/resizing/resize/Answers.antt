@@ -43,7 +43,7 @@ returns-then-now-frames-clause-room c = λ unwanted.
       ];
       maps = refl;
       caches = λ file. omega arith;
-      spaces = refl;
+      spaces = λ task. omega arith;
       lists = refl;
     }
 

@@ -1,7 +1,7 @@
 use Rattle.hp_base.specs.Text.{sizes}
 use Rattle.std.proofs.Common.{refl}
-use Rattle.hp_core.specs.Readers.{config_of}
-use Rattle.hp_core.proofs.Opens.{are_sound, opens_as}
+use Rattle.hp_core.specs.Readers.{calls_of, config_of}
+use Rattle.hp_core.proofs.Opens.{are_sound, none_in_flight, opens_as}
 use Rattle.hp_core.proofs.core_state.Core.new.Goals as goal
 
 pub invariant_of-result : goal.invariant_of-result
@@ -41,3 +41,7 @@ returns-clause-opening c = opens_as c.args.config _ _ _
 pub returns-clause-config : goal.returns-clause-config
 unfolding config_of
 returns-clause-config c = refl
+
+pub returns-clause-calls : goal.returns-clause-calls
+unfolding calls_of
+returns-clause-calls c = none_in_flight _ c.in_ok-seats.ensures.fresh

@@ -13,6 +13,7 @@ use Rattle.hp_core.specs.Copies.{IsCopy, all_translations}
 use Rattle.hp_core.specs.State.{CoreState}
 use Rattle.hp_core.specs.Readers.{resv_of, owed_of, used_of, used_owed_of, quota_of}
 use Rattle.hp_core.proofs.Audited.{right_of}
+use Rattle.hp_core.proofs.Headlines.{reached_of}
 use Rattle.hp_core.proofs.Pictures.{AreCopies, picture_of, picture_seen, few_files, few_spaces}
 use Rattle.hp_core.proofs.core_state.Core.picture.Goals as goal
 
@@ -57,5 +58,5 @@ returns c =
     } in
     record {
       picture = picture_seen s _ _ c.self.view_is c.self.invariant copies;
-      audited = right_of s _ c.self.invariant (picture_of s _ c.self.invariant copies);
+      audited = right_of s _ (reached_of s c.self.invariant) (picture_of s _ c.self.invariant copies);
     }

@@ -1,31 +1,34 @@
-use Rattle.std.proofs.Common.{ℕ, List, ◌≡◌, ap, ◌∙◌}
-use Rattle.std.specs.Prelude.{IsSome}
-use Rattle.hp_base.specs.Mappings.{find, is_there}
-use Rattle.hp_base.specs.declared.mapping.Mapping.{Mapping}
-use Rattle.hp_table.proofs.IndexPages.{others, get-others}
-use Rattle.hp_table.proofs.PageTable.{is_sorted-cleared, cleared_keeps}
+use Rattle.std.proofs.Common.{ℕ, sym, ap, ◌∙◌, arith}
+use Rattle.std.proofs.Math.Path.{fun_ext}
+use Rattle.std.specs.FinMap as map
+use Rattle.std.specs.Ordering.{nat_cmp}
+use Rattle.hp_table.proofs.Clearing.{get_removed, fewer_removed, without_there, without_none}
 use Rattle.hp_table.proofs.space.Space.clear_index.Goals as goal
 
-items : (c : goal.After-clear_index)
-    → c.clear_index.new.entries.items ≡ others c.self.inside.mappings.items c.args.file c.args.index c.self.inside.entries.items
-items c =
-    c.clear_index.ensures.items
-    ∙ ap (λ (ms : List Mapping). others ms c.args.file c.args.index c.self.inside.entries.items) c.deref.ensures.value
+pub loop-vpn-smaller : goal.loop-vpn-smaller
+loop-vpn-smaller c =
+    omega (
+      arith,
+      ap (λ (m : map.FinMap nat_cmp ℕ). map.len m) c.clear.ensures.entries,
+      fewer_removed c.loop-vpn.self.entries c.in-Some.vpn c.in-Some.ensures.found.0,
+    )
 
-pub invariant_of-self : goal.invariant_of-self
-invariant_of-self c =
-    let ms = c.self.inside.mappings.items in
-    let es = c.self.inside.entries.items in
-    let gone = λ (v : ℕ). is_there (find ms v) c.args.file c.args.index in
+pub loop-vpn-preserved : goal.loop-vpn-preserved
+loop-vpn-preserved c =
+    let i = c.loop-vpn.invariant in
     record {
-      spread = c.self.invariant.spread;
-      in_files = c.self.invariant.in_files;
-      in_order = rw (items c) (is_sorted-cleared gone es c.self.invariant.in_order);
-      mapped = rw (items c) (cleared_keeps (λ v. IsSome (find ms v)) gone es c.self.invariant.mapped);
-      room = c.self.invariant.room;
+      mappings = c.clear.ensures.mappings ∙ i.mappings;
+      left = λ v.
+          i.left v ∙ without_there c.args.self.now.mappings (map.get c.loop-vpn.self.entries) (map.get c.clear.new.self.entries)
+          c.args.file c.args.index c.in-Some.vpn (rw i.mappings at c.in-Some.ensures.found.1)
+          (λ u. ap (λ (m : map.FinMap nat_cmp ℕ). map.get m u) c.clear.ensures.entries
+          ∙ get_removed c.loop-vpn.self.entries c.in-Some.vpn u) v;
+      ready = c.clear.ensures.ready ∙ i.ready;
+      room = omega (arith, i.room, c.clear.ensures.room);
     }
 
 pub returns-clause-entries : goal.returns-clause-entries
 returns-clause-entries c =
-    rw (← c.self.view_is, items c)
-    (get-others c.self.inside.mappings.items c.args.file c.args.index c.self.inside.entries.items c.self.invariant.in_order)
+    let i = c.loop-vpn.invariant in
+    sym (fun_ext (λ v. i.left v ∙ without_none c.args.self.now.mappings (map.get c.loop-vpn.self.entries) c.args.file c.args.index
+    (rw i.mappings at c.in_default.ensures.none) v))

@@ -1,15 +1,13 @@
 use Rattle.std.proofs.Common.{Option, true≢false, ℕ, ◌≡◌, ◌+◌, ◌≤◌, None, sym, ap, ◌∙◌, arith}
 use Rattle.std.specs.FinMap as map
-use Rattle.std.specs.FinMap.{find}
 use Rattle.std.specs.List.{position}
-use Rattle.std.specs.Ordering.{nat_cmp}
 use Rattle.std.specs.Prelude.{IsTrue, IsSome, is_some}
 use Rattle.hp_base.proofs.Spaces.{without_spread}
-use Rattle.hp_base.specs.Mappings.{in_mapping, without}
+use Rattle.hp_base.specs.Mappings.{find, in_mapping, without}
 use Rattle.hp_base.specs.declared.limits.TheConstants.{LIMIT, VPNS}
 use Rattle.hp_table.proofs.Bases.{begins_at, without_found, without_absent}
-use Rattle.hp_table.proofs.Mapped.{All-without, found_without}
-use Rattle.hp_table.proofs.PageTable.{get_is}
+use Rattle.hp_table.proofs.Agreeing.{agree_other}
+use Rattle.hp_table.proofs.Mapped.{All-without, found_without, found_other}
 use Rattle.hp_table.specs.Table.{Table}
 use Rattle.hp_table.proofs.space.Space.drop_mapping.Goals as goal
 
@@ -22,13 +20,12 @@ some_or_none : (o : Option ℕ) → IsSome o → o ≡ None → ⊥
 some_or_none o some none = true≢false (sym some ∙ ap (λ (o : Option ℕ). is_some o) none)
 
 -- a page with an entry lies in another mapping
-bare : (c : goal.After-remove) (v : ℕ) → IsSome (find nat_cmp v c.self.inside.entries.items)
+bare : (c : goal.After-remove) (v : ℕ) → IsSome (map.get c.self.inside.entries.frames v)
     → IsTrue (in_mapping c.self.inside.mappings.items c.args.base v) → ⊥
 bare c v some lies =
     let there = ap (λ (t : Table). in_mapping t.mappings c.args.base v) (sym c.self.view_is) ∙ lies in
-    let none = sym (get_is c.self.inside.entries.items v c.self.invariant.in_order)
-    ∙ (ap (λ (t : Table). map.get t.entries v) c.self.view_is ∙ c.requires.bare v there) in
-    some_or_none (find nat_cmp v c.self.inside.entries.items) some none
+    let none = ap (λ (t : Table). map.get t.entries v) c.self.view_is ∙ c.requires.bare v there in
+    some_or_none (map.get c.self.inside.entries.frames v) some none
 
 pub invariant_of-self : goal.invariant_of-self
 invariant_of-self c =
@@ -36,8 +33,10 @@ invariant_of-self c =
     record {
       spread = rw (items c) (without_spread VPNS 0 ms c.args.base c.self.invariant.spread);
       in_files = rw (items c) (All-without (λ m. m.from + m.len ≤ LIMIT) ms c.args.base c.self.invariant.in_files);
-      in_order = c.self.invariant.in_order;
       mapped = rw (items c) (λ v some. found_without ms c.args.base v (bare c v some) (c.self.invariant.mapped v some));
+      agree =
+          rw (items c) (agree_other (find ms) (map.get c.self.inside.entries.frames) c.self.inside.places c.self.invariant.agree
+          (find (without ms c.args.base)) (λ v some. found_other ms c.args.base v (bare c v some)));
       room = λ ready. omega (arith, c.self.invariant.room ready, c.remove.ensures.len, c.remove.ensures.capacity);
     }
 

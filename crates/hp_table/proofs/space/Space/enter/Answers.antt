@@ -1,10 +1,12 @@
 use Rattle.std.proofs.Common.{◌≡◌, ◌+◌, ◌≤◌, true≢false, ap, sym, ◌∙◌, arith}
 use Rattle.std.proofs.lemmas.List.Sums.{prefix_len-le-length}
+use Rattle.std.specs.FinMap as map
 use Rattle.hp_base.specs.declared.limits.TheConstants.{LIMIT, VPNS}
 use Rattle.hp_base.specs.declared.mapping.Mapping.{Mapping}
-use Rattle.hp_base.specs.Mappings.{entered, fits}
+use Rattle.hp_base.specs.Mappings.{entered, find, fits}
 use Rattle.hp_table.specs.Table.{Table}
-use Rattle.hp_table.proofs.Mapped.{found_stays}
+use Rattle.hp_table.proofs.Agreeing.{agree_other}
+use Rattle.hp_table.proofs.Mapped.{found_stays, found_same}
 use Rattle.hp_table.proofs.Spread.{begins, insert_is, All-entered, IsSpread-entered}
 use Rattle.hp_table.proofs.space.Space.enter.Goals as goal
 
@@ -28,8 +30,10 @@ invariant_of-self c =
     record {
       spread = rw (items c) (IsSpread-entered VPNS 0 ms new c.self.invariant.spread (omega arith) c.requires.some room);
       in_files = rw (items c) (All-entered (λ m. m.from + m.len ≤ LIMIT) ms new c.self.invariant.in_files c.requires.in_file);
-      in_order = c.self.invariant.in_order;
       mapped = rw (items c) (λ v some. found_stays ms new VPNS v room (c.self.invariant.mapped v some));
+      agree =
+          rw (items c) (agree_other (find ms) (map.get c.self.inside.entries.frames) c.self.inside.places c.self.invariant.agree
+          (find (entered ms new)) (λ v some. found_same ms new VPNS v room (c.self.invariant.mapped v some)));
       room = λ ready. absurd (true≢false (sym ready));
     }
 

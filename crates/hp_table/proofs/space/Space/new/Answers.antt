@@ -1,9 +1,20 @@
-use Rattle.std.proofs.Common.{[], length, ap, ◌∙◌}
+use Rattle.std.proofs.Common.{ℕ, Option, true≢false, sym, ap, ◌∙◌, arith}
+use Rattle.std.specs.FinMap as map
+use Rattle.std.specs.Prelude.{is_some}
 use Rattle.std.specs.Ordering.{nat_cmp}
-use Rattle.std.specs.FinMap.{from_sorted, empty_of_len, len-entries, entries-from_sorted}
+use Rattle.hp_base.specs.Mappings.{find}
+use Rattle.hp_table.proofs.Agreeing.{agree_none}
 use Rattle.hp_table.proofs.space.Space.new.Goals as goal
 
-pub returns-clause-entries : goal.returns-clause-entries
-returns-clause-entries c =
-    rw c.new-2.ensures.items
-    (empty_of_len (from_sorted []) (len-entries (from_sorted []) ∙ ap length (entries-from_sorted nat_cmp [] tt)))
+pub invariant_of-result : goal.invariant_of-result
+invariant_of-result c = record {
+  spread = rw c.new.ensures.items (omega arith);
+  in_files = rw c.new.ensures.items (λ k d within. absurd (omega arith));
+  mapped = λ v some.
+      let none = ap (λ (m : map.FinMap nat_cmp ℕ). map.get m v) c.new-2.ensures.frames ∙ map.get-empty nat_cmp v in
+      absurd (true≢false (sym some ∙ ap (λ (o : Option ℕ). is_some o) none));
+  agree =
+      agree_none (find c.new.result.items) (map.get c.new-2.result.frames) c.new-3.result c.new-3.ensures.empty
+      (λ v. ap (λ (m : map.FinMap nat_cmp ℕ). map.get m v) c.new-2.ensures.frames ∙ map.get-empty nat_cmp v);
+  room = λ ready. absurd (true≢false (sym ready));
+}

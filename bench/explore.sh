@@ -1,0 +1,84 @@
+#!/usr/bin/env bash
+# Explores 20,000 runs of about 150 turns, on one processor, beside a plain Rust explorer that does the same with nothing
+# proved; then on all processors; then with the audit of every turn, fewer runs; and a script of 64 tasks in a pool of 4,096
+# frames beside one of 4 tasks, a turn each. Says whether both wrote the same lines. Needs cargo, python3 and taskset.
+set -euo pipefail
+cd "$(dirname "${BASH_SOURCE[0]}")/.."
+for need in python3 taskset; do
+    if ! command -v "$need" > /dev/null; then
+        echo "bench: '$need', which measures, is not on the PATH" >&2
+        exit 127
+    fi
+done
+PYTHONPATH=bench exec python3 -B - <<'P'
+import os
+import shutil
+import subprocess
+import sys
+import tempfile
+import time
+from pathlib import Path
+from measure import PLAIN, PROVED, in_turn, prepare
+
+TASKSET = shutil.which("taskset")
+ONE = [TASKSET, "-c", "0"]
+OURS = [PROVED[0], "explore"]
+THEIRS = [str(PLAIN / "explore")]
+
+
+def script(frames, tasks, rounds):
+    """Tasks that map a file, store and load, punch, and allocate, each some rounds."""
+    lines = [f"pool {frames} 4 16 {tasks}"]
+    for at in range(rounds):
+        for task in range(1, tasks + 1):
+            file = task % 4
+            calls = [f"map {file} {at} 2", f"store {2 * at} 5", f"load {2 * at}", f"punch {file} {at} 1"]
+            lines += [f"begin {task} {call}" for call in calls]
+    return "\n".join(lines) + "\n"
+
+
+def lines_of(words, path):
+    with open(path) as source:
+        return subprocess.run(words, stdin=source, capture_output=True, check=True, text=True).stdout
+
+
+def wall(words, path):
+    """The seconds that the clock tells, the best of five."""
+    best = float("inf")
+    for _ in range(5):
+        start = time.perf_counter()
+        lines_of(words, path)
+        best = min(best, time.perf_counter() - start)
+    return best
+
+
+def turns_of(text):
+    return sum(int(line.split()[4]) for line in text.splitlines())
+
+
+prepare()
+cores = len(os.sched_getaffinity(0))
+with tempfile.TemporaryDirectory() as folder:
+    small = Path(folder) / "small"
+    small.write_text(script(8, 4, 2))
+    options = ["--runs", "20000", "--deny", "50", "--kill", "1"]
+    text = lines_of([*OURS, *options], small)
+    if text != lines_of([*THEIRS, *options], small):
+        sys.exit("bench: the two wrote different lines")
+    print(f"20,000 runs of {turns_of(text) / 20_000:.0f} turns each, both wrote the same lines")
+    in_turn("on one processor", small, {"hugepool": [*ONE, *OURS, *options], "plain": [*ONE, *THEIRS, *options]}, 7)
+    one, all_of_them = wall([*ONE, *OURS, *options], small), wall([*OURS, *options], small)
+    print(f"by the clock: {one:.3f} s on one processor, {all_of_them:.3f} s on {cores}: {one / all_of_them:.2f} times as fast")
+    few = ["--runs", "2000", "--deny", "50", "--kill", "1"]
+    bare, audited = wall([*ONE, *OURS, *few], small), wall([*ONE, *OURS, *few, "--audit"], small)
+    print(f"2,000 runs with the audit of every turn: {audited:.3f} s, without {bare:.3f} s, on one processor")
+    large = Path(folder) / "large"
+    large.write_text(script(4096, 64, 2))
+    cost = {}
+    for name, path, runs in (("4 tasks, 8 frames", small, 5000), ("64 tasks, 4,096 frames", large, 300)):
+        words = [*ONE, *OURS, "--runs", str(runs)]
+        cost[name] = wall(words, path) / turns_of(lines_of(words, path))
+        print(f"{name}: {cost[name] * 1e9:.0f} ns a turn")
+    first, second = cost.values()
+    print(f"ratio: {second / first:.2f}")
+P

@@ -1,0 +1,6 @@
+pub mod Chunks
+pub mod Copies
+pub mod Listing
+pub mod Slots
+pub mod Tables
+pub mod Views

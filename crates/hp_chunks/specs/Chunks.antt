@@ -1,0 +1,52 @@
+-- Frames as they are kept: chunks of places.
+use Rattle.std.specs.Prelude.{◌≡◌, ℕ, zero, suc, ◌*◌, ◌/◌, ◌%◌, ◌<◌, List, Option, None, Some, is_some, ⊤}
+use Rattle.std.specs.Prelude.{slice_index_or, length, count_by}
+use Rattle.std.specs.Global.{Box}
+use Rattle.std.specs.Ordering.{nat_cmp}
+use Rattle.std.specs.FinMap as map
+use Rattle.hp_chunks.specs.declared.chunk.TheConstants.{PLACES}
+use Rattle.hp_chunks.specs.Framed.{Framed}
+
+-- the frame of each place of a chunk, where it has one
+abbrev pub Places : Type 0
+Places = List (Option ℕ)
+
+-- a chunk, where it is there
+abbrev pub Slot : Type 0
+Slot = Option (Box Places)
+
+-- some place has a frame
+abbrev pub HasFrame : Places → Type 0
+HasFrame places = 0 < count_by is_some places
+
+-- a chunk that is kept has all its places, and a frame in one of them
+abbrev pub IsKept : Slot → Type 0
+IsKept None = ⊤
+IsKept (Some chunk) = (length chunk.value ≡ PLACES) × HasFrame chunk.value
+
+-- the frame of a place of a chunk, where it has one
+abbrev pub frame_in : Slot → ℕ → Option ℕ
+frame_in None place = None
+frame_in (Some chunk) place = slice_index_or chunk.value place None
+
+-- the frame of a number
+unfoldable pub frame_of : List Slot → ℕ → Option ℕ
+frame_of chunks number = frame_in (slice_index_or chunks (number / PLACES) None) (number % PLACES)
+
+-- for how many numbers there is memory
+abbrev pub room_of : List Slot → ℕ
+room_of chunks = PLACES * count_by is_some chunks
+
+-- a map with the value of a key, where it has one
+abbrev pub with_value : map.FinMap nat_cmp ℕ → ℕ → Option ℕ → map.FinMap nat_cmp ℕ
+with_value m key None = m
+with_value m key (Some value) = map.insert m key value
+
+-- the keys below a limit that have a value, as a finite map
+unfoldable pub map_below : (ℕ → Option ℕ) → ℕ → map.FinMap nat_cmp ℕ
+map_below values zero = map.empty
+map_below values (suc limit) = with_value (map_below values limit) limit (values limit)
+
+-- what a map with these chunks is seen as, where there can be n of them
+abbrev pub seen_as : ℕ → List Slot → Framed
+seen_as n chunks = record { frames = map_below (frame_of chunks) (n * PLACES); room = room_of chunks }

@@ -1,0 +1,6 @@
+pub mod Beginning
+pub mod Hearing
+pub mod Judging
+pub mod Naming
+pub mod Running
+pub mod Standing

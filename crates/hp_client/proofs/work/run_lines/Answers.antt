@@ -1,0 +1,28 @@
+use Rattle.std.proofs.Common.{◌++◌, [], refl}
+use Rattle.hp_client.proofs.Judging.{run_next, judges_none, calls_next, calls_few}
+use Rattle.hp_client.proofs.work.run_lines.Goals as goal
+
+pub loop-line-init : goal.loop-line-init
+loop-line-init g c = record {
+  run = ([], (refl, refl), judges_none _ refl refl);
+  calls = refl;
+}
+
+pub run_line-requires-clause-few : goal.run_line-requires-clause-few
+run_line-requires-clause-few g c = calls_few c.loop-line.line-index c.args.lines.now _ c.loop-line.judged.calls
+    c.loop-line-test.true
+    c.loop-line.invariant.calls c.requires.few
+
+pub loop-line-preserved : goal.loop-line-preserved
+loop-line-preserved g c =
+    let before = c.loop-line.invariant.run in
+    let one = c.in_ok-run_line.ensures.run in
+    record {
+      run = (
+        before.0 ++ one.0,
+        run_next c.loop-line.line-index c.args.lines.now _ _ _ _ before.0 one.0 c.loop-line-test.true before.1 one.1,
+        one.2 before.0 before.2,
+      );
+      calls = calls_next c.loop-line.line-index c.args.lines.now _ c.loop-line.judged.calls _ c.loop-line-test.true
+          c.loop-line.invariant.calls c.in_ok-run_line.ensures.calls;
+    }

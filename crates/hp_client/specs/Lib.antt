@@ -1,0 +1,5 @@
+pub mod Bytes
+pub mod Heard
+pub mod Judging
+pub mod Rounds
+pub mod Tables

@@ -1,0 +1,59 @@
+use Rattle.std.proofs.Common.{◌≡◌, List, refl, ap, sym, subst, ◌∙◌}
+use Rattle.std.specs.Prelude.{All, None}
+use Rattle.hp_fault.specs.declared.parts.FileState.{FileState}
+use Rattle.hp_fault.specs.State.{state_of}
+use Rattle.hp_core.specs.declared.seat.Seat.{Seat}
+use Rattle.hp_core.specs.State.{CoreState, as_state}
+use Rattle.hp_core.specs.Readers.{calls_of, config_of, entries_of}
+use Rattle.hp_core.proofs.Duplicates.{can_copy, are_same, state_same, still_sound, entries_counted, calls_counted}
+use Rattle.hp_core.proofs.core_state.Core.copy.Goals as goal
+
+pub copy-requires : goal.copy-requires
+copy-requires c = (can_copy c.a_pool_at_rest_holds_nothing.ensures _ _ c.self.view_is c.self.invariant c.requires).hands
+
+pub copy_files-requires : goal.copy_files-requires
+copy_files-requires c =
+    subst (λ (xs : List FileState). All (λ (file : FileState). file.map.pending ≡ 0) xs) (sym c.deref.ensures.value)
+    (can_copy c.a_pool_at_rest_holds_nothing.ensures _ _ c.self.view_is c.self.invariant c.requires).changes
+
+pub copy_seats-requires : goal.copy_seats-requires
+copy_seats-requires c =
+    subst (λ (xs : List Seat). All (λ (seat : Seat). seat.call ≡ None) xs) (sym c.deref-3.ensures.value)
+    (can_copy c.a_pool_at_rest_holds_nothing.ensures _ _ c.self.view_is c.self.invariant c.requires).calls
+
+pub invariant_of-result : goal.invariant_of-result
+invariant_of-result c =
+    still_sound _ _ c.self.invariant
+    (are_same _ _ _ _ c.in_ok-copy.ensures c.deref.ensures.value c.in_ok-copy_files.ensures c.in_ok-copy-2.ensures
+    c.in_ok-copy-3.ensures c.deref-2.ensures.value c.in_ok-copy_spaces.ensures)
+    (c.in_ok-seats.ensures ∙ c.deref-3.ensures.value) refl
+
+pub returns-clause-state : goal.returns-clause-state
+returns-clause-state c =
+    state_same (state_of c.self.inside.parts) (state_of record {
+      bank = c.in_ok-copy.field-0;
+      files = c.in_ok-copy_files.field-0;
+      slots = c.in_ok-copy-2.field-0;
+      locks = c.in_ok-copy-3.field-0;
+      spaces = c.in_ok-copy_spaces.field-0;
+    }) _ _
+    (are_same _ _ _ _ c.in_ok-copy.ensures c.deref.ensures.value c.in_ok-copy_files.ensures c.in_ok-copy-2.ensures
+    c.in_ok-copy-3.ensures c.deref-2.ensures.value c.in_ok-copy_spaces.ensures)
+    (c.in_ok-seats.ensures ∙ c.deref-3.ensures.value)
+    ∙ ap (λ (s : CoreState). as_state s) c.self.view_is
+
+pub returns-clause-entries : goal.returns-clause-entries
+returns-clause-entries c =
+    entries_counted _ _
+    (are_same _ _ _ _ c.in_ok-copy.ensures c.deref.ensures.value c.in_ok-copy_files.ensures c.in_ok-copy-2.ensures
+    c.in_ok-copy-3.ensures c.deref-2.ensures.value c.in_ok-copy_spaces.ensures)
+    ∙ ap (λ (s : CoreState). entries_of s) c.self.view_is
+
+pub returns-clause-calls : goal.returns-clause-calls
+returns-clause-calls c =
+    calls_counted _ _ (c.in_ok-seats.ensures ∙ c.deref-3.ensures.value)
+    ∙ (ap (λ (s : CoreState). calls_of s) c.self.view_is ∙ c.requires)
+
+pub returns-clause-config : goal.returns-clause-config
+unfolding config_of
+returns-clause-config c = ap (λ (s : CoreState). config_of s) c.self.view_is

@@ -1,0 +1,5 @@
+pub mod Collected
+pub mod OneLine
+pub mod Runnable
+pub mod Runs
+pub mod Twins

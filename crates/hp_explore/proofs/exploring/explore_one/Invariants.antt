@@ -1,0 +1,13 @@
+-- What the run from here on tells, the run from the start tells.
+use Rattle.std.proofs.Common.{◌≡◌, ◌-◌, List}
+use Rattle.hp_base.specs.declared.event.Event.{Event}
+use Rattle.hp_explore.specs.declared.line.RunLine.{RunLine}
+use Rattle.hp_explore.specs.Explored.{IsRun, IsLine}
+use Rattle.hp_explore.proofs.exploring.explore_one.Given as goal
+
+abbrev pub invariant-loop-turn : goal.invariant-loop-turn
+invariant-loop-turn l = record {
+  turns : l.walk.turns ≡ l.turn;
+  goes_on : (events : List Event) (line : RunLine) → IsRun l.plan l.run (1000000 - l.turn) l.walk events line
+      → IsLine l.script l.seed l.plan.deny l.plan.kill l.run line;
+}

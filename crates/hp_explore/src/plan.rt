@@ -1,0 +1,75 @@
+//! What every run of an exploration goes by.
+ghost use Rattle.std.specs.Prelude.{◌≡◌, ◌+◌, ◌-◌, ◌<◌, ◌≤◌, ◌^◌, IsSome, [], IfOk, slice_get, slice_index_or, map};
+ghost use Rattle.hp_explore.specs.Schedule.{calls_of, plan_of, queues_of};
+
+use crate::script::Script;
+use hp_base::{Op, Task};
+use std::alloc::{AllocError, Global};
+use std::marker::Model;
+
+/// Of a thousand steps how many are denied, and of a thousand turns how many are kills, by chance.
+#[derive(Clone, Copy, Debug, PartialEq, Eq)]
+pub struct Chances {
+    pub deny: u32,
+    pub kill: u32,
+}
+
+/// The calls of each task, in order, and the chances. It is made once, and no run changes it.
+#[derive(Drop)]
+pub(crate) struct Plan {
+    queues: Vec<Vec<Op>>,
+    pub(crate) chances: Chances,
+}
+
+impl Model for Plan {
+    ghost use Rattle.std.specs.Prelude.{map};
+    ghost use Rattle.hp_explore.specs.Schedule as schedule;
+
+    ghost Value = { schedule.Plan };
+
+    ghost view = { λ p. record {
+      queues = map (λ v. v.items) p.queues.items;
+      deny = p.chances.deny;
+      kill = p.chances.kill;
+    } };
+}
+
+impl Plan {
+    pub(crate) fn new(alloc: Global, script: &Script, chances: Chances) -> Result<Plan, AllocError>
+        ensures { IfOk result (λ plan. plan ≡ plan_of script.now chances.deny chances.kill) }
+    {
+        let queues = queues_of(alloc, script.calls.as_slice(), script.config.tasks)?;
+        Ok(Plan { queues, chances })
+    }
+
+    /// The call of the task at this place.
+    pub(crate) fn call(&self, task: u32, place: usize) -> Option<Op>
+        requires { 1 ≤ task }
+        ensures call { result ≡ slice_get (slice_index_or self.now.queues (task - 1) []) place }
+        ensures more { IsSome result → place + 1 < 2 ^ 64 }
+    {
+        let queue = self.queues.get(task as usize - 1)?;
+        queue.get(place).copied()
+    }
+}
+
+fn queues_of(alloc: Global, lines: &[(Task, Op)], tasks: u32) -> Result<Vec<Vec<Op>>, AllocError>
+    requires { tasks ≤ 64 }
+    ensures { IfOk result (λ v. map (λ q. q.items) v.items ≡ queues_of lines.now tasks) }
+{
+    let mut queues = Vec::new(alloc);
+    for task in 1..tasks + 1 {
+        queues.push(calls_of(alloc, lines, Task::new(task))?)?;
+    }
+    Ok(queues)
+}
+
+fn calls_of(alloc: Global, lines: &[(Task, Op)], task: Task) -> Result<Vec<Op>, AllocError>
+    ensures { IfOk result (λ v. v.items ≡ calls_of lines.now task) }
+{
+    lines
+        .iter()
+        .filter(|line| line.0 == task)
+        .map(|line| line.1)
+        .collect(alloc)
+}

@@ -1,0 +1,154 @@
+//! The lines of a script's explored runs, and one of them as a trace.
+ghost use Rattle.std.specs.Prelude.{◌≡◌, ◌≤◌, ◌<◌, ◌+◌, ◌^◌, ◌&&◌, IfOk, IfErr, All, length};
+ghost use Rattle.std.specs.List.{AllZip, list_all, range_with_len};
+ghost use Rattle.hp_base.specs.Text.{sizes};
+ghost use Rattle.hp_explore.specs.Explored.{EndsWell, IsExplored, IsLine};
+ghost use Rattle.hp_explore.specs.declared.line.RunLine.{RunLine};
+ghost use Rattle.hp_replay.specs.RunLines.{is_finished, WroteRuns, WroteSomeRuns};
+ghost use Rattle.hp_replay.specs.Streams.{TellsWrites};
+ghost use Rattle.hp_replay.specs.Writing.{IsWriteFault};
+
+use crate::fault::ReplayFault;
+use crate::run_lines::write_lines;
+use crate::streams::Sink;
+use crate::trace::{MOST_EVENTS, Trace};
+use hp_explore::{Chances, Finish, RunLine, Script, explore_audited, explore_runs};
+use std::alloc::{AllocError, Global};
+use std::thread::Threads;
+
+/// Which runs of a script are explored, and how.
+#[derive(Clone, Copy, Debug, PartialEq, Eq)]
+pub struct Exploration {
+    /// Run k goes by the generator that is seeded with this and k.
+    pub seed: u64,
+    pub runs: u32,
+    pub chances: Chances,
+    /// Whether the audit is run on every turn; it passes, so the lines are the same.
+    pub audited: bool,
+}
+
+/// How many runs are explored before their lines are written.
+const PART: u32 = 512;
+
+/// The lines of the runs 0 to `runs - 1`, in order. Run k goes by the generator that is seeded with `seed + k`, wrapping; of a
+/// thousand steps `deny` are denied, by chance. However many threads there are, the lines are the same.
+pub fn explore(
+    rt: &(impl Threads + Sync),
+    alloc: Global,
+    script: &Script,
+    seed: u64,
+    runs: u32,
+    deny: u32,
+) -> Result<Vec<RunLine>, ReplayFault>
+    ensures lines { IfOk result (λ lines. AllZip (IsLine script.now seed deny 0) (range_with_len 0 runs) lines.items) }
+    ensures ends { IfOk result (λ lines. All (λ line. EndsWell line.finish) lines.items) }
+    ensures memory { IfErr result (λ fault. fault ≡ ReplayFault.Memory) }
+{
+    explore_hostile(rt, alloc, script, seed, runs, deny, 0)
+}
+
+/// The same, where of a thousand turns `kill` are kills, by chance.
+pub fn explore_hostile(
+    rt: &(impl Threads + Sync),
+    alloc: Global,
+    script: &Script,
+    seed: u64,
+    runs: u32,
+    deny: u32,
+    kill: u32,
+) -> Result<Vec<RunLine>, ReplayFault>
+    ensures lines { IfOk result (λ lines. AllZip (IsLine script.now seed deny kill) (range_with_len 0 runs) lines.items) }
+    ensures ends { IfOk result (λ lines. All (λ line. EndsWell line.finish) lines.items) }
+    ensures memory { IfErr result (λ fault. fault ≡ ReplayFault.Memory) }
+{
+    let chances = Chances { deny, kill };
+    match explore_runs(rt, alloc, script, seed, 0, runs, chances) {
+        Ok(lines) => Ok(lines),
+        Err(_) => Err(ReplayFault::Memory),
+    }
+}
+
+/// The lines of some of the runs.
+fn explore_part(
+    rt: &(impl Threads + Sync),
+    alloc: Global,
+    script: &Script,
+    exploration: Exploration,
+    first: u32,
+    runs: u32,
+) -> Result<Vec<RunLine>, AllocError>
+    requires { first + runs < 2 ^ 32 }
+    ensures { IfOk result (λ lines. AllZip (IsLine script.now exploration.seed exploration.chances.deny exploration.chances.kill)
+        (range_with_len first runs) lines.items) }
+{
+    let Exploration {
+        seed,
+        chances,
+        audited,
+        ..
+    } = exploration;
+    if audited {
+        explore_audited(rt, alloc, script, seed, first, runs, chances)
+    } else {
+        explore_runs(rt, alloc, script, seed, first, runs, chances)
+    }
+}
+
+/// Whether all runs came to their ends.
+fn are_finished(lines: &[RunLine]) -> bool
+    ensures { result ≡ list_all is_finished lines.now }
+{
+    lines.iter().all(|line| line.finish == Finish::Finished)
+}
+
+fn both(a: bool, b: bool) -> bool
+    ensures { result ≡ (a && b) }
+{
+    a && b
+}
+
+/// Explores some hundreds of runs at a time, in order, and writes their lines before it goes on: so whoever reads them sees
+/// how far it is, and memory is taken for one part alone. Tells whether all runs came to their ends.
+pub fn write_explored<W: Sink>(
+    rt: &(impl Threads + Sync),
+    alloc: Global,
+    script: &Script,
+    exploration: Exploration,
+    writer: &mut W,
+) -> Result<bool, ReplayFault>
+    ensures ok { IfOk result (λ finished. WroteRuns script.now exploration finished (W.contents writer.old) (W.contents writer.new)) }
+    ensures err { IfErr result (λ fault. IsWriteFault fault
+        × WroteSomeRuns script.now exploration (W.contents writer.old) (W.contents writer.new)) }
+    ensures writes { TellsWrites result (W.failed writer.old) (W.failed writer.new) }
+{
+    let mut first = 0;
+    let mut finished = true;
+    while first < exploration.runs {
+        let runs = (exploration.runs - first).min(PART);
+        let lines = explore_part(rt, alloc, script, exploration, first, runs)?;
+        write_lines(alloc, lines.as_slice(), writer)?;
+        finished = both(finished, are_finished(lines.as_slice()));
+        first += runs;
+    }
+    Ok(finished)
+}
+
+/// The trace of run 0: whoever replays it sees that run, to the counts that its line tells.
+pub fn schedule(
+    alloc: Global,
+    script: &Script,
+    seed: u64,
+    deny: u32,
+    kill: u32,
+) -> Result<Trace, ReplayFault>
+    ensures line { IfOk result (λ trace. (line : RunLine) × IsExplored script.now seed deny kill 0 trace.events.items line) }
+    ensures config { IfOk result (λ trace. sizes trace.config ≡ sizes script.now.config) }
+    ensures few { IfOk result (λ trace. length trace.events.items ≤ MOST_EVENTS) }
+    ensures memory { IfErr result (λ fault. fault ≡ ReplayFault.Memory) }
+{
+    let events = hp_explore::schedule(alloc, script, seed, Chances { deny, kill })?;
+    Ok(Trace {
+        config: script.config,
+        events,
+    })
+}

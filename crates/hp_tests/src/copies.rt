@@ -1,0 +1,116 @@
+//! Copies of a pool beside their source.
+use hp_base::{Answer, Config, Event, File, Index, Op, Task, Vpn};
+use hp_core::{Core, Life, Outcome};
+use std::alloc::{AllocError, Global};
+use std::process::Abort;
+use std::test::Fail;
+
+// Begins a call and steps it until it ends, within 64 steps.
+fn call(core: &mut Core, task: Task, op: Op) -> Result<Option<Answer>, AllocError> {
+    core.step(Event::Begin(task, op))?;
+    for _ in 0..64 {
+        if let Outcome::Ended(answer) = core.step(Event::Step(task, true))? {
+            return Ok(Some(answer));
+        }
+    }
+    Ok(None)
+}
+
+// Of six frames two are retired, a task has stored to one of two pages that it has mapped, another has none left for its
+// own map and is dead.
+fn some_calls(alloc: Global) -> Result<Core, Fail> {
+    let mut core = Core::new(alloc, Config::new(6, 2, 4, 2)?.with_quota(3)?)?;
+    let (one, two) = (Task::new(1), Task::new(2));
+    // The checker of borrows asks for a mention of the type that an outcome may hold.
+    let _none: Option<Answer> = None;
+    core.step(Event::Resize(4))?;
+    let (file, other) = (File::new(0), File::new(1));
+    let from = Index::new(1);
+    let vpn = Vpn::new(1);
+    call(&mut core, one, Op::Map { file, from, len: 2 })?;
+    call(&mut core, one, Op::Store { vpn, word: 41 })?;
+    call(
+        &mut core,
+        two,
+        Op::Map {
+            file: other,
+            from,
+            len: 2,
+        },
+    )?;
+    call(&mut core, two, Op::Exit)?;
+    Ok(core)
+}
+
+// What the readers of the whole pool tell.
+fn compare(rt: &impl Abort, copy: &Core, source: &Core) {
+    assert_eq!(rt; copy.tally(), source.tally());
+    assert_eq!(rt; copy.config(), source.config());
+    assert_eq!(rt;
+        (copy.frames(), copy.used(), copy.quota(), copy.calls()),
+        (
+            source.frames(),
+            source.used(),
+            source.quota(),
+            source.calls()
+        )
+    );
+}
+
+#[test]
+fn a_copy_is_compared_with_its_source(rt: HostRuntime) -> Result<(), Fail> {
+    let source = some_calls(rt.alloc())?;
+    assert_eq!(rt; source.calls(), 0);
+    let copy = source.copy(rt.alloc())?;
+    compare(&rt, &copy, &source);
+    assert_eq!(rt; (copy.free(), copy.resv(), copy.used()), (3, 1, 2));
+    Ok(())
+}
+
+#[test]
+fn a_copys_picture_is_compared_with_its_sources(rt: HostRuntime) -> Result<(), Fail> {
+    let source = some_calls(rt.alloc())?;
+    assert_eq!(rt; source.calls(), 0);
+    let copy = source.copy(rt.alloc())?;
+    let (here, there) = (copy.picture(rt.alloc())?, source.picture(rt.alloc())?);
+    assert_eq!(rt; (here.retired.len(), here.tables.len()), (2, 1));
+    assert!(rt; here == there);
+    Ok(())
+}
+
+#[test]
+fn a_copys_tasks_are_compared_with_its_sources(rt: HostRuntime) -> Result<(), Fail> {
+    let source = some_calls(rt.alloc())?;
+    assert_eq!(rt; source.calls(), 0);
+    let copy = source.copy(rt.alloc())?;
+    assert_eq!(rt; copy.config().tasks, 2);
+    assert_eq!(rt; source.config().tasks, 2);
+    for task in [Task::new(1), Task::new(2)] {
+        assert_eq!(rt; copy.life(task), source.life(task));
+        assert_eq!(rt;
+            (copy.mappings(task), copy.entries(task)),
+            (source.mappings(task), source.entries(task))
+        );
+    }
+    assert_eq!(rt; copy.life(Task::new(2)), Life::Dead);
+    Ok(())
+}
+
+// The word that the first task loads.
+fn load(core: &mut Core) -> Result<Option<Answer>, AllocError> {
+    let vpn = Vpn::new(1);
+    call(core, Task::new(1), Op::Load { vpn })
+}
+
+#[test]
+fn a_copy_goes_on_apart(rt: HostRuntime) -> Result<(), Fail> {
+    let mut source = some_calls(rt.alloc())?;
+    assert_eq!(rt; source.calls(), 0);
+    let mut copy = source.copy(rt.alloc())?;
+    let vpn = Vpn::new(1);
+    let stored = call(&mut source, Task::new(1), Op::Store { vpn, word: 42 })?;
+    assert_eq!(rt; stored, Some(Answer::Done));
+    assert_eq!(rt; load(&mut copy)?, Some(Answer::Word(41)));
+    assert_eq!(rt; load(&mut source)?, Some(Answer::Word(42)));
+    Ok(())
+}

@@ -1,0 +1,101 @@
+-- What the program does where a script or a trace to check is asked for.
+use Rattle.std.specs.Prelude.{◌≡◌, ℕ, List, [], ◌∷◌, ◌++◌, Option, Some, None, ◌⊎◌, Bool, true, false, IfSome, Result, Ok, Err, map, codes}
+use Rattle.std.specs.Io.KnownBytes.{Appends, Keeps}
+use Rattle.hp_base.specs.Text.{sizes}
+use Rattle.hp_base.specs.declared.event.Event.{Event}
+use Rattle.hp_explore.specs.Explored.{IsExplored}
+use Rattle.hp_explore.specs.declared.line.RunLine.{RunLine}
+use Rattle.hp_explore.specs.declared.script.Script.{Script}
+use Rattle.hp_replay.specs.declared.fault.ReplayFault.{ReplayFault}
+use Rattle.hp_replay.specs.Checking.{ReadsEvents, count_line}
+use Rattle.hp_replay.specs.Collecting.{ReadsTrace}
+use Rattle.hp_replay.specs.RunLines.{WroteRuns}
+use Rattle.hp_replay.specs.Scripts.{begin_of, HasScriptFault}
+use Rattle.hp_replay.specs.Traces.{HasFault, trace_text}
+use Rattle.hp_replay.specs.declared.exploring.Exploration.{Exploration}
+use Rattle.hugepool.specs.Endings.{AnsweredElse, AnsweredReplay, ReaderAt}
+use Rattle.hugepool.specs.Status.{status_at}
+use Rattle.hugepool.specs.declared.command.Request.{Request}
+use Rattle.hugepool.specs.declared.command.Request.TheVariants as request
+use Rattle.hugepool.specs.declared.command.Scheduling.{Scheduling}
+use Rattle.hugepool.specs.declared.program.Stop.{Stop}
+use Rattle.hugepool.specs.declared.program.Stop.TheVariants as stop
+
+-- A reader had the bytes `from` left, and now has `to`; an output held `before`, and now holds `after`.
+
+-- a script was read, and a line written for each of its runs; all came to their ends, or some didn't
+pub record Explores (e : Exploration) (finished : Bool) (from to before after : Option (List ℕ)) : Type 0 where
+  pub script : Script
+  pub reads : ReadsTrace from to (sizes script.config) (map begin_of script.calls.items)
+  pub runs : WroteRuns script e finished before after
+
+-- a trace was read, and its number of events written
+pub record Checks (from to before after : Option (List ℕ)) : Type 0 where
+  pub events : ℕ
+  pub reads : ReadsEvents events from to
+  pub wrote : Appends before after (count_line events)
+
+-- a script was read, and the trace of its run 0 written
+pub record Schedules (s : Scheduling) (from to before after : Option (List ℕ)) : Type 0 where
+  pub script : Script
+  pub events : List Event
+  pub line : RunLine
+  pub reads : ReadsTrace from to (sizes script.config) (map begin_of script.calls.items)
+  pub explored : IsExplored script s.seed s.chances.deny s.chances.kill 0 events line
+  pub wrote : Appends before after (trace_text (sizes script.config) events)
+
+-- where the output is there
+abbrev pub IfThere : Option (Option (List ℕ)) → (Option (List ℕ) → Type 0) → Type 0
+IfThere None P = ⊥
+IfThere (Some after) P = P after
+
+-- what is answered where these are done; a fault of reading is told where the reader failed, and a bad line where it is
+abbrev pub AnsweredExplore : Exploration → Result (Unit {0}) Stop → Option (List ℕ) → Option (List ℕ) → Bool → Bool
+    → Option (List ℕ) → Option (Option (List ℕ)) → Type 0
+AnsweredExplore e (Ok x) from to old new before after = (new ≡ old) × IfThere after (Explores e true from to before)
+AnsweredExplore e (Err stop.Unfinished) from to old new before after = (new ≡ old) × IfThere after (Explores e false from to before)
+AnsweredExplore e (Err (stop.Replay fault)) from to old new before after =
+    ReaderAt fault old new × IfSome from (λ bytes. HasScriptFault bytes fault)
+AnsweredExplore e (Err (stop.Usage error)) from to old new before after = ⊥
+AnsweredExplore e (Err (stop.Work fault)) from to old new before after = ⊥
+
+-- the same where no run can be left unfinished
+abbrev pub AnsweredBy : (Option (List ℕ) → Type 0) → (ReplayFault → Type 0) → Result (Unit {0}) Stop → Bool → Bool
+    → Option (Option (List ℕ)) → Type 0
+AnsweredBy Done Bad (Ok x) old new after = (new ≡ old) × IfThere after Done
+AnsweredBy Done Bad (Err stop.Unfinished) old new after = ⊥
+AnsweredBy Done Bad (Err (stop.Replay fault)) old new after = ReaderAt fault old new × Bad fault
+AnsweredBy Done Bad (Err (stop.Usage error)) old new after = ⊥
+AnsweredBy Done Bad (Err (stop.Work fault)) old new after = ⊥
+
+abbrev pub AnsweredCheck : Result (Unit {0}) Stop → Option (List ℕ) → Option (List ℕ) → Bool → Bool
+    → Option (List ℕ) → Option (Option (List ℕ)) → Type 0
+AnsweredCheck answer from to old new before after =
+    AnsweredBy (Checks from to before) (λ fault. IfSome from (λ bytes. HasFault bytes fault)) answer old new after
+
+abbrev pub AnsweredSchedule : Scheduling → Result (Unit {0}) Stop → Option (List ℕ) → Option (List ℕ) → Bool → Bool
+    → Option (List ℕ) → Option (Option (List ℕ)) → Type 0
+AnsweredSchedule s answer from to old new before after =
+    AnsweredBy (Schedules s from to before) (λ fault. IfSome from (λ bytes. HasScriptFault bytes fault)) answer old new after
+
+-- what is answered at each request
+abbrev pub Answered : Request → Result (Unit {0}) Stop → Option (List ℕ) → Option (List ℕ) → Bool → Bool
+    → Option (List ℕ) → Option (Option (List ℕ)) → Type 0
+Answered request.Replay answer from to old new before after = AnsweredReplay answer from to old new before after
+Answered (request.Explore e) answer from to old new before after = AnsweredExplore e answer from to old new before after
+Answered request.Check answer from to old new before after = AnsweredCheck answer from to old new before after
+Answered (request.Schedule s) answer from to old new before after = AnsweredSchedule s answer from to old new before after
+Answered (request.Work words) answer from to old new before after = AnsweredElse answer from to old new before after
+
+-- what the program does: what is answered at some request, or help or a refusal of the words
+abbrev pub Did : Result (Unit {0}) Stop → Option (List ℕ) → Option (List ℕ) → Bool → Bool
+    → Option (List ℕ) → Option (Option (List ℕ)) → Type 0
+Did answer from to old new before after =
+    ((request : Request) × Answered request answer from to old new before after) ⊎ AnsweredElse answer from to old new before after
+
+-- and the status with which it ends
+pub record EndsWith (status : ℕ) (from to : Option (List ℕ)) (old new : Bool) (before : Option (List ℕ))
+    (after : Option (Option (List ℕ))) : Type 0 where
+  pub answer : Result (Unit {0}) Stop
+  pub is : status ≡ status_at answer
+  pub did : Did answer from to old new before after

@@ -1,0 +1,42 @@
+//! `hugepool check`: how many events a trace has.
+ghost use Rattle.std.specs.Prelude.{◌≡◌, Ok, Err, IfOk, IfErr, OnErr, OnOk, Some, IfSome};
+ghost use Rattle.std.specs.Option.{option_map};
+ghost use Rattle.hp_replay.specs.Traces.{HasFault};
+ghost use Rattle.hp_replay.specs.Streams.{TellsReads};
+ghost use Rattle.hugepool.specs.Requests.{AnsweredCheck, Checks};
+
+use crate::program::{Stop, flush_out, flushed_answer, stopped};
+use hp_replay::{ReplayFault, Sink, Source, Watched, check_trace, write_count};
+use std::alloc::Global;
+use std::io::Write;
+
+/// Reads a trace, and writes how many events it has.
+fn count_events<R: Source, W: Sink>(
+    alloc: Global,
+    reader: &mut R,
+    writer: &mut W,
+) -> Result<(), ReplayFault>
+    ensures ok { OnOk result (Checks (R.remaining reader.old) (R.remaining reader.new) (W.contents writer.old) (W.contents writer.new)) }
+    ensures bad { IfErr result (λ fault. IfSome (R.remaining reader.old) (λ bytes. HasFault bytes fault)) }
+    ensures reads { TellsReads result (R.failed reader.old) (R.failed reader.new) }
+{
+    let events = check_trace(reader)?;
+    write_count(alloc, events, writer)
+}
+
+/// Checks a trace, and flushes the line.
+pub(crate) fn run_check<R: Source, W: Write + Drop>(
+    alloc: Global,
+    reader: &mut R,
+    out: W,
+) -> (Result<(), Stop>, Option<W>)
+    ensures { AnsweredCheck result.0 (R.remaining reader.old) (R.remaining reader.new) (R.failed reader.old)
+        (R.failed reader.new) (W.contents out) (option_map W.contents result.1) }
+{
+    let mut sink = Watched::new(out);
+    let counted = count_events(alloc, reader, &mut sink);
+    let has_failed = sink.has_failed();
+    let mut out = sink.into_inner();
+    let flushed = flush_out(has_failed, &mut out);
+    (stopped(flushed_answer(counted, flushed)), Some(out))
+}

@@ -1,0 +1,65 @@
+//! `hugepool explore`: a line for each run of a script.
+ghost use Rattle.std.specs.Prelude.{◌≡◌, Ok, Err, true, false, IfOk, IfErr, OnErr, OnOk, Some, IfSome};
+ghost use Rattle.std.specs.Io.KnownBytes.{Keeps};
+ghost use Rattle.std.specs.Option.{option_map};
+ghost use Rattle.hp_replay.specs.Scripts.{HasScriptFault};
+ghost use Rattle.hp_replay.specs.Streams.{TellsReads};
+ghost use Rattle.hugepool.specs.Requests.{AnsweredExplore, Explores};
+
+use crate::program::{Stop, flush_out};
+use hp_replay::{Exploration, ReplayFault, Sink, Source, Watched, read_script, write_explored};
+use std::alloc::Global;
+use std::io;
+use std::io::Write;
+use std::thread::Threads;
+
+/// Reads a script, and writes a line for each run.
+fn explore_script<R: Source, W: Sink>(
+    rt: &(impl Threads + Sync),
+    alloc: Global,
+    exploration: Exploration,
+    reader: &mut R,
+    writer: &mut W,
+) -> Result<bool, ReplayFault>
+    ensures ok { IfOk result (λ finished. Explores exploration finished (R.remaining reader.old) (R.remaining reader.new)
+        (W.contents writer.old) (W.contents writer.new)) }
+    ensures bad { IfErr result (λ fault. IfSome (R.remaining reader.old) (λ bytes. HasScriptFault bytes fault)) }
+    ensures reads { TellsReads result (R.failed reader.old) (R.failed reader.new) }
+{
+    let script = read_script(alloc, reader)?;
+    write_explored(rt, alloc, &script, exploration, writer)
+}
+
+/// What is answered once the lines are written. A flush that fails is a failed write.
+fn explored_answer(explored: Result<bool, ReplayFault>, flushed: io::Result<()>) -> Result<(), Stop>
+    ensures failed { OnErr flushed (result ≡ Err (Stop.Replay ReplayFault.Write)) }
+    ensures fault { OnOk flushed (IfErr explored (λ fault. result ≡ Err (Stop.Replay fault))) }
+    ensures finished { OnOk flushed (explored ≡ Ok true → result ≡ Ok tt) }
+    ensures unfinished { OnOk flushed (explored ≡ Ok false → result ≡ Err Stop.Unfinished) }
+{
+    match (flushed, explored) {
+        (Err(_), _) => Err(Stop::Replay(ReplayFault::Write)),
+        (Ok(()), Err(fault)) => Err(Stop::Replay(fault)),
+        (Ok(()), Ok(true)) => Ok(()),
+        (Ok(()), Ok(false)) => Err(Stop::Unfinished),
+    }
+}
+
+/// Explores a script, and flushes the lines.
+pub(crate) fn run_explore<R: Source, W: Write + Drop>(
+    rt: &(impl Threads + Sync),
+    alloc: Global,
+    exploration: Exploration,
+    reader: &mut R,
+    out: W,
+) -> (Result<(), Stop>, Option<W>)
+    ensures { AnsweredExplore exploration result.0 (R.remaining reader.old) (R.remaining reader.new) (R.failed reader.old)
+        (R.failed reader.new) (W.contents out) (option_map W.contents result.1) }
+{
+    let mut sink = Watched::new(out);
+    let explored = explore_script(rt, alloc, exploration, reader, &mut sink);
+    let has_failed = sink.has_failed();
+    let mut out = sink.into_inner();
+    let flushed = flush_out(has_failed, &mut out);
+    (explored_answer(explored, flushed), Some(out))
+}
