@@ -6,6 +6,7 @@ pub mod Duplicates
 pub mod FilePictures
 pub mod Headlines
 pub mod HeldBack
+pub mod InFlight
 pub mod Meets
 pub mod Opens
 pub mod Order

@@ -1,0 +1,207 @@
+//! What lies under the lock.
+ghost use Rattle.std.specs.Prelude.{◌≡◌, ◌+◌, ◌<◌, ◌^◌, ◌≤◌, ◌++◌, [], ℕ, List, IfOk, OnErr, Some, None, MatchResult, MatchBool, true, false, length};
+ghost use Rattle.hp_base.specs.Text.{sizes};
+ghost use Rattle.hp_core.specs.Readers.{config_of, free_of, resv_of, all_reserved_of, all_pages_of};
+ghost use Rattle.hp_core.specs.Runs.{Row, IsOpening, IsIdle, Headline};
+ghost use Rattle.hp_core.specs.State.{CoreState, as_state};
+ghost use Rattle.hp_core.specs.Waiting.{WaitsFor};
+ghost use Rattle.hp_machine.specs.declared.outcome.Outcome.{Outcome};
+ghost use Rattle.hp_shared.specs.Calls.{IsOwn};
+ghost use Rattle.hp_shared.specs.Closing.{ClosesWith};
+ghost use Rattle.hp_shared.specs.Journal.{gained, is_made, IsOutcomeOf, Follows, IsFromOpening, Interleaves, FirstFailsAt};
+ghost use Rattle.hp_shared.specs.Seats.{lists_of};
+ghost use Rattle.hp_shared.specs.States.{PoolState, next, pool_with, seat_with};
+ghost use Rattle.hp_shared.specs.declared.entry.Entry.{Entry};
+
+use crate::entry::Entry;
+use crate::order::compare;
+use crate::seat::Seat;
+use hp_base::{Config, Event, Task};
+use hp_core::{Core, Outcome, Tally};
+use std::alloc::{AllocError, Global};
+use std::marker::Model;
+use std::sync::ledger::{Book, Ledger};
+
+/// The core, the journal of all that changed it since the last cut, and the book of the ledger that counts all entries.
+#[derive(Drop)]
+pub struct Pool<L: Ledger> {
+    pub(crate) core: Core,
+    // as the core was at the last cut
+    pub(crate) start: Core,
+    // how many entries were made up to that cut
+    pub(crate) first: u64,
+    pub(crate) journal: Vec<Entry>,
+    pub(crate) book: Book<L>,
+}
+
+impl<L: Ledger> Model for Pool<L> {
+    ghost use Rattle.std.specs.Prelude.{◌≡◌, ◌+◌, ◌<◌, ◌^◌, ℕ, List, length};
+    ghost use Rattle.std.specs.Coded.{codes, coded_ℕ};
+    ghost use Rattle.std.specs.FinMap as map;
+    ghost use Rattle.std.specs.Ordering.{nat_cmp};
+    ghost use Rattle.hp_shared.specs.States.{PoolState};
+    ghost use Rattle.hp_shared.specs.Journal.{Follows, IsFromOpening};
+    ghost use Rattle.hp_shared.specs.declared.entry.Entry.{Entry};
+
+    ghost Value = { PoolState };
+
+    ghost coded = { Prim.hlevel (codes, map.code {R = nat_cmp} coded_ℕ coded_ℕ) };
+
+    ghost view = { λ p. record {
+      core = p.core;
+      start = p.start;
+      first = p.first;
+      journal = p.journal.items;
+      entries = p.book.total;
+    } };
+
+    ghost invariant = { λ p. record {
+      origin : (earlier : List Entry) × (length earlier ≡ p.first) × IsFromOpening earlier p.start;
+      run : Follows p.start p.journal.items p.core;
+      counted : p.book.total ≡ p.first + length p.journal.items;
+      bound : p.first < 2 ^ 63;
+    } };
+}
+
+impl<L: Ledger> Pool<L> {
+    // A pool that nothing has happened to.
+    pub(crate) fn new(alloc: Global, config: Config, book: Book<L>) -> Result<Pool<L>, AllocError>
+        requires { book.total ≡ 0 }
+        ensures opening { IfOk result (λ pool. IsOpening config pool.core) }
+        ensures journal { IfOk result (λ pool. pool.journal ≡ []) }
+        ensures first { IfOk result (λ pool. pool.first ≡ 0) }
+    {
+        let core = Core::new(alloc, config)?;
+        let start = core.copy(alloc)?;
+        Ok(Pool {
+            core,
+            start,
+            first: 0,
+            journal: Vec::new(alloc),
+            book,
+        })
+    }
+
+    /// One event of the core, in one hold: its entry is the journal's and the seat's last. An event that is blocked or
+    /// refused changes nothing, and is told so whatever memory there is; nor does anything change where memory is wanted.
+    pub fn advance(&mut self, seat: &mut Seat<L>, event: Event) -> Result<Outcome, AllocError>
+        requires { IsOwn seat.old.task event }
+        ensures row { IfOk result (λ told. Row self.old.core event told self.new.core) }
+        ensures pool { IfOk result (λ told. self.new ≡ pool_with self.old event told self.new.core) }
+        ensures seat { IfOk result (λ told. seat.new ≡ seat_with seat.old (next self.old) event told) }
+        ensures held { IfOk result (λ told. is_made told ≡ false → (self.new ≡ self.old) × (seat.new ≡ seat.old)) }
+        ensures kind { IfOk result (λ told. IsOutcomeOf event told) }
+        ensures err { OnErr result ((self.new ≡ self.old) × (seat.new ≡ seat.old)) }
+        ensures wanted { OnErr result ((told : Outcome) → Row self.old.core event told self.old.core → IsIdle told → ⊥) }
+    {
+        self.advance_by(seat, &event)
+    }
+
+    // The same of an event that is lent.
+    fn advance_by(&mut self, seat: &mut Seat<L>, event: &Event) -> Result<Outcome, AllocError>
+        requires { IsOwn seat.old.task event.now }
+        ensures row { IfOk result (λ told. Row self.old.core event.now told self.new.core) }
+        ensures pool { IfOk result (λ told. self.new ≡ pool_with self.old event.now told self.new.core) }
+        ensures seat { IfOk result (λ told. seat.new ≡ seat_with seat.old (next self.old) event.now told) }
+        ensures held { IfOk result (λ told. is_made told ≡ false → (self.new ≡ self.old) × (seat.new ≡ seat.old)) }
+        ensures kind { IfOk result (λ told. IsOutcomeOf event.now told) }
+        ensures err { OnErr result ((self.new ≡ self.old) × (seat.new ≡ seat.old)) }
+        ensures wanted { OnErr result ((told : Outcome) → Row self.old.core event.now told self.old.core → IsIdle told → ⊥) }
+    {
+        if let Some(outcome) = self.core.held_back(*event) {
+            return Ok(outcome);
+        }
+        self.journal.reserve(1)?;
+        seat.list.reserve(1)?;
+        let outcome = self.core.step(*event)?;
+        let entry = Entry {
+            position: self.first + self.journal.len() as u64,
+            event: *event,
+            outcome,
+        };
+        let kept = &entry;
+        self.journal.push_reserved(*kept);
+        seat.list.push_reserved(*kept);
+        seat.progress.note(kept);
+        self.book.add(&mut seat.share, 1);
+        Ok(kept.outcome)
+    }
+
+    /// What holds of every pool, whenever its lock is free: the headline of its core; the journal's events, with their
+    /// outcomes, lead from the core of the last cut to this one; the entries before led to that one from an opening
+    /// state; and the book counts them all. There is nothing to run.
+    pub fn always(&self)
+        ensures headline { Headline self.now.core }
+        ensures run { Follows self.now.start self.now.journal self.now.core }
+        ensures origin { (earlier : List Entry) × (length earlier ≡ self.now.first) × IsFromOpening earlier self.now.start }
+        ensures entries { self.now.entries ≡ next self.now }
+    {
+        self.core.always();
+    }
+
+    /// Whether another task's call holds up the next step of this task.
+    pub fn holds_up(&self, task: Task) -> bool
+        ensures { MatchBool result
+            ((holder : ℕ) × WaitsFor self.now.core task (Some holder))
+            (1 ≤ task → task ≤ (config_of self.now.core).tasks → WaitsFor self.now.core task None) }
+    {
+        let number = task.number();
+        if number == 0 {
+            return false;
+        }
+        if number > self.core.config().tasks {
+            return false;
+        }
+        self.core.waits_for(task).is_some()
+    }
+
+    /// The numbers of the pool as a whole.
+    pub fn tally(&self) -> Tally
+        ensures free { result.free ≡ free_of self.now.core }
+        ensures resv { result.resv ≡ resv_of self.now.core }
+        ensures reserved { result.reserved ≡ all_reserved_of self.now.core }
+        ensures pages { result.pages ≡ all_pages_of self.now.core }
+    {
+        self.core.tally()
+    }
+
+    // Whether the journal is an interleaving of the seats' lists, or the position at which it first fails to be one.
+    pub(crate) fn compare(
+        &self,
+        alloc: Global,
+        seats: &[Seat<L>],
+    ) -> Result<Result<(), u64>, AllocError>
+        ensures { IfOk result (λ told. MatchResult told
+            (λ _. Interleaves self.now.first self.now.journal (lists_of seats.now))
+            (FirstFailsAt self.now.first self.now.journal (lists_of seats.now))) }
+    {
+        compare(alloc, self.first, self.journal.as_slice(), seats)
+    }
+
+    // The core, and the number of all entries.
+    pub(crate) fn into_closed(self) -> Closed
+        ensures core { result.core ≡ self.core }
+        ensures entries { result.entries ≡ next self }
+        ensures run { Follows self.start self.journal self.core }
+        ensures origin { (earlier : List Entry) × (length earlier ≡ self.first) × IsFromOpening earlier self.start }
+    {
+        let Pool {
+            core,
+            start: _,
+            first,
+            journal,
+            book: _,
+        } = self;
+        Closed {
+            core,
+            entries: first + journal.len() as u64,
+        }
+    }
+}
+
+/// What is left of a pool that was closed: its core, and how many entries were made in all.
+#[derive(Drop)]
+pub struct Closed {
+    pub core: Core,
+    pub entries: u64,
+}

@@ -1,0 +1,210 @@
+//! The running pool: one lock, one condition variable, and a seat for each task.
+ghost use Rattle.std.specs.Prelude.{◌≡◌, ◌+◌, ◌<◌, ◌≤◌, ℕ, length, map, IfOk, IfErr, OnOk, OnErr, MatchOption, true, false, Some, slice_get};
+ghost use Rattle.hp_base.specs.Text.{sizes};
+ghost use Rattle.hp_shared.specs.Journal.{IsOutcomeOf, Interleaves};
+ghost use Rattle.hp_shared.specs.Calls.{IsOwn};
+ghost use Rattle.hp_shared.specs.Closing.{ClosesWith, RefusesClose, IsDisagree};
+ghost use Rattle.hp_shared.specs.Cutting.{emptied};
+ghost use Rattle.hp_shared.specs.Seats.{new_seat, has_seat as seated, AllSeated, LeastMissing, lists_of};
+ghost use Rattle.hp_shared.specs.States.{seat_with};
+
+use crate::cutting::Part;
+use crate::fault::{CallFault, CloseFault, CutFault};
+use crate::pool::{Closed, Pool};
+use crate::seat::Seat;
+use hp_base::{Config, Event, Task};
+use hp_core::{Outcome, Tally};
+use std::alloc::{AllocError, Global};
+use std::sync::ledger::{Blank, Ledger};
+use std::sync::{Condvar, Mutex, Wait};
+
+/// A pool that many threads use.
+#[derive(Drop)]
+pub struct Shared<L: Ledger> {
+    pub(crate) tasks: u32,
+    pub(crate) pool: Mutex<Pool<L>>,
+    pub(crate) moved: Condvar,
+}
+
+/// Why a pool wasn't closed, with the pool and the seats. After `Disagree` they aren't handed back.
+#[derive(Drop)]
+pub struct CloseRefused<L: Ledger> {
+    pub fault: CloseFault,
+    pub back: Option<(Shared<L>, Vec<Seat<L>>)>,
+}
+
+/// A way to make one event of a pool, and to wait for its next.
+pub trait Hold<L: Ledger> {
+    /// One event, in one hold of the lock. `position` is that of its entry.
+    fn attempt<R: Wait>(
+        &self,
+        rt: &R,
+        seat: &mut Seat<L>,
+        event: Event,
+    ) -> Result<Outcome, CallFault>
+        requires { IsOwn seat.old.task event }
+        ensures kind { IfOk result (λ told. IsOutcomeOf event told) }
+        ensures seat { IfOk result (λ told. (position : ℕ) × (seat.new ≡ seat_with seat.old position event told)) }
+        ensures err { IfErr result (λ fault. (fault ≡ CallFault.Memory false) × (seat.new ≡ seat.old)) };
+
+    /// Waits while another task's call holds up the next step of the seat's task. It makes no step.
+    fn pause<R: Wait>(&self, rt: &R, seat: &Seat<L>);
+}
+
+impl<L: Ledger> Hold<L> for Shared<L> {
+    fn attempt<R: Wait>(
+        &self,
+        rt: &R,
+        seat: &mut Seat<L>,
+        event: Event,
+    ) -> Result<Outcome, CallFault> {
+        let Ok(outcome) = self.pool.lock(rt).advance(seat, event) else {
+            return Err(CallFault::Memory { begun: false });
+        };
+        if !matches!(outcome, Outcome::Blocked(_) | Outcome::Refused(_)) {
+            self.moved.notify_all();
+        }
+        Ok(outcome)
+    }
+
+    fn pause<R: Wait>(&self, rt: &R, seat: &Seat<L>) {
+        let task = seat.task();
+        self.moved
+            .wait_while(rt, self.pool.lock(rt), |pool| pool.holds_up(task));
+    }
+}
+
+impl<L: Ledger> Shared<L> {
+    /// A new pool of these sizes, and a seat for each of its tasks, in order. The ledger's blank has as many parts as
+    /// there are tasks.
+    pub fn new(
+        alloc: Global,
+        blank: Blank,
+        config: Config,
+    ) -> Result<(Shared<L>, Vec<Seat<L>>), AllocError>
+        requires name { blank.name ≡ L.name }
+        requires parts { (blank.parts ≡ L.parts) × (blank.parts ≡ config.tasks) }
+        ensures tasks { IfOk result (λ made. made.0.tasks ≡ config.tasks) }
+        ensures count { IfOk result (λ made. length made.1.items ≡ config.tasks) }
+        ensures seats { IfOk result (λ made. (k : ℕ) → k < config.tasks → slice_get made.1.items k ≡ Some (new_seat (k + 1))) }
+    {
+        let (book, mut rest) = blank.open::<L>();
+        let pool = Pool::new(alloc, config, book)?;
+        let mut seats = Vec::new(alloc);
+        for number in 0..config.tasks {
+            let task = Task::new(number + 1);
+            let seat = Seat::new(alloc, task, rest.split_off(1, 0));
+            seats.push(seat)?;
+        }
+        let shared = Shared {
+            tasks: config.tasks,
+            pool: Mutex::new(pool),
+            moved: Condvar::new(),
+        };
+        Ok((shared, seats))
+    }
+
+    /// Kills a task.
+    pub fn kill<R: Wait>(
+        &self,
+        rt: &R,
+        seat: &mut Seat<L>,
+        task: Task,
+    ) -> Result<Outcome, CallFault>
+        ensures kind { IfOk result (λ told. IsOutcomeOf (Event.Kill task) told) }
+        ensures seat { IfOk result (λ told. (position : ℕ) × (seat.new ≡ seat_with seat.old position (Event.Kill task) told)) }
+        ensures err { IfErr result (λ fault. (fault ≡ CallFault.Memory false) × (seat.new ≡ seat.old)) }
+    {
+        self.attempt(rt, seat, Event::Kill(task))
+    }
+
+    /// Tells the pool how many frames it is to have.
+    pub fn resize<R: Wait>(
+        &self,
+        rt: &R,
+        seat: &mut Seat<L>,
+        frames: u32,
+    ) -> Result<Outcome, CallFault>
+        ensures kind { IfOk result (λ told. IsOutcomeOf (Event.Resize frames) told) }
+        ensures seat { IfOk result (λ told. (position : ℕ) × (seat.new ≡ seat_with seat.old position (Event.Resize frames) told)) }
+        ensures err { IfErr result (λ fault. (fault ≡ CallFault.Memory false) × (seat.new ≡ seat.old)) }
+    {
+        self.attempt(rt, seat, Event::Resize(frames))
+    }
+
+    /// The numbers of the pool, read in one hold that changes nothing.
+    pub fn tally<R: Wait>(&self, rt: &R) -> Tally {
+        self.pool.lock(rt).tally()
+    }
+
+    /// Cuts the journal, in one hold: see `Pool::cut`. It hands out the entries since the last cut, which interleave the
+    /// seats' lists.
+    pub fn cut<R: Wait>(
+        &self,
+        rt: &R,
+        alloc: Global,
+        seats: &mut [Seat<L>],
+    ) -> Result<Part, CutFault>
+        ensures part { IfOk result (λ part. Interleaves part.first part.entries.items (lists_of seats.old)) }
+        ensures seats { OnOk result (seats.new ≡ map emptied seats.old) }
+        ensures err { OnErr result (seats.new ≡ seats.old) }
+    {
+        self.pool.lock(rt).cut(alloc, seats)
+    }
+
+    /// Ends the pool, where the seats are all there and their lists make up one run. It asks first whether a seat is
+    /// missing.
+    pub fn close(self, alloc: Global, seats: Vec<Seat<L>>) -> Result<Closed, CloseRefused<L>>
+        ensures seated { OnOk result (AllSeated self.tasks seats.items) }
+        ensures run { IfOk result (λ closed. ClosesWith seats.items closed.core closed.entries) }
+        ensures refused { IfErr result (λ refused. RefusesClose self.tasks seats.items refused.fault) }
+        ensures back { IfErr result (λ refused. MatchOption refused.back (IsDisagree refused.fault)
+            (λ back. (back.0.tasks ≡ self.tasks) × (back.1 ≡ seats))) }
+    {
+        if let Some(task) = missing_seat(self.tasks, seats.as_slice()) {
+            return Err(CloseRefused {
+                fault: CloseFault::SeatMissing(task),
+                back: Some((self, seats)),
+            });
+        }
+        let Shared { tasks, pool, moved } = self;
+        let pool = pool.into_inner();
+        match pool.compare(alloc, seats.as_slice()) {
+            Ok(Ok(())) => Ok(pool.into_closed()),
+            Ok(Err(position)) => Err(CloseRefused {
+                fault: CloseFault::Disagree(position),
+                back: None,
+            }),
+            Err(AllocError) => {
+                let shared = Shared {
+                    tasks,
+                    pool: Mutex::new(pool),
+                    moved,
+                };
+                Err(CloseRefused {
+                    fault: CloseFault::Memory,
+                    back: Some((shared, seats)),
+                })
+            }
+        }
+    }
+}
+
+// The least task without a seat.
+pub(crate) fn missing_seat<L: Ledger>(tasks: u32, seats: &[Seat<L>]) -> Option<Task>
+    ensures { MatchOption result (AllSeated tasks seats.now) (λ task. LeastMissing tasks seats.now task) }
+{
+    for number in 0..tasks {
+        let task = Task::new(number + 1);
+        if !has_seat(seats, task) {
+            return Some(task);
+        }
+    }
+    None
+}
+
+fn has_seat<L: Ledger>(seats: &[Seat<L>], task: Task) -> bool
+    ensures { result ≡ seated task seats.now }
+{
+    seats.iter().any(|seat| seat.task() == task)
+}
