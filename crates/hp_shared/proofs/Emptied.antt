@@ -1,5 +1,6 @@
 -- A seat more is emptied.
-use Rattle.std.proofs.Common.{◌≡◌, ℕ, zero, suc, ◌+◌, ◌<◌, List, [], ◌∷◌, ◌++◌, length, take, drop, get_or, set, map, sym, ap, ◌∙◌, arith}
+use Rattle.std.proofs.Common.{◌≡◌, ℕ, zero, suc, ◌+◌, ◌<◌, List, [], ◌∷◌, ◌++◌, length, take, drop, get_or, set, map, sym, ap}
+use Rattle.std.proofs.Common.{◌∙◌, arith}
 use Rattle.std.proofs.Common.{drop-cons}
 use Rattle.std.proofs.lemmas.List.{drop-drop, drop-set-lt, take_more, take_more_set, map-append}
 use Rattle.hp_shared.specs.Cutting.{emptied}

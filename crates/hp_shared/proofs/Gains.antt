@@ -1,5 +1,6 @@
 -- What a list gained, and a hold more.
-use Rattle.std.proofs.Common.{◌≡◌, ℕ, zero, suc, ◌+◌, ◌<◌, List, [], ◌∷◌, ◌++◌, Bool, refl, sym, ap, ◌∙◌, append_assoc, arith, length}
+use Rattle.std.proofs.Common.{◌≡◌, ℕ, zero, suc, ◌+◌, ◌<◌, List, [], ◌∷◌, ◌++◌, Bool, refl, sym, ap, ◌∙◌, append_assoc, arith}
+use Rattle.std.proofs.Common.{length}
 use Rattle.std.proofs.lemmas.List.{append-nil}
 use Rattle.std.proofs.lemmas.List.Elements.{All-append}
 use Rattle.std.specs.Prelude.{All, slice_get, Some}
@@ -44,7 +45,8 @@ pub gained_nothing : (task : ℕ) (old : List Entry) → Gained old old (AllMove
 gained_nothing task old = ([], sym (append-nil old), λ k d below. absurd (omega arith))
 
 -- a hold of which nothing came
-pub gained_same : (task : ℕ) (old mid now : List Entry) → Gained old mid (AllMoved task) → now ≡ mid ++ [] → Gained old now (AllMoved task)
+pub gained_same : (task : ℕ) (old mid now : List Entry) → Gained old mid (AllMoved task) → now ≡ mid ++ []
+    → Gained old now (AllMoved task)
 gained_same task old mid now had is = (had.0, is ∙ append-nil mid ∙ had.1, had.2)
 
 -- a begin before it

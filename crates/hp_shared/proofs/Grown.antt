@@ -44,7 +44,8 @@ pool_same p event told none =
     let with_list : List Entry → PoolState = λ l. record p { journal = p.journal ++ l; entries = p.entries + length l } in
     let with_journal : List Entry → PoolState = λ j. record p { journal = j; entries = p.entries + length {A = Entry} [] } in
     let with_entries : ℕ → PoolState = λ n. record p { entries = n } in
-    sym (ap with_list (gained_none (next p) event told none) ∙ ap with_journal (append-nil p.journal) ∙ ap with_entries (none_more p.entries))
+    sym (ap with_list (gained_none (next p) event told none) ∙ ap with_journal (append-nil p.journal)
+    ∙ ap with_entries (none_more p.entries))
 
 pub seat_same : (s : SeatState) (position : ℕ) (event : Event) (told : Outcome) → is_made told ≡ false
     → s ≡ seat_with s position event told
@@ -52,7 +53,8 @@ seat_same s position event told none =
     let with_list : List Entry → SeatState = λ l. record s { list = s.list ++ l; entries = s.entries + length l } in
     let with_more : List Entry → SeatState = λ j. record s { list = j; entries = s.entries + length {A = Entry} [] } in
     let with_entries : ℕ → SeatState = λ n. record s { entries = n } in
-    sym (ap with_list (gained_none position event told none) ∙ ap with_more (append-nil s.list) ∙ ap with_entries (none_more s.entries))
+    sym (ap with_list (gained_none position event told none) ∙ ap with_more (append-nil s.list)
+    ∙ ap with_entries (none_more s.entries))
 
 -- something came of it: it has one entry more
 pub pool_grown : (p : PoolState) (core : CoreState) (now : List Entry) (more position : ℕ) (event : Event) (told : Outcome)
@@ -62,7 +64,8 @@ pool_grown p core now more position event told made at is counted =
     let one : List Entry = entry (next p) event told ∷ [] in
     let with_journal : List Entry → PoolState = λ j. record p { core = core; journal = j; entries = more } in
     let with_entries : ℕ → PoolState = λ n. record p { core = core; journal = p.journal ++ one; entries = n } in
-    let with_list : List Entry → PoolState = λ l. record p { core = core; journal = p.journal ++ l; entries = p.entries + length l } in
+    let with_list : List Entry → PoolState = λ l. record p
+    { core = core; journal = p.journal ++ l; entries = p.entries + length l } in
     ap with_journal (is ∙ ap (λ (n : ℕ). p.journal ++ entry n event told ∷ []) at)
     ∙ ap with_entries counted
     ∙ ap with_list (sym (gained_made (next p) event told made))

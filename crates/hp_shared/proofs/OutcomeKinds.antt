@@ -37,7 +37,8 @@ kill_kind : (t : ℕ) (s marked new : State) (alive : Bool) (told : Outcome)
 kill_kind t s marked new true told row = as_told (Kill t) outcome.Marked told row.0 tt
 kill_kind t s marked new false told row = as_told (Kill t) (outcome.Refused NotAlive) told row.0 tt
 
-turn_kind : {P : Type 0} (t : ℕ) (grant : Bool) (call : P → Call) (turn : Turn P) → IsOutcomeOf (Step t grant) (rows.told call turn)
+turn_kind : {P : Type 0} (t : ℕ) (grant : Bool) (call : P → Call) (turn : Turn P)
+    → IsOutcomeOf (Step t grant) (rows.told call turn)
 turn_kind t grant call (Moved p) = tt
 turn_kind t grant call (Blocked p holder) = tt
 turn_kind t grant call (Ended a) = tt

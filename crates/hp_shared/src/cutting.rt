@@ -1,7 +1,8 @@
 //! Cutting the journal: what was compared need not be kept.
 ghost use Rattle.std.specs.Prelude.{◌≡◌, ◌+◌, ◌<◌, ◌≤◌, ◌^◌, IfOk, IfErr, OnOk, OnErr, MatchOption, false, length, map};
 ghost use Rattle.hp_core.specs.Readers.{calls_of, config_of};
-ghost use Rattle.hp_shared.specs.Cutting.{IsAtRest, IsCut, RefusesCut, NoneInFlight, LeastInFlight, is_in_flight, is_seat_in_call, emptied};
+ghost use Rattle.hp_shared.specs.Cutting.{IsAtRest, IsCut, RefusesCut, NoneInFlight, LeastInFlight, is_in_flight};
+ghost use Rattle.hp_shared.specs.Cutting.{is_seat_in_call, emptied};
 ghost use Rattle.hp_shared.specs.Journal.{Interleaves};
 ghost use Rattle.hp_shared.specs.Seats.{lists_of};
 ghost use Rattle.hp_shared.specs.States.{next};

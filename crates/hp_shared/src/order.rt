@@ -1,5 +1,6 @@
 //! Whether a journal is an interleaving of lists.
-ghost use Rattle.std.specs.Prelude.{◌≡◌, ◌+◌, ◌^◌, ◌<◌, ◌≤◌, ℕ, List, [], map, length, drop, IfOk, MatchResult, MatchOption, MatchBool, slice_index_or, ◌≢◌};
+ghost use Rattle.std.specs.Prelude.{◌≡◌, ◌+◌, ◌^◌, ◌<◌, ◌≤◌, ℕ, List, [], map, length, drop, IfOk, MatchResult, MatchOption};
+ghost use Rattle.std.specs.Prelude.{MatchBool, slice_index_or, ◌≢◌};
 ghost use Rattle.hp_shared.specs.Journal.{Interleaves, FirstFailsAt, BeginsWith, IsNextOf, AllUsed};
 ghost use Rattle.hp_shared.specs.Unused.{unused};
 ghost use Rattle.hp_shared.specs.declared.entry.Entry.{Entry};

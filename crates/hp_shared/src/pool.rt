@@ -1,5 +1,6 @@
 //! What lies under the lock.
-ghost use Rattle.std.specs.Prelude.{◌≡◌, ◌+◌, ◌<◌, ◌^◌, ◌≤◌, ◌++◌, [], ℕ, List, IfOk, OnErr, Some, None, MatchResult, MatchBool, true, false, length};
+ghost use Rattle.std.specs.Prelude.{◌≡◌, ◌+◌, ◌<◌, ◌^◌, ◌≤◌, ◌++◌, [], ℕ, List, IfOk, OnErr, Some, None, MatchResult};
+ghost use Rattle.std.specs.Prelude.{MatchBool, true, false, length};
 ghost use Rattle.hp_base.specs.Text.{sizes};
 ghost use Rattle.hp_core.specs.Readers.{config_of, free_of, resv_of, all_reserved_of, all_pages_of};
 ghost use Rattle.hp_core.specs.Runs.{Row, IsOpening, IsIdle, Headline};

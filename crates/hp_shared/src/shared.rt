@@ -1,5 +1,6 @@
 //! The running pool: one lock, one condition variable, and a seat for each task.
-ghost use Rattle.std.specs.Prelude.{◌≡◌, ◌+◌, ◌<◌, ◌≤◌, ℕ, length, map, IfOk, IfErr, OnOk, OnErr, MatchOption, true, false, Some, slice_get};
+ghost use Rattle.std.specs.Prelude.{◌≡◌, ◌+◌, ◌<◌, ◌≤◌, ℕ, length, map, IfOk, IfErr, OnOk, OnErr, MatchOption, true, false};
+ghost use Rattle.std.specs.Prelude.{Some, slice_get};
 ghost use Rattle.hp_base.specs.Text.{sizes};
 ghost use Rattle.hp_shared.specs.Journal.{IsOutcomeOf, Interleaves};
 ghost use Rattle.hp_shared.specs.Calls.{IsOwn};
@@ -126,7 +127,8 @@ impl<L: Ledger> Shared<L> {
         frames: u32,
     ) -> Result<Outcome, CallFault>
         ensures kind { IfOk result (λ told. IsOutcomeOf (Event.Resize frames) told) }
-        ensures seat { IfOk result (λ told. (position : ℕ) × (seat.new ≡ seat_with seat.old position (Event.Resize frames) told)) }
+        ensures seat { IfOk result (λ told. (position : ℕ) ×
+        (seat.new ≡ seat_with seat.old position (Event.Resize frames) told)) }
         ensures err { IfErr result (λ fault. (fault ≡ CallFault.Memory false) × (seat.new ≡ seat.old)) }
     {
         self.attempt(rt, seat, Event::Resize(frames))

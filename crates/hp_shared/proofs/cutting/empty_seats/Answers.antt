@@ -14,7 +14,8 @@ loop-seat-preserved g c =
     } in record {
       done =
           done_more c.loop-seat.seat-index c.loop-seat.seats c.args.seats.now c.seat-item.result c.empty.new.self
-          (omega (arith, c.loop-seat-test.true, c.loop-seat.auto.seats)) c.seat-item.is c.loop-seat.invariant.done c.loop-seat.invariant.others
+          (omega (arith, c.loop-seat-test.true, c.loop-seat.auto.seats)) c.seat-item.is c.loop-seat.invariant.done
+          c.loop-seat.invariant.others
           (c.empty.ensures ∙ ap emptied (ap with_entries c.audit.ensures.amount ∙ c.seat.view_is ∙ sym c.seat-item.is));
       others =
           others_more c.loop-seat.seat-index c.loop-seat.seats c.args.seats.now c.empty.new.self c.loop-seat.invariant.others;

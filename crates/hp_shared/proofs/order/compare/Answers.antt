@@ -27,30 +27,39 @@ returns-in_default g c =
 
 pub index_mut-requires : goal.index_mut-requires
 index_mut-requires g c =
-    omega (arith, c.in-Some.ensures.0, c.as_slice.ensures.value, c.loop-k.invariant.1, c.loop-k.used.ok, length-unused (map g.S.Listed.listed c.args.lists.now) c.as_slice.result.now, length-map c.args.lists.now g.S.Listed.listed)
+    omega (arith, c.in-Some.ensures.0, c.as_slice.ensures.value, c.loop-k.invariant.1, c.loop-k.used.ok, length-unused
+    (map g.S.Listed.listed c.args.lists.now) c.as_slice.result.now, length-map c.args.lists.now g.S.Listed.listed)
 
 pub overflow_add-index_mut : goal.overflow_add-index_mut
 overflow_add-index_mut g c =
     let ls = map g.S.Listed.listed c.args.lists.now in
-    let same : length c.loop-k.used.items ≡ length ls = c.loop-k.invariant.1 ∙ sym (length-map c.args.lists.now g.S.Listed.listed) in
+    let same : length c.loop-k.used.items ≡ length ls = c.loop-k.invariant.1
+    ∙ sym (length-map c.args.lists.now g.S.Listed.listed) in
     let next = rw c.as_slice.ensures.value at c.in-Some.ensures in
     let less : c.in-Some.i < length c.loop-k.used.items = omega (arith, next.0, same, length-unused ls c.loop-k.used.items) in
-    let is : c.index_mut.result.now ≡ get_or c.loop-k.used.items c.in-Some.i 0 = c.index_mut.ensures.value ∙ get_or_default _ _ _ _ less in
+    let is : c.index_mut.result.now ≡ get_or c.loop-k.used.items c.in-Some.i 0 = c.index_mut.ensures.value
+    ∙ get_or_default _ _ _ _ less in
     omega (arith, is, c.loop-k.invariant.2 c.in-Some.i, c.loop-k-test.true, c.requires)
 
 pub loop-k-preserved : goal.loop-k-preserved
 loop-k-preserved g c =
     let ls = map g.S.Listed.listed c.args.lists.now in
-    let same : length c.loop-k.used.items ≡ length ls = c.loop-k.invariant.1 ∙ sym (length-map c.args.lists.now g.S.Listed.listed) in
+    let same : length c.loop-k.used.items ≡ length ls = c.loop-k.invariant.1
+    ∙ sym (length-map c.args.lists.now g.S.Listed.listed) in
     let next = rw c.as_slice.ensures.value at c.in-Some.ensures in
     let less : c.in-Some.i < length c.loop-k.used.items = omega (arith, next.0, same, length-unused ls c.loop-k.used.items) in
-    let is : c.index_mut.result.now ≡ get_or c.loop-k.used.items c.in-Some.i 0 = c.index_mut.ensures.value ∙ get_or_default _ _ _ _ less in (
+    let is : c.index_mut.result.now ≡ get_or c.loop-k.used.items c.in-Some.i 0 = c.index_mut.ensures.value
+    ∙ get_or_default _ _ _ _ less in (
       uses_on c.args.first c.loop-k.k c.args.journal.now ls c.loop-k.used.items c.index-journal-k.result c.in-Some.i
-          c.index_mut.result.now c.loop-k-test.true c.index-journal-k.is same c.loop-k.invariant.0 c.if-entry-position.false next is,
+          c.index_mut.result.now c.loop-k-test.true c.index-journal-k.is same c.loop-k.invariant.0 c.if-entry-position.false
+          next is,
       length-set c.loop-k.used.items c.in-Some.i (c.index_mut.result.now + 1) ∙ c.loop-k.invariant.1,
-      below_on c.loop-k.used.items c.in-Some.i c.loop-k.k c.index_mut.result.now c.loop-k.invariant.2 (omega (arith, is, c.loop-k.invariant.2 c.in-Some.i)),
+      below_on c.loop-k.used.items c.in-Some.i c.loop-k.k c.index_mut.result.now c.loop-k.invariant.2
+      (omega (arith, is, c.loop-k.invariant.2 c.in-Some.i)),
     )
 
 pub returns : goal.returns
 returns g c =
-    ends_badly c.args.first c.loop-k.k c.args.journal.now _ (unused (map g.S.Listed.listed c.args.lists.now) c.loop-k.used.items) c.loop-k-test.false c.loop-k.auto.k-end c.loop-k.invariant.0 (rw c.as_slice-2.ensures.value at c.if-all_used.ensures)
+    ends_badly c.args.first c.loop-k.k c.args.journal.now _
+    (unused (map g.S.Listed.listed c.args.lists.now) c.loop-k.used.items) c.loop-k-test.false c.loop-k.auto.k-end
+    c.loop-k.invariant.0 (rw c.as_slice-2.ensures.value at c.if-all_used.ensures)

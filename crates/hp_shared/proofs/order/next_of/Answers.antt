@@ -7,4 +7,5 @@ use Rattle.hp_shared.proofs.order.next_of.Goals as goal
 pub returns : goal.returns
 returns g c =
     let ls = map g.S.Listed.listed c.args.lists.now in
-    next_found (unused ls c.args.used.now) c.args.entry.now c.loop-i.i c.loop-i.found (omega (arith, length-unused ls c.args.used.now, length-map c.args.lists.now g.S.Listed.listed)) c.loop-i.invariant
+    next_found (unused ls c.args.used.now) c.args.entry.now c.loop-i.i c.loop-i.found
+    (omega (arith, length-unused ls c.args.used.now, length-map c.args.lists.now g.S.Listed.listed)) c.loop-i.invariant

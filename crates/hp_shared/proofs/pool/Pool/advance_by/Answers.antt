@@ -83,7 +83,8 @@ returns-clause-pool g c =
     let position = c.self.inside.first + c.len.result in
     let e : Entry = entry position c.args.event.now told in
     let is : c.push_reserved.new.self.items ≡ items ++ e ∷ [] = rw c.reserve.ensures.items at c.push_reserved.ensures.items in
-    let made = is_made_then c.self.inside.core c.args.event.now told c.step.new.self c.in_default.ensures c.in_ok-outcome.ensures.row in
+    let made = is_made_then c.self.inside.core c.args.event.now told c.step.new.self c.in_default.ensures
+    c.in_ok-outcome.ensures.row in
     let at : position ≡ c.self.inside.first + length items =
     omega (arith, c.len.ensures, c.reserve.ensures.len, c.self.inside.journal.ok) in
     let old : PoolState = record {
@@ -105,7 +106,8 @@ returns-clause-seat g c =
     let e : Entry = entry position c.args.event.now told in
     let is : c.push_reserved-2.new.self.items ≡ items ++ e ∷ [] =
     rw c.reserve-2.ensures.items at c.push_reserved-2.ensures.items in
-    let made = is_made_then c.self.inside.core c.args.event.now told c.step.new.self c.in_default.ensures c.in_ok-outcome.ensures.row in
+    let made = is_made_then c.self.inside.core c.args.event.now told c.step.new.self c.in_default.ensures
+    c.in_ok-outcome.ensures.row in
     let at : position ≡ c.self.inside.first + length c.self.inside.journal.items =
     omega (arith, c.len.ensures, c.reserve.ensures.len, c.self.inside.journal.ok) in
     rw (← c.self.view_is, ← c.seat.view_is)

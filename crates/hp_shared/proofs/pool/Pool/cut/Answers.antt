@@ -7,7 +7,8 @@ use Rattle.hp_shared.proofs.pool.Pool.cut.Goals as goal
 pub copy-requires : goal.copy-requires
 copy-requires g c =
     no_calls c.self.inside.core c.args.seats.now c.always.ensures.config
-    (c.callers_live.ensures (as_state c.self.inside.core) c.is_reached.ensures) (rw (← c.self.view_is) at c.in_ok-is_ready_to_cut.ensures.cut).0.1
+    (c.callers_live.ensures (as_state c.self.inside.core) c.is_reached.ensures)
+    (rw (← c.self.view_is) at c.in_ok-is_ready_to_cut.ensures.cut).0.1
 
 pub invariant_of-self : goal.invariant_of-self
 invariant_of-self g c =

@@ -1,0 +1,73 @@
+//! Ends that are refused, and journals that are no interleaving.
+ghost use Rattle.std.specs.Prelude.{◌≡◌};
+
+use hp_base::{Config, Event, Op, Task};
+use hp_core::{Outcome, Refusal};
+use hp_shared::{CloseFault, Entry, Open, Reply, Shared, interleaved, resume};
+use std::alloc::Global;
+use std::marker::Brand;
+use std::sync::Wait;
+use std::sync::ledger::{Blank, Ledger};
+use std::test::Fail;
+
+// What a resume of a task without a call is told, why a pool isn't closed without a seat, whether both are handed back
+// then, and how many entries there are once all seats are there.
+fn ends<L: Ledger + Send + Sync, R: Wait>(
+    rt: &R,
+    alloc: Global,
+    blank: Blank,
+    config: Config,
+) -> Result<(Reply, CloseFault, usize, u64), Fail>
+    requires name { blank.name ≡ L.name }
+    requires parts { (blank.parts ≡ L.parts) × (blank.parts ≡ config.tasks) }
+{
+    let (shared, mut seats) = Shared::<L>::new(alloc, blank, config)?;
+    let second = seats.pop().ok_or("a seat")?;
+    let mut first = seats.pop().ok_or("a seat")?;
+    let idle = resume(&shared, rt, &mut first, &Open)?;
+    seats.push(first)?;
+    let refused = shared.close(alloc, seats).err().ok_or("a seat is missing")?;
+    let (shared, mut seats) = refused.back.ok_or("they are handed back")?;
+    let back = seats.len();
+    seats.push(second)?;
+    let closed = shared.close(alloc, seats).ok().ok_or("the histories agree")?;
+    Ok((idle, refused.fault, back, closed.entries))
+}
+
+#[test]
+fn a_missing_seat_is_told(rt: HostRuntime) -> Result<(), Fail> {
+    let config = Config::new(1, 1, 1, 2)?;
+    let (idle, fault, back, entries) = ends::<Brand, _>(&rt, rt.alloc(), Blank::new(2), config)?;
+    assert_eq!(rt; idle, Reply::Refused(Refusal::Idle));
+    assert_eq!(rt; fault, CloseFault::SeatMissing(Task::new(2)));
+    assert_eq!(rt; back, 1);
+    assert_eq!(rt; entries, 0);
+    Ok(())
+}
+
+#[test]
+fn a_journal_that_is_no_interleaving(rt: HostRuntime) -> Result<(), Fail> {
+    let alloc = rt.alloc();
+    let a = Entry {
+        position: 0,
+        event: Event::Begin(Task::new(1), Op::Exit),
+        outcome: Outcome::Begun,
+    };
+    let b = Entry {
+        position: 1,
+        event: Event::Kill(Task::new(2)),
+        outcome: Outcome::Marked,
+    };
+    let c = Entry {
+        position: 1,
+        event: Event::Kill(Task::new(2)),
+        outcome: Outcome::Refused(Refusal::NotAlive),
+    };
+    let lists = vec![in alloc; vec![in alloc; a]?, vec![in alloc; c]?]?;
+    assert_eq!(rt; interleaved(alloc, &[a, b], lists.as_slice())?, Err(1));
+    let lists = vec![in alloc; vec![in alloc; a]?, vec![in alloc; b]?]?;
+    assert_eq!(rt; interleaved(alloc, &[a, b], lists.as_slice())?, Ok(()));
+    assert_eq!(rt; interleaved(alloc, &[b, a], lists.as_slice())?, Err(0));
+    assert_eq!(rt; interleaved(alloc, &[a], lists.as_slice())?, Err(1));
+    Ok(())
+}
