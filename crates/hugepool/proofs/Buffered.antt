@@ -29,7 +29,7 @@ opens contents now new out same inner empty =
     ∙ unbuffered (contents (writer_inner new)) ∙ ap contents inner
 
 -- all of a text was written
-all_of : (old new : Option (List ℕ)) (text : List ℕ) → Appends old new text → Wrote old new text
+pub all_of : (old new : Option (List ℕ)) (text : List ℕ) → Appends old new text → Wrote old new text
 all_of old new text wrote = record { front = text; back = []; parts = sym (append-nil text); appends = wrote }
 
 none_of : (old new : Option (List ℕ)) → Keeps old new → Wrote old new []
