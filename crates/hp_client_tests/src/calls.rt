@@ -154,8 +154,11 @@ fn ends_of_the_space_and_of_numbers(rt: HostRuntime) -> Result<(), Fail> {
 fn calls_of_a_round_take_turns(rt: HostRuntime) -> Result<(), Fail> {
     let alloc = rt.alloc();
     let mut driver = CoreDriver::open(alloc, Config::new(1, 1, 4, 2)?)?;
-    let map = map_no_reserve(1);
-    let told = driver.round(alloc, &[(Task::new(2), map), (Task::new(1), map)])?;
+    let maps = [
+        (Task::new(2), map_no_reserve(1)),
+        (Task::new(1), map_no_reserve(1)),
+    ];
+    let told = driver.round(alloc, &maps)?;
     assert_eq!(rt;
         told.as_slice(),
         [Answer::Mapped(Vpn::new(0)); 2].as_slice()

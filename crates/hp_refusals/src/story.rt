@@ -33,22 +33,47 @@ fn finish(rt: &impl Print, driver: &mut CoreDriver, alloc: Global) -> io::Result
     }
 }
 
-/// A call. Where memory is refused to it, it is taken to its end, and then made again.
-fn make(
+/// A call, of which is told what came of it. Returns whether it was answered, or refused by anything but want of memory.
+fn is_made(
     rt: &impl Print,
     driver: &mut CoreDriver,
     alloc: Global,
     name: &str,
     call: (Task, Op),
+) -> io::Result<bool> {
+    match driver.call(alloc, call.0, call.1) {
+        Err(ClientFault::Memory) => {
+            println!(rt; "{name}: {}", ClientFault::Memory)?;
+            Ok(false)
+        }
+        answer => {
+            told(rt, name, answer)?;
+            Ok(true)
+        }
+    }
+}
+
+/// A map of a page without a reservation. Where memory is refused to it, it is taken to its end, and then made again.
+fn map(
+    rt: &impl Print,
+    driver: &mut CoreDriver,
+    alloc: Global,
+    name: &str,
+    task: Task,
 ) -> io::Result<()> {
-    let answer = driver.call(alloc, call.0, call.1);
-    told(rt, name, answer)?;
-    if answer != Err(ClientFault::Memory) {
+    if is_made(rt, driver, alloc, name, (task, map_of_a_page()))? {
         return Ok(());
     }
     finish(rt, driver, alloc)?;
-    let answer = driver.call(alloc, call.0, call.1);
-    told(rt, name, answer)
+    told(rt, name, driver.call(alloc, task, map_of_a_page()))
+}
+
+fn map_of_a_page() -> Op {
+    Op::MapNoReserve {
+        file: File::new(0),
+        from: Index::new(0),
+        len: 1,
+    }
 }
 
 fn store(word: u64) -> Op {
@@ -56,6 +81,10 @@ fn store(word: u64) -> Op {
         vpn: Vpn::new(0),
         word,
     }
+}
+
+fn load() -> Op {
+    Op::Load { vpn: Vpn::new(0) }
 }
 
 /// Tells the numbers of the pool: free frames, the reserve count, reserved indices and pages.
@@ -69,13 +98,8 @@ fn tell_tally(rt: &impl Print, driver: &CoreDriver) -> io::Result<()> {
 
 /// Both tasks map a page without a reservation.
 fn map_both(rt: &impl Print, driver: &mut CoreDriver, alloc: Global) -> io::Result<()> {
-    let map = Op::MapNoReserve {
-        file: File::new(0),
-        from: Index::new(0),
-        len: 1,
-    };
-    make(rt, driver, alloc, "map of 1", (Task::new(1), map))?;
-    make(rt, driver, alloc, "map of 2", (Task::new(2), map))
+    map(rt, driver, alloc, "map of 1", Task::new(1))?;
+    map(rt, driver, alloc, "map of 2", Task::new(2))
 }
 
 /// Both store to it. Where memory is refused to the first, the second comes before it is taken to its end.
@@ -87,18 +111,21 @@ fn store_both(rt: &impl Print, driver: &mut CoreDriver, alloc: Global) -> io::Re
     tell_tally(rt, driver)
 }
 
+/// The first task ends, and can't load then. Memory may be refused to either before anything happened.
+fn end(rt: &impl Print, driver: &mut CoreDriver, alloc: Global) -> io::Result<()> {
+    if !is_made(rt, driver, alloc, "exit of 1", (Task::new(1), Op::Exit))? {
+        told(rt, "exit of 1", driver.call(alloc, Task::new(1), Op::Exit))?;
+    }
+    if !is_made(rt, driver, alloc, "load of 1", (Task::new(1), load()))? {
+        told(rt, "load of 1", driver.call(alloc, Task::new(1), load()))?;
+    }
+    Ok(())
+}
+
 /// The story: the maps, the stores, and the end of the first task, which can't load then.
 pub(crate) fn tell(rt: &impl Print, alloc: Global) -> io::Result<()> {
     let mut driver = open(rt, alloc)?;
     map_both(rt, &mut driver, alloc)?;
     store_both(rt, &mut driver, alloc)?;
-    let load = Op::Load { vpn: Vpn::new(0) };
-    make(
-        rt,
-        &mut driver,
-        alloc,
-        "exit of 1",
-        (Task::new(1), Op::Exit),
-    )?;
-    make(rt, &mut driver, alloc, "load of 1", (Task::new(1), load))
+    end(rt, &mut driver, alloc)
 }
