@@ -8,6 +8,7 @@ usage: ./check [STEP] [..]
                      every must-fail edit, many at once; and with no crate named, edits of which each has to be told apart,
                      and whether docs/INDEX.md is what the sources say
   ./check examples   what the traces of examples/ print
+  ./check refusals   that a driver goes on where memory is refused to it, at each growth of a small story
   ./check linux      what a Linux kernel answered (conformance/)
   ./check quick      before a commit: proofs and tests of what changed since the last time, over kept work; that each edit applies
 
@@ -114,6 +115,10 @@ def examples(step: Step, _: list[str]) -> None:
     step.run(python("examples.py"))
 
 
+def refusals(step: Step, _: list[str]) -> None:
+    step.run(python("refusals.py"))
+
+
 def linux(step: Step, _: list[str]) -> None:
     for script in ("compare.py", "races.py", "test_compare.py"):
         step.run([sys.executable, str(TOP / "conformance" / script)])
@@ -144,7 +149,7 @@ def run_tests(name: str) -> bool:
 
 def whole() -> list[Step]:
     """All that has to pass. The edits are tried beside the proofs from nothing, which leave processors idle where crate waits for crate."""
-    steps = [Step(name) for name in ("ci", "edits", "examples", "linux")]
+    steps = [Step(name) for name in ("ci", "edits", "examples", "refusals", "linux")]
     first, second, *others = steps
     with tempfile.TemporaryDirectory(prefix="check-") as name:
         room = Path(name)
@@ -177,7 +182,7 @@ def one(name: str, words: list[str]) -> list[Step]:
     return [step]
 
 
-STEPS = {"ci": ci, "edits": edits, "examples": examples, "linux": linux, "quick": quick}
+STEPS = {"ci": ci, "edits": edits, "examples": examples, "refusals": refusals, "linux": linux, "quick": quick}
 
 
 def main(words: list[str]) -> int:

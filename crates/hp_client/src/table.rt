@@ -44,91 +44,211 @@ pub enum Line {
 #[derive(Clone, Copy, Debug, PartialEq, Eq)]
 pub struct Pool(pub u32, pub u32, pub u32);
 
+/// A workload's table: its name, the pool that it is for, its lines, and the numbers of the pool at their
+/// end.
+#[derive(Clone, Copy, Debug)]
+pub(crate) struct Table {
+    pub name: &'static str,
+    pub pool: Pool,
+    pub tally: Tally,
+    pub lines: &'static [Line],
+}
+
 use Ask::{Alloc, Load, Map, MapNoReserve, Punch, Store, Truncate, Unmap};
 use Line::{Call, Fallocate, Race};
 use Wanted::{Beyond, Done, Mapped, NoFrame, Word};
 
-const READBACK: [Line; 3] = [
-    Call(Row(1, Map(0, 0, 1), Mapped(0))),
-    Call(Row(1, Store(0, 77), Done)),
-    Call(Row(1, Load(0), Word(77))),
-];
+const READBACK: Table = Table {
+    name: "readback",
+    pool: Pool(4, 1, 1),
+    tally: Tally {
+        free: 3,
+        resv: 0,
+        reserved: 1,
+        pages: 1,
+    },
+    lines: &[
+        Call(Row(1, Map(0, 0, 1), Mapped(0))),
+        Call(Row(1, Store(0, 77), Done)),
+        Call(Row(1, Load(0), Word(77))),
+    ],
+};
 
-const SHARED: [Line; 6] = [
-    Call(Row(1, Map(0, 0, 1), Mapped(0))),
-    Call(Row(2, Map(0, 0, 1), Mapped(0))),
-    Call(Row(1, Store(0, 11), Done)),
-    Call(Row(2, Load(0), Word(11))),
-    Call(Row(2, Store(0, 12), Done)),
-    Call(Row(1, Load(0), Word(12))),
-];
+const SHARED: Table = Table {
+    name: "shared",
+    pool: Pool(4, 1, 2),
+    tally: Tally {
+        free: 3,
+        resv: 0,
+        reserved: 1,
+        pages: 1,
+    },
+    lines: &[
+        Call(Row(1, Map(0, 0, 1), Mapped(0))),
+        Call(Row(2, Map(0, 0, 1), Mapped(0))),
+        Call(Row(1, Store(0, 11), Done)),
+        Call(Row(2, Load(0), Word(11))),
+        Call(Row(2, Store(0, 12), Done)),
+        Call(Row(1, Load(0), Word(12))),
+    ],
+};
 
-const TRUNCATE: [Line; 4] = [
-    Call(Row(1, Map(0, 0, 1), Mapped(0))),
-    Call(Row(1, Store(0, 5), Done)),
-    Call(Row(1, Truncate(0, 0), Done)),
-    Call(Row(1, Load(0), Beyond)),
-];
+const TRUNCATE: Table = Table {
+    name: "truncate",
+    pool: Pool(4, 1, 1),
+    tally: Tally {
+        free: 4,
+        resv: 0,
+        reserved: 0,
+        pages: 0,
+    },
+    lines: &[
+        Call(Row(1, Map(0, 0, 1), Mapped(0))),
+        Call(Row(1, Store(0, 5), Done)),
+        Call(Row(1, Truncate(0, 0), Done)),
+        Call(Row(1, Load(0), Beyond)),
+    ],
+};
 
-const ALLOC_INSTANTIATE_RACE: [Line; 3] = [
-    Call(Row(1, Map(0, 0, 1), Mapped(0))),
-    Call(Row(2, Map(0, 0, 1), Mapped(0))),
-    Race(Row(1, Store(0, 5), Done), Row(2, Store(0, 6), Done)),
-];
+const ALLOC_INSTANTIATE_RACE: Table = Table {
+    name: "alloc-instantiate-race",
+    pool: Pool(1, 1, 2),
+    tally: Tally {
+        free: 0,
+        resv: 0,
+        reserved: 1,
+        pages: 1,
+    },
+    lines: &[
+        Call(Row(1, Map(0, 0, 1), Mapped(0))),
+        Call(Row(2, Map(0, 0, 1), Mapped(0))),
+        Race(Row(1, Store(0, 5), Done), Row(2, Store(0, 6), Done)),
+    ],
+};
 
-const CHUNK_OVERCOMMIT: [Line; 4] = [
-    Call(Row(1, Map(0, 0, 3), Mapped(0))),
-    Call(Row(1, Map(1, 0, 2), NoFrame)),
-    Call(Row(1, Map(1, 0, 1), Mapped(3))),
-    Call(Row(1, Load(0), Word(0))),
-];
+const CHUNK_OVERCOMMIT: Table = Table {
+    name: "chunk-overcommit",
+    pool: Pool(4, 2, 1),
+    tally: Tally {
+        free: 3,
+        resv: 3,
+        reserved: 4,
+        pages: 1,
+    },
+    lines: &[
+        Call(Row(1, Map(0, 0, 3), Mapped(0))),
+        Call(Row(1, Map(1, 0, 2), NoFrame)),
+        Call(Row(1, Map(1, 0, 1), Mapped(3))),
+        Call(Row(1, Load(0), Word(0))),
+    ],
+};
 
-const NORESV_PRESERVE_RESV_PAGE: [Line; 5] = [
-    Call(Row(1, Map(0, 0, 1), Mapped(0))),
-    Call(Row(2, MapNoReserve(1, 0, 2), Mapped(0))),
-    Call(Row(2, Store(0, 1), Done)),
-    Call(Row(2, Store(1, 1), NoFrame)),
-    Call(Row(1, Store(0, 2), Done)),
-];
+const NORESV_PRESERVE_RESV_PAGE: Table = Table {
+    name: "noresv-preserve-resv-page",
+    pool: Pool(2, 2, 2),
+    tally: Tally {
+        free: 0,
+        resv: 0,
+        reserved: 2,
+        pages: 2,
+    },
+    lines: &[
+        Call(Row(1, Map(0, 0, 1), Mapped(0))),
+        Call(Row(2, MapNoReserve(1, 0, 2), Mapped(0))),
+        Call(Row(2, Store(0, 1), Done)),
+        Call(Row(2, Store(1, 1), NoFrame)),
+        Call(Row(1, Store(0, 2), Done)),
+    ],
+};
 
-const NORESV_REGARDED_AS_RESV: [Line; 5] = [
-    Call(Row(1, MapNoReserve(0, 0, 1), Mapped(0))),
-    Call(Row(1, Store(0, 3), Done)),
-    Call(Row(1, Unmap(0), Done)),
-    Call(Row(1, Truncate(0, 0), Done)),
-    Call(Row(1, Map(0, 0, 2), Mapped(0))),
-];
+const NORESV_REGARDED_AS_RESV: Table = Table {
+    name: "noresv-regarded-as-resv",
+    pool: Pool(2, 1, 1),
+    tally: Tally {
+        free: 2,
+        resv: 2,
+        reserved: 2,
+        pages: 0,
+    },
+    lines: &[
+        Call(Row(1, MapNoReserve(0, 0, 1), Mapped(0))),
+        Call(Row(1, Store(0, 3), Done)),
+        Call(Row(1, Unmap(0), Done)),
+        Call(Row(1, Truncate(0, 0), Done)),
+        Call(Row(1, Map(0, 0, 2), Mapped(0))),
+    ],
+};
 
-const TRUNCATE_RESERVE_WRAPAROUND: [Line; 5] = [
-    Call(Row(1, Map(0, 0, 2), Mapped(0))),
-    Call(Row(1, Store(0, 1), Done)),
-    Call(Row(1, Store(1, 1), Done)),
-    Call(Row(1, Truncate(0, 0), Done)),
-    Call(Row(1, Load(0), Beyond)),
-];
+const TRUNCATE_RESERVE_WRAPAROUND: Table = Table {
+    name: "truncate_reserve_wraparound",
+    pool: Pool(4, 1, 1),
+    tally: Tally {
+        free: 4,
+        resv: 0,
+        reserved: 0,
+        pages: 0,
+    },
+    lines: &[
+        Call(Row(1, Map(0, 0, 2), Mapped(0))),
+        Call(Row(1, Store(0, 1), Done)),
+        Call(Row(1, Store(1, 1), Done)),
+        Call(Row(1, Truncate(0, 0), Done)),
+        Call(Row(1, Load(0), Beyond)),
+    ],
+};
 
-const FALLOCATE_BASIC: [Line; 5] = [
-    Call(Row(1, Alloc(0, 0, 3, false), Done)),
-    Call(Row(1, Punch(0, 1, 1), Done)),
-    Call(Row(1, Alloc(0, 3, 1, true), Done)),
-    Call(Row(1, MapNoReserve(0, 0, 4), Mapped(0))),
-    Call(Row(1, Load(0), Word(0))),
-];
+const FALLOCATE_BASIC: Table = Table {
+    name: "fallocate_basic",
+    pool: Pool(4, 1, 1),
+    tally: Tally {
+        free: 1,
+        resv: 0,
+        reserved: 3,
+        pages: 3,
+    },
+    lines: &[
+        Call(Row(1, Alloc(0, 0, 3, false), Done)),
+        Call(Row(1, Punch(0, 1, 1), Done)),
+        Call(Row(1, Alloc(0, 3, 1, true), Done)),
+        Call(Row(1, MapNoReserve(0, 0, 4), Mapped(0))),
+        Call(Row(1, Load(0), Word(0))),
+    ],
+};
 
-const FALLOCATE_ALIGN: [Line; 3] = [
-    Fallocate(1, 0, 0, 1, 2_097_152, Done),
-    Fallocate(1, 0, 3, 1, 4_194_303, Done),
-    Fallocate(1, 0, 3, 1, 2_097_151, Done),
-];
+const FALLOCATE_ALIGN: Table = Table {
+    name: "fallocate_align",
+    pool: Pool(4, 1, 1),
+    tally: Tally {
+        free: 3,
+        resv: 0,
+        reserved: 1,
+        pages: 1,
+    },
+    lines: &[
+        Fallocate(1, 0, 0, 1, 2_097_152, Done),
+        Fallocate(1, 0, 3, 1, 4_194_303, Done),
+        Fallocate(1, 0, 3, 1, 2_097_151, Done),
+    ],
+};
 
-const COUNTERS: [Line; 6] = [
-    Call(Row(1, Map(0, 0, 4), Mapped(0))),
-    Call(Row(1, Store(0, 1), Done)),
-    Call(Row(1, Punch(0, 0, 1), Done)),
-    Call(Row(1, Truncate(0, 2), Done)),
-    Call(Row(1, Unmap(0), Done)),
-    Call(Row(1, Map(0, 0, 4), Mapped(0))),
-];
+const COUNTERS: Table = Table {
+    name: "counters",
+    pool: Pool(8, 1, 1),
+    tally: Tally {
+        free: 8,
+        resv: 4,
+        reserved: 4,
+        pages: 0,
+    },
+    lines: &[
+        Call(Row(1, Map(0, 0, 4), Mapped(0))),
+        Call(Row(1, Store(0, 1), Done)),
+        Call(Row(1, Punch(0, 0, 1), Done)),
+        Call(Row(1, Truncate(0, 2), Done)),
+        Call(Row(1, Unmap(0), Done)),
+        Call(Row(1, Map(0, 0, 4), Mapped(0))),
+    ],
+};
 
 /// The workloads.
 #[derive(Clone, Copy, Debug, PartialEq, Eq)]
@@ -144,28 +264,6 @@ pub enum Workload {
     FallocateBasic,
     FallocateAlign,
     Counters,
-}
-
-/// A workload's table: its name, the pool that it is for, its lines, and the numbers of the pool at their
-/// end.
-#[derive(Clone, Copy, Debug)]
-pub(crate) struct Table {
-    pub name: &'static str,
-    pub pool: Pool,
-    pub tally: Tally,
-    pub lines: &'static [Line],
-}
-
-// The numbers of a pool.
-const fn tally(free: u32, resv: u32, reserved: u32, pages: u32) -> Tally
-    ensures { result ≡ record { free = free; resv = resv; reserved = reserved; pages = pages } }
-{
-    Tally {
-        free,
-        resv,
-        reserved,
-        pages,
-    }
 }
 
 impl Workload {
@@ -196,72 +294,17 @@ impl Workload {
         ensures few { calls_in result.lines.now ≤ 6 }
     {
         match self {
-            Workload::Readback => Table {
-                name: "readback",
-                pool: Pool(4, 1, 1),
-                tally: tally(3, 0, 1, 1),
-                lines: &READBACK,
-            },
-            Workload::Shared => Table {
-                name: "shared",
-                pool: Pool(4, 1, 2),
-                tally: tally(3, 0, 1, 1),
-                lines: &SHARED,
-            },
-            Workload::Truncate => Table {
-                name: "truncate",
-                pool: Pool(4, 1, 1),
-                tally: tally(4, 0, 0, 0),
-                lines: &TRUNCATE,
-            },
-            Workload::AllocInstantiateRace => Table {
-                name: "alloc-instantiate-race",
-                pool: Pool(1, 1, 2),
-                tally: tally(0, 0, 1, 1),
-                lines: &ALLOC_INSTANTIATE_RACE,
-            },
-            Workload::ChunkOvercommit => Table {
-                name: "chunk-overcommit",
-                pool: Pool(4, 2, 1),
-                tally: tally(3, 3, 4, 1),
-                lines: &CHUNK_OVERCOMMIT,
-            },
-            Workload::NoresvPreserveResvPage => Table {
-                name: "noresv-preserve-resv-page",
-                pool: Pool(2, 2, 2),
-                tally: tally(0, 0, 2, 2),
-                lines: &NORESV_PRESERVE_RESV_PAGE,
-            },
-            Workload::NoresvRegardedAsResv => Table {
-                name: "noresv-regarded-as-resv",
-                pool: Pool(2, 1, 1),
-                tally: tally(2, 2, 2, 0),
-                lines: &NORESV_REGARDED_AS_RESV,
-            },
-            Workload::TruncateReserveWraparound => Table {
-                name: "truncate_reserve_wraparound",
-                pool: Pool(4, 1, 1),
-                tally: tally(4, 0, 0, 0),
-                lines: &TRUNCATE_RESERVE_WRAPAROUND,
-            },
-            Workload::FallocateBasic => Table {
-                name: "fallocate_basic",
-                pool: Pool(4, 1, 1),
-                tally: tally(1, 0, 3, 3),
-                lines: &FALLOCATE_BASIC,
-            },
-            Workload::FallocateAlign => Table {
-                name: "fallocate_align",
-                pool: Pool(4, 1, 1),
-                tally: tally(3, 0, 1, 1),
-                lines: &FALLOCATE_ALIGN,
-            },
-            Workload::Counters => Table {
-                name: "counters",
-                pool: Pool(8, 1, 1),
-                tally: tally(8, 4, 4, 0),
-                lines: &COUNTERS,
-            },
+            Workload::Readback => READBACK,
+            Workload::Shared => SHARED,
+            Workload::Truncate => TRUNCATE,
+            Workload::AllocInstantiateRace => ALLOC_INSTANTIATE_RACE,
+            Workload::ChunkOvercommit => CHUNK_OVERCOMMIT,
+            Workload::NoresvPreserveResvPage => NORESV_PRESERVE_RESV_PAGE,
+            Workload::NoresvRegardedAsResv => NORESV_REGARDED_AS_RESV,
+            Workload::TruncateReserveWraparound => TRUNCATE_RESERVE_WRAPAROUND,
+            Workload::FallocateBasic => FALLOCATE_BASIC,
+            Workload::FallocateAlign => FALLOCATE_ALIGN,
+            Workload::Counters => COUNTERS,
         }
     }
 

@@ -5,6 +5,8 @@
 #![tactic(auto)]
 
 #[cfg(test)]
+mod byte_call;
+#[cfg(test)]
 mod byte_calls;
 #[cfg(test)]
 mod calls;

@@ -37,3 +37,4 @@ pub use run_lines::write_lines;
 pub use script::read_script;
 pub use streams::{Sink, Source, Watched};
 pub use trace::{MOST_EVENTS, Trace, read_trace, write_trace};
+pub use writing::write_text;

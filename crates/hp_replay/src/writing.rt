@@ -9,7 +9,7 @@ use crate::streams::Sink;
 use std::fmt::Display;
 
 /// Writes all of the text. An error, or a write that takes no byte, ends it.
-pub(crate) fn write_text<W: Sink>(writer: &mut W, text: &[u8]) -> Result<(), ReplayFault>
+pub fn write_text<W: Sink>(writer: &mut W, text: &[u8]) -> Result<(), ReplayFault>
     ensures ok { OnOk result (Appends (W.contents writer.old) (W.contents writer.new) text.now) }
     ensures front { IfErr result (λ fault. (fault ≡ ReplayFault.Write)
         × Wrote (W.contents writer.old) (W.contents writer.new) text.now) }

@@ -9,7 +9,7 @@ use Rattle.std.proofs.lemmas.List.{append-nil}
 use Rattle.hp_replay.specs.declared.fault.ReplayFault.{ReplayFault}
 use Rattle.hp_replay.specs.declared.fault.ReplayFault.TheVariants.{BadLine, BadHeader, Read, Write, Memory}
 use Rattle.hp_replay.specs.Outcomes.{outcomes_text, state_text}
-use Rattle.hp_replay.specs.Replaying.{Replayed, Stopped, StoppedAtHeader, StoppedAtLine, StoppedAtRead, StoppedEarly}
+use Rattle.hp_replay.specs.Replaying.{Replayed, Stopped, StoppedEarly}
 use Rattle.hp_replay.specs.Replaying.{AllRunWrites, RunWrites, nothing, so_far, to_the_end, no_line, each_line}
 use Rattle.hp_replay.specs.Streams.{TellsReads, TellsWrites}
 use Rattle.hp_replay.specs.Traces.{trace_text}
@@ -29,7 +29,7 @@ opens contents now new out same inner empty =
     ∙ unbuffered (contents (writer_inner new)) ∙ ap contents inner
 
 -- all of a text was written
-all_of : (old new : Option (List ℕ)) (text : List ℕ) → Appends old new text → Wrote old new text
+pub all_of : (old new : Option (List ℕ)) (text : List ℕ) → Appends old new text → Wrote old new text
 all_of old new text wrote = record { front = text; back = []; parts = sym (append-nil text); appends = wrote }
 
 none_of : (old new : Option (List ℕ)) → Keeps old new → Wrote old new []

@@ -64,11 +64,11 @@ abbrev pub IsKept : Option (List ℕ) → Option (Option (List ℕ)) → Type 0
 IsKept before None = ⊥
 IsKept before (Some after) = Keeps before after
 
--- what is written where nothing is replayed: help or the line of a workload, which may fail, or nothing
+-- what is written where the words ask for nothing but help: that, which may fail, or nothing
 abbrev pub Told : Result (Unit {0}) Stop → Option (List ℕ) → Option (Option (List ℕ)) → Type 0
 Told (Ok x) before after = Unit {0}
 Told (Err (stop.Replay fault)) before after = (fault ≡ Write) ⊎ ((fault ≡ Memory) × IsKept before after)
-Told (Err (stop.Work fault)) before after = Unit {0}
+Told (Err (stop.Work fault)) before after = ⊥
 Told (Err (stop.Usage error)) before after = IsKept before after
 Told (Err stop.Unfinished) before after = ⊥
 

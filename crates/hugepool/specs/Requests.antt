@@ -1,5 +1,5 @@
--- What the program does where a script or a trace to check is asked for.
-use Rattle.std.specs.Prelude.{◌≡◌, ℕ, List, [], ◌∷◌, ◌++◌, Option, Some, None, ◌⊎◌, Bool, true, false, IfSome, Result, Ok, Err, map, codes}
+-- What the program does at each request.
+use Rattle.std.specs.Prelude.{◌≡◌, ℕ, List, Option, Some, None, ◌⊎◌, Bool, true, false, IfSome, Result, Ok, Err, map}
 use Rattle.std.specs.Io.KnownBytes.{Appends, Keeps}
 use Rattle.hp_base.specs.Text.{sizes}
 use Rattle.hp_base.specs.declared.event.Event.{Event}
@@ -15,6 +15,7 @@ use Rattle.hp_replay.specs.Traces.{HasFault, trace_text}
 use Rattle.hp_replay.specs.declared.exploring.Exploration.{Exploration}
 use Rattle.hugepool.specs.Endings.{AnsweredElse, AnsweredReplay, ReaderAt}
 use Rattle.hugepool.specs.Status.{status_at}
+use Rattle.hugepool.specs.Working.{AnsweredWork}
 use Rattle.hugepool.specs.declared.command.Request.{Request}
 use Rattle.hugepool.specs.declared.command.Request.TheVariants as request
 use Rattle.hugepool.specs.declared.command.Scheduling.{Scheduling}
@@ -85,7 +86,8 @@ Answered request.Replay answer from to old new before after = AnsweredReplay ans
 Answered (request.Explore e) answer from to old new before after = AnsweredExplore e answer from to old new before after
 Answered request.Check answer from to old new before after = AnsweredCheck answer from to old new before after
 Answered (request.Schedule s) answer from to old new before after = AnsweredSchedule s answer from to old new before after
-Answered (request.Work words) answer from to old new before after = AnsweredElse answer from to old new before after
+Answered (request.Work words) answer from to old new before after =
+    (new ≡ old) × Keeps from to × IfThere after (AnsweredWork words answer before)
 
 -- what the program does: what is answered at some request, or help or a refusal of the words
 abbrev pub Did : Result (Unit {0}) Stop → Option (List ℕ) → Option (List ℕ) → Bool → Bool

@@ -1,12 +1,85 @@
 -- What comes of `hugepool work`.
-use Rattle.std.specs.Prelude.{ℕ}
+use Rattle.std.specs.Prelude.{◌≡◌, ◌≢◌, ℕ, List, [], ◌∷◌, ◌++◌, Option, Some, None, IsSome, Result, Ok, Err, codes, string_bytes}
+use Rattle.std.specs.Fmt.{decimal}
+use Rattle.std.specs.Io.KnownBytes.{Appends, Keeps}
+use Rattle.hp_client.specs.Tables.{table_of, name_of, Heard, IsReport}
+use Rattle.hp_client.specs.declared.table.Workload.{Workload}
+use Rattle.hp_client.specs.declared.work.Report.{Report}
+use Rattle.hp_replay.specs.Writing.{Wrote}
+use Rattle.hp_replay.specs.declared.fault.ReplayFault.TheVariants.{Write}
+use Rattle.hugepool.specs.declared.program.Stop.{Stop}
+use Rattle.hugepool.specs.declared.program.Stop.TheVariants as stop
+use Rattle.hugepool.specs.declared.working.Carrier.{Carrier}
+use Rattle.hugepool.specs.declared.working.Carrier.TheVariants.{Core}
 use Rattle.hugepool.specs.declared.working.WorkFault.{WorkFault}
-use Rattle.hugepool.specs.declared.working.WorkFault.TheVariants.{NoWorkload, NoDriver, Client, Write, Bad}
+use Rattle.hugepool.specs.declared.working.WorkFault.TheVariants.{NoWorkload, NoDriver, Client, Bad}
+use Rattle.hugepool.specs.declared.working.WorkWords.{WorkWords}
 
 -- 2 where the words name no workload or no driver, 1 after a fault and where the workload is bad
 abbrev pub work_status : WorkFault → ℕ
 work_status (NoWorkload name) = 2
 work_status (NoDriver name) = 2
 work_status (Client fault) = 1
-work_status Write = 1
 work_status Bad = 1
+
+-- the word for what carries a workload's calls
+abbrev pub carrier_name : Carrier → List ℕ
+carrier_name Core = codes "core"
+
+-- the words name this workload, and this carries its calls
+abbrev pub IsAsked : WorkWords → Workload → Carrier → Type 0
+IsAsked words workload carrier = (name_of workload ≡ string_bytes words.name) × (carrier_name carrier ≡ string_bytes words.driver)
+
+-- no workload has the name; or one has it, and no driver has the other
+abbrev pub IsUnknown : WorkWords → WorkFault → Type 0
+IsUnknown words (NoWorkload name) = (name ≡ words.name) × ((workload : Workload) → name_of workload ≢ string_bytes words.name)
+IsUnknown words (NoDriver name) =
+    (name ≡ words.driver) × ((workload : Workload) × (name_of workload ≡ string_bytes words.name))
+    × ((carrier : Carrier) → carrier_name carrier ≢ string_bytes words.driver)
+IsUnknown words (Client fault) = ⊥
+IsUnknown words Bad = ⊥
+
+-- the workload's lines ran over a driver that had heard nothing, and this is what came of it
+abbrev pub IsRun : Workload → Report → Type 0
+IsRun workload report = (heard : Heard) × IsReport (table_of workload).lines (table_of workload).tally [] heard report
+
+-- `ok calls N`, or `bad call K`
+abbrev pub outcome : (calls : ℕ) → (bad : Option ℕ) → List ℕ
+outcome calls None = codes " ok calls " ++ decimal calls
+outcome calls (Some number) = codes " bad call " ++ decimal number
+
+-- the line that tells what came of a workload: `NAME ok calls N`, or `NAME bad call K`
+abbrev pub report_line : (name : List ℕ) → Report → List ℕ
+report_line name report = name ++ (outcome report.calls report.bad ++ 10 ∷ [])
+
+-- what the words ask for was run, and this line tells of it
+pub record Reports (words : WorkWords) (report : Report) (line : List ℕ) : Type 0 where
+  pub workload : Workload
+  pub carrier : Carrier
+  pub asked : IsAsked words workload carrier
+  pub run : IsRun workload report
+  pub is : line ≡ report_line (name_of workload) report
+
+-- there is nothing to be told: the words name nothing, or a call of what they name had a fault
+abbrev pub Unreported : WorkWords → WorkFault → Type 0
+Unreported words (NoWorkload name) = IsUnknown words (NoWorkload name)
+Unreported words (NoDriver name) = IsUnknown words (NoDriver name)
+Unreported words (Client fault) = (workload : Workload) × (carrier : Carrier) × IsAsked words workload carrier
+Unreported words Bad = ⊥
+
+-- it was run, and all of its line is written; an output held `before`, and now holds `after`
+abbrev pub Tells : WorkWords → Report → (before after : Option (List ℕ)) → Type 0
+Tells words report before after = (line : List ℕ) × Reports words report line × Appends before after line
+
+-- What `work` answers: a good report or a bad one is told; a failed write leaves a front of the line; else nothing is written
+abbrev pub AnsweredWork : WorkWords → Result (Unit {0}) Stop → (before after : Option (List ℕ)) → Type 0
+AnsweredWork words (Ok x) before after = (report : Report) × (report.bad ≡ None) × Tells words report before after
+AnsweredWork words (Err (stop.Work Bad)) before after = (report : Report) × IsSome report.bad × Tells words report before after
+AnsweredWork words (Err (stop.Work (NoWorkload name))) before after = Unreported words (NoWorkload name) × Keeps before after
+AnsweredWork words (Err (stop.Work (NoDriver name))) before after = Unreported words (NoDriver name) × Keeps before after
+AnsweredWork words (Err (stop.Work (Client fault))) before after = Unreported words (Client fault) × Keeps before after
+AnsweredWork words (Err (stop.Replay fault)) before after =
+    (fault ≡ Write)
+    × ((report : Report) × (line : List ℕ) × Reports words report line × Wrote before after line)
+AnsweredWork words (Err (stop.Usage error)) before after = ⊥
+AnsweredWork words (Err stop.Unfinished) before after = ⊥

@@ -12,7 +12,7 @@ use crate::checking::run_check;
 use crate::command::{Request, read_words};
 use crate::exploring::run_explore;
 use crate::scheduling::run_schedule;
-use crate::working::{WorkFault, work};
+use crate::working::{WorkFault, run_work};
 use clap::error::ErrorKind;
 use hp_replay::{ReplayFault, Source, Watched, replay};
 use std::alloc::Global;
@@ -117,10 +117,7 @@ fn answer<H: Threads + Sync, R: Source, W: Write + Drop>(
         Ok(Request::Explore(exploration)) => run_explore(rt, alloc, exploration, reader, out),
         Ok(Request::Check) => run_check(alloc, reader, out),
         Ok(Request::Schedule(scheduling)) => run_schedule(alloc, scheduling, reader, out),
-        Ok(Request::Work(words)) => {
-            let worked = work(alloc, words, &mut out);
-            (worked.map_err(Stop::Work), Some(out))
-        }
+        Ok(Request::Work(words)) => run_work(alloc, words, out),
         Err(error) => match error.kind() {
             ErrorKind::DisplayHelp | ErrorKind::DisplayVersion => {
                 let written = write_help(&error, &mut out);

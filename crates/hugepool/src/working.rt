@@ -1,13 +1,19 @@
 //! `hugepool work`: a workload over a driver.
-ghost use Rattle.std.specs.Prelude.{◌≡◌, ◌≢◌, OnOk, Err, codes, string_bytes};
-ghost use Rattle.hp_client.specs.Tables.{name_of};
+ghost use Rattle.std.specs.Prelude.{◌≡◌, ◌≢◌, ◌∷◌, ◌++◌, Ok, Err, OnOk, OnErr, IfOk, IfErr, IfSome, IfNone, IsSome, None, string_bytes};
+ghost use Rattle.std.specs.Io.KnownBytes.{Appends};
+ghost use Rattle.std.specs.Option.{option_map};
+ghost use Rattle.hp_client.specs.Tables.{table_of, name_of, Heard, IsReport};
 ghost use Rattle.hp_client.specs.declared.table.Workload.{Workload};
-ghost use Rattle.hugepool.specs.Working.{work_status};
+ghost use Rattle.hp_replay.specs.Writing.{Wrote};
+ghost use Rattle.hugepool.specs.Requests.{IfThere};
+ghost use Rattle.hugepool.specs.Working.{work_status, carrier_name, IsAsked, IsUnknown, IsRun, Reports, report_line, Unreported, Tells, AnsweredWork};
 
+use crate::program::{Stop, flush_out, flushed_answer, stopped};
 use clap::{Arg, ArgMatches, Command};
 use hp_client::{
     ClientFault, CoreDriver, Report, Workload, config_of, run_workload, workload_named,
 };
+use hp_replay::{ReplayFault, Watched, write_text};
 use std::alloc::{AllocError, Global};
 use std::io::Write;
 use thiserror::Error;
@@ -28,8 +34,6 @@ pub(crate) enum WorkFault {
     NoDriver(String),
     #[error("hugepool: {0}\n")]
     Client(ClientFault),
-    #[error("hugepool: writing failed\n")]
-    Write,
     /// It is told on the output.
     #[error("")]
     Bad,
@@ -42,7 +46,7 @@ impl WorkFault {
     {
         match self {
             WorkFault::NoWorkload(_) | WorkFault::NoDriver(_) => 2,
-            WorkFault::Client(_) | WorkFault::Write | WorkFault::Bad => 1,
+            WorkFault::Client(_) | WorkFault::Bad => 1,
         }
     }
 }
@@ -87,39 +91,118 @@ pub(crate) fn work_words(alloc: Global, given: &ArgMatches<'_>) -> Result<WorkWo
     })
 }
 
-/// Runs the workload over the driver, and writes a line that tells what came of it.
-pub(crate) fn work(alloc: Global, words: WorkWords, out: &mut impl Write) -> Result<(), WorkFault>
-    ensures named { OnOk result ((workload : Workload) × (name_of workload ≡ string_bytes words.name)) }
-    ensures driver { OnOk result (string_bytes words.driver ≡ codes "core") }
-    ensures refused { ((workload : Workload) → name_of workload ≢ string_bytes words.name)
-        → result ≡ Err (WorkFault.NoWorkload words.name) }
+/// What carries a workload's calls.
+#[derive(Clone, Copy, Debug, PartialEq, Eq)]
+pub(crate) enum Carrier {
+    /// A driver that has a core to itself.
+    Core,
+}
+
+// The one of that name.
+fn carrier_named(name: &str) -> Option<Carrier>
+    ensures found { IfSome result (λ carrier. carrier_name carrier ≡ name.now) }
+    ensures none { IfNone result ((carrier : _) → carrier_name carrier ≢ name.now) }
+{
+    if name == "core" {
+        return Some(Carrier::Core);
+    }
+    None
+}
+
+// What the words ask for: the workload is looked up first, and then what carries its calls.
+fn asked(words: WorkWords) -> Result<(Workload, Carrier), WorkFault>
+    ensures ok { IfOk result (λ asked. IsAsked words asked.0 asked.1) }
+    ensures err { IfErr result (λ fault. IsUnknown words fault) }
 {
     let Some(workload) = workload_named(words.name.as_str()) else {
         return Err(WorkFault::NoWorkload(words.name));
     };
-    if words.driver.as_str() != "core" {
+    let Some(carrier) = carrier_named(words.driver.as_str()) else {
         return Err(WorkFault::NoDriver(words.driver));
-    }
-    let report = run_on_core(alloc, workload).map_err(WorkFault::Client)?;
-    tell(workload, report, out)
+    };
+    Ok((workload, carrier))
 }
 
-fn run_on_core(alloc: Global, workload: Workload) -> Result<Report, ClientFault> {
+fn run_on_core(alloc: Global, workload: Workload) -> Result<Report, ClientFault>
+    ensures { IfOk result (λ report. IsRun workload report) }
+{
     let mut driver = CoreDriver::open(alloc, config_of(workload))?;
     run_workload(alloc, workload, &mut driver)
 }
 
-// The line that is written.
-fn tell(workload: Workload, report: Report, out: &mut impl Write) -> Result<(), WorkFault> {
+fn run_on(alloc: Global, carrier: Carrier, workload: Workload) -> Result<Report, ClientFault>
+    ensures { IfOk result (λ report. IsRun workload report) }
+{
+    match carrier {
+        Carrier::Core => run_on_core(alloc, workload),
+    }
+}
+
+// The line that tells what came of a workload.
+fn report_line(alloc: Global, workload: Workload, report: Report) -> Result<String, AllocError>
+    ensures { IfOk result (λ line. string_bytes line ≡ report_line (name_of workload) report) }
+{
     let name = workload.name();
-    let written = match report.bad {
-        None => writeln!(out, "{name} ok calls {}", report.calls),
-        Some(number) => writeln!(out, "{name} bad call {number}"),
-    };
-    written.map_err(|_| WorkFault::Write)?;
-    out.flush().map_err(|_| WorkFault::Write)?;
+    let mut line = String::new(alloc);
+    match report.bad {
+        None => writeln!(line, "{name} ok calls {}", report.calls)?,
+        Some(number) => writeln!(line, "{name} bad call {number}")?,
+    }
+    Ok(line)
+}
+
+// Runs what the words ask for, and lays its line out. Nothing is written yet.
+fn reported(alloc: Global, words: WorkWords) -> Result<(Report, String), WorkFault>
+    ensures ok { IfOk result (λ told. Reports words told.0 (string_bytes told.1)) }
+    ensures err { IfErr result (λ fault. Unreported words fault) }
+{
+    let (workload, carrier) = asked(words)?;
+    let report = run_on(alloc, carrier, workload).map_err(WorkFault::Client)?;
+    match report_line(alloc, workload, report) {
+        Ok(line) => Ok((report, line)),
+        Err(_) => Err(WorkFault::Client(ClientFault::Memory)),
+    }
+}
+
+// What is answered once the line is written, or isn't.
+fn told(report: Report, written: Result<(), ReplayFault>) -> Result<(), Stop>
+    ensures good { OnOk written (report.bad ≡ None → result ≡ Ok tt) }
+    ensures bad { OnOk written (IsSome report.bad → result ≡ Err (Stop.Work WorkFault.Bad)) }
+    ensures failed { IfErr written (λ fault. result ≡ Err (Stop.Replay fault)) }
+{
+    stopped(written)?;
     match report.bad {
         None => Ok(()),
-        Some(_) => Err(WorkFault::Bad),
+        Some(_) => Err(Stop::Work(WorkFault::Bad)),
+    }
+}
+
+// Writes a line, and flushes it.
+fn write_line<W: Write + Drop>(line: &str, out: W) -> (Result<(), ReplayFault>, W)
+    ensures ok { OnOk result.0 (Appends (W.contents out) (W.contents result.1) line.now) }
+    ensures err { IfErr result.0 (λ fault. (fault ≡ ReplayFault.Write) × Wrote (W.contents out) (W.contents result.1) line.now) }
+{
+    let mut sink = Watched::new(out);
+    let written = write_text(&mut sink, line.as_bytes());
+    let has_failed = sink.has_failed();
+    let mut out = sink.into_inner();
+    let flushed = flush_out(has_failed, &mut out);
+    (flushed_answer(written, flushed), out)
+}
+
+/// Runs a workload, and writes a line that tells what came of it.
+pub(crate) fn run_work<W: Write + Drop>(
+    alloc: Global,
+    words: WorkWords,
+    out: W,
+) -> (Result<(), Stop>, Option<W>)
+    ensures { IfThere (option_map W.contents result.1) (AnsweredWork words result.0 (W.contents out)) }
+{
+    match reported(alloc, words) {
+        Ok((report, line)) => {
+            let (written, out) = write_line(line.as_str(), out);
+            (told(report, written), Some(out))
+        }
+        Err(fault) => (Err(Stop::Work(fault)), Some(out)),
     }
 }

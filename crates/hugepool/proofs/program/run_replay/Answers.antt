@@ -1,6 +1,5 @@
-use Rattle.std.proofs.Common.{Bool, sym, subst, ◌∙◌}
-use Rattle.std.specs.Io.Buffered.{writer_buffer, writer_contents, writer_inner}
-use Rattle.std.specs.Io.KnownBytes.{Keeps, append_known}
+use Rattle.std.proofs.Common.{Bool, subst}
+use Rattle.std.specs.Io.Buffered.{writer_buffer}
 use Rattle.hp_replay.specs.Streams.{TellsWrites, has_failed}
 use Rattle.hugepool.proofs.Buffered.{opens, did_replay}
 use Rattle.hugepool.proofs.program.run_replay.Goals as goal

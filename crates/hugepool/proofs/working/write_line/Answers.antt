@@ -1,0 +1,13 @@
+use Rattle.std.proofs.Common.{ap}
+use Rattle.hp_replay.specs.Streams.{stream_of}
+use Rattle.hugepool.proofs.Reporting.{line_cut}
+use Rattle.hugepool.proofs.working.write_line.Goals as goal
+
+pub returns-clause-err : goal.returns-clause-err
+returns-clause-err g c =
+    line_cut _ _ (g.W.Write.contents (stream_of c.write_text-written.new.writer)) (g.W.Write.contents c.flush_out-flushed.new.out)
+    c.args.line.now c.write_text-written.result c.flushed_answer.result c.flush_out-flushed.result
+    (ap g.W.Write.contents c.new-sink.ensures.stream) (rw (← c.into_inner-out.ensures) c.flush_out-flushed.ensures.bytes)
+    (rw (← c.as_bytes.ensures.value) c.write_text-written.ensures.ok)
+    (rw (← c.as_bytes.ensures.value) c.write_text-written.ensures.front)
+    c.flushed_answer.ensures.ok c.flushed_answer.ensures.err
