@@ -1,7 +1,9 @@
 #!/usr/bin/env bash
-# Explores 20,000 runs of about 150 turns, on one processor, beside a plain Rust explorer that does the same with nothing
+# Explores 20,000 runs of some 245 turns, on one processor, beside a plain Rust explorer that does the same with nothing
 # proved; then on all processors; then with the audit of every turn, fewer runs; and a script of 64 tasks in a pool of 4,096
 # frames beside one of 4 tasks, a turn each. Says whether both wrote the same lines. Needs cargo, python3 and taskset.
+# How much faster all processors are is told by the clock, so it needs a machine with nothing else to do: where others had
+# work when it began, it says so, and that number says nothing.
 set -euo pipefail
 cd "$(dirname "${BASH_SOURCE[0]}")/.."
 for need in python3 taskset; do
@@ -52,6 +54,19 @@ def wall(words, path):
     return best
 
 
+def busy():
+    """The seconds that all processors have been at work since the system began."""
+    user, nice, system = Path("/proc/stat").read_text().split(maxsplit=4)[1:4]
+    return (int(user) + int(nice) + int(system)) / os.sysconf("SC_CLK_TCK")
+
+
+def busy_processors():
+    """How many processors others keep busy, over a second in which nothing is done here."""
+    before = busy()
+    time.sleep(1)
+    return busy() - before
+
+
 def turns_of(text):
     return sum(int(line.split()[4]) for line in text.splitlines())
 
@@ -67,8 +82,11 @@ with tempfile.TemporaryDirectory() as folder:
         sys.exit("bench: the two wrote different lines")
     print(f"20,000 runs of {turns_of(text) / 20_000:.0f} turns each, both wrote the same lines")
     in_turn("on one processor", small, {"hugepool": [*ONE, *OURS, *options], "plain": [*ONE, *THEIRS, *options]}, 7)
+    others = busy_processors()
     one, all_of_them = wall([*ONE, *OURS, *options], small), wall([*OURS, *options], small)
     print(f"by the clock: {one:.3f} s on one processor, {all_of_them:.3f} s on {cores}: {one / all_of_them:.2f} times as fast")
+    if others > 0.1:
+        print(f"  (others kept {others:.1f} processors busy before that: it says nothing of {cores} free ones)")
     few = ["--runs", "2000", "--deny", "50", "--kill", "1"]
     bare, audited = wall([*ONE, *OURS, *few], small), wall([*ONE, *OURS, *few, "--audit"], small)
     print(f"2,000 runs with the audit of every turn: {audited:.3f} s, without {bare:.3f} s, on one processor")

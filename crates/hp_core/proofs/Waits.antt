@@ -80,7 +80,7 @@ same_holder : (k h : ℕ) → ◌≡◌ {A = Option ℕ} (Some k) (Some h) → k
 same_holder k h e = ap (λ (o : Option ℕ). elim o [ None ↦ k | Some x ↦ x ]) e
 
 -- where nobody is named, nobody holds it up
-nobody : {A : Type 0} (h : ℕ) → ◌≡◌ {A = Option ℕ} None (Some h) → A
+pub nobody : {A : Type 0} (h : ℕ) → ◌≡◌ {A = Option ℕ} None (Some h) → A
 nobody {A} h e = absurd (true≢false (ap (λ (o : Option ℕ). elim o [ None ↦ true | Some x ↦ false ]) e))
 
 -- where the reader names the holder of a lock, the turn at a call's start that waits for it is a row
@@ -479,10 +479,10 @@ call_blocks p t killed grant (call.Unmap phase) h e = nobody h e
 call_blocks p t killed grant (call.Exit phase) h e = nobody h e
 
 -- a step is held up by whom the reader names
-step_held : (s : CoreState) (t : ℕ) (grant : Bool) (told : Outcome) (new : State) → IsSound s
+pub step_held : (s : CoreState) (t : ℕ) (grant : Bool) (told : Outcome) (new : State)
     → rows.StepRow (as_state s) t grant told new → told_of told ≡ task_blocker s.parts (seat_at s.seats t)
-unfolding IsSound rows.StepRow lives_of calls_of
-step_held s t grant told new h row =
+unfolding rows.StepRow lives_of calls_of
+step_held s t grant told new row =
     by_test (is_dead (seat_at s.seats t).life) row
     (λ dead r. ap told_of r.0 ∙ rw dead refl)
     (λ alive rest. by_option (seat_at s.seats t).call rest
@@ -512,7 +512,7 @@ same_calls : (calls : ℕ → Option Call) (t : ℕ) (inflight : Call) → calls
 same_calls calls t inflight e = subst (λ (o : Option Call). put calls t o ≡ calls) e (put_self calls t)
 
 -- where the reader names someone, the event that waits for it is a row of the machine
-step_blocks : (s : CoreState) (t : ℕ) (grant : Bool) (h : ℕ) → task_blocker s.parts (seat_at s.seats t) ≡ Some h
+pub step_blocks : (s : CoreState) (t : ℕ) (grant : Bool) (h : ℕ) → task_blocker s.parts (seat_at s.seats t) ≡ Some h
     → rows.StepRow (as_state s) t grant (outcome.Blocked h) (as_state s)
 unfolding rows.StepRow lives_of calls_of
 step_blocks s t grant h e =
@@ -528,18 +528,18 @@ step_blocks s t grant h e =
     ))
 
 -- the reader names whom the next step is blocked by
-names : (s : CoreState) (t : ℕ) (o : Option ℕ) → IsSound s → task_blocker s.parts (seat_at s.seats t) ≡ o → WaitsFor s t o
+names : (s : CoreState) (t : ℕ) (o : Option ℕ) → task_blocker s.parts (seat_at s.seats t) ≡ o → WaitsFor s t o
 unfolding WaitsFor Row
-names s t (Some h) sound e = λ grant. (step_blocks s t grant h e, refl)
-names s t None sound e =
-    λ grant holder new row. nobody holder (sym e ∙ sym (step_held s t grant (outcome.Blocked holder) (as_state new) sound row.0))
+names s t (Some h) e = λ grant. (step_blocks s t grant h e, refl)
+names s t None e =
+    λ grant holder new row. nobody holder (sym e ∙ sym (step_held s t grant (outcome.Blocked holder) (as_state new) row.0))
 
 -- so the reader tells exactly whom the task waits for
 pub waits : {inside seen : CoreState} (t : ℕ) (o : Option ℕ) → inside ≡ seen → IsSound inside
     → o ≡ task_blocker inside.parts (seat_at seen.seats t) → WaitsFor seen t o
 waits {inside} t o same sound e =
     let here = e ∙ ap (λ (s : CoreState). task_blocker inside.parts (seat_at s.seats t)) (sym same) in
-    subst (λ (s : CoreState). WaitsFor s t o) same (names inside t o sound (sym here))
+    subst (λ (s : CoreState). WaitsFor s t o) same (names inside t o (sym here))
 
 -- a sound core has a lock for each file
 pub locks_fit : (s : CoreState) → IsSound s → IsSized s.parts

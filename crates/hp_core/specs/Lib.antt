@@ -3,6 +3,7 @@ pub mod Copies
 pub mod Duplicates
 pub mod Fits
 pub mod HeldBack
+pub mod Holding
 pub mod Opening
 pub mod Pictures
 pub mod Readers

@@ -4,7 +4,7 @@ ghost use Rattle.hp_fault.specs.State.{state_of, IsSized};
 ghost use Rattle.hp_core.specs.Blockers.{lock_blocker, slot_blocker, touch_blocker, map_blocker, alloc_blocker, punch_blocker};
 ghost use Rattle.hp_core.specs.Blockers.{truncate_blocker, call_blocker, task_blocker};
 ghost use Rattle.hp_core.specs.Readers.{config_of};
-ghost use Rattle.hp_core.specs.Waiting.{WaitsFor};
+ghost use Rattle.hp_core.specs.Waiting.{WaitsFor, IsReady};
 
 use crate::core_state::Core;
 use crate::seat::{Seat, is_dead, is_killed};
@@ -17,6 +17,17 @@ use hp_machine::map::MapPhase;
 use hp_machine::punch::PunchPhase;
 use hp_machine::touch::TouchPhase;
 use hp_machine::truncate::TruncatePhase;
+
+/// What a task may do next.
+#[derive(Clone, Copy, Debug, PartialEq, Eq)]
+pub enum Readiness {
+    /// No call of it is in flight: to begin one.
+    Idle,
+    /// Its call's next step isn't blocked.
+    Free,
+    /// Its call's next step is blocked by this holder.
+    HeldUp(Task),
+}
 
 // Who holds the lock that a call on the file would take at its start, unless it ends there.
 fn lock_blocker(parts: &Parts, killed: bool, file: File, is_bad: bool) -> Option<Task>
@@ -142,5 +153,20 @@ impl Core {
         ensures { WaitsFor self.now task result }
     {
         seat_blocker(&self.parts, &self.seats[(task.number() - 1) as usize])
+    }
+
+    /// Whether a call of the task is in flight, and whether its next step is blocked: in one look.
+    pub fn readiness(&self, task: Task) -> Readiness
+        requires first { 1 ≤ task }
+        requires last { task ≤ (config_of self.now).tasks }
+        ensures { IsReady self.now task result }
+    {
+        if self.phase(task).is_none() {
+            return Readiness::Idle;
+        }
+        match self.waits_for(task) {
+            Some(holder) => Readiness::HeldUp(holder),
+            None => Readiness::Free,
+        }
     }
 }

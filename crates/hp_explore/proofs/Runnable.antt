@@ -12,6 +12,7 @@ use Rattle.hp_machine.specs.Events.{IsReached}
 use Rattle.hp_machine.specs.Events.{word_of}
 use Rattle.std.specs.Option.{option_map}
 use Rattle.hp_machine.specs.declared.call.Call.{Call}
+use Rattle.hp_machine.specs.declared.phase.Phase.{Phase}
 use Rattle.hp_laws.specs.Bounds.{IsUnblocked}
 use Rattle.hp_laws.proofs.Meets.{caller_there}
 use Rattle.hp_laws.proofs.Waiting.{some_call_goes_on}
@@ -24,15 +25,26 @@ use Rattle.hp_explore.specs.Explored.{is_done, all_done, idle_finish}
 use Rattle.hp_explore.specs.declared.line.Finish.TheVariants.{Finished, Stuck}
 use Rattle.hp_explore.proofs.Twins.{still_some}
 
--- a task that waits for a holder isn't one that waits for nobody
-pub not_waiting : (s : CoreState) (t : ℕ) (o : Option ℕ) → WaitsFor s t o → is_some o ≡ true → WaitsFor s t None → ⊥
-unfolding WaitsFor
-not_waiting s t None w e none = (let d : false ≡ true = e in absurd (cc))
-not_waiting s t (Some holder) w e none = none true holder s (w true)
+-- a task without a call in flight may take a turn exactly where it has a call left
+pub idle_can : (plan : Plan) (w : World) (t : ℕ) → phase_of w.core t ≡ None → IsSome (next_call plan w.made t) → CanTurn plan w t
+idle_can plan w t idle next =
+    subst (λ (o : Option Phase). MatchBool (is_some o) (WaitsFor w.core t None) (IsSome (next_call plan w.made t))) (sym idle) next
 
--- a task in a call that may take a turn waits for nobody
-pub can_in_call : (plan : Plan) (w : World) (t : ℕ) → in_call w t ≡ true → CanTurn plan w t → WaitsFor w.core t None
-can_in_call plan w t e can = subst (λ (b : Bool). MatchBool b (WaitsFor w.core t None) (IsSome (next_call plan w.made t))) e can
+pub idle_cannot : (plan : Plan) (w : World) (t : ℕ) → phase_of w.core t ≡ None → (IsSome (next_call plan w.made t) → ⊥)
+    → CanTurn plan w t → ⊥
+idle_cannot plan w t idle none can =
+    none (subst (λ (o : Option Phase). MatchBool (is_some o) (WaitsFor w.core t None) (IsSome (next_call plan w.made t))) idle can)
+
+-- one with a call in flight exactly where it waits for nobody
+pub free_can : (plan : Plan) (w : World) (t : ℕ) → IsSome (phase_of w.core t) → WaitsFor w.core t None → CanTurn plan w t
+free_can plan w t busy free =
+    subst (λ (b : Bool). MatchBool b (WaitsFor w.core t None) (IsSome (next_call plan w.made t))) (sym busy) free
+
+pub held_cannot : (plan : Plan) (w : World) (t holder : ℕ) → IsSome (phase_of w.core t) → WaitsFor w.core t (Some holder)
+    → CanTurn plan w t → ⊥
+unfolding WaitsFor
+held_cannot plan w t holder busy held can =
+    (subst (λ (b : Bool). MatchBool b (WaitsFor w.core t None) (IsSome (next_call plan w.made t))) busy can) true holder w.core (held true)
 
 -- the list is made task by task
 pub one_more : (plan : Plan) (w : World) (n : ℕ) (tasks more : List ℕ) → AreRunnableOf plan w n tasks → CanTurn plan w (n + 1)

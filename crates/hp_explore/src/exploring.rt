@@ -42,6 +42,7 @@ fn explore_one(
     let _none: Option<Op> = None;
     let mut walk = Walk::new(alloc, script, seed.wrapping_add(u64::from(run)))?;
     let mut tasks = Vec::new(alloc);
+    walk.list_runnable(plan, &mut tasks)?;
     for turn in 0..TURN_LIMIT {
         let told = walk.turn(plan, &mut tasks)?;
         if told.is_none() {
@@ -52,7 +53,7 @@ fn explore_one(
             return Ok(walk.line(run, Finish::Found(found)));
         }
     }
-    let finish = walk.last_finish(plan, &mut tasks)?;
+    let finish = walk.last_finish(plan, tasks.as_slice());
     Ok(walk.line(run, finish))
 }
 
@@ -139,6 +140,7 @@ fn events_of(
     let _none: Option<Op> = None;
     let mut walk = Walk::new(alloc, script, seed)?;
     let mut tasks = Vec::new(alloc);
+    walk.list_runnable(plan, &mut tasks)?;
     let mut events = Vec::new(alloc);
     for made in 0..TURN_LIMIT {
         match walk.turn(plan, &mut tasks)? {
@@ -147,7 +149,7 @@ fn events_of(
         }
         walk.is_clean();
     }
-    let _finish = walk.last_finish(plan, &mut tasks)?;
+    let _finish = walk.last_finish(plan, tasks.as_slice());
     Ok(events)
 }
 

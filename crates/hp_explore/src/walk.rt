@@ -2,6 +2,7 @@
 ghost use Rattle.std.specs.Prelude.{◌≡◌, ◌+◌, ◌-◌, ◌<◌, ◌≤◌, ◌^◌, true, false, [], None, Some, IfOk, IfSome, OnOk};
 ghost use Rattle.std.specs.Prelude.{IsSome, All, MatchOption, length, slice_index};
 ghost use Rattle.hp_machine.specs.State.{is_alive};
+ghost use Rattle.hp_core.specs.Holding.{holding_of};
 ghost use Rattle.hp_core.specs.Readers.{life_of};
 ghost use Rattle.hp_core.specs.Runs.{Row};
 ghost use Rattle.hp_machine.specs.declared.outcome.Outcome.{Outcome};
@@ -13,7 +14,7 @@ use crate::plan::Plan;
 use crate::script::Script;
 use hp_audit::{Finding, audit};
 use hp_base::{Event, Op, Task};
-use hp_core::{Answer, Core, Life};
+use hp_core::{Answer, Core, Holding, Life, Readiness};
 use rand_core::SeedableRng;
 use rand_core::utils::NextWord;
 use rand_pcg::Lcg64Xsh32;
@@ -80,15 +81,15 @@ impl Walk {
         ensures can { result ≡ true → CanTurn plan.now self.now task }
         ensures cannot { result ≡ false → ¬ CanTurn plan.now self.now task }
     {
-        if self.in_call(task) {
-            self.core.waits_for(Task::new(task)).is_none()
-        } else {
-            self.next_call(plan, task).is_some()
+        match self.core.readiness(Task::new(task)) {
+            Readiness::Idle => self.next_call(plan, task).is_some(),
+            Readiness::Free => true,
+            Readiness::HeldUp(_) => false,
         }
     }
 
     /// Lists the tasks that may take a turn, in ascending order. The list's memory is used again.
-    fn list_runnable(&self, plan: &Plan, tasks: &mut Vec<u32>) -> Result<(), AllocError>
+    pub(crate) fn list_runnable(&self, plan: &Plan, tasks: &mut Vec<u32>) -> Result<(), AllocError>
         ensures tasks { OnOk result (AreRunnable plan.now self.now tasks.new.items) }
         ensures in_range { OnOk result (All (λ t. (1 ≤ t) × (t ≤ length self.now.made)) tasks.new.items) }
     {
@@ -137,17 +138,33 @@ impl Walk {
         }
     }
 
-    /// One turn, of one of these tasks.
-    fn turn_of(&mut self, plan: &Plan, tasks: &[u32]) -> Result<Event, AllocError>
-        requires runnable { AreRunnable plan.now self.old tasks.now }
-        requires in_range { All (λ t. (1 ≤ t) × (t ≤ length self.old.made)) tasks.now }
-        requires some { 0 < length tasks.now }
+    /// What the task's call holds.
+    fn holding(&self, task: u32) -> Holding
+        requires { (1 ≤ task) × (task ≤ length self.now.made) }
+        ensures { result ≡ holding_of self.now.core task }
+    {
+        self.core.holding(Task::new(task))
+    }
+
+    /// One turn, of one of these tasks. Lists them anew, unless the turn left what its task's call holds: then the others
+    /// can take a turn where they could before.
+    fn turn_of(&mut self, plan: &Plan, tasks: &mut Vec<u32>) -> Result<Event, AllocError>
+        requires runnable { AreRunnable plan.now self.old tasks.old.items }
+        requires in_range { All (λ t. (1 ≤ t) × (t ≤ length self.old.made)) tasks.old.items }
+        requires some { 0 < length tasks.old.items }
         requires turns { self.old.turns < 1000000 }
-        ensures { IfOk result (λ event. Turn plan.now self.old event self.new) }
+        ensures turn { IfOk result (λ event. Turn plan.now self.old event self.new) }
+        ensures runnable { OnOk result (AreRunnable plan.now self.new tasks.new.items) }
+        ensures in_range { OnOk result (All (λ t. (1 ≤ t) × (t ≤ length self.new.made)) tasks.new.items) }
     {
         let task = tasks[self.rng.next_word() as usize % tasks.len()];
+        let held = self.holding(task);
         let event = self.choose(plan, task);
+        self.core.is_reached();
         self.make(&event)?;
+        if self.holding(task) != held || !self.can_turn(plan, task) {
+            self.list_runnable(plan, tasks)?;
+        }
         Ok(event)
     }
 
@@ -166,40 +183,38 @@ impl Walk {
         Ok(())
     }
 
-    /// One turn, if a task may take one: tells its event. `tasks` is where they are listed.
+    /// One turn, if a task may take one: tells its event. `tasks` lists those that may, before and behind it.
     pub(crate) fn turn(
         &mut self,
         plan: &Plan,
         tasks: &mut Vec<u32>,
     ) -> Result<Option<Event>, AllocError>
-        requires { self.old.turns < 1000000 }
+        requires turns { self.old.turns < 1000000 }
+        requires runnable { AreRunnable plan.now self.old tasks.old.items }
+        requires in_range { All (λ t. (1 ≤ t) × (t ≤ length self.old.made)) tasks.old.items }
         ensures turn { IfOk result (λ told. IfSome told (λ event. Turn plan.now self.old event self.new)) }
         ensures idle { IfOk result (λ told. told ≡ None → AreRunnable plan.now self.old []) }
         ensures stays { IfOk result (λ told. told ≡ None → self.new ≡ self.old) }
+        ensures runnable { OnOk result (AreRunnable plan.now self.new tasks.new.items) }
+        ensures in_range { OnOk result (All (λ t. (1 ≤ t) × (t ≤ length self.new.made)) tasks.new.items) }
     {
-        self.list_runnable(plan, tasks)?;
         if tasks.is_empty() {
             return Ok(None);
         }
-        let event = self.turn_of(plan, tasks.as_slice())?;
+        let event = self.turn_of(plan, tasks)?;
         Ok(Some(event))
     }
 
-    /// How the run ends where no turn is left. `tasks` is where those are listed that could take one.
-    pub(crate) fn last_finish(
-        &self,
-        plan: &Plan,
-        tasks: &mut Vec<u32>,
-    ) -> Result<Finish, AllocError>
-        ensures runnable { OnOk result (AreRunnable plan.now self.now tasks.new.items) }
-        ensures finish { IfOk result (λ finish. finish ≡ last_finish plan.now self.now tasks.new.items) }
-        ensures ends { IfOk result EndsWell }
+    /// How the run ends where no turn is left. These are the tasks that could take one.
+    pub(crate) fn last_finish(&self, plan: &Plan, tasks: &[u32]) -> Finish
+        requires { AreRunnable plan.now self.now tasks.now }
+        ensures finish { result ≡ last_finish plan.now self.now tasks.now }
+        ensures ends { EndsWell result }
     {
-        self.list_runnable(plan, tasks)?;
         if tasks.is_empty() {
-            Ok(self.idle_finish(plan))
+            self.idle_finish(plan)
         } else {
-            Ok(Finish::Limit)
+            Finish::Limit
         }
     }
 

@@ -2,7 +2,7 @@
 use hp_base::{Event, Task};
 use hp_replay::{
     Chances, Exploration, Finish, ReplayFault, RunLine, Script, Watched, check_trace, explore,
-    explore_hostile, read_script, schedule, write_count, write_explored, write_lines, write_trace,
+    explore_hostile, read_script, replay, schedule, write_count, write_explored, write_lines, write_trace,
 };
 use std::alloc::Global;
 use std::test::Fail;
@@ -171,44 +171,83 @@ fn a_schedule_is_a_trace(rt: HostRuntime) -> Result<(), Fail> {
     Ok(())
 }
 
+/// What a replay of the bytes writes, and its answer.
+fn replayed(alloc: Global, text: &str) -> (Vec<u8>, Result<(), ReplayFault>) {
+    let mut written = Vec::new(alloc);
+    let answer = replay(
+        alloc,
+        &mut text.as_bytes(),
+        &mut Watched::new(&mut written),
+    );
+    (written, answer)
+}
+
 #[test]
-fn traces_are_checked(rt: HostRuntime) -> Result<(), Fail> {
-    for (text, answer) in [
-        ("", Err(ReplayFault::BadHeader)),
-        (
-            "pool 1 1 1 1\nbegin 1 exit\nstep",
-            Err(ReplayFault::BadLine(3)),
-        ),
-        ("pool 1 1 1 1\nbegin 1 exit\ndeny 1\ndeny 1\n", Ok(3)),
-        ("pool 4097 1 1 1\n", Err(ReplayFault::BadHeader)),
-        ("pool 04 1 4 1\n", Err(ReplayFault::BadHeader)),
-        ("pool 1 1 1 1\r\n", Err(ReplayFault::BadHeader)),
-        ("pool 1 1 1 1\n\n", Err(ReplayFault::BadLine(2))),
-        ("pool 1 1 1 1\nstep 01\n", Err(ReplayFault::BadLine(2))),
-        ("pool 1 1 1 1\nstep  1\n", Err(ReplayFault::BadLine(2))),
-        (
-            "pool 1 1 1 1\nstep 4294967296\n",
-            Err(ReplayFault::BadLine(2)),
-        ),
+fn bad_traces_have_one_fault(rt: HostRuntime) -> Result<(), Fail> {
+    for (text, fault) in [
+        ("", ReplayFault::BadHeader),
+        ("pool 4097 1 1 1\n", ReplayFault::BadHeader),
+        ("pool 04 1 4 1\n", ReplayFault::BadHeader),
+        ("pool 1 1 1 1\r\n", ReplayFault::BadHeader),
+        ("pool 1 1 1 1\n\n", ReplayFault::BadLine(2)),
+        ("pool 1 1 1 1\nstep 01\n", ReplayFault::BadLine(2)),
+        ("pool 1 1 1 1\nstep  1\n", ReplayFault::BadLine(2)),
+        ("pool 1 1 1 1\nstep 4294967296\n", ReplayFault::BadLine(2)),
         (
             "pool 1 1 1 1\nbegin 1 store 0 18446744073709551616\n",
-            Err(ReplayFault::BadLine(2)),
+            ReplayFault::BadLine(2),
         ),
         (
             "pool 1 1 1 1\naaaaaaaaaaaaaaaaaaaaaaaaaaaaaaaaaaaaaaaaaaaaaaaaaaaaaaaaa",
-            Err(ReplayFault::BadLine(2)),
+            ReplayFault::BadLine(2),
         ),
-        ("pool 1 1 1 1\nstep 4294967295\n", Ok(1)),
+    ] {
+        assert_eq!(rt; check_trace(&mut text.as_bytes()), Err(fault), "{text}");
+        let (written, answer) = replayed(rt.alloc(), text);
+        assert_eq!(rt; answer, Err(fault), "{text}");
+        assert!(rt; written.is_empty(), "{text}");
+    }
+    Ok(())
+}
+
+#[test]
+fn a_cut_trace_is_run_up_to_its_end(rt: HostRuntime) -> Result<(), Fail> {
+    let text = "pool 1 1 1 1\nbegin 1 exit\nstep";
+    assert_eq!(rt; check_trace(&mut text.as_bytes()), Err(ReplayFault::BadLine(3)));
+    let (written, answer) = replayed(rt.alloc(), text);
+    assert_eq!(rt; answer, Err(ReplayFault::BadLine(3)));
+    assert_eq!(rt; written.as_slice(), b"begun\n".as_slice());
+    Ok(())
+}
+
+#[test]
+fn traces_are_checked_and_replayed(rt: HostRuntime) -> Result<(), Fail> {
+    for (text, events, outcomes) in [
+        (
+            "pool 1 1 1 1\nbegin 1 exit\ndeny 1\ndeny 1\n",
+            3,
+            "begun\nmoved leave\nended done\nfree 1 ",
+        ),
+        (
+            "pool 1 1 1 1\nstep 4294967295\n",
+            1,
+            "refused notalive\nfree 1 ",
+        ),
         (
             "pool 1 1 1 1\nbegin 1 store 0 18446744073709551615\nstep 1\n",
-            Ok(2),
+            2,
+            "begun\nended segv\nfree 1 ",
         ),
         (
             "pool 1 1 1 1\nbegin 1 map 0 4294967295 4294967295\nstep 1\n",
-            Ok(2),
+            2,
+            "begun\nended badrange\nfree 1 ",
         ),
     ] {
-        assert_eq!(rt; check_trace(&mut text.as_bytes()), answer);
+        assert_eq!(rt; check_trace(&mut text.as_bytes()), Ok(events), "{text}");
+        let (written, answer) = replayed(rt.alloc(), text);
+        assert_eq!(rt; answer, Ok(()), "{text}");
+        assert!(rt; written.starts_with(outcomes.as_bytes()), "{text}");
     }
     let mut sink = Watched::new(Vec::new(rt.alloc()));
     write_count(rt.alloc(), 3, &mut sink)?;

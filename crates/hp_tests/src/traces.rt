@@ -187,41 +187,60 @@ fn the_longest_numbers_are_read(rt: HostRuntime) -> Result<(), Fail> {
     Ok(())
 }
 
-/// What a feed takes first, and which line that ends.
-fn first(feed: &mut TraceFeed, piece: &[u8]) -> Result<(usize, bool), ReplayFault> {
-    let (used, line) = feed.take(piece)?;
-    Ok((used, matches!(line, Some(TraceLine::Header(_)))))
+/// What a feed tells of some bytes: the headers, the events and the lines.
+#[derive(Clone, Copy, Debug, PartialEq, Eq)]
+struct Fed {
+    headers: u32,
+    events: u32,
+    lines: u32,
 }
 
-/// The headers and the lines that a feed tells of the bytes, in pieces of at most `most` bytes.
-fn fed(feed: &mut TraceFeed, bytes: &[u8], most: usize) -> Result<(usize, u32), ReplayFault> {
-    let mut headers: usize = 0;
+/// What it tells of the bytes, in pieces of at most `most` bytes.
+fn fed(feed: &mut TraceFeed, bytes: &[u8], most: usize) -> Result<Fed, ReplayFault> {
+    let (mut headers, mut events): (u32, u32) = (0, 0);
     for piece in bytes.chunks(most.max(1)) {
         let mut rest = piece;
         for _ in 0..piece.len() {
-            let (used, is_header) = first(feed, rest)?;
+            let (used, line) = feed.take(rest)?;
             rest = rest.get(used..).unwrap_or(&[]);
-            headers = headers.saturating_add(usize::from(is_header));
+            match line {
+                Some(TraceLine::Header(_)) => headers = headers.saturating_add(1),
+                Some(TraceLine::Event(_)) => events = events.saturating_add(1),
+                None => {}
+            }
         }
     }
     feed.end()?;
-    Ok((headers, feed.line()))
+    Ok(Fed {
+        headers,
+        events,
+        lines: feed.line(),
+    })
 }
 
 #[test]
 fn a_feed_takes_any_pieces(rt: HostRuntime) -> Result<(), Fail> {
-    assert_eq!(rt; first(&mut TraceFeed::new(), TRACE)?, (13, true));
-    for most in [1, 3, 100] {
-        let whole = fed(&mut TraceFeed::new(), TRACE, most);
-        assert_eq!(rt; whole, Ok((1, 4)));
-        let cut = fed(&mut TraceFeed::new(), &TRACE[..TRACE.len() - 1], most);
+    let bytes = b"pool 1 1 1 1\nbegin 1 exit\ndeny 1\ndeny 1\n";
+    let mut feed = TraceFeed::new();
+    let (used, line) = feed.take(bytes)?;
+    assert_eq!(rt; used, 13);
+    assert!(rt; matches!(line, Some(TraceLine::Header(_))));
+    for most in [bytes.len(), 3, 1] {
+        let whole = fed(&mut TraceFeed::new(), bytes, most);
+        let told = Fed {
+            headers: 1,
+            events: 3,
+            lines: 4,
+        };
+        assert_eq!(rt; whole, Ok(told));
+        let cut = fed(&mut TraceFeed::new(), &bytes[..bytes.len() - 1], most);
         assert_eq!(rt; cut, Err(ReplayFault::BadLine(4)));
         let nothing = fed(&mut TraceFeed::new(), b"", most);
         assert_eq!(rt; nothing, Err(ReplayFault::BadHeader));
     }
     let mut feed = TraceFeed::new();
-    assert_eq!(rt; first(&mut feed, b"pool\n"), Err(ReplayFault::BadHeader));
-    assert_eq!(rt; first(&mut feed, TRACE), Err(ReplayFault::BadHeader));
+    assert_eq!(rt; fed(&mut feed, b"pool\n", 5), Err(ReplayFault::BadHeader));
+    assert_eq!(rt; fed(&mut feed, bytes, 1), Err(ReplayFault::BadHeader));
     assert_eq!(rt; feed.end(), Err(ReplayFault::BadHeader));
     Ok(())
 }

@@ -16,6 +16,8 @@ loop-made-init c =
     let script = c.args.script.now in
     record {
       turns = c.in_ok-walk.ensures.turns;
+      runnable = c.in_ok-list_runnable.ensures.tasks;
+      in_range = c.in_ok-list_runnable.ensures.in_range;
       count = ap (λ (es : List Event). length es) c.new-events.ensures.items;
       goes_on = λ rest line run. subst (λ (es : List Event). IsExplored script c.args.seed plan.deny plan.kill 0 (es ++ rest) line)
           (sym c.new-events.ensures.items)
@@ -53,6 +55,8 @@ loop-made-preserved c =
     let turn : Turn plan w e v = subst (λ (o : Option Event). IfSome o (λ event. Turn plan w event v)) c.in-Some.is c.in_ok-event.ensures.turn in
     record {
       turns = omega (arith, turn.turns, c.loop-made.invariant.turns);
+      runnable = c.in_ok-event.ensures.runnable;
+      in_range = c.in_ok-event.ensures.in_range;
       count = omega (arith, long, longer, c.loop-made.invariant.count);
       goes_on = λ rest line run. subst (λ (es : List Event). IsExplored c.args.script.now c.args.seed plan.deny plan.kill 0 es line)
           (sym (append_assoc old (e ∷ []) rest) ∙ ap (λ (es : List Event). es ++ rest) (sym is))
@@ -65,14 +69,14 @@ returns c =
     let plan = c.args.plan.now in
     let w = c.loop-made.walk in
     let left = 1000000 - c.loop-made.made in
-    let tasks = c.last_finish.new.tasks.items in
+    let tasks = c.loop-made.tasks.items in
     let none : left ≡ 0 = omega arith in
     let line = line_of 0 (last_finish plan w tasks) w in
     record {
       line = (
         line,
         subst (λ (es : List Event). IsExplored c.args.script.now c.args.seed plan.deny plan.kill 0 es line) (append-nil c.loop-made.events.items)
-            (c.loop-made.invariant.goes_on [] line (by_limit plan 0 left w tasks none c.in_ok-_finish.ensures.runnable)),
+            (c.loop-made.invariant.goes_on [] line (by_limit plan 0 left w tasks none c.loop-made.invariant.runnable)),
       );
       few = omega (arith, c.loop-made.invariant.count);
     }

@@ -1,11 +1,11 @@
 -- Each turn leaves a run of one turn less, and the last world ends it.
-use Rattle.std.proofs.Common.{◌≡◌, ◌+◌, ◌-◌, ◌%◌, ◌^◌, ◌∙◌, ℕ, [], ◌∷◌, sym, ap, subst}
+use Rattle.std.proofs.Common.{◌≡◌, ◌+◌, ◌-◌, ◌%◌, ◌^◌, ◌∙◌, ℕ, List, [], ◌∷◌, sym, ap, subst}
 use Rattle.std.proofs.Common.{refl, arith}
 use Rattle.std.specs.Prelude.{Option, not, IfSome}
 use Rattle.hp_base.specs.declared.event.Event.{Event}
 use Rattle.hp_explore.specs.declared.line.Finish.{Finish}
 use Rattle.hp_explore.specs.declared.line.RunLine.{RunLine}
-use Rattle.hp_explore.specs.Schedule.{Turn}
+use Rattle.hp_explore.specs.Schedule.{AreRunnable, Turn}
 use Rattle.hp_explore.specs.Explored.{IsRun, line_of}
 use Rattle.hp_explore.proofs.Runs.{by_turn, by_idling, by_limit, explored, none_told, some_told, idle_line}
 use Rattle.hp_explore.proofs.exploring.explore_one.Goals as goal
@@ -15,6 +15,8 @@ loop-turn-init c =
     let plan = c.args.plan.now in
     record {
       turns = c.in_ok-walk.ensures.turns;
+      runnable = c.in_ok-list_runnable.ensures.tasks;
+      in_range = c.in_ok-list_runnable.ensures.in_range;
       goes_on = λ events line run. (
         events,
         explored c.args.script.now c.args.seed plan.deny plan.kill c.args.run _ 1000000 plan c.in_ok-walk.walk events line c.requires
@@ -45,6 +47,8 @@ loop-turn-preserved c =
     subst (λ (o : Option Event). IfSome o (λ event. Turn plan w event v)) some.1 c.in_ok-told.ensures.turn in
     record {
       turns = omega (arith, turn.turns, c.loop-turn.invariant.turns);
+      runnable = c.in_ok-told.ensures.runnable;
+      in_range = c.in_ok-told.ensures.in_range;
       goes_on = λ events line rest. c.loop-turn.invariant.goes_on (some.0 ∷ events) line
           (by_turn plan c.args.run (1000000 - (i + 1)) (1000000 - i) w v some.0 events line (omega (arith, c.loop-turn-test.true)) turn
           c.is_clean.ensures rest);
@@ -57,7 +61,8 @@ returns-clause-line c =
     let w = c.loop-turn.walk in
     let left = 1000000 - c.loop-turn.turn in
     let none : left ≡ 0 = omega arith in
-    let is = c.line-2.ensures ∙ ap (λ (f : Finish). line_of run f w) c.in_ok-finish.ensures.finish in
+    let is = c.line-2.ensures ∙ ap (λ (f : Finish). line_of run f w) c.last_finish-finish.ensures.finish in
     c.loop-turn.invariant.goes_on [] c.line-2.result
     (subst (λ (l : RunLine). IsRun plan run left w [] l) (sym is)
-    (by_limit plan run left w c.last_finish.new.tasks.items none c.in_ok-finish.ensures.runnable))
+    (by_limit plan run left w c.as_slice.result.now none
+    (subst (λ (ts : List ℕ). AreRunnable plan w ts) (sym c.as_slice.ensures.value) c.loop-turn.invariant.runnable)))

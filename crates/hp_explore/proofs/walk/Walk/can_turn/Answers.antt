@@ -1,15 +1,16 @@
-use Rattle.std.proofs.Common.{ℕ, sym, ◌∙◌, subst, ap}
-use Rattle.std.specs.Prelude.{not}
-use Rattle.hp_core.specs.Waiting.{WaitsFor}
+use Rattle.std.proofs.Common.{ℕ, subst}
+use Rattle.hp_core.specs.Waiting.{IsReady}
+use Rattle.hp_core.specs.declared.waiting.Readiness.{Readiness}
 use Rattle.hp_explore.specs.Schedule.{World}
-use Rattle.hp_explore.proofs.Runnable.{not_waiting, can_in_call}
+use Rattle.hp_explore.proofs.Runnable.{held_cannot}
 use Rattle.hp_explore.proofs.walk.Walk.can_turn.Goals as goal
 
-pub returns-then-in_call-clause-cannot : goal.returns-then-in_call-clause-cannot
-returns-then-in_call-clause-cannot c =
-    λ blocked can.
+pub returns-in-HeldUp-clause-cannot : goal.returns-in-HeldUp-clause-cannot
+returns-in-HeldUp-clause-cannot c =
+    λ held.
+    let t = c.args.task in
     let w = c.args.self.now in
-    let busy = sym c.in_call.ensures ∙ c.if-in_call.true in
-    let here = subst (λ (t : ℕ). WaitsFor c.self.inside.core t c.waits_for.result) c.new.ensures c.waits_for.ensures in
-    let waits = subst (λ (v : World). WaitsFor v.core c.args.task c.waits_for.result) c.self.view_is here in
-    not_waiting w.core c.args.task c.waits_for.result waits (c.is_none.ensures ∙ ap not blocked) (can_in_call c.args.plan.now w c.args.task busy can)
+    let ready = subst (λ (r : Readiness). IsReady c.self.inside.core c.new.result r) c.in-HeldUp.is c.readiness.ensures in
+    let seen = subst (λ (n : ℕ). IsReady c.self.inside.core n (Readiness.HeldUp c.in-HeldUp.field-0)) c.new.ensures ready in
+    let is = subst (λ (v : World). IsReady v.core t (Readiness.HeldUp c.in-HeldUp.field-0)) c.self.view_is seen in
+    held_cannot c.args.plan.now w t c.in-HeldUp.field-0 is.0 is.1

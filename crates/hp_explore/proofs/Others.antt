@@ -1,0 +1,383 @@
+-- A turn that leaves what its task's call holds leaves all other tasks as able to take one as they were.
+use Rattle.std.proofs.Common.{◌≡◌, ◌≢◌, ℕ, zero, suc, ◌+◌, ◌-◌, ◌%◌, ◌≤◌, ◌<◌, refl, ap, sym, ◌∙◌, subst, arith, inl, inr}
+use Rattle.std.specs.Prelude.{Bool, true, false, not, ◌||◌, ◌&&◌, ◌==◌, Option, None, Some, IfSome, IsSome, List, [], ◌∷◌, MatchBool}
+use Rattle.std.specs.Prelude.{is_some, length, nat_le, nat_lt, if◌then◌else◌, slice_get, slice_index, slice_index_or}
+use Rattle.std.specs.List.{All}
+use Rattle.std.proofs.lemmas.Grind.{common_steps}
+use Rattle.std.proofs.lemmas.List.{get_or-set_other}
+use Rattle.std.proofs.lemmas.List.Elements.{All-append}
+use Rattle.rand_pcg.specs.Lcg.{Lcg}
+use Rattle.hp_base.proofs.Puts.{same_or_other}
+use Rattle.hp_base.specs.declared.event.Op.{Op}
+use Rattle.std.specs.Option.{option_map, option_eq}
+use Rattle.std.proofs.lemmas.Bool.{eqb-true}
+use Rattle.hp_base.specs.declared.event.Event.{Event}
+use Rattle.hp_machine.specs.State.{Geometry, State, slot_of, is_dead, is_killed}
+use Rattle.hp_machine.specs.Events.{IsReached, word_of}
+use Rattle.hp_machine.specs.Views.{slot_held, locked_file}
+use Rattle.hp_machine.specs.declared.call.Call.{Call}
+use Rattle.hp_machine.specs.declared.call.Call.TheVariants as call
+use Rattle.hp_machine.specs.declared.touch.TouchPhase.TheVariants as touch
+use Rattle.hp_machine.specs.declared.map.MapPhase.TheVariants as map
+use Rattle.hp_machine.specs.declared.alloc.AllocPhase.TheVariants as alloc
+use Rattle.hp_machine.specs.declared.punch.PunchPhase.TheVariants as punch
+use Rattle.hp_machine.specs.declared.truncate.TruncatePhase.TheVariants as truncate
+use Rattle.hp_machine.specs.declared.outcome.Life.{Life}
+use Rattle.hp_machine.specs.declared.outcome.Outcome.{Outcome}
+use Rattle.hp_machine.specs.declared.outcome.Outcome.TheVariants.{Blocked}
+use Rattle.hp_laws.specs.Laws.{IsOf}
+use Rattle.hp_laws.proofs.Nearing.{others_stay}
+use Rattle.hp_laws.proofs.Runs.{always, measures_stay}
+use Rattle.hp_laws.proofs.Standing.{HasSlot, HasLock}
+use Rattle.hp_fault.specs.State.{PartsState}
+use Rattle.hp_fault.specs.View.{holders_of}
+use Rattle.hp_slots.specs.Holders.{slot_number}
+use Rattle.hp_core.specs.Blockers.{slot_blocker, lock_blocker, call_blocker, seat_call_blocker, task_blocker, is_bad}
+use Rattle.hp_core.specs.Holding.{holding_of}
+use Rattle.hp_core.specs.declared.holding.Holding.{Holding}
+use Rattle.hp_core.specs.Readers.{phase_of}
+use Rattle.hp_core.specs.Runs.{Row}
+use Rattle.hp_core.specs.State.{CoreState, as_state, seat_at, calls_of, lives_of}
+use Rattle.hp_core.specs.Waiting.{WaitsFor}
+use Rattle.hp_core.proofs.Waits.{nobody, step_blocks, step_held}
+use Rattle.hp_explore.specs.Schedule.{Plan, World, Choice, CanTurn, AreRunnable, AreRunnableOf, in_call, next_call, word, drawn}
+use Rattle.hp_explore.specs.Schedule.{call_choice, kill_choice, step_choice, task_choice}
+use Rattle.hp_explore.proofs.Twins.{reached_next}
+
+-- Two reached states of one geometry in which calls hold the same: who holds a slot in the one holds it in the other,
+abbrev HoldAlike : State → State → Type 0
+HoldAlike s v =
+    record {
+      reached : IsReached s;
+      other : IsReached v;
+      geometry : v.geometry ≡ s.geometry;
+      slots : (u : ℕ) → slot_held (v.calls u) ≡ slot_held (s.calls u);
+      locks : (u : ℕ) → locked_file (v.calls u) ≡ locked_file (s.calls u);
+    }
+
+turned : (s v : State) → HoldAlike s v → HoldAlike v s
+turned s v h =
+    record {
+      reached = h.other;
+      other = h.reached;
+      geometry = sym h.geometry;
+      slots = λ u. sym (h.slots u);
+      locks = λ u. sym (h.locks u);
+    }
+
+slot_kept : (s v : State) → HoldAlike s v → (k u : ℕ) → s.slots k ≡ Some u → v.slots k ≡ Some u
+slot_kept s v h k u e =
+    let place = (always s h.reached).inv.holders.slot k u e in
+    let there : slot_held (v.calls u) ≡ Some place.0 = h.slots u ∙ place.1 in
+    let has : v.slots (slot_of v.geometry place.0.0 place.0.1) ≡ Some u =
+    subst (λ (o : Option (ℕ × ℕ)). IfSome o (λ p. HasSlot v.geometry v u p.0 p.1)) there ((always v h.other).inv.stands u).slot in
+    subst (λ (n : ℕ). v.slots n ≡ Some u) (ap (λ (g : Geometry). slot_of g place.0.0 place.0.1) h.geometry ∙ place.2) has
+
+-- and so of a lock
+lock_kept : (s v : State) → HoldAlike s v → (f u : ℕ) → s.locks f ≡ Some u → v.locks f ≡ Some u
+lock_kept s v h f u e =
+    let there : locked_file (v.calls u) ≡ Some f = h.locks u ∙ (always s h.reached).inv.holders.lock f u e in
+    subst (λ (o : Option ℕ). IfSome o (λ file. HasLock v u file)) there ((always v h.other).inv.stands u).lock
+
+-- options that have a value where the other has it are the same
+same_option : (a b : Option ℕ) → ((u : ℕ) → a ≡ Some u → b ≡ Some u) → ((u : ℕ) → b ≡ Some u → a ≡ Some u) → b ≡ a
+same_option None None there back = refl
+same_option None (Some u) there back = sym (back u refl)
+same_option (Some u) b there back = there u refl
+
+same_slots : (s v : State) → HoldAlike s v → (k : ℕ) → v.slots k ≡ s.slots k
+same_slots s v h k = same_option (s.slots k) (v.slots k) (slot_kept s v h k) (slot_kept v s (turned s v h) k)
+
+same_locks : (s v : State) → HoldAlike s v → (f : ℕ) → v.locks f ≡ s.locks f
+same_locks s v h f = same_option (s.locks f) (v.locks f) (lock_kept s v h f) (lock_kept v s (turned s v h) f)
+
+-- parts with as many files and slots, and with the same holders
+abbrev AreHeldAlike : PartsState → PartsState → Type 0
+AreHeldAlike p q =
+    record {
+      files : length q.files ≡ length p.files;
+      many : length q.slots ≡ length p.slots;
+      slots : (k : ℕ) → holders_of q.slots k ≡ holders_of p.slots k;
+      locks : (f : ℕ) → holders_of q.locks f ≡ holders_of p.locks f;
+    }
+
+-- in them the same task holds up who wants a slot,
+same_slot : (p q : PartsState) → AreHeldAlike p q → (f i : ℕ) → slot_blocker q f i ≡ slot_blocker p f i
+unfolding holders_of
+same_slot p q h f i =
+    h.slots (slot_number (length q.slots) f i) ∙ ap (λ (n : ℕ). holders_of p.slots (slot_number n f i)) h.many
+
+unless_killed : (p q : PartsState) → AreHeldAlike p q → (killed : Bool) (f i : ℕ)
+    → (if killed then None else slot_blocker q f i) ≡ (if killed then None else slot_blocker p f i)
+unless_killed p q h killed f i = ap (λ (o : Option ℕ). if killed then None else o) (same_slot p q h f i)
+
+-- and who wants a lock
+same_lock : (p q : PartsState) → AreHeldAlike p q → (killed : Bool) (f : ℕ) (bad : Bool)
+    → lock_blocker q killed f bad ≡ lock_blocker p killed f bad
+unfolding holders_of
+same_lock p q h killed f bad =
+    ap (λ (n : ℕ). if nat_le n f || bad || killed then None else holders_of q.locks f) h.files
+    ∙ ap (λ (o : Option ℕ). if nat_le (length p.files) f || bad || killed then None else o) (h.locks f)
+
+-- so a call has the same blocker
+same_blocker : (p q : PartsState) → AreHeldAlike p q → (killed : Bool) (c : Call) → call_blocker q killed c ≡ call_blocker p killed c
+same_blocker p q h killed (call.Touch (touch.Want s)) = unless_killed p q h killed s.touch.file s.touch.index
+same_blocker p q h killed (call.Map (map.Start s)) = same_lock p q h killed s.map.file (is_bad s.map.from s.map.len)
+same_blocker p q h killed (call.Alloc (alloc.Start s)) =
+    same_lock p q h killed s.allocation.file (is_bad s.allocation.from s.allocation.len)
+same_blocker p q h killed (call.Alloc (alloc.Want s)) = unless_killed p q h killed s.allocation.file s.index
+same_blocker p q h killed (call.Punch (punch.Start s)) = same_lock p q h killed s.hole.file (is_bad s.hole.from s.hole.len)
+same_blocker p q h killed (call.Punch (punch.Want s)) = same_slot p q h s.hole.file s.index
+same_blocker p q h killed (call.Truncate (truncate.Start s)) = same_lock p q h killed s.truncation.file _
+same_blocker p q h killed (call.Truncate (truncate.Want s)) = same_slot p q h s.truncation.file s.index
+same_blocker p q h killed c = refl
+
+-- whom a task of this life, with this call, waits for
+abbrev blocker : PartsState → Life → Option Call → Option ℕ
+blocker p life o = if is_dead life then None else seat_call_blocker p (is_killed life) o
+
+same_for : (p q : PartsState) → AreHeldAlike p q → (life : Life) (o : Option Call) → blocker q life o ≡ blocker p life o
+same_for p q h life None = refl
+same_for p q h life (Some c) = ap (λ (o : Option ℕ). if is_dead life then None else o) (same_blocker p q h (is_killed life) c)
+
+-- a task waits for nobody exactly where the reader names nobody
+names_nobody : (s : CoreState) (t : ℕ) → WaitsFor s t None → task_blocker s.parts (seat_at s.seats t) ≡ None
+unfolding WaitsFor Row
+names_nobody s t free = by (task_blocker s.parts (seat_at s.seats t)) refl
+  where
+    by : (o : Option ℕ) → task_blocker s.parts (seat_at s.seats t) ≡ o → task_blocker s.parts (seat_at s.seats t) ≡ None
+    by None e = e
+    by (Some h) e = absurd (free true h s (step_blocks s t true h e, refl))
+
+waits_for_nobody : (s : CoreState) (t : ℕ) → task_blocker s.parts (seat_at s.seats t) ≡ None → WaitsFor s t None
+unfolding WaitsFor Row
+waits_for_nobody s t e =
+    λ grant holder new row. nobody holder (sym e ∙ sym (step_held s t grant (Blocked holder) (as_state new) row.0))
+
+-- so of two cores whose calls hold the same, a task with the same call and life waits for nobody in both
+waits_alike : (s v : CoreState) (t : ℕ) → HoldAlike (as_state s) (as_state v) → (as_state v).calls t ≡ (as_state s).calls t
+    → (as_state v).life t ≡ (as_state s).life t → WaitsFor s t None → WaitsFor v t None
+unfolding calls_of lives_of
+waits_alike s v t h calls life free =
+    let parts : AreHeldAlike s.parts v.parts = record {
+      files = ap (λ (g : Geometry). g.files) h.geometry;
+      many = ap (λ (g : Geometry). g.slots) h.geometry;
+      slots = same_slots (as_state s) (as_state v) h;
+      locks = same_locks (as_state s) (as_state v) h;
+    } in
+    let own = same_for s.parts v.parts parts (seat_at v.seats t).life (seat_at v.seats t).call in
+    let seat : blocker s.parts (seat_at v.seats t).life (seat_at v.seats t).call
+    ≡ blocker s.parts (seat_at s.seats t).life (seat_at s.seats t).call = λ i. blocker s.parts (life i) (calls i) in
+    waits_for_nobody v t (own ∙ seat ∙ names_nobody s t free)
+
+-- a choice of the task is an event of it alone
+of_call : (busy : Bool) (next : Option Op) (deny : ℕ) (made : List ℕ) (t : ℕ) (rng : Lcg) (u : ℕ)
+    → IsOf u (call_choice busy next deny made t rng).event → u ≡ t
+of_call false (Some op) deny made t rng u h = h
+of_call false None deny made t rng u h = h
+of_call true next deny made t rng u h = h
+
+of_either : (b : Bool) (x y : Choice) (t u : ℕ) → (IsOf u x.event → u ≡ t) → (IsOf u y.event → u ≡ t)
+    → IsOf u (if b then x else y).event → u ≡ t
+of_either true x y t u first second h = first h
+of_either false x y t u first second h = second h
+
+of_choice : (plan : Plan) (busy alive : Bool) (made : List ℕ) (t : ℕ) (rng : Lcg) (u : ℕ)
+    → IsOf u (task_choice plan busy alive made t rng).event → u ≡ t
+of_choice plan busy alive made t rng u =
+    let next = next_call plan made t in
+    let killed = kill_choice made t (drawn rng) in
+    let other = call_choice busy next plan.deny made t (drawn rng) in
+    let test = nat_lt (word rng % 1000) plan.kill && alive in
+    of_either (plan.kill == 0) (call_choice busy next plan.deny made t rng) (if test then killed else other) t u
+    (of_call busy next plan.deny made t rng u)
+    (of_either test killed other t u (λ h. h) (of_call busy next plan.deny made t (drawn rng) u))
+
+-- it leaves the calls that other tasks have begun
+abbrev LeavesOthers : (made : List ℕ) (t : ℕ) → Choice → Type 0
+LeavesOthers made t choice =
+    record {
+      long : length choice.made ≡ length made;
+      others : (k : ℕ) → k ≢ t - 1 → slice_index choice.made k ≡ slice_index made k;
+    }
+
+leaves_all : (made : List ℕ) (t : ℕ) (choice : Choice) → choice.made ≡ made → LeavesOthers made t choice
+leaves_all made t choice e = record {
+  long = ap (λ (m : List ℕ). length m) e;
+  others = λ k other. ap (λ (m : List ℕ). slice_index m k) e;
+}
+
+call_leaves : (busy : Bool) (next : Option Op) (deny : ℕ) (made : List ℕ) (t : ℕ) (rng : Lcg)
+    → LeavesOthers made t (call_choice busy next deny made t rng)
+call_leaves false (Some op) deny made t rng = record {
+  long = grind (arith, common_steps);
+  others = λ k other. get_or-set_other made (t - 1) k (slice_index made (t - 1) + 1) _ other;
+}
+call_leaves false None deny made t rng = leaves_all made t (step_choice deny made t rng) refl
+call_leaves true next deny made t rng = leaves_all made t (step_choice deny made t rng) refl
+
+either_leaves : (made : List ℕ) (t : ℕ) (b : Bool) (x y : Choice) → LeavesOthers made t x → LeavesOthers made t y
+    → LeavesOthers made t (if b then x else y)
+either_leaves made t true x y first second = first
+either_leaves made t false x y first second = second
+
+choice_leaves : (plan : Plan) (busy alive : Bool) (made : List ℕ) (t : ℕ) (rng : Lcg)
+    → LeavesOthers made t (task_choice plan busy alive made t rng)
+choice_leaves plan busy alive made t rng =
+    let next = next_call plan made t in
+    let killed = kill_choice made t (drawn rng) in
+    let other = call_choice busy next plan.deny made t (drawn rng) in
+    let test = nat_lt (word rng % 1000) plan.kill && alive in
+    either_leaves made t (plan.kill == 0) (call_choice busy next plan.deny made t rng) (if test then killed else other)
+    (call_leaves busy next plan.deny made t rng)
+    (either_leaves made t test killed other (leaves_all made t killed refl) (call_leaves busy next plan.deny made t (drawn rng)))
+
+-- an event of the task alone, which leaves what its call holds, leaves what all calls hold
+held_alike : (s v : CoreState) (event : Event) (o : Outcome) (t : ℕ) → IsReached (as_state s) → Row s event o v
+    → ((u : ℕ) → IsOf u event → u ≡ t) → holding_of v t ≡ holding_of s t → HoldAlike (as_state s) (as_state v)
+unfolding Row holding_of
+held_alike s v event o t reached row of held = record {
+  reached = reached;
+  other = reached_next (as_state s) (as_state v) event o reached row.0;
+  geometry = measures_stay (as_state s) event o (as_state v) (always (as_state s) reached) row.0;
+  slots = λ u. each slot_held (ap (λ (h : Holding). h.slot) held) u;
+  locks = λ u. each locked_file (ap (λ (h : Holding). h.lock) held) u;
+}
+  where
+    each : {A : Type 0} (f : Option Call → A) → f ((as_state v).calls t) ≡ f ((as_state s).calls t) → (u : ℕ)
+        → f ((as_state v).calls u) ≡ f ((as_state s).calls u)
+    each f own u = elim (same_or_other u t) [
+      | inl e ↦ subst (λ (k : ℕ). f ((as_state v).calls k) ≡ f ((as_state s).calls k)) (sym e) own
+      | inr other ↦ ap f (others_stay (as_state s) (as_state v) event o u row.0 (λ is. other (of u is))).0
+    ]
+
+-- a task that can take a turn can take one where it is the same
+can_same : {A B C D : Type 0} (b c : Bool) → c ≡ b → (A → B) → (C → D) → MatchBool b A C → MatchBool c B D
+can_same true true e f g h = f h
+can_same false false e f g h = g h
+can_same true false e f g h = absurd (cc)
+can_same false true e f g h = absurd (cc)
+
+still_can : (plan : Plan) (w v : World) (t : ℕ) → HoldAlike (as_state w.core) (as_state v.core)
+    → (as_state v.core).calls t ≡ (as_state w.core).calls t → (as_state v.core).life t ≡ (as_state w.core).life t
+    → next_call plan v.made t ≡ next_call plan w.made t → CanTurn plan w t → CanTurn plan v t
+unfolding phase_of
+still_can plan w v t h calls life next can =
+    can_same (in_call w t) (in_call v t) (ap (λ (c : Option Call). is_some (option_map word_of c)) calls)
+    (waits_alike w.core v.core t h calls life) (λ some. subst (λ (o : Option Op). IsSome o) (sym next) some) can
+
+-- the list of the tasks that can take a turn is the same where they are the same
+listed_alike : (plan : Plan) (w v : World) (n : ℕ) (tasks : List ℕ)
+    → ((t : ℕ) → 1 ≤ t → t ≤ n → CanTurn plan w t → CanTurn plan v t)
+    → ((t : ℕ) → 1 ≤ t → t ≤ n → CanTurn plan v t → CanTurn plan w t)
+    → AreRunnableOf plan w n tasks → AreRunnableOf plan v n tasks
+unfolding AreRunnableOf
+listed_alike plan w v zero tasks on back h = h
+listed_alike plan w v (suc n) tasks on back (front, before, last) =
+    let rest = listed_alike plan w v n front (λ t one within. on t one (omega (arith, within)))
+    (λ t one within. back t one (omega (arith, within))) before in (
+      front,
+      rest,
+      elim last [
+        | inl l ↦ inl (on (suc n) (omega arith) (omega arith) l.0, l.1)
+        | inr l ↦ inr ((λ can. l.0 (back (suc n) (omega arith) (omega arith) can)), l.1)
+      ],
+    )
+
+-- each task of the list can take a turn
+pub all_can : (plan : Plan) (w : World) (n : ℕ) (tasks : List ℕ) → AreRunnableOf plan w n tasks → All (CanTurn plan w) tasks
+unfolding AreRunnableOf
+all_can plan w zero tasks h = subst (All (CanTurn plan w)) (sym h) (λ k d within. absurd (omega (arith, within)))
+all_can plan w (suc n) tasks (front, before, inl last) =
+    subst (All (CanTurn plan w)) (sym last.1) (All-append (CanTurn plan w) front (suc n ∷ []) (all_can plan w n front before) one)
+  where
+    one : All (CanTurn plan w) (suc n ∷ [])
+    one zero d l = last.0
+    one (suc k) d l = absurd (omega (arith, l))
+all_can plan w (suc n) tasks (front, before, inr last) = subst (All (CanTurn plan w)) (sym last.1) (all_can plan w n front before)
+
+-- what holds of all of a list holds of what is read from it
+pub at_index : (P : ℕ → Type 0) (xs : List ℕ) (k x : ℕ) → x ≡ slice_index_or xs k x → All P xs → k < length xs → P x
+at_index P xs k x is all within = subst P (sym is) (all k x within)
+
+-- as many tasks have calls after a choice as before it
+pub long_after : (plan : Plan) (busy alive : Bool) (made : List ℕ) (t : ℕ) (rng : Lcg)
+    → length (task_choice plan busy alive made t rng).made ≡ length made
+long_after plan busy alive made t rng = (choice_leaves plan busy alive made t rng).long
+
+-- a test of what calls hold that finds no difference
+both_so : (a b : Bool) → not (a && b) ≡ false → (a ≡ true) × (b ≡ true)
+both_so true true e = (refl, refl)
+both_so true false e = absurd (cc)
+both_so false b e = absurd (cc)
+
+same_place : (a b : Option (ℕ × ℕ)) → option_eq (λ x y. (x.0 == y.0) && (x.1 == y.1)) a b ≡ true → a ≡ b
+same_place None None e = refl
+same_place None (Some y) e = absurd (cc)
+same_place (Some x) None e = absurd (cc)
+same_place (Some x) (Some y) e =
+    let both = both_so (x.0 == y.0) (x.1 == y.1) (ap not e) in
+    ap (λ (p : ℕ × ℕ). Some p) (λ i. (eqb-true x.0 y.0 both.0 i, eqb-true x.1 y.1 both.1 i))
+
+same_file : (a b : Option ℕ) → option_eq (λ x y. x == y) a b ≡ true → a ≡ b
+same_file None None e = refl
+same_file None (Some y) e = absurd (cc)
+same_file (Some x) None e = absurd (cc)
+same_file (Some x) (Some y) e = ap (λ (f : ℕ). Some f) (eqb-true x y e)
+
+pub same_holding : (a b : Holding)
+    → not (option_eq (λ x y. (x.0 == y.0) && (x.1 == y.1)) a.slot b.slot && option_eq (λ x y. x == y) a.lock b.lock) ≡ false → a ≡ b
+same_holding a b e =
+    let both = both_so _ _ e in
+    let slots = same_place a.slot b.slot both.0 in
+    let locks = same_file a.lock b.lock both.1 in
+    λ i. record { slot = slots i; lock = locks i }
+
+-- So after a turn that leaves what its task's call holds, and after which the task can take another, the same tasks can take one.
+pub list_stays : (plan : Plan) (w v : World) (core : CoreState) (made : List ℕ) (event : Event) (o : Outcome) (t : ℕ) (busy alive : Bool)
+    (rng : Lcg) (tasks : List ℕ) → core ≡ w.core → made ≡ w.made → IsReached (as_state core) → Row core event o v.core
+    → event ≡ (task_choice plan busy alive made t rng).event → v.made ≡ (task_choice plan busy alive made t rng).made
+    → 1 ≤ t → holding_of v.core t ≡ holding_of core t → CanTurn plan w t → CanTurn plan v t
+    → AreRunnable plan w tasks → AreRunnable plan v tasks
+unfolding Row
+list_stays plan w v core made event o t busy alive rng tasks same_core same_made reached row chosen begun one held could can listed =
+    subst (λ (n : ℕ). AreRunnableOf plan v n tasks) (sym long) (listed_alike plan w v (length w.made) tasks on back listed)
+  where
+    of : (u : ℕ) → IsOf u event → u ≡ t
+    of u h = of_choice plan busy alive made t rng u (subst (λ (e : Event). IsOf u e) chosen h)
+
+    leaves : LeavesOthers made t (task_choice plan busy alive made t rng)
+    leaves = choice_leaves plan busy alive made t rng
+
+    long : length v.made ≡ length w.made
+    long = ap (λ (m : List ℕ). length m) begun ∙ leaves.long ∙ ap (λ (m : List ℕ). length m) same_made
+
+    alike : HoldAlike (as_state w.core) (as_state v.core)
+    alike =
+        subst (λ (s : CoreState). HoldAlike (as_state s) (as_state v.core)) same_core
+        (held_alike core v.core event o t reached row of held)
+
+    next : (u : ℕ) → 1 ≤ u → u ≢ t → next_call plan v.made u ≡ next_call plan w.made u
+    next u above other =
+        let at : slice_index v.made (u - 1) ≡ slice_index w.made (u - 1) =
+        ap (λ (m : List ℕ). slice_index m (u - 1)) begun ∙ leaves.others (u - 1) (λ e. other (omega (arith, e, above, one)))
+        ∙ ap (λ (m : List ℕ). slice_index m (u - 1)) same_made in
+        ap (λ (n : ℕ). slice_get (slice_index_or plan.queues (u - 1) []) n) at
+
+    stay : (u : ℕ) → u ≢ t → ((as_state v.core).calls u ≡ (as_state w.core).calls u) × ((as_state v.core).life u ≡ (as_state w.core).life u)
+    stay u other =
+        subst (λ (s : CoreState). ((as_state v.core).calls u ≡ (as_state s).calls u) × ((as_state v.core).life u ≡ (as_state s).life u)) same_core
+        (others_stay (as_state core) (as_state v.core) event o u row.0 (λ is. other (of u is)))
+
+    on : (u : ℕ) → 1 ≤ u → u ≤ length w.made → CanTurn plan w u → CanTurn plan v u
+    on u above within was = elim (same_or_other u t) [
+      | inl e ↦ subst (CanTurn plan v) (sym e) can
+      | inr other ↦ still_can plan w v u alike (stay u other).0 (stay u other).1 (next u above other) was
+    ]
+
+    back : (u : ℕ) → 1 ≤ u → u ≤ length w.made → CanTurn plan v u → CanTurn plan w u
+    back u above within is = elim (same_or_other u t) [
+      | inl e ↦ subst (CanTurn plan w) (sym e) could
+      | inr other ↦ still_can plan v w u (turned (as_state w.core) (as_state v.core) alike) (sym (stay u other).0) (sym (stay u other).1)
+          (sym (next u above other)) is
+    ]
