@@ -6,7 +6,9 @@ use Rattle.hp_table.proofs.GapsOf.{gaps_rise, gaps_len, remove_spread, end_rises
 use Rattle.hp_table.proofs.gaps.fill.Goals as goal
 
 pub swap-requires-clause-rises : goal.swap-requires-clause-rises
-swap-requires-clause-rises c = rw c.requires.gaps (gaps_rise VPNS 0 (remove c.args.mappings.now c.args.at) (remove_spread VPNS 0 c.args.mappings.now c.args.at c.requires.spread))
+swap-requires-clause-rises c =
+    let before = remove c.args.mappings.now c.args.at in
+    rw c.requires.gaps (gaps_rise VPNS 0 before (remove_spread VPNS 0 c.args.mappings.now c.args.at c.requires.spread))
 
 pub swap-requires-clause-in_order : goal.swap-requires-clause-in_order
 swap-requires-clause-in_order c =

@@ -21,7 +21,8 @@ swap-requires-clause-room c =
     let whole = opened_is VPNS c.args.mappings.now c.args.at c.end_of-from.result c.end_of-end.result c.args.gaps.now.items
     (listed c.gap_up_to-merged.result) c.requires.in_range c.requires.spread c.requires.gaps c.end_of-from.ensures.value
     c.end_of-end.ensures.value c.gap_up_to-merged.ensures in
-    rw whole (omega (arith, gaps_len 0 (remove c.args.mappings.now c.args.at), c.requires.room, length-remove c.args.mappings.now c.args.at c.requires.in_range))
+    let fewer = length-remove c.args.mappings.now c.args.at c.requires.in_range in
+    rw whole (omega (arith, gaps_len 0 (remove c.args.mappings.now c.args.at), c.requires.room, fewer))
 
 pub returns-clause-gaps : goal.returns-clause-gaps
 returns-clause-gaps c =
