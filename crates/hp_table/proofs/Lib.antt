@@ -2,6 +2,7 @@ pub mod Agreeing
 pub mod Bases
 pub mod Clearing
 pub mod Counts
+pub mod GapsOf
 pub mod Mapped
 pub mod PageTable
 pub mod Room

@@ -1,5 +1,5 @@
 -- The first gap between mappings, and that it is the least base that fits.
-use Rattle.std.proofs.Common.{◌≡◌, ℕ, ◌+◌, ◌-◌, ◌<◌, ◌≤◌, true, false, cond, List, [], ◌∷◌, Option, Some, None, refl, sym, ◌∙◌}
+use Rattle.std.proofs.Common.{◌≡◌, ℕ, ◌+◌, ◌-◌, ◌<◌, ◌≤◌, true, false, List, [], ◌∷◌, Option, Some, None, refl, sym, ◌∙◌}
 use Rattle.std.proofs.Common.{subst, arith}
 use Rattle.std.specs.Prelude.{nat_le, if◌then◌else◌}
 use Rattle.std.proofs.lemmas.Bool.{leb-true, leb-false, le-leb, lt-leb}
@@ -99,22 +99,6 @@ gap-IsRoom space ms len o spread same =
     let P : Option ℕ → Type 0 = IsRoom space ms len in
     subst P (sym same) (room_at_all space ms len (gap space 0 ms len) (gap_is space 0 ms len spread))
 
--- the first gap stands before a mapping, or is that after it, or after them all
-pub gap_here : (space low : ℕ) (ms : List Mapping) (m : Mapping) (rest : List Mapping) (len : ℕ) → ms ≡ m ∷ rest
-    → IsSpread space low ms → len ≤ m.base - low → gap space low ms len ≡ Some low
-gap_here space low ms m rest len split spread short =
-    let opened : IsSpread space low (m ∷ rest) = let P : List Mapping → Type 0 = IsSpread space low in subst P split spread in
-    rw split (rw (le-leb (low + len) m.base (omega (arith, opened.0))) refl)
-
-pub ends_within : (space low : ℕ) (ms : List Mapping) (m : Mapping) (rest : List Mapping) → ms ≡ m ∷ rest → IsSpread space low ms
-    → m.base + m.len ≤ space
-ends_within space low ms m rest split spread =
-    let opened : IsSpread space low (m ∷ rest) = let P : List Mapping → Type 0 = IsSpread space low in subst P split spread in
-    spread_within space (m.base + m.len) rest opened.2
-
-fits_end : (space low len : ℕ) → low ≤ space → nat_le (low + len) space ≡ nat_le len (space - low)
+-- whether what lies above all mappings is long enough
+pub fits_end : (space low len : ℕ) → low ≤ space → nat_le (low + len) space ≡ nat_le len (space - low)
 fits_end space low len within = grind (arith, nat_tests)
-
-pub gap_end : (space low : ℕ) (ms : List Mapping) (len : ℕ) → ms ≡ [] → IsSpread space low ms
-    → gap space low ms len ≡ cond (nat_le len (space - low)) (Some low) None
-gap_end space low ms len none spread = rw none (rw (fits_end space low len (spread_within space low ms spread)) refl)

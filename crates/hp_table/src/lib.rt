@@ -9,6 +9,7 @@
 //! nor who owns a frame.
 #![tactic(auto)]
 
+mod gaps;
 mod places;
 mod search;
 mod space;

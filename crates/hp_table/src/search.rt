@@ -1,9 +1,10 @@
 //! Searches in a list of mappings that are in order.
-ghost use Rattle.std.specs.Prelude.{◌≡◌, ◌==◌, ◌&&◌, ◌+◌, ◌-◌, ◌≤◌, nat_le, if◌then◌else◌, None, Some};
+ghost use Rattle.std.specs.Prelude.{◌≡◌, ◌==◌, ◌&&◌, ◌+◌, ◌-◌, ◌≤◌, length, nat_le, if◌then◌else◌, None, Some};
 ghost use Rattle.std.specs.List.{position, prefix_len};
 ghost use Rattle.std.specs.List as list;
 ghost use Rattle.hp_base.specs.Indices.{is_within};
-ghost use Rattle.hp_base.specs.Mappings.{covers, IsRoom, IsSpread};
+ghost use Rattle.hp_base.specs.Mappings.{covers, IsSpread};
+ghost use Rattle.hp_table.specs.Gaps.{end_of};
 
 use hp_base::{File, Index, Mapping, VPNS, Vpn};
 
@@ -34,17 +35,16 @@ pub fn place_of(mappings: &[Mapping], base: Vpn) -> Option<usize>
     (mappings[last].base == base).then_some(last)
 }
 
-// The least base at which a mapping of that length fits.
-pub fn room(mappings: &[Mapping], len: u32) -> Option<Vpn>
-    requires { IsSpread VPNS 0 mappings.now }
-    ensures { IsRoom VPNS mappings.now len result }
+// Where the last of the first mappings ends, and 0 where there is none.
+pub fn end_of(mappings: &[Mapping], count: usize) -> Vpn
+    requires spread { IsSpread VPNS 0 mappings.now }
+    requires in_range { count ≤ length mappings.now }
+    ensures value { result ≡ end_of 0 mappings.now count }
+    ensures in_space { result ≤ VPNS }
 {
-    let mut base = 0;
-    for mapping in mappings {
-        if len <= mapping.base.number() - base {
-            return Some(Vpn::new(base));
-        }
-        base = mapping.base.number() + mapping.len;
-    }
-    (len <= VPNS - base).then_some(Vpn::new(base))
+    let Some(last) = count.checked_sub(1) else {
+        return Vpn::new(0);
+    };
+    let mapping = mappings[last];
+    Vpn::new(mapping.base.number() + mapping.len)
 }

@@ -6,6 +6,7 @@ ghost use Rattle.hp_base.specs.Mappings.{find, base_of, is_base, is_there, fits,
 ghost use Rattle.hp_base.specs.Mappings.{without_mapping, IsRoom, IsSpread};
 ghost use Rattle.hp_table.specs.Table.{Table};
 
+use crate::gaps::{self, Gap};
 use crate::places::{self, Place};
 use crate::search;
 use hp_base::{File, Frame, Index, LIMIT, Mapping, VPNS, Vpn};
@@ -22,6 +23,8 @@ const CHUNKS: usize = VPNS as usize / PLACES;
 pub struct Space {
     // in order of their bases
     mappings: Vec<Mapping>,
+    // the gaps below each of these, in order
+    gaps: Vec<Gap>,
     // the frame of each virtual page that is translated, and that lies in a mapping
     entries: FrameMap<CHUNKS>,
     // for each of these the file and the index for which it stands, so that those of an index are found
@@ -31,11 +34,12 @@ pub struct Space {
 }
 
 impl Model for Space {
-    ghost use Rattle.std.specs.Prelude.{◌+◌, ◌<◌, ◌≤◌, ℕ, IsTrue, IsSome, All, vec_len, vec_capacity};
+    ghost use Rattle.std.specs.Prelude.{◌≡◌, ◌+◌, ◌<◌, ◌≤◌, ℕ, IsTrue, IsSome, All, vec_len, vec_capacity};
     ghost use Rattle.std.specs.FinMap as map;
     ghost use Rattle.hp_base.specs.declared.limits.TheConstants.{LIMIT, VPNS};
     ghost use Rattle.hp_base.specs.Mappings.{find, IsSpread};
     ghost use Rattle.std.specs.BTreeSet.{btree_set_len};
+    ghost use Rattle.hp_table.specs.Gaps.{gaps_of};
     ghost use Rattle.hp_table.specs.Places.{Agrees};
     ghost use Rattle.hp_table.specs.Table.{Table, table_code};
 
@@ -47,7 +51,7 @@ impl Model for Space {
       mappings = s.mappings.items;
       entries = s.entries.frames;
       ready = s.ready;
-      room = vec_capacity s.mappings + s.entries.room + btree_set_len s.places;
+      room = vec_capacity s.mappings + vec_capacity s.gaps + s.entries.room + btree_set_len s.places;
     } };
 
     ghost invariant = { λ s. record {
@@ -55,7 +59,9 @@ impl Model for Space {
       in_files : All (λ m. m.from + m.len ≤ LIMIT) s.mappings.items;
       mapped : (vpn : ℕ) → IsSome (map.get s.entries.frames vpn) → IsSome (find s.mappings.items vpn);
       agree : Agrees (find s.mappings.items) (map.get s.entries.frames) s.places;
-      room : IsTrue s.ready → vec_len s.mappings < vec_capacity s.mappings;
+      gaps : s.gaps.items ≡ gaps_of 0 s.mappings.items;
+      places : vec_len s.mappings ≤ vec_capacity s.gaps;
+      room : IsTrue s.ready → (vec_len s.mappings < vec_capacity s.mappings) × (vec_len s.mappings < vec_capacity s.gaps);
     } };
 }
 
@@ -69,26 +75,36 @@ impl Space {
     {
         Space {
             mappings: Vec::new(alloc),
+            gaps: Vec::new(alloc),
             entries: FrameMap::new(alloc),
             places: BTreeSet::new(alloc),
             ready: false,
         }
     }
 
-    /// The least base at which a mapping of that length fits. The mappings are looked at once, in
-    /// order (Linux: `hugetlb_get_unmapped_area`).
+    /// The least base at which a mapping of that length fits. The gaps between mappings are looked at in order, up to
+    /// the first that is long enough; where the mappings stand side by side there is none (Linux:
+    /// `hugetlb_get_unmapped_area`).
     pub fn room(&self, len: u32) -> Option<Vpn>
         ensures { IsRoom VPNS self.now.mappings len result }
     {
-        search::room(&self.mappings, len)
+        gaps::room(&self.gaps, &self.mappings, len)
     }
 
-    /// Prepares room for one mapping more.
+    /// Prepares room for one mapping more, and for the gap that there can be below it. Where one of the two finds no
+    /// memory, neither list was changed.
     pub fn prepare(&mut self) -> Result<(), AllocError>
         ensures ok { OnOk result (self.new ≡ record self.old { ready = true; room = self.new.room }) }
         ensures err { OnErr result (self.new ≡ self.old) }
     {
-        self.mappings.reserve(1)?;
+        if self.mappings.len() < self.gaps.capacity() {
+            self.mappings.reserve(1)?;
+        } else {
+            let places = 2 * (self.mappings.len() + 1);
+            let gaps = gaps::copy(&self.gaps, places, *self.gaps.allocator())?;
+            self.mappings.reserve(1)?;
+            self.gaps = gaps;
+        }
         self.ready = true;
         Ok(())
     }
@@ -120,6 +136,7 @@ impl Space {
             len,
         };
         self.mappings.insert(at, mapping).unwrap();
+        gaps::fill(&mut self.gaps, &self.mappings, at);
         self.ready = false;
     }
 
@@ -234,6 +251,7 @@ impl Space {
         ensures room { self.new.room ≡ self.old.room }
     {
         if let Some(at) = search::place_of(&self.mappings, base) {
+            gaps::merge(&mut self.gaps, &self.mappings, at);
             self.mappings.remove(at);
         }
     }
@@ -283,6 +301,7 @@ impl Space {
     {
         let mut copy = Space::new(alloc);
         copy.mappings.extend_from_slice(&self.mappings)?;
+        copy.gaps = gaps::copy(&self.gaps, self.mappings.len(), alloc)?;
         copy.entries = self.entries.copy(alloc)?;
         copy.places = places::copy(&self.places)?;
         Ok(copy)

@@ -34,5 +34,7 @@ invariant_of-self c =
       agree =
           agree_less (find ms) entries c.self.inside.places c.self.invariant.agree c.unwrap-file.result.0
           c.unwrap-file.result.1 c.args.vpn at (map.get c.remove.new.self.frames) c.take.new.places went c.take.ensures.rest;
+      gaps = c.self.invariant.gaps;
+      places = c.self.invariant.places;
       room = c.self.invariant.room;
     }

@@ -37,7 +37,12 @@ invariant_of-self c =
       agree =
           rw (items c) (agree_other (find ms) (map.get c.self.inside.entries.frames) c.self.inside.places c.self.invariant.agree
           (find (without ms c.args.base)) (λ v some. found_other ms c.args.base v (bare c v some)));
-      room = λ ready. omega (arith, c.self.invariant.room ready, c.remove.ensures.len, c.remove.ensures.capacity);
+      gaps = rw (c.remove.ensures.items, ← c.deref-in-Some.ensures.value) c.merge.ensures.gaps;
+      places = omega (arith, c.self.invariant.places, c.remove.ensures.len, c.merge.ensures.capacity);
+      room = λ ready. (
+        omega (arith, (c.self.invariant.room ready).0, c.remove.ensures.len, c.remove.ensures.capacity),
+        omega (arith, (c.self.invariant.room ready).1, c.remove.ensures.len, c.merge.ensures.capacity),
+      );
     }
 
 pub returns-in-Some-clause-mappings : goal.returns-in-Some-clause-mappings

@@ -43,6 +43,8 @@ invariant_of-self-in-Err c =
           rw same (agree_again (find ms) entries c.self.inside.places c.self.invariant.agree c.unwrap-file.result.0
           c.unwrap-file.result.1 c.args.vpn at entries c.take.new.places c.add.new.places bare
           ((c.in_ok-add.ensures {u = tt}).ok) c.take.ensures.rest);
+      gaps = c.self.invariant.gaps;
+      places = c.self.invariant.places;
       room = c.self.invariant.room;
     }
 
@@ -65,5 +67,7 @@ invariant_of-self-in_default c =
           agree_more (find ms) entries c.self.inside.places c.self.invariant.agree c.unwrap-file.result.0
           c.unwrap-file.result.1 c.args.vpn at (map.get c.insert.new.self.frames) c.add.new.places c.args.frame came bare
           ((c.in_ok-add.ensures {u = tt}).ok);
+      gaps = c.self.invariant.gaps;
+      places = c.self.invariant.places;
       room = c.self.invariant.room;
     }
