@@ -3,7 +3,8 @@ use Rattle.std.proofs.lemmas.Result.{err_from_is_err_and}
 use Rattle.hp_core.specs.State.{as_state}
 use Rattle.hp_client.specs.Rounds.{in_flight, AreAll, AreInFlight, AreOfDistinctTasks, TurnsFail}
 use Rattle.hp_client.specs.declared.rounds.Asked.{Asked}
-use Rattle.hp_client.proofs.Beginning.{flying_apart, flying_fly, flying_all, none_counts}
+use Rattle.hp_client.proofs.Beginning.{flying_apart, flying_fly, flying_all}
+use Rattle.hp_core.proofs.InFlight.{none_counts}
 use Rattle.hp_client.proofs.Standing.{none_flies, finish_stops}
 use Rattle.hp_client.proofs.rounds.end_calls.Goals as goal
 
