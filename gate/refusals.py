@@ -2,8 +2,8 @@
 """Refuses each growth of memory of the story that the crate hp_refusals tells, one a run, and compares what is told.
 
 A run takes memory as many times as its input has bytes before the story begins, and its growth number `MOST` is refused. So the
-inputs of `MOST` - 1 bytes down to none have the 1st, 2nd, .. growth of the story refused, one after the other, up to runs in which
-none is. The story is then told over a wrong driver too, which has to be noticed.
+inputs of `MOST` - 1 bytes down to none have the 1st, 2nd, .. growth of the story refused, one after the other, up to runs in
+which none is. The story is then told over a wrong driver too, which has to be noticed.
 """
 from __future__ import annotations
 

@@ -14,8 +14,8 @@ wrote_kept a b c text w kept =
     record { front = w.front; back = w.back; parts = w.parts; appends = Appends-kept a b c w.front w.appends kept }
 
 -- a front of the line was written, whatever came of it
-front_written : (old new : Option (List ℕ)) (line : List ℕ) (written : Result (Unit {0}) ReplayFault) → OnOk written (Appends old new line)
-    → IfErr written (λ fault. (fault ≡ Write) × Wrote old new line) → Wrote old new line
+front_written : (old new : Option (List ℕ)) (line : List ℕ) (written : Result (Unit {0}) ReplayFault)
+    → OnOk written (Appends old new line) → IfErr written (λ fault. (fault ≡ Write) × Wrote old new line) → Wrote old new line
 front_written old new line (Ok x) wrote failed = all_of old new line wrote
 front_written old new line (Err fault) wrote failed = failed.1
 
@@ -32,11 +32,13 @@ kind_told : {E : Type 0} (P Q : Type 0) (written answer : Result (Unit {0}) Repl
 kind_told P Q written answer (Err e) failed q is not =
     subst (λ (r : Result (Unit {0}) ReplayFault). IfErr r (λ fault. (fault ≡ Write) × Q)) (sym not) (refl, q)
 kind_told P Q written answer (Ok x) failed q is not =
-    subst (λ (r : Result (Unit {0}) ReplayFault). IfErr r (λ fault. (fault ≡ Write) × Q)) (sym is) (kind_kept P Q written failed q)
+    subst (λ (r : Result (Unit {0}) ReplayFault). IfErr r (λ fault. (fault ≡ Write) × Q)) (sym is)
+    (kind_kept P Q written failed q)
 
 -- and a front of the line is there
-pub line_cut : {E : Type 0} (start before mid after : Option (List ℕ)) (line : List ℕ) (written answer : Result (Unit {0}) ReplayFault)
-    (flushed : Result (Unit {0}) E) → start ≡ before → Keeps mid after → OnOk written (Appends start mid line)
+pub line_cut : {E : Type 0} (start before mid after : Option (List ℕ)) (line : List ℕ)
+    (written answer : Result (Unit {0}) ReplayFault) (flushed : Result (Unit {0}) E)
+    → start ≡ before → Keeps mid after → OnOk written (Appends start mid line)
     → IfErr written (λ fault. (fault ≡ Write) × Wrote start mid line) → OnOk flushed (answer ≡ written)
     → OnErr flushed (answer ≡ Err Write) → IfErr answer (λ fault. (fault ≡ Write) × Wrote before after line)
 line_cut start before mid after line written answer flushed same kept wrote failed is not =

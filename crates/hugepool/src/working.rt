@@ -1,12 +1,13 @@
 //! `hugepool work`: a workload over a driver.
-ghost use Rattle.std.specs.Prelude.{◌≡◌, ◌≢◌, ◌∷◌, ◌++◌, Ok, Err, OnOk, OnErr, IfOk, IfErr, IfSome, IfNone, IsSome, None, string_bytes};
+ghost use Rattle.std.specs.Prelude.{◌≡◌, ◌≢◌, Ok, Err, OnOk, IfOk, IfErr, IfSome, IfNone, IsSome, None, string_bytes};
 ghost use Rattle.std.specs.Io.KnownBytes.{Appends};
 ghost use Rattle.std.specs.Option.{option_map};
-ghost use Rattle.hp_client.specs.Tables.{table_of, name_of, Heard, IsReport};
+ghost use Rattle.hp_client.specs.Tables.{name_of};
 ghost use Rattle.hp_client.specs.declared.table.Workload.{Workload};
 ghost use Rattle.hp_replay.specs.Writing.{Wrote};
 ghost use Rattle.hugepool.specs.Requests.{IfThere};
-ghost use Rattle.hugepool.specs.Working.{work_status, carrier_name, IsAsked, IsUnknown, IsRun, Reports, report_line, Unreported, Tells, AnsweredWork};
+ghost use Rattle.hugepool.specs.Working.{work_status, carrier_name, report_line, IsAsked, IsUnknown, IsRun};
+ghost use Rattle.hugepool.specs.Working.{Reports, Unreported, AnsweredWork};
 
 use crate::program::{Stop, flush_out, flushed_answer, stopped};
 use clap::{Arg, ArgMatches, Command};
