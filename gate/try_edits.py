@@ -37,7 +37,7 @@ NOT_COMPILED = "must-not-compile"
 FOLDERS = ("must-fail", "edits", NOT_COMPILED)
 QUIETLY = {"stdin": subprocess.DEVNULL, "stdout": subprocess.PIPE, "stderr": subprocess.STDOUT, "text": True, "errors": "replace"}
 # edits in one scratch copy: a larger share would end long after the others
-MOST = 40
+MOST = 24
 
 
 @dataclass(frozen=True)
