@@ -10,6 +10,7 @@ from pathlib import PurePosixPath
 
 FUNCTION = re.compile(r"^( *)(?:pub(?:\([^)]*\))? )?(?:const )?(?:unsafe )?(?:extern \"C\" )?fn (\w+)")
 IMPL = re.compile(r"^( *)(?:unsafe )?impl\b(.*)")
+TRAIT = re.compile(r"^( *)(?:pub(?:\([^)]*\))? )?(?:unsafe )?trait (\w+)")
 MODULE = re.compile(r"^( *)(?:pub(?:\([^)]*\))? )?mod (\w+) \{")
 
 
@@ -57,7 +58,7 @@ def end_of(lines: list[str], first: int, indent: str) -> int:
 
 @dataclass(frozen=True)
 class Function:
-    """A function: the module of its file, the impl that it stands in, if any, and its name."""
+    """A function: the module of its file, the impl or the trait that it stands in, if any, and its name."""
 
     module: tuple[str, ...]
     owner: str | None
@@ -86,6 +87,8 @@ def functions(path: str, text: str) -> list[tuple[Function, int, int]]:
         impls = [it for it in impls if it[1] >= at]
         if made := IMPL.match(line):
             impls.append((owner_of(made[2]), end_of(lines, at, made[1]), " for " in made[2]))
+        elif made := TRAIT.match(line):
+            impls.append((made[2], end_of(lines, at, made[1]), False))
         elif made := MODULE.match(line):
             modules.append((made[2], end_of(lines, at, made[1])))
         elif made := FUNCTION.match(line):
