@@ -2,7 +2,8 @@
 use hp_base::{Event, Task};
 use hp_replay::{
     Chances, Exploration, Finish, ReplayFault, RunLine, Script, Watched, check_trace, explore,
-    explore_hostile, read_script, replay, schedule, write_count, write_explored, write_lines, write_trace,
+    explore_hostile, read_script, replay, schedule, write_count, write_explored, write_lines,
+    write_trace,
 };
 use std::alloc::Global;
 use std::test::Fail;
@@ -174,11 +175,7 @@ fn a_schedule_is_a_trace(rt: HostRuntime) -> Result<(), Fail> {
 /// What a replay of the bytes writes, and its answer.
 fn replayed(alloc: Global, text: &str) -> (Vec<u8>, Result<(), ReplayFault>) {
     let mut written = Vec::new(alloc);
-    let answer = replay(
-        alloc,
-        &mut text.as_bytes(),
-        &mut Watched::new(&mut written),
-    );
+    let answer = replay(alloc, &mut text.as_bytes(), &mut Watched::new(&mut written));
     (written, answer)
 }
 
@@ -213,7 +210,10 @@ fn bad_traces_have_one_fault(rt: HostRuntime) -> Result<(), Fail> {
 #[test]
 fn a_cut_trace_is_run_up_to_its_end(rt: HostRuntime) -> Result<(), Fail> {
     let text = "pool 1 1 1 1\nbegin 1 exit\nstep";
-    assert_eq!(rt; check_trace(&mut text.as_bytes()), Err(ReplayFault::BadLine(3)));
+    assert_eq!(rt;
+        check_trace(&mut text.as_bytes()),
+        Err(ReplayFault::BadLine(3))
+    );
     let (written, answer) = replayed(rt.alloc(), text);
     assert_eq!(rt; answer, Err(ReplayFault::BadLine(3)));
     assert_eq!(rt; written.as_slice(), b"begun\n".as_slice());

@@ -196,7 +196,7 @@ struct Fed {
 }
 
 /// What it tells of the bytes, in pieces of at most `most` bytes.
-fn fed(feed: &mut TraceFeed, bytes: &[u8], most: usize) -> Result<Fed, ReplayFault> {
+fn told_of(feed: &mut TraceFeed, bytes: &[u8], most: usize) -> Result<Fed, ReplayFault> {
     let (mut headers, mut events): (u32, u32) = (0, 0);
     for piece in bytes.chunks(most.max(1)) {
         let mut rest = piece;
@@ -226,21 +226,24 @@ fn a_feed_takes_any_pieces(rt: HostRuntime) -> Result<(), Fail> {
     assert_eq!(rt; used, 13);
     assert!(rt; matches!(line, Some(TraceLine::Header(_))));
     for most in [bytes.len(), 3, 1] {
-        let whole = fed(&mut TraceFeed::new(), bytes, most);
+        let whole = told_of(&mut TraceFeed::new(), bytes, most);
         let told = Fed {
             headers: 1,
             events: 3,
             lines: 4,
         };
         assert_eq!(rt; whole, Ok(told));
-        let cut = fed(&mut TraceFeed::new(), &bytes[..bytes.len() - 1], most);
+        let cut = told_of(&mut TraceFeed::new(), &bytes[..bytes.len() - 1], most);
         assert_eq!(rt; cut, Err(ReplayFault::BadLine(4)));
-        let nothing = fed(&mut TraceFeed::new(), b"", most);
+        let nothing = told_of(&mut TraceFeed::new(), b"", most);
         assert_eq!(rt; nothing, Err(ReplayFault::BadHeader));
     }
     let mut feed = TraceFeed::new();
-    assert_eq!(rt; fed(&mut feed, b"pool\n", 5), Err(ReplayFault::BadHeader));
-    assert_eq!(rt; fed(&mut feed, bytes, 1), Err(ReplayFault::BadHeader));
+    assert_eq!(rt;
+        told_of(&mut feed, b"pool\n", 5),
+        Err(ReplayFault::BadHeader)
+    );
+    assert_eq!(rt; told_of(&mut feed, bytes, 1), Err(ReplayFault::BadHeader));
     assert_eq!(rt; feed.end(), Err(ReplayFault::BadHeader));
     Ok(())
 }
