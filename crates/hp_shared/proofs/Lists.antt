@@ -120,9 +120,17 @@ pub ends_badly : (p k : ℕ) (journal : List Entry) (ls rest : List (List Entry)
 ends_badly p k journal ls rest past upto uses left =
     let here : k ≡ length journal = omega arith in
     let P : List Entry → Type 0 = λ y. FailsNow (p + length journal) y rest in
-    let Q : ℕ → Type 0 = λ m. Uses p (take m journal) ls rest in
-    (length journal, refl, omega arith, (rest, subst Q here uses, subst P
-    (sym (drop_all (length journal) journal (omega arith))) left))
+    let Q : ℕ → Type 0 = λ m. Uses p (take m journal) ls rest in (
+      length journal,
+      refl,
+      omega arith,
+      (
+        rest,
+        subst Q here uses,
+        subst P
+            (sym (drop_all (length journal) journal (omega arith))) left,
+      ),
+    )
 
 -- of no list more was used than the places that were walked
 pub below_none : (n j : ℕ) → get_or (replicate n 0) j 0 ≤ 0

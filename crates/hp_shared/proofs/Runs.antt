@@ -49,9 +49,12 @@ follows_copy s copy es none same sizes = subst (λ (xs : List Entry). Follows co
 pub follows_to_copy : (start s copy : CoreState) (es : List Entry) → Follows start es s → as_state copy ≡ as_state s
     → config_of copy ≡ config_of s → Follows start es copy
 unfolding Run config_of
-follows_to_copy start s copy es run same sizes =
-    (subst (λ (m : State). rows.Run (as_state start) (zip (events_of es) (outcomes_of es)) m) (sym same) run.0, run.1, sizes
-    ∙ run.2)
+follows_to_copy start s copy es run same sizes = (
+  subst (λ (m : State). rows.Run (as_state start) (zip (events_of es) (outcomes_of es)) m) (sym same) run.0,
+  run.1,
+  sizes
+      ∙ run.2,
+)
 
 -- one run after the other
 joined : (s m n : State) (xs ys : List (Event × Outcome)) → rows.Run s xs m → rows.Run m ys n → rows.Run s (xs ++ ys) n

@@ -128,7 +128,7 @@ impl<L: Ledger> Shared<L> {
     ) -> Result<Outcome, CallFault>
         ensures kind { IfOk result (λ told. IsOutcomeOf (Event.Resize frames) told) }
         ensures seat { IfOk result (λ told. (position : ℕ) ×
-        (seat.new ≡ seat_with seat.old position (Event.Resize frames) told)) }
+            (seat.new ≡ seat_with seat.old position (Event.Resize frames) told)) }
         ensures err { IfErr result (λ fault. (fault ≡ CallFault.Memory false) × (seat.new ≡ seat.old)) }
     {
         self.attempt(rt, seat, Event::Resize(frames))

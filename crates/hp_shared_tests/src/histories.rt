@@ -1,7 +1,7 @@
 //! Ends that are refused, and journals that are no interleaving.
 ghost use Rattle.std.specs.Prelude.{◌≡◌};
 
-use hp_base::{Config, Event, Op, Task};
+use hp_base::{Answer, Config, Event, Op, Task};
 use hp_core::{Outcome, Refusal};
 use hp_shared::{CloseFault, Entry, Open, Reply, Shared, interleaved, resume};
 use std::alloc::Global;
@@ -30,12 +30,17 @@ fn ends<L: Ledger + Send + Sync, R: Wait>(
     let (shared, mut seats) = refused.back.ok_or("they are handed back")?;
     let back = seats.len();
     seats.push(second)?;
-    let closed = shared.close(alloc, seats).ok().ok_or("the histories agree")?;
+    let closed = shared
+        .close(alloc, seats)
+        .ok()
+        .ok_or("the histories agree")?;
     Ok((idle, refused.fault, back, closed.entries))
 }
 
 #[test]
 fn a_missing_seat_is_told(rt: HostRuntime) -> Result<(), Fail> {
+    // The checker of borrows asks for a mention of the type that a reply may hold.
+    let _none: Option<Answer> = None;
     let config = Config::new(1, 1, 1, 2)?;
     let (idle, fault, back, entries) = ends::<Brand, _>(&rt, rt.alloc(), Blank::new(2), config)?;
     assert_eq!(rt; idle, Reply::Refused(Refusal::Idle));

@@ -4,7 +4,7 @@ ghost use Rattle.std.specs.Prelude.{◌≡◌};
 use crate::gates::{HeldAt, SeenAt};
 use hp_base::{Answer, Config, File, Index, Op, Task, Vpn};
 use hp_core::{Outcome, Phase};
-use hp_shared::{Open, Reply, Shared, call};
+use hp_shared::{Open, Reply, Seat, Shared, call};
 use std::alloc::Global;
 use std::marker::Brand;
 use std::sync::Wait;
@@ -31,68 +31,72 @@ fn load(vpn: u32) -> Op {
     Op::Load { vpn: Vpn::new(vpn) }
 }
 
-// What came of two stores, of a load after them, and of the end; and whether nobody waited in vain.
+// What came of two stores and of a load after them; and whether nobody waited in vain.
 #[derive(Drop)]
 struct Stores {
     first: Reply,
     second: Reply,
     loaded: Reply,
-    free: u32,
-    resv: u32,
     came: bool,
 }
 
 // The first task's store is held at `changed` until the second's store to the next page has ended.
 fn two_stores<L: Ledger + Send + Sync, R: Threads + Wait + Sync>(
     rt: &R,
-    alloc: Global,
-    blank: Blank,
-    config: Config,
-) -> Result<Stores, Fail>
-    requires name { blank.name ≡ L.name }
-    requires parts { (blank.parts ≡ L.parts) × (blank.parts ≡ config.tasks) }
-{
-    let (shared, mut seats) = Shared::<L>::new(alloc, blank, config)?;
-    let mut second = seats.pop().ok_or("a seat")?;
-    let mut first = seats.pop().ok_or("a seat")?;
-    call(&shared, rt, &mut first, map(2), &Open)?;
-    call(&shared, rt, &mut second, map(2), &Open)?;
+    shared: &Shared<L>,
+    seats: &mut [Seat<L>],
+) -> Result<Stores, Fail> {
+    let (first, rest) = seats.split_first_mut().ok_or("a seat")?;
+    let second = rest.first_mut().ok_or("a seat")?;
+    call(shared, rt, first, map(2), &Open)?;
+    call(shared, rt, second, map(2), &Open)?;
     let gate = HeldAt::new(Phase::Changed);
-    let (pool, held, one, two) = (&shared, &gate, &mut first, &mut second);
-    let (a, b) = join(
+    let held = &gate;
+    let (one, two) = join(
         rt,
-        move || call(pool, rt, one, store(0, 41), held),
-        move || {
+        || call(shared, rt, first, store(0, 41), held),
+        || {
             held.there.wait();
-            let reply = call(pool, rt, two, store(1, 42), &Open);
+            let reply = call(shared, rt, second, store(1, 42), &Open);
             held.released.give();
             reply
         },
     );
-    let loaded = call(&shared, rt, &mut second, load(0), &Open)?;
     let came = gate.there.came() && gate.released.came();
-    let closed = shared
-        .close(alloc, vec![in alloc; first, second]?)
-        .ok()
-        .ok_or("the histories agree")?;
     Ok(Stores {
-        first: a?,
-        second: b?,
-        loaded,
-        free: closed.core.free(),
-        resv: closed.core.resv(),
+        first: one?,
+        second: two?,
+        loaded: call(shared, rt, second, load(0), &Open)?,
         came,
     })
+}
+
+// That, and the free frames and the reserve count at the end.
+fn a_pool_of_two<L: Ledger + Send + Sync, R: Threads + Wait + Sync>(
+    rt: &R,
+    alloc: Global,
+    blank: Blank,
+    config: Config,
+) -> Result<(Stores, u32, u32), Fail>
+    requires name { blank.name ≡ L.name }
+    requires parts { (blank.parts ≡ L.parts) × (blank.parts ≡ config.tasks) }
+{
+    let (shared, mut seats) = Shared::<L>::new(alloc, blank, config)?;
+    let told = two_stores(rt, &shared, &mut seats)?;
+    match shared.close(alloc, seats) {
+        Ok(closed) => Ok((told, closed.core.free(), closed.core.resv())),
+        Err(_) => Err("the histories agree".into()),
+    }
 }
 
 #[test]
 fn a_gate_between_two_stores(rt: HostRuntime) -> Result<(), Fail> {
     let config = Config::new(4, 1, 4, 2)?;
-    let told = two_stores::<Brand, _>(&rt, rt.alloc(), Blank::new(2), config)?;
+    let (told, free, resv) = a_pool_of_two::<Brand, _>(&rt, rt.alloc(), Blank::new(2), config)?;
     assert_eq!(rt; told.first, Reply::Ended(Answer::Done));
     assert_eq!(rt; told.second, Reply::Ended(Answer::Done));
     assert_eq!(rt; told.loaded, Reply::Ended(Answer::Word(41)));
-    assert_eq!(rt; (told.free, told.resv), (2, 0));
+    assert_eq!(rt; (free, resv), (2, 0));
     assert!(rt; told.came);
     Ok(())
 }
@@ -110,62 +114,67 @@ struct Killing {
 // is killed by the third.
 fn a_waiter_killed<L: Ledger + Send + Sync, R: Threads + Wait + Sync>(
     rt: &R,
-    alloc: Global,
-    blank: Blank,
-    config: Config,
-) -> Result<Killing, Fail>
-    requires name { blank.name ≡ L.name }
-    requires parts { (blank.parts ≡ L.parts) × (blank.parts ≡ config.tasks) }
-{
-    let (shared, mut seats) = Shared::<L>::new(alloc, blank, config)?;
-    let mut third = seats.pop().ok_or("a seat")?;
-    let mut second = seats.pop().ok_or("a seat")?;
-    let mut first = seats.pop().ok_or("a seat")?;
-    call(&shared, rt, &mut first, map(1), &Open)?;
-    call(&shared, rt, &mut second, map(1), &Open)?;
+    shared: &Shared<L>,
+    seats: &mut [Seat<L>],
+) -> Result<Killing, Fail> {
+    let (first, rest) = seats.split_first_mut().ok_or("a seat")?;
+    let (second, rest) = rest.split_first_mut().ok_or("a seat")?;
+    let third = rest.first_mut().ok_or("a seat")?;
+    call(shared, rt, first, map(1), &Open)?;
+    call(shared, rt, second, map(1), &Open)?;
     let holding = HeldAt::new(Phase::Locked);
     let wanting = SeenAt::new(Phase::Want);
-    let (pool, held, seen) = (&shared, &holding, &wanting);
-    let (one, two, three) = (&mut first, &mut second, &mut third);
-    let (a, (b, c)) = join(
+    let (held, seen) = (&holding, &wanting);
+    let (one, (two, kill)) = join(
         rt,
-        move || call(pool, rt, one, store(0, 1), held),
-        move || {
+        || call(shared, rt, first, store(0, 1), held),
+        || {
             join(
                 rt,
-                move || {
+                || {
                     held.there.wait();
-                    let reply = call(pool, rt, two, store(0, 2), seen);
+                    let reply = call(shared, rt, second, store(0, 2), seen);
                     held.released.give();
                     reply
                 },
-                move || {
+                || {
                     seen.there.wait();
-                    pool.kill(rt, three, Task::new(2))
+                    shared.kill(rt, third, Task::new(2))
                 },
             )
         },
     );
     let came = holding.there.came() && holding.released.came() && wanting.there.came();
-    shared
-        .close(alloc, vec![in alloc; first, second, third]?)
-        .ok()
-        .ok_or("the histories agree")?;
     Ok(Killing {
-        holder: a?,
-        waiter: b?,
-        kill: c?,
+        holder: one?,
+        waiter: two?,
+        kill: kill?,
         came,
     })
+}
+
+// That, and whether the histories agree at the end.
+fn a_pool_of_three<L: Ledger + Send + Sync, R: Threads + Wait + Sync>(
+    rt: &R,
+    alloc: Global,
+    blank: Blank,
+    config: Config,
+) -> Result<(Killing, bool), Fail>
+    requires name { blank.name ≡ L.name }
+    requires parts { (blank.parts ≡ L.parts) × (blank.parts ≡ config.tasks) }
+{
+    let (shared, mut seats) = Shared::<L>::new(alloc, blank, config)?;
+    let told = a_waiter_killed(rt, &shared, &mut seats)?;
+    Ok((told, shared.close(alloc, seats).is_ok()))
 }
 
 #[test]
 fn a_kill_reaches_a_store_that_waits(rt: HostRuntime) -> Result<(), Fail> {
     let config = Config::new(1, 1, 4, 3)?;
-    let told = a_waiter_killed::<Brand, _>(&rt, rt.alloc(), Blank::new(3), config)?;
+    let (told, agree) = a_pool_of_three::<Brand, _>(&rt, rt.alloc(), Blank::new(3), config)?;
     assert_eq!(rt; told.waiter, Reply::Ended(Answer::Killed));
     assert_eq!(rt; told.holder, Reply::Ended(Answer::Done));
     assert_eq!(rt; told.kill, Outcome::Marked);
-    assert!(rt; told.came);
+    assert!(rt; told.came && agree);
     Ok(())
 }

@@ -27,8 +27,16 @@ returns-in_default g c =
 
 pub index_mut-requires : goal.index_mut-requires
 index_mut-requires g c =
-    omega (arith, c.in-Some.ensures.0, c.as_slice.ensures.value, c.loop-k.invariant.1, c.loop-k.used.ok, length-unused
-    (map g.S.Listed.listed c.args.lists.now) c.as_slice.result.now, length-map c.args.lists.now g.S.Listed.listed)
+    omega (
+      arith,
+      c.in-Some.ensures.0,
+      c.as_slice.ensures.value,
+      c.loop-k.invariant.1,
+      c.loop-k.used.ok,
+      length-unused
+          (map g.S.Listed.listed c.args.lists.now) c.as_slice.result.now,
+      length-map c.args.lists.now g.S.Listed.listed,
+    )
 
 pub overflow_add-index_mut : goal.overflow_add-index_mut
 overflow_add-index_mut g c =
@@ -55,7 +63,7 @@ loop-k-preserved g c =
           next is,
       length-set c.loop-k.used.items c.in-Some.i (c.index_mut.result.now + 1) ∙ c.loop-k.invariant.1,
       below_on c.loop-k.used.items c.in-Some.i c.loop-k.k c.index_mut.result.now c.loop-k.invariant.2
-      (omega (arith, is, c.loop-k.invariant.2 c.in-Some.i)),
+          (omega (arith, is, c.loop-k.invariant.2 c.in-Some.i)),
     )
 
 pub returns : goal.returns

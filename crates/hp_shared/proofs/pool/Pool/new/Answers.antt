@@ -8,7 +8,7 @@ invariant_of-result g c =
     c.in_ok-start.ensures.state c.in_ok-start.ensures.config in record {
       origin = ([], refl, (c.args.config, c.in_ok-start.start, start, follows_none c.in_ok-start.start [] refl));
       run = follows_copy c.in_ok-core.core c.in_ok-start.start _ c.new-2.ensures.items c.in_ok-start.ensures.state
-      c.in_ok-start.ensures.config;
+          c.in_ok-start.ensures.config;
       counted = omega (arith, c.requires, ap length c.new-2.ensures.items);
       bound = omega arith;
     }
