@@ -143,7 +143,8 @@ fn cuts_refused<L: Ledger, R: Wait>(
     let alone = seats.get_mut(..1).ok_or("a seat")?;
     let without_a_seat = shared.cut(rt, alloc, alone).err();
     let second = seats.get_mut(1).ok_or("a seat")?;
-    let begun = shared.attempt(rt, second, Event::Begin(Task::new(2), map(1)))?;
+    let begin = Event::Begin(second.task(), map(1));
+    let begun = shared.attempt(rt, second, begin)?;
     let in_flight = shared.cut(rt, alloc, seats).err();
     let second = seats.get_mut(1).ok_or("a seat")?;
     let ended = resume(shared, rt, second, &Open)?;
