@@ -3,10 +3,12 @@
 usage: ./check [STEP] [..]
 
   ./check            all steps but quick: what has to pass before a change lands
+  ./check all        the same, with every edit, whether or not anything changed that its check reads
   ./check ci         every proof from nothing, the edits for the known wrong bodies, all tests and programs (rt ci)
-  ./check edits [CRATE ..] [--each]
-                     every must-fail edit, many at once; and with no crate named, edits of which each has to be told apart,
-                     and whether docs/INDEX.md is what the sources say
+  ./check edits [CRATE ..] [--all] [--each]
+                     the must-fail edits, many at once: with no crate named, those of the crates of which anything changed since
+                     all were refused, and of some others (--all: of every crate); then edits of which each has to be told
+                     apart, what makes a crate's edits due, and whether docs/INDEX.md is what the sources say
   ./check examples   what the traces of examples/ print
   ./check refusals   that a driver goes on where memory is refused to it, at each growth of a small story
   ./check linux      what a Linux kernel answered (conformance/)
@@ -29,6 +31,7 @@ from pathlib import Path
 from typing import Iterable
 
 import tests
+import tried
 import try_edits
 from scratch import TOP, crates_of
 
@@ -104,6 +107,7 @@ def edits(step: Step, words: list[str]) -> None:
     step.run(python("try_edits.py", *words))
     if not crates_of(TOP).keys() & set(words):
         step.run(python("test_edits.py"))
+        step.run(python("test_tried.py"))
         index(step)
 
 
@@ -147,14 +151,15 @@ def run_tests(name: str) -> bool:
     return ran.returncode == 0
 
 
-def whole() -> list[Step]:
+def whole(is_all: bool) -> list[Step]:
     """All that has to pass. The edits are tried beside the proofs from nothing, which leave processors idle where crate waits for crate."""
     steps = [Step(name) for name in ("ci", "edits", "examples", "refusals", "linux")]
     first, second, *others = steps
     with tempfile.TemporaryDirectory(prefix="check-") as name:
         room = Path(name)
         copy = str(shutil.copytree(TOP, room / "all", ignore=shutil.ignore_patterns(".git")))
-        beside = [Beside(room, "try_edits.py", "--beside", copy), Beside(room, "test_edits.py", copy)]
+        every = ["--all"] if is_all else []
+        beside = [Beside(room, "try_edits.py", "--beside", copy, *every), Beside(room, "test_edits.py", copy)]
         try:
             ci(first, [])
             first.end()
@@ -163,9 +168,11 @@ def whole() -> list[Step]:
                 return [first]
             for it in beside:
                 it.finish(second)
+            tried.record(TOP, tried.recorded(Path(copy)))
         finally:
             for it in beside:
                 it.stop()
+    second.run(python("test_tried.py"))
     index(second)
     second.end()
     for step in others:
@@ -189,10 +196,11 @@ def main(words: list[str]) -> int:
     if words[:1] in (["-h"], ["--help"], ["help"]):
         print(__doc__, end="")
         return 0
-    if words and words[0] not in STEPS or words[1:] and words[0] != "edits":
+    if words and words[0] not in [*STEPS, "all"] or words[1:] and words[0] != "edits":
         print(__doc__.split("\n\n", 1)[1], end="", file=sys.stderr)
         return 2
-    done = one(words[0], words[1:]) if words else whole()
+    is_all = words == ["all"]
+    done = whole(is_all) if is_all or not words else one(words[0], words[1:])
     print("\n".join(it.told() for it in done))
     passed, failed = sum(it.passed for it in done), sum(it.failed for it in done)
     print(f"{passed} passed, {failed} failed")

@@ -12,9 +12,8 @@ import tempfile
 from pathlib import Path
 
 from scratch import TOP, below, crates_of
-from try_edits import Lanes, NotProved, proved_one_by_one, try_crates
+from try_edits import ALWAYS as CRATE, Lanes, NotProved, proved_one_by_one, try_crates
 
-CRATE = "hp_frames"
 FIXTURES = Path(__file__).resolve().parent / "fixtures"
 EXPECTED = {
     "a_comment_more": "NOT REFUSED: ",

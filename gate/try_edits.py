@@ -1,7 +1,10 @@
 #!/usr/bin/env python3
 """Tries every must-fail edit: the prover has to refuse each for itself.
 
-usage: ./check edits [CRATE ..] [--each]
+usage: ./check edits [CRATE ..] [--all] [--each]
+
+Without a word it tries the edits of each crate whose checks would read anything else than when all its edits were refused (that is
+kept in gate/tried.txt), and those of some others, whose turn it is; --all tries those of all crates.
 
 The edits of a crate stand in its folders must-fail/ (those that the toolchain's gate tries too), edits/ and must-not-compile/
 (those that the compiler has to refuse, with the error that they name). Edits of different
@@ -28,8 +31,9 @@ from pathlib import Path
 from typing import Iterable, Iterator
 
 import edit as edits
+import tried as record
 from edit import BadEdit, Edit, Texts
-from scratch import TOP, Scratch, crates_of
+from scratch import TOP, Scratch, below, crates_of
 from source import Function
 from verdicts import Check, Verdict
 
@@ -38,6 +42,8 @@ FOLDERS = ("must-fail", "edits", NOT_COMPILED)
 QUIETLY = {"stdin": subprocess.DEVNULL, "stdout": subprocess.PIPE, "stderr": subprocess.STDOUT, "text": True, "errors": "replace"}
 # edits in one scratch copy: a larger share would end long after the others
 MOST = 24
+# the crate on which the gate itself is tried (test_edits.py)
+ALWAYS = "hp_frames"
 
 
 @dataclass(frozen=True)
@@ -299,10 +305,27 @@ def proved_in_order(top: Path) -> Iterator[str]:
         raise NotProved("".join(said))
 
 
-def try_all(top: Path, proved: Iterable[str], lanes: Lanes, is_each_told: bool) -> tuple[int, int]:
-    """Tries and tells, and returns how many edits were refused and how many faults there are."""
+def chosen(top: Path, marks: dict[str, str], is_all: bool) -> set[str]:
+    """The crates whose edits are to be tried; the others are told."""
+    edits_of = {name: sum(map(len, read_all(top / "crates" / name))) for name in marks}
+    have = {name for name in marks if edits_of[name]}
+    if is_all:
+        return have
+    due = record.due(top, marks) & have
+    turn = record.in_turn(marks, edits_of, due)
+    left = sorted(have - due - turn)
+    if left:
+        count = sum(edits_of[name] for name in left)
+        print(f"not tried, since nothing changed that the checks of their {count} edits read: {', '.join(left)}", flush=True)
+    return due | turn
+
+
+def try_all(top: Path, marks: dict[str, str], proved: Iterable[str], lanes: Lanes, is_each_told: bool) -> tuple[int, int]:
+    """Tries and tells, and returns how many edits were refused and how many faults there are. A crate without a fault is recorded."""
     refused = faults = 0
     for name, results, told in try_crates(top, proved, lanes):
+        if all(it.is_refused for it in results):
+            record.record(top, {name: marks[name]})
         print(told)
         for it in sorted(results, key=lambda it: it.name):
             if is_each_told or not it.is_refused:
@@ -318,16 +341,30 @@ def widen_when_input_ends(lanes: Lanes) -> None:
     lanes.widen()
 
 
-def try_beside(top: Path, most: int, is_each_told: bool) -> tuple[int, int]:
-    """Tries all edits of a copy of the repository, with half the lanes until the input ends."""
+def try_beside(top: Path, marks: dict[str, str], names: set[str], most: int, is_each_told: bool) -> tuple[int, int]:
+    """Tries the edits of these crates of a copy of the repository, with half the lanes until the input ends. No other crate is
+    proved in the copy than those, what they stand on, and what is needed to try the gate itself."""
+    crates = crates_of(top)
+    needed = {it for name in {*names, ALWAYS} for it in {name, *below(name, crates)}}
+    kept = top / "crates.txt.new"
+    kept.write_text("".join(f"{it}: {' '.join(crates[it])}\n" for it in crates if it in needed), encoding="utf-8")
+    # (at once, since another script reads it beside this one)
+    kept.replace(top / "crates.txt")
+    for it in crates.keys() - needed:
+        shutil.rmtree(top / "crates" / it)
     lanes = Lanes(max(1, most // 2), most)
     threading.Thread(target=widen_when_input_ends, args=(lanes,), daemon=True).start()
-    return try_all(top, proved_in_order(top), lanes, is_each_told)
+    return try_all(top, marks, only(proved_in_order(top), names), lanes, is_each_told)
+
+
+def only(proved: Iterable[str], names: set[str]) -> Iterator[str]:
+    return (it for it in proved if it in names)
 
 
 def main() -> int:
     words = argparse.ArgumentParser(prog="./check edits", description=__doc__.split("\n")[0])
     words.add_argument("crates", nargs="*", metavar="CRATE", help="the crates whose edits are tried; none: all")
+    words.add_argument("--all", action="store_true", help="try the edits of all crates")
     words.add_argument("--each", action="store_true", help="tell of each edit, not of the faults alone")
     words.add_argument("--lanes", type=int, default=os.cpu_count() or 1, metavar="N", help="how many checks side by side")
     words.add_argument("--beside", type=Path, help=argparse.SUPPRESS)
@@ -337,11 +374,14 @@ def main() -> int:
         words.error(f"crates.txt has no crate {unknown[0]}")
     most = max(1, given.lanes)
     try:
+        top = given.beside or TOP
+        marks = record.marks_of(top, FOLDERS, record.toolchain())
+        names = set(given.crates) or chosen(top, marks, given.all)
         if given.beside:
-            refused, faults = try_beside(given.beside, most, given.each)
+            refused, faults = try_beside(top, marks, names, most, given.each)
         else:
-            proved = proved_one_by_one(TOP, given.crates) if given.crates else proved_in_order(TOP)
-            refused, faults = try_all(TOP, proved, Lanes(most, most), given.each)
+            proved = proved_one_by_one(top, given.crates) if given.crates else only(proved_in_order(top), names)
+            refused, faults = try_all(top, marks, proved, Lanes(most, most), given.each)
     except NotProved as error:
         print(f"{error}check: the crates aren't proved, so not all edits were tried")
         return 1

@@ -13,7 +13,7 @@ use Rattle.hp_core.specs.State.{CoreState, as_state}
 use Rattle.hp_core.specs.Runs.{Row, Run, IsOpening}
 use Rattle.hp_core.proofs.RunsOn.{run_none, run_more}
 use Rattle.hp_shared.specs.declared.entry.Entry.{Entry}
-use Rattle.hp_shared.specs.Journal.{Follows, IsFromOpening, entry, events_of, gained, is_made, outcomes_of}
+use Rattle.hp_shared.specs.Journal.{Follows, IsFromOpening, IsCameTo, entry, events_of, gained, is_made, outcomes_of}
 use Rattle.hp_shared.specs.States.{next}
 
 -- what is taken of each of a list with one more
@@ -94,6 +94,17 @@ cut_origin first start core copy journal origin run same config =
         opening.2,
         follows_on opening.1 start copy earlier journal opening.3 (follows_to_copy start core copy journal run same config),
       ),
+    )
+
+-- the entries before the last cut and those since led to the core
+pub came_to : (first : ℕ) (start core : CoreState) (journal : List Entry)
+    → ((earlier : List Entry) × (length earlier ≡ first) × IsFromOpening earlier start) → Follows start journal core
+    → IsCameTo core
+came_to first start core journal origin run =
+    let earlier = origin.0 in
+    let opening = origin.2 in (
+      earlier ++ journal,
+      (opening.0, opening.1, opening.2, follows_on opening.1 start core earlier journal opening.3 run),
     )
 
 -- a copy of the opening state is one

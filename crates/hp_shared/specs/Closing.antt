@@ -1,5 +1,5 @@
 -- What a pool is closed with, and why one isn't.
-use Rattle.std.specs.Prelude.{◌≡◌, ℕ, ◌+◌, List, length}
+use Rattle.std.specs.Prelude.{◌≡◌, ℕ, List, length}
 use Rattle.hp_core.specs.State.{CoreState}
 use Rattle.hp_shared.specs.declared.entry.Entry.{Entry}
 use Rattle.hp_shared.specs.declared.fault.CloseFault.{CloseFault}
@@ -8,15 +8,15 @@ use Rattle.hp_shared.specs.Journal.{Follows, IsFromOpening, Interleaves, FirstFa
 use Rattle.hp_shared.specs.States.{SeatState}
 use Rattle.hp_shared.specs.Seats.{AllSeated, LeastMissing, lists_of}
 
--- The lists' entries since the last cut, in order of position, are an interleaving of the lists, and lead from the core of
--- that cut to this one; the entries before it led to that core from an opening state; and the entries are counted in all
-abbrev pub ClosesWith : List SeatState → CoreState → (entries : ℕ) → Type 0
-ClosesWith seats core entries =
-    (earlier : List Entry) × (start : CoreState) × (journal : List Entry)
+-- The journal, whose positions begin at first, is an interleaving of the lists, and leads from the core of the last cut to
+-- this one; as many entries as first says led to that core from an opening state
+abbrev pub ClosesWith : List SeatState → CoreState → (first : ℕ) → (journal : List Entry) → Type 0
+ClosesWith seats core first journal =
+    (earlier : List Entry) × (start : CoreState)
+    × (length earlier ≡ first)
     × IsFromOpening earlier start
-    × Interleaves (length earlier) journal (lists_of seats)
+    × Interleaves first journal (lists_of seats)
     × Follows start journal core
-    × (entries ≡ length earlier + length journal)
 
 -- a seat is missing, or none is, and the lists aren't those of the journal or memory ran out
 abbrev pub RefusesClose : (tasks : ℕ) → List SeatState → CloseFault → Type 0

@@ -58,6 +58,10 @@ Follows old entries new = Run old (events_of entries) (outcomes_of entries) new
 abbrev pub IsFromOpening : List Entry → CoreState → Type 0
 IsFromOpening entries new = (config : Config) × (opened : CoreState) × IsOpening config opened × Follows opened entries new
 
+-- a core that a pool came to: some entries led there
+abbrev pub IsCameTo : CoreState → Type 0
+IsCameTo core = (entries : List Entry) × IsFromOpening entries core
+
 -- the next entry of the list is e
 abbrev pub BeginsWith : Entry → List Entry → Type 0
 BeginsWith e [] = ⊥

@@ -2,7 +2,9 @@
 use Rattle.std.specs.Prelude.{ℕ, ◌+◌, List, ◌++◌, length}
 use Rattle.hp_base.specs.declared.event.Event.{Event}
 use Rattle.hp_machine.specs.declared.outcome.Outcome.{Outcome}
+use Rattle.hp_core.specs.Readers.{free_of, resv_of, all_reserved_of, all_pages_of}
 use Rattle.hp_core.specs.State.{CoreState}
+use Rattle.hp_core.specs.declared.readers.Tally.{Tally}
 use Rattle.hp_shared.specs.declared.entry.Entry.{Entry}
 use Rattle.hp_shared.specs.Journal.{gained}
 
@@ -41,3 +43,7 @@ seat_with s position event outcome = record s {
   list = s.list ++ gained position event outcome;
   entries = s.entries + length (gained position event outcome);
 }
+
+-- the numbers of a core as a whole
+abbrev pub tally_of : CoreState → Tally
+tally_of s = record { free = free_of s; resv = resv_of s; reserved = all_reserved_of s; pages = all_pages_of s }

@@ -2,18 +2,19 @@
 ghost use Rattle.std.specs.Prelude.{◌≡◌, ◌+◌, ◌<◌, ◌^◌, ◌≤◌, ◌++◌, [], ℕ, List, IfOk, OnErr, Some, None, MatchResult};
 ghost use Rattle.std.specs.Prelude.{MatchBool, true, false, length};
 ghost use Rattle.hp_base.specs.Text.{sizes};
-ghost use Rattle.hp_core.specs.Readers.{config_of, free_of, resv_of, all_reserved_of, all_pages_of};
+ghost use Rattle.hp_core.specs.Readers.{config_of};
 ghost use Rattle.hp_core.specs.Runs.{Row, IsOpening, IsIdle, Headline};
 ghost use Rattle.hp_core.specs.State.{CoreState, as_state};
 ghost use Rattle.hp_core.specs.Waiting.{WaitsFor};
 ghost use Rattle.hp_machine.specs.declared.outcome.Outcome.{Outcome};
 ghost use Rattle.hp_shared.specs.Calls.{IsOwn};
 ghost use Rattle.hp_shared.specs.Closing.{ClosesWith};
-ghost use Rattle.hp_shared.specs.Journal.{gained, is_made, IsOutcomeOf, Follows, IsFromOpening, Interleaves, FirstFailsAt};
+ghost use Rattle.hp_shared.specs.Journal.{gained, is_made, IsOutcomeOf, Follows, IsFromOpening, IsCameTo, Interleaves, FirstFailsAt};
 ghost use Rattle.hp_shared.specs.Seats.{lists_of};
-ghost use Rattle.hp_shared.specs.States.{PoolState, next, pool_with, seat_with};
+ghost use Rattle.hp_shared.specs.States.{PoolState, next, pool_with, seat_with, tally_of};
 ghost use Rattle.hp_shared.specs.declared.entry.Entry.{Entry};
 
+use crate::cutting::Part;
 use crate::entry::Entry;
 use crate::order::compare;
 use crate::seat::Seat;
@@ -130,11 +131,12 @@ impl<L: Ledger> Pool<L> {
 
     /// What holds of every pool, whenever its lock is free: the headline of its core; the journal's events, with their
     /// outcomes, lead from the core of the last cut to this one; the entries before led to that one from an opening
-    /// state; and the book counts them all. There is nothing to run.
+    /// state, so that all together lead to this one from there; and the book counts them all. There is nothing to run.
     pub fn always(&self)
         ensures headline { Headline self.now.core }
         ensures run { Follows self.now.start self.now.journal self.now.core }
         ensures origin { (earlier : List Entry) × (length earlier ≡ self.now.first) × IsFromOpening earlier self.now.start }
+        ensures came { IsCameTo self.now.core }
         ensures entries { self.now.entries ≡ next self.now }
     {
         self.core.always();
@@ -158,11 +160,10 @@ impl<L: Ledger> Pool<L> {
 
     /// The numbers of the pool as a whole.
     pub fn tally(&self) -> Tally
-        ensures free { result.free ≡ free_of self.now.core }
-        ensures resv { result.resv ≡ resv_of self.now.core }
-        ensures reserved { result.reserved ≡ all_reserved_of self.now.core }
-        ensures pages { result.pages ≡ all_pages_of self.now.core }
+        ensures numbers { result ≡ tally_of self.now.core }
+        ensures came { IsCameTo self.now.core }
     {
+        self.always();
         self.core.tally()
     }
 
@@ -179,9 +180,11 @@ impl<L: Ledger> Pool<L> {
         compare(alloc, self.first, self.journal.as_slice(), seats)
     }
 
-    // The core, and the number of all entries.
+    // The core, the journal, and the number of all entries.
     pub(crate) fn into_closed(self) -> Closed
         ensures core { result.core ≡ self.core }
+        ensures first { result.last.first ≡ self.first }
+        ensures journal { result.last.entries.items ≡ self.journal }
         ensures entries { result.entries ≡ next self }
         ensures run { Follows self.start self.journal self.core }
         ensures origin { (earlier : List Entry) × (length earlier ≡ self.first) × IsFromOpening earlier self.start }
@@ -196,13 +199,18 @@ impl<L: Ledger> Pool<L> {
         Closed {
             core,
             entries: first + journal.len() as u64,
+            last: Part {
+                first,
+                entries: journal,
+            },
         }
     }
 }
 
-/// What is left of a pool that was closed: its core, and how many entries were made in all.
+/// What is left of a pool that was closed: its core, how many entries were made in all, and those since the last cut.
 #[derive(Drop)]
 pub struct Closed {
     pub core: Core,
     pub entries: u64,
+    pub last: Part,
 }

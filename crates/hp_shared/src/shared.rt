@@ -2,12 +2,13 @@
 ghost use Rattle.std.specs.Prelude.{◌≡◌, ◌+◌, ◌<◌, ◌≤◌, ℕ, length, map, IfOk, IfErr, OnOk, OnErr, MatchOption, true, false};
 ghost use Rattle.std.specs.Prelude.{Some, slice_get};
 ghost use Rattle.hp_base.specs.Text.{sizes};
-ghost use Rattle.hp_shared.specs.Journal.{IsOutcomeOf, Interleaves};
+ghost use Rattle.hp_core.specs.State.{CoreState};
+ghost use Rattle.hp_shared.specs.Journal.{IsOutcomeOf, IsCameTo, Interleaves};
 ghost use Rattle.hp_shared.specs.Calls.{IsOwn};
 ghost use Rattle.hp_shared.specs.Closing.{ClosesWith, RefusesClose, IsDisagree};
 ghost use Rattle.hp_shared.specs.Cutting.{emptied};
 ghost use Rattle.hp_shared.specs.Seats.{new_seat, has_seat as seated, AllSeated, LeastMissing, lists_of};
-ghost use Rattle.hp_shared.specs.States.{seat_with};
+ghost use Rattle.hp_shared.specs.States.{seat_with, tally_of};
 
 use crate::cutting::Part;
 use crate::fault::{CallFault, CloseFault, CutFault};
@@ -134,8 +135,10 @@ impl<L: Ledger> Shared<L> {
         self.attempt(rt, seat, Event::Resize(frames))
     }
 
-    /// The numbers of the pool, read in one hold that changes nothing.
-    pub fn tally<R: Wait>(&self, rt: &R) -> Tally {
+    /// The numbers of the pool, read in one hold that changes nothing: those of one core that the pool came to.
+    pub fn tally<R: Wait>(&self, rt: &R) -> Tally
+        ensures { (core : CoreState) × IsCameTo core × (result ≡ tally_of core) }
+    {
         self.pool.lock(rt).tally()
     }
 
@@ -158,7 +161,8 @@ impl<L: Ledger> Shared<L> {
     /// missing.
     pub fn close(self, alloc: Global, seats: Vec<Seat<L>>) -> Result<Closed, CloseRefused<L>>
         ensures seated { OnOk result (AllSeated self.tasks seats.items) }
-        ensures run { IfOk result (λ closed. ClosesWith seats.items closed.core closed.entries) }
+        ensures run { IfOk result (λ closed. ClosesWith seats.items closed.core closed.last.first closed.last.entries.items) }
+        ensures entries { IfOk result (λ closed. closed.entries ≡ closed.last.first + length closed.last.entries.items) }
         ensures refused { IfErr result (λ refused. RefusesClose self.tasks seats.items refused.fault) }
         ensures back { IfErr result (λ refused. MatchOption refused.back (IsDisagree refused.fault)
             (λ back. (back.0.tasks ≡ self.tasks) × (back.1 ≡ seats))) }
