@@ -237,6 +237,8 @@ int main(int count, char **all)
         misuse("which scripts?");
     for (int k = optind; k < count; k++)
         read_scripts(all[k], &scripts);
+    if (!scripts.count)
+        fail(STATUS_USAGE, "there is no script");
     if (words.from >= scripts.count)
         fail(STATUS_USAGE, "there are %zu scripts, of which %zu are to be left out", scripts.count, words.from);
     if (words.is_check) {

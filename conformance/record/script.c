@@ -314,6 +314,14 @@ static void read_line(struct reader *reader, char *text)
     free(cut);
 }
 
+/* A line is told again as it is, so nothing stands there that no word has. */
+static void check_bytes(const struct reader *reader, const char *text, size_t length)
+{
+    for (size_t k = 0; k < length; k++)
+        if (text[k] < ' ' || text[k] > '~')
+            bad(reader, "a byte %d stands there", (unsigned char)text[k]);
+}
+
 void read_scripts(const char *path, struct scripts *into)
 {
     struct reader reader = {.path = path, .into = into};
@@ -326,11 +334,12 @@ void read_scripts(const char *path, struct scripts *into)
         fail_errno("%s", path);
     while ((length = getline(&text, &room, file)) > 0) {
         reader.line++;
-        if (strlen(text) != (size_t)length)
-            bad(&reader, "a byte 0 stands there");
-        text[length - (text[length - 1] == '\n')] = 0;
-        if (*text != '#')
-            read_line(&reader, text);
+        length -= text[length - 1] == '\n';
+        text[length] = 0;
+        if (*text == '#')
+            continue;
+        check_bytes(&reader, text, length);
+        read_line(&reader, text);
     }
     if (ferror(file))
         fail_errno("%s", path);
