@@ -1,6 +1,9 @@
 #!/usr/bin/env python3
 """Replays what a Linux kernel was asked, call by call, and compares the answers.
 
+usage: compare.py [FILE ..]
+
+Reads the files, or all calls-*.txt beside this program.
 Each line of a script is one call that ran to its end, or a resize of the pool, with what the kernel said then:
 `begin T OP = ANSWER | FREE RESV | SIZE PAGES, .. | ENTRIES ..` (one `SIZE PAGES` a file, one number of
 translations a task), and behind it ` | used U` where the pool has a quota, or ` | total T surplus S` once it was
@@ -199,10 +202,10 @@ def build() -> None:
     subprocess.run([TOP / "hugepool", "--help"], stdout=subprocess.DEVNULL, check=True)
 
 
-def main() -> int:
+def main(paths: list[Path]) -> int:
     build()
     total, asked, calls, known, surplus, different = 0, 0, 0, 0, 0, []
-    for path in sorted(Path(__file__).parent.glob("calls-*.txt")):
+    for path in paths or sorted(Path(__file__).parent.glob("calls-*.txt")):
         for script in scripts(path):
             agreed, difference = compare(replayed, script)
             total, asked, calls = total + 1, asked + len(script.lines), calls + agreed
@@ -217,4 +220,4 @@ def main() -> int:
 
 
 if __name__ == "__main__":
-    sys.exit(main())
+    sys.exit(main([Path(word) for word in sys.argv[1:]]))

@@ -11,7 +11,7 @@ usage: ./check [STEP] [..]
                      apart, what makes a crate's edits due, and whether docs/INDEX.md is what the sources say
   ./check examples   what the traces of examples/ print
   ./check refusals   that a driver goes on where memory is refused to it, at each growth of a small story
-  ./check linux      what a Linux kernel answered (conformance/)
+  ./check linux      what a Linux kernel answered (conformance/), and what records that, as far as it needs no kernel (it needs cc)
   ./check quick      before a commit: proofs and tests of what changed since the last time, over kept work; that each edit applies
 
 The last line is 'N passed, M failed'.
@@ -124,7 +124,7 @@ def refusals(step: Step, _: list[str]) -> None:
 
 
 def linux(step: Step, _: list[str]) -> None:
-    for script in ("compare.py", "races.py", "test_compare.py"):
+    for script in ("compare.py", "races.py", "test_compare.py", "test_record.py"):
         step.run([sys.executable, str(TOP / "conformance" / script)])
 
 

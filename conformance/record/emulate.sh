@@ -1,0 +1,232 @@
+#!/usr/bin/env bash
+# Records what a Linux kernel answers to the calls of scripts, in an emulated machine with Debian's kernel.
+set -euo pipefail
+
+usage="usage: emulate.sh [OPTION ..] SCRIPTS ..
+
+Builds the recorder, runs it on the scripts in an emulated machine, and writes what its kernel answered to standard
+output. The kernel of the machine that it runs on is left alone, and nobody has to be root.
+
+  --again       records the calls of recorded files again, each on a machine of its own, and compares:
+                the last line is 'N passed, M failed', of files
+  --install     installs the packages that are missing (as root, or by sudo) and fetches the kernel's, which is
+                unpacked into a folder of its own and not installed
+  --kernel FILE emulates with this kernel (vmlinuz)
+  --package P   fetches this package of Debian's for --install, and emulates with its kernel
+                (linux-image-cloud-amd64, or what that stands for, unless told otherwise)
+  --cpus N      that many processors (2)
+  --memory MIB  that much memory (768)
+  --seconds N   ends a machine that isn't done by then (900)
+  --accel NAME  kvm or tcg (kvm where /dev/kvm may be used and this machine isn't a virtual one)
+
+A script that leaves the kernel's own reserve count wrong is the last one of its machine: another one is booted for
+the rest. KIRVESSA_CACHE is where kernels are kept (~/.cache/kirvessa).
+Status: 0 all is recorded; 1 something failed, or differs; 2 a wrong word or script; 127 something is missing."
+
+here=$(cd "$(dirname "$(readlink -f "${BASH_SOURCE[0]}")")" && pwd)
+cache=${KIRVESSA_CACHE:-${XDG_CACHE_HOME:-$HOME/.cache}/kirvessa}
+package=linux-image-cloud-amd64
+kernel='' cpus=2 memory=768 seconds=900 accel='' is_again='' is_install=''
+files=()
+
+say() { echo "emulate: $*" >&2; }
+
+misuse() {
+    say "$1"
+    echo "$usage" >&2
+    exit 2
+}
+
+number() { [[ $2 =~ ^[1-9][0-9]*$ ]] || misuse "$1 wants a number, not '$2'"; }
+
+read_words() {
+    while [ $# -gt 0 ]; do
+        case $1 in
+        --kernel | --package | --cpus | --memory | --seconds | --accel) [ $# -gt 1 ] || misuse "$1 wants a word behind it" ;;&
+        --cpus | --memory | --seconds) number "$1" "$2" ;;&
+        --again) is_again=1 ;;
+        --install) is_install=1 ;;
+        --kernel) kernel=$2; shift ;;
+        --package) package=$2; shift ;;
+        --cpus) cpus=$2; shift ;;
+        --memory) memory=$2; shift ;;
+        --seconds) seconds=$2; shift ;;
+        --accel) accel=$2; shift ;;
+        -h | --help) echo "$usage"; exit 0 ;;
+        -*) misuse "there is no option $1" ;;
+        *) files+=("$1") ;;
+        esac
+        shift
+    done
+}
+
+# the packages that have what isn't on the PATH
+missing_packages() {
+    local pair
+    for pair in cc:build-essential qemu-system-x86_64:qemu-system-x86 cpio:cpio timeout:coreutils; do
+        command -v "${pair%%:*}" > /dev/null || echo "${pair#*:}"
+    done
+}
+
+# The kernel of the package in the cache, if it is there.
+kept_kernel() { find "$cache/$package" -name 'vmlinuz-*' 2> /dev/null | sort -V | tail -n 1; }
+
+# What the package stands for: a package of Debian's that only names the newest kernel depends on that kernel's.
+real_package() {
+    local below
+    below=$(apt-cache depends "$package" | sed -n 's/^ *Depends: \(linux-image-[^ ]*\)$/\1/p' | head -n 1)
+    echo "${below:-$package}"
+}
+
+# Fetches the kernel's package and keeps its kernel alone.
+fetch_kernel() {
+    local room=$work/fetched real
+    mkdir -p "$room" "$cache/$package"
+    real=$(real_package)
+    say "fetching $real"
+    (cd "$room" && apt-get -qq -o APT::Sandbox::User="$(id -un)" download "$real")
+    dpkg-deb --fsys-tarfile "$room"/*.deb | tar -x -C "$room" --wildcards './boot/vmlinuz-*'
+    mv "$room"/boot/vmlinuz-* "$cache/$package/"
+}
+
+install_all() {
+    local packages by=()
+    mapfile -t packages < <(missing_packages)
+    if [ ${#packages[@]} -gt 0 ]; then
+        [ "$(id -u)" = 0 ] || by=(sudo)
+        say "installing ${packages[*]}"
+        "${by[@]}" apt-get install -y --no-install-recommends "${packages[@]}" >&2
+    fi
+    [ -n "$kernel" ] || [ -n "$(kept_kernel)" ] || fetch_kernel
+}
+
+need_all() {
+    local packages
+    mapfile -t packages < <(missing_packages)
+    if [ ${#packages[@]} -gt 0 ]; then
+        say "missing are Debian's packages ${packages[*]}: 'apt-get install ${packages[*]}', or emulate.sh --install"
+        exit 127
+    fi
+    [ -n "$kernel" ] || kernel=$(kept_kernel)
+    if [ -z "$kernel" ]; then
+        say "there is no kernel of the package $package in $cache: emulate.sh --install fetches it, or --kernel names one"
+        exit 127
+    fi
+    if [ ! -r "$kernel" ]; then
+        say "the kernel $kernel can't be read"
+        exit 1
+    fi
+}
+
+# (in a machine that is emulated itself KVM may be there and still fail in the middle)
+choose_accel() {
+    [ -z "$accel" ] || return 0
+    accel=tcg
+    if [ -r /dev/kvm ] && [ -w /dev/kvm ] && ! grep -qw hypervisor /proc/cpuinfo; then accel=kvm; fi
+}
+
+# Packs what the machine begins with: the recorder, its first process, and the scripts.
+pack() {
+    local root=$work/root
+    rm -rf "$root"
+    mkdir -p "$root"/{dev,proc,sys,tmp}
+    cp "$work/built/record" "$work/built/init" "$root/"
+    # (a last line without its end gets one)
+    awk 1 "$@" > "$root/scripts"
+    (cd "$root" && find . | cpio -o -H newc --quiet) > "$work/initramfs"
+}
+
+# Boots a machine in which the recorder runs with these words. What it recorded is in $work/recorded then, what it told in
+# $work/told, what the kernel told in $work/console.
+boot() {
+    local status=0
+    rm -f "$work"/{recorded,told,console}
+    touch "$work"/{recorded,told,console}
+    timeout "$seconds" qemu-system-x86_64 -machine pc -accel "$accel" -cpu max -m "$memory" -smp "$cpus" \
+        -nodefaults -no-user-config -display none -no-reboot -kernel "$kernel" -initrd "$work/initramfs" \
+        -append "console=ttyS0 quiet panic=-1 -- $* /scripts" \
+        -serial file:"$work/console" -serial file:"$work/recorded" -serial file:"$work/told" < /dev/null >&2 || status=$?
+    grep -v '^status ' "$work/told" >&2 || true
+    if [ "$status" = 124 ]; then
+        say "the machine wasn't done after $seconds seconds"
+        return 1
+    elif [ "$status" != 0 ] || ! grep -qx 'status [0-9]*' "$work/told"; then
+        say "the machine ended before the recorder did (status $status); its console's last lines:"
+        tail -n 20 "$work/console" >&2
+        return 1
+    fi
+}
+
+# Whether all lines came through that the recorder wrote.
+is_whole() {
+    local wrote came
+    wrote=$(sed -n 's/^record: .* scripts recorded, \([0-9]*\) lines$/\1/p' "$work/told")
+    came=$(wc -l < "$work/recorded")
+    [ "$wrote" = "$came" ] || say "the recorder wrote ${wrote:-no} lines, and $came came"
+    [ "$wrote" = "$came" ]
+}
+
+# Records the scripts of files into the first one named, on as many machines as that takes.
+record() {
+    local to=$1 from=0 status
+    shift
+    pack "$@"
+    : > "$to"
+    while true; do
+        boot --race --from "$from" || return 1
+        status=$(sed -n 's/^status //p' "$work/told")
+        case $status in
+        0 | 3) is_whole || return 1 ;;
+        *) return "$status" ;;
+        esac
+        # (each machine tells its kernel, which is the same)
+        tail -n "+$((from > 0 ? 2 : 1))" "$work/recorded" >> "$to"
+        [ "$status" = 3 ] || return 0
+        from=$((from + $(grep -c '^script ' "$work/recorded")))
+        say "booting another machine for the rest, from script $((from + 1)) on"
+    done
+}
+
+# What of a recorded file the scripts and the kernel's answers are.
+answers_of() { grep -v '^#' "$1"; }
+
+# Records each file again, and compares.
+compare() {
+    local file passed=0 failed=0
+    for file in "${files[@]}"; do
+        if ! record "$work/again" "$file"; then
+            failed=$((failed + 1))
+        elif diff <(answers_of "$file") <(answers_of "$work/again") > "$work/difference"; then
+            passed=$((passed + 1))
+            echo "$file: all $(answers_of "$file" | wc -l) lines are equal; $(sed -n '1s/^# //p' "$work/again")"
+        else
+            failed=$((failed + 1))
+            echo "$file: $(grep -c '^>' "$work/difference") lines differ; $(sed -n '1s/^# //p' "$work/again")"
+            head -n 20 "$work/difference"
+        fi
+    done
+    echo "recorded again: $passed passed, $failed failed"
+    [ "$failed" = 0 ]
+}
+
+check_words() {
+    [ ${#files[@]} -gt 0 ] || { [ -n "$is_install" ] && exit 0; } || misuse "which scripts?"
+    "$work/built/record" --check "${files[@]}" > "$work/checked" || exit $?
+    [ -z "$is_again" ] || ! grep -q '^race ' "${files[@]}" || misuse "what a race leaves is by chance, and can't be compared"
+}
+
+read_words "$@"
+work=$(mktemp -d "${TMPDIR:-/tmp}/emulate-XXXXXX")
+trap 'rm -rf "$work"' EXIT
+trap 'exit 130' INT TERM HUP
+[ -z "$is_install" ] || install_all
+need_all
+choose_accel
+"$here/build.sh" "$work/built"
+check_words
+if [ -n "$is_again" ]; then
+    compare
+else
+    record "$work/all" "${files[@]}"
+    cat "$work/all"
+fi

@@ -1,0 +1,171 @@
+#!/usr/bin/env python3
+"""Tests what makes scripts and what reads them, as far as that needs no kernel of one's own: generate.py and record/.
+
+The recorder is compiled, for which a C compiler has to be there. That lines of scripts that are no good are told, each by its
+number, stands in `BAD`; that the scripts of this folder's records and those that are made can be read, `GOOD` and the rest say.
+"""
+from __future__ import annotations
+
+import os
+import re
+import shutil
+import subprocess
+import sys
+import tempfile
+from pathlib import Path
+from typing import Iterator
+
+import generate
+
+FOLDER = Path(__file__).resolve().parent
+POOL = "script a\npool 4 1 4 2\n"
+
+# a text that isn't scripts, the line that is no good, and some words of why
+BAD = [
+    ("pool 4 1 4 1\n", 1, "begins with 'script NAME'"),
+    ("script a\nend\n", 2, "has no pool"),
+    ("script a\nbegin 1 exit\n", 2, "has no pool yet"),
+    ("script a\nscript b\n", 2, "has no 'end'"),
+    ("script a b\n", 1, "begins with 'script NAME'"),
+    ("script a\npool 0 1 4 1\nend\n", 2, "0 is too small"),
+    ("script a\npool 4097 1 4 1\nend\n", 2, "4097 is too large"),
+    ("script a\npool 4 17 4 1\nend\n", 2, "17 is too large"),
+    ("script a\npool 4 1 65 1\nend\n", 2, "65 is too large"),
+    ("script a\npool 4 1 4 65\nend\n", 2, "65 is too large"),
+    ("script a\npool 4 1 4 1 65537\nend\n", 2, "65537 is too large"),
+    ("script a\npool 4 1 4\nend\n", 2, "a pool is"),
+    (POOL + "pool 4 1 4 1\n", 3, "has its pool already"),
+    (POOL, 2, "has no 'end'"),
+    (POOL + "end now\n", 3, "ends with 'end'"),
+    (POOL + "begin 1 exit\nbegin 3 exit\nend\n", 4, "3 is too large"),
+    (POOL + "begin 0 exit\nend\n", 3, "0 is too small"),
+    (POOL + "begin 1\nend\n", 3, "a call is"),
+    (POOL + "begin 1 fly 3\nend\n", 3, "'fly' is no call"),
+    (POOL + "begin 1 load 01\nend\n", 3, "'01' is not a number"),
+    (POOL + "begin 1 load -1\nend\n", 3, "'-1' is not a number"),
+    (POOL + "begin 1 load\nend\n", 3, "'load' has 1 numbers, and here 0"),
+    (POOL + "begin 1 trunc 0 1 2\nend\n", 3, "'trunc' has 2 numbers, and here 3"),
+    (POOL + "begin 1 load 1048576\nend\n", 3, "1048576 is too large"),
+    (POOL + "begin 1 store 0 18446744073709551616\nend\n", 3, "is too large"),
+    (POOL + "begin 1 xftruncate 1 0\nend\n", 3, "the pool has no file 1"),
+    (POOL + "begin 1  load 0\nend\n", 3, "parted by one space"),
+    (POOL + "begin 1 load 0 \nend\n", 3, "parted by one space"),
+    (POOL + "\nend\n", 3, "parted by one space"),
+    (POOL + "begin 1 load 0\r\nend\n", 3, "a byte 13"),
+    (POOL + "begin 1 load 0\0\nend\n", 3, "a byte 0"),
+    (POOL + "a b c d e f g h i j k\nend\n", 3, "too many words"),
+    (POOL + "resize 4097\nend\n", 3, "4097 is too large"),
+    (POOL + "resize\nend\n", 3, "a resize is"),
+    (POOL + "race 1 2 0\nend\n", 3, "0 is too small"),
+    (POOL + "race 1 2 3 mz\nend\n", 3, "'z' is no kind of call"),
+    (POOL + "race 1 2\nend\n", 3, "a race is"),
+    (POOL + "walk 1\nend\n", 3, "begins with 'walk'"),
+]
+# a text that is scripts, and how many scripts and lines there are: with comments, answers, no last line feed
+GOOD = [
+    (POOL + "end", (1, 0)),
+    ("# a kernel\n" + POOL + "begin 1 exit = done | 4 0 | 0 0 | 0 0\nend total 4 free 4 resv 0 surp 0\n", (1, 1)),
+    (POOL + "resize 0\nend\n" + POOL + "race 1 2 3\nbegin 2 load 1048575\nbegin 1 store 0 18446744073709551615\nend\n", (2, 4)),
+]
+# words, and the status and some words that they end with
+MISUSES = [
+    ([], 2, "which scripts"),
+    (["--fly", "x"], 2, "no such option"),
+    (["--from", "x", "y"], 2, "--from wants a number"),
+    (["--check", "/nonexistent"], 1, "No such file"),
+    (["--check", os.devnull], 2, "there is no script"),
+    (["--check", "--from", "33", str(FOLDER / "calls-fixed.txt")], 2, "there are 33 scripts, of which 33"),
+    ([str(FOLDER / "races.txt")], 2, "which --race allows"),
+]
+KINDS = (*generate.KINDS, generate.RACE)
+
+
+def made(*words: object) -> bytes:
+    """What generate.py writes."""
+    return subprocess.run([sys.executable, FOLDER / "generate.py", *map(str, words)], capture_output=True, check=True).stdout
+
+
+class Recorder:
+    """The recorder, compiled."""
+
+    def __init__(self, room: Path) -> None:
+        self.program, self.text = room / "record", room / "text"
+        built = subprocess.run([FOLDER / "record" / "build.sh", room], capture_output=True, text=True, check=False)
+        self.warnings = built.stderr
+        self.is_built = built.returncode == 0
+
+    def run(self, *words: str) -> tuple[int, str]:
+        """How it ends, and what it tells."""
+        ran = subprocess.run([self.program, *words], stdin=subprocess.DEVNULL, capture_output=True, text=True, check=False)
+        return ran.returncode, ran.stdout + ran.stderr
+
+    def check(self, text: bytes) -> tuple[int, str]:
+        """How a text is read."""
+        self.text.write_bytes(text)
+        return self.run("--check", str(self.text))
+
+
+def faults_of_reading(recorder: Recorder) -> Iterator[tuple[object, object]]:
+    """What is to be told, beside what is: of bad texts, good ones, wrong words, and the records of this folder."""
+    for text, line, why in BAD:
+        status, said = recorder.check(text.encode())
+        yield text, (status, f":{line}: " in said, why in said) == (2, True, True) or said
+    for text, (scripts, lines) in GOOD:
+        yield text, recorder.check(text.encode()) == (0, f"{scripts} scripts, {lines} calls\n")
+    for words, status, why in MISUSES:
+        ended, said = recorder.run(*words)
+        yield words, (ended, why in said) == (status, True) or said
+    for file in sorted(FOLDER.glob("calls-*.txt")) + [FOLDER / "races.txt"]:
+        text = file.read_text()
+        scripts, lines = (len(re.findall(pattern, text, re.MULTILINE)) for pattern in (r"^script ", r"^(begin|resize|race) "))
+        yield file.name, recorder.run("--check", str(file)) == (0, f"{scripts} scripts, {lines} calls\n")
+
+
+def faults_of_making(recorder: Recorder) -> Iterator[tuple[object, object]]:
+    """The same of scripts that are made: the seed says what they are, whatever the count, and the recorder reads them."""
+    for kind in KINDS:
+        some = made(5, 20, kind)
+        status, said = recorder.check(some)
+        yield f"{kind} is read", (status, said.startswith("20 scripts, ")) == (0, True) or said
+        yield f"{kind} is the same once more", some == made(5, 20, kind)
+        yield f"{kind} begins with the scripts of a smaller count", some.startswith(made(5, 7, kind))
+        others = {re.sub(rb"^script .*", b"", made(seed, 1, kind)) for seed in range(9)}
+        yield f"{kind} of other seeds are others", len(others) == 9
+    yield "the kind is plain unless told otherwise", made(5, 3) == made(5, 3, "plain")
+    for words in ([], ["1"], ["a", "1"], ["1", "-1"], ["1", "1", "odd"], ["1", "1", "big", "x"]):
+        ran = subprocess.run([sys.executable, FOLDER / "generate.py", *words], capture_output=True, check=False)
+        yield f"generate.py {words}", (ran.returncode, ran.stdout, ran.stderr.startswith(b"usage: ")) == (2, b"", True)
+
+
+def faults_of_kinds() -> Iterator[tuple[object, object]]:
+    """The same of what each kind has: a maximum, resizes, races with truncations and without."""
+    for kind, sizes in generate.KINDS.items():
+        text = made(3, 30, kind).decode()
+        pools = [list(map(int, line.split()[1:])) for line in text.splitlines() if line.startswith("pool ")]
+        yield f"{kind}: a maximum", {len(pool) for pool in pools} == {5 if sizes.has_quota else 4}
+        yield f"{kind}: resizes", ("\nresize " in text) == sizes.resizes
+        yield f"{kind}: frames", {pool[0] for pool in pools} <= {*range(sizes.frames[0], sizes.frames[1] + 1)}
+        yield f"{kind}: calls", all(f" {word} " in text for word in generate.CALLS if word not in ("odd", "exit"))
+    for lines in made(3, 10, generate.RACE).decode().split("end\n")[:-1]:
+        yield lines, ("race-with-truncate." in lines) == ("mnulsakpt" in lines) and lines.count("\nrace ") == 4
+
+
+def main() -> int:
+    compiler = os.environ.get("CC", "cc")
+    if shutil.which(compiler) is None:
+        print(f"  '{compiler}', a C compiler, is not on the PATH, so the recorder wasn't tested (Debian's build-essential has one)")
+        print("recorder: 0 passed, 1 failed")
+        return 1
+    with tempfile.TemporaryDirectory(prefix="recorder-") as name:
+        recorder = Recorder(Path(name))
+        tried = [("it compiles with no warning", recorder.is_built and not recorder.warnings or recorder.warnings)]
+        if recorder.is_built:
+            tried += [*faults_of_reading(recorder), *faults_of_making(recorder), *faults_of_kinds()]
+    wrong = [(what, found) for what, found in tried if found is not True]
+    print("".join(f"  {what!r}: {found}\n" for what, found in wrong), end="")
+    print(f"recorder: {len(tried) - len(wrong)} passed, {len(wrong)} failed")
+    return 1 if wrong else 0
+
+
+if __name__ == "__main__":
+    sys.exit(main())
