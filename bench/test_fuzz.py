@@ -19,7 +19,7 @@ from typing import NamedTuple
 TOP = Path(__file__).resolve().parent.parent
 PLAIN = TOP / "bench" / "plain"
 FUZZ = PLAIN / "target" / "release" / "fuzz"
-PROGRAM = [str(PLAIN / "target" / "release" / "simulate")]
+PROGRAM = [str(TOP / "crates" / "hugepool" / "out" / "hugepool"), "replay"]
 SECONDS = 60
 # a trace that shows a wrong line has at most so many lines, but for the two that are about the limit of events
 FEW = 80
@@ -116,7 +116,7 @@ def statuses() -> list[str]:
 
 
 def main() -> int:
-    faults = []
+    faults = statuses()
     with tempfile.TemporaryDirectory(prefix="test-fuzz-") as name:
         room = Path(name)
         for k, wrong in enumerate(WRONG):

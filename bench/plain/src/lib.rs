@@ -33,7 +33,7 @@ pub enum Kind { Load, Store, Map, MapNoReserve, Alloc, Punch, Truncate, Unmap, E
 
 #[derive(Clone, Copy)]
 pub struct Call {
-    pub kind: Kind, phase: Phase, file: u32, from: u32, len: u32, keep: bool, vpn: u32, word: u64,
+    pub kind: Kind, pub phase: Phase, file: u32, from: u32, len: u32, keep: bool, vpn: u32, word: u64,
     index: u32, missing: u32, excess: u32, base: u32, held: u32, task: u32, denied: bool,
     evicted: u32, answer: Option<Answer>,
 }

@@ -42,6 +42,20 @@ fn another_number(text: &mut Vec<u8>, random: &mut Random) {
     text.splice(start..end, number);
 }
 
+// a number of the header is at its limit, or beyond
+fn another_size(text: &mut Vec<u8>, random: &mut Random) {
+    let k = random.place(5);
+    let limit = [4096, 16, 64, 64, 65_536][k];
+    let number = random.pick(&[0, 1, limit, limit + 1]).to_string();
+    let end = text.iter().position(|byte| *byte == b'\n').unwrap_or(text.len());
+    let mut fields: Vec<Vec<u8>> = text[..end].split(|byte| *byte == b' ').map(<[u8]>::to_vec).collect();
+    match fields.get_mut(k + 1) {
+        Some(field) => *field = number.into_bytes(),
+        None => fields.push(number.into_bytes()),
+    }
+    text.splice(..end, fields.join(&b' '));
+}
+
 // a line gets longer, at about the longest that any can be
 fn longer_line(text: &mut Vec<u8>, random: &mut Random) {
     let (from, to) = some_line(text, random);
@@ -61,7 +75,7 @@ fn damage_once(text: &mut Vec<u8>, random: &mut Random) {
     let (from, to) = some_line(text, random);
     if from == to { return; }
     let at = from + random.place(to - from);
-    match random.below(14) {
+    match random.below(15) {
         0 => text[at] = random.pick(BYTES),
         1 => text[at] = random.below(256) as u8,
         2 => text.insert(at, random.pick(BYTES)),
@@ -74,6 +88,7 @@ fn damage_once(text: &mut Vec<u8>, random: &mut Random) {
         9 => drop(text.splice(from..from, random.pick(LINES).bytes())),
         10 => longer_line(text, random),
         11 => text[at..].rotate_left(1),
+        12 => another_size(text, random),
         _ => another_number(text, random),
     }
 }

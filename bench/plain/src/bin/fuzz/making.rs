@@ -3,11 +3,12 @@
 use crate::damage::damage;
 use crate::random::Random;
 use plain::text::event;
-use plain::{LIMIT, Life, MOST_FRAMES, Outcome, Pool, Sizes, VPNS};
+use plain::{LIMIT, Life, MOST_FRAMES, Outcome, Phase, Pool, Sizes, VPNS};
 use std::fmt::Write;
 
-/// How often, in a thousand inputs, is one about the limit of events, and how often is one damaged.
-const HUGE: u32 = 2;
+/// How often, in a thousand inputs, is one about the limit of events, has a task no room left, and is one damaged.
+const HUGE: u32 = 1;
+const FULL: u32 = 30;
 const DAMAGED: u32 = 400;
 
 /// What one trace is like.
@@ -20,8 +21,10 @@ struct Habits {
     span: u32,
     // so many steps of a call at once, at most
     burst: u32,
-    // how often in a thousand events: a denied step, a kill, a resize, an event out of place, a number out of range
+    // how often in a thousand events: a denied step where memory may be wanted, and elsewhere; a kill, a resize, an event out of
+    // place, a number out of range
     deny: u32,
+    idle_deny: u32,
     kill: u32,
     resize: u32,
     astray: u32,
@@ -69,7 +72,8 @@ impl Habits {
             first,
             span,
             burst: random.pick(&[1, 2, 5, 20, 100, 20_000]),
-            deny: random.pick(&[0, 0, 20, 100, 500]),
+            deny: random.pick(&[0, 0, 50, 200, 500]),
+            idle_deny: random.pick(&[0, 0, 20, 200]),
             kill: random.pick(&[0, 0, 1, 10, 50]),
             resize: random.pick(&[0, 0, 5, 50]),
             astray: random.pick(&[0, 5, 50]),
@@ -172,8 +176,20 @@ impl Maker<'_> {
     // steps of a call until it ends or is blocked, or enough were made
     fn steps(&mut self, task: u32) {
         for _ in 0..self.random.within(1, self.habits.burst) {
-            let word = if self.random.happens(self.habits.deny) { "deny" } else { "step" };
+            let phase = self.pool.tasks[task as usize - 1].call.map(|call| call.phase);
+            let may_want = matches!(phase, Some(Phase::Room | Phase::Missing | Phase::Committed | Phase::Found | Phase::Delete));
+            let often = if may_want { self.habits.deny } else { self.habits.idle_deny };
+            let word = if self.random.happens(often) { "deny" } else { "step" };
             if !matches!(self.event(&format!("{word} {task}")), Outcome::Moved(_)) { return; }
+        }
+    }
+
+    // the first task maps all of its pages, or all but a few
+    fn fill(&mut self) {
+        for k in 0..4 {
+            let less = if k == 3 { self.random.below(3) } else { 0 };
+            self.event(&format!("begin 1 mapn 0 0 {}", LIMIT - less));
+            for _ in 0..4 { self.event("step 1"); }
         }
     }
 
@@ -203,6 +219,7 @@ fn trace(random: &mut Random, events: u32) -> String {
     if let Some(quota) = quota { write!(text, " {quota}").expect("memory"); }
     text.push('\n');
     let mut maker = Maker { pool: Pool::new(&sizes), sizes, habits, text, events: 0, random };
+    if maker.random.happens(FULL) { maker.fill(); }
     while maker.events < events { maker.turn(); }
     maker.text
 }
