@@ -1,9 +1,13 @@
 //! The same steps with nothing proved: what a plain program makes of a trace. Regions, pages, mappings and entries are
-//! kept in balanced trees.
+//! kept in balanced trees. It shares no line with the proved crates: it was written from the tables of docs/MACHINE.md,
+//! and so it is what they are compared with.
+pub mod text;
+
 use std::collections::BTreeMap;
 
-const LIMIT: u32 = 4096;
-const VPNS: u32 = 16_384;
+pub const LIMIT: u32 = 4096;
+pub const VPNS: u32 = 16_384;
+pub const MOST_FRAMES: u32 = 4096;
 
 #[derive(Clone, Copy, PartialEq)]
 pub enum Phase {
@@ -20,7 +24,7 @@ pub const WORDS: [&str; 27] = [
 
 #[derive(Clone, Copy)]
 pub enum Answer {
-    Mapped(u32), Word(u64), Done, Segv, Beyond, NoFrame, NoMemory, Interrupted, Killed, BadFile,
+    Mapped(u32), Word(u64), Done, Segv, Beyond, NoFrame, NoQuota, NoMemory, Interrupted, Killed, BadFile,
     BadRange, NotMapped, NoAddress,
 }
 
@@ -29,18 +33,25 @@ pub enum Kind { Load, Store, Map, MapNoReserve, Alloc, Punch, Truncate, Unmap, E
 
 #[derive(Clone, Copy)]
 pub struct Call {
-    pub kind: Kind, phase: Phase, file: u32, from: u32, len: u32, keep: bool, vpn: u32, word: u64,
+    pub kind: Kind, pub phase: Phase, file: u32, from: u32, len: u32, keep: bool, vpn: u32, word: u64,
     index: u32, missing: u32, excess: u32, base: u32, held: u32, task: u32, denied: bool,
     evicted: u32, answer: Option<Answer>,
 }
 
-pub enum Outcome { Begun, Moved(Phase), Blocked(u32), Ended(Answer), Marked, NotAlive, InCall, Idle }
+pub enum Outcome { Begun, Moved(Phase), Blocked(u32), Ended(Answer), Marked, Resized(u32), NotAlive, InCall, Idle, BadSize }
+
+#[derive(Clone, Copy)]
+pub enum Event { Begin(u32, Call), Step(u32, bool), Kill(u32), Resize(u32) }
+
+/// What the first line of a trace says.
+#[derive(Clone, Copy)]
+pub struct Sizes { pub frames: u32, pub files: u32, pub slots: u32, pub tasks: u32, pub quota: Option<u32> }
 
 #[derive(Clone, Copy, PartialEq)]
 pub enum Life { Alive, Killed, Dead }
 
 #[derive(Clone, Copy)]
-pub struct Mapping { base: u32, file: u32, from: u32, len: u32 }
+pub struct Mapping { pub base: u32, pub file: u32, pub from: u32, pub len: u32 }
 
 #[derive(Default, Clone)]
 pub struct File { pub size: u32, pub regions: BTreeMap<u32, u32>, pub pending: u32, pub spare: u32, pub pages: BTreeMap<u32, u32> }
@@ -48,8 +59,8 @@ pub struct File { pub size: u32, pub regions: BTreeMap<u32, u32>, pub pending: u
 pub struct Task { pub life: Life, pub call: Option<Call>, pub mappings: BTreeMap<u32, Mapping>, pub entries: BTreeMap<u32, u32> }
 
 pub struct Pool {
-    words: Vec<u64>, pub free: Vec<u32>, pub resv: u32, pub files: Vec<File>, slots: Vec<Option<u32>>,
-    locks: Vec<Option<u32>>, pub tasks: Vec<Task>,
+    words: Vec<u64>, pub free: Vec<u32>, retired: Vec<u32>, pub resv: u32, pub used: u32, pub quota: Option<u32>,
+    pub files: Vec<File>, slots: Vec<Option<u32>>, locks: Vec<Option<u32>>, pub tasks: Vec<Task>,
 }
 
 impl File {
@@ -128,11 +139,21 @@ impl Task {
 }
 
 impl Pool {
-    pub fn new(frames: u32, files: u32, slots: u32, tasks: u32) -> Self {
+    pub fn new(sizes: &Sizes) -> Self {
+        let Sizes { frames, files, slots, tasks, quota } = *sizes;
         Pool {
-            words: vec![0; frames as usize], free: (0..frames).collect(), resv: 0, files: vec![File::default(); files as usize],
-            slots: vec![None; slots as usize], locks: vec![None; files as usize],
+            words: vec![0; frames as usize], free: (0..frames).collect(), retired: Vec::new(), resv: 0, used: 0, quota,
+            files: vec![File::default(); files as usize], slots: vec![None; slots as usize], locks: vec![None; files as usize],
             tasks: (0..tasks).map(|_| Task { life: Life::Alive, call: None, mappings: BTreeMap::new(), entries: BTreeMap::new() }).collect(),
+        }
+    }
+
+    pub fn event(&mut self, event: Event) -> Outcome {
+        match event {
+            Event::Begin(t, call) => self.begin(t, call),
+            Event::Step(t, grant) => self.step(t, grant),
+            Event::Kill(t) => self.kill(t),
+            Event::Resize(n) => self.resize(n),
         }
     }
 
@@ -206,12 +227,14 @@ impl Pool {
             Changed => {
                 if killed { return go(c, Abort, if c.kind == Kind::Alloc { Answer::Interrupted } else { Answer::Killed }); }
                 let free = self.free.len() as u32;
+                if self.quota.is_some_and(|quota| c.missing > quota - self.used) { return go(c, Abort, Answer::NoQuota); }
+                if c.missing > free - self.resv { return go(c, Abort, Answer::NoFrame); }
+                self.used += c.missing;
                 if c.kind == Kind::Map {
-                    if c.missing > free - self.resv { return go(c, Abort, Answer::NoFrame); }
                     self.resv += c.missing;
                     return Outcome::Moved(Accounted);
                 }
-                if c.missing == 0 { self.resv -= 1 } else if free == self.resv { return go(c, Abort, Answer::NoFrame); }
+                if c.missing == 0 { self.resv -= 1 }
                 c.held = self.free.pop().expect("a free frame");
                 Outcome::Moved(Taken)
             }
@@ -228,6 +251,7 @@ impl Pool {
             }
             Settle => {
                 self.resv -= c.excess;
+                self.used -= if c.kind == Kind::Truncate { c.excess + c.evicted } else { c.excess };
                 match c.kind {
                     Kind::Map => Outcome::Moved(Enter),
                     Kind::Truncate => go(c, Leave, Answer::Done),
@@ -267,7 +291,13 @@ impl Pool {
                 Outcome::Moved(if c.kind == Kind::Punch { Delete } else { Free })
             }
             Delete => { c.denied = !self.files[f].delete(grant, c.index); Outcome::Moved(Free) }
-            Free => { self.free.push(c.held); self.resv += u32::from(c.denied); Outcome::Moved(Unslot) }
+            Free => {
+                self.free.push(c.held);
+                if c.kind == Kind::Punch {
+                    if c.denied { self.resv += 1 } else { self.used -= 1 }
+                }
+                Outcome::Moved(Unslot)
+            }
             Unslot => {
                 let slot = self.slot(c);
                 self.slots[slot] = None;
@@ -356,25 +386,32 @@ impl Pool {
             _ => Outcome::NotAlive,
         }
     }
-}
+    /// How many frames there are that aren't retired.
+    pub fn frames(&self) -> u32 { (self.words.len() - self.retired.len()) as u32 }
 
-pub fn parse(words: &[&str]) -> Call {
-    let n = |k: usize| words.get(k).map_or(0, |w| w.parse::<u64>().expect("a number"));
-    let mut call = Call {
-        kind: Kind::Exit, phase: Phase::Start, file: 0, from: 0, len: 0, keep: false, vpn: 0, word: 0, index: 0,
-        missing: 0, excess: 0, base: 0, held: 0, task: 1, denied: false, evicted: 0, answer: None,
-    };
-    let kind = match words[0] {
-        "map" => Kind::Map, "mapn" => Kind::MapNoReserve, "alloc" | "allock" => Kind::Alloc, "punch" => Kind::Punch,
-        "trunc" => Kind::Truncate, "unmap" => Kind::Unmap, "load" => Kind::Load, "store" => Kind::Store, _ => Kind::Exit,
-    };
-    call.kind = kind;
-    match kind {
-        Kind::Load | Kind::Store => { call.phase = Phase::Look; call.vpn = n(1) as u32; call.word = n(2) }
-        Kind::Unmap => call.base = n(1) as u32,
-        Kind::Truncate => { call.file = n(1) as u32; call.len = n(2) as u32 }
-        _ => { call.file = n(1) as u32; call.from = n(2) as u32; call.len = n(3) as u32; call.keep = words[0] == "allock" }
+    pub fn resize(&mut self, n: u32) -> Outcome {
+        if n == 0 || n > MOST_FRAMES { return Outcome::BadSize; }
+        let frames = self.frames();
+        for _ in frames..n {
+            let frame = self.retired.pop().unwrap_or_else(|| {
+                self.words.push(0);
+                self.words.len() as u32 - 1
+            });
+            self.free.push(frame);
+        }
+        let unreserved = self.free.len() as u32 - self.resv;
+        for _ in 0..frames.saturating_sub(n).min(unreserved) { self.retired.extend(self.free.pop()) }
+        Outcome::Resized(self.frames())
     }
-    call
 }
 
+impl Call {
+    /// A call that hasn't begun; what its operation doesn't have is 0.
+    pub fn new(kind: Kind) -> Self {
+        let phase = if matches!(kind, Kind::Load | Kind::Store) { Phase::Look } else { Phase::Start };
+        Call {
+            kind, phase, file: 0, from: 0, len: 0, keep: false, vpn: 0, word: 0, index: 0, missing: 0, excess: 0, base: 0,
+            held: 0, task: 1, denied: false, evicted: 0, answer: None,
+        }
+    }
+}

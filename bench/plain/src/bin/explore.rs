@@ -1,6 +1,7 @@
 //! Explores a script as `hugepool explore` does, with nothing proved: `explore --seed N --runs N --deny N --kill N`.
 //! A plain loop on one thread: the same generator, the same turns, the same lines.
-use plain::{Call, Life, Outcome, Pool, parse};
+use plain::text::{event, header};
+use plain::{Call, Event, Life, Outcome, Pool, Sizes};
 use std::io::{BufWriter, Read, Write};
 
 /// PCG with 64 bits of state and words of 32, seeded by a number as rand's `seed_from_u64` does.
@@ -34,7 +35,7 @@ impl Pcg {
 }
 
 struct Script {
-    sizes: Vec<u32>,
+    sizes: Sizes,
     queues: Vec<Vec<Call>>,
 }
 
@@ -42,21 +43,20 @@ fn read_script() -> Script {
     let mut text = String::new();
     std::io::stdin().read_to_string(&mut text).expect("a script");
     let mut lines = text.lines();
-    let sizes: Vec<u32> = lines.next().expect("a header").split(' ').skip(1).map(|w| w.parse().expect("a size")).collect();
-    let mut queues = vec![Vec::new(); sizes[3] as usize];
+    let sizes = lines.next().and_then(|line| header(line.as_bytes())).expect("a header");
+    let mut queues = vec![Vec::new(); sizes.tasks as usize];
     for line in lines {
-        let words: Vec<&str> = line.split(' ').collect();
-        let task: usize = words[1].parse().expect("a task");
-        if (1..=queues.len()).contains(&task) {
-            queues[task - 1].push(parse(&words[2..]));
+        let Some(Event::Begin(task, call)) = event(line.as_bytes()) else { panic!("no call: {line}") };
+        if (1..=sizes.tasks).contains(&task) {
+            queues[task as usize - 1].push(call);
         }
     }
     Script { sizes, queues }
 }
 
 fn explore_one(script: &Script, out: &mut impl Write, seed: u64, run: u32, deny: u32, kill: u32) -> std::io::Result<()> {
-    let [frames, files, slots, tasks] = script.sizes[..] else { panic!("four sizes") };
-    let mut pool = Pool::new(frames, files, slots, tasks);
+    let tasks = script.sizes.tasks;
+    let mut pool = Pool::new(&script.sizes);
     let mut made = vec![0; tasks as usize];
     let mut rng = Pcg::seeded(seed.wrapping_add(u64::from(run)));
     let mut runnable = Vec::new();

@@ -1,6 +1,7 @@
 //! Writes a trace: `generate KIND SIZE`. Each kind is one way to use a pool; the size says how much there is of what its
 //! steps could take longer with. Calls are simulated, so that each is begun once the task's last call is over.
-use plain::{Outcome, Pool, parse};
+use plain::text::call;
+use plain::{Outcome, Pool, Sizes};
 use std::io::{BufWriter, StdoutLock, Write};
 
 struct Random(u64);
@@ -28,12 +29,12 @@ impl Trace {
     fn new(frames: u32, files: u32, slots: u32, tasks: u32) -> Self {
         let mut out = BufWriter::new(std::io::stdout().lock());
         writeln!(out, "pool {frames} {files} {slots} {tasks}").unwrap();
-        Trace { pool: Pool::new(frames, files, slots, tasks), out, lines: 0 }
+        Trace { pool: Pool::new(&Sizes { frames, files, slots, tasks, quota: None }), out, lines: 0 }
     }
 
     fn begin(&mut self, task: u32, text: &str) {
-        let words: Vec<&str> = text.split(' ').collect();
-        self.pool.begin(task, parse(&words));
+        let words: Vec<&[u8]> = text.as_bytes().split(|byte| *byte == b' ').collect();
+        self.pool.begin(task, call(&words).expect("a call"));
         writeln!(self.out, "begin {task} {text}").unwrap();
         self.lines += 1;
     }
