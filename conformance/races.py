@@ -1,10 +1,12 @@
 #!/usr/bin/env python3
 """Reads what a Linux kernel had after races, and says whether its reserve count stayed right.
 
-`races.txt` has scripts of a pool in which tasks race on two processors: a line `race SEED CALLS SPAN KINDS = rest | FREE RESV | ..`
-tells the numbers when all were done, and at the end the file is truncated to nothing, which gives every reservation back.
-Without truncate among the kinds the count has to be one that the free frames can meet, and 0 at the end; in the script with truncate
-the kernel's count is wrong, as docs/NEEDED.md says, and has to be told as that.
+usage: races.py [FILE ..]
+
+Each script is of a pool in which tasks race: a line `race SEED CALLS SPAN [KINDS] = rest | FREE RESV | ..` tells the numbers when
+all were done, and at the end the file is truncated to nothing, which gives every reservation back. Where no kind is a truncation
+(`t`) the count has to be one that the free frames can meet, and 0 at the end. Of the other scripts it is told in how many it is
+wrong; in the records of this folder, which are read where no file is named, that has to be as many as `RECORDS` says.
 """
 from __future__ import annotations
 
@@ -15,7 +17,9 @@ from typing import NamedTuple
 
 from compare import Script, scripts
 
-RACES = Path(__file__).resolve().parent / "races.txt"
+FOLDER = Path(__file__).resolve().parent
+# the records, and in how many scripts with truncations the count is wrong
+RECORDS = {"races.txt": 1, "races-by-chance.txt": 21}
 
 
 class Rest(NamedTuple):
@@ -38,17 +42,34 @@ def is_right(script: Script) -> bool:
     return all(0 <= it.resv <= it.free for it in raced) and end == Rest(frames, 0)
 
 
-def main() -> int:
+def has_truncations(script: Script) -> bool:
+    """Whether there are truncations among the calls of a race, as there are where its kinds aren't named."""
+    races = [line.split(" = ", 1)[0].split() for line in script.lines if line.startswith("race ")]
+    return any("t" in (words[4] if len(words) > 4 else "t") for words in races)
+
+
+def told(path: Path) -> tuple[list[str], int, int, int]:
+    """The faults of a file, how many scripts have no truncations, how many have, and in how many of these the count is wrong."""
+    read = list(scripts(path))
+    without = [it for it in read if not has_truncations(it)]
+    wrong = [it for it in read if has_truncations(it) and not is_right(it)]
+    faults = [f"{path.name}: {it.name}: the counts are wrong: {rests(it)}" for it in without if not is_right(it)]
+    return faults, len(without), len(read) - len(without), len(wrong)
+
+
+def main(paths: list[Path]) -> int:
     passed, faults = 0, []
-    for script in scripts(RACES):
-        is_to_be_right = script.name.startswith("race-without-truncate.")
-        passed += is_right(script) == is_to_be_right
-        if is_right(script) != is_to_be_right:
-            faults.append(f"{script.name}: the counts are {'wrong' if is_to_be_right else 'right'}: {rests(script)}")
+    for path in paths or [FOLDER / name for name in RECORDS]:
+        found, without, others, wrong = told(path)
+        print(f"{path.name}: wrong in {len(found)} of {without} scripts without truncations, in {wrong} of {others} with them")
+        passed, faults = passed + without - len(found), faults + found
+        if not paths:
+            passed += wrong == RECORDS[path.name]
+            faults += [] if wrong == RECORDS[path.name] else [f"{path.name}: the count is to be wrong in {RECORDS[path.name]}"]
     print("".join(f"  {it}\n" for it in faults), end="")
     print(f"races: {passed} passed, {len(faults)} failed")
     return 1 if faults else 0
 
 
 if __name__ == "__main__":
-    sys.exit(main())
+    sys.exit(main([Path(word) for word in sys.argv[1:]]))

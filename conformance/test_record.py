@@ -115,7 +115,7 @@ def faults_of_reading(recorder: Recorder) -> Iterator[tuple[object, object]]:
     for words, status, why in MISUSES:
         ended, said = recorder.run(*words)
         yield words, (ended, why in said) == (status, True) or said
-    for file in sorted(FOLDER.glob("calls-*.txt")) + [FOLDER / "races.txt"]:
+    for file in sorted([*FOLDER.glob("calls-*.txt"), *FOLDER.glob("races*.txt")]):
         text = file.read_text()
         scripts, lines = (len(re.findall(pattern, text, re.MULTILINE)) for pattern in (r"^script ", r"^(begin|resize|race) "))
         yield file.name, recorder.run("--check", str(file)) == (0, f"{scripts} scripts, {lines} calls\n")
@@ -153,7 +153,7 @@ def faults_of_kinds() -> Iterator[tuple[object, object]]:
 def main() -> int:
     compiler = os.environ.get("CC", "cc")
     if shutil.which(compiler) is None:
-        print(f"  '{compiler}', a C compiler, is not on the PATH, so the recorder wasn't tested (Debian's build-essential has one)")
+        print(f"  '{compiler}', a C compiler (Debian's build-essential has one), is not on the PATH: the recorder wasn't tested")
         print("recorder: 0 passed, 1 failed")
         return 1
     with tempfile.TemporaryDirectory(prefix="recorder-") as name:

@@ -9,7 +9,7 @@ usage: ./check [STEP] [..]
                      the must-fail edits, many at once: with no crate named, those of the crates of which anything changed since
                      all were refused, and of some others (--all: of every crate); then edits of which each has to be told
                      apart, what makes a crate's edits due, and whether docs/INDEX.md is what the sources say
-  ./check examples   what the traces of examples/ print
+  ./check examples   what the traces of examples/ print; when ./hugepool builds
   ./check refusals   that a driver goes on where memory is refused to it, at each growth of a small story
   ./check linux      what a Linux kernel answered (conformance/), and what records that, as far as it needs no kernel (it needs cc)
   ./check quick      before a commit: proofs and tests of what changed since the last time, over kept work; that each edit applies
@@ -117,6 +117,7 @@ def index(step: Step) -> None:
 
 def examples(step: Step, _: list[str]) -> None:
     step.run(python("examples.py"))
+    step.run(python("test_launcher.py"))
 
 
 def refusals(step: Step, _: list[str]) -> None:

@@ -69,7 +69,7 @@ missing_packages() {
 }
 
 # The kernel of the package in the cache, if it is there.
-kept_kernel() { find "$cache/$package" -name 'vmlinuz-*' 2> /dev/null | sort -V | tail -n 1; }
+kept_kernel() { if [ -d "$cache/$package" ]; then find "$cache/$package" -name 'vmlinuz-*' | sort -V | tail -n 1; fi; }
 
 # What the package stands for: a package of Debian's that only names the newest kernel depends on that kernel's.
 real_package() {
@@ -128,12 +128,11 @@ choose_accel() {
 # Packs what the machine begins with: the recorder, its first process, and the scripts.
 pack() {
     local root=$work/root
-    rm -rf "$root"
-    mkdir -p "$root"/{dev,proc,sys,tmp}
-    cp "$work/built/record" "$work/built/init" "$root/"
-    # (a last line without its end gets one)
-    awk 1 "$@" > "$root/scripts"
-    (cd "$root" && find . | cpio -o -H newc --quiet) > "$work/initramfs"
+    rm -rf "$root" &&
+        mkdir -p "$root"/{dev,proc,sys,tmp} &&
+        cp "$work/built/record" "$work/built/init" "$root/" &&
+        awk 1 "$@" > "$root/scripts" &&     # (a last line without its end gets one)
+        (cd "$root" && find . | cpio -o -H newc --quiet) > "$work/initramfs"
 }
 
 # Boots a machine in which the recorder runs with these words. What it recorded is in $work/recorded then, what it told in
@@ -145,7 +144,10 @@ boot() {
     timeout "$seconds" qemu-system-x86_64 -machine pc -accel "$accel" -cpu max -m "$memory" -smp "$cpus" \
         -nodefaults -no-user-config -display none -no-reboot -kernel "$kernel" -initrd "$work/initramfs" \
         -append "console=ttyS0 quiet panic=-1 -- $* /scripts" \
-        -serial file:"$work/console" -serial file:"$work/recorded" -serial file:"$work/told" < /dev/null >&2 || status=$?
+        -serial file:"$work/console" -serial file:"$work/recorded" -serial file:"$work/told" < /dev/null >&2 &
+    machine=$!
+    wait "$machine" || status=$?
+    machine=''
     grep -v '^status ' "$work/told" >&2 || true
     if [ "$status" = 124 ]; then
         say "the machine wasn't done after $seconds seconds"
@@ -170,8 +172,7 @@ is_whole() {
 record() {
     local to=$1 from=0 status
     shift
-    pack "$@"
-    : > "$to"
+    pack "$@" && : > "$to" || return 1
     while true; do
         boot --race --from "$from" || return 1
         status=$(sed -n 's/^status //p' "$work/told")
@@ -217,7 +218,12 @@ check_words() {
 
 read_words "$@"
 work=$(mktemp -d "${TMPDIR:-/tmp}/emulate-XXXXXX")
-trap 'rm -rf "$work"' EXIT
+machine=''
+clean() {
+    [ -z "$machine" ] || kill "$machine" 2> /dev/null || true
+    rm -rf "$work"
+}
+trap clean EXIT
 trap 'exit 130' INT TERM HUP
 [ -z "$is_install" ] || install_all
 need_all

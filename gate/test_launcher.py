@@ -1,0 +1,101 @@
+#!/usr/bin/env python3
+"""Tests when ./hugepool builds the program, in a small repository with an `rt` that counts its calls."""
+from __future__ import annotations
+
+import os
+import shutil
+import subprocess
+import sys
+import tempfile
+from pathlib import Path
+from typing import Iterator
+
+from scratch import TOP
+
+# builds a program that tells its words and how often it was built, unless there is a file `broken`
+RT = """#!/bin/sh
+[ ! -e ../../broken ] || { echo "rt: it is broken" >&2; exit 1; }
+echo x >> ../../builds
+mkdir -p out
+printf '#!/bin/sh\\necho "$@" of %s\\n' "$(wc -l < ../../builds)" > out/hugepool
+chmod +x out/hugepool
+[ ! -e ../../slow ] || { sleep 0.02; echo changed >> ../a/src/main.rt; }
+"""
+
+
+class Room:
+    """The small repository, and what its launcher answers."""
+
+    def __init__(self, top: Path) -> None:
+        self.top = top
+        sources = [f"crates/{name}/{part}/main.rt" for name in ("a", "a_tests", "hugepool") for part in ("src", "specs")]
+        for path in ("crates.txt", "HANDLES", *sources):
+            self.write(path, "")
+        self.write("bin/rt", RT)
+        (top / "bin/rt").chmod(0o755)
+        shutil.copy(TOP / "hugepool", top / "hugepool")
+
+    def write(self, path: str, text: str) -> None:
+        (self.top / path).parent.mkdir(parents=True, exist_ok=True)
+        (self.top / path).write_text(text)
+
+    def said(self, launcher: str = "hugepool", path: str = "bin") -> tuple[int, str, str]:
+        """The launcher's status, and what it wrote to both streams."""
+        own = {"env": {**os.environ, "PATH": f"{self.top / path}:/usr/bin:/bin"}, "cwd": "/"}
+        ran = subprocess.run([self.top / launcher, "a", "b"], capture_output=True, text=True, check=False, **own)
+        return ran.returncode, ran.stdout, ran.stderr
+
+    def runs_build(self, number: int, launcher: str = "hugepool") -> bool:
+        """Whether it runs the program with its words, as it was built that time."""
+        return self.said(launcher)[:2] == (0, f"a b of {number}\n")
+
+
+def tries(room: Room) -> Iterator[tuple[str, bool]]:
+    """What is tried, one after another, and whether it went as it should."""
+    yield "without rt there is nothing to run", room.said(path="none")[0] == 127
+    yield "the first call builds", room.runs_build(1)
+    yield "the second doesn't", room.said() == (0, "a b of 1\n", "")
+    (room.top / "other").mkdir()
+    (room.top / "other/link").symlink_to("../hugepool")
+    (room.top / "link").symlink_to("other/link")
+    yield "a link to a link leads to it", room.runs_build(1, "link")
+    room.write("crates/a/src/main.rt", "new")
+    yield "a file that is written again is built", room.runs_build(2) and room.runs_build(2)
+    room.write("crates/a_tests/src/main.rt", "new")
+    yield "those of tests aren't", room.runs_build(2)
+    room.write("crates/a/src/deep/more.rt", "new")
+    yield "a new file is built", room.runs_build(3) and room.runs_build(3)
+    (room.top / "crates/a/src/deep/more.rt").unlink()
+    yield "a file that is gone is missed", room.runs_build(4) and room.runs_build(4)
+    shutil.rmtree(room.top / "crates/a/specs")
+    yield "a folder that is gone is missed", room.runs_build(5) and room.runs_build(5)
+    shutil.rmtree(room.top / "crates/a")
+    yield "a crate that is gone is missed", room.runs_build(6) and room.runs_build(6)
+    room.write("HANDLES", "new")
+    yield "so is what all crates go by", room.runs_build(7)
+    room.write("crates/a/src/main.rt", "")
+    room.write("slow", "")
+    is_built = room.runs_build(8)
+    (room.top / "slow").unlink()
+    yield "what is written while it is built is built later", is_built and room.runs_build(9) and room.runs_build(9)
+    room.write("broken", "")
+    room.write("crates/a/src/main.rt", "new")
+    for again in ("", ", again"):
+        status, out, told = room.said()
+        why = "rt: it is broken" in told and "the build failed" in told
+        yield f"a failure is told{again}", (status, out, why) == (126, "", True)
+    (room.top / "broken").unlink()
+    yield "after it was mended it is built", room.runs_build(10) and room.runs_build(10)
+
+
+def main() -> int:
+    with tempfile.TemporaryDirectory(prefix="launcher-") as name:
+        tried = list(tries(Room(Path(name))))
+    print("".join(f"  not so: {what}\n" for what, is_so in tried if not is_so), end="")
+    failed = sum(not is_so for _, is_so in tried)
+    print(f"launcher: {len(tried) - failed} passed, {failed} failed")
+    return 1 if failed else 0
+
+
+if __name__ == "__main__":
+    sys.exit(main())
