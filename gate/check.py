@@ -9,8 +9,9 @@ usage: ./check [STEP] [..]
                      the must-fail edits, many at once: with no crate named, those of the crates of which anything changed since
                      all were refused, and of some others (--all: of every crate); then edits of which each has to be told
                      apart, what makes a crate's edits due, and whether docs/INDEX.md is what the sources say
-  ./check examples   what the traces of examples/ print; when ./hugepool builds
-  ./check refusals   that a driver goes on where memory is refused to it, at each growth of a small story
+  ./check examples   what the traces of examples/ print; a long race, and its trace; when ./hugepool builds; that what documents name
+                     is there
+  ./check refusals   that programs and drivers tell it where memory is refused to them, at each growth, one a run (it needs cc)
   ./check linux      what a Linux kernel answered (conformance/), and what records that, as far as it needs no kernel (it needs cc)
   ./check quick      before a commit: proofs and tests of what changed since the last time, over kept work; that each edit applies
 
@@ -117,11 +118,14 @@ def index(step: Step) -> None:
 
 def examples(step: Step, _: list[str]) -> None:
     step.run(python("examples.py"))
+    step.run(python("soak.py"))
     step.run(python("test_launcher.py"))
+    step.run(python("documents.py"))
 
 
 def refusals(step: Step, _: list[str]) -> None:
     step.run(python("refusals.py"))
+    step.run(python("growths.py"))
 
 
 def linux(step: Step, _: list[str]) -> None:
@@ -141,6 +145,7 @@ def quick(step: Step, _: list[str]) -> None:
         for it in try_edits.read_all(TOP / "crates" / name)[1]:
             print(f"  {name}/{it.name}: {it.why}")
             step.failed += 1
+    step.run(python("documents.py"))
 
 
 def run_tests(name: str) -> bool:

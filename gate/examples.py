@@ -1,12 +1,16 @@
 #!/usr/bin/env python3
 """Replays each trace of examples/ and of the folders in it, and compares what is printed with the file NAME.out beside it.
 
+Where NAME.explained stands beside it too, it is what is written where the trace is explained.
 What is complained is compared with NAME.err, and the status with NAME.status; without these files, with nothing and 0.
 Each script is explored by the words behind each `#` of the file NAME.lines beside it, and its lines are compared with those
-below the words; and the schedule of each first run is replayed, and ends with the counts of that run's line.
+below the words; and the schedule of each first run is replayed, and ends with the counts of that run's line. Each script is
+raced some times in threads, too: every race has to be closed. At last each `$` line of docs/TRACES.md is run by a shell, and what
+it tells is compared with the lines below it.
 """
 from __future__ import annotations
 
+import re
 import subprocess
 import sys
 from typing import Callable
@@ -14,6 +18,10 @@ from typing import Callable
 from scratch import TOP
 
 FOLDER = TOP / "examples"
+# the documents whose commands are run
+SHOWN = ("TRACES.md",)
+RACES = 20
+RACED = re.compile(r"run \d+ closed entries \d+ free \d+ resv \d+")
 
 
 def names(pattern: str) -> set[str]:
@@ -48,6 +56,13 @@ def difference(name: str) -> str | None:
     return None
 
 
+def explained_difference(name: str) -> str | None:
+    """How the explanation of a trace differs from what stands beside it, if it does."""
+    printed = output(["explain"], (FOLDER / f"{name}.trace").read_bytes())
+    told = wanted(name, "explained", "")
+    return None if printed == told else first_difference(printed.split("\n"), told.split("\n"))
+
+
 def blocks(text: str) -> list[tuple[list[str], list[str]]]:
     """The words behind each `#`, and the lines below them."""
     found: list[tuple[list[str], list[str]]] = []
@@ -77,16 +92,59 @@ def script_difference(name: str) -> str | None:
         counts = lines[0][lines[0].index(" free ") + 1 :]
         if not any(line.startswith(f"{counts} calls 0") for line in replayed.splitlines()):
             return f"{told}: the replay of its first run doesn't end with {counts}"
+    return race_difference(name)
+
+
+def race_difference(name: str) -> str | None:
+    """The first line of a script's races that isn't one of a closed race with its number, if there is one."""
+    script = (FOLDER / f"{name}.script").read_bytes()
+    ran = subprocess.run([TOP / "hugepool", "race", "--times", str(RACES)], input=script, capture_output=True, check=False)
+    lines = ran.stdout.decode().splitlines()
+    for k, line in enumerate(lines):
+        if not (RACED.fullmatch(line) and line.startswith(f"run {k} ")):
+            return f"race: line {k + 1}: {line!r}"
+    if ran.returncode or len(lines) != RACES:
+        return f"race: status {ran.returncode}, {len(lines)} lines: {ran.stderr.decode().strip()}"
     return None
 
 
-def compared(asked: str, told: str, differs: Callable[[str], str | None]) -> tuple[int, list[str]]:
-    """How many examples with files of these two endings agree, and what is wrong with the others."""
+def compared(asked: str, told: str, differs: Callable[[str], str | None], each: bool = True) -> tuple[int, list[str]]:
+    """How many examples with files of these two endings agree, and what is wrong with the others; `each` has to have both."""
     inputs, outputs = names(f"*{asked}"), names(f"*{told}")
-    faults = [f"{name}: there is a {told if name in outputs else asked} alone" for name in sorted(inputs ^ outputs)]
+    alone = inputs ^ outputs if each else outputs - inputs
+    faults = [f"{name}: there is a {told if name in outputs else asked} alone" for name in sorted(alone)]
     found = {name: differs(name) for name in sorted(inputs & outputs)}
     faults += [f"{name}: {what}" for name, what in found.items() if what]
     return sum(not what for what in found.values()), faults
+
+
+def sessions(text: str) -> list[tuple[str, list[str]]]:
+    """The commands behind each `$` of a document's blocks, and the lines below them."""
+    found: list[tuple[str, list[str]]] = []
+    is_told = False
+    for line in text.splitlines():
+        if line.startswith("    $ "):
+            found.append((line[6:], []))
+            is_told = True
+        elif is_told and line.startswith("    "):
+            found[-1][1].append(line[4:])
+        else:
+            is_told = False
+    return found
+
+
+def session_difference(command: str, lines: list[str]) -> str | None:
+    """How what a command tells, on both streams, differs from what a document says, if it does."""
+    how = {"stdin": subprocess.DEVNULL, "stdout": subprocess.PIPE, "stderr": subprocess.STDOUT, "cwd": TOP}
+    printed = subprocess.run(["bash", "-o", "pipefail", "-c", command], check=False, **how).stdout.decode().splitlines()
+    return None if printed == lines else first_difference(printed, lines)
+
+
+def shown() -> tuple[int, list[str]]:
+    """How many commands of the documents tell what these say, and what is wrong with the others."""
+    tried = [(name, *it) for name in SHOWN for it in sessions((TOP / "docs" / name).read_text(encoding="utf-8"))]
+    faults = [f"{name}: {command}: {what}" for name, command, lines in tried if (what := session_difference(command, lines))]
+    return len(tried) - len(faults), faults
 
 
 def main() -> int:
@@ -95,8 +153,12 @@ def main() -> int:
     traces, faults = compared(".trace", ".out", difference)
     scripts, more = compared(".script", ".lines", script_difference)
     faults += more
+    explained, more = compared(".trace", ".explained", explained_difference, each=False)
+    faults += more
+    commands, more = shown()
+    faults += more
     print("".join(f"  {it}\n" for it in faults), end="")
-    print(f"examples: {traces + scripts} passed, {len(faults)} failed")
+    print(f"examples: {traces + scripts + explained + commands} passed, {len(faults)} failed")
     return 1 if faults else 0
 
 

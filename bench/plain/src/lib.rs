@@ -33,9 +33,9 @@ pub enum Kind { Load, Store, Map, MapNoReserve, Alloc, Punch, Truncate, Unmap, E
 
 #[derive(Clone, Copy)]
 pub struct Call {
-    pub kind: Kind, pub phase: Phase, file: u32, from: u32, len: u32, keep: bool, vpn: u32, word: u64,
-    index: u32, missing: u32, excess: u32, base: u32, held: u32, task: u32, denied: bool,
-    evicted: u32, answer: Option<Answer>,
+    pub kind: Kind, pub phase: Phase, pub file: u32, from: u32, len: u32, keep: bool, vpn: u32, word: u64,
+    pub index: u32, pub missing: u32, pub excess: u32, base: u32, held: u32, task: u32, pub denied: bool,
+    pub evicted: u32, answer: Option<Answer>,
 }
 
 pub enum Outcome { Begun, Moved(Phase), Blocked(u32), Ended(Answer), Marked, Resized(u32), NotAlive, InCall, Idle, BadSize }
@@ -71,6 +71,8 @@ impl File {
         let held: u32 = self.regions.range(first..to).map(|(&a, &b)| b.min(to).saturating_sub(a.max(from))).sum();
         to - from - held
     }
+    /// How many indices are reserved.
+    pub fn reserved(&self) -> u32 { LIMIT - self.missing(0, LIMIT) }
     fn add(&mut self, from: u32, to: u32) -> u32 {
         let added = self.missing(from, to);
         let first = self.before(from).filter(|r| r.1 >= from).map_or(from, |r| r.0);

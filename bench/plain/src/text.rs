@@ -129,7 +129,15 @@ fn tell(out: &mut impl Write, outcome: &Outcome) -> io::Result<()> {
     }
 }
 
-fn tell_state(out: &mut impl Write, pool: &Pool) -> io::Result<()> {
+/// The outcome's line, without its end.
+pub fn outcome_words(outcome: &Outcome) -> String {
+    let mut line = Vec::new();
+    tell(&mut line, outcome).expect("a list takes what is written to it");
+    String::from_utf8_lossy(&line).trim_end().to_owned()
+}
+
+/// The lines of the state.
+pub fn tell_state(out: &mut impl Write, pool: &Pool) -> io::Result<()> {
     let calls = pool.tasks.iter().filter(|t| t.call.is_some()).count();
     write!(out, "free {} resv {} calls {calls}", pool.free.len(), pool.resv)?;
     if pool.quota.is_some() { write!(out, " used {}", pool.used)?; }

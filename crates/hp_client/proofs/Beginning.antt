@@ -1,28 +1,26 @@
 -- Which calls are in flight where a round begins, and where none is.
-use Rattle.std.proofs.Common.{◌≡◌, ◌≢◌, ℕ, zero, suc, ◌+◌, ◌-◌, ◌==◌, ◌≤◌, ◌<◌, Bool, true, false, Option, Some, None}
-use Rattle.std.proofs.Common.{IsSome, is_some, cond}
-use Rattle.std.proofs.Common.{List, [], ◌∷◌, length, get_or, map, filter, count_by, All, AllPairs, Contains, ◌⊎◌, inl, inr}
-use Rattle.std.proofs.Common.{refl, sym, ap, subst, ◌∙◌, arith, add-one}
+use Rattle.std.proofs.Common.{◌≡◌, ◌≢◌, ℕ, zero, suc, ◌-◌, ◌<◌, Bool, true, false, Option, Some, None}
+use Rattle.std.proofs.Common.{IsSome, is_some}
+use Rattle.std.proofs.Common.{List, [], ◌∷◌, length, get_or, map, filter, All, AllPairs, Contains, ◌⊎◌, inl, inr}
+use Rattle.std.proofs.Common.{refl, sym, ap, subst, ◌∙◌, arith}
 use Rattle.std.specs.List.{range_with_len}
 use Rattle.std.specs.Option.{option_map}
-use Rattle.std.proofs.lemmas.Bool.Decides.{nat_tests}
 use Rattle.std.proofs.lemmas.List.{get_or-map, length-map}
 use Rattle.std.proofs.lemmas.List.Elements.{filter_passes}
 use Rattle.std.proofs.lemmas.List.FromFn.{get_or-range_with_len, length-range_with_len}
 use Rattle.std.proofs.lemmas.List.Kept.{AllPairs-filter}
-use Rattle.std.proofs.lemmas.List.Sums.{sum_by-cons}
 use Rattle.hp_base.proofs.Puts.{same_or_other}
 use Rattle.hp_base.specs.declared.event.Op.{Op}
 use Rattle.hp_base.specs.declared.event.Event.TheVariants.{Begin}
 use Rattle.hp_machine.specs.State as machine
-use Rattle.hp_machine.specs.Events.{first, word_of}
+use Rattle.hp_machine.specs.Events.{word_of}
 use Rattle.hp_machine.specs.declared.call.Call.{Call}
 use Rattle.hp_machine.specs.declared.outcome.Outcome.TheVariants as outcome
 use Rattle.hp_laws.specs.Laws.{BeginsBegin, CallersLive, OthersStay}
 use Rattle.hp_core.specs.Readers as readers
 use Rattle.hp_core.specs.Readers.{config_of, phase_of}
-use Rattle.hp_core.specs.Runs.{Row, IsOfConfig, geometry}
-use Rattle.hp_core.specs.State.{CoreState, as_state, calls_of, seat_at, no_seat}
+use Rattle.hp_core.specs.Runs.{Row, IsOfConfig}
+use Rattle.hp_core.specs.State.{CoreState, as_state}
 use Rattle.hp_core.proofs.InFlight.{none_in_flight}
 use Rattle.hp_client.specs.Heard.{AreApart}
 use Rattle.hp_client.specs.Rounds.{Begins, asked_of, in_flight, IsInFlight, AreInFlight, AreAll, AreOfDistinctTasks}

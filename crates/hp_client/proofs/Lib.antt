@@ -1,4 +1,6 @@
 pub mod Beginning
+pub mod Crewed
+pub mod Crewing
 pub mod Hearing
 pub mod Judging
 pub mod Naming

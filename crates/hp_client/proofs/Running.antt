@@ -12,7 +12,6 @@ use Rattle.hp_machine.specs.declared.outcome.Refusal.{Refusal}
 use Rattle.hp_core.specs.Runs.{Row, WantsGrowth}
 use Rattle.hp_core.specs.State.{CoreState}
 use Rattle.hp_client.specs.Rounds.{Begins, BeginsRefused, Advance, Turn, TurnStops, AreBlocked, Turns, AreEnded}
-use Rattle.hp_client.specs.declared.fault.ClientFault.{ClientFault}
 use Rattle.hp_client.specs.declared.rounds.Asked.{Asked}
 
 -- one more call begins

@@ -1,7 +1,7 @@
 -- Which calls are in flight while a round goes on.
-use Rattle.std.proofs.Common.{◌≡◌, ◌≢◌, ℕ, zero, suc, ◌+◌, ◌-◌, ◌==◌, ◌≤◌, ◌<◌, Bool, true, false, Option, Some, None}
-use Rattle.std.proofs.Common.{IsSome, is_some, cond, MatchOption}
-use Rattle.std.proofs.Common.{List, [], ◌∷◌, length, get_or, set, map, count_by, All, AllPairs, Contains, ◌⊎◌, inl, inr}
+use Rattle.std.proofs.Common.{◌≡◌, ◌≢◌, ℕ, zero, suc, ◌+◌, ◌≤◌, ◌<◌, Bool, true, false, Option, Some, None}
+use Rattle.std.proofs.Common.{IsSome, is_some, MatchOption}
+use Rattle.std.proofs.Common.{List, [], ◌∷◌, length, get_or, set, All, Contains, inl, inr}
 use Rattle.std.proofs.Common.{refl, sym, ap, subst, ◌∙◌, arith}
 use Rattle.std.proofs.lemmas.Bool.{cases_lt}
 use Rattle.std.proofs.lemmas.List.{get_or_default, get_or-set_same, get_or-set_other, length-set}

@@ -1,5 +1,7 @@
 pub mod Bytes
+pub mod Crew
 pub mod Heard
 pub mod Judging
+pub mod PoolRounds
 pub mod Rounds
 pub mod Tables

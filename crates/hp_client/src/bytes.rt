@@ -153,6 +153,7 @@ fn perform<D: Driver>(
     task: Task,
     plan: Result<Plan, ClientFault>,
 ) -> Result<Answer, ClientFault>
+    requires rests { D.rests_on }
     ensures { IsPerformed D.heard_by plan task driver.old driver.new result }
 {
     match plan {
@@ -180,6 +181,7 @@ pub fn get_huge_pages<D: Driver>(
     len: u64,
     reserve: bool,
 ) -> Result<Answer, ClientFault>
+    requires rests { D.rests_on }
     ensures { IsPerformed D.heard_by (map_plan file offset len reserve) task driver.old driver.new result }
 {
     perform(driver, alloc, task, map_plan(file, offset, len, reserve))
@@ -192,6 +194,7 @@ pub fn free_huge_pages<D: Driver>(
     task: Task,
     address: u64,
 ) -> Result<Answer, ClientFault>
+    requires rests { D.rests_on }
     ensures { IsPerformed D.heard_by (unmap_plan address) task driver.old driver.new result }
 {
     perform(driver, alloc, task, unmap_plan(address))
@@ -205,6 +208,7 @@ pub fn ftruncate<D: Driver>(
     file: File,
     length: u64,
 ) -> Result<Answer, ClientFault>
+    requires rests { D.rests_on }
     ensures { IsPerformed D.heard_by (truncate_plan file length) task driver.old driver.new result }
 {
     perform(driver, alloc, task, truncate_plan(file, length))
@@ -221,6 +225,7 @@ pub fn fallocate<D: Driver>(
     offset: u64,
     len: u64,
 ) -> Result<Answer, ClientFault>
+    requires rests { D.rests_on }
     ensures { IsPerformed D.heard_by (fallocate_plan bits file offset len) task driver.old driver.new result }
 {
     perform(driver, alloc, task, fallocate_plan(bits, file, offset, len))
@@ -233,6 +238,7 @@ pub fn load<D: Driver>(
     task: Task,
     address: u64,
 ) -> Result<Answer, ClientFault>
+    requires rests { D.rests_on }
     ensures { IsPerformed D.heard_by (touch_plan address (λ vpn. Load vpn)) task driver.old driver.new result }
 {
     perform(driver, alloc, task, load_plan(address))
@@ -246,6 +252,7 @@ pub fn store<D: Driver>(
     address: u64,
     word: u64,
 ) -> Result<Answer, ClientFault>
+    requires rests { D.rests_on }
     ensures { IsPerformed D.heard_by (touch_plan address (λ vpn. Store vpn word)) task driver.old driver.new result }
 {
     perform(driver, alloc, task, store_plan(address, word))

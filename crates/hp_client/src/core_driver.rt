@@ -1,5 +1,5 @@
 //! A driver of a core.
-ghost use Rattle.std.specs.Prelude.{◌≡◌, ◌≢◌, ◌+◌, ◌≤◌, ◌++◌, ◌∷◌, [], IfOk, OnOk, IfErr, OnErr, length, vec_len, vec_capacity};
+ghost use Rattle.std.specs.Prelude.{◌≡◌, ◌≢◌, ◌++◌, [], IfOk, OnOk, IfErr, OnErr, length};
 ghost use Rattle.hp_core.specs.Readers.{calls_of};
 ghost use Rattle.hp_core.specs.Runs.{IsOpening};
 ghost use Rattle.hp_client.specs.Heard.{DriverState, heard_of, AreApart, tally_of};
@@ -8,6 +8,7 @@ ghost use Rattle.hp_client.specs.declared.fault.ClientFault.TheVariants.{Stuck};
 
 use crate::driver::Driver;
 use crate::fault::ClientFault;
+use crate::heard::note_calls;
 use crate::rounds::{end_calls, run_round};
 use hp_base::{Answer, Config, Op, Task};
 use hp_core::{Core, Tally};
@@ -32,17 +33,6 @@ impl Model for CoreDriver {
     ghost coded = { Prim.hlevel (codes, map.code {R = nat_cmp} coded_ℕ coded_ℕ) };
 
     ghost view = { λ driver. record { core = driver.core; heard = driver.heard.items } };
-}
-
-// Adds the calls with their answers to what was heard, in room that was made before.
-fn note_calls(heard: &mut Vec<(Task, Op, Answer)>, calls: &[(Task, Op)], answers: &[Answer])
-    requires each { length answers.now ≡ length calls.now }
-    requires room { vec_len heard.old + length calls.now ≤ vec_capacity heard.old }
-    ensures { heard.new.items ≡ heard.old.items ++ heard_of calls.now answers.now }
-{
-    for (index, (task, op)) in calls.iter().enumerate() {
-        heard.push_reserved((*task, *op, answers[index]));
-    }
 }
 
 impl CoreDriver {
@@ -78,7 +68,7 @@ impl Driver for CoreDriver {
     ghost can_tell = { λ driver tally. tally ≡ tally_of driver.core };
 
     fn round(&mut self, alloc: Global, calls: &[(Task, Op)]) -> Result<Vec<Answer>, ClientFault>
-        requires { AreApart calls.now }
+        requires apart { AreApart calls.now }
         ensures answers { IfOk result (λ answers. length answers.items ≡ length calls.now) }
         ensures heard { IfOk result (λ answers. self.new.heard ≡ self.old.heard ++ heard_of calls.now answers.items) }
         ensures err { OnErr result (self.new.heard ≡ self.old.heard) }

@@ -9,7 +9,7 @@ use std::alloc::Global;
 
 /// What carries calls to a pool, and keeps the list of all that were answered.
 pub trait Driver {
-    ghost use Rattle.std.specs.Prelude.{ℕ, List};
+    ghost use Rattle.std.specs.Prelude.{ℕ, List, ⊤};
     ghost use Rattle.hp_base.specs.declared.answer.Answer.{Answer};
     ghost use Rattle.hp_base.specs.declared.event.Op.{Op};
     ghost use Rattle.hp_core.specs.declared.readers.Tally.{Tally};
@@ -18,16 +18,21 @@ pub trait Driver {
 
     ghost can_tell: { Self → Tally → Type 0 };
 
+    // What the driver needs of what it was given: nothing, where it says nothing else.
+    ghost rests_on: { Type 0 } = { ⊤ };
+
     /// Calls of distinct tasks, at once. Their answers are in the list's order. After a fault, calls that have begun
     /// and haven't ended stay in flight.
     fn round(&mut self, alloc: Global, calls: &[(Task, Op)]) -> Result<Vec<Answer>, ClientFault>
-        requires { AreApart calls.now }
+        requires apart { AreApart calls.now }
+        requires rests { rests_on }
         ensures answers { IfOk result (λ answers. length answers.items ≡ length calls.now) }
         ensures heard { IfOk result (λ answers. heard_by self.new ≡ heard_by self.old ++ heard_of calls.now answers.items) }
         ensures err { OnErr result (heard_by self.new ≡ heard_by self.old) };
 
     /// Takes the calls in flight to their ends, and drops their answers.
     fn finish(&mut self, alloc: Global) -> Result<(), ClientFault>
+        requires { rests_on }
         ensures { heard_by self.new ≡ heard_by self.old };
 
     /// The numbers of the pool.
@@ -40,6 +45,7 @@ pub trait Driver {
 
     /// One call: a round of one.
     fn call(&mut self, alloc: Global, task: Task, op: Op) -> Result<Answer, ClientFault>
+        requires { rests_on }
         ensures ok { IfOk result (λ answer. heard_by self.new ≡ heard_by self.old ++ (task, op, answer) ∷ []) }
         ensures err { OnErr result (heard_by self.new ≡ heard_by self.old) }
     {

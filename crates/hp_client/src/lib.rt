@@ -8,14 +8,19 @@
 
 pub mod bytes;
 pub mod core_driver;
+pub mod crew;
 pub mod driver;
 pub mod fault;
+pub mod heard;
+pub mod pool_driver;
 pub mod rounds;
 pub mod table;
 pub mod work;
 
 pub use core_driver::CoreDriver;
+pub use crew::{Crew, Team, Work};
 pub use driver::Driver;
 pub use fault::ClientFault;
+pub use pool_driver::PoolDriver;
 pub use table::Workload;
 pub use work::{Report, config_of, run_workload, workload_named};

@@ -108,6 +108,7 @@ fn run_line<D: Driver>(
     line: Line,
     judged: &mut Judged,
 ) -> Result<(), ClientFault>
+    requires rests { D.rests_on }
     requires apart { IsApart line }
     requires few { judged.old.calls + calls_of line ≤ 100 }
     ensures run { OnOk result ((more : Tried) × LineRuns line (D.heard_by driver.old) more (D.heard_by driver.new)
@@ -144,6 +145,7 @@ fn run_lines<D: Driver>(
     alloc: Global,
     lines: &[Line],
 ) -> Result<Judged, ClientFault>
+    requires rests { D.rests_on }
     requires apart { All IsApart lines.now }
     requires few { calls_in lines.now ≤ 100 }
     ensures run { IfOk result (λ judged. (tried : Tried)
@@ -180,6 +182,7 @@ pub fn run_workload<D: Driver>(
     workload: Workload,
     driver: &mut D,
 ) -> Result<Report, ClientFault>
+    requires rests { D.rests_on }
     ensures report { IfOk result (λ report. IsReport (table_of workload).lines (table_of workload).tally
         (D.heard_by driver.old) (D.heard_by driver.new) report) }
     ensures tally { IfOk result (λ report. D.can_tell driver.new report.tally) }

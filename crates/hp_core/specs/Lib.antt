@@ -14,3 +14,4 @@ pub mod Sound
 pub mod State
 pub mod Turns
 pub mod Waiting
+pub mod Wanting

@@ -23,6 +23,7 @@ pub mod run;
 mod run_laws;
 pub mod seat;
 pub mod waiting;
+pub mod wanting;
 pub mod words;
 
 pub use core_state::Core;
@@ -34,3 +35,4 @@ pub use readers::Tally;
 pub use run::RunFault;
 pub use seat::Seat;
 pub use waiting::Readiness;
+pub use wanting::Wanted;

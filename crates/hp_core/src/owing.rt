@@ -1,10 +1,12 @@
 //! What the calls in flight owe to the reserve count, and to the used count.
 ghost use Rattle.std.specs.Prelude.{◌≡◌, ◌≤◌, ◌*◌, ◌^◌, ◌-ℤ◌, pos, Some, length, sum_by};
 ghost use Rattle.hp_machine.specs.Views.{less, more, used_owed};
-ghost use Rattle.hp_core.specs.Readers.{owed_of, used_owed_of};
+ghost use Rattle.hp_core.specs.Readers.{config_of, owed_of, used_owed_of};
+ghost use Rattle.hp_core.specs.Wanting.{owed_by_call, owed_by_of};
 
 use crate::core_state::Core;
 use crate::seat::Seat;
+use hp_base::Task;
 use hp_machine::Call;
 use hp_machine::alloc::AllocPhase;
 use hp_machine::map::MapPhase;
@@ -141,6 +143,13 @@ fn difference(more: u64, less: u64) -> i64
     more as i64 - less as i64
 }
 
+// What one call owes.
+fn call_owes(call: &Call) -> i64
+    ensures { result ≡ owed_by_call (Some call.now) }
+{
+    difference(u64::from(more(call)), u64::from(less(call)))
+}
+
 // The sum as what it is owed, which has no other way.
 fn signed(uses: u64) -> i64
     requires { uses ≤ 2 ^ 33 * 64 }
@@ -157,6 +166,18 @@ impl Core {
     {
         let (less, more) = sums(&self.seats);
         difference(more, less)
+    }
+
+    /// What the call of the task alone owes to the reserve count; without one in flight it is nothing.
+    pub fn owed_by(&self, task: Task) -> i64
+        requires first { 1 ≤ task }
+        requires last { task ≤ (config_of self.now).tasks }
+        ensures { result ≡ owed_by_of self.now task }
+    {
+        match &self.seats[(task.number() - 1) as usize].call {
+            Some(call) => call_owes(call),
+            None => 0,
+        }
     }
 
     /// What the calls in flight owe to the used count: it is this much above the reserved indices.

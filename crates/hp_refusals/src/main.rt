@@ -1,15 +1,26 @@
-//! A program for the check: two stores at one page, in which any one growth of memory may be refused.
+//! A program for the check: stories in which any one growth of memory may be refused, and is told and tried again.
 //!
-//! It stands on hp_client. It takes memory as many times as its input has bytes, and then makes the calls of a small story
-//! over a driver and tells what each answered. So in runs whose Nth growth is refused, a shorter input has it refused
-//! later in the story: `gate/refusals.py` has it refused everywhere, and compares what is told.
+//! It stands on hp_client, hp_shared and hp_replay. The first byte of its input says which story it tells: `p`, as a trace
+//! begins, that trace on a core; `c` a journal that is cut; `r` a running pool that is resized; else two stores over a driver.
+//! Before those it takes memory as many times as its input has bytes: so in runs whose Nth growth is refused, a shorter input has it
+//! refused later in the story. `gate/refusals.py` and `gate/growths.py` have it refused everywhere, and compare what is told.
 #![tactic(auto)]
 
-mod story;
+ghost use Rattle.std.specs.Prelude.{◌≡◌, ◌≤◌};
 
+mod cut;
+mod resized;
+mod seats;
+mod story;
+mod trace;
+
+use hp_base::Config;
 use std::alloc::{AllocError, Global};
 use std::io;
 use std::io::Read;
+use std::marker::Brand;
+use std::sync::Wait;
+use std::sync::ledger::Blank;
 
 /// Takes memory so many times, and gives it back.
 fn take_memory(alloc: Global, times: usize) -> Result<(), AllocError> {
@@ -19,9 +30,44 @@ fn take_memory(alloc: Global, times: usize) -> Result<(), AllocError> {
     Ok(())
 }
 
+/// A config of four frames.
+fn config_for(tasks: u32) -> Config
+    requires range { (1 ≤ tasks) × (tasks ≤ 2) }
+    ensures { result.tasks ≡ tasks }
+{
+    Config::new(4, 1, 4, tasks).unwrap()
+}
+
+/// Tells the story of the journal. It is begun anew where there was no pool.
+fn tell_cut<R: Wait + Print>(rt: &R, alloc: Global) -> io::Result<()> {
+    for _ in 0..2 {
+        if cut::tell::<Brand, _>(rt, alloc, Blank::new(2), config_for(2))? {
+            return Ok(());
+        }
+    }
+    Ok(())
+}
+
+/// The same of the pool that is resized.
+fn tell_resized<R: Wait + Print>(rt: &R, alloc: Global) -> io::Result<()> {
+    for _ in 0..2 {
+        if resized::tell::<Brand, _>(rt, alloc, Blank::new(1), config_for(1))? {
+            return Ok(());
+        }
+    }
+    Ok(())
+}
+
 fn main(rt: HostRuntime) -> io::Result<()> {
     let mut input = [0; 1000];
-    let times = rt.stdin().read(&mut input)?;
-    take_memory(rt.alloc(), times)?;
-    story::tell(&rt, rt.alloc())
+    let read = rt.stdin().read(&mut input)?;
+    match input[0] {
+        b'p' => trace::tell(&rt, rt.alloc(), input.get(..read).unwrap_or(&[])),
+        b'c' => tell_cut(&rt, rt.alloc()),
+        b'r' => tell_resized(&rt, rt.alloc()),
+        _ => {
+            take_memory(rt.alloc(), read)?;
+            story::tell(&rt, rt.alloc())
+        }
+    }
 }

@@ -35,6 +35,7 @@ pub use laws::{
 pub use replaying::replay;
 pub use run_lines::write_lines;
 pub use script::read_script;
+pub use state::push_state;
 pub use streams::{Sink, Source, Watched};
 pub use trace::{MOST_EVENTS, Trace, read_trace, write_trace};
 pub use writing::write_text;

@@ -71,7 +71,7 @@ fn push_tasks(core: &Core, tasks: u32, text: &mut String) -> Result<(), AllocErr
 }
 
 /// Appends the pool's line, one for each file, and one for each task.
-pub(crate) fn push_state(core: &Core, text: &mut String) -> Result<(), AllocError>
+pub fn push_state(core: &Core, text: &mut String) -> Result<(), AllocError>
     ensures { OnOk result (string_bytes text.new ≡ string_bytes text.old ++ state_text core.now) }
 {
     let config = core.config();

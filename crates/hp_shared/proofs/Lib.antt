@@ -1,10 +1,10 @@
 pub mod Counts
 pub mod Cuts
-pub mod Emptied
 pub mod Gains
 pub mod Grown
 pub mod Held
 pub mod OutcomeKinds
 pub mod Lists
+pub mod Mapped
 pub mod Runs
 pub mod Verdicts

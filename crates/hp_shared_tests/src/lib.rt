@@ -13,3 +13,7 @@ mod histories;
 #[cfg(test)]
 mod kills;
 pub mod numbers;
+#[cfg(test)]
+mod races;
+#[cfg(test)]
+mod rounds;

@@ -32,7 +32,7 @@ opens contents now new out same inner empty =
 pub all_of : (old new : Option (List ℕ)) (text : List ℕ) → Appends old new text → Wrote old new text
 all_of old new text wrote = record { front = text; back = []; parts = sym (append-nil text); appends = wrote }
 
-none_of : (old new : Option (List ℕ)) → Keeps old new → Wrote old new []
+pub none_of : (old new : Option (List ℕ)) → Keeps old new → Wrote old new []
 none_of None new kept = record { front = []; back = []; parts = refl; appends = tt }
 none_of (Some xs) None kept = absurd kept
 none_of (Some xs) (Some ys) kept = record { front = []; back = []; parts = refl; appends = kept ∙ sym (append-nil xs) }
@@ -96,7 +96,7 @@ early_err Write from to before after s = s
 early_err Memory from to before after s = s
 
 -- what was left in the buffer is cut off
-holds : (before mid after : Option (List ℕ)) (left text : List ℕ) → Wrote before mid text → Keeps mid (append_known after left)
+pub holds : (before mid after : Option (List ℕ)) (left text : List ℕ) → Wrote before mid text → Keeps mid (append_known after left)
     → HoldsFront before after text
 holds None mid after left text w kept = tt
 holds (Some xs) None after left text w kept = absurd w.appends

@@ -1,4 +1,6 @@
 pub mod Endings
+pub mod Racing
 pub mod Requests
 pub mod Status
+pub mod Words
 pub mod Working

@@ -1,24 +1,28 @@
 -- What the program does at each request.
-use Rattle.std.specs.Prelude.{◌≡◌, ℕ, List, Option, Some, None, ◌⊎◌, Bool, true, false, IfSome, Result, Ok, Err, map}
+use Rattle.std.specs.Prelude.{◌≡◌, ℕ, List, [], Option, Some, None, ◌⊎◌, Bool, true, false, IfSome, Result, Ok, Err, map}
 use Rattle.std.specs.Io.KnownBytes.{Appends, Keeps}
-use Rattle.hp_base.specs.Text.{sizes}
+use Rattle.hp_base.specs.Text.{Sizes, sizes}
 use Rattle.hp_base.specs.declared.event.Event.{Event}
+use Rattle.hp_explain.specs.Explaining.{Beginning, Explained, Explanation}
 use Rattle.hp_explore.specs.Explored.{IsExplored}
 use Rattle.hp_explore.specs.declared.line.RunLine.{RunLine}
 use Rattle.hp_explore.specs.declared.script.Script.{Script}
 use Rattle.hp_replay.specs.declared.fault.ReplayFault.{ReplayFault}
+use Rattle.hp_replay.specs.declared.fault.ReplayFault.TheVariants.{BadLine, BadHeader, Read, Write, Memory}
 use Rattle.hp_replay.specs.Checking.{ReadsEvents, count_line}
 use Rattle.hp_replay.specs.Collecting.{ReadsTrace}
 use Rattle.hp_replay.specs.RunLines.{WroteRuns}
 use Rattle.hp_replay.specs.Scripts.{begin_of, HasScriptFault}
 use Rattle.hp_replay.specs.Traces.{HasFault, trace_text}
 use Rattle.hp_replay.specs.declared.exploring.Exploration.{Exploration}
-use Rattle.hugepool.specs.Endings.{AnsweredElse, AnsweredReplay, ReaderAt}
+use Rattle.hugepool.specs.Endings.{AnsweredElse, AnsweredReplay, HoldsFront, ReaderAt}
+use Rattle.hugepool.specs.Racing.{Races}
 use Rattle.hugepool.specs.Status.{status_at}
 use Rattle.hugepool.specs.Working.{AnsweredWork}
 use Rattle.hugepool.specs.declared.command.Request.{Request}
 use Rattle.hugepool.specs.declared.command.Request.TheVariants as request
 use Rattle.hugepool.specs.declared.command.Scheduling.{Scheduling}
+use Rattle.hugepool.specs.declared.racing.Racing.{Racing}
 use Rattle.hugepool.specs.declared.program.Stop.{Stop}
 use Rattle.hugepool.specs.declared.program.Stop.TheVariants as stop
 
@@ -50,15 +54,27 @@ abbrev pub IfThere : Option (Option (List ℕ)) → (Option (List ℕ) → Type 
 IfThere None P = ⊥
 IfThere (Some after) P = P after
 
--- what is answered where these are done; a fault of reading is told where the reader failed, and a bad line where it is
+-- What is answered where these are done, and all runs came to their ends or some didn't; a fault of reading is told where the
+-- reader failed, and a bad line where it is
+abbrev pub AnsweredRuns : (Bool → Option (List ℕ) → Type 0) → (ReplayFault → Type 0) → Result (Unit {0}) Stop → Bool → Bool
+    → Option (Option (List ℕ)) → Type 0
+AnsweredRuns Done Bad (Ok x) old new after = (new ≡ old) × IfThere after (Done true)
+AnsweredRuns Done Bad (Err stop.Unfinished) old new after = (new ≡ old) × IfThere after (Done false)
+AnsweredRuns Done Bad (Err (stop.Replay fault)) old new after = ReaderAt fault old new × Bad fault
+AnsweredRuns Done Bad (Err (stop.Usage error)) old new after = ⊥
+AnsweredRuns Done Bad (Err (stop.Work fault)) old new after = ⊥
+
 abbrev pub AnsweredExplore : Exploration → Result (Unit {0}) Stop → Option (List ℕ) → Option (List ℕ) → Bool → Bool
     → Option (List ℕ) → Option (Option (List ℕ)) → Type 0
-AnsweredExplore e (Ok x) from to old new before after = (new ≡ old) × IfThere after (Explores e true from to before)
-AnsweredExplore e (Err stop.Unfinished) from to old new before after = (new ≡ old) × IfThere after (Explores e false from to before)
-AnsweredExplore e (Err (stop.Replay fault)) from to old new before after =
-    ReaderAt fault old new × IfSome from (λ bytes. HasScriptFault bytes fault)
-AnsweredExplore e (Err (stop.Usage error)) from to old new before after = ⊥
-AnsweredExplore e (Err (stop.Work fault)) from to old new before after = ⊥
+AnsweredExplore e answer from to old new before after =
+    AnsweredRuns (λ finished after. Explores e finished from to before after) (λ fault. IfSome from (λ bytes. HasScriptFault bytes fault))
+    answer old new after
+
+abbrev pub AnsweredRace : Racing → Result (Unit {0}) Stop → Option (List ℕ) → Option (List ℕ) → Bool → Bool
+    → Option (List ℕ) → Option (Option (List ℕ)) → Type 0
+AnsweredRace r answer from to old new before after =
+    AnsweredRuns (λ closed after. Races r closed from to before after) (λ fault. IfSome from (λ bytes. HasScriptFault bytes fault))
+    answer old new after
 
 -- the same where no run can be left unfinished
 abbrev pub AnsweredBy : (Option (List ℕ) → Type 0) → (ReplayFault → Type 0) → Result (Unit {0}) Stop → Bool → Bool
@@ -74,6 +90,37 @@ abbrev pub AnsweredCheck : Result (Unit {0}) Stop → Option (List ℕ) → Opti
 AnsweredCheck answer from to old new before after =
     AnsweredBy (Checks from to before) (λ fault. IfSome from (λ bytes. HasFault bytes fault)) answer old new after
 
+-- what the output holds is a front of what it held, and of an explanation of the trace that was read, or of its beginning
+pub record ExplainedShort (from to before after : Option (List ℕ)) : Type 0 where
+  pub sizes : Sizes
+  pub events : List Event
+  pub text : List ℕ
+  pub reads : ReadsTrace from to sizes events
+  pub explains : Beginning sizes events text ⊎ Explanation sizes events text
+  pub holds : HoldsFront before after text
+
+-- what was written where a trace was not explained to its end: nothing where it was not read, else a front
+abbrev pub ExplainedIn : ReplayFault → Option (List ℕ) → Option (List ℕ) → Option (List ℕ) → Option (List ℕ) → Type 0
+ExplainedIn BadHeader from to before after = Keeps before after
+ExplainedIn (BadLine n) from to before after = Keeps before after
+ExplainedIn Read from to before after = Keeps before after
+ExplainedIn Write from to before after = HoldsFront before after [] ⊎ ExplainedShort from to before after
+ExplainedIn Memory from to before after = HoldsFront before after [] ⊎ ExplainedShort from to before after
+
+-- where the output went with a buffer that was refused, nothing was read
+abbrev pub ExplainedAt : ReplayFault → Option (List ℕ) → Option (List ℕ) → Option (List ℕ) → Option (Option (List ℕ)) → Type 0
+ExplainedAt fault from to before None = (fault ≡ Memory) × Keeps from to
+ExplainedAt fault from to before (Some after) = ExplainedIn fault from to before after
+
+abbrev pub AnsweredExplain : Result (Unit {0}) Stop → Option (List ℕ) → Option (List ℕ) → Bool → Bool
+    → Option (List ℕ) → Option (Option (List ℕ)) → Type 0
+AnsweredExplain (Ok x) from to old new before after = (new ≡ old) × IfThere after (Explained from to before)
+AnsweredExplain (Err (stop.Replay fault)) from to old new before after =
+    ReaderAt fault old new × IfSome from (λ bytes. HasFault bytes fault) × ExplainedAt fault from to before after
+AnsweredExplain (Err stop.Unfinished) from to old new before after = ⊥
+AnsweredExplain (Err (stop.Usage error)) from to old new before after = ⊥
+AnsweredExplain (Err (stop.Work fault)) from to old new before after = ⊥
+
 abbrev pub AnsweredSchedule : Scheduling → Result (Unit {0}) Stop → Option (List ℕ) → Option (List ℕ) → Bool → Bool
     → Option (List ℕ) → Option (Option (List ℕ)) → Type 0
 AnsweredSchedule s answer from to old new before after =
@@ -85,7 +132,9 @@ abbrev pub Answered : Request → Result (Unit {0}) Stop → Option (List ℕ) �
 Answered request.Replay answer from to old new before after = AnsweredReplay answer from to old new before after
 Answered (request.Explore e) answer from to old new before after = AnsweredExplore e answer from to old new before after
 Answered request.Check answer from to old new before after = AnsweredCheck answer from to old new before after
+Answered request.Explain answer from to old new before after = AnsweredExplain answer from to old new before after
 Answered (request.Schedule s) answer from to old new before after = AnsweredSchedule s answer from to old new before after
+Answered (request.Race r) answer from to old new before after = AnsweredRace r answer from to old new before after
 Answered (request.Work words) answer from to old new before after =
     (new ≡ old) × Keeps from to × IfThere after (AnsweredWork words answer before)
 

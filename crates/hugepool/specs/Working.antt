@@ -9,8 +9,8 @@ use Rattle.hp_replay.specs.Writing.{Wrote}
 use Rattle.hp_replay.specs.declared.fault.ReplayFault.TheVariants.{Write}
 use Rattle.hugepool.specs.declared.program.Stop.{Stop}
 use Rattle.hugepool.specs.declared.program.Stop.TheVariants as stop
-use Rattle.hugepool.specs.declared.working.Carrier.{Carrier}
-use Rattle.hugepool.specs.declared.working.Carrier.TheVariants.{Core}
+use Rattle.hugepool.specs.declared.carrying.Carrier.{Carrier}
+use Rattle.hugepool.specs.declared.carrying.Carrier.TheVariants.{Core, Pool}
 use Rattle.hugepool.specs.declared.working.WorkFault.{WorkFault}
 use Rattle.hugepool.specs.declared.working.WorkFault.TheVariants.{NoWorkload, NoDriver, Client, Bad}
 use Rattle.hugepool.specs.declared.working.WorkWords.{WorkWords}
@@ -25,6 +25,7 @@ work_status Bad = 1
 -- the word for what carries a workload's calls
 abbrev pub carrier_name : Carrier → List ℕ
 carrier_name Core = codes "core"
+carrier_name Pool = codes "pool"
 
 -- the words name this workload, and this carries its calls
 abbrev pub IsAsked : WorkWords → Workload → Carrier → Type 0

@@ -1,4 +1,5 @@
 //! The words of the command line.
+use crate::racing::{Racing, race_command, race_words};
 use crate::working::{WorkWords, work_command, work_words};
 use clap::{Arg, ArgAction, ArgMatches, Command, Error};
 use hp_replay::{Chances, Exploration};
@@ -21,8 +22,12 @@ pub(crate) enum Request {
     Explore(Exploration),
     /// To read a trace, and count its events.
     Check,
+    /// To read a trace, and explain it.
+    Explain,
     /// To read a script, and write one run of it as a trace.
     Schedule(Scheduling),
+    /// To read a script, and race its tasks.
+    Race(Racing),
     /// To run a workload.
     Work(WorkWords),
 }
@@ -33,10 +38,12 @@ pub(crate) fn read_words<S: AsStr>(alloc: Global, words: &[S]) -> Result<Request
     Ok(match matches.subcommand() {
         Some(("explore", given)) => Request::Explore(exploration(given)),
         Some(("check", _)) => Request::Check,
+        Some(("explain", _)) => Request::Explain,
         Some(("schedule", given)) => Request::Schedule(Scheduling {
             seed: seed(given),
             chances: chances(given),
         }),
+        Some(("race", given)) => Request::Race(race_words(given)),
         Some(("work", given)) => Request::Work(work_words(alloc, given)?),
         _ => Request::Replay,
     })
@@ -61,6 +68,9 @@ fn chances(given: &ArgMatches) -> Chances {
         kill: given.get_one::<u32>("kill").unwrap_or(0),
     }
 }
+
+// What `--version` tells. It goes up where a form of text or a status changes.
+const VERSION: &str = "0.1.0";
 
 // What is told below the options.
 const TRACES: &str = "A trace is lines of text. The first is the pool:
@@ -92,12 +102,15 @@ fn command<'a>(alloc: Global) -> Result<Command<'a>, Error> {
     Ok(
         Command::new(alloc, "hugepool")
             .about("A pool of huge pages: Linux's hugetlbfs reservations, step by step")
+            .version(VERSION)
             .after_help(TRACES)
             .subcommand_required(true)
             .subcommand(replay(alloc))?
+            .subcommand(explain(alloc))?
             .subcommand(explore(alloc)?)?
             .subcommand(check(alloc))?
             .subcommand(schedule(alloc)?)?
+            .subcommand(race_command(alloc)?)?
             .subcommand(work_command(alloc)?)?,
     )
 }
@@ -115,6 +128,15 @@ fn check<'a>(alloc: Global) -> Command<'a> {
     Command::new(alloc, "check")
         .about("Reads a trace from standard input, and writes how many events it has")
         .override_usage("hugepool check < FILE")
+        .after_help(TRACES)
+}
+
+fn explain<'a>(alloc: Global) -> Command<'a> {
+    Command::new(alloc, "explain")
+        .about(
+            "Reads a trace from standard input, runs it, and writes a row of words for each event and then the state",
+        )
+        .override_usage("hugepool explain < FILE")
         .after_help(TRACES)
 }
 

@@ -31,7 +31,10 @@ fn explore_script<R: Source, W: Sink>(
 }
 
 /// What is answered once the lines are written. A flush that fails is a failed write.
-fn explored_answer(explored: Result<bool, ReplayFault>, flushed: io::Result<()>) -> Result<(), Stop>
+pub(crate) fn explored_answer(
+    explored: Result<bool, ReplayFault>,
+    flushed: io::Result<()>,
+) -> Result<(), Stop>
     ensures failed { OnErr flushed (result ≡ Err (Stop.Replay ReplayFault.Write)) }
     ensures fault { OnOk flushed (IfErr explored (λ fault. result ≡ Err (Stop.Replay fault))) }
     ensures finished { OnOk flushed (explored ≡ Ok true → result ≡ Ok tt) }

@@ -5,30 +5,43 @@
 //! tests. It knows nothing of pools.
 #![tactic(auto)]
 
+mod carrying;
 mod checking;
 mod command;
+mod explaining;
 mod exploring;
 mod program;
+mod racing;
 mod scheduling;
+mod words;
 mod working;
 
+use hp_reasons::Recalling;
 use hp_replay::Watched;
 use program::program;
+use std::io;
 use std::process::ExitCode;
-use std::{env, io};
+use words::{end_without, words};
 
 fn main(rt: HostRuntime) -> io::Result<ExitCode> {
-    let words: Vec<String> = env::args(&rt)?.collect(rt.alloc())?;
+    let words = match words(&rt) {
+        Ok(words) => words,
+        Err(why) => return Ok(ExitCode::from(end_without(why, &mut rt.stderr()))),
+    };
     let (status, _out) = program(
         &rt,
         rt.alloc(),
         words.as_slice(),
-        &mut Watched::new(rt.stdin()),
+        &mut Recalling::new(Watched::new(rt.stdin())),
         rt.stdout(),
         &mut rt.stderr(),
     );
     Ok(ExitCode::from(status))
 }
 
+#[cfg(test)]
+mod explaining_tests;
+#[cfg(test)]
+mod race_tests;
 #[cfg(test)]
 mod tests;

@@ -10,15 +10,19 @@ ghost use Rattle.hugepool.specs.Status.{status_of, status_at};
 
 use crate::checking::run_check;
 use crate::command::{Request, read_words};
+use crate::explaining::run_explain;
 use crate::exploring::run_explore;
+use crate::racing::run_race;
 use crate::scheduling::run_schedule;
 use crate::working::{WorkFault, run_work};
 use clap::error::ErrorKind;
+use hp_reasons::{Recalls, line_told};
 use hp_replay::{ReplayFault, Source, Watched, replay};
 use std::alloc::Global;
 use std::convert::AsStr;
 use std::io;
 use std::io::{BufWriter, Write};
+use std::sync::Wait;
 use std::thread::Threads;
 use thiserror::Error;
 
@@ -46,12 +50,22 @@ impl Stop {
             Stop::Work(fault) => fault.status(),
         }
     }
+
+    // The number of the line that isn't allowed, if it is one.
+    fn line(&self) -> Option<u64> {
+        match self {
+            Stop::Replay(ReplayFault::BadHeader) => Some(1),
+            Stop::Replay(ReplayFault::BadLine(number)) => Some(u64::from(*number)),
+            _ => None,
+        }
+    }
 }
 
 /// Runs the program on these words and streams, and tells its status: 0 where it did what was asked, 1
-/// after a fault, 2 where the words ask for nothing. A fault is told in one line on `faults`. The output
-/// is handed back, unless it went with a buffer for which there was no memory.
-pub(crate) fn program<H: Threads + Sync, S: AsStr, R: Source, W: Write + Drop>(
+/// after a fault, 2 where the words ask for nothing. A fault is told in one line on `faults`, and behind that of a line what is
+/// wrong with it, where the reader recalls the line. The output is handed back, unless it went with a buffer for which there was
+/// no memory.
+pub(crate) fn program<H: Threads + Wait + Sync, S: AsStr, R: Source + Recalls, W: Write + Drop>(
     rt: &H,
     alloc: Global,
     words: &[S],
@@ -63,23 +77,35 @@ pub(crate) fn program<H: Threads + Sync, S: AsStr, R: Source, W: Write + Drop>(
         (W.contents out) (option_map W.contents result.1) }
 {
     let (answer, out) = run(rt, alloc, words, reader, out);
-    (end(answer, faults), out)
+    (end(answer, &*reader, faults), out)
 }
 
 // The status of an answer, whose fault is told. Whether it can be told changes nothing.
-fn end(answer: Result<(), Stop>, faults: &mut impl Write) -> u8
+fn end<R: Recalls>(answer: Result<(), Stop>, reader: &R, faults: &mut impl Write) -> u8
     ensures { result ≡ status_at answer }
 {
     match answer {
         Ok(()) => 0,
         Err(stop) => {
-            let _ = write!(faults, "{stop}");
+            let _ = tell(&stop, reader, faults);
             stop.status()
         }
     }
 }
 
-fn run<H: Threads + Sync, S: AsStr, R: Source, W: Write + Drop>(
+// Tells a fault, and what is wrong with the line that isn't allowed.
+fn tell<R: Recalls>(stop: &Stop, reader: &R, faults: &mut impl Write) -> io::Result<()> {
+    write!(faults, "{stop}")?;
+    let Some(number) = stop.line() else {
+        return Ok(());
+    };
+    match line_told(reader, number) {
+        Some(told) => writeln!(faults, "hugepool: {told}"),
+        None => Ok(()),
+    }
+}
+
+fn run<H: Threads + Wait + Sync, S: AsStr, R: Source, W: Write + Drop>(
     rt: &H,
     alloc: Global,
     words: &[S],
@@ -94,7 +120,7 @@ fn run<H: Threads + Sync, S: AsStr, R: Source, W: Write + Drop>(
 }
 
 // Does what the words were read as.
-fn answer<H: Threads + Sync, R: Source, W: Write + Drop>(
+fn answer<H: Threads + Wait + Sync, R: Source, W: Write + Drop>(
     rt: &H,
     alloc: Global,
     asked: Result<Request, clap::Error>,
@@ -116,8 +142,10 @@ fn answer<H: Threads + Sync, R: Source, W: Write + Drop>(
         }
         Ok(Request::Explore(exploration)) => run_explore(rt, alloc, exploration, reader, out),
         Ok(Request::Check) => run_check(alloc, reader, out),
+        Ok(Request::Explain) => run_explain(alloc, reader, out),
         Ok(Request::Schedule(scheduling)) => run_schedule(alloc, scheduling, reader, out),
-        Ok(Request::Work(words)) => run_work(alloc, words, out),
+        Ok(Request::Race(racing)) => run_race(rt, alloc, racing, reader, out),
+        Ok(Request::Work(words)) => run_work(rt, alloc, words, out),
         Err(error) => match error.kind() {
             ErrorKind::DisplayHelp | ErrorKind::DisplayVersion => {
                 let written = write_help(&error, &mut out);

@@ -4,11 +4,12 @@ use hp_replay::Watched;
 use std::alloc::Global;
 use std::io;
 use std::io::{ErrorKind, Read, Write};
+use std::sync::Wait;
 use std::test::Fail;
 use std::thread::Threads;
 
 /// The status, the output and the fault lines.
-fn told<R: Threads + Sync>(
+pub(crate) fn told<R: Threads + Wait + Sync>(
     rt: &R,
     alloc: Global,
     words: &[&str],
@@ -45,11 +46,8 @@ fn faults_and_statuses(rt: HostRuntime) {
     );
 }
 
-/// What clap tells below the usage of each help.
+/// What clap tells below the options of each help.
 const TRACES: &str = "
-Options:
-  -h, --help  Print help
-
 A trace is lines of text. The first is the pool:
   pool FRAMES FILES SLOTS TASKS  1..=4096 frames, 1..=16 files, 1..=64 slots, 1..=64 tasks
   pool FRAMES FILES SLOTS TASKS QUOTA
@@ -73,11 +71,17 @@ Usage: hugepool <COMMAND>
 
 Commands:
   replay    Reads a trace from standard input, runs it, and writes a line for each outcome and then the state
+  explain   Reads a trace from standard input, runs it, and writes a row of words for each event and then the state
   explore   Reads a script from standard input, and writes a line for each of its runs
   check     Reads a trace from standard input, and writes how many events it has
   schedule  Reads a script from standard input, and writes its run 0 as a trace
+  race      Reads a script from standard input, races its tasks in threads, and writes a line for each race
   work      Runs a workload, and tells whether each answer and the numbers at the end are those of its table
   help      Print this message or the help of the given subcommand(s)
+
+Options:
+  -h, --help     Print help
+  -V, --version  Print version
 ";
 
 const EXPLORE_HELP: &str =
@@ -105,6 +109,9 @@ const REPLAY_HELP: &str =
     "Reads a trace from standard input, runs it, and writes a line for each outcome and then the state
 
 Usage: hugepool replay < FILE
+
+Options:
+  -h, --help  Print help
 ";
 
 /// Whether a text is these two, one after the other.
@@ -119,6 +126,16 @@ fn help_is_told(rt: HostRuntime) {
         assert_eq!(rt; status, 0);
         assert!(rt; faults.is_empty());
         assert!(rt; is_both(out.as_slice(), HELP, TRACES));
+    }
+}
+
+#[test]
+fn the_version_is_told(rt: HostRuntime) {
+    for word in ["--version", "-V"] {
+        let (status, out, faults) = told(&rt, rt.alloc(), &["hugepool", word], "");
+        assert_eq!(rt; status, 0);
+        assert!(rt; faults.is_empty());
+        assert_eq!(rt; out.as_slice(), b"hugepool 0.1.0\n".as_slice());
     }
 }
 
@@ -201,7 +218,7 @@ fn a_trace_is_checked(rt: HostRuntime) {
 
 #[test]
 fn bad_lines_of_scripts_are_told(rt: HostRuntime) {
-    for word in ["explore", "schedule"] {
+    for word in ["explore", "schedule", "race"] {
         let (status, out, faults) = told(
             &rt,
             rt.alloc(),
@@ -242,7 +259,11 @@ fn numbers_out_of_range(rt: HostRuntime) {
 }
 
 /// The status and the fault lines of words that ask for nothing; nothing is written then.
-fn refused<R: Threads + Sync>(rt: &R, alloc: Global, words: &[&str]) -> Option<(u8, Vec<u8>)> {
+fn refused<R: Threads + Wait + Sync>(
+    rt: &R,
+    alloc: Global,
+    words: &[&str],
+) -> Option<(u8, Vec<u8>)> {
     let (status, out, faults) = told(rt, alloc, words, "pool 1 1 1 1\n");
     out.is_empty().then_some((status, faults))
 }
@@ -250,7 +271,7 @@ fn refused<R: Threads + Sync>(rt: &R, alloc: Global, words: &[&str]) -> Option<(
 #[test]
 fn no_word(rt: HostRuntime) {
     let text = "error: 'hugepool' requires a subcommand but one was not provided
-  [subcommands: replay, explore, check, schedule, work, help]
+  [subcommands: replay, explain, explore, check, schedule, race, work, help]
 
 Usage: hugepool <COMMAND>
 
@@ -282,7 +303,7 @@ For more information, try '--help'.
 
 #[test]
 fn a_word_that_is_nearly_right(rt: HostRuntime) {
-    let text = "error: unrecognized subcommand 'play'
+    let text = "error: unrecognized subcommand 'repay'
 
   tip: a similar subcommand exists: 'replay'
 
@@ -290,7 +311,7 @@ Usage: hugepool <COMMAND>
 
 For more information, try '--help'.
 ";
-    let (status, faults) = refused(&rt, rt.alloc(), &["hugepool", "play"]).unwrap_or((
+    let (status, faults) = refused(&rt, rt.alloc(), &["hugepool", "repay"]).unwrap_or((
         0,
         Vec::new(rt.alloc()),
     ));
@@ -362,7 +383,7 @@ impl Write for Output {
 }
 
 /// The status, and the fault lines, where the output is such a one, and what that takes.
-fn told_to<R: Threads + Sync>(
+fn told_to<R: Threads + Wait + Sync>(
     rt: &R,
     alloc: Global,
     words: &[&str],
@@ -514,7 +535,11 @@ impl Read for Input<'_> {
 }
 
 /// The status where the input fails behind these bytes, with what is written and the fault lines.
-fn told_of<R: Threads + Sync>(rt: &R, alloc: Global, bytes: &[u8]) -> (u8, Vec<u8>, Vec<u8>) {
+fn told_of<R: Threads + Wait + Sync>(
+    rt: &R,
+    alloc: Global,
+    bytes: &[u8],
+) -> (u8, Vec<u8>, Vec<u8>) {
     let mut out = Vec::new(alloc);
     let mut faults = Vec::new(alloc);
     let words = ["hugepool", "replay"];
@@ -566,7 +591,11 @@ fn a_fault_that_is_not_told_is_one(rt: HostRuntime) {
 }
 
 /// What a `work` of these words answers: its status, what is written, and the fault line. Nothing is read.
-fn worked<R: Threads + Sync>(rt: &R, alloc: Global, words: &[&str]) -> (u8, Vec<u8>, Vec<u8>) {
+fn worked<R: Threads + Wait + Sync>(
+    rt: &R,
+    alloc: Global,
+    words: &[&str],
+) -> (u8, Vec<u8>, Vec<u8>) {
     told(rt, alloc, words, "no trace")
 }
 
@@ -583,10 +612,12 @@ fn work_tells_of_each_workload(rt: HostRuntime) -> Result<(), Fail> {
         assert_eq!(rt; status, 0);
         assert_eq!(rt; out.as_slice(), text.as_bytes());
         assert!(rt; faults.is_empty());
-        let words = ["hugepool", "work", name, "--on", "core"];
-        let (status, out, _faults) = worked(&rt, rt.alloc(), &words);
-        assert_eq!(rt; status, 0);
-        assert_eq!(rt; out.as_slice(), text.as_bytes());
+        for driver in ["core", "pool"] {
+            let words = ["hugepool", "work", name, "--on", driver];
+            let (status, out, _faults) = worked(&rt, rt.alloc(), &words);
+            assert_eq!(rt; status, 0);
+            assert_eq!(rt; out.as_slice(), text.as_bytes());
+        }
     }
     Ok(())
 }
@@ -611,10 +642,6 @@ fn work_refuses_other_names(rt: HostRuntime) {
     assert_eq!(rt; status, 2);
     assert!(rt; out.is_empty());
     assert_eq!(rt; faults.as_slice(), b"hugepool: no driver moon\n".as_slice());
-    let words = ["hugepool", "work", "readback", "--on", "pool"];
-    let (status, _out, faults) = worked(&rt, rt.alloc(), &words);
-    assert_eq!(rt; status, 2);
-    assert_eq!(rt; faults.as_slice(), b"hugepool: no driver pool\n".as_slice());
 }
 
 #[test]

@@ -6,17 +6,18 @@ ghost use Rattle.hp_client.specs.Tables.{name_of};
 ghost use Rattle.hp_client.specs.declared.table.Workload.{Workload};
 ghost use Rattle.hp_replay.specs.Writing.{Wrote};
 ghost use Rattle.hugepool.specs.Requests.{IfThere};
-ghost use Rattle.hugepool.specs.Working.{work_status, carrier_name, report_line, IsAsked, IsUnknown, IsRun};
+ghost use Rattle.hugepool.specs.Working.{work_status, carrier_name, report_line, IsAsked, IsUnknown};
 ghost use Rattle.hugepool.specs.Working.{Reports, Unreported, AnsweredWork};
 
+use crate::carrying::{Carrier, run_on};
 use crate::program::{Stop, flush_out, flushed_answer, stopped};
 use clap::{Arg, ArgMatches, Command};
-use hp_client::{
-    ClientFault, CoreDriver, Report, Workload, config_of, run_workload, workload_named,
-};
+use hp_client::{ClientFault, Report, Workload, workload_named};
 use hp_replay::{ReplayFault, Watched, write_text};
 use std::alloc::{AllocError, Global};
 use std::io::Write;
+use std::sync::Wait;
+use std::thread::Threads;
 use thiserror::Error;
 
 /// The words of a `work`: the workload's name and the driver's.
@@ -92,22 +93,16 @@ pub(crate) fn work_words(alloc: Global, given: &ArgMatches<'_>) -> Result<WorkWo
     })
 }
 
-/// What carries a workload's calls.
-#[derive(Clone, Copy, Debug, PartialEq, Eq)]
-pub(crate) enum Carrier {
-    /// A driver that has a core to itself.
-    Core,
-}
-
 // The one of that name.
 fn carrier_named(name: &str) -> Option<Carrier>
     ensures found { IfSome result (λ carrier. carrier_name carrier ≡ name.now) }
     ensures none { IfNone result ((carrier : _) → carrier_name carrier ≢ name.now) }
 {
-    if name == "core" {
-        return Some(Carrier::Core);
+    match name {
+        "core" => Some(Carrier::Core),
+        "pool" => Some(Carrier::Pool),
+        _ => None,
     }
-    None
 }
 
 // What the words ask for: the workload is looked up first, and then what carries its calls.
@@ -124,21 +119,6 @@ fn asked(words: WorkWords) -> Result<(Workload, Carrier), WorkFault>
     Ok((workload, carrier))
 }
 
-fn run_on_core(alloc: Global, workload: Workload) -> Result<Report, ClientFault>
-    ensures { IfOk result (λ report. IsRun workload report) }
-{
-    let mut driver = CoreDriver::open(alloc, config_of(workload))?;
-    run_workload(alloc, workload, &mut driver)
-}
-
-fn run_on(alloc: Global, carrier: Carrier, workload: Workload) -> Result<Report, ClientFault>
-    ensures { IfOk result (λ report. IsRun workload report) }
-{
-    match carrier {
-        Carrier::Core => run_on_core(alloc, workload),
-    }
-}
-
 // The line that tells what came of a workload.
 fn report_line(alloc: Global, workload: Workload, report: Report) -> Result<String, AllocError>
     ensures { IfOk result (λ line. string_bytes line ≡ report_line (name_of workload) report) }
@@ -153,12 +133,16 @@ fn report_line(alloc: Global, workload: Workload, report: Report) -> Result<Stri
 }
 
 // Runs what the words ask for, and lays its line out. Nothing is written yet.
-fn reported(alloc: Global, words: WorkWords) -> Result<(Report, String), WorkFault>
+fn reported<H: Threads + Wait + Sync>(
+    rt: &H,
+    alloc: Global,
+    words: WorkWords,
+) -> Result<(Report, String), WorkFault>
     ensures ok { IfOk result (λ told. Reports words told.0 (string_bytes told.1)) }
     ensures err { IfErr result (λ fault. Unreported words fault) }
 {
     let (workload, carrier) = asked(words)?;
-    let report = run_on(alloc, carrier, workload).map_err(WorkFault::Client)?;
+    let report = run_on(rt, alloc, carrier, workload).map_err(WorkFault::Client)?;
     match report_line(alloc, workload, report) {
         Ok(line) => Ok((report, line)),
         Err(_) => Err(WorkFault::Client(ClientFault::Memory)),
@@ -192,14 +176,15 @@ fn write_line<W: Write + Drop>(line: &str, out: W) -> (Result<(), ReplayFault>, 
 }
 
 /// Runs a workload, and writes a line that tells what came of it.
-pub(crate) fn run_work<W: Write + Drop>(
+pub(crate) fn run_work<H: Threads + Wait + Sync, W: Write + Drop>(
+    rt: &H,
     alloc: Global,
     words: WorkWords,
     out: W,
 ) -> (Result<(), Stop>, Option<W>)
     ensures { IfThere (option_map W.contents result.1) (AnsweredWork words result.0 (W.contents out)) }
 {
-    match reported(alloc, words) {
+    match reported(rt, alloc, words) {
         Ok((report, line)) => {
             let (written, out) = write_line(line.as_str(), out);
             (told(report, written), Some(out))

@@ -1,4 +1,4 @@
-use Rattle.std.proofs.Common.{◌≡◌, ℕ, ap, sym, ◌∙◌, arith}
+use Rattle.std.proofs.Common.{◌≡◌, ap, sym, ◌∙◌, arith}
 use Rattle.hp_core.specs.State.{as_state}
 use Rattle.hp_laws.specs.StepsLeft.{goes_on}
 use Rattle.hp_client.proofs.Standing.{no_step, core_nearer, unanswered}

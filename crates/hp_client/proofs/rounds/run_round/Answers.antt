@@ -1,6 +1,6 @@
-use Rattle.std.proofs.Common.{◌≡◌, List, sym, subst, ◌∙◌}
+use Rattle.std.proofs.Common.{List, sym, subst, ◌∙◌}
 use Rattle.std.proofs.lemmas.Result.{err_from_is_err_and}
-use Rattle.hp_client.specs.Rounds.{asked_of, AreAll, AreInFlight, AreOfDistinctTasks}
+use Rattle.hp_client.specs.Rounds.{AreAll, AreInFlight, AreOfDistinctTasks}
 use Rattle.hp_client.specs.declared.rounds.Asked.{Asked}
 use Rattle.hp_client.proofs.Beginning.{asked_all, asked_apart, asked_fly}
 use Rattle.hp_core.proofs.InFlight.{none_counts}

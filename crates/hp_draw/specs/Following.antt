@@ -1,0 +1,138 @@
+-- What an event changes of what is drawn.
+use Rattle.std.specs.Prelude.{ℕ, ◌+◌, ◌-◌, ◌==◌, ◌&&◌, nat_le, Bool, true, false, not, Option, Some, None, if◌then◌else◌}
+use Rattle.hp_base.specs.declared.answer.Answer.{Answer}
+use Rattle.hp_base.specs.declared.event.Event.{Event}
+use Rattle.hp_base.specs.declared.event.Event.TheVariants.{Begin, Step, Kill, Resize}
+use Rattle.hp_machine.specs.declared.outcome.Outcome.{Outcome}
+use Rattle.hp_machine.specs.declared.outcome.Outcome.TheVariants as outcome
+use Rattle.hp_machine.specs.declared.phase.Phase.{Phase}
+use Rattle.hp_core.specs.Readers.{free_of, resv_of, owed_of, phase_of, all_reserved_of, all_pages_of}
+use Rattle.hp_core.specs.State.{CoreState}
+use Rattle.hp_draw.specs.declared.following.Standing.{Standing}
+use Rattle.hp_draw.specs.declared.following.Stay.{Stay}
+use Rattle.hp_draw.specs.declared.following.Mark.{Mark}
+use Rattle.hp_draw.specs.declared.following.Numbers.{Numbers}
+use Rattle.hp_draw.specs.declared.following.Next.{Next}
+use Rattle.hp_draw.specs.declared.following.Next.TheVariants as next
+use Rattle.hp_draw.specs.declared.following.Sign.{Sign}
+use Rattle.hp_draw.specs.declared.following.Sign.TheVariants as sign
+
+-- the column of a task: its number, or 0 where the pool has no such task
+abbrev pub column_of_task : (tasks task : ℕ) → ℕ
+column_of_task tasks task = if nat_le 1 task && nat_le task tasks then task else 0
+
+-- the column of an event: that of its task; a resize is of no task
+abbrev pub column_of : (tasks : ℕ) → Event → ℕ
+column_of tasks (Begin task op) = column_of_task tasks task
+column_of tasks (Step task granted) = column_of_task tasks task
+column_of tasks (Kill task) = column_of_task tasks task
+column_of tasks (Resize frames) = 0
+
+-- the phase in which the call of the task in that column stands
+abbrev pub phase_in : CoreState → (column : ℕ) → Option Phase
+phase_in core column = if column == 0 then None else phase_of core column
+
+-- where a call stands that begins
+abbrev pub begun : (at : ℕ) → Event → Option Phase → Option Standing
+begun at (Begin task op) (Some phase) = Some (record { op = op; begun = at; since = at; phase = phase; holder = None })
+begun at (Begin task op) None = None
+begun at (Step task granted) phase = None
+begun at (Kill task) phase = None
+begun at (Resize frames) phase = None
+
+-- where a call stands that moved
+abbrev pub moved : Option Standing → (at : ℕ) → Phase → Option Standing
+moved (Some s) at phase = Some (record { op = s.op; begun = s.begun; since = at; phase = phase; holder = None })
+moved None at phase = None
+
+-- whether that task is the holder
+abbrev pub is_holder : Option ℕ → (task : ℕ) → Bool
+is_holder (Some holder) task = holder == task
+is_holder None task = false
+
+-- where a call stands that was blocked; where the same holder blocks it again, it stands as before
+abbrev pub held_up : Standing → (at holder : ℕ) → Standing
+held_up s at holder =
+    if is_holder s.holder holder then s
+    else record { op = s.op; begun = s.begun; since = at; phase = s.phase; holder = Some holder }
+
+abbrev pub blocked : Option Standing → (at holder : ℕ) → Option Standing
+blocked (Some s) at holder = Some (held_up s at holder)
+blocked None at holder = None
+
+-- where a task's call stands after an event of it, if one is in flight then
+abbrev pub standing_after : Option Standing → (at : ℕ) → Event → Outcome → Option Phase → Option Standing
+standing_after before at event outcome.Begun phase = begun at event phase
+standing_after before at event (outcome.Moved to) phase = moved before at to
+standing_after before at event (outcome.Blocked holder) phase = blocked before at holder
+standing_after before at event (outcome.Ended answer) phase = None
+standing_after before at event outcome.Marked phase = before
+standing_after before at event (outcome.Resized frames) phase = before
+standing_after before at event (outcome.Refused why) phase = before
+
+-- what comes behind a stay that such an outcome ends
+abbrev pub next_of : Outcome → Next
+next_of outcome.Begun = next.GoesOn
+next_of (outcome.Moved to) = next.GoesOn
+next_of (outcome.Blocked holder) = next.GoesOn
+next_of (outcome.Ended answer) = next.Ended answer
+next_of outcome.Marked = next.GoesOn
+next_of (outcome.Resized frames) = next.GoesOn
+next_of (outcome.Refused why) = next.GoesOn
+
+-- whether the call is over, or stands since another moment
+abbrev pub has_moved : Standing → Option Standing → Bool
+has_moved s None = true
+has_moved s (Some other) = not (other.since == s.since)
+
+-- the stay of a call that stood so, if it doesn't stand so after the event
+abbrev pub stay_of : (column at : ℕ) → Standing → (after : Option Standing) → Outcome → Option Stay
+stay_of column at s after told =
+    if has_moved s after then Some (record { column = column; standing = s; until = at; next = next_of told }) else None
+
+-- the stay that an event ends, if it ends one
+abbrev pub stay_left : (column at : ℕ) → (before after : Option Standing) → Outcome → Option Stay
+stay_left column at None after told = None
+stay_left column at (Some s) after told = stay_of column at s after told
+
+-- the stay of a call that is in flight at the end
+abbrev pub stay_in : (column at : ℕ) → Option Standing → Option Stay
+stay_in column at None = None
+stay_in column at (Some s) = Some (record { column = column; standing = s; until = at; next = next.InFlight })
+
+-- what is marked of an event that wasn't refused: a denial, a kill, else what its outcome has
+abbrev pub sign_for : Event → Option Sign → Option Sign
+sign_for (Begin task op) other = other
+sign_for (Step task true) other = other
+sign_for (Step task false) other = Some sign.Denied
+sign_for (Kill task) other = Some sign.Killed
+sign_for (Resize frames) other = other
+
+-- what is marked of an event, if anything
+abbrev pub sign_of : Event → Outcome → Option Sign
+sign_of event outcome.Begun = sign_for event None
+sign_of event (outcome.Moved to) = sign_for event None
+sign_of event (outcome.Blocked holder) = sign_for event None
+sign_of event (outcome.Ended answer) = sign_for event None
+sign_of event outcome.Marked = sign_for event None
+sign_of event (outcome.Resized frames) = sign_for event (Some (sign.Resized frames))
+sign_of event (outcome.Refused why) = Some (sign.Refused why)
+
+abbrev pub mark_with : (column at : ℕ) → Option Sign → Option Mark
+mark_with column at None = None
+mark_with column at (Some s) = Some (record { column = column; at = at; sign = s })
+
+-- the mark of an event, if it has one
+abbrev pub mark_of : (column at : ℕ) → Event → Outcome → Option Mark
+mark_of column at event told = mark_with column at (sign_of event told)
+
+-- the counts of a core; reserved indices without a page are counted, and not made of the others
+abbrev pub numbers_of : CoreState → (at : ℕ) → Numbers
+numbers_of core at =
+    record {
+      at = at;
+      free = free_of core;
+      resv = resv_of core;
+      bare = all_reserved_of core - all_pages_of core;
+      owed = owed_of core;
+    }

@@ -1,0 +1,10 @@
+pub mod Following
+pub mod Sketches
+pub mod Layouts
+pub mod Shapes
+pub mod Lanes
+pub mod Marks
+pub mod Curves
+pub mod Frames
+pub mod Pictures
+pub mod Drawing

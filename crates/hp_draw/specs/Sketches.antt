@@ -1,0 +1,102 @@
+-- What is to be drawn of a run.
+use Rattle.std.specs.Prelude.{◌≡◌, ℕ, zero, suc, ◌+◌, List, [], ◌∷◌, ◌++◌, length, map, Option, Some, None, get_or, replicate, slice_set}
+use Rattle.hp_base.specs.Text.{Sizes, sizes}
+use Rattle.hp_base.specs.declared.config.Config.{Config}
+use Rattle.hp_base.specs.declared.event.Event.{Event}
+use Rattle.hp_core.specs.Readers.{config_of}
+use Rattle.hp_core.specs.Runs.{Row, IsOpening}
+use Rattle.hp_core.specs.State.{CoreState}
+use Rattle.hp_machine.specs.declared.outcome.Outcome.{Outcome}
+use Rattle.hp_draw.specs.Following.{column_of, phase_in, standing_after, stay_left, stay_in, mark_of, numbers_of}
+use Rattle.hp_draw.specs.declared.following.Standing.{Standing}
+use Rattle.hp_draw.specs.declared.following.Stay.{Stay}
+use Rattle.hp_draw.specs.declared.following.Mark.{Mark}
+use Rattle.hp_draw.specs.declared.following.Numbers.{Numbers}
+use Rattle.hp_draw.specs.declared.sketch.Sketch.{Sketch}
+
+-- an event, what came of it, and the core that it led to
+pub record Happening : Type 0 where
+  pub event : Event
+  pub told : Outcome
+  pub core : CoreState
+
+abbrev pub events_of : List Happening → List Event
+events_of list = map (λ h. h.event) list
+
+-- one after the other they are rows of the machine, and lead from old to new
+abbrev pub Happens : CoreState → List Happening → CoreState → Type 0
+Happens old [] new = new ≡ old
+Happens old (h ∷ more) new = Row old h.event h.told h.core × Happens h.core more new
+
+-- where the call of each column stands, the stays that ended, the marks, and the counts behind each event
+pub record Drawn : Type 0 where
+  pub standings : List (Option Standing)
+  pub stays : List Stay
+  pub marks : List Mark
+  pub numbers : List Numbers
+
+abbrev pub seen : Sketch → Drawn
+seen s = record { standings = s.standings.items; stays = s.stays.items; marks = s.marks.items; numbers = s.numbers.items }
+
+abbrev pub listed : {A : Type 0} → Option A → List A
+listed None = []
+listed (Some x) = x ∷ []
+
+-- a pool of so many tasks of which nothing was seen
+abbrev pub nothing_drawn : (tasks : ℕ) → Drawn
+nothing_drawn tasks = record { standings = replicate (tasks + 1) None; stays = []; marks = []; numbers = [] }
+
+-- what is added by an event of that column, which led from one standing to another
+abbrev pub added : (at column : ℕ) → (before now : Option Standing) → Drawn → Happening → Drawn
+added at column before now d h =
+    record {
+      standings = slice_set d.standings column now;
+      stays = d.stays ++ listed (stay_left column at before now h.told);
+      marks = d.marks ++ listed (mark_of column at h.event h.told);
+      numbers = d.numbers ++ (numbers_of h.core at ∷ []);
+    }
+
+abbrev pub after_in : (at column : ℕ) → (before : Option Standing) → Drawn → Happening → Drawn
+after_in at column before d h =
+    added at column before (standing_after before at h.event h.told (phase_in h.core column)) d h
+
+-- what is drawn once the event of that moment has happened
+unfoldable pub after : (at : ℕ) → Drawn → Happening → Drawn
+after at d h =
+    after_in at (column_of (config_of h.core).tasks h.event)
+    (get_or d.standings (column_of (config_of h.core).tasks h.event) None) d h
+
+-- once all of them have, of which the first is that moment's
+unfoldable pub after_all : (at : ℕ) → Drawn → List Happening → Drawn
+after_all at d [] = d
+after_all at d (h ∷ more) = after_all (suc at) (after at d h) more
+
+-- the stays of the calls that are in flight at the end, of the first n columns
+unfoldable pub stays_in : (at : ℕ) → List (Option Standing) → (n : ℕ) → List Stay
+stays_in at standings zero = []
+stays_in at standings (suc n) = stays_in at standings n ++ listed (stay_in n at (get_or standings n None))
+
+abbrev pub with_stays_in : (at : ℕ) → Drawn → Drawn
+with_stays_in at d =
+    record {
+      standings = d.standings;
+      stays = d.stays ++ stays_in at d.standings (length d.standings);
+      marks = d.marks;
+      numbers = d.numbers;
+    }
+
+-- what is drawn of a whole run
+abbrev pub drawn_of : (tasks : ℕ) → List Happening → Drawn
+drawn_of tasks happenings = with_stays_in (length happenings) (after_all 0 (nothing_drawn tasks) happenings)
+
+-- this is what is to be drawn of a run of these events from the opening state of a pool of these sizes
+pub record IsDrawn (s : Sizes) (events : List Event) (d : Drawn) : Type 0 where
+  pub config : Config
+  pub sizes_are : sizes config ≡ s
+  pub first : CoreState
+  pub opening : IsOpening config first
+  pub happenings : List Happening
+  pub are_events : events_of happenings ≡ events
+  pub new : CoreState
+  pub happens : Happens first happenings new
+  pub is : d ≡ drawn_of s.tasks happenings

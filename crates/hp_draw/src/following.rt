@@ -1,0 +1,327 @@
+//! What an event changes of what is drawn.
+ghost use Rattle.std.specs.Prelude.{◌≡◌, ◌≤◌, ◌++◌, Bool, OnOk};
+ghost use Rattle.hp_core.specs.Readers.{config_of};
+ghost use Rattle.hp_draw.specs.Following.{begun, blocked, column_of, column_of_task, has_moved, held_up, is_holder, mark_of, moved, next_of};
+ghost use Rattle.hp_draw.specs.Following.{numbers_of, phase_in, sign_of, standing_after, stay_in, stay_left, stay_of};
+ghost use Rattle.hp_draw.specs.Sketches.{listed};
+
+use hp_base::{Answer, Event, File, Index, Op, Task, Vpn};
+use hp_core::{Core, Outcome, Phase, Refusal};
+use std::alloc::AllocError;
+
+/// Where a call stands.
+#[derive(Clone, Copy)]
+pub(crate) struct Standing {
+    pub(crate) op: Op,
+    /// The moment at which the call began.
+    pub(crate) begun: u32,
+    /// The moment since which it stands so.
+    pub(crate) since: u32,
+    pub(crate) phase: Phase,
+    /// Who blocked it last, since it stands there.
+    pub(crate) holder: Option<Task>,
+}
+
+/// What comes behind a stay.
+#[derive(Clone, Copy)]
+pub(crate) enum Next {
+    /// Another stay of the same call.
+    GoesOn,
+    /// The end of the call.
+    Ended(Answer),
+    /// The end of the trace.
+    InFlight,
+}
+
+/// A stay of a call in a phase.
+#[derive(Clone, Copy)]
+pub(crate) struct Stay {
+    pub(crate) column: usize,
+    pub(crate) standing: Standing,
+    /// The moment that ends it.
+    pub(crate) until: u32,
+    pub(crate) next: Next,
+}
+
+/// What is marked.
+#[derive(Clone, Copy)]
+pub(crate) enum Sign {
+    Denied,
+    Killed,
+    Resized(u32),
+    Refused(Refusal),
+}
+
+/// A mark at a moment, in the lane of a task or in that of what is of none.
+#[derive(Clone, Copy)]
+pub(crate) struct Mark {
+    pub(crate) column: usize,
+    pub(crate) at: u32,
+    pub(crate) sign: Sign,
+}
+
+/// The counts behind an event.
+#[derive(Clone, Copy)]
+pub(crate) struct Numbers {
+    pub(crate) at: u32,
+    /// Free frames.
+    pub(crate) free: u32,
+    /// The reserve count.
+    pub(crate) resv: u32,
+    /// Reserved indices without a page.
+    pub(crate) bare: u32,
+    /// What calls in flight owe to the reserve count.
+    pub(crate) owed: i64,
+}
+
+/// The column of a task: its number, or 0 where the pool has no such task.
+fn column_of_task(tasks: u32, task: Task) -> u32
+    ensures is { result ≡ column_of_task tasks task }
+    ensures within { result ≤ tasks }
+{
+    let number = task.number();
+    if 1 <= number && number <= tasks {
+        number
+    } else {
+        0
+    }
+}
+
+/// The column of an event: that of its task. A resize is of no task.
+pub(crate) fn column_of(tasks: u32, event: &Event) -> u32
+    ensures is { result ≡ column_of tasks event.now }
+    ensures within { result ≤ tasks }
+{
+    match event {
+        Event::Begin(task, _op) => column_of_task(tasks, *task),
+        Event::Step(task, _granted) => column_of_task(tasks, *task),
+        Event::Kill(task) => column_of_task(tasks, *task),
+        Event::Resize(_frames) => 0,
+    }
+}
+
+/// The phase in which the call of the task in that column stands.
+pub(crate) fn phase_in(core: &Core, column: u32) -> Option<Phase>
+    requires { column ≤ (config_of core.now).tasks }
+    ensures { result ≡ phase_in core.now column }
+{
+    if column == 0 {
+        return None;
+    }
+    core.phase(Task::new(column))
+}
+
+/// Where a call stands that begins.
+fn begun(at: u32, event: &Event, phase: Option<Phase>) -> Option<Standing>
+    ensures { result ≡ begun at event.now phase }
+{
+    match (event, phase) {
+        (Event::Begin(_task, op), Some(phase)) => Some(Standing {
+            op: *op,
+            begun: at,
+            since: at,
+            phase,
+            holder: None,
+        }),
+        _ => None,
+    }
+}
+
+/// Where a call stands that moved.
+fn moved(before: &Option<Standing>, at: u32, phase: Phase) -> Option<Standing>
+    ensures { result ≡ moved before.now at phase }
+{
+    match before {
+        Some(standing) => Some(Standing {
+            since: at,
+            phase,
+            holder: None,
+            ..*standing
+        }),
+        None => None,
+    }
+}
+
+/// Whether that task is the holder.
+fn is_holder(holder: Option<Task>, task: Task) -> bool
+    ensures { result ≡ is_holder holder task }
+{
+    match holder {
+        Some(holder) => holder == task,
+        None => false,
+    }
+}
+
+/// Where a call stands that was blocked. Where the same holder blocks it again, it stands as before.
+fn held_up(standing: Standing, at: u32, holder: Task) -> Standing
+    ensures { result ≡ held_up standing at holder }
+{
+    if is_holder(standing.holder, holder) {
+        return standing;
+    }
+    Standing {
+        since: at,
+        holder: Some(holder),
+        ..standing
+    }
+}
+
+/// The same, if one is in flight.
+fn blocked(before: &Option<Standing>, at: u32, holder: Task) -> Option<Standing>
+    ensures { result ≡ blocked before.now at holder }
+{
+    match before {
+        Some(standing) => Some(held_up(*standing, at, holder)),
+        None => None,
+    }
+}
+
+/// Where a task's call stands after an event of it. `phase` is the one in which it stands then.
+pub(crate) fn standing_after(
+    before: &Option<Standing>,
+    at: u32,
+    event: &Event,
+    told: &Outcome,
+    phase: Option<Phase>,
+) -> Option<Standing>
+    ensures { result ≡ standing_after before.now at event.now told.now phase }
+{
+    match told {
+        Outcome::Begun => begun(at, event, phase),
+        Outcome::Moved(phase) => moved(before, at, *phase),
+        Outcome::Blocked(holder) => blocked(before, at, *holder),
+        Outcome::Ended(_answer) => None,
+        Outcome::Marked | Outcome::Resized(_) | Outcome::Refused(_) => *before,
+    }
+}
+
+/// What comes behind a stay that such an outcome ends.
+fn next_of(told: &Outcome) -> Next
+    ensures { result ≡ next_of told.now }
+{
+    match told {
+        Outcome::Ended(answer) => Next::Ended(*answer),
+        _ => Next::GoesOn,
+    }
+}
+
+/// Whether it stands since another moment.
+fn has_moved(standing: &Standing, after: &Option<Standing>) -> bool
+    ensures { result ≡ has_moved standing.now after.now }
+{
+    match after {
+        Some(other) => other.since != standing.since,
+        None => true,
+    }
+}
+
+/// The stay of a call that stood so, if it doesn't stand so after the event.
+fn stay_of(
+    column: usize,
+    at: u32,
+    standing: &Standing,
+    after: &Option<Standing>,
+    told: &Outcome,
+) -> Option<Stay>
+    ensures { result ≡ stay_of column at standing.now after.now told.now }
+{
+    if !has_moved(standing, after) {
+        return None;
+    }
+    Some(Stay {
+        column,
+        standing: *standing,
+        until: at,
+        next: next_of(told),
+    })
+}
+
+/// The stay that an event ends, if it ends one.
+pub(crate) fn stay_left(
+    column: usize,
+    at: u32,
+    before: &Option<Standing>,
+    after: &Option<Standing>,
+    told: &Outcome,
+) -> Option<Stay>
+    ensures { result ≡ stay_left column at before.now after.now told.now }
+{
+    match before {
+        Some(standing) => stay_of(column, at, standing, after, told),
+        None => None,
+    }
+}
+
+/// The stay of a call that is in flight at the end.
+pub(crate) fn stay_in(column: usize, at: u32, standing: Option<Standing>) -> Option<Stay>
+    ensures { result ≡ stay_in column at standing }
+{
+    match standing {
+        Some(standing) => Some(Stay {
+            column,
+            standing,
+            until: at,
+            next: Next::InFlight,
+        }),
+        None => None,
+    }
+}
+
+/// Adds a stay, if there is one.
+pub(crate) fn add_stay(stays: &mut Vec<Stay>, stay: Option<Stay>) -> Result<(), AllocError>
+    ensures { OnOk result (stays.new.items ≡ stays.old.items ++ listed stay) }
+{
+    // The checker of borrows asks for a mention of the types that a stay holds.
+    let _inside: Option<(Standing, Next, Op, File, Index, Vpn, Task, Phase, Answer)> = None;
+    if let Some(stay) = stay {
+        stays.push(stay)?;
+    }
+    Ok(())
+}
+
+/// Adds a mark, if there is one.
+pub(crate) fn add_mark(marks: &mut Vec<Mark>, mark: Option<Mark>) -> Result<(), AllocError>
+    ensures { OnOk result (marks.new.items ≡ marks.old.items ++ listed mark) }
+{
+    if let Some(mark) = mark {
+        marks.push(mark)?;
+    }
+    Ok(())
+}
+
+/// What is marked of an event.
+fn sign_of(event: &Event, told: &Outcome) -> Option<Sign>
+    ensures { result ≡ sign_of event.now told.now }
+{
+    match (event, told) {
+        (_, Outcome::Refused(why)) => Some(Sign::Refused(*why)),
+        (Event::Step(_task, false), _) => Some(Sign::Denied),
+        (Event::Kill(_task), _) => Some(Sign::Killed),
+        (_, Outcome::Resized(frames)) => Some(Sign::Resized(*frames)),
+        _ => None,
+    }
+}
+
+/// The mark of an event, if it has one.
+pub(crate) fn mark_of(column: usize, at: u32, event: &Event, told: &Outcome) -> Option<Mark>
+    ensures { result ≡ mark_of column at event.now told.now }
+{
+    match sign_of(event, told) {
+        Some(sign) => Some(Mark { column, at, sign }),
+        None => None,
+    }
+}
+
+/// The counts of a core.
+pub(crate) fn numbers_of(core: &Core, at: u32) -> Numbers
+    ensures { result ≡ numbers_of core.now at }
+{
+    let tally = core.tally();
+    Numbers {
+        at,
+        free: tally.free,
+        resv: tally.resv,
+        bare: tally.reserved.saturating_sub(tally.pages),
+        owed: core.owed(),
+    }
+}

@@ -1,0 +1,378 @@
+//! The lanes of tasks, and the stays in them.
+ghost use Rattle.std.specs.Prelude.{◌≡◌, ◌++◌, ◌+◌, ◌/◌, ◌<◌, ◌^◌, OnOk, codes, string_bytes, length};
+ghost use Rattle.hp_machine.specs.Text.{phase_word};
+ghost use Rattle.hp_draw.specs.Lanes.{blocked_words, call_text, class_of, ended_words, hatch_text, holder_text, label_of, label_text};
+ghost use Rattle.hp_draw.specs.Lanes.{box_of, lane_at, lane_place, lane_text, lanes_text, name_of, phase_text, place_of, stay_text, told_text, wait_text, between_text};
+ghost use Rattle.hp_draw.specs.Shapes.{texts, words_text};
+
+use crate::following::{Next, Standing, Stay};
+use crate::layout::{LEFT, Layout};
+use crate::shapes::{Place, push_box, push_line, push_upright, push_words};
+use hp_base::{Op, Task};
+use hp_core::Phase;
+use std::alloc::AllocError;
+
+/// How wide a letter is.
+const LETTER: u64 = 6;
+
+/// The class of an operation's colour.
+fn class_of(op: Op) -> &'static str
+    ensures { result.now ≡ class_of op }
+{
+    match op {
+        Op::Map { .. } => "stay map",
+        Op::MapNoReserve { .. } => "stay mapn",
+        Op::Unmap { .. } => "stay unmap",
+        Op::Load { .. } => "stay load",
+        Op::Store { .. } => "stay store",
+        Op::Alloc { .. } => "stay alloc",
+        Op::Punch { .. } => "stay punch",
+        Op::Truncate { .. } => "stay trunc",
+        Op::Exit => "stay exit",
+    }
+}
+
+/// Lays out what stands at the left of a lane.
+fn lay_name(column: usize, word: &mut String) -> Result<(), AllocError>
+    ensures { OnOk result (string_bytes word.new ≡ name_of column) }
+{
+    word.clear();
+    if column == 0 {
+        return word.push_str("pool");
+    }
+    write!(word, "task {column}")
+}
+
+/// The place of a lane that begins there.
+#[tactic(auto, unfolding(crate::specs::Lanes::lane_place))]
+fn lane_place(layout: &Layout, top: u32) -> Place
+    ensures { result ≡ lane_place layout.now top }
+{
+    Place {
+        x: LEFT,
+        y: u64::from(top),
+        width: layout.width(0, layout.events),
+        height: u64::from(layout.tall),
+    }
+}
+
+/// Appends the name of a column, at a lane that begins there.
+fn push_name(
+    layout: &Layout,
+    column: usize,
+    top: u32,
+    word: &mut String,
+    text: &mut String,
+) -> Result<(), AllocError>
+    ensures { OnOk result (string_bytes text.new
+        ≡ string_bytes text.old ++ words_text (codes "name") 8 (top + layout.now.tall / 2 + 4) (name_of column)) }
+{
+    let y = u64::from(top) + u64::from(layout.tall) / 2 + 4;
+    lay_name(column, word)?;
+    push_words("name", 8, y, word.as_str(), text)
+}
+
+/// Appends a lane that begins there.
+#[tactic(auto, unfolding(crate::specs::Lanes::lane_at))]
+fn push_lane_at(
+    layout: &Layout,
+    column: usize,
+    top: u32,
+    word: &mut String,
+    text: &mut String,
+) -> Result<(), AllocError>
+    ensures { OnOk result (string_bytes text.new ≡ string_bytes text.old ++ lane_at layout.now column top) }
+{
+    push_box("lane", lane_place(layout, top), text)?;
+    push_name(layout, column, top, word, text)
+}
+
+/// Appends the lane of a column, if it has one.
+fn push_lane(
+    layout: &Layout,
+    column: usize,
+    top: Option<u32>,
+    word: &mut String,
+    text: &mut String,
+) -> Result<(), AllocError>
+    ensures { OnOk result (string_bytes text.new ≡ string_bytes text.old ++ lane_text layout.now column top) }
+{
+    match top {
+        Some(top) => push_lane_at(layout, column, top, word, text),
+        None => Ok(()),
+    }
+}
+
+/// Appends the lane of each column that has one.
+pub(crate) fn push_lanes(
+    layout: &Layout,
+    word: &mut String,
+    text: &mut String,
+) -> Result<(), AllocError>
+    ensures { OnOk result (string_bytes text.new ≡ string_bytes text.old ++ lanes_text layout.now (length layout.now.tops.items)) }
+{
+    for column in 0..layout.tops.len() {
+        push_lane(layout, column, layout.lane(column), word, text)?;
+    }
+    Ok(())
+}
+
+/// Where the box of a stay is.
+#[tactic(auto, unfolding(crate::specs::Lanes::place_of))]
+fn place_of(layout: &Layout, stay: &Stay) -> Place
+    ensures { result ≡ place_of layout.now stay.now }
+{
+    Place {
+        x: layout.x(stay.standing.since),
+        y: layout.top(stay.column),
+        width: layout.width(stay.standing.since, stay.until),
+        height: u64::from(layout.tall),
+    }
+}
+
+/// Appends who blocks a stay, if anyone.
+fn push_blocked(holder: Option<Task>, text: &mut String) -> Result<(), AllocError>
+    ensures { OnOk result (string_bytes text.new ≡ string_bytes text.old ++ blocked_words holder) }
+{
+    match holder {
+        Some(holder) => write!(text, ", blocked by task {holder}"),
+        None => Ok(()),
+    }
+}
+
+/// Appends how the call ended behind a stay, if it did.
+fn push_ended(next: Next, until: u32, text: &mut String) -> Result<(), AllocError>
+    ensures { OnOk result (string_bytes text.new ≡ string_bytes text.old ++ ended_words next until) }
+{
+    let line = u64::from(until) + 2;
+    match next {
+        Next::Ended(answer) => write!(text, ", ended in line {line}: {answer}"),
+        Next::GoesOn | Next::InFlight => Ok(()),
+    }
+}
+
+/// Appends what is told of a stay where the pointer rests on it.
+#[tactic(auto, unfolding(crate::specs::Lanes::told_text))]
+fn push_told(stay: &Stay, text: &mut String) -> Result<(), AllocError>
+    ensures { OnOk result (string_bytes text.new ≡ string_bytes text.old ++ told_text stay.now) }
+{
+    let column = stay.column;
+    let Standing {
+        op,
+        begun: _,
+        since,
+        phase,
+        holder,
+    } = stay.standing;
+    let line = u64::from(since) + 2;
+    write!(
+        text,
+        "<g><title>line {line}: {op} of task {column} at {phase}"
+    )?;
+    push_blocked(holder, text)?;
+    push_ended(stay.next, stay.until, text)?;
+    text.push_str("</title>")
+}
+
+/// Appends the phase's name: along the box, upright in it, or not at all, as there is room.
+#[tactic(auto, unfolding(crate::specs::Lanes::phase_text, crate::specs::Lanes::place_of))]
+fn push_phase(
+    layout: &Layout,
+    stay: &Stay,
+    phase: &str,
+    text: &mut String,
+) -> Result<(), AllocError>
+    ensures { OnOk result (string_bytes text.new ≡ string_bytes text.old ++ phase_text (place_of layout.now stay.now) phase.now) }
+{
+    let width = layout.width(stay.standing.since, stay.until);
+    let x = layout.x(stay.standing.since) + width / 2;
+    let y = layout.top(stay.column) + u64::from(layout.tall) / 2;
+    if width >= 58 {
+        return push_words("in", x, y + 3, phase, text);
+    }
+    if width >= 12 {
+        return push_upright("in", x + 3, y, phase, text);
+    }
+    Ok(())
+}
+
+/// Appends the hatch of a stay that is blocked.
+#[tactic(auto, unfolding(crate::specs::Lanes::hatch_text))]
+fn push_hatch(holder: Option<Task>, place: Place, text: &mut String) -> Result<(), AllocError>
+    ensures { OnOk result (string_bytes text.new ≡ string_bytes text.old ++ hatch_text holder place) }
+{
+    match holder {
+        Some(_holder) => push_box("held", place, text),
+        None => Ok(()),
+    }
+}
+
+/// Appends the box of a stay, coloured by operation, and hatched where it is blocked.
+#[tactic(auto, unfolding(crate::specs::Lanes::box_of))]
+fn push_box_of(layout: &Layout, stay: &Stay, text: &mut String) -> Result<(), AllocError>
+    ensures { OnOk result (string_bytes text.new ≡ string_bytes text.old ++ box_of layout.now stay.now) }
+{
+    let place = place_of(layout, stay);
+    push_box(class_of(stay.standing.op), place, text)?;
+    push_hatch(stay.standing.holder, place, text)
+}
+
+/// Lays out the name of a phase.
+fn lay_phase(phase: Phase, word: &mut String) -> Result<(), AllocError>
+    ensures { OnOk result (string_bytes word.new ≡ phase_word phase) }
+{
+    word.clear();
+    write!(word, "{phase}")
+}
+
+/// Appends a stay: its box, and what is told of it.
+fn push_stay(
+    layout: &Layout,
+    stay: &Stay,
+    word: &mut String,
+    text: &mut String,
+) -> Result<(), AllocError>
+    ensures { OnOk result (string_bytes text.new ≡ string_bytes text.old ++ stay_text layout.now stay.now) }
+{
+    lay_phase(stay.standing.phase, word)?;
+    push_told(stay, text)?;
+    push_box_of(layout, stay, text)?;
+    push_phase(layout, stay, word.as_str(), text)?;
+    text.push_str("</g>\n")
+}
+
+/// Appends the boxes of all stays.
+pub(crate) fn push_stays(
+    layout: &Layout,
+    stays: &[Stay],
+    word: &mut String,
+    text: &mut String,
+) -> Result<(), AllocError>
+    ensures { OnOk result (string_bytes text.new ≡ string_bytes text.old ++ texts (stay_text layout.now) stays.now) }
+{
+    for stay in stays {
+        push_stay(layout, stay, word, text)?;
+    }
+    Ok(())
+}
+
+/// Appends the end of a line at its holder.
+#[tactic(auto, unfolding(crate::specs::Lanes::holder_text))]
+fn push_holder(x: u64, y: u64, text: &mut String) -> Result<(), AllocError>
+    ensures { OnOk result (string_bytes text.new ≡ string_bytes text.old ++ holder_text x y) }
+{
+    writeln!(text, "<circle class='holder' cx='{x}' cy='{y}' r='3'/>")
+}
+
+/// Appends a line from the edge of the lane `own` to that of another.
+fn push_between(
+    x: u64,
+    own: u64,
+    other: u64,
+    tall: u16,
+    text: &mut String,
+) -> Result<(), AllocError>
+    requires own { own < 2 ^ 32 }
+    requires other { other < 2 ^ 32 }
+    ensures { OnOk result (string_bytes text.new ≡ string_bytes text.old ++ between_text x own other tall) }
+{
+    let tall = u64::from(tall);
+    if other < own {
+        push_line("wait", x, own, other + tall, text)?;
+        return push_holder(x, other + tall, text);
+    }
+    push_line("wait", x, own + tall, other, text)?;
+    push_holder(x, other, text)
+}
+
+/// Appends the line from a stay to its holder, if it is blocked.
+fn push_wait(layout: &Layout, stay: &Stay, text: &mut String) -> Result<(), AllocError>
+    ensures { OnOk result (string_bytes text.new ≡ string_bytes text.old ++ wait_text layout.now stay.now) }
+{
+    let Some(holder) = stay.standing.holder else {
+        return Ok(());
+    };
+    let x = layout.x(stay.standing.since) + 4;
+    let own = layout.top(stay.column);
+    let other = layout.top(holder.number() as usize);
+    push_between(x, own, other, layout.tall, text)
+}
+
+/// Appends the lines from all stays that are blocked.
+pub(crate) fn push_waits(
+    layout: &Layout,
+    stays: &[Stay],
+    text: &mut String,
+) -> Result<(), AllocError>
+    ensures { OnOk result (string_bytes text.new ≡ string_bytes text.old ++ texts (wait_text layout.now) stays.now) }
+{
+    for stay in stays {
+        push_wait(layout, stay, text)?;
+    }
+    Ok(())
+}
+
+/// Lays out the words over a call: with its answer where they have room, else without.
+fn lay_label(op: Op, next: Next, room: u64, word: &mut String) -> Result<(), AllocError>
+    ensures { OnOk result (string_bytes word.new ≡ label_of op next room) }
+{
+    word.clear();
+    match next {
+        Next::GoesOn => Ok(()),
+        Next::InFlight => write!(word, "{op}"),
+        Next::Ended(answer) => {
+            write!(word, "{op}: {answer}")?;
+            if word.len() as u64 <= room {
+                return Ok(());
+            }
+            word.clear();
+            write!(word, "{op}")
+        }
+    }
+}
+
+/// Appends the words over a call that stand there, where there is room.
+fn push_over(x: u64, y: u64, room: u64, words: &str, text: &mut String) -> Result<(), AllocError>
+    ensures { OnOk result (string_bytes text.new ≡ string_bytes text.old ++ label_text x y room words.now) }
+{
+    if words.len() as u64 > room {
+        return Ok(());
+    }
+    push_words("call", x, y, words, text)
+}
+
+/// Appends the words over a call, at its last stay, where there is room.
+fn push_call(
+    layout: &Layout,
+    stay: &Stay,
+    word: &mut String,
+    text: &mut String,
+) -> Result<(), AllocError>
+    ensures { OnOk result (string_bytes text.new ≡ string_bytes text.old ++ call_text layout.now stay.now) }
+{
+    let room = layout.width(stay.standing.begun, stay.until) / LETTER;
+    let x = layout.x(stay.standing.begun) + 1;
+    let y = layout.top(stay.column).saturating_sub(4);
+    match stay.next {
+        Next::GoesOn => Ok(()),
+        Next::Ended(_) | Next::InFlight => {
+            lay_label(stay.standing.op, stay.next, room, word)?;
+            push_over(x, y, room, word.as_str(), text)
+        }
+    }
+}
+
+/// Appends the words over all calls.
+pub(crate) fn push_calls(
+    layout: &Layout,
+    stays: &[Stay],
+    word: &mut String,
+    text: &mut String,
+) -> Result<(), AllocError>
+    ensures { OnOk result (string_bytes text.new ≡ string_bytes text.old ++ texts (call_text layout.now) stays.now) }
+{
+    for stay in stays {
+        push_call(layout, stay, word, text)?;
+    }
+    Ok(())
+}

@@ -1,0 +1,20 @@
+//! Pictures of traces: an SVG in which the headline can be seen.
+//!
+//! It stands on hp_replay, which reads traces, and on hp_core, which runs them. It promises that what is written is the
+//! picture of a run of the trace that was read: the stays of each call in each phase, who blocked whom, kills, denials
+//! and refusals, and the counts behind each event. Where things stand in the picture is laid out by eye, and nothing is
+//! promised of it. It knows of the core only its rows and its readers, and no files: it works over any source and sink.
+#![tactic(auto)]
+
+mod curves;
+mod drawing;
+mod following;
+mod frame;
+mod lanes;
+mod layout;
+mod marks;
+mod shapes;
+mod sketch;
+mod style;
+
+pub use drawing::{draw, draw_trace};

@@ -1,0 +1,51 @@
+-- Columns that are laid out one by one.
+use Rattle.std.proofs.Common.{◌≡◌, ℕ, suc, ◌+◌, List, ◌∷◌, [], ◌++◌, sym, ap, ◌∙◌, append_assoc, add-one}
+use Rattle.std.specs.Prelude.{Bool, ◌==◌, slice_index_or}
+use Rattle.std.proofs.lemmas.List.{append-nil}
+use Rattle.hp_core.specs.Readers.{phase_of}
+use Rattle.hp_core.specs.State.{CoreState}
+use Rattle.hp_explain.specs.Layout.{spaces, column, columns, titled, titles}
+use Rattle.hp_explain.specs.Rows.{calls_text, if_in_flight}
+
+-- a part more of a text that is appended
+more_text : (old front part now new : List ℕ) → now ≡ old ++ front → new ≡ now ++ part → new ≡ old ++ (front ++ part)
+more_text old front part now new is e = e ∙ ap (λ (x : List ℕ). x ++ part) is ∙ append_assoc old front part
+
+pub no_space : (old : List ℕ) → old ≡ old ++ spaces 0
+unfolding spaces
+no_space old = sym (append-nil old)
+
+pub one_space : (n : ℕ) (old now new : List ℕ) → now ≡ old ++ spaces n → new ≡ now ++ (32 ∷ []) → new ≡ old ++ spaces (n + 1)
+unfolding spaces
+one_space n old now new is e = rw (add-one) (more_text old (spaces n) (32 ∷ []) now new is e)
+
+pub no_column : (widths : List ℕ) (own : ℕ) (text old : List ℕ) → old ≡ old ++ columns widths own text 0
+unfolding columns
+no_column widths own text old = sym (append-nil old)
+
+pub one_column : (widths : List ℕ) (own : ℕ) (text : List ℕ) (n : ℕ) (old now new : List ℕ) → now ≡ old ++ columns widths own text n
+    → new ≡ now ++ column (slice_index_or widths n 0) (n == own) text → new ≡ old ++ columns widths own text (n + 1)
+unfolding columns
+one_column widths own text n old now new is e =
+    rw (add-one) (more_text old (columns widths own text n) (column (slice_index_or widths n 0) (n == own) text) now new is e)
+
+pub no_title : (widths : List ℕ) (old : List ℕ) → old ≡ old ++ titles widths 0
+unfolding titles
+no_title widths old = sym (append-nil old)
+
+pub one_title : (widths : List ℕ) (n : ℕ) (old now new : List ℕ) → now ≡ old ++ titles widths n
+    → new ≡ now ++ titled (slice_index_or widths n 0) n → new ≡ old ++ titles widths (n + 1)
+unfolding titles
+one_title widths n old now new is e =
+    rw (add-one) (more_text old (titles widths n) (titled (slice_index_or widths n 0) n) now new is e)
+
+pub no_call : (core : CoreState) (old : List ℕ) → old ≡ old ++ calls_text core 0
+unfolding calls_text
+no_call core old = sym (append-nil old)
+
+pub one_call : (core : CoreState) (n task : ℕ) (old now new : List ℕ) → task ≡ n + 1 → now ≡ old ++ calls_text core n
+    → new ≡ now ++ if_in_flight core task (phase_of core task) → new ≡ old ++ calls_text core (n + 1)
+unfolding calls_text
+one_call core n task old now new number is e =
+    rw (add-one) (more_text old (calls_text core n) (if_in_flight core (suc n) (phase_of core (suc n))) now new is
+    (e ∙ ap (λ (k : ℕ). now ++ if_in_flight core k (phase_of core k)) (number ∙ add-one n)))

@@ -1,0 +1,115 @@
+-- What is read and written where a trace is explained.
+use Rattle.std.specs.Prelude.{◌≡◌, ℕ, suc, ◌+◌, List, [], ◌∷◌, ◌++◌, length, map, Option, ◌⊎◌}
+use Rattle.std.specs.Io.KnownBytes.{Appends, Keeps}
+use Rattle.hp_base.specs.Text.{Sizes, sizes}
+use Rattle.hp_base.specs.declared.config.Config.{Config}
+use Rattle.hp_base.specs.declared.event.Event.{Event}
+use Rattle.hp_core.specs.Readers.{config_of}
+use Rattle.hp_core.specs.Runs.{Row, IsOpening}
+use Rattle.hp_core.specs.State.{CoreState}
+use Rattle.hp_replay.specs.Collecting.{ReadsTrace, NotRead}
+use Rattle.hp_replay.specs.Writing.{Wrote, IsWriteFault}
+use Rattle.hp_replay.specs.declared.fault.ReplayFault.{ReplayFault}
+use Rattle.hp_explain.specs.Rows.{Happening, head_text, row_text, rows_text, end_text}
+
+-- A reader had the bytes `from` left, and now has `to`; a writer held `before`, and now holds `after`.
+
+abbrev pub events_of : List Happening → List Event
+events_of list = map (λ h. h.event) list
+
+-- one after the other they are rows of the machine, and lead from old to new
+abbrev pub Happens : CoreState → List Happening → CoreState → Type 0
+Happens old [] new = new ≡ old
+Happens old (h ∷ more) new = Row old h.event h.told h.core × Happens h.core more new
+
+-- the event happened, and its row was written
+pub record RowWritten (widths : List ℕ) (line : ℕ) (event : Event) (old new : CoreState) (before after : Option (List ℕ)) : Type 0 where
+  pub happening : Happening
+  pub is_event : happening.event ≡ event
+  pub is_core : happening.core ≡ new
+  pub row : Row old happening.event happening.told happening.core
+  pub wrote : Appends before after (row_text widths line happening)
+
+-- the event happened, and a front of its row was written
+pub record RowPartlyWritten (widths : List ℕ) (line : ℕ) (event : Event) (old : CoreState) (before after : Option (List ℕ)) : Type 0 where
+  pub happening : Happening
+  pub is_event : happening.event ≡ event
+  pub row : Row old happening.event happening.told happening.core
+  pub wrote : Wrote before after (row_text widths line happening)
+
+-- these events happened, and their rows were written
+pub record RowsWritten (widths : List ℕ) (line : ℕ) (events : List Event) (old new : CoreState) (before after : Option (List ℕ)) : Type 0 where
+  pub happenings : List Happening
+  pub are_events : events_of happenings ≡ events
+  pub happens : Happens old happenings new
+  pub wrote : Appends before after (rows_text widths line happenings)
+
+-- a front of them happened, and a front of their rows was written
+pub record RowsPartlyWritten (widths : List ℕ) (line : ℕ) (events : List Event) (old : CoreState) (before after : Option (List ℕ)) : Type 0 where
+  pub happenings : List Happening
+  pub rest : List Event
+  pub new : CoreState
+  pub are_events : events_of happenings ++ rest ≡ events
+  pub happens : Happens old happenings new
+  pub wrote : Wrote before after (rows_text widths line happenings)
+
+-- A run of a trace from the opening state of a pool of these sizes, and the widths of its columns: one for each task of the
+-- pool, and one for what is of none. Its events are lines 2 and on of the trace
+pub record Explanation (s : Sizes) (events : List Event) (text : List ℕ) : Type 0 where
+  pub config : Config
+  pub sizes_are : sizes config ≡ s
+  pub first : CoreState
+  pub opening : IsOpening config first
+  pub widths : List ℕ
+  pub width_each : length widths ≡ s.tasks + 1
+  pub happenings : List Happening
+  pub are_events : events_of happenings ≡ events
+  pub new : CoreState
+  pub happens : Happens first happenings new
+  pub is : text ≡ head_text widths ++ (rows_text widths 2 happenings ++ end_text new)
+
+-- the trace was explained
+pub record WroteExplanation (s : Sizes) (events : List Event) (before after : Option (List ℕ)) : Type 0 where
+  pub text : List ℕ
+  pub explains : Explanation s events text
+  pub wrote : Appends before after text
+
+-- the rows of a front of it, without an end
+pub record Beginning (s : Sizes) (events : List Event) (text : List ℕ) : Type 0 where
+  pub config : Config
+  pub sizes_are : sizes config ≡ s
+  pub first : CoreState
+  pub opening : IsOpening config first
+  pub widths : List ℕ
+  pub width_each : length widths ≡ s.tasks + 1
+  pub happenings : List Happening
+  pub rest : List Event
+  pub are_events : events_of happenings ++ rest ≡ events
+  pub new : CoreState
+  pub happens : Happens first happenings new
+  pub is : text ≡ head_text widths ++ rows_text widths 2 happenings
+
+-- nothing was written, or a front of such a text
+pub data PartlyExplained (s : Sizes) (events : List Event) (before after : Option (List ℕ)) : Type 0 where
+  nothing : Keeps before after → PartlyExplained s events before after
+  some_rows : (text : List ℕ) → Beginning s events text → Wrote before after text → PartlyExplained s events before after
+  to_the_end : (text : List ℕ) → Explanation s events text → Wrote before after text → PartlyExplained s events before after
+
+-- the reader's bytes were the text of a trace, which was explained
+pub record Explained (from to before after : Option (List ℕ)) : Type 0 where
+  pub sizes : Sizes
+  pub events : List Event
+  pub reads : ReadsTrace from to sizes events
+  pub wrote : WroteExplanation sizes events before after
+
+-- they were, and it was explained in part
+pub record ExplainedPartly (from to before after : Option (List ℕ)) : Type 0 where
+  pub sizes : Sizes
+  pub events : List Event
+  pub reads : ReadsTrace from to sizes events
+  pub wrote : PartlyExplained sizes events before after
+
+-- nothing is written before the whole trace is read
+abbrev pub NotExplained : ReplayFault → Option (List ℕ) → Option (List ℕ) → Option (List ℕ) → Option (List ℕ) → Type 0
+NotExplained fault from to before after =
+    (NotRead fault from to × Keeps before after) ⊎ (IsWriteFault fault × ExplainedPartly from to before after)

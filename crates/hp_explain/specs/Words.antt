@@ -1,0 +1,63 @@
+-- What is told of an event, in words.
+use Rattle.std.specs.Prelude.{ℕ, ◌==◌, ◌&&◌, nat_le, List, ◌++◌, Option, Some, None, codes, if◌then◌else◌}
+use Rattle.std.specs.Fmt.{decimal}
+use Rattle.hp_base.specs.Text.{event_text}
+use Rattle.hp_base.specs.declared.event.Event.{Event}
+use Rattle.hp_base.specs.declared.event.Event.TheVariants.{Begin, Step, Kill, Resize}
+use Rattle.hp_machine.specs.State.{slot_of}
+use Rattle.hp_machine.specs.Text.{outcome_text}
+use Rattle.hp_machine.specs.declared.outcome.Outcome.{Outcome}
+use Rattle.hp_machine.specs.declared.outcome.Outcome.TheVariants as outcome
+use Rattle.hp_core.specs.Readers.{config_of}
+use Rattle.hp_core.specs.Runs.{geometry}
+use Rattle.hp_core.specs.State.{CoreState}
+use Rattle.hp_core.specs.Wanting.{wanted_of}
+use Rattle.hp_core.specs.declared.wanting.Wanted.{Wanted}
+use Rattle.hp_core.specs.declared.wanting.Wanted.TheVariants as wanted
+
+-- the column of a task: its number, or 0 where the pool has no such task
+abbrev pub column_of_task : (tasks task : ℕ) → ℕ
+column_of_task tasks task = if nat_le 1 task && nat_le task tasks then task else 0
+
+-- the column of an event: that of its task; a resize is of no task
+abbrev pub column_of : (tasks : ℕ) → Event → ℕ
+column_of tasks (Begin task op) = column_of_task tasks task
+column_of tasks (Step task granted) = column_of_task tasks task
+column_of tasks (Kill task) = column_of_task tasks task
+column_of tasks (Resize frames) = 0
+
+-- `slot 3, file 0 index 0`
+abbrev pub slot_text : CoreState → (file index : ℕ) → List ℕ
+slot_text core file index =
+    codes "slot " ++ (decimal (slot_of (geometry (config_of core)) file index)
+    ++ (codes ", file " ++ (decimal file ++ (codes " index " ++ decimal index))))
+
+-- `lock of file 0`
+abbrev pub lock_text : (file : ℕ) → List ℕ
+lock_text file = codes "lock of file " ++ decimal file
+
+-- what a call wants
+abbrev pub wanted_text : CoreState → Wanted → List ℕ
+wanted_text core wanted.Nothing = codes "nothing"
+wanted_text core (wanted.Lock file) = lock_text file
+wanted_text core (wanted.Slot file index) = slot_text core file index
+
+-- what the call of the task in that column wants
+abbrev pub wanted_in : CoreState → (column : ℕ) → Wanted
+wanted_in core column = if column == 0 then wanted.Nothing else wanted_of core column
+
+-- `blocked by 2: slot 3, file 0 index 0`, else the outcome as it is
+abbrev pub told_text : CoreState → Event → Outcome → List ℕ
+told_text core event outcome.Begun = outcome_text outcome.Begun
+told_text core event (outcome.Moved phase) = outcome_text (outcome.Moved phase)
+told_text core event (outcome.Blocked holder) =
+    codes "blocked by " ++ (decimal holder
+    ++ (codes ": " ++ wanted_text core (wanted_in core (column_of (config_of core).tasks event))))
+told_text core event (outcome.Ended answer) = outcome_text (outcome.Ended answer)
+told_text core event outcome.Marked = outcome_text outcome.Marked
+told_text core event (outcome.Resized frames) = outcome_text (outcome.Resized frames)
+told_text core event (outcome.Refused refusal) = outcome_text (outcome.Refused refusal)
+
+-- the event, and what came of it: `step 1: moved want`
+abbrev pub cell_text : CoreState → Event → Outcome → List ℕ
+cell_text core event told = event_text event ++ (codes ": " ++ told_text core event told)

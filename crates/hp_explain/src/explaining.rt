@@ -1,0 +1,57 @@
+//! Explains a trace.
+ghost use Rattle.std.specs.Prelude.{◌≡◌, ◌≤◌, OnOk, IfErr, IfSome, length};
+ghost use Rattle.hp_base.specs.Text.{sizes};
+ghost use Rattle.hp_explain.specs.Explaining.{Explained, NotExplained, PartlyExplained, WroteExplanation};
+ghost use Rattle.hp_replay.specs.Streams.{TellsReads, TellsWrites};
+ghost use Rattle.hp_replay.specs.Traces.{HasFault};
+ghost use Rattle.hp_replay.specs.Writing.{IsWriteFault};
+
+use crate::ending::write_end;
+use crate::measuring::measure;
+use crate::rows::{write_head, write_rows};
+use hp_core::Core;
+use hp_replay::{MOST_EVENTS, ReplayFault, Sink, Source, Trace, read_trace};
+use std::alloc::Global;
+
+/// Writes a row for each event of the trace, with what came of it and the counts behind it, then a line for each call in
+/// flight, and those of the state. Nothing is tried again after an error.
+pub fn explain_trace<W: Sink>(
+    alloc: Global,
+    trace: &Trace,
+    writer: &mut W,
+) -> Result<(), ReplayFault>
+    requires { length trace.now.events.items ≤ MOST_EVENTS }
+    ensures ok { OnOk result (WroteExplanation (sizes trace.now.config) trace.now.events.items
+        (W.contents writer.old) (W.contents writer.new)) }
+    ensures err { IfErr result (λ fault. IsWriteFault fault × PartlyExplained (sizes trace.now.config) trace.now.events.items
+        (W.contents writer.old) (W.contents writer.new)) }
+    ensures writes { TellsWrites result (W.failed writer.old) (W.failed writer.new) }
+{
+    let mut cell = String::new(alloc);
+    let mut line = String::new(alloc);
+    let widths = measure(alloc, trace, &mut cell)?;
+    let widths = widths.as_slice();
+    let events = trace.events.as_slice();
+    let mut core = Core::new(alloc, trace.config)?;
+    write_head(widths, &mut cell, &mut line, writer)?;
+    write_rows(widths, events, &mut core, &mut cell, &mut line, writer)?;
+    write_end(&core, &mut line, writer)
+}
+
+/// Reads the trace that the bytes spell, all of it, and then explains it.
+pub fn explain<R: Source, W: Sink>(
+    alloc: Global,
+    reader: &mut R,
+    writer: &mut W,
+) -> Result<(), ReplayFault>
+    ensures ok { OnOk result (Explained (R.remaining reader.old) (R.remaining reader.new)
+        (W.contents writer.old) (W.contents writer.new)) }
+    ensures err { IfErr result (λ fault. NotExplained fault (R.remaining reader.old) (R.remaining reader.new)
+        (W.contents writer.old) (W.contents writer.new)) }
+    ensures bad { IfErr result (λ fault. IfSome (R.remaining reader.old) (λ bytes. HasFault bytes fault)) }
+    ensures reads { TellsReads result (R.failed reader.old) (R.failed reader.new) }
+    ensures writes { TellsWrites result (W.failed writer.old) (W.failed writer.new) }
+{
+    let trace = read_trace(alloc, reader)?;
+    explain_trace(alloc, &trace, writer)
+}

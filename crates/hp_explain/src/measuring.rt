@@ -1,0 +1,69 @@
+//! How wide the columns are to be.
+ghost use Rattle.std.specs.Prelude.{◌≡◌, ◌+◌, IfOk, length};
+ghost use Rattle.hp_base.specs.Text.{sizes};
+
+use crate::words::{column_of, lay_cell};
+use hp_base::{Answer, Event};
+use hp_core::{Core, Outcome};
+use hp_replay::Trace;
+use std::alloc::{AllocError, Global};
+
+/// A column for what is of no task and one for each task, each of no width.
+fn no_columns(alloc: Global, tasks: u32) -> Result<Vec<usize>, AllocError>
+    ensures { IfOk result (λ widths. length widths.items ≡ tasks + 1) }
+{
+    let mut widths = Vec::new(alloc);
+    widths.push(0)?;
+    for _task in 0..tasks {
+        widths.push(0)?;
+    }
+    Ok(widths)
+}
+
+/// Makes room for a text in a column, with a space behind it.
+fn widen(widths: &mut [usize], column: usize, text: &str)
+    ensures { length widths.new ≡ length widths.old }
+{
+    if column < widths.len() {
+        let width = text.len().saturating_add(1);
+        widths[column] = widths[column].max(width);
+    }
+}
+
+/// Lets an event happen, and makes room for what is told of it.
+fn measure_event(
+    event: Event,
+    core: &mut Core,
+    widths: &mut [usize],
+    cell: &mut String,
+) -> Result<(), AllocError>
+    ensures { length widths.new ≡ length widths.old }
+{
+    // The checker of borrows asks for a mention of the types that an outcome may hold.
+    let _no_answer: Option<Answer> = None;
+    let told: Outcome = core.step(event)?;
+    lay_cell(core, &event, told, cell)?;
+    let config = core.config();
+    widen(
+        widths,
+        column_of(config.tasks, &event) as usize,
+        cell.as_str(),
+    );
+    Ok(())
+}
+
+/// Runs the trace once, only to see how wide the texts of each column are. A column in which nothing stands has no width.
+pub(crate) fn measure(
+    alloc: Global,
+    trace: &Trace,
+    cell: &mut String,
+) -> Result<Vec<usize>, AllocError>
+    ensures { IfOk result (λ widths. length widths.items ≡ (sizes trace.now.config).tasks + 1) }
+{
+    let mut widths = no_columns(alloc, trace.config.tasks)?;
+    let mut core = Core::new(alloc, trace.config)?;
+    for event in &trace.events {
+        measure_event(*event, &mut core, widths.as_mut_slice(), cell)?;
+    }
+    Ok(widths)
+}

@@ -1,0 +1,108 @@
+//! What came of an event, in words.
+ghost use Rattle.std.specs.Prelude.{◌≡◌, ◌≤◌, ◌++◌, OnOk, string_bytes};
+ghost use Rattle.hp_base.specs.Text.{sizes};
+ghost use Rattle.hp_core.specs.Readers.{config_of};
+ghost use Rattle.hp_core.specs.Runs.{geometry};
+ghost use Rattle.hp_explain.specs.Words.{cell_text, column_of, column_of_task, lock_text, slot_text, told_text, wanted_in, wanted_text};
+ghost use Rattle.hp_machine.specs.State.{slot_of};
+
+use hp_base::{Config, Event, File, Index, Task};
+use hp_core::{Core, Outcome, Wanted};
+use std::alloc::AllocError;
+
+/// The column of a task: its number, or 0 where the pool has no such task.
+fn column_of_task(tasks: u32, task: Task) -> u32
+    ensures is { result ≡ column_of_task tasks task }
+    ensures within { result ≤ tasks }
+{
+    let number = task.number();
+    if 1 <= number && number <= tasks {
+        number
+    } else {
+        0
+    }
+}
+
+/// The column of an event: that of its task. A resize is of no task.
+pub(crate) fn column_of(tasks: u32, event: &Event) -> u32
+    ensures is { result ≡ column_of tasks event.now }
+    ensures within { result ≤ tasks }
+{
+    match event {
+        Event::Begin(task, _op) => column_of_task(tasks, *task),
+        Event::Step(task, _granted) => column_of_task(tasks, *task),
+        Event::Kill(task) => column_of_task(tasks, *task),
+        Event::Resize(_frames) => 0,
+    }
+}
+
+/// The slot of an index in the fault mutex table (Linux: `hugetlb_fault_mutex_hash`).
+fn slot_number(config: Config, file: File, index: Index) -> u64
+    ensures { result ≡ slot_of (geometry (sizes config)) file index }
+{
+    (u64::from(index.number()) + 31 * u64::from(file.number())) % u64::from(config.slots)
+}
+
+/// Appends the slot of an index, as `slot 3, file 0 index 0`.
+pub(crate) fn push_slot(
+    core: &Core,
+    file: File,
+    index: Index,
+    text: &mut String,
+) -> Result<(), AllocError>
+    ensures { OnOk result (string_bytes text.new ≡ string_bytes text.old ++ slot_text core.now file index) }
+{
+    let slot = slot_number(core.config(), file, index);
+    write!(text, "slot {slot}, file {file} index {index}")
+}
+
+/// Appends what a call wants.
+pub(crate) fn push_wanted(core: &Core, wanted: Wanted, text: &mut String) -> Result<(), AllocError>
+    ensures { OnOk result (string_bytes text.new ≡ string_bytes text.old ++ wanted_text core.now wanted) }
+{
+    match wanted {
+        Wanted::Nothing => text.push_str("nothing"),
+        Wanted::Lock(file) => write!(text, "lock of file {file}"),
+        Wanted::Slot(file, index) => push_slot(core, file, index, text),
+    }
+}
+
+/// What the call of the task in that column wants.
+fn wanted_in(core: &Core, column: u32) -> Wanted
+    requires { column ≤ (config_of core.now).tasks }
+    ensures { result ≡ wanted_in core.now column }
+{
+    if column == 0 {
+        return Wanted::Nothing;
+    }
+    core.wanting(Task::new(column))
+}
+
+/// Appends what came of an event: the outcome, and where a step was blocked, by whom and on what.
+fn push_told(core: &Core, event: &Event, told: Outcome, text: &mut String) -> Result<(), AllocError>
+    ensures { OnOk result (string_bytes text.new ≡ string_bytes text.old ++ told_text core.now event.now told) }
+{
+    match told {
+        Outcome::Blocked(holder) => {
+            let config = core.config();
+            let wanted = wanted_in(core, column_of(config.tasks, event));
+            write!(text, "blocked by {holder}: ")?;
+            push_wanted(core, wanted, text)
+        }
+        _ => write!(text, "{told}"),
+    }
+}
+
+/// Lays out an event and what came of it. `core` is the one that it led to.
+pub(crate) fn lay_cell(
+    core: &Core,
+    event: &Event,
+    told: Outcome,
+    text: &mut String,
+) -> Result<(), AllocError>
+    ensures { OnOk result (string_bytes text.new ≡ cell_text core.now event.now told) }
+{
+    text.clear();
+    write!(text, "{event}: ")?;
+    push_told(core, event, told, text)
+}

@@ -1,0 +1,4 @@
+use Rattle.hp_pool_bench.proofs.waiting.wait.Given as goal
+
+abbrev pub ghosts-wait_by : goal.ghosts-wait_by
+ghosts-wait_by g a = record { name = a.blank.name; parts = a.blank.parts }

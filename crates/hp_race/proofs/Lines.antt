@@ -1,0 +1,100 @@
+-- Lines of races that are written one by one.
+use Rattle.std.proofs.Common.{◌≡◌, ℕ, ◌+◌, ◌<◌, ◌≤◌, List, [], ◌∷◌, ◌++◌, length, length-append, Option, refl, sym, ap, subst, ◌∙◌, append_assoc, arith}
+use Rattle.std.specs.Prelude.{All, Bool, ◌&&◌, true, false}
+use Rattle.std.specs.List.{list_all}
+use Rattle.std.specs.Io.KnownBytes.{Appends}
+use Rattle.std.proofs.KnownBytes.{Appends-nil, Appends-trans}
+use Rattle.std.proofs.lemmas.List.{append-nil}
+use Rattle.std.proofs.lemmas.List.Elements.{All-nil, All-push}
+use Rattle.std.proofs.lemmas.List.Folds.{list_all-append}
+use Rattle.hp_explore.specs.declared.script.Script.{Script}
+use Rattle.hp_replay.specs.Writing.{Wrote}
+use Rattle.hp_replay.proofs.Writes.{Wrote-behind}
+use Rattle.hp_race.specs.declared.line.Race.{Race}
+use Rattle.hp_race.specs.Races.{IsTold}
+use Rattle.hp_race.specs.Text.{lines_text, run_line}
+use Rattle.hp_race.specs.Writing.{WroteRaces, WroteSomeRaces, is_closed}
+
+-- the lines of some races, and one more
+lines_more : (n : ℕ) (races : List Race) (race : Race)
+    → lines_text n (races ++ race ∷ []) ≡ lines_text n races ++ run_line (n + length races) race
+lines_more n [] race =
+    let here : n ≡ n + 0 = omega arith in
+    append-nil (run_line n race) ∙ ap (λ (k : ℕ). run_line k race) here
+lines_more n (r ∷ rs) race =
+    let next : n + 1 + length rs ≡ n + length (r ∷ rs) = omega arith in
+    ap (λ (t : List ℕ). run_line n r ++ t) (lines_more (n + 1) rs race ∙ ap (λ (k : ℕ). lines_text (n + 1) rs ++ run_line k race) next)
+    ∙ sym (append_assoc (run_line n r) (lines_text (n + 1) rs) (run_line (n + length (r ∷ rs)) race))
+
+-- the lines of the first races are written
+pub record SoFar (script : Script) (run : ℕ) (closed : Bool) (before now : Option (List ℕ)) : Type 0 where
+  pub races : List Race
+  pub count : length races ≡ run
+  pub told : All (IsTold script) races
+  pub wrote : Appends before now (lines_text 0 races)
+  pub ends : closed ≡ list_all is_closed races
+
+pub nothing_yet : (script : Script) (o : Option (List ℕ)) → SoFar script 0 true o o
+nothing_yet script o =
+    record { races = []; count = refl; told = All-nil (IsTold script); wrote = Appends-nil o; ends = refl }
+
+-- the text of one more
+text_more : (run : ℕ) (races : List Race) (race : Race) → length races ≡ run
+    → lines_text 0 (races ++ race ∷ []) ≡ lines_text 0 races ++ run_line run race
+text_more run races race count =
+    let here : 0 + length races ≡ run = omega (arith, count) in
+    lines_more 0 races race ∙ ap (λ (k : ℕ). lines_text 0 races ++ run_line k race) here
+
+-- one line more is written
+pub line_written : (script : Script) (run : ℕ) (closed is now_closed : Bool) (before mid now : Option (List ℕ)) (race : Race)
+    → SoFar script run closed before mid → IsTold script race → Appends mid now (run_line run race) → is ≡ is_closed race
+    → now_closed ≡ (closed && is) → SoFar script (run + 1) now_closed before now
+line_written script run closed is now_closed before mid now race s told wrote ended both =
+    let more = length-append s.races (race ∷ []) in
+    let one : (is_closed race && true) ≡ is_closed race = and_true (is_closed race) in
+    record {
+      races = s.races ++ race ∷ [];
+      count = omega (arith, more, s.count);
+      told = All-push (IsTold script) s.races race s.told told;
+      wrote =
+          subst (λ (x : List ℕ). Appends before now x) (sym (text_more run s.races race s.count))
+          (Appends-trans before mid now (lines_text 0 s.races) (run_line run race) s.wrote wrote);
+      ends =
+          both ∙ ap (λ (b : Bool). b && is) s.ends ∙ ap (λ (b : Bool). list_all is_closed s.races && b) (ended ∙ sym one)
+          ∙ sym (list_all-append is_closed s.races (race ∷ []));
+    }
+  where
+    and_true : (b : Bool) → (b && true) ≡ b
+    and_true true = refl
+    and_true false = refl
+
+-- or a front of it
+pub line_stopped : (script : Script) (run times : ℕ) (closed : Bool) (before mid now : Option (List ℕ)) (race : Race)
+    → SoFar script run closed before mid → run < times → IsTold script race → Wrote mid now (run_line run race)
+    → WroteSomeRaces script times before now
+line_stopped script run times closed before mid now race s few told wrote =
+    let more = length-append s.races (race ∷ []) in
+    record {
+      races = s.races ++ race ∷ [];
+      few = omega (arith, more, s.count, few);
+      told = All-push (IsTold script) s.races race s.told told;
+      wrote =
+          subst (λ (x : List ℕ). Wrote before now x) (sym (text_more run s.races race s.count))
+          (Wrote-behind before mid now (lines_text 0 s.races) (run_line run race) s.wrote wrote);
+    }
+
+-- or nothing of it
+pub stopped_before : (script : Script) (run times : ℕ) (closed : Bool) (before now : Option (List ℕ))
+    → SoFar script run closed before now → run ≤ times → WroteSomeRaces script times before now
+stopped_before script run times closed before now s few =
+    record {
+      races = s.races;
+      few = omega (arith, s.count, few);
+      told = s.told;
+      wrote = record { front = lines_text 0 s.races; back = []; parts = sym (append-nil (lines_text 0 s.races)); appends = s.wrote };
+    }
+
+pub all_raced : (script : Script) (run times : ℕ) (closed : Bool) (before now : Option (List ℕ)) → SoFar script run closed before now
+    → run ≡ times → WroteRaces script times closed before now
+all_raced script run times closed before now s same =
+    record { races = s.races; count = s.count ∙ same; told = s.told; wrote = s.wrote; ends = s.ends }

@@ -1,0 +1,8 @@
+use Rattle.std.proofs.Common.{◌≡◌}
+use Rattle.hp_race.proofs.Lines.{SoFar}
+use Rattle.hp_race.proofs.writing.write_races.Given as goal
+
+abbrev pub invariant-loop-run : goal.invariant-loop-run
+invariant-loop-run g l =
+    SoFar l.script l.run l.closed (g.W.Sink.contents l.fn.writer) (g.W.Sink.contents l.writer)
+    × (g.W.Sink.failed l.writer ≡ g.W.Sink.failed l.fn.writer)

@@ -1,0 +1,5 @@
+pub mod Calls
+pub mod Desks
+pub mod Races
+pub mod Text
+pub mod Writing

@@ -1,0 +1,128 @@
+-- A race of a script, and what is told of one.
+use Rattle.std.specs.Prelude.{◌≡◌, ◌⊎◌, ℕ, Bool, true, false, List, length, take, All, Option, None, Some}
+use Rattle.hp_base.specs.Text.{Sizes, sizes}
+use Rattle.hp_base.specs.declared.event.Event.{Event}
+use Rattle.hp_core.specs.Readers.{config_of, free_of, resv_of}
+use Rattle.hp_core.specs.Runs.{IsOpening}
+use Rattle.hp_core.specs.State.{CoreState}
+use Rattle.hp_explore.specs.declared.script.Script.{Script}
+use Rattle.hp_core.specs.declared.readers.Tally.{Tally}
+use Rattle.hp_replay.specs.declared.trace.TheConstants.{MOST_EVENTS}
+use Rattle.hp_replay.specs.declared.trace.Trace.{Trace}
+use Rattle.hp_shared.specs.declared.entry.Entry.{Entry}
+use Rattle.hp_shared.specs.declared.fault.CloseFault.{CloseFault}
+use Rattle.hp_shared.specs.declared.fault.CloseFault.TheVariants as fault
+use Rattle.hp_shared.specs.Journal.{events_of, FirstFailsAt, Follows, Interleaves, IsCameTo}
+use Rattle.hp_shared.specs.Seats.{AllSeated, LeastMissing, lists_of}
+use Rattle.hp_shared.specs.States.{SeatState}
+use Rattle.hp_race.specs.Desks.{HasMade, SomeStrayed}
+use Rattle.hp_race.specs.declared.line.Race.{Race}
+use Rattle.hp_race.specs.declared.line.Verdict.{Verdict}
+use Rattle.hp_race.specs.declared.line.Verdict.TheVariants.{Closed, Disagree, Astray}
+
+-- The journal is a race of the script, which came to this core: it leads there from the opening of the script's pool, and is
+-- an interleaving of the lists of one seat a task, each of which is made by the script's calls of that task
+pub record IsRace (script : Script) (journal : List Entry) (core : CoreState) : Type 0 where
+  pub opened : CoreState
+  pub opening : IsOpening script.config opened
+  pub run : Follows opened journal core
+  pub seats : List SeatState
+  pub seated : AllSeated script.config.tasks seats
+  pub count : length seats ≡ script.config.tasks
+  pub made : All (HasMade script) seats
+  pub order : Interleaves 0 journal (lists_of seats)
+
+-- The trace has the script's sizes, and its events are those of the journal of a race of the script, in order, as many as a
+-- trace may have
+pub record IsTraceOf (script : Script) (z : Sizes) (events : List Event) : Type 0 where
+  pub journal : List Entry
+  pub core : CoreState
+  pub is : IsRace script journal core
+  pub config : z ≡ sizes script.config
+  pub order : events ≡ events_of (take MOST_EVENTS journal)
+
+-- the numbers that are told are these
+abbrev pub Counts : Race → (entries : ℕ) → CoreState → Type 0
+Counts race entries core = (race.entries ≡ entries) × (race.free ≡ free_of core) × (race.resv ≡ resv_of core)
+
+-- what was closed is the pool that was opened for the script, with all its entries
+abbrev pub IsOfScript : Script → (first : ℕ) → CoreState → Type 0
+IsOfScript script first core = (first ≡ 0) × (config_of core ≡ sizes script.config)
+
+-- the verdict on a pool that was closed, where all calls were made or some weren't
+abbrev pub IsVerdictOn : Script → (made : Bool) → (first : ℕ) → CoreState → Verdict → Type 0
+IsVerdictOn script made first core Closed = (made ≡ true) × IsOfScript script first core
+IsVerdictOn script made first core (Disagree position) = ⊥
+IsVerdictOn script made first core Astray = (made ≡ false) ⊎ (¬ IsOfScript script first core)
+
+-- the race was closed
+pub record IsClosed (script : Script) (race : Race) : Type 0 where
+  pub journal : List Entry
+  pub core : CoreState
+  pub is : IsRace script journal core
+  pub counts : Counts race (length journal) core
+
+-- the seats' lists aren't those of the journal, from this position on
+pub record IsDisagreed (script : Script) (position : ℕ) (race : Race) : Type 0 where
+  pub seats : List SeatState
+  pub seated : AllSeated script.config.tasks seats
+  pub first : ℕ
+  pub journal : List Entry
+  pub fails : FirstFailsAt first journal (lists_of seats) position
+  pub core : CoreState
+  pub came : IsCameTo core
+  pub counts : Counts race position core
+
+-- a call ended as none may, what was closed isn't what was opened, or a seat is missing
+pub record IsAstray (script : Script) (race : Race) : Type 0 where
+  pub seats : List SeatState
+  pub first : ℕ
+  pub core : CoreState
+  pub came : IsCameTo core
+  pub why : SomeStrayed script seats ⊎ ((¬ IsOfScript script first core) ⊎ ((task : ℕ) × LeastMissing script.config.tasks seats task))
+  pub free : race.free ≡ free_of core
+  pub resv : race.resv ≡ resv_of core
+
+abbrev pub IsToldAs : Script → Verdict → Race → Type 0
+IsToldAs script Closed race = IsClosed script race
+IsToldAs script (Disagree position) race = IsDisagreed script position race
+IsToldAs script Astray race = IsAstray script race
+
+-- what is told of a race is so
+abbrev pub IsTold : Script → Race → Type 0
+IsTold script race = IsToldAs script race.verdict race
+
+-- what is told of a pool that wasn't closed
+abbrev pub IsToldOfRefused : CloseFault → Tally → Race → Type 0
+IsToldOfRefused (fault.SeatMissing task) tally race = race ≡ record { verdict = Astray; entries = 0; free = tally.free; resv = tally.resv }
+IsToldOfRefused (fault.Disagree position) tally race =
+    race ≡ record { verdict = Disagree position; entries = position; free = tally.free; resv = tally.resv }
+IsToldOfRefused fault.Memory tally race = ⊥
+
+-- what was closed isn't the pool that was opened for the script, with all its entries
+abbrev pub HasClosedAnother : Script → Type 0
+HasClosedAnother script = (first : ℕ) × (core : CoreState) × IsCameTo core × (¬ IsOfScript script first core)
+
+-- the seats' lists are no interleaving of some journal
+abbrev pub HaveDisagreed : List SeatState → Type 0
+HaveDisagreed seats = (first : ℕ) × (journal : List Entry) × (position : ℕ) × FirstFailsAt first journal (lists_of seats) position
+
+-- A race of the script wasn't closed: a call ended as none may, what was closed isn't what was opened, a seat is missing, or the
+-- seats' lists aren't those of the journal
+pub record IsUnclosed (script : Script) : Type 0 where
+  pub seats : List SeatState
+  pub why : SomeStrayed script seats ⊎ (HasClosedAnother script
+      ⊎ (((task : ℕ) × LeastMissing script.config.tasks seats task) ⊎ HaveDisagreed seats))
+
+-- what is kept of a race: its trace, or nothing where it wasn't closed
+abbrev pub IsKept : Script → Option Trace → Type 0
+IsKept script None = IsUnclosed script
+IsKept script (Some trace) = IsTraceOf script (sizes trace.config) trace.events.items
+
+-- what is kept of a pool that was closed with this journal
+abbrev pub IsKeptOf : Script → (made : Bool) → (first : ℕ) → (journal : List Entry) → CoreState → Option Trace → Type 0
+IsKeptOf script made first journal core None = IsVerdictOn script made first core Astray
+IsKeptOf script made first journal core (Some trace) =
+    IsVerdictOn script made first core Closed
+    × (sizes trace.config ≡ sizes script.config)
+    × (trace.events.items ≡ events_of (take MOST_EVENTS journal))

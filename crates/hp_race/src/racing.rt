@@ -1,0 +1,93 @@
+//! One race, from the opening of its pool to its end.
+ghost use Rattle.std.specs.Prelude.{◌≡◌, ◌≤◌, All, IfOk, IfSome, MatchBool, length};
+ghost use Rattle.hp_race.specs.Desks.{HasMade, SomeStrayed};
+ghost use Rattle.hp_race.specs.Races.{IsKept, IsTold};
+
+use crate::desk::{gather_seats, run_desks, set_desks};
+use crate::line::Race;
+use crate::telling::{keep, tell};
+use hp_explore::Script;
+use hp_replay::{MOST_EVENTS, Trace};
+use hp_shared::{Seat, Shared};
+use std::alloc::{AllocError, Global};
+use std::marker::Brand;
+use std::sync::Wait;
+use std::sync::ledger::{Blank, Ledger};
+use std::thread::Threads;
+
+/// Races the script's calls: on a new running pool each task that has calls makes them in a thread of its own, in their
+/// order. At the end the pool is closed, which compares all histories. Where memory is wanted all threads stop.
+pub fn race<R: Threads + Wait + Sync>(
+    rt: &R,
+    alloc: Global,
+    script: &Script,
+) -> Result<Race, AllocError>
+    ensures { IfOk result (λ race. IsTold script.now race) }
+{
+    let blank = Blank::new(u64::from(script.config.tasks));
+    race_by::<Brand, _>(rt, alloc, blank, script)
+}
+
+/// Races them, and gives what happened to the pool as a trace, where the race was closed: whoever replays it sees that race.
+/// A journal that is longer than a trace may be is cut.
+pub fn race_trace<R: Threads + Wait + Sync>(
+    rt: &R,
+    alloc: Global,
+    script: &Script,
+) -> Result<Option<Trace>, AllocError>
+    ensures race { IfOk result (λ kept. IsKept script.now kept) }
+    ensures few { IfOk result (λ kept. IfSome kept (λ trace. length trace.events.items ≤ MOST_EVENTS)) }
+{
+    let blank = Blank::new(u64::from(script.config.tasks));
+    trace_by::<Brand, _>(rt, alloc, blank, script)
+}
+
+// The same of each, by the ledger of that blank.
+fn race_by<L: Ledger + Send + Sync, R: Threads + Wait + Sync>(
+    rt: &R,
+    alloc: Global,
+    blank: Blank,
+    script: &Script,
+) -> Result<Race, AllocError>
+    requires name { blank.name ≡ L.name }
+    requires parts { (blank.parts ≡ L.parts) × (blank.parts ≡ script.now.config.tasks) }
+    ensures { IfOk result (λ race. IsTold script.now race) }
+{
+    let (shared, made, seats) = run_by::<L, _>(rt, alloc, blank, script)?;
+    tell(rt, alloc, script, shared, made, seats)
+}
+
+fn trace_by<L: Ledger + Send + Sync, R: Threads + Wait + Sync>(
+    rt: &R,
+    alloc: Global,
+    blank: Blank,
+    script: &Script,
+) -> Result<Option<Trace>, AllocError>
+    requires name { blank.name ≡ L.name }
+    requires parts { (blank.parts ≡ L.parts) × (blank.parts ≡ script.now.config.tasks) }
+    ensures race { IfOk result (λ kept. IsKept script.now kept) }
+    ensures few { IfOk result (λ kept. IfSome kept (λ trace. length trace.events.items ≤ MOST_EVENTS)) }
+{
+    let (shared, made, seats) = run_by::<L, _>(rt, alloc, blank, script)?;
+    keep(alloc, script, shared, made, seats)
+}
+
+// Opens a pool and makes all calls. Hands out the pool, whether all were made, and the seats.
+fn run_by<L: Ledger + Send + Sync, R: Threads + Wait + Sync>(
+    rt: &R,
+    alloc: Global,
+    blank: Blank,
+    script: &Script,
+) -> Result<(Shared<L>, bool, Vec<Seat<L>>), AllocError>
+    requires name { blank.name ≡ L.name }
+    requires parts { (blank.parts ≡ L.parts) × (blank.parts ≡ script.now.config.tasks) }
+    ensures tasks { IfOk result (λ ran. ran.0.tasks ≡ script.now.config.tasks) }
+    ensures count { IfOk result (λ ran. length ran.2.items ≡ script.now.config.tasks) }
+    ensures calls { IfOk result (λ ran. MatchBool ran.1 (All (HasMade script.now) ran.2.items) (SomeStrayed script.now ran.2.items)) }
+{
+    let (shared, seats) = Shared::<L>::new(alloc, blank, script.config)?;
+    let (mut desks, idle) = set_desks(alloc, script, seats)?;
+    run_desks(rt, &shared, script, &mut desks);
+    let (made, seats) = gather_seats(script, desks, idle)?;
+    Ok((shared, made, seats))
+}

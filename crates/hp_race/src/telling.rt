@@ -1,0 +1,172 @@
+//! What is told of a pool at the end of a race.
+ghost use Rattle.std.specs.Prelude.{◌≡◌, ◌≢◌, ◌≤◌, IfOk, IfSome, MatchBool, All, None, length, take};
+ghost use Rattle.hp_base.specs.Text.{sizes};
+ghost use Rattle.hp_core.specs.State.{CoreState};
+ghost use Rattle.hp_shared.specs.Journal.{events_of};
+ghost use Rattle.hp_race.specs.Desks.{HasMade, SomeStrayed};
+ghost use Rattle.hp_race.specs.Races.{Counts, IsKept, IsKeptOf, IsOfScript, IsTold, IsToldOfRefused, IsVerdictOn};
+
+use crate::line::{Race, Verdict};
+use hp_base::{Config, Event};
+use hp_core::Tally;
+use hp_explore::Script;
+use hp_replay::{MOST_EVENTS, Trace};
+use hp_shared::{CloseFault, Closed, Entry, Seat, Shared};
+use std::alloc::{AllocError, Global};
+use std::sync::Wait;
+use std::sync::ledger::Ledger;
+
+// Whether two pools are of the same sizes.
+fn same_sizes(a: &Config, b: &Config) -> bool
+    ensures { MatchBool result (sizes a.now ≡ sizes b.now) (¬ (sizes a.now ≡ sizes b.now)) }
+{
+    a.frames == b.frames
+        && a.files == b.files
+        && a.slots == b.slots
+        && a.tasks == b.tasks
+        && a.quota == b.quota
+}
+
+// Whether what was closed is the pool that was opened for the script, with all its entries.
+fn is_of_script(script: &Script, closed: &Closed) -> bool
+    ensures { MatchBool result
+        (IsOfScript script.now closed.now.last.first closed.now.core)
+        (¬ (IsOfScript script.now closed.now.last.first closed.now.core)) }
+{
+    closed.last.first == 0 && same_sizes(&closed.core.config(), &script.config)
+}
+
+// The verdict on a pool that was closed.
+fn verdict(script: &Script, made: bool, closed: &Closed) -> Verdict
+    ensures { IsVerdictOn script.now made closed.now.last.first closed.now.core result }
+{
+    if !made {
+        return Verdict::Astray;
+    }
+    if is_of_script(script, closed) {
+        Verdict::Closed
+    } else {
+        Verdict::Astray
+    }
+}
+
+// What is told of it.
+fn told_of_closed(script: &Script, made: bool, closed: &Closed) -> Race
+    ensures verdict { IsVerdictOn script.now made closed.now.last.first closed.now.core result.verdict }
+    ensures counts { Counts result closed.now.entries closed.now.core }
+{
+    Race {
+        verdict: verdict(script, made, closed),
+        entries: closed.entries,
+        free: closed.core.free(),
+        resv: closed.core.resv(),
+    }
+}
+
+// What is told of a pool that wasn't.
+fn told_of_refused(fault: CloseFault, tally: Tally) -> Result<Race, AllocError>
+    ensures { IfOk result (λ race. IsToldOfRefused fault tally race) }
+{
+    let (verdict, entries) = match fault {
+        CloseFault::Disagree(position) => (Verdict::Disagree(position), position),
+        CloseFault::SeatMissing(_) => (Verdict::Astray, 0),
+        CloseFault::Memory => return Err(AllocError),
+    };
+    Ok(Race {
+        verdict,
+        entries,
+        free: tally.free,
+        resv: tally.resv,
+    })
+}
+
+/// Closes the pool, where each seat has made its calls or some have strayed, and tells what was found.
+pub(crate) fn tell<L: Ledger, R: Wait>(
+    rt: &R,
+    alloc: Global,
+    script: &Script,
+    shared: Shared<L>,
+    made: bool,
+    seats: Vec<Seat<L>>,
+) -> Result<Race, AllocError>
+    requires tasks { shared.tasks ≡ script.now.config.tasks }
+    requires count { length seats.items ≡ script.now.config.tasks }
+    requires calls { MatchBool made (All (HasMade script.now) seats.items) (SomeStrayed script.now seats.items) }
+    ensures { IfOk result (λ race. IsTold script.now race) }
+{
+    let tally = shared.tally(rt);
+    match shared.close(alloc, seats) {
+        Ok(closed) => Ok(told_of_closed(script, made, &closed)),
+        Err(refused) => told_of_refused(refused.fault, tally),
+    }
+}
+
+// The events of the entries.
+fn events_of(alloc: Global, entries: &[Entry]) -> Result<Vec<Event>, AllocError>
+    ensures { IfOk result (λ events. events.items ≡ events_of entries.now) }
+{
+    entries.iter().map(|entry| entry.event).collect(alloc)
+}
+
+// As many of the entries as a trace may have.
+fn front(entries: &[Entry]) -> &[Entry]
+    ensures { result.now ≡ take MOST_EVENTS entries.now }
+{
+    if entries.len() <= MOST_EVENTS {
+        entries
+    } else {
+        &entries[..MOST_EVENTS]
+    }
+}
+
+/// Closes the pool, and keeps the journal's events where the race was closed.
+pub(crate) fn keep<L: Ledger>(
+    alloc: Global,
+    script: &Script,
+    shared: Shared<L>,
+    made: bool,
+    seats: Vec<Seat<L>>,
+) -> Result<Option<Trace>, AllocError>
+    requires tasks { shared.tasks ≡ script.now.config.tasks }
+    requires count { length seats.items ≡ script.now.config.tasks }
+    requires calls { MatchBool made (All (HasMade script.now) seats.items) (SomeStrayed script.now seats.items) }
+    ensures race { IfOk result (λ kept. IsKept script.now kept) }
+    ensures few { IfOk result (λ kept. IfSome kept (λ trace. length trace.events.items ≤ MOST_EVENTS)) }
+{
+    match shared.close(alloc, seats) {
+        Ok(closed) => kept_of(alloc, script, made, &closed),
+        Err(refused) => nothing_kept(refused.fault),
+    }
+}
+
+// Nothing is kept of a pool that wasn't closed, unless memory was wanting: then that is told.
+fn nothing_kept(fault: CloseFault) -> Result<Option<Trace>, AllocError>
+    ensures { IfOk result (λ kept. (kept ≡ None) × (fault ≢ CloseFault.Memory)) }
+{
+    match fault {
+        CloseFault::Memory => Err(AllocError),
+        CloseFault::Disagree(_) | CloseFault::SeatMissing(_) => Ok(None),
+    }
+}
+
+// The same of a pool that was closed.
+fn kept_of(
+    alloc: Global,
+    script: &Script,
+    made: bool,
+    closed: &Closed,
+) -> Result<Option<Trace>, AllocError>
+    ensures { IfOk result (λ kept.
+        IsKeptOf script.now made closed.now.last.first closed.now.last.entries.items closed.now.core kept) }
+{
+    match verdict(script, made, closed) {
+        Verdict::Closed => {
+            let events = events_of(alloc, front(closed.last.entries.as_slice()))?;
+            Ok(Some(Trace {
+                config: script.config,
+                events,
+            }))
+        }
+        Verdict::Disagree(_) | Verdict::Astray => Ok(None),
+    }
+}

@@ -1,0 +1,87 @@
+//! Writes a line for each race.
+ghost use Rattle.std.specs.Prelude.{◌≡◌, ◌&&◌, [], OnOk, IfErr, IfOk, string_bytes};
+ghost use Rattle.std.specs.Io.KnownBytes.{Appends};
+ghost use Rattle.hp_race.specs.Text.{run_line};
+ghost use Rattle.hp_race.specs.Writing.{WroteRaces, WroteSomeRaces, WroteSomeTrace, WroteTrace, is_closed};
+ghost use Rattle.hp_replay.specs.Streams.{TellsWrites};
+ghost use Rattle.hp_replay.specs.Writing.{IsWriteFault, Wrote};
+
+use crate::line::{Race, Verdict};
+use crate::racing::{race, race_trace};
+use hp_explore::Script;
+use hp_replay::{ReplayFault, Sink, write_text, write_trace};
+use std::alloc::Global;
+use std::sync::Wait;
+use std::thread::Threads;
+
+/// Writes the line of a race.
+fn write_race<W: Sink>(
+    alloc: Global,
+    run: u32,
+    race: Race,
+    writer: &mut W,
+) -> Result<(), ReplayFault>
+    ensures ok { OnOk result (Appends (W.contents writer.old) (W.contents writer.new) (run_line run race)) }
+    ensures err { IfErr result (λ fault. IsWriteFault fault
+        × Wrote (W.contents writer.old) (W.contents writer.new) (run_line run race)) }
+    ensures writes { TellsWrites result (W.failed writer.old) (W.failed writer.new) }
+{
+    let mut text = String::new(alloc);
+    writeln!(text, "run {run} {race}")?;
+    write_text(writer, text.as_bytes())
+}
+
+fn is_closed(race: &Race) -> bool
+    ensures { result ≡ is_closed race.now }
+{
+    race.verdict == Verdict::Closed
+}
+
+fn both(a: bool, b: bool) -> bool
+    ensures { result ≡ (a && b) }
+{
+    a && b
+}
+
+/// Races the script's calls so many times, and writes each race's line before the next begins. Tells whether all were
+/// closed. Nothing is tried again after an error.
+pub fn write_races<R: Threads + Wait + Sync, W: Sink>(
+    rt: &R,
+    alloc: Global,
+    script: &Script,
+    times: u32,
+    writer: &mut W,
+) -> Result<bool, ReplayFault>
+    ensures ok { IfOk result (λ closed. WroteRaces script.now times closed (W.contents writer.old) (W.contents writer.new)) }
+    ensures err { IfErr result (λ fault. IsWriteFault fault
+        × WroteSomeRaces script.now times (W.contents writer.old) (W.contents writer.new)) }
+    ensures writes { TellsWrites result (W.failed writer.old) (W.failed writer.new) }
+{
+    let mut closed = true;
+    for run in 0..times {
+        let ended = race(rt, alloc, script)?;
+        write_race(alloc, run, ended, writer)?;
+        closed = both(closed, is_closed(&ended));
+    }
+    Ok(closed)
+}
+
+/// Races the script's calls once, and writes what happened to the pool as a trace. Tells whether the race was closed: where it
+/// wasn't, nothing is written. Nothing is tried again after an error.
+pub fn write_race_trace<R: Threads + Wait + Sync, W: Sink>(
+    rt: &R,
+    alloc: Global,
+    script: &Script,
+    writer: &mut W,
+) -> Result<bool, ReplayFault>
+    ensures ok { IfOk result (λ closed. WroteTrace script.now closed (W.contents writer.old) (W.contents writer.new)) }
+    ensures err { IfErr result (λ fault. IsWriteFault fault
+        × WroteSomeTrace script.now (W.contents writer.old) (W.contents writer.new)) }
+    ensures writes { TellsWrites result (W.failed writer.old) (W.failed writer.new) }
+{
+    let Some(trace) = race_trace(rt, alloc, script)? else {
+        return Ok(false);
+    };
+    write_trace(alloc, &trace, writer)?;
+    Ok(true)
+}

@@ -1,0 +1,204 @@
+//! What is wrong with a line.
+use hp_base::Config;
+use hp_replay::MOST_EVENTS;
+use std::fmt;
+
+// The longest line, without its end.
+pub(crate) const LONGEST_LINE: usize = 56;
+
+/// What is wrong with a line of a trace or of a script.
+#[derive(Clone, Copy)]
+pub enum Reason<'a> {
+    Nothing,
+    TooLong,
+    Unended,
+    CarriageReturn,
+    Byte(u8),
+    Empty,
+    Spaces,
+    TooMany,
+    NoHeader(&'a str),
+    NoEvent(&'a str),
+    NoCall(&'a str),
+    /// So many words, where such a line has others: what it is, and how many it has.
+    Words(usize, &'a str, &'a str),
+    NoNumber(&'a str),
+    LeadingZero(&'a str),
+    /// A number above the one that such a field may have.
+    Above(&'a str, u64),
+    /// A size that no pool has: how many there are, of what, and the least and the most.
+    Size(u64, &'a str, u64, u64),
+    NoBegin,
+}
+
+impl fmt::Display for Reason<'_> {
+    fn fmt<W: fmt::Write>(&self, f: &mut fmt::Formatter<W>) -> fmt::Result {
+        match *self {
+            Reason::Nothing => f.write_str("there is nothing to read"),
+            Reason::TooLong => write!(f, "a line has {LONGEST_LINE} bytes at most"),
+            Reason::Unended => f.write_str("the last line has no end"),
+            Reason::CarriageReturn => f.write_str("a line ends with a carriage return"),
+            Reason::Byte(byte) => write!(f, "a byte {byte} stands in no line"),
+            Reason::Empty => f.write_str("a line is empty"),
+            Reason::Spaces => f.write_str("one space parts two words, and none stands elsewhere"),
+            Reason::TooMany => write!(f, "a trace has {MOST_EVENTS} events at most"),
+            Reason::NoHeader(word) => write!(f, "a header begins with pool, and not with {word}"),
+            Reason::NoEvent(word) => write!(f, "no event is called {word}"),
+            Reason::NoCall(word) => write!(f, "no call is called {word}"),
+            Reason::Words(count, what, wanted) => {
+                write!(f, "there are {count} words, {what} has {wanted}")
+            }
+            Reason::NoNumber(word) => write!(f, "{word} is no number"),
+            Reason::LeadingZero(word) => write!(f, "{word} begins with a zero"),
+            Reason::Above(word, most) => write!(f, "{word} is above {most}"),
+            Reason::Size(number, what, least, most) => {
+                write!(f, "there are {number} {what}, a pool has {least} to {most}")
+            }
+            Reason::NoBegin => f.write_str("an event of a script has to be a begin"),
+        }
+    }
+}
+
+/// What is wrong with a line, if that can be told: its bytes, whether a line feed ended it, and its number, counted from 1.
+pub fn reason_of(bytes: &[u8], is_ended: bool, number: u64) -> Option<Reason<'_>> {
+    if bytes.is_empty() && !is_ended {
+        return Some(Reason::Nothing);
+    }
+    if number > MOST_EVENTS as u64 + 1 {
+        return Some(Reason::TooMany);
+    }
+    if bytes.len() > LONGEST_LINE {
+        return Some(Reason::TooLong);
+    }
+    if !is_ended {
+        return Some(Reason::Unended);
+    }
+    if let Some(wrong) = wrong_byte(bytes) {
+        return Some(wrong);
+    }
+    let line = str::from_utf8(bytes).ok()?;
+    if line.is_empty() {
+        return Some(Reason::Empty);
+    }
+    if line.split(' ').any(|word| word.is_empty()) {
+        return Some(Reason::Spaces);
+    }
+    if number == 1 {
+        return wrong_header(line);
+    }
+    wrong_event(line)
+}
+
+// A byte that is neither a space nor printed.
+fn wrong_byte<'a>(bytes: &[u8]) -> Option<Reason<'a>> {
+    if bytes.ends_with(b"\r") {
+        return Some(Reason::CarriageReturn);
+    }
+    let wrong = bytes.iter().find(|byte| !(b' '..=b'~').contains(*byte))?;
+    Some(Reason::Byte(*wrong))
+}
+
+fn wrong_header(line: &str) -> Option<Reason<'_>> {
+    let sizes = [
+        ("frames", 1, Config::MAX_FRAMES),
+        ("files", 1, Config::MAX_FILES),
+        ("slots", 1, Config::MAX_SLOTS),
+        ("tasks", 1, Config::MAX_TASKS),
+        ("pages of a quota", 0, Config::MAX_QUOTA),
+    ];
+    let first = line.split(' ').next()?;
+    if first != "pool" {
+        return Some(Reason::NoHeader(first));
+    }
+    let count = line.split(' ').count();
+    if count != 5 && count != 6 {
+        return Some(Reason::Words(count, "a header", "5, or 6 with a quota"));
+    }
+    for (word, (what, least, most)) in line.split(' ').skip(1).zip(sizes) {
+        if let Some(wrong) = wrong_number(word, u64::from(u32::MAX)) {
+            return Some(wrong);
+        }
+        let number = word.parse::<u64>().ok()?;
+        if number < least || number > u64::from(most) {
+            return Some(Reason::Size(number, what, least, u64::from(most)));
+        }
+    }
+    None
+}
+
+fn wrong_event(line: &str) -> Option<Reason<'_>> {
+    let first = line.split(' ').next()?;
+    let wrong = match first {
+        "begin" => return wrong_begin(line),
+        "step" => wrong_fields(line, 1, 2, "a step", "2"),
+        "deny" => wrong_fields(line, 1, 2, "a deny", "2"),
+        "kill" => wrong_fields(line, 1, 2, "a kill", "2"),
+        "resize" => wrong_fields(line, 1, 2, "a resize", "2"),
+        _ => Some(Reason::NoEvent(first)),
+    };
+    // such a line is bad in a script alone
+    wrong.or(Some(Reason::NoBegin))
+}
+
+fn wrong_begin(line: &str) -> Option<Reason<'_>> {
+    let count = line.split(' ').count();
+    let mut words = line.split(' ').skip(1);
+    let (Some(task), Some(call)) = (words.next(), words.next()) else {
+        return Some(Reason::Words(count, "a begin", "3 or more"));
+    };
+    if let Some(wrong) = wrong_number(task, u64::from(u32::MAX)) {
+        return Some(wrong);
+    }
+    match call {
+        "map" => wrong_fields(line, 3, 6, "a map", "6"),
+        "mapn" => wrong_fields(line, 3, 6, "a mapn", "6"),
+        "alloc" => wrong_fields(line, 3, 6, "an alloc", "6"),
+        "allock" => wrong_fields(line, 3, 6, "an allock", "6"),
+        "punch" => wrong_fields(line, 3, 6, "a punch", "6"),
+        "trunc" => wrong_fields(line, 3, 5, "a trunc", "5"),
+        "store" => wrong_store(line),
+        "load" => wrong_fields(line, 3, 4, "a load", "4"),
+        "unmap" => wrong_fields(line, 3, 4, "an unmap", "4"),
+        "exit" => wrong_fields(line, 3, 3, "an exit", "3"),
+        _ => Some(Reason::NoCall(call)),
+    }
+}
+
+fn wrong_store(line: &str) -> Option<Reason<'_>> {
+    let count = line.split(' ').count();
+    let mut words = line.split(' ').skip(3);
+    let (Some(page), Some(word), None) = (words.next(), words.next(), words.next()) else {
+        return Some(Reason::Words(count, "a store", "5"));
+    };
+    wrong_number(page, u64::from(u32::MAX)).or(wrong_number(word, u64::MAX))
+}
+
+// A line of so many words, of which those from `from` on are numbers of 32 bits.
+fn wrong_fields<'a>(
+    line: &'a str,
+    from: usize,
+    wanted: usize,
+    what: &'a str,
+    told: &'a str,
+) -> Option<Reason<'a>> {
+    let count = line.split(' ').count();
+    if count != wanted {
+        return Some(Reason::Words(count, what, told));
+    }
+    line.split(' ')
+        .skip(from)
+        .find_map(|word| wrong_number(word, u64::from(u32::MAX)))
+}
+
+fn wrong_number(word: &str, most: u64) -> Option<Reason<'_>> {
+    if !word.bytes().all(|byte| byte.is_ascii_digit()) {
+        return Some(Reason::NoNumber(word));
+    }
+    if word.len() > 1 && word.starts_with('0') {
+        return Some(Reason::LeadingZero(word));
+    }
+    match word.parse::<u64>() {
+        Ok(number) if number <= most => None,
+        _ => Some(Reason::Above(word, most)),
+    }
+}

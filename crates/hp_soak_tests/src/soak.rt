@@ -1,0 +1,261 @@
+//! The soak, and what it finds at each cut and at the end.
+ghost use Rattle.std.specs.Prelude.{◌≡◌};
+
+use crate::dice::{Dice, FILES, TASKS};
+use hp_base::{Answer, Config, Op};
+use hp_core::{Core, Outcome, Refusal};
+use hp_shared::{CallFault, Entry, Open, Part, Reply, Seat, Shared, call, interleaved_from};
+use std::alloc::{AllocError, Global};
+use std::marker::Brand;
+use std::sync::Wait;
+use std::sync::atomic::{AtomicBool, AtomicUsize, Ordering};
+use std::sync::ledger::{Blank, Ledger};
+use std::test::Fail;
+use std::thread::{Threads, for_each_chunk_mut};
+
+/// Calls in all, entries after which the journal is cut, and tasks of a thread: one after the other, where one was killed.
+const CALLS: usize = 100_000;
+
+const ENTRIES: usize = 10_000;
+
+const TASKS_OF_A_THREAD: usize = 4;
+/// More cuts than there can be.
+const CUTS: u64 = 1_000;
+
+/// How many calls were begun in all and how many entries made since the last cut; and whether memory was wanted.
+#[derive(Drop)]
+struct Course {
+    calls: AtomicUsize,
+    entries: AtomicUsize,
+    kills: AtomicUsize,
+    lacked: AtomicBool,
+}
+
+impl Course {
+    fn new() -> Course {
+        Course {
+            calls: AtomicUsize::new(0),
+            entries: AtomicUsize::new(0),
+            kills: AtomicUsize::new(0),
+            lacked: AtomicBool::new(false),
+        }
+    }
+
+    fn is_over(&self) -> bool {
+        self.calls.load(Ordering::SeqCst) >= CALLS
+    }
+
+    // Whether one call more is to be made before the next cut.
+    fn goes_on(&self) -> bool {
+        self.entries.load(Ordering::SeqCst) < ENTRIES
+            && self.calls.fetch_add(1, Ordering::SeqCst) < CALLS
+    }
+}
+
+// A call of the seat's task, or a kill of any task. Tells whether the task has ended: one that was killed exits.
+fn make_turn<L: Ledger, R: Wait>(
+    rt: &R,
+    shared: &Shared<L>,
+    seat: &mut Seat<L>,
+    dice: &mut Dice,
+    course: &Course,
+) -> Result<bool, CallFault> {
+    if dice.below(5_000) == 0 {
+        if shared.kill(rt, seat, dice.task())? == Outcome::Marked {
+            course.kills.fetch_add(1, Ordering::SeqCst);
+        }
+        return Ok(false);
+    }
+    let reply = call(shared, rt, seat, dice.op(), &Open)?;
+    if reply == Reply::Refused(Refusal::NotAlive) {
+        call(shared, rt, seat, Op::Exit, &Open)?;
+        return Ok(true);
+    }
+    Ok(false)
+}
+
+// Calls of the tasks of these seats until the next cut, each task's until it ends.
+fn make_calls<L: Ledger, R: Wait>(
+    rt: &R,
+    shared: &Shared<L>,
+    seats: &mut [Seat<L>],
+    dice: Dice,
+    course: &Course,
+) -> Result<(), CallFault> {
+    let mut dice = dice;
+    let mut at = 0;
+    for _ in 0..CALLS {
+        let Some(seat) = seats.get_mut(at) else {
+            return Ok(());
+        };
+        if !course.goes_on() {
+            return Ok(());
+        }
+        let before = seat.list().len();
+        let has_ended = make_turn(rt, shared, seat, &mut dice, course)?;
+        let made = seat.list().len().saturating_sub(before);
+        course.entries.fetch_add(made, Ordering::SeqCst);
+        at = next_of(at, has_ended);
+    }
+    Ok(())
+}
+
+fn next_of(at: usize, has_ended: bool) -> usize {
+    if has_ended { at.saturating_add(1) } else { at }
+}
+
+// All threads' calls up to the next cut.
+fn run_part<L: Ledger + Send + Sync, R: Threads + Wait + Sync>(
+    rt: &R,
+    shared: &Shared<L>,
+    seats: &mut [Seat<L>],
+    course: &Course,
+    part: u64,
+) {
+    course.entries.store(0, Ordering::SeqCst);
+    for_each_chunk_mut(
+        rt,
+        seats,
+        TASKS_OF_A_THREAD,
+        &|thread: usize, seats: &mut [Seat<L>]| {
+            let dice = Dice::new(part.wrapping_mul(64).wrapping_add(thread as u64));
+            if make_calls(rt, shared, seats, dice, course).is_err() {
+                course.lacked.store(true, Ordering::SeqCst);
+            }
+        },
+    );
+}
+
+fn lists_of<L: Ledger>(alloc: Global, seats: &[Seat<L>]) -> Result<Vec<Vec<Entry>>, AllocError> {
+    let mut lists = Vec::new(alloc);
+    for seat in seats {
+        lists.push(seat.list().to_vec(alloc)?)?;
+    }
+    Ok(lists)
+}
+
+// Whether the part is an interleaving of the lists.
+fn agreement(
+    alloc: Global,
+    first: u64,
+    journal: &[Entry],
+    lists: &[Vec<Entry>],
+) -> Result<Result<(), u64>, Fail> {
+    if first >= 1 << 62 {
+        return Err("so many entries".into());
+    }
+    Ok(interleaved_from(alloc, first, journal, lists)?)
+}
+
+// Goes through the entries on a core of one thread.
+fn replay(core: &mut Core, entries: &[Entry]) -> Result<(), Fail> {
+    for entry in entries {
+        if core.step(entry.event)? != entry.outcome {
+            return Err("another outcome".into());
+        }
+    }
+    Ok(())
+}
+
+// A journal without the entry in the middle, and one with two swapped there, are told from there on.
+fn damage_is_found(alloc: Global, part: &Part, lists: &[Vec<Entry>]) -> Result<bool, Fail> {
+    let middle = part.entries.len() / 2;
+    let mut fewer = part.entries.as_slice().to_vec(alloc)?;
+    let mut swapped = part.entries.as_slice().to_vec(alloc)?;
+    if middle + 1 >= fewer.len() || middle + 1 >= swapped.len() {
+        return Err("a longer part".into());
+    }
+    fewer.remove(middle);
+    swapped.swap(middle, middle + 1);
+    let there = Err(part.first.wrapping_add(middle as u64));
+    Ok(
+        agreement(alloc, part.first, fewer.as_slice(), lists)? == there
+            && agreement(alloc, part.first, swapped.as_slice(), lists)? == there,
+    )
+}
+
+// Cuts the journal, and looks at the part; at the first, also whether damage to it is found.
+fn cut_and_look<L: Ledger, R: Wait>(
+    rt: &R,
+    alloc: Global,
+    shared: &Shared<L>,
+    seats: &mut [Seat<L>],
+    core: &mut Core,
+) -> Result<(), Fail> {
+    let lists = lists_of(alloc, seats)?;
+    let part = shared.cut(rt, alloc, seats)?;
+    if agreement(alloc, part.first, part.entries.as_slice(), lists.as_slice())? != Ok(()) {
+        return Err("a part that isn't the interleaving of the lists".into());
+    }
+    if part.first == 0 && !damage_is_found(alloc, &part, lists.as_slice())? {
+        return Err("a damaged part passes".into());
+    }
+    replay(core, part.entries.as_slice())
+}
+
+// Parts, and behind each but the last a cut. Tells how many cuts there were.
+fn run_parts<L: Ledger + Send + Sync, R: Threads + Wait + Sync>(
+    rt: &R,
+    alloc: Global,
+    shared: &Shared<L>,
+    seats: &mut [Seat<L>],
+    course: &Course,
+    core: &mut Core,
+) -> Result<u64, Fail> {
+    for part in 0..CUTS {
+        run_part(rt, shared, seats, course, part);
+        if course.lacked.load(Ordering::SeqCst) {
+            return Err("out of memory".into());
+        }
+        if course.is_over() {
+            return Ok(part);
+        }
+        cut_and_look(rt, alloc, shared, seats, core)?;
+    }
+    Err("not so many cuts".into())
+}
+
+// What a soak came to: how many cuts and kills there were, and whether the pool's state is that of the replay.
+#[derive(Drop)]
+struct Soaked {
+    cuts: u64,
+    kills: usize,
+    is_same: bool,
+}
+
+fn soak<L: Ledger + Send + Sync, R: Threads + Wait + Sync>(
+    rt: &R,
+    alloc: Global,
+    blank: Blank,
+    config: Config,
+) -> Result<Soaked, Fail>
+    requires name { blank.name ≡ L.name }
+    requires parts { (blank.parts ≡ L.parts) × (blank.parts ≡ config.tasks) }
+{
+    let (shared, mut seats) = Shared::<L>::new(alloc, blank, config)?;
+    let mut core = Core::new(alloc, config)?;
+    let course = Course::new();
+    let cuts = run_parts(rt, alloc, &shared, &mut seats, &course, &mut core)?;
+    let closed = shared
+        .close(alloc, seats)
+        .ok()
+        .ok_or("the histories agree")?;
+    replay(&mut core, closed.last.entries.as_slice())?;
+    Ok(Soaked {
+        cuts,
+        kills: course.kills.load(Ordering::SeqCst),
+        is_same: core.picture(alloc)? == closed.core.picture(alloc)?,
+    })
+}
+
+#[test]
+fn many_calls_with_kills_and_cuts(rt: HostRuntime) -> Result<(), Fail> {
+    // The checker of borrows asks for a mention of the type that a reply may hold.
+    let _none: Option<Answer> = None;
+    let config = Config::new(24, FILES, 8, TASKS)?;
+    let soaked = soak::<Brand, _>(&rt, rt.alloc(), Blank::new(u64::from(TASKS)), config)?;
+    assert!(rt; soaked.cuts >= 20);
+    assert!(rt; soaked.kills >= 5);
+    assert!(rt; soaked.is_same);
+    Ok(())
+}

@@ -1,0 +1,105 @@
+//! Streams that move a byte a call, and break.
+ghost use Rattle.std.specs.Prelude.{◌≡◌, [], Some};
+
+use std::alloc::Global;
+use std::io;
+use std::io::{ErrorKind, Read, Write};
+
+/// What a call comes to that breaks.
+#[derive(Clone, Copy, Debug, PartialEq, Eq)]
+pub enum Break {
+    /// It answers an error.
+    Error(ErrorKind),
+    /// It takes no byte.
+    Nothing,
+}
+
+/// Takes one byte a call, and breaks after so many.
+#[derive(Drop)]
+pub struct SmallWriter {
+    taken: Vec<u8>,
+    calls: usize,
+    broken: Break,
+}
+
+impl SmallWriter {
+    pub fn new(alloc: Global, calls: usize, broken: Break) -> SmallWriter
+        ensures taken { result.taken.items ≡ [] }
+        ensures calls { result.calls ≡ calls }
+    {
+        SmallWriter {
+            taken: Vec::new(alloc),
+            calls,
+            broken,
+        }
+    }
+
+    /// What it took.
+    pub fn taken(&self) -> &[u8]
+        ensures { result.now ≡ self.now.taken.items }
+    {
+        self.taken.as_slice()
+    }
+}
+
+impl Write for SmallWriter {
+    ghost contents = { λ writer. Some writer.taken.items };
+
+    fn write(&mut self, buf: &[u8]) -> io::Result<usize> {
+        let [first, ..] = buf else {
+            return Ok(0);
+        };
+        if self.calls == 0 {
+            return match self.broken {
+                Break::Error(kind) => Err(io::Error::from(kind)),
+                Break::Nothing => Ok(0),
+            };
+        }
+        self.taken.push(*first)?;
+        self.calls -= 1;
+        Ok(1)
+    }
+
+    fn flush(&mut self) -> io::Result<()> {
+        Ok(())
+    }
+}
+
+/// Gives one byte a call, and answers an error after so many calls.
+#[derive(Drop)]
+pub struct SmallReader<'a> {
+    bytes: &'a [u8],
+    calls: usize,
+    error: ErrorKind,
+}
+
+impl<'a> SmallReader<'a> {
+    pub fn new(bytes: &'a [u8], calls: usize, error: ErrorKind) -> SmallReader<'a>
+        ensures bytes { result.bytes.now ≡ bytes.now }
+        ensures calls { result.calls ≡ calls }
+    {
+        SmallReader {
+            bytes,
+            calls,
+            error,
+        }
+    }
+}
+
+impl Read for SmallReader<'_> {
+    fn read(&mut self, buf: &mut [u8]) -> io::Result<usize> {
+        if self.calls == 0 {
+            return Err(io::Error::from(self.error));
+        }
+        self.calls -= 1;
+        let [first, rest @ ..] = self.bytes else {
+            return Ok(0);
+        };
+        if buf.is_empty() {
+            return Ok(0);
+        }
+        buf[0] = *first;
+        self.bytes = rest;
+        Ok(1)
+    }
+}

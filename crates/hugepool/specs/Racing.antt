@@ -1,0 +1,21 @@
+-- What comes of `hugepool race`.
+use Rattle.std.specs.Prelude.{ℕ, List, Option, Bool, map}
+use Rattle.hp_base.specs.Text.{sizes}
+use Rattle.hp_explore.specs.declared.script.Script.{Script}
+use Rattle.hp_race.specs.Writing.{WroteRaces, WroteTrace}
+use Rattle.hp_replay.specs.Collecting.{ReadsTrace}
+use Rattle.hp_replay.specs.Scripts.{begin_of}
+use Rattle.hugepool.specs.declared.racing.Racing.{Racing}
+use Rattle.hugepool.specs.declared.racing.Racing.TheVariants.{Times, Trace}
+
+-- what a script's races have written; all were closed, or some weren't
+abbrev pub WroteRacing : Racing → Script → (closed : Bool) → (before after : Option (List ℕ)) → Type 0
+WroteRacing (Times times) script closed before after = WroteRaces script times closed before after
+WroteRacing Trace script closed before after = WroteTrace script closed before after
+
+-- A script was read, and a line written for each race of it, or the trace of one. A reader had the bytes `from` left, and now
+-- has `to`; an output held `before`, and now holds `after`
+pub record Races (r : Racing) (closed : Bool) (from to before after : Option (List ℕ)) : Type 0 where
+  pub script : Script
+  pub reads : ReadsTrace from to (sizes script.config) (map begin_of script.calls.items)
+  pub wrote : WroteRacing r script closed before after

@@ -1,0 +1,108 @@
+//! The words, the lines and the statuses of `hugepool race`.
+use crate::tests::told;
+
+const RACE_HELP: &str =
+    "Reads a script from standard input, races its tasks in threads, and writes a line for each race
+
+Usage: hugepool race [OPTIONS] < FILE
+
+Options:
+      --times <N>  How many races [default: 10]
+      --trace      Races once, and writes what happened to the pool as a trace
+  -h, --help       Print help
+
+A script is a trace whose events are begins alone: the calls that each task makes, in order. Here each task that
+has calls makes them in a thread of its own, all on one pool, and which goes first is up to the machine: so no
+two races need be alike. At the end what each task did is compared with what happened to the pool:
+  closed       all calls were made, and the tasks' histories make up the pool's
+  disagree P   they don't, from position P of the pool's history on
+  astray       a call ended as none may
+An entry is a hold of the pool's lock that changed it. A trace has the events of all entries, in their order, a million
+at most; where the race isn't closed, nothing is written.
+Some scripts stand in examples/:
+  hugepool race --times 3 < examples/truncate-against-store.script
+  hugepool race --trace < examples/truncate-against-store.script | hugepool replay
+";
+
+const MAP: &str = "pool 4 1 4 1\nbegin 1 map 0 0 4\n";
+
+#[test]
+fn help_of_race_is_told(rt: HostRuntime) {
+    let (status, out, faults) = told(&rt, rt.alloc(), &["hugepool", "race", "--help"], "");
+    assert_eq!(rt; status, 0);
+    assert!(rt; faults.is_empty());
+    assert_eq!(rt; out.as_slice(), RACE_HELP.as_bytes());
+}
+
+/// A task alone has one race, of eight holds: the begin and seven steps of examples/map-four-of-four.trace.
+#[test]
+fn a_script_is_raced(rt: HostRuntime) {
+    for words in [
+        ["hugepool", "race", "--times", "2"].as_slice(),
+        &["hugepool", "race", "--times=2"],
+    ] {
+        let (status, out, faults) = told(&rt, rt.alloc(), words, MAP);
+        assert_eq!(rt; status, 0);
+        assert!(rt; faults.is_empty());
+        assert_eq!(rt;
+            out.as_slice(),
+            b"run 0 closed entries 8 free 4 resv 4\nrun 1 closed entries 8 free 4 resv 4\n".as_slice()
+        );
+    }
+}
+
+#[test]
+fn ten_races_where_no_number_is_given(rt: HostRuntime) {
+    let (status, out, _) = told(&rt, rt.alloc(), &["hugepool", "race"], MAP);
+    assert_eq!(rt; status, 0);
+    assert!(rt;
+        out.as_slice()
+            .ends_with(b"\nrun 9 closed entries 8 free 4 resv 4\n")
+    );
+}
+
+/// A pool without calls is closed as it was opened.
+#[test]
+fn a_script_without_calls(rt: HostRuntime) {
+    let words = ["hugepool", "race", "--times", "1"];
+    let (status, out, _) = told(&rt, rt.alloc(), &words, "pool 4 1 4 3\n");
+    assert_eq!(rt; status, 0);
+    assert_eq!(rt;
+        out.as_slice(),
+        b"run 0 closed entries 0 free 4 resv 0\n".as_slice()
+    );
+}
+
+/// Numbers outside their range are the command line's fault, and nothing is raced.
+#[test]
+fn times_out_of_range(rt: HostRuntime) {
+    for number in ["0", "65537", "-1", "x"] {
+        let words = ["hugepool", "race", "--times", number];
+        let (status, out, faults) = told(&rt, rt.alloc(), &words, MAP);
+        assert_eq!(rt; status, 2);
+        assert!(rt; out.is_empty());
+        assert!(rt; faults.as_slice().starts_with(b"error: "));
+    }
+}
+
+/// The trace of a task alone is that of examples/map-four-of-four.trace.
+#[test]
+fn a_race_is_traced(rt: HostRuntime) {
+    let (status, out, faults) = told(&rt, rt.alloc(), &["hugepool", "race", "--trace"], MAP);
+    assert_eq!(rt; status, 0);
+    assert!(rt; faults.is_empty());
+    assert_eq!(rt;
+        out.as_slice(),
+        b"pool 4 1 4 1\nbegin 1 map 0 0 4\nstep 1\nstep 1\nstep 1\nstep 1\nstep 1\nstep 1\nstep 1\n".as_slice()
+    );
+}
+
+/// Of many races no trace is written.
+#[test]
+fn races_are_counted_or_traced(rt: HostRuntime) {
+    let words = ["hugepool", "race", "--times", "3", "--trace"];
+    let (status, out, faults) = told(&rt, rt.alloc(), &words, MAP);
+    assert_eq!(rt; status, 2);
+    assert!(rt; out.is_empty());
+    assert!(rt; faults.as_slice().starts_with(b"error: "));
+}

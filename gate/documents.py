@@ -1,0 +1,129 @@
+#!/usr/bin/env python3
+"""Says whether each path, command and public call that a document names is there.
+
+A document is a file *.md outside of the crates. Looked at are the words between backquotes and the lines of commands in blocks:
+a path has to be the end of one in the repository; `./hugepool` has to have the command and its options, `./check` the step; and of a call
+`hp_frames::Bank::take` or `hp_frames::Bank::{take, free}` each name has to be declared in that crate.
+"""
+from __future__ import annotations
+
+import os
+import re
+import sys
+from fnmatch import fnmatch
+from functools import cache
+from pathlib import Path
+from typing import Iterator
+
+import check
+from scratch import TOP, crates_of
+
+# what documents tell of the kernel's sources, and of the machine
+ELSEWHERE = ("mm/", "fs/", "Documentation/", "~", "/")
+LEFT_OUT = {".git", "out", "target", "__pycache__"}
+PATH = re.compile(r"[\w.*-]*(?:/[\w.*-]*)+|[\w.*-]+\.(?:md|rt|antt|rs|sh|py|c|txt|trace|script|edit|explained|lines)")
+CALL = re.compile(r"(hp_\w+)((?:::\w+)*)(?:::(?:\w+|\{([^}]*)\}))")
+COMMAND = re.compile(r"(?:^|[|;&$] *)(\./[\w./-]+|hugepool)(?= |$)([^|;&#]*)")
+OPTION = re.compile(r"--([\w-]+)")
+
+
+@cache
+def paths() -> list[str]:
+    """All files and folders of the repository."""
+    found = []
+    for folder, below, files in os.walk(TOP):
+        below[:] = [it for it in below if it not in LEFT_OUT]
+        found += [str(Path(folder, it).relative_to(TOP)) for it in [*below, *files]]
+    return found
+
+
+@cache
+def is_path(path: str) -> bool:
+    """Whether some path of the repository ends so; NAME stands for any name."""
+    wanted = path.removeprefix("./").rstrip("/").replace("NAME", "*")
+    return not wanted or any(fnmatch(it, wanted) or fnmatch(it, f"*/{wanted}") for it in paths())
+
+
+@cache
+def source_of(crate: str) -> str:
+    return "".join(file.read_text(encoding="utf-8") for file in sorted((TOP / "crates" / crate / "src").rglob("*.rt")))
+
+
+def is_declared(crate: str, name: str) -> bool:
+    """Whether a crate declares an item, a variant or a module of this name, or hands one on."""
+    item = rf"\b(?:fn|struct|enum|trait|type|const|mod) {name}\b|^ +{name}(?:,|\(| \{{)"
+    return bool(re.search(rf"{item}|\bpub use [^;]*\b{name}\b", source_of(crate), re.M))
+
+
+def call_faults(text: str) -> Iterator[str]:
+    """The names in calls of the crates that aren't declared."""
+    for crate, inner, several in ((it[1], it[2], it[3]) for it in CALL.finditer(text)):
+        if crate not in crates_of(TOP):
+            yield f"there is no crate {crate}"
+            continue
+        last = re.search(rf"{crate}{inner}::(\w+)", text)
+        names = [*inner.split("::"), *(several.split(",") if several else [last[1] if last else ""])]
+        for name in (it.strip() for it in names):
+            if re.fullmatch(r"\w+", name) and not is_declared(crate, name):
+                yield f"{crate} declares no {name}"
+
+
+def command_faults(line: str) -> Iterator[str]:
+    """What is wrong with the commands of a line."""
+    for program, words in COMMAND.findall(line):
+        asked = words.split()
+        first = asked[0] if asked else ""
+        if program in ("./hugepool", "hugepool"):
+            yield from hugepool_faults(first, words)
+        elif not is_path(program):
+            yield f"there is no {program}"
+        elif program == "./check" and first not in ("", "--help", "all", *check.STEPS):
+            yield f"./check has no step {first}"
+        elif first == "edits" and len(asked) > 1 and not (asked[1].startswith("-") or asked[1] in ("CRATE", *crates_of(TOP))):
+            yield f"there is no crate {asked[1]}"
+        yield from (f"there is no {it}" for it in re.findall(r"< ([\w.-]+/\S+)", words) if not is_path(it))
+
+
+def hugepool_faults(command: str, words: str) -> Iterator[str]:
+    known = set(re.findall(r'Command::new\(alloc, "(\w+)"\)', source_of("hugepool")))
+    if command and re.fullmatch(r"[a-z]+", command) and command not in {*known, "help"}:
+        yield f"hugepool has no command {command}"
+    for option in OPTION.findall(words):
+        if option not in ("help", "version") and f'"{option}"' not in source_of("hugepool"):
+            yield f"hugepool has no option --{option}"
+
+
+def faults_in(text: str) -> Iterator[str]:
+    """What a document names that isn't there."""
+    for span in re.findall(r"`([^`\n]+)`", re.sub(r"^```.*?^```", "", text, flags=re.M | re.S)):
+        yield from command_faults(span)
+        yield from call_faults(span)
+        if PATH.fullmatch(span) and not (span.startswith(ELSEWHERE) or span.endswith("/out") or is_path(span)):
+            yield f"there is no {span}"
+    for line in text.splitlines():
+        if line.startswith(("    ./", "    $ ./", "./", "$ ./")):
+            yield from command_faults(line.strip().removeprefix("$ "))
+
+
+# a document of which each line is wrong
+WRONG = """`docs/NOT_THERE.md` `hp_frames::Bank::not_there` `hp_not_there::Bank` `hp_frames::Bank::{take, not_there}`
+    ./hugepool raplay < examples/map-four-of-four.trace
+    ./hugepool race --not-there
+    ./hugepool replay < examples/not-there.trace
+    ./check not_there
+    ./bench/not-there.sh
+"""
+
+
+def main() -> int:
+    documents = [file for file in map(TOP.joinpath, paths()) if file.suffix == ".md" and "crates" not in file.relative_to(TOP).parts]
+    faults = [f"{file.relative_to(TOP)}: {it}" for file in sorted(documents) for it in faults_in(file.read_text(encoding="utf-8"))]
+    noticed = len(list(faults_in(WRONG)))
+    faults += [] if noticed == 9 else [f"of nine wrong names {noticed} are noticed"]
+    print("".join(f"  {it}\n" for it in faults), end="")
+    print(f"documents: {len(documents) + 1 - len({it.split(':')[0] for it in faults})} passed, {len(faults)} failed")
+    return 1 if faults else 0
+
+
+if __name__ == "__main__":
+    sys.exit(main())

@@ -1,0 +1,300 @@
+#!/usr/bin/env python3
+"""Refuses each growth of memory of the built programs, one a run, and compares what they tell with what is right.
+
+The library that refuses (refusing.c) is built by the C compiler, and loaded before a program. Of each line of words below the
+1st, 2nd, .. growth is refused, up to runs that meet none. Where one is, hugepool has to say so and end with status 1, and what
+it wrote before has to be a front of what is right; where a thread is refused, or nothing is, all has to be right. hp_refusals tells
+stories, in which what was refused is told and tried again: all else has to be as it is in plenty, to the end. Wrong programs, and
+a library that refuses nothing, have to be noticed.
+"""
+from __future__ import annotations
+
+import os
+import re
+import shlex
+import subprocess
+import sys
+import tempfile
+from concurrent.futures import ThreadPoolExecutor
+from pathlib import Path
+from typing import Callable, NamedTuple
+
+from scratch import TOP
+
+# no line of words has so many growths
+MOST = 20_000
+SECONDS = 60
+REFUSED = (1, "hugepool: out of memory\n")
+WORKLOADS = [
+    *("readback", "shared", "truncate", "alloc-instantiate-race", "chunk-overcommit", "noresv-preserve-resv-page"),
+    *("noresv-regarded-as-resv", "truncate_reserve_wraparound", "fallocate_basic", "fallocate_align", "counters"),
+]
+# what hp_refusals tells where nothing is refused, by what it reads; of a trace, what its replay writes
+STORIES = {
+    "c": """map of 1: mapped 0
+map of 2: mapped 0
+cut: first 0 entries 16
+store of 1: done
+cut: first 16 entries 10
+load of 2: word 41
+closed: entries 32 free 3 resv 1
+""",
+    "r": """resized 2
+resized 9
+closed: entries 2 free 9 resv 0
+""",
+}
+RETRIED = ": out of memory\n"
+RACED = re.compile(r"run \d+ closed entries \d+ free \d+ resv \d+")
+
+
+class Told(NamedTuple):
+    """What came of a run: its status, both streams, and what was refused ('m' for memory, 't' for a thread, '' for nothing)."""
+
+    status: int
+    out: str
+    err: str
+    refused: str
+
+
+class Case(NamedTuple):
+    """Words, what is read, and whether an output is right, or the front of one that is."""
+
+    words: str
+    read: str
+    is_right: Callable[[str, str], bool]
+    is_front: Callable[[str, str], bool]
+    # of a story, what it tells
+    right: str = ""
+
+
+def is_same(out: str, right: str) -> bool:
+    return out == right
+
+
+def is_front(out: str, right: str) -> bool:
+    return right.startswith(out)
+
+
+def is_race_front(out: str, right: str) -> bool:
+    """Whether these are lines of closed races, in order; no two races need be alike."""
+    lines = out.splitlines()
+    closed = all(RACED.fullmatch(line) and line.startswith(f"run {k} ") for k, line in enumerate(lines))
+    return closed and out.count("\n") == len(lines) <= right.count("\n")
+
+
+def is_race(out: str, right: str) -> bool:
+    return is_race_front(out, right) and out.count("\n") == right.count("\n")
+
+
+def example(name: str) -> str:
+    return (TOP / "examples" / name).read_text(encoding="utf-8")
+
+
+def crowd(tasks: int) -> str:
+    """A script in which many tasks store to the pages of one file."""
+    lines = [f"pool 8 2 4 {tasks}", *(f"begin {task} mapn 0 0 4" for task in range(1, tasks + 1))]
+    lines += [f"begin {task} store {task % 4} {task}" for task in range(1, tasks + 1)]
+    return "".join(f"{line}\n" for line in [*lines, "begin 1 trunc 0 2", "begin 2 punch 0 0 1"])
+
+
+def cases() -> list[Case]:
+    """What is run."""
+    plain = lambda words, read: Case(words, read, is_same, is_front)
+    raced = lambda words, read: Case(words, read, is_race, is_race_front)
+    wide, script = example("calls-in-flight.trace"), example("truncate-against-store.script")
+    traces = [wide, example("alloc-punch-and-store-under-a-quota.trace"), example("resize-keeps-reserved-frames.trace")]
+    return [
+        *(plain("replay", trace) for trace in traces),
+        *(plain(f"work {name}", "") for name in WORKLOADS),
+        *(plain(f"work {name} --on pool", "") for name in ("shared", "alloc-instantiate-race")),
+        *(plain(words, wide) for words in ("explain", "check", "--help", "replay --help", "nothing", "replay --all")),
+        plain("replay", example("a-bad-line.trace")),
+        plain("explore --seed 7 --runs 3 --deny 100 --kill 10", script),
+        plain("explore --runs 2 --audit", crowd(6)),
+        plain("schedule --seed 7", script),
+        raced("race --times 2", script),
+        raced("race --times 1", crowd(12)),
+    ]
+
+
+def stories() -> list[Case]:
+    """What hp_refusals reads."""
+    traces = [it for it in sorted((TOP / "examples").rglob("*.trace")) if not it.with_suffix(".err").exists()]
+    told = {it.read_text(encoding="utf-8"): it.with_suffix(".out").read_text(encoding="utf-8") for it in traces}
+    return [Case("", read, is_same, is_front, right) for read, right in {**STORIES, **told}.items()]
+
+
+class Program:
+    """A program, and the library that is loaded before it."""
+
+    def __init__(self, path: Path, library: Path | None) -> None:
+        self.path, self.library = path, library
+
+    def told(self, case: Case, growth: int) -> Told:
+        """What comes of a run whose growth of this number is refused; of number 0 there is none."""
+        read, write = os.pipe()
+        own = {"REFUSE_GROWTH": str(growth), "REFUSE_TOLD": str(write)}
+        if self.library:
+            own["LD_PRELOAD"] = str(self.library)
+        how = {"env": {"PATH": os.environ["PATH"], **own}, "pass_fds": [write], "capture_output": True, "check": False}
+        try:
+            ran = subprocess.run(
+                [self.path, *shlex.split(case.words)], input=case.read, text=True, errors="replace", timeout=SECONDS, **how
+            )
+            os.set_blocking(read, False)
+            refused = said(read)
+            return Told(ran.returncode, ran.stdout, ran.stderr, refused)
+        finally:
+            os.close(write)
+            os.close(read)
+
+
+def said(read: int) -> str:
+    """What was written to a pipe so far."""
+    try:
+        return os.read(read, 100).decode()
+    except BlockingIOError:
+        return ""
+
+
+def is_whole(case: Case, right: Told, told: Told) -> bool:
+    """Whether a run is right to its end. One may be that was refused memory: a list that is collected is begun anew with less room."""
+    return (told.status, told.err) == (right.status, right.err) and case.is_right(told.out, right.out)
+
+
+def fault(case: Case, right: Told, told: Told) -> str | None:
+    """What is wrong with a run beside the right one, if anything is."""
+    if told.refused not in ("", "m", "t"):
+        return f"more than one growth was refused: {told.refused}"
+    if told.refused == "m" and not is_whole(case, right, told):
+        if (told.status, told.err) != REFUSED:
+            return f"status {told.status}, and on standard error {told.err!r}"
+        return None if case.is_front(told.out, right.out) else f"its output is no front of the right one: {told.out[-100:]!r}"
+    if (told.status, told.err) != (right.status, right.err):
+        return f"status {told.status}, and on standard error {told.err!r}, though nothing was refused"
+    return None if case.is_right(told.out, right.out) else f"its output isn't right: {told.out[-100:]!r}"
+
+
+def story_fault(case: Case, right: Told, told: Told) -> str | None:
+    """The same of a story."""
+    if told.refused not in ("", "m", "t"):
+        return f"more than one growth was refused: {told.refused}"
+    if (told.status, told.err) != (0, ""):
+        return f"status {told.status}, and on standard error {told.err!r}"
+    lines = told.out.splitlines(keepends=True)
+    kept = [line for line in lines if not line.endswith(RETRIED)]
+    if len(lines) > len(kept) + (told.refused == "m"):
+        return f"it tells of what wasn't refused: {told.out[-100:]!r}"
+    return None if "".join(kept) == right.out else f"its output isn't right: {told.out[-100:]!r}"
+
+
+Judge = Callable[[Case, Told, Told], "str | None"]
+
+
+def faults(program: Program, case: Case, pool: ThreadPoolExecutor, judge: Judge = fault) -> tuple[int, list[str]]:
+    """How many growths were refused, and what was wrong with the runs."""
+    name = f"{program.path.name} {case.words}".strip() or case.read[:20]
+    right = program.told(case, 0)
+    if right.refused or judge(case, right, right) or judge is story_fault and right.out != case.right:
+        return 0, [f"{name}: with all memory it tells {right.out[-100:]!r}"]
+    found, step, whole = [], os.cpu_count() or 1, 0
+    for first in range(1, MOST, step):
+        numbers = range(first, first + step)
+        for number, told in zip(numbers, pool.map(lambda n: program.told(case, n), numbers)):
+            if wrong := judge(case, right, told):
+                found.append(f"{name}: growth {number}: {wrong}")
+            if not told.refused:
+                many = judge is fault and whole * 3 > number - 1
+                return number - 1, [*found, *([f"{name}: of {number - 1} refused growths {whole} are not told"] if many else [])]
+            whole += told.refused == "m" and is_whole(case, right, told)
+    return MOST, [*found, f"{name}: it has {MOST} growths or more"]
+
+
+# Wrong programs, by what they do around the right one, which they run by $program.
+WRONG = {
+    "says nothing of it": '$program "$@" 2> /dev/null',
+    "ends well": '$program "$@" || true',
+    "goes on": '$program "$@" || { echo more; exit 1; }',
+    "tries again": '$program "$@" 2> /dev/null || REFUSE_GROWTH=0 $program "$@"',
+    "is ended by a signal": '$program "$@" || kill -ABRT $$',
+}
+
+
+# The same around hp_refusals.
+WRONG_STORIES = {
+    "loses its last line": '$program | head -n -1',
+    "begins again": '$program; [ "$REFUSE_GROWTH" = 0 ] || REFUSE_GROWTH=0 $program < /dev/null',
+}
+
+
+class Room:
+    """The library, and where wrong programs are written."""
+
+    def __init__(self, folder: Path) -> None:
+        self.folder, self.library = folder, folder / "refusing.so"
+        words = ["cc", "-O2", "-Wall", "-Wextra", "-Werror", "-shared", "-fPIC"]
+        subprocess.run([*words, "-o", self.library, TOP / "gate" / "refusing.c"], check=True)
+
+    def around(self, program: Path, text: str) -> Program:
+        """A program that does this around another."""
+        path = self.folder / "wrong"
+        path.write_text(f'#!/bin/bash\nprogram="env LD_PRELOAD={self.library} {program}"\n{text}\n', encoding="utf-8")
+        path.chmod(0o755)
+        return Program(path, None)
+
+    def unnoticed(self, program: Path, case: Case, judge: Judge, wrong: dict[str, str], pool: ThreadPoolExecutor) -> list[str]:
+        """The wrong programs in whose runs no fault was found."""
+        let = [name for name, text in wrong.items() if not faults(self.around(program, text), case, pool, judge)[1]]
+        let += ["refuses nothing"] if faults(Program(program, None), case, pool, judge)[0] else []
+        return [f"around {program.name} one that {name} isn't noticed" for name in let]
+
+
+class Tried:
+    """What came of the runs so far."""
+
+    def __init__(self) -> None:
+        self.passed, self.refused, self.faults = 0, 0, []
+
+    def add(self, program: Program, tried: list[Case], judge: Judge, pool: ThreadPoolExecutor) -> None:
+        for case in tried:
+            growths, found = faults(program, case, pool, judge)
+            if not growths and not found:
+                found = [f"{program.path.name} {case.words}: no growth was refused"]
+            self.refused += growths
+            self.passed += not found
+            self.faults += found[:3]
+
+    def add_wrong(self, tried: int, let: list[str]) -> None:
+        self.passed += tried - len(let)
+        self.faults += let
+
+
+def built(crate: str) -> Path:
+    """A program of the repository, which is proved and built where it isn't yet."""
+    if crate == "hugepool":
+        subprocess.run([TOP / "hugepool", "--help"], stdout=subprocess.DEVNULL, check=True)
+    else:
+        how = {"stdin": subprocess.DEVNULL, "stdout": subprocess.DEVNULL, "stderr": subprocess.DEVNULL}
+        subprocess.run(["rt", "run"], cwd=TOP / "crates" / crate, check=True, **how)
+    return TOP / "crates" / crate / "out" / crate
+
+
+def main() -> int:
+    tried = Tried()
+    program, teller = built("hugepool"), built("hp_refusals")
+    replay, story = Case("replay", example("map-four-of-four.trace"), is_same, is_front), stories()[0]
+    with tempfile.TemporaryDirectory(prefix="growths-") as name, ThreadPoolExecutor(os.cpu_count() or 1) as pool:
+        room = Room(Path(name))
+        tried.add(Program(program, room.library), cases(), fault, pool)
+        tried.add(Program(teller, room.library), stories(), story_fault, pool)
+        tried.add_wrong(len(WRONG) + 1, room.unnoticed(program, replay, fault, WRONG, pool))
+        tried.add_wrong(len(WRONG_STORIES) + 1, room.unnoticed(teller, story, story_fault, WRONG_STORIES, pool))
+    print("".join(f"  {it}\n" for it in tried.faults), end="")
+    print(f"growths: {tried.refused} were refused, one a run")
+    print(f"growths: {tried.passed} passed, {len(tried.faults)} failed")
+    return 1 if tried.faults else 0
+
+
+if __name__ == "__main__":
+    sys.exit(main())
