@@ -87,7 +87,8 @@ one_event tasks events slice n at e told old mid new d dd same lt is number s ro
 
 -- all happened, and the stays of the calls in flight are added
 pub whole_run : (config : Config) (events slice : List Event) (n at : ℕ) (first new : CoreState) (d dd : Drawn)
-    → slice ≡ events → length slice ≤ n → at ≡ n → IsOpening config first → DrawnSoFar (sizes config).tasks events n first new d → dd ≡ with_stays_in at d
+    → slice ≡ events → length slice ≤ n → at ≡ n → IsOpening config first → DrawnSoFar (sizes config).tasks events n first new d
+    → dd ≡ with_stays_in at d
     → IsDrawn (sizes config) events dd
 whole_run config events slice n at first new d dd same le number opening s ends =
     record {

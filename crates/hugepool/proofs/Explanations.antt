@@ -120,7 +120,8 @@ answered_explain from to old new start before mid after failed left (Err f) answ
       subst (λ (b : Option (List ℕ)). ExplainedIn f from to b after) same
           (stopped_in f from to start mid after failed left stopped writes empty kept),
     )
-answered_explain from to old new start before mid after failed left (Err f) answer (Err e) told same done stopped bad reads writes kept empty is not good wrong =
+answered_explain from to old new start before mid after failed left (Err f) answer (Err e) told same done stopped bad reads writes kept empty is not
+    good wrong =
     let ended : told ≡ Err (stop.Replay Write) =
     subst (λ (r : Result (Unit {0}) ReplayFault). IfErr r (λ fault. told ≡ Err (stop.Replay fault))) not wrong in
     subst (λ (t : Result (Unit {0}) Stop). AnsweredExplain t from to old new before (Some after)) (sym ended) (
