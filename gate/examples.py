@@ -1,7 +1,8 @@
 #!/usr/bin/env python3
 """Replays each trace of examples/ and of the folders in it, and compares what is printed with the file NAME.out beside it.
 
-Where NAME.explained stands beside it too, it is what is written where the trace is explained.
+Where NAME.explained stands beside it too, it is what is written where the trace is explained. Each picture docs/pictures/NAME.svg
+is what is drawn of the trace NAME.
 What is complained is compared with NAME.err, and the status with NAME.status; without these files, with nothing and 0.
 Each script is explored by the words behind each `#` of the file NAME.lines beside it, and its lines are compared with those
 below the words; and the schedule of each first run is replayed, and ends with the counts of that run's line. Each script is
@@ -13,11 +14,13 @@ from __future__ import annotations
 import re
 import subprocess
 import sys
+from pathlib import Path
 from typing import Callable
 
 from scratch import TOP
 
 FOLDER = TOP / "examples"
+PICTURES = TOP / "docs" / "pictures"
 # the documents whose commands are run
 SHOWN = ("TRACES.md",)
 RACES = 20
@@ -60,6 +63,21 @@ def explained_difference(name: str) -> str | None:
     """How the explanation of a trace differs from what stands beside it, if it does."""
     printed = output(["explain"], (FOLDER / f"{name}.trace").read_bytes())
     told = wanted(name, "explained", "")
+    return None if printed == told else first_difference(printed.split("\n"), told.split("\n"))
+
+
+def drawn() -> tuple[int, list[str]]:
+    """How many pictures of the documents are what is drawn of their traces, and what is wrong with the others."""
+    pictures = sorted(PICTURES.glob("*.svg"))
+    found = {it.name: picture_difference(it) for it in pictures}
+    faults = [f"docs/pictures/{name}: {what}" for name, what in found.items() if what]
+    return len(pictures) - len(faults), faults or ([] if pictures else ["docs/pictures: there are no pictures"])
+
+
+def picture_difference(picture: Path) -> str | None:
+    """How a picture differs from what is drawn of the trace whose name it has, if it does."""
+    printed = output(["draw"], (FOLDER / f"{picture.stem}.trace").read_bytes())
+    told = picture.read_text(encoding="utf-8")
     return None if printed == told else first_difference(printed.split("\n"), told.split("\n"))
 
 
@@ -155,10 +173,12 @@ def main() -> int:
     faults += more
     explained, more = compared(".trace", ".explained", explained_difference, each=False)
     faults += more
+    pictures, more = drawn()
+    faults += more
     commands, more = shown()
     faults += more
     print("".join(f"  {it}\n" for it in faults), end="")
-    print(f"examples: {traces + scripts + explained + commands} passed, {len(faults)} failed")
+    print(f"examples: {traces + scripts + explained + pictures + commands} passed, {len(faults)} failed")
     return 1 if faults else 0
 
 

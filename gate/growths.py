@@ -108,7 +108,7 @@ def cases() -> list[Case]:
         *(plain("replay", trace) for trace in traces),
         *(plain(f"work {name}", "") for name in WORKLOADS),
         *(plain(f"work {name} --on pool", "") for name in ("shared", "alloc-instantiate-race")),
-        *(plain(words, wide) for words in ("explain", "check", "--help", "replay --help", "nothing", "replay --all")),
+        *(plain(words, wide) for words in ("explain", "draw", "check", "--help", "replay --help", "nothing", "replay --all")),
         plain("replay", example("a-bad-line.trace")),
         plain("explore --seed 7 --runs 3 --deny 100 --kill 10", script),
         plain("explore --runs 2 --audit", crowd(6)),

@@ -24,8 +24,8 @@ resized_line l x =
 
 unfoldable pub resized_words : (frames x y : ℕ) → List ℕ
 resized_words frames x y =
-    codes "<text class='in' x='" ++ (decimal x
-    ++ (codes "' y='" ++ (decimal y ++ (codes "'>" ++ (decimal frames ++ codes " frames</text>")))))
+    codes "<text x='" ++ (decimal x
+    ++ (codes "' dx='4' y='" ++ (decimal y ++ (codes "'>" ++ (decimal frames ++ codes " frames</text>")))))
 
 -- a triangle, a cross, a line down the picture, a circle
 unfoldable pub sign_text : Layout → Sign → (x y : ℕ) → List ℕ

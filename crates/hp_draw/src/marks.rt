@@ -29,14 +29,14 @@ fn push_resized_line(layout: &Layout, x: u64, text: &mut String) -> Result<(), A
     write!(text, "<path class='resized' d='M{x} {TOP}V{foot}'/>")
 }
 
-/// Appends how many frames it has.
+/// Appends how many frames it has, beside the line.
 #[tactic(auto, unfolding(crate::specs::Marks::resized_words))]
 fn push_resized_words(frames: u32, x: u64, y: u64, text: &mut String) -> Result<(), AllocError>
     ensures { OnOk result (string_bytes text.new ≡ string_bytes text.old ++ resized_words frames x y) }
 {
     write!(
         text,
-        "<text class='in' x='{x}' y='{y}'>{frames} frames</text>"
+        "<text x='{x}' dx='4' y='{y}'>{frames} frames</text>"
     )
 }
 

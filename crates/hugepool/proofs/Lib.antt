@@ -1,4 +1,4 @@
 mod Answering
 mod Buffered
 mod Reporting
-mod Explanations
+mod Texts

@@ -3,6 +3,7 @@ use Rattle.std.specs.Prelude.{◌≡◌, ℕ, List, [], Option, Some, None, ◌�
 use Rattle.std.specs.Io.KnownBytes.{Appends, Keeps}
 use Rattle.hp_base.specs.Text.{Sizes, sizes}
 use Rattle.hp_base.specs.declared.event.Event.{Event}
+use Rattle.hp_draw.specs.Drawing.{IsDrawing, PictureOf}
 use Rattle.hp_explain.specs.Explaining.{Beginning, Explained, Explanation}
 use Rattle.hp_explore.specs.Explored.{IsExplored}
 use Rattle.hp_explore.specs.declared.line.RunLine.{RunLine}
@@ -90,36 +91,54 @@ abbrev pub AnsweredCheck : Result (Unit {0}) Stop → Option (List ℕ) → Opti
 AnsweredCheck answer from to old new before after =
     AnsweredBy (Checks from to before) (λ fault. IfSome from (λ bytes. HasFault bytes fault)) answer old new after
 
--- what the output holds is a front of what it held, and of an explanation of the trace that was read, or of its beginning
-pub record ExplainedShort (from to before after : Option (List ℕ)) : Type 0 where
+-- A text about the trace that was read, which is read whole before anything is written: `Done` says of the streams that it was
+-- written, `IsFront` of a text that such a one begins with it.
+
+-- what the output holds is a front of what it held, and of such a text
+pub record TextShort (IsFront : Sizes → List Event → List ℕ → Type 0) (from to before after : Option (List ℕ)) : Type 0 where
   pub sizes : Sizes
   pub events : List Event
   pub text : List ℕ
   pub reads : ReadsTrace from to sizes events
-  pub explains : Beginning sizes events text ⊎ Explanation sizes events text
+  pub is_front : IsFront sizes events text
   pub holds : HoldsFront before after text
 
--- what was written where a trace was not explained to its end: nothing where it was not read, else a front
-abbrev pub ExplainedIn : ReplayFault → Option (List ℕ) → Option (List ℕ) → Option (List ℕ) → Option (List ℕ) → Type 0
-ExplainedIn BadHeader from to before after = Keeps before after
-ExplainedIn (BadLine n) from to before after = Keeps before after
-ExplainedIn Read from to before after = Keeps before after
-ExplainedIn Write from to before after = HoldsFront before after [] ⊎ ExplainedShort from to before after
-ExplainedIn Memory from to before after = HoldsFront before after [] ⊎ ExplainedShort from to before after
+-- what was written where the text was not written to its end: nothing where the trace was not read, else a front
+abbrev pub TextIn : (Sizes → List Event → List ℕ → Type 0) → ReplayFault → Option (List ℕ) → Option (List ℕ)
+    → Option (List ℕ) → Option (List ℕ) → Type 0
+TextIn IsFront BadHeader from to before after = Keeps before after
+TextIn IsFront (BadLine n) from to before after = Keeps before after
+TextIn IsFront Read from to before after = Keeps before after
+TextIn IsFront Write from to before after = HoldsFront before after [] ⊎ TextShort IsFront from to before after
+TextIn IsFront Memory from to before after = HoldsFront before after [] ⊎ TextShort IsFront from to before after
 
 -- where the output went with a buffer that was refused, nothing was read
-abbrev pub ExplainedAt : ReplayFault → Option (List ℕ) → Option (List ℕ) → Option (List ℕ) → Option (Option (List ℕ)) → Type 0
-ExplainedAt fault from to before None = (fault ≡ Memory) × Keeps from to
-ExplainedAt fault from to before (Some after) = ExplainedIn fault from to before after
+abbrev pub TextAt : (Sizes → List Event → List ℕ → Type 0) → ReplayFault → Option (List ℕ) → Option (List ℕ)
+    → Option (List ℕ) → Option (Option (List ℕ)) → Type 0
+TextAt IsFront fault from to before None = (fault ≡ Memory) × Keeps from to
+TextAt IsFront fault from to before (Some after) = TextIn IsFront fault from to before after
+
+abbrev pub AnsweredText : (Option (List ℕ) → Option (List ℕ) → Option (List ℕ) → Option (List ℕ) → Type 0)
+    → (Sizes → List Event → List ℕ → Type 0) → Result (Unit {0}) Stop → Option (List ℕ) → Option (List ℕ) → Bool → Bool
+    → Option (List ℕ) → Option (Option (List ℕ)) → Type 0
+AnsweredText Done IsFront (Ok x) from to old new before after = (new ≡ old) × IfThere after (Done from to before)
+AnsweredText Done IsFront (Err (stop.Replay fault)) from to old new before after =
+    ReaderAt fault old new × IfSome from (λ bytes. HasFault bytes fault) × TextAt IsFront fault from to before after
+AnsweredText Done IsFront (Err stop.Unfinished) from to old new before after = ⊥
+AnsweredText Done IsFront (Err (stop.Usage error)) from to old new before after = ⊥
+AnsweredText Done IsFront (Err (stop.Work fault)) from to old new before after = ⊥
+
+-- the beginning of an explanation, or a whole one
+abbrev pub IsExplaining : Sizes → List Event → List ℕ → Type 0
+IsExplaining s events text = Beginning s events text ⊎ Explanation s events text
 
 abbrev pub AnsweredExplain : Result (Unit {0}) Stop → Option (List ℕ) → Option (List ℕ) → Bool → Bool
     → Option (List ℕ) → Option (Option (List ℕ)) → Type 0
-AnsweredExplain (Ok x) from to old new before after = (new ≡ old) × IfThere after (Explained from to before)
-AnsweredExplain (Err (stop.Replay fault)) from to old new before after =
-    ReaderAt fault old new × IfSome from (λ bytes. HasFault bytes fault) × ExplainedAt fault from to before after
-AnsweredExplain (Err stop.Unfinished) from to old new before after = ⊥
-AnsweredExplain (Err (stop.Usage error)) from to old new before after = ⊥
-AnsweredExplain (Err (stop.Work fault)) from to old new before after = ⊥
+AnsweredExplain answer from to old new before after = AnsweredText Explained IsExplaining answer from to old new before after
+
+abbrev pub AnsweredDraw : Result (Unit {0}) Stop → Option (List ℕ) → Option (List ℕ) → Bool → Bool
+    → Option (List ℕ) → Option (Option (List ℕ)) → Type 0
+AnsweredDraw answer from to old new before after = AnsweredText IsDrawing PictureOf answer from to old new before after
 
 abbrev pub AnsweredSchedule : Scheduling → Result (Unit {0}) Stop → Option (List ℕ) → Option (List ℕ) → Bool → Bool
     → Option (List ℕ) → Option (Option (List ℕ)) → Type 0
@@ -133,6 +152,7 @@ Answered request.Replay answer from to old new before after = AnsweredReplay ans
 Answered (request.Explore e) answer from to old new before after = AnsweredExplore e answer from to old new before after
 Answered request.Check answer from to old new before after = AnsweredCheck answer from to old new before after
 Answered request.Explain answer from to old new before after = AnsweredExplain answer from to old new before after
+Answered request.Draw answer from to old new before after = AnsweredDraw answer from to old new before after
 Answered (request.Schedule s) answer from to old new before after = AnsweredSchedule s answer from to old new before after
 Answered (request.Race r) answer from to old new before after = AnsweredRace r answer from to old new before after
 Answered (request.Work words) answer from to old new before after =

@@ -24,6 +24,8 @@ pub(crate) enum Request {
     Check,
     /// To read a trace, and explain it.
     Explain,
+    /// To read a trace, and draw it.
+    Draw,
     /// To read a script, and write one run of it as a trace.
     Schedule(Scheduling),
     /// To read a script, and race its tasks.
@@ -39,6 +41,7 @@ pub(crate) fn read_words<S: AsStr>(alloc: Global, words: &[S]) -> Result<Request
         Some(("explore", given)) => Request::Explore(exploration(given)),
         Some(("check", _)) => Request::Check,
         Some(("explain", _)) => Request::Explain,
+        Some(("draw", _)) => Request::Draw,
         Some(("schedule", given)) => Request::Schedule(Scheduling {
             seed: seed(given),
             chances: chances(given),
@@ -87,7 +90,11 @@ The calls, of files counted from 0, whose pages are 0 to 4095:
   map FILE FROM LEN, mapn FILE FROM LEN, unmap BASE, load PAGE, store PAGE WORD, exit,
   alloc FILE FROM LEN, allock FILE FROM LEN, punch FILE FROM LEN, trunc FILE SIZE
 Some traces, each beside what it writes, stand in examples/:
-  hugepool replay < examples/map-four-of-four.trace";
+  hugepool replay < examples/map-four-of-four.trace
+  hugepool explain < examples/truncate-overtakes-a-store.trace
+  hugepool draw < examples/truncate-overtakes-a-store.trace > run.svg
+  hugepool check < examples/map-four-of-four.trace
+docs/TRACES.md tells the whole form, and what each outcome means.";
 
 // What is told below the options of those that read a script.
 const SCRIPTS: &str =
@@ -107,6 +114,7 @@ fn command<'a>(alloc: Global) -> Result<Command<'a>, Error> {
             .subcommand_required(true)
             .subcommand(replay(alloc))?
             .subcommand(explain(alloc))?
+            .subcommand(draw(alloc))?
             .subcommand(explore(alloc)?)?
             .subcommand(check(alloc))?
             .subcommand(schedule(alloc)?)?
@@ -137,6 +145,15 @@ fn explain<'a>(alloc: Global) -> Command<'a> {
             "Reads a trace from standard input, runs it, and writes a row of words for each event and then the state",
         )
         .override_usage("hugepool explain < FILE")
+        .after_help(TRACES)
+}
+
+fn draw<'a>(alloc: Global) -> Command<'a> {
+    Command::new(alloc, "draw")
+        .about(
+            "Reads a trace from standard input, runs it, and writes a picture of the run, an SVG for a browser",
+        )
+        .override_usage("hugepool draw < FILE")
         .after_help(TRACES)
 }
 

@@ -1,16 +1,14 @@
 //! Tests of `hugepool explain`, over fake streams.
 use crate::program::program;
+use crate::tests::told;
 use hp_replay::Watched;
-use std::alloc::Global;
 use std::io;
 use std::io::{ErrorKind, Read, Write};
-use std::sync::Wait;
-use std::thread::Threads;
 
 const WORDS: [&str; 2] = ["hugepool", "explain"];
 
 /// A map of four pages of four that isn't over: by the tables it holds the file's lock, and has counted nothing yet.
-const TRACE: &str =
+pub(crate) const TRACE: &str =
     "pool 4 1 4 2\nbegin 1 map 0 0 4\nstep 1\nbegin 2 trunc 0 1\nstep 2\nresize 5\n";
 
 const TEXT: &str =
@@ -28,23 +26,9 @@ task 1 alive mappings 0 entries 0
 task 2 alive mappings 0 entries 0
 ";
 
-/// The status, the output and the fault lines.
-fn explained<R: Threads + Wait + Sync>(
-    rt: &R,
-    alloc: Global,
-    words: &[&str],
-    input: &str,
-) -> (u8, Vec<u8>, Vec<u8>) {
-    let mut out = Vec::new(alloc);
-    let mut faults = Vec::new(alloc);
-    let mut bytes = input.as_bytes();
-    let (status, _) = program(rt, alloc, words, &mut bytes, &mut out, &mut faults);
-    (status, out, faults)
-}
-
 #[test]
 fn a_trace_is_explained(rt: HostRuntime) {
-    let (status, out, faults) = explained(&rt, rt.alloc(), &WORDS, TRACE);
+    let (status, out, faults) = told(&rt, rt.alloc(), &WORDS, TRACE);
     assert_eq!(rt; status, 0);
     assert!(rt; faults.is_empty());
     assert_eq!(rt; out.as_slice(), TEXT.as_bytes());
@@ -53,7 +37,7 @@ fn a_trace_is_explained(rt: HostRuntime) {
 /// The whole trace is read before anything is written.
 #[test]
 fn a_bad_line_is_told_before_any_row(rt: HostRuntime) {
-    for (trace, told) in [
+    for (trace, fault) in [
         (
             "pool 1 1 1 1\nstep 1\nstep 01\n",
             "hugepool: line 3 is not allowed here\n",
@@ -64,16 +48,16 @@ fn a_bad_line_is_told_before_any_row(rt: HostRuntime) {
         ),
         ("", "hugepool: line 1 is not a pool header\n"),
     ] {
-        let (status, out, faults) = explained(&rt, rt.alloc(), &WORDS, trace);
+        let (status, out, faults) = told(&rt, rt.alloc(), &WORDS, trace);
         assert_eq!(rt; status, 1);
         assert!(rt; out.is_empty());
-        assert_eq!(rt; faults.as_slice(), told.as_bytes());
+        assert_eq!(rt; faults.as_slice(), fault.as_bytes());
     }
 }
 
 #[test]
 fn help_of_explain_is_told(rt: HostRuntime) {
-    let (status, out, faults) = explained(&rt, rt.alloc(), &["hugepool", "explain", "--help"], "");
+    let (status, out, faults) = told(&rt, rt.alloc(), &["hugepool", "explain", "--help"], "");
     assert_eq!(rt; status, 0);
     assert!(rt; faults.is_empty());
     assert!(rt;
@@ -86,9 +70,9 @@ fn help_of_explain_is_told(rt: HostRuntime) {
 
 /// An output with room for some bytes.
 #[derive(Drop)]
-struct Narrow {
-    taken: Vec<u8>,
-    room: usize,
+pub(crate) struct Narrow {
+    pub(crate) taken: Vec<u8>,
+    pub(crate) room: usize,
 }
 
 impl Write for Narrow {
@@ -129,8 +113,8 @@ fn a_failed_write_leaves_a_front(rt: HostRuntime) {
 
 /// Gives its bytes, and then answers an error.
 #[derive(Drop)]
-struct Cut<'a> {
-    bytes: &'a [u8],
+pub(crate) struct Cut<'a> {
+    pub(crate) bytes: &'a [u8],
 }
 
 impl Read for Cut<'_> {

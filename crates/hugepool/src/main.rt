@@ -8,6 +8,7 @@
 mod carrying;
 mod checking;
 mod command;
+mod drawing;
 mod explaining;
 mod exploring;
 mod program;
@@ -39,6 +40,8 @@ fn main(rt: HostRuntime) -> io::Result<ExitCode> {
     Ok(ExitCode::from(status))
 }
 
+#[cfg(test)]
+mod drawing_tests;
 #[cfg(test)]
 mod explaining_tests;
 #[cfg(test)]

@@ -10,6 +10,7 @@ ghost use Rattle.hugepool.specs.Status.{status_of, status_at};
 
 use crate::checking::run_check;
 use crate::command::{Request, read_words};
+use crate::drawing::run_draw;
 use crate::explaining::run_explain;
 use crate::exploring::run_explore;
 use crate::racing::run_race;
@@ -143,6 +144,7 @@ fn answer<H: Threads + Wait + Sync, R: Source, W: Write + Drop>(
         Ok(Request::Explore(exploration)) => run_explore(rt, alloc, exploration, reader, out),
         Ok(Request::Check) => run_check(alloc, reader, out),
         Ok(Request::Explain) => run_explain(alloc, reader, out),
+        Ok(Request::Draw) => run_draw(alloc, reader, out),
         Ok(Request::Schedule(scheduling)) => run_schedule(alloc, scheduling, reader, out),
         Ok(Request::Race(racing)) => run_race(rt, alloc, racing, reader, out),
         Ok(Request::Work(words)) => run_work(rt, alloc, words, out),

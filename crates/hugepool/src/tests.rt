@@ -63,6 +63,10 @@ The calls, of files counted from 0, whose pages are 0 to 4095:
   alloc FILE FROM LEN, allock FILE FROM LEN, punch FILE FROM LEN, trunc FILE SIZE
 Some traces, each beside what it writes, stand in examples/:
   hugepool replay < examples/map-four-of-four.trace
+  hugepool explain < examples/truncate-overtakes-a-store.trace
+  hugepool draw < examples/truncate-overtakes-a-store.trace > run.svg
+  hugepool check < examples/map-four-of-four.trace
+docs/TRACES.md tells the whole form, and what each outcome means.
 ";
 
 const HELP: &str = "A pool of huge pages: Linux's hugetlbfs reservations, step by step
@@ -72,6 +76,7 @@ Usage: hugepool <COMMAND>
 Commands:
   replay    Reads a trace from standard input, runs it, and writes a line for each outcome and then the state
   explain   Reads a trace from standard input, runs it, and writes a row of words for each event and then the state
+  draw      Reads a trace from standard input, runs it, and writes a picture of the run, an SVG for a browser
   explore   Reads a script from standard input, and writes a line for each of its runs
   check     Reads a trace from standard input, and writes how many events it has
   schedule  Reads a script from standard input, and writes its run 0 as a trace
@@ -271,7 +276,7 @@ fn refused<R: Threads + Wait + Sync>(
 #[test]
 fn no_word(rt: HostRuntime) {
     let text = "error: 'hugepool' requires a subcommand but one was not provided
-  [subcommands: replay, explain, explore, check, schedule, race, work, help]
+  [subcommands: replay, explain, draw, explore, check, schedule, race, work, help]
 
 Usage: hugepool <COMMAND>
 

@@ -54,7 +54,10 @@ impl WorkFault {
 }
 
 // What is told below the options.
-const WORKLOADS: &str = "The workloads, after tests of libhugetlbfs:
+const WORKLOADS: &str = "One of them, on a pool with a thread for each call of a round:
+  hugepool work readback --on pool
+
+The workloads, after tests of libhugetlbfs:
   readback                     a word that was stored is loaded again
   shared                       two tasks that map one page see each other's words
   truncate                     a page that was cut off is beyond the end of its file

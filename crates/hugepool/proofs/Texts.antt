@@ -1,0 +1,229 @@
+-- A text about a trace, an explanation or a picture, that is written to a buffered output.
+use Rattle.std.proofs.Common.{◌≡◌, ℕ, List, [], Option, Some, Bool, true, false, sym, subst, inl, inr}
+use Rattle.std.specs.Prelude.{OnOk, OnErr, IfErr, IfSome, Result, Ok, Err, ◌⊎◌}
+use Rattle.std.specs.Io.KnownBytes.{Keeps, append_known}
+use Rattle.std.proofs.KnownBytes.{Appends-kept, Keeps-trans}
+use Rattle.hp_base.specs.Text.{Sizes}
+use Rattle.hp_base.specs.declared.event.Event.{Event}
+use Rattle.hp_draw.specs.Drawing.{IsDrawing, IsPartOfDrawing, NotDrawn, PartlyDrawn, PictureOf}
+use Rattle.hp_explain.specs.Explaining.{Explained, ExplainedPartly, NotExplained, PartlyExplained, nothing, some_rows, to_the_end}
+use Rattle.hp_replay.specs.Collecting.{NotRead, ReadsTrace}
+use Rattle.hp_replay.specs.Streams.{sink_at, TellsReads, TellsWrites}
+use Rattle.hp_replay.specs.Traces.{HasFault}
+use Rattle.hp_replay.specs.Writing.{IsWriteFault, Wrote}
+use Rattle.hp_replay.specs.declared.fault.ReplayFault.{ReplayFault}
+use Rattle.hp_replay.specs.declared.fault.ReplayFault.TheVariants.{BadLine, BadHeader, Read, Write, Memory}
+use Rattle.hugepool.specs.Endings.{HoldsFront}
+use Rattle.hugepool.specs.Requests.{AnsweredDraw, AnsweredExplain, AnsweredText, IsExplaining, TextIn, TextShort}
+use Rattle.hugepool.specs.declared.program.Stop.{Stop}
+use Rattle.hugepool.specs.declared.program.Stop.TheVariants as stop
+use Rattle.hugepool.proofs.Answering.{no_trace_fault, reader_at}
+use Rattle.hugepool.proofs.Buffered.{all_of, holds, none_of, unbuffered}
+
+-- what a reader has left at first and in the end, and what a writer holds
+abbrev Between : Type 1
+Between = Option (List ℕ) → Option (List ℕ) → Option (List ℕ) → Option (List ℕ) → Type 0
+
+-- the output holds nothing new, or a front of such a text
+abbrev HasFront : (Sizes → List Event → List ℕ → Type 0) → Between
+HasFront IsFront from to before after = HoldsFront before after [] ⊎ TextShort IsFront from to before after
+
+-- How such a text passes through a buffer that may keep some of it, where `Done` says that it was written and `Partly` that
+-- a front of it was
+record Passes (Done Partly : Between) (IsFront : Sizes → List Event → List ℕ → Type 0) : Type 0 where
+  kept : (from to before mid after : Option (List ℕ)) → Keeps mid after → Done from to before mid → Done from to before after
+  whole : (from to before mid after : Option (List ℕ)) (left : List ℕ) → Keeps mid (append_known after left) → Done from to before mid
+      → HasFront IsFront from to before after
+  part : (from to before mid after : Option (List ℕ)) (left : List ℕ) → Keeps mid (append_known after left) → Partly from to before mid
+      → HasFront IsFront from to before after
+
+-- nothing is written before the whole trace is read
+abbrev Stopped : Between → ReplayFault → Between
+Stopped Partly fault from to before after = (NotRead fault from to × Keeps before after) ⊎ (IsWriteFault fault × Partly from to before after)
+
+-- an empty buffer held nothing back
+all_kept : (mid after : Option (List ℕ)) (left : List ℕ) → left ≡ [] → Keeps mid (append_known after left) → Keeps mid after
+all_kept mid after left empty kept =
+    subst (λ (x : Option (List ℕ)). Keeps mid x) (unbuffered after)
+    (subst (λ (x : List ℕ). Keeps mid (append_known after x)) empty kept)
+
+stopped_short : (Done Partly : Between) (IsFront : Sizes → List Event → List ℕ → Type 0) → Passes Done Partly IsFront
+    → (fault : ReplayFault) (from to before mid after : Option (List ℕ)) (left : List ℕ) → Stopped Partly fault from to before mid
+    → Keeps mid (append_known after left) → HasFront IsFront from to before after
+stopped_short Done Partly IsFront passes fault from to before mid after left (inl (not_read, none)) kept =
+    inl (holds before mid after left [] (none_of before mid none) kept)
+stopped_short Done Partly IsFront passes fault from to before mid after left (inr (is, partly)) kept =
+    passes.part from to before mid after left kept partly
+
+-- what was written where the fault is told; a sink that has not failed is flushed
+stopped_in : (Done Partly : Between) (IsFront : Sizes → List Event → List ℕ → Type 0) → Passes Done Partly IsFront
+    → (fault : ReplayFault) (from to before mid after : Option (List ℕ)) (failed : Bool) (left : List ℕ)
+    → Stopped Partly fault from to before mid → failed ≡ sink_at fault false → (failed ≡ false → left ≡ [])
+    → Keeps mid (append_known after left) → TextIn IsFront fault from to before after
+stopped_in Done Partly IsFront passes BadHeader from to before mid after failed left (inl (not_read, none)) told empty kept =
+    Keeps-trans before mid after none (all_kept mid after left (empty told) kept)
+stopped_in Done Partly IsFront passes BadHeader from to before mid after failed left (inr (is, partly)) told empty kept = absurd is
+stopped_in Done Partly IsFront passes (BadLine n) from to before mid after failed left (inl (not_read, none)) told empty kept =
+    Keeps-trans before mid after none (all_kept mid after left (empty told) kept)
+stopped_in Done Partly IsFront passes (BadLine n) from to before mid after failed left (inr (is, partly)) told empty kept = absurd is
+stopped_in Done Partly IsFront passes Read from to before mid after failed left (inl (not_read, none)) told empty kept =
+    Keeps-trans before mid after none (all_kept mid after left (empty told) kept)
+stopped_in Done Partly IsFront passes Read from to before mid after failed left (inr (is, partly)) told empty kept = absurd is
+stopped_in Done Partly IsFront passes Write from to before mid after failed left h told empty kept =
+    stopped_short Done Partly IsFront passes Write from to before mid after left h kept
+stopped_in Done Partly IsFront passes Memory from to before mid after failed left h told empty kept =
+    stopped_short Done Partly IsFront passes Memory from to before mid after left h kept
+
+-- what is answered, through a buffer that may keep some of it
+answered_text : {E : Type 0} (Done Partly : Between) (IsFront : Sizes → List Event → List ℕ → Type 0) → Passes Done Partly IsFront
+    → (from to : Option (List ℕ)) (old new : Bool) (start before mid after : Option (List ℕ)) (failed : Bool) (left : List ℕ)
+    → (wrote answer : Result (Unit {0}) ReplayFault) (flushed : Result (Unit {0}) E) (told : Result (Unit {0}) Stop)
+    → start ≡ before → OnOk wrote (Done from to start mid)
+    → IfErr wrote (λ fault. Stopped Partly fault from to start mid)
+    → IfErr wrote (λ fault. IfSome from (λ bytes. HasFault bytes fault)) → TellsReads wrote old new
+    → TellsWrites wrote false failed → Keeps mid (append_known after left) → OnOk flushed (failed ≡ false → left ≡ [])
+    → OnOk flushed (answer ≡ wrote) → OnErr flushed (answer ≡ Err Write) → OnOk answer (told ≡ Ok tt)
+    → IfErr answer (λ fault. told ≡ Err (stop.Replay fault)) → AnsweredText Done IsFront told from to old new before (Some after)
+answered_text Done Partly IsFront passes from to old new start before mid after failed left (Ok x) answer (Ok y) told same done stopped bad reads
+    writes kept empty is not good wrong =
+    let ended : told ≡ Ok tt = subst (λ (r : Result (Unit {0}) ReplayFault). OnOk r (told ≡ Ok tt)) is good in
+    subst (λ (t : Result (Unit {0}) Stop). AnsweredText Done IsFront t from to old new before (Some after)) (sym ended) (
+      reads,
+      subst (λ (b : Option (List ℕ)). Done from to b after) same
+          (passes.kept from to start mid after (all_kept mid after left (empty writes) kept) done),
+    )
+answered_text Done Partly IsFront passes from to old new start before mid after failed left (Ok x) answer (Err e) told same done stopped bad reads
+    writes kept empty is not good wrong =
+    let ended : told ≡ Err (stop.Replay Write) = 
+    subst (λ (r : Result (Unit {0}) ReplayFault). IfErr r (λ fault. told ≡ Err (stop.Replay fault))) not wrong in
+    subst (λ (t : Result (Unit {0}) Stop). AnsweredText Done IsFront t from to old new before (Some after)) (sym ended) (
+      tt,
+      no_trace_fault from Write tt,
+      subst (λ (b : Option (List ℕ)). HasFront IsFront from to b after) same (passes.whole from to start mid after left kept done),
+    )
+answered_text Done Partly IsFront passes from to old new start before mid after failed left (Err f) answer (Ok y) told same done stopped bad reads
+    writes kept empty is not good wrong =
+    let ended : told ≡ Err (stop.Replay f) = 
+    subst (λ (r : Result (Unit {0}) ReplayFault). IfErr r (λ fault. told ≡ Err (stop.Replay fault))) is wrong in
+    subst (λ (t : Result (Unit {0}) Stop). AnsweredText Done IsFront t from to old new before (Some after)) (sym ended) (
+      reader_at f old new reads,
+      bad,
+      subst (λ (b : Option (List ℕ)). TextIn IsFront f from to b after) same
+          (stopped_in Done Partly IsFront passes f from to start mid after failed left stopped writes empty kept),
+    )
+answered_text Done Partly IsFront passes from to old new start before mid after failed left (Err f) answer (Err e) told same done stopped bad reads
+    writes kept empty is not good wrong =
+    let ended : told ≡ Err (stop.Replay Write) = 
+    subst (λ (r : Result (Unit {0}) ReplayFault). IfErr r (λ fault. told ≡ Err (stop.Replay fault))) not wrong in
+    subst (λ (t : Result (Unit {0}) Stop). AnsweredText Done IsFront t from to old new before (Some after)) (sym ended) (
+      tt,
+      no_trace_fault from Write tt,
+      subst (λ (b : Option (List ℕ)). HasFront IsFront from to b after) same
+          (stopped_short Done Partly IsFront passes f from to start mid after left stopped kept),
+    )
+
+-- an explanation
+explains_part : (from to before mid after : Option (List ℕ)) (left : List ℕ) (s : Sizes) (events : List Event)
+    → ReadsTrace from to s events → PartlyExplained s events before mid → Keeps mid (append_known after left)
+    → HasFront IsExplaining from to before after
+explains_part from to before mid after left s events reads (nothing none) kept =
+    inl (holds before mid after left [] (none_of before mid none) kept)
+explains_part from to before mid after left s events reads (some_rows text begins wrote) kept =
+    inr (record {
+      sizes = s;
+      events = events;
+      text = text;
+      reads = reads;
+      is_front = inl begins;
+      holds = holds before mid after left text wrote kept;
+    })
+explains_part from to before mid after left s events reads (to_the_end text explains wrote) kept =
+    inr (record {
+      sizes = s;
+      events = events;
+      text = text;
+      reads = reads;
+      is_front = inr explains;
+      holds = holds before mid after left text wrote kept;
+    })
+
+explanation_passes : Passes Explained ExplainedPartly IsExplaining
+explanation_passes =
+    record {
+      kept = λ from to before mid after kept h. record {
+        sizes = h.sizes;
+        events = h.events;
+        reads = h.reads;
+        wrote = record {
+          text = h.wrote.text;
+          explains = h.wrote.explains;
+          wrote = Appends-kept before mid after h.wrote.text h.wrote.wrote kept;
+        };
+      };
+      whole = λ from to before mid after left kept h. inr (record {
+        sizes = h.sizes;
+        events = h.events;
+        text = h.wrote.text;
+        reads = h.reads;
+        is_front = inr h.wrote.explains;
+        holds = holds before mid after left h.wrote.text (all_of before mid h.wrote.text h.wrote.wrote) kept;
+      });
+      part = λ from to before mid after left kept h. explains_part from to before mid after left h.sizes h.events h.reads h.wrote kept;
+    }
+
+pub answered_explain : {E : Type 0} (from to : Option (List ℕ)) (old new : Bool) (start before mid after : Option (List ℕ)) (failed : Bool)
+    (left : List ℕ) (wrote answer : Result (Unit {0}) ReplayFault) (flushed : Result (Unit {0}) E) (told : Result (Unit {0}) Stop)
+    → start ≡ before → OnOk wrote (Explained from to start mid) → IfErr wrote (λ fault. NotExplained fault from to start mid)
+    → IfErr wrote (λ fault. IfSome from (λ bytes. HasFault bytes fault)) → TellsReads wrote old new → TellsWrites wrote false failed
+    → Keeps mid (append_known after left) → OnOk flushed (failed ≡ false → left ≡ []) → OnOk flushed (answer ≡ wrote)
+    → OnErr flushed (answer ≡ Err Write) → OnOk answer (told ≡ Ok tt) → IfErr answer (λ fault. told ≡ Err (stop.Replay fault))
+    → AnsweredExplain told from to old new before (Some after)
+answered_explain = answered_text Explained ExplainedPartly IsExplaining explanation_passes
+
+-- a picture
+draws_part : (from to before mid after : Option (List ℕ)) (left : List ℕ) (s : Sizes) (events : List Event)
+    → ReadsTrace from to s events → PartlyDrawn s events before mid → Keeps mid (append_known after left)
+    → HasFront PictureOf from to before after
+draws_part from to before mid after left s events reads (inl none) kept = inl (holds before mid after left [] (none_of before mid none) kept)
+draws_part from to before mid after left s events reads (inr front) kept =
+    inr (record {
+      sizes = s;
+      events = events;
+      text = front.text;
+      reads = reads;
+      is_front = front.pictures;
+      holds = holds before mid after left front.text front.wrote kept;
+    })
+
+picture_passes : Passes IsDrawing IsPartOfDrawing PictureOf
+picture_passes =
+    record {
+      kept = λ from to before mid after kept h. record {
+        sizes = h.sizes;
+        events = h.events;
+        reads = h.reads;
+        wrote = record {
+          text = h.wrote.text;
+          pictures = h.wrote.pictures;
+          wrote = Appends-kept before mid after h.wrote.text h.wrote.wrote kept;
+        };
+      };
+      whole = λ from to before mid after left kept h. inr (record {
+        sizes = h.sizes;
+        events = h.events;
+        text = h.wrote.text;
+        reads = h.reads;
+        is_front = h.wrote.pictures;
+        holds = holds before mid after left h.wrote.text (all_of before mid h.wrote.text h.wrote.wrote) kept;
+      });
+      part = λ from to before mid after left kept h. draws_part from to before mid after left h.sizes h.events h.reads h.wrote kept;
+    }
+
+pub answered_draw : {E : Type 0} (from to : Option (List ℕ)) (old new : Bool) (start before mid after : Option (List ℕ)) (failed : Bool)
+    (left : List ℕ) (wrote answer : Result (Unit {0}) ReplayFault) (flushed : Result (Unit {0}) E) (told : Result (Unit {0}) Stop)
+    → start ≡ before → OnOk wrote (IsDrawing from to start mid) → IfErr wrote (λ fault. NotDrawn fault from to start mid)
+    → IfErr wrote (λ fault. IfSome from (λ bytes. HasFault bytes fault)) → TellsReads wrote old new → TellsWrites wrote false failed
+    → Keeps mid (append_known after left) → OnOk flushed (failed ≡ false → left ≡ []) → OnOk flushed (answer ≡ wrote)
+    → OnErr flushed (answer ≡ Err Write) → OnOk answer (told ≡ Ok tt) → IfErr answer (λ fault. told ≡ Err (stop.Replay fault))
+    → AnsweredDraw told from to old new before (Some after)
+answered_draw = answered_text IsDrawing IsPartOfDrawing PictureOf picture_passes

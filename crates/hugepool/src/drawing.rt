@@ -1,0 +1,31 @@
+//! `hugepool draw`: a picture of a trace.
+ghost use Rattle.std.specs.Prelude.{◌≡◌, Ok, Err, OnOk, Some, IfErr, IfSome};
+ghost use Rattle.std.specs.Option.{option_map};
+ghost use Rattle.hugepool.specs.Requests.{AnsweredDraw};
+
+use crate::program::{Stop, flush_unless, flushed_answer, stopped};
+use hp_draw::draw;
+use hp_replay::{ReplayFault, Source, Watched};
+use std::alloc::Global;
+use std::io::{BufWriter, Write};
+
+/// Draws a trace. Output is buffered.
+pub(crate) fn run_draw<R: Source, W: Write + Drop>(
+    alloc: Global,
+    reader: &mut R,
+    out: W,
+) -> (Result<(), Stop>, Option<W>)
+    ensures { AnsweredDraw result.0 (R.remaining reader.old) (R.remaining reader.new) (R.failed reader.old)
+        (R.failed reader.new) (W.contents out) (option_map W.contents result.1) }
+{
+    let Ok(buffered) = BufWriter::new(alloc, out) else {
+        return (Err(Stop::Replay(ReplayFault::Memory)), None);
+    };
+    let mut sink = Watched::new(buffered);
+    let drawn = draw(alloc, reader, &mut sink);
+    let has_failed = sink.has_failed();
+    let mut buffered = sink.into_inner();
+    let flushed = flush_unless(has_failed, &mut buffered);
+    let (out, _left) = buffered.into_parts();
+    (stopped(flushed_answer(drawn, flushed)), Some(out))
+}

@@ -1,0 +1,101 @@
+//! Tests of `hugepool draw`, over fake streams.
+use crate::explaining_tests::{Cut, Narrow, TRACE};
+use crate::program::program;
+use crate::tests::told;
+use hp_replay::Watched;
+use std::test::Fail;
+
+const WORDS: [&str; 2] = ["hugepool", "draw"];
+
+/// What the picture tells of each stay of the two calls in a phase, and of the resize, in the numbers of the trace's lines.
+const TITLES: [&str; 5] = [
+    "line 2: map 0 0 4 of task 1 at start",
+    "line 3: map 0 0 4 of task 1 at room",
+    "line 4: trunc 0 1 of task 2 at start",
+    "line 5: trunc 0 1 of task 2 at start, blocked by task 1",
+    "line 6: resized to 5 frames",
+];
+
+#[test]
+fn a_trace_is_drawn(rt: HostRuntime) -> Result<(), Fail> {
+    let (status, out, faults) = told(&rt, rt.alloc(), &WORDS, TRACE);
+    assert_eq!(rt; status, 0);
+    assert!(rt; faults.is_empty());
+    let text = str::from_utf8(out.as_slice())?;
+    assert!(rt; text.starts_with("<svg xmlns=") && text.ends_with("</svg>\n"));
+    for title in TITLES {
+        let whole = format!(in rt.alloc(); "<title>{title}</title>")?;
+        let (front, behind) = text.split_once(whole.as_str()).ok_or("a title of each")?;
+        assert!(rt; !front.is_empty());
+        assert_eq!(rt; behind.split_once(whole.as_str()), None);
+    }
+    Ok(())
+}
+
+/// The whole trace is read before anything is written.
+#[test]
+fn a_bad_line_is_told_before_any_picture(rt: HostRuntime) {
+    for (trace, fault) in [
+        (
+            "pool 1 1 1 1\nstep 1\nstep 01\n",
+            "hugepool: line 3 is not allowed here\n",
+        ),
+        ("", "hugepool: line 1 is not a pool header\n"),
+    ] {
+        let (status, out, faults) = told(&rt, rt.alloc(), &WORDS, trace);
+        assert_eq!(rt; status, 1);
+        assert!(rt; out.is_empty());
+        assert_eq!(rt; faults.as_slice(), fault.as_bytes());
+    }
+}
+
+#[test]
+fn help_of_draw_is_told(rt: HostRuntime) {
+    let (status, out, faults) = told(&rt, rt.alloc(), &["hugepool", "draw", "--help"], "");
+    assert_eq!(rt; status, 0);
+    assert!(rt; faults.is_empty());
+    assert!(rt;
+        out.starts_with(
+            b"Reads a trace from standard input, runs it, and writes a picture of the run, an SVG for a browser\n\n\
+            Usage: hugepool draw < FILE\n"
+        )
+    );
+}
+
+/// Wherever the output ends, a front of the picture is written and the fault is told.
+#[test]
+fn a_failed_write_leaves_a_front_of_the_picture(rt: HostRuntime) {
+    let (_status, whole, _faults) = told(&rt, rt.alloc(), &WORDS, TRACE);
+    for room in [0, 1, 100, 4000, whole.len() - 1] {
+        let mut out = Narrow {
+            taken: Vec::new(rt.alloc()),
+            room,
+        };
+        let mut faults = Vec::new(rt.alloc());
+        let mut bytes = TRACE.as_bytes();
+        let (status, _) = program(&rt, rt.alloc(), &WORDS, &mut bytes, &mut out, &mut faults);
+        assert_eq!(rt; status, 1);
+        assert_eq!(rt; out.taken.len(), room);
+        assert!(rt; whole.starts_with(out.taken.as_slice()));
+        assert_eq!(rt; faults.as_slice(), b"hugepool: writing failed\n".as_slice());
+    }
+}
+
+#[test]
+fn a_failed_read_is_told_before_any_picture(rt: HostRuntime) {
+    let mut out = Vec::new(rt.alloc());
+    let mut faults = Vec::new(rt.alloc());
+    let (status, _) = program(
+        &rt,
+        rt.alloc(),
+        &WORDS,
+        &mut Watched::new(Cut {
+            bytes: TRACE.as_bytes(),
+        }),
+        &mut out,
+        &mut faults,
+    );
+    assert_eq!(rt; status, 1);
+    assert!(rt; out.is_empty());
+    assert_eq!(rt; faults.as_slice(), b"hugepool: reading failed\n".as_slice());
+}
