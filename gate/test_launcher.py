@@ -7,6 +7,7 @@ import shutil
 import subprocess
 import sys
 import tempfile
+from concurrent.futures import ThreadPoolExecutor
 from pathlib import Path
 from typing import Iterator
 
@@ -20,6 +21,7 @@ mkdir -p out
 printf '#!/bin/sh\\necho "$@" of %s\\n' "$(wc -l < ../../builds)" > out/hugepool
 chmod +x out/hugepool
 [ ! -e ../../slow ] || { sleep 0.02; echo changed >> ../a/src/main.rt; }
+[ ! -e ../../long ] || sleep 0.5
 """
 
 
@@ -86,6 +88,10 @@ def tries(room: Room) -> Iterator[tuple[str, bool]]:
         yield f"a failure is told{again}", (status, out, why) == (126, "", True)
     (room.top / "broken").unlink()
     yield "after it was mended it is built", room.runs_build(10) and room.runs_build(10)
+    room.write("long", "")
+    room.write("crates/a/src/main.rt", "newer")
+    with ThreadPoolExecutor(3) as pool:
+        yield "of three calls at once one builds", all(pool.map(room.runs_build, [11, 11, 11]))
 
 
 def main() -> int:
