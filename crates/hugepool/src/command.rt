@@ -101,7 +101,7 @@ const SCRIPTS: &str =
     "A script is a trace whose events are begins alone: the calls that each task makes, in order. Tasks take turns
 by chance: a turn begins the next call of a task, or makes a step of the call that it is in. Run K goes by the
 generator that is seeded with SEED + K, so that it is the same each time, whatever comes before it.
-Some scripts stand in examples/:
+docs/TRACES.md and hugepool replay --help tell the form of a trace. Some scripts stand in examples/:
   hugepool explore --seed 7 --runs 3 < examples/truncate-against-store.script
   hugepool schedule --seed 7 < examples/truncate-against-store.script | hugepool replay";
 

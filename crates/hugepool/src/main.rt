@@ -48,3 +48,5 @@ mod explaining_tests;
 mod race_tests;
 #[cfg(test)]
 mod tests;
+#[cfg(test)]
+mod texts;

@@ -1,5 +1,6 @@
 //! The words, the lines and the statuses of `hugepool race`.
 use crate::tests::told;
+use crate::texts::difference;
 
 const RACE_HELP: &str =
     "Reads a script from standard input, races its tasks in threads, and writes a line for each race
@@ -19,7 +20,7 @@ two races need be alike. At the end what each task did is compared with what hap
   astray       a call ended as none may
 An entry is a hold of the pool's lock that changed it. A trace has the events of all entries, in their order, a million
 at most; where the race isn't closed, nothing is written.
-Some scripts stand in examples/:
+docs/TRACES.md and hugepool replay --help tell the form of a trace. Some scripts stand in examples/:
   hugepool race --times 3 < examples/truncate-against-store.script
   hugepool race --trace < examples/truncate-against-store.script | hugepool replay
 ";
@@ -31,7 +32,7 @@ fn help_of_race_is_told(rt: HostRuntime) {
     let (status, out, faults) = told(&rt, rt.alloc(), &["hugepool", "race", "--help"], "");
     assert_eq!(rt; status, 0);
     assert!(rt; faults.is_empty());
-    assert_eq!(rt; out.as_slice(), RACE_HELP.as_bytes());
+    assert_eq!(rt; difference(out.as_slice(), RACE_HELP), None);
 }
 
 /// A task alone has one race, of eight holds: the begin and seven steps of examples/map-four-of-four.trace.

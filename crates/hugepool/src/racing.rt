@@ -37,7 +37,7 @@ two races need be alike. At the end what each task did is compared with what hap
   astray       a call ended as none may
 An entry is a hold of the pool's lock that changed it. A trace has the events of all entries, in their order, a million
 at most; where the race isn't closed, nothing is written.
-Some scripts stand in examples/:
+docs/TRACES.md and hugepool replay --help tell the form of a trace. Some scripts stand in examples/:
   hugepool race --times 3 < examples/truncate-against-store.script
   hugepool race --trace < examples/truncate-against-store.script | hugepool replay";
 

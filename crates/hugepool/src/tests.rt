@@ -1,5 +1,6 @@
 //! The words, the statuses and the fault lines of the program, over fake streams.
 use crate::program::program;
+use crate::texts::{difference, difference_from_both};
 use hp_replay::Watched;
 use std::alloc::Global;
 use std::io;
@@ -105,7 +106,7 @@ Options:
 A script is a trace whose events are begins alone: the calls that each task makes, in order. Tasks take turns
 by chance: a turn begins the next call of a task, or makes a step of the call that it is in. Run K goes by the
 generator that is seeded with SEED + K, so that it is the same each time, whatever comes before it.
-Some scripts stand in examples/:
+docs/TRACES.md and hugepool replay --help tell the form of a trace. Some scripts stand in examples/:
   hugepool explore --seed 7 --runs 3 < examples/truncate-against-store.script
   hugepool schedule --seed 7 < examples/truncate-against-store.script | hugepool replay
 ";
@@ -119,18 +120,13 @@ Options:
   -h, --help  Print help
 ";
 
-/// Whether a text is these two, one after the other.
-fn is_both(text: &[u8], front: &str, back: &str) -> bool {
-    text.strip_prefix(front.as_bytes()) == Some(back.as_bytes())
-}
-
 #[test]
 fn help_is_told(rt: HostRuntime) {
     for word in ["--help", "-h", "help"] {
         let (status, out, faults) = told(&rt, rt.alloc(), &["hugepool", word], "");
         assert_eq!(rt; status, 0);
         assert!(rt; faults.is_empty());
-        assert!(rt; is_both(out.as_slice(), HELP, TRACES));
+        assert_eq!(rt; difference_from_both(out.as_slice(), HELP, TRACES), None);
     }
 }
 
@@ -153,7 +149,7 @@ fn help_of_replay_is_told(rt: HostRuntime) {
         let (status, out, faults) = told(&rt, rt.alloc(), &words, "");
         assert_eq!(rt; status, 0);
         assert!(rt; faults.is_empty());
-        assert!(rt; is_both(out.as_slice(), REPLAY_HELP, TRACES));
+        assert_eq!(rt; difference_from_both(out.as_slice(), REPLAY_HELP, TRACES), None);
     }
 }
 
@@ -162,7 +158,7 @@ fn help_of_explore_is_told(rt: HostRuntime) {
     let (status, out, faults) = told(&rt, rt.alloc(), &["hugepool", "explore", "--help"], "");
     assert_eq!(rt; status, 0);
     assert!(rt; faults.is_empty());
-    assert_eq!(rt; out.as_slice(), EXPLORE_HELP.as_bytes());
+    assert_eq!(rt; difference(out.as_slice(), EXPLORE_HELP), None);
 }
 
 const MAP: &str = "pool 4 1 4 1\nbegin 1 map 0 0 4\n";
@@ -287,7 +283,7 @@ For more information, try '--help'.
         Vec::new(rt.alloc()),
     ));
     assert_eq!(rt; status, 2);
-    assert_eq!(rt; faults.as_slice(), text.as_bytes());
+    assert_eq!(rt; difference(faults.as_slice(), text), None);
 }
 
 #[test]
@@ -303,7 +299,7 @@ For more information, try '--help'.
         Vec::new(rt.alloc()),
     ));
     assert_eq!(rt; status, 2);
-    assert_eq!(rt; faults.as_slice(), text.as_bytes());
+    assert_eq!(rt; difference(faults.as_slice(), text), None);
 }
 
 #[test]
@@ -321,7 +317,7 @@ For more information, try '--help'.
         Vec::new(rt.alloc()),
     ));
     assert_eq!(rt; status, 2);
-    assert_eq!(rt; faults.as_slice(), text.as_bytes());
+    assert_eq!(rt; difference(faults.as_slice(), text), None);
 }
 
 /// A file that is named, where it has to be the standard input: the usage tells so.
@@ -336,7 +332,7 @@ For more information, try '--help'.
     let words = ["hugepool", "replay", "FILE"];
     let (status, faults) = refused(&rt, rt.alloc(), &words).unwrap_or((0, Vec::new(rt.alloc())));
     assert_eq!(rt; status, 2);
-    assert_eq!(rt; faults.as_slice(), text.as_bytes());
+    assert_eq!(rt; difference(faults.as_slice(), text), None);
 }
 
 /// A call that ends without a frame is an outcome as any other: the program did what was asked.
@@ -351,10 +347,10 @@ fn map_five_of_four(rt: HostRuntime) {
     assert_eq!(rt; status, 0);
     assert!(rt; faults.is_empty());
     let text =
-        b"begun\nmoved room\nmoved missing\nmoved changed\nmoved abort\nmoved leave\nended noframe\n\
+        "begun\nmoved room\nmoved missing\nmoved changed\nmoved abort\nmoved leave\nended noframe\n\
         free 4 resv 0 calls 0\nfile 0 size 0 reserved 0 regions 0 pages 0 changes 0 spare 1\n\
         task 1 alive mappings 0 entries 0\n";
-    assert_eq!(rt; out.as_slice(), text.as_slice());
+    assert_eq!(rt; difference(out.as_slice(), text), None);
 }
 
 /// An output with room for some bytes, whose flush may fail.
