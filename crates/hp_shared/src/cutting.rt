@@ -1,6 +1,7 @@
 //! Cutting the journal: what was compared need not be kept.
 ghost use Rattle.std.specs.Prelude.{◌≡◌, ◌+◌, ◌<◌, ◌≤◌, ◌^◌, IfOk, IfErr, OnOk, OnErr, MatchOption, false, length, map};
 ghost use Rattle.hp_core.specs.Readers.{calls_of, config_of};
+ghost use Rattle.hp_shared.specs.Closing.{ClosesWith};
 ghost use Rattle.hp_shared.specs.Cutting.{IsAtRest, IsCut, RefusesCut, NoneInFlight, LeastInFlight, is_in_flight};
 ghost use Rattle.hp_shared.specs.Cutting.{is_seat_in_call, emptied};
 ghost use Rattle.hp_shared.specs.Journal.{Interleaves};
@@ -78,6 +79,7 @@ impl<L: Ledger> Pool<L> {
     /// nothing changed.
     pub fn cut(&mut self, alloc: Global, seats: &mut [Seat<L>]) -> Result<Part, CutFault>
         ensures cut { OnOk result (IsCut self.old seats.old self.new) }
+        ensures run { IfOk result (λ part. ClosesWith seats.old self.old.core part.first part.entries.items) }
         ensures seats { OnOk result (seats.new ≡ map emptied seats.old) }
         ensures first { IfOk result (λ part. part.first ≡ self.old.first) }
         ensures entries { IfOk result (λ part. part.entries.items ≡ self.old.journal) }

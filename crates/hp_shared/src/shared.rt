@@ -3,7 +3,7 @@ ghost use Rattle.std.specs.Prelude.{◌≡◌, ◌+◌, ◌<◌, ◌≤◌, ℕ,
 ghost use Rattle.std.specs.Prelude.{Some, slice_get};
 ghost use Rattle.hp_base.specs.Text.{sizes};
 ghost use Rattle.hp_core.specs.State.{CoreState};
-ghost use Rattle.hp_shared.specs.Journal.{IsOutcomeOf, IsCameTo, Interleaves};
+ghost use Rattle.hp_shared.specs.Journal.{IsOutcomeOf, IsCameTo};
 ghost use Rattle.hp_shared.specs.Calls.{IsOwn};
 ghost use Rattle.hp_shared.specs.Closing.{ClosesWith, RefusesClose, IsDisagree};
 ghost use Rattle.hp_shared.specs.Cutting.{emptied};
@@ -143,14 +143,14 @@ impl<L: Ledger> Shared<L> {
     }
 
     /// Cuts the journal, in one hold: see `Pool::cut`. It hands out the entries since the last cut, which interleave the
-    /// seats' lists.
+    /// seats' lists, and are a piece of a run of the pool.
     pub fn cut<R: Wait>(
         &self,
         rt: &R,
         alloc: Global,
         seats: &mut [Seat<L>],
     ) -> Result<Part, CutFault>
-        ensures part { IfOk result (λ part. Interleaves part.first part.entries.items (lists_of seats.old)) }
+        ensures part { IfOk result (λ part. (core : CoreState) × ClosesWith seats.old core part.first part.entries.items) }
         ensures seats { OnOk result (seats.new ≡ map emptied seats.old) }
         ensures err { OnErr result (seats.new ≡ seats.old) }
     {
