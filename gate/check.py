@@ -13,7 +13,8 @@ usage: ./check [STEP] [..]
                      is there
   ./check refusals   that programs and drivers tell it where memory is refused to them, at each growth, one a run (it needs cc)
   ./check linux      what a Linux kernel answered (conformance/), and what records that, as far as it needs no kernel (it needs cc)
-  ./check quick      before a commit: proofs and tests of what changed since the last time, over kept work; that each edit applies
+  ./check quick      before a commit: that texts are formatted; proofs and tests of what changed since the last time, over kept
+                     work; that each edit applies
 
 The last line is 'N passed, M failed'.
 """
@@ -134,7 +135,7 @@ def linux(step: Step, _: list[str]) -> None:
 
 
 def quick(step: Step, _: list[str]) -> None:
-    if not step.run(["rt", "all", "check", "--jobs", str(os.cpu_count() or 1)]):
+    if not (step.run(python("formatted.py")) and step.run(["rt", "all", "check", "--jobs", str(os.cpu_count() or 1)])):
         return
     step.passed += len(crates_of(TOP))
     with ThreadPoolExecutor(os.cpu_count() or 1) as pool:

@@ -34,10 +34,7 @@ fn push_resized_line(layout: &Layout, x: u64, text: &mut String) -> Result<(), A
 fn push_resized_words(frames: u32, x: u64, y: u64, text: &mut String) -> Result<(), AllocError>
     ensures { OnOk result (string_bytes text.new ≡ string_bytes text.old ++ resized_words frames x y) }
 {
-    write!(
-        text,
-        "<text x='{x}' dx='4' y='{y}'>{frames} frames</text>"
-    )
+    write!(text, "<text x='{x}' dx='4' y='{y}'>{frames} frames</text>")
 }
 
 /// Appends the sign of a mark at that place.

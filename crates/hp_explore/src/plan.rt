@@ -64,7 +64,11 @@ fn queues_of(alloc: Global, lines: &[(Task, Op)], tasks: u32) -> Result<Vec<Vec<
     Ok(queues)
 }
 
-pub(crate) fn calls_of(alloc: Global, lines: &[(Task, Op)], task: Task) -> Result<Vec<Op>, AllocError>
+pub(crate) fn calls_of(
+    alloc: Global,
+    lines: &[(Task, Op)],
+    task: Task,
+) -> Result<Vec<Op>, AllocError>
     ensures { IfOk result (λ v. v.items ≡ calls_of lines.now task) }
 {
     lines

@@ -94,7 +94,7 @@ answered_text Done Partly IsFront passes from to old new start before mid after 
     )
 answered_text Done Partly IsFront passes from to old new start before mid after failed left (Ok x) answer (Err e) told same done stopped bad reads
     writes kept empty is not good wrong =
-    let ended : told ≡ Err (stop.Replay Write) = 
+    let ended : told ≡ Err (stop.Replay Write) =
     subst (λ (r : Result (Unit {0}) ReplayFault). IfErr r (λ fault. told ≡ Err (stop.Replay fault))) not wrong in
     subst (λ (t : Result (Unit {0}) Stop). AnsweredText Done IsFront t from to old new before (Some after)) (sym ended) (
       tt,
@@ -103,7 +103,7 @@ answered_text Done Partly IsFront passes from to old new start before mid after 
     )
 answered_text Done Partly IsFront passes from to old new start before mid after failed left (Err f) answer (Ok y) told same done stopped bad reads
     writes kept empty is not good wrong =
-    let ended : told ≡ Err (stop.Replay f) = 
+    let ended : told ≡ Err (stop.Replay f) =
     subst (λ (r : Result (Unit {0}) ReplayFault). IfErr r (λ fault. told ≡ Err (stop.Replay fault))) is wrong in
     subst (λ (t : Result (Unit {0}) Stop). AnsweredText Done IsFront t from to old new before (Some after)) (sym ended) (
       reader_at f old new reads,
@@ -113,7 +113,7 @@ answered_text Done Partly IsFront passes from to old new start before mid after 
     )
 answered_text Done Partly IsFront passes from to old new start before mid after failed left (Err f) answer (Err e) told same done stopped bad reads
     writes kept empty is not good wrong =
-    let ended : told ≡ Err (stop.Replay Write) = 
+    let ended : told ≡ Err (stop.Replay Write) =
     subst (λ (r : Result (Unit {0}) ReplayFault). IfErr r (λ fault. told ≡ Err (stop.Replay fault))) not wrong in
     subst (λ (t : Result (Unit {0}) Stop). AnsweredText Done IsFront t from to old new before (Some after)) (sym ended) (
       tt,

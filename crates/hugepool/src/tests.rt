@@ -149,7 +149,10 @@ fn help_of_replay_is_told(rt: HostRuntime) {
         let (status, out, faults) = told(&rt, rt.alloc(), &words, "");
         assert_eq!(rt; status, 0);
         assert!(rt; faults.is_empty());
-        assert_eq!(rt; difference_from_both(out.as_slice(), REPLAY_HELP, TRACES), None);
+        assert_eq!(rt;
+            difference_from_both(out.as_slice(), REPLAY_HELP, TRACES),
+            None
+        );
     }
 }
 
