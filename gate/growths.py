@@ -4,8 +4,9 @@
 The library that refuses (refusing.c) is built by the C compiler, and loaded before a program. Of each line of words below the
 1st, 2nd, .. growth is refused, up to runs that meet none. Where one is, hugepool has to say so and end with status 1, and what
 it wrote before has to be a front of what is right; where a thread is refused, or nothing is, all has to be right. hp_refusals tells
-stories, in which what was refused is told and tried again: all else has to be as it is in plenty, to the end. Wrong programs, and
-a library that refuses nothing, have to be noticed.
+stories, in which what was refused is told and tried again: all else has to be as it is in plenty, to the end. In two of them threads
+meet at a gate, and where the second thread is refused, it has to be told that they don't. Wrong programs, and a library that refuses
+nothing, have to be noticed.
 """
 from __future__ import annotations
 
@@ -43,8 +44,37 @@ closed: entries 32 free 3 resv 1
 resized 9
 closed: entries 2 free 9 resv 0
 """,
+    "g": """map of 1: mapped 0
+map of 2: mapped 0
+store of 1: done
+store of 2: done
+gate: opened as store of 2 had ended
+load of 2: word 41
+closed: entries 42 free 2 resv 0
+""",
+    "w": """map of 1: mapped 0
+map of 2: mapped 0
+store of 1: done
+store of 2: done
+gate: opened as store of 2 waited
+load of 2: word 42
+closed: entries 34 free 3 resv 1
+""",
 }
-RETRIED = ": out of memory\n"
+# what is told of something that was refused memory; where that was a call in flight, the journal isn't cut then
+RETRIED = re.compile(r"^(?:.* of (?P<task>\d)|\w+): out of memory\n(?:cut: task (?P=task) has a call in flight\n)?", re.MULTILINE)
+# of stories, what the refusals have to bring about in some of the runs
+BROUGHT = {
+    "c": [
+        *(f"{call}: out of memory\n{call}: " for call in ("map of 1", "map of 2", "store of 1", "load of 2")),
+        *(f"{call} of {task}: out of memory\ncut: task {task} has " for call, task in (("map", 1), ("map", 2), ("store", 1), ("load", 2))),
+        "cut: out of memory\n",
+        "close: out of memory\n",
+    ],
+    "r": ["resize: out of memory\n", "close: out of memory\n"],
+    **{it: ["store of 1: out of memory\n", "store of 2: out of memory\n", "gate: opened in vain\n"] for it in "gw"},
+}
+GATE = re.compile(r"^gate: .*", re.MULTILINE)
 RACED = re.compile(r"run \d+ closed entries \d+ free \d+ resv \d+")
 
 
@@ -64,8 +94,14 @@ class Case(NamedTuple):
     read: str
     is_right: Callable[[str, str], bool]
     is_front: Callable[[str, str], bool]
-    # of a story, what it tells
+    # of a story, what it tells, and what refusals bring about in it
     right: str = ""
+    brought: tuple[str, ...] = ()
+
+    @property
+    def apart(self) -> str:
+        """What a story tells whose threads don't run at once."""
+        return GATE.sub("gate: opened in vain", self.right)
 
 
 def is_same(out: str, right: str) -> bool:
@@ -122,7 +158,7 @@ def stories() -> list[Case]:
     """What hp_refusals reads."""
     traces = [it for it in sorted((TOP / "examples").rglob("*.trace")) if not it.with_suffix(".err").exists()]
     told = {it.read_text(encoding="utf-8"): it.with_suffix(".out").read_text(encoding="utf-8") for it in traces}
-    return [Case("", read, is_same, is_front, right) for read, right in {**STORIES, **told}.items()]
+    return [Case("", read, is_same, is_front, right, tuple(BROUGHT.get(read, ()))) for read, right in {**STORIES, **told}.items()]
 
 
 class Program:
@@ -182,11 +218,11 @@ def story_fault(case: Case, right: Told, told: Told) -> str | None:
         return f"more than one growth was refused: {told.refused}"
     if (told.status, told.err) != (0, ""):
         return f"status {told.status}, and on standard error {told.err!r}"
-    lines = told.out.splitlines(keepends=True)
-    kept = [line for line in lines if not line.endswith(RETRIED)]
-    if len(lines) > len(kept) + (told.refused == "m"):
+    kept, retried = RETRIED.subn("", told.out)
+    if retried > (told.refused == "m"):
         return f"it tells of what wasn't refused: {told.out[-100:]!r}"
-    return None if "".join(kept) == right.out else f"its output isn't right: {told.out[-100:]!r}"
+    wanted = case.apart if told.refused == "t" else right.out
+    return None if kept == wanted else f"its output isn't right: {told.out[-100:]!r}"
 
 
 Judge = Callable[[Case, Told, Told], "str | None"]
@@ -199,12 +235,15 @@ def faults(program: Program, case: Case, pool: ThreadPoolExecutor, judge: Judge 
     if right.refused or judge(case, right, right) or judge is story_fault and right.out != case.right:
         return 0, [f"{name}: with all memory it tells {right.out[-100:]!r}"]
     found, step, whole = [], os.cpu_count() or 1, 0
+    brought = set(case.brought)
     for first in range(1, MOST, step):
         numbers = range(first, first + step)
         for number, told in zip(numbers, pool.map(lambda n: program.told(case, n), numbers)):
             if wrong := judge(case, right, told):
                 found.append(f"{name}: growth {number}: {wrong}")
+            brought = {it for it in brought if it not in told.out}
             if not told.refused:
+                found += [f"{name}: in no run is told {it!r}" for it in sorted(brought)]
                 many = judge is fault and whole * 3 > number - 1
                 return number - 1, [*found, *([f"{name}: of {number - 1} refused growths {whole} are not told"] if many else [])]
             whole += told.refused == "m" and is_whole(case, right, told)
