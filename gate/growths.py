@@ -30,6 +30,14 @@ WORKLOADS = [
     *("readback", "shared", "truncate", "alloc-instantiate-race", "chunk-overcommit", "noresv-preserve-resv-page"),
     *("noresv-regarded-as-resv", "truncate_reserve_wraparound", "fallocate_basic", "fallocate_align", "counters"),
 ]
+
+
+def two_stores(gate: str, word: int, end: str) -> str:
+    """What is told of two stores in threads, where this is told of the gate between them, of a load behind them, and of the end."""
+    told = ["map of 1: mapped 0", "map of 2: mapped 0", "store of 1: done", "store of 2: done"]
+    return "".join(f"{line}\n" for line in [*told, f"gate: {gate}", f"load of 2: word {word}", f"closed: {end}"])
+
+
 # what hp_refusals tells where nothing is refused, by what it reads; of a trace, what its replay writes
 STORIES = {
     "c": """map of 1: mapped 0
@@ -44,22 +52,13 @@ closed: entries 32 free 3 resv 1
 resized 9
 closed: entries 2 free 9 resv 0
 """,
-    "g": """map of 1: mapped 0
-map of 2: mapped 0
-store of 1: done
-store of 2: done
-gate: opened as store of 2 had ended
-load of 2: word 41
-closed: entries 42 free 2 resv 0
-""",
-    "w": """map of 1: mapped 0
-map of 2: mapped 0
-store of 1: done
-store of 2: done
-gate: opened as store of 2 waited
-load of 2: word 42
-closed: entries 34 free 3 resv 1
-""",
+    "g": two_stores("opened as store of 2 had ended", 41, "entries 42 free 2 resv 0"),
+    "w": two_stores("opened as store of 2 waited", 42, "entries 34 free 3 resv 1"),
+}
+# what is told where no second thread can be made: the calls are made one after the other then, the second thread's first
+APART = {
+    "g": two_stores("no second thread", 41, "entries 42 free 2 resv 0"),
+    "w": two_stores("no second thread", 41, "entries 34 free 3 resv 1"),
 }
 # what is told of something that was refused memory; where that was a call in flight, the journal isn't cut then
 RETRIED = re.compile(r"^(?:.* of (?P<task>\d)|\w+): out of memory\n(?:cut: task (?P=task) has a call in flight\n)?", re.MULTILINE)
@@ -72,9 +71,8 @@ BROUGHT = {
         "close: out of memory\n",
     ],
     "r": ["resize: out of memory\n", "close: out of memory\n"],
-    **{it: ["store of 1: out of memory\n", "store of 2: out of memory\n", "gate: opened in vain\n"] for it in "gw"},
+    **{it: ["store of 1: out of memory\n", "store of 2: out of memory\n", "gate: no second thread\n"] for it in "gw"},
 }
-GATE = re.compile(r"^gate: .*", re.MULTILINE)
 RACED = re.compile(r"run \d+ closed entries \d+ free \d+ resv \d+")
 
 
@@ -94,14 +92,10 @@ class Case(NamedTuple):
     read: str
     is_right: Callable[[str, str], bool]
     is_front: Callable[[str, str], bool]
-    # of a story, what it tells, and what refusals bring about in it
+    # of a story, what it tells, what where it has no second thread, and what refusals bring about in it
     right: str = ""
+    apart: str | None = None
     brought: tuple[str, ...] = ()
-
-    @property
-    def apart(self) -> str:
-        """What a story tells whose threads don't run at once."""
-        return GATE.sub("gate: opened in vain", self.right)
 
 
 def is_same(out: str, right: str) -> bool:
@@ -158,7 +152,8 @@ def stories() -> list[Case]:
     """What hp_refusals reads."""
     traces = [it for it in sorted((TOP / "examples").rglob("*.trace")) if not it.with_suffix(".err").exists()]
     told = {it.read_text(encoding="utf-8"): it.with_suffix(".out").read_text(encoding="utf-8") for it in traces}
-    return [Case("", read, is_same, is_front, right, tuple(BROUGHT.get(read, ()))) for read, right in {**STORIES, **told}.items()]
+    every = {**STORIES, **told}
+    return [Case("", it, is_same, is_front, right, APART.get(it), tuple(BROUGHT.get(it, ()))) for it, right in every.items()]
 
 
 class Program:
@@ -221,8 +216,9 @@ def story_fault(case: Case, right: Told, told: Told) -> str | None:
     kept, retried = RETRIED.subn("", told.out)
     if retried > (told.refused == "m"):
         return f"it tells of what wasn't refused: {told.out[-100:]!r}"
-    wanted = case.apart if told.refused == "t" else right.out
-    return None if kept == wanted else f"its output isn't right: {told.out[-100:]!r}"
+    # (before a thread is started memory is taken for it too)
+    allowed = {"t": [case.apart], "m": [right.out] if retried else [right.out, case.apart]}.get(told.refused, [right.out])
+    return None if kept in allowed else f"its output isn't right: {told.out[-100:]!r}"
 
 
 Judge = Callable[[Case, Told, Told], "str | None"]
@@ -260,10 +256,23 @@ WRONG = {
 }
 
 
-# The same around hp_refusals.
+# The same around hp_refusals, which tells of a journal that is cut, ..
 WRONG_STORIES = {
     "loses its last line": '$program | head -n -1',
     "begins again": '$program; [ "$REFUSE_GROWTH" = 0 ] || REFUSE_GROWTH=0 $program < /dev/null',
+    "never refuses to cut": '$program | grep -v "has a call in flight"',
+    "cuts beside another call": '$program | sed "s/task 1 has/task 2 has/"',
+}
+# .. and of two stores in threads, right where nothing is refused.
+WRONG_STORES = {
+    name: f'[ "$REFUSE_GROWTH" = 0 ] && exec $program; $program | {text}'
+    for name, text in {
+        "answers the second store wrongly": 'sed "s/^store of 2: done/store of 2: killed/"',
+        "leaves an entry out": 'sed "s/entries 42/entries 41/"',
+        "makes a store twice": 'sed "s/^store of 1: done/&\\n&/"',
+        "has threads that never meet": 'sed "s/^gate: .*/gate: no second thread/"',
+        "tells of no want": 'grep -v "^store of 2: out of memory"',
+    }.items()
 }
 
 
@@ -322,13 +331,14 @@ def built(crate: str) -> Path:
 def main() -> int:
     tried = Tried()
     program, teller = built("hugepool"), built("hp_refusals")
-    replay, story = Case("replay", example("map-four-of-four.trace"), is_same, is_front), stories()[0]
+    replay, told = Case("replay", example("map-four-of-four.trace"), is_same, is_front), {it.read: it for it in stories()}
     with tempfile.TemporaryDirectory(prefix="growths-") as name, ThreadPoolExecutor(os.cpu_count() or 1) as pool:
         room = Room(Path(name))
         tried.add(Program(program, room.library), cases(), fault, pool)
         tried.add(Program(teller, room.library), stories(), story_fault, pool)
         tried.add_wrong(len(WRONG) + 1, room.unnoticed(program, replay, fault, WRONG, pool))
-        tried.add_wrong(len(WRONG_STORIES) + 1, room.unnoticed(teller, story, story_fault, WRONG_STORIES, pool))
+        for read, wrong in (("c", WRONG_STORIES), ("g", WRONG_STORES)):
+            tried.add_wrong(len(wrong) + 1, room.unnoticed(teller, told[read], story_fault, wrong, pool))
     print("".join(f"  {it}\n" for it in tried.faults), end="")
     print(f"growths: {tried.refused} were refused, one a run")
     print(f"growths: {tried.passed} passed, {len(tried.faults)} failed")

@@ -19,7 +19,7 @@ pub(crate) enum Opening {
     Wait,
     /// The other call ended.
     End,
-    /// A thread looked as often as it may: no two ran at once.
+    /// A thread looked as often as it may: there was no second one.
     Patience,
 }
 

@@ -76,7 +76,7 @@ fn tell_stores(rt: &impl Print, stores: &Stores) -> io::Result<()> {
     match stores.opening {
         Opening::Wait => println!(rt; "gate: opened as store of 2 waited"),
         Opening::End => println!(rt; "gate: opened as store of 2 had ended"),
-        Opening::Patience => println!(rt; "gate: opened in vain"),
+        Opening::Patience => println!(rt; "gate: no second thread"),
     }
 }
 
