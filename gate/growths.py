@@ -4,8 +4,9 @@
 The library that refuses (refusing.c) is built by the C compiler, and loaded before a program. Of each line of words below the
 1st, 2nd, .. growth is refused, up to runs that meet none. Where one is, hugepool has to say so and end with status 1, and what
 it wrote before has to be a front of what is right; where a thread is refused, or nothing is, all has to be right. hp_refusals tells
-stories, in which what was refused is told and tried again: all else has to be as it is in plenty, to the end. Wrong programs, and
-a library that refuses nothing, have to be noticed.
+stories, in which what was refused is told and tried again: all else has to be as it is in plenty, to the end. In two of them threads
+meet at a gate, and where the second thread is refused, it has to be told that they don't. Wrong programs, and a library that refuses
+nothing, have to be noticed.
 """
 from __future__ import annotations
 
@@ -29,6 +30,14 @@ WORKLOADS = [
     *("readback", "shared", "truncate", "alloc-instantiate-race", "chunk-overcommit", "noresv-preserve-resv-page"),
     *("noresv-regarded-as-resv", "truncate_reserve_wraparound", "fallocate_basic", "fallocate_align", "counters"),
 ]
+
+
+def two_stores(gate: str, word: int, end: str) -> str:
+    """What is told of two stores in threads, where this is told of the gate between them, of a load behind them, and of the end."""
+    told = ["map of 1: mapped 0", "map of 2: mapped 0", "store of 1: done", "store of 2: done"]
+    return "".join(f"{line}\n" for line in [*told, f"gate: {gate}", f"load of 2: word {word}", f"closed: {end}"])
+
+
 # what hp_refusals tells where nothing is refused, by what it reads; of a trace, what its replay writes
 STORIES = {
     "c": """map of 1: mapped 0
@@ -43,8 +52,27 @@ closed: entries 32 free 3 resv 1
 resized 9
 closed: entries 2 free 9 resv 0
 """,
+    "g": two_stores("opened as store of 2 had ended", 41, "entries 42 free 2 resv 0"),
+    "w": two_stores("opened as store of 2 waited", 42, "entries 34 free 3 resv 1"),
 }
-RETRIED = ": out of memory\n"
+# what is told where no second thread can be made: the calls are made one after the other then, the second thread's first
+APART = {
+    "g": two_stores("no second thread", 41, "entries 42 free 2 resv 0"),
+    "w": two_stores("no second thread", 41, "entries 34 free 3 resv 1"),
+}
+# what is told of something that was refused memory; where that was a call in flight, the journal isn't cut then
+RETRIED = re.compile(r"^(?:.* of (?P<task>\d)|\w+): out of memory\n(?:cut: task (?P=task) has a call in flight\n)?", re.MULTILINE)
+# of stories, what the refusals have to bring about in some of the runs
+BROUGHT = {
+    "c": [
+        *(f"{call}: out of memory\n{call}: " for call in ("map of 1", "map of 2", "store of 1", "load of 2")),
+        *(f"{call} of {task}: out of memory\ncut: task {task} has " for call, task in (("map", 1), ("map", 2), ("store", 1), ("load", 2))),
+        "cut: out of memory\n",
+        "close: out of memory\n",
+    ],
+    "r": ["resize: out of memory\n", "close: out of memory\n"],
+    **{it: ["store of 1: out of memory\n", "store of 2: out of memory\n", "gate: no second thread\n"] for it in "gw"},
+}
 RACED = re.compile(r"run \d+ closed entries \d+ free \d+ resv \d+")
 
 
@@ -64,8 +92,10 @@ class Case(NamedTuple):
     read: str
     is_right: Callable[[str, str], bool]
     is_front: Callable[[str, str], bool]
-    # of a story, what it tells
+    # of a story, what it tells, what where it has no second thread, and what refusals bring about in it
     right: str = ""
+    apart: str | None = None
+    brought: tuple[str, ...] = ()
 
 
 def is_same(out: str, right: str) -> bool:
@@ -122,7 +152,8 @@ def stories() -> list[Case]:
     """What hp_refusals reads."""
     traces = [it for it in sorted((TOP / "examples").rglob("*.trace")) if not it.with_suffix(".err").exists()]
     told = {it.read_text(encoding="utf-8"): it.with_suffix(".out").read_text(encoding="utf-8") for it in traces}
-    return [Case("", read, is_same, is_front, right) for read, right in {**STORIES, **told}.items()]
+    every = {**STORIES, **told}
+    return [Case("", it, is_same, is_front, right, APART.get(it), tuple(BROUGHT.get(it, ()))) for it, right in every.items()]
 
 
 class Program:
@@ -182,11 +213,12 @@ def story_fault(case: Case, right: Told, told: Told) -> str | None:
         return f"more than one growth was refused: {told.refused}"
     if (told.status, told.err) != (0, ""):
         return f"status {told.status}, and on standard error {told.err!r}"
-    lines = told.out.splitlines(keepends=True)
-    kept = [line for line in lines if not line.endswith(RETRIED)]
-    if len(lines) > len(kept) + (told.refused == "m"):
+    kept, retried = RETRIED.subn("", told.out)
+    if retried > (told.refused == "m"):
         return f"it tells of what wasn't refused: {told.out[-100:]!r}"
-    return None if "".join(kept) == right.out else f"its output isn't right: {told.out[-100:]!r}"
+    # (before a thread is started memory is taken for it too)
+    allowed = {"t": [case.apart], "m": [right.out] if retried else [right.out, case.apart]}.get(told.refused, [right.out])
+    return None if kept in allowed else f"its output isn't right: {told.out[-100:]!r}"
 
 
 Judge = Callable[[Case, Told, Told], "str | None"]
@@ -199,12 +231,15 @@ def faults(program: Program, case: Case, pool: ThreadPoolExecutor, judge: Judge 
     if right.refused or judge(case, right, right) or judge is story_fault and right.out != case.right:
         return 0, [f"{name}: with all memory it tells {right.out[-100:]!r}"]
     found, step, whole = [], os.cpu_count() or 1, 0
+    brought = set(case.brought)
     for first in range(1, MOST, step):
         numbers = range(first, first + step)
         for number, told in zip(numbers, pool.map(lambda n: program.told(case, n), numbers)):
             if wrong := judge(case, right, told):
                 found.append(f"{name}: growth {number}: {wrong}")
+            brought = {it for it in brought if it not in told.out}
             if not told.refused:
+                found += [f"{name}: in no run is told {it!r}" for it in sorted(brought)]
                 many = judge is fault and whole * 3 > number - 1
                 return number - 1, [*found, *([f"{name}: of {number - 1} refused growths {whole} are not told"] if many else [])]
             whole += told.refused == "m" and is_whole(case, right, told)
@@ -221,10 +256,23 @@ WRONG = {
 }
 
 
-# The same around hp_refusals.
+# The same around hp_refusals, which tells of a journal that is cut, ..
 WRONG_STORIES = {
     "loses its last line": '$program | head -n -1',
     "begins again": '$program; [ "$REFUSE_GROWTH" = 0 ] || REFUSE_GROWTH=0 $program < /dev/null',
+    "never refuses to cut": '$program | grep -v "has a call in flight"',
+    "cuts beside another call": '$program | sed "s/task 1 has/task 2 has/"',
+}
+# .. and of two stores in threads, right where nothing is refused.
+WRONG_STORES = {
+    name: f'[ "$REFUSE_GROWTH" = 0 ] && exec $program; $program | {text}'
+    for name, text in {
+        "answers the second store wrongly": 'sed "s/^store of 2: done/store of 2: killed/"',
+        "leaves an entry out": 'sed "s/entries 42/entries 41/"',
+        "makes a store twice": 'sed "s/^store of 1: done/&\\n&/"',
+        "has threads that never meet": 'sed "s/^gate: .*/gate: no second thread/"',
+        "tells of no want": 'grep -v "^store of 2: out of memory"',
+    }.items()
 }
 
 
@@ -283,13 +331,14 @@ def built(crate: str) -> Path:
 def main() -> int:
     tried = Tried()
     program, teller = built("hugepool"), built("hp_refusals")
-    replay, story = Case("replay", example("map-four-of-four.trace"), is_same, is_front), stories()[0]
+    replay, told = Case("replay", example("map-four-of-four.trace"), is_same, is_front), {it.read: it for it in stories()}
     with tempfile.TemporaryDirectory(prefix="growths-") as name, ThreadPoolExecutor(os.cpu_count() or 1) as pool:
         room = Room(Path(name))
         tried.add(Program(program, room.library), cases(), fault, pool)
         tried.add(Program(teller, room.library), stories(), story_fault, pool)
         tried.add_wrong(len(WRONG) + 1, room.unnoticed(program, replay, fault, WRONG, pool))
-        tried.add_wrong(len(WRONG_STORIES) + 1, room.unnoticed(teller, story, story_fault, WRONG_STORIES, pool))
+        for read, wrong in (("c", WRONG_STORIES), ("g", WRONG_STORES)):
+            tried.add_wrong(len(wrong) + 1, room.unnoticed(teller, told[read], story_fault, wrong, pool))
     print("".join(f"  {it}\n" for it in tried.faults), end="")
     print(f"growths: {tried.refused} were refused, one a run")
     print(f"growths: {tried.passed} passed, {len(tried.faults)} failed")

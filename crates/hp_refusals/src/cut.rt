@@ -1,9 +1,9 @@
 //! A journal that is cut.
 ghost use Rattle.std.specs.Prelude.{◌≡◌};
 
-use crate::seats::{end, make};
-use hp_base::{Config, File, Index, Op, Vpn};
-use hp_shared::{CutFault, Seat, Shared};
+use crate::seats::{again, end, tell as tell_reply};
+use hp_base::{Answer, Config, File, Index, Op, Vpn};
+use hp_shared::{CallFault, CutFault, Open, Seat, Shared, call};
 use std::alloc::Global;
 use std::io;
 use std::sync::Wait;
@@ -27,19 +27,34 @@ fn cut<L: Ledger, R: Wait + Print>(
     }
 }
 
-/// Makes a call of the seat at this place.
+/// Makes a call of the seat at this place. While it is in flight for want of memory the journal isn't cut, which is told too.
 fn call_of<L: Ledger, R: Wait + Print>(
     rt: &R,
+    alloc: Global,
     shared: &Shared<L>,
     seats: &mut [Seat<L>],
     place: usize,
     name: &str,
     op: Op,
 ) -> io::Result<()> {
-    match seats.get_mut(place) {
-        Some(seat) => make(rt, shared, seat, name, &op),
-        None => Ok(()),
+    // The checker of borrows asks for a mention of the type that a reply may hold.
+    let _none: Option<Answer> = None;
+    let Some(seat) = seats.get_mut(place) else {
+        return Ok(());
+    };
+    let first = call(shared, rt, seat, op, &Open);
+    tell_reply(rt, name, &first)?;
+    let Err(CallFault::Memory { begun }) = first else {
+        return Ok(());
+    };
+    if begun {
+        cut(rt, alloc, shared, seats)?;
     }
+    let Some(seat) = seats.get_mut(place) else {
+        return Ok(());
+    };
+    let then = again(rt, shared, seat, &op, &Open, begun);
+    tell_reply(rt, name, &then)
 }
 
 fn map() -> Op {
@@ -71,19 +86,14 @@ pub(crate) fn tell<L: Ledger + Send + Sync, R: Wait + Print>(
         println!(rt; "open: out of memory")?;
         return Ok(false);
     };
-    call_of(rt, &shared, &mut seats, 0, "map of 1", map())?;
-    call_of(rt, &shared, &mut seats, 1, "map of 2", map())?;
+    let pool = &shared;
+    call_of(rt, alloc, pool, &mut seats, 0, "map of 1", map())?;
+    call_of(rt, alloc, pool, &mut seats, 1, "map of 2", map())?;
     cut(rt, alloc, &shared, &mut seats)?;
-    call_of(rt, &shared, &mut seats, 0, "store of 1", store())?;
+    call_of(rt, alloc, pool, &mut seats, 0, "store of 1", store())?;
     cut(rt, alloc, &shared, &mut seats)?;
-    call_of(
-        rt,
-        &shared,
-        &mut seats,
-        1,
-        "load of 2",
-        Op::Load { vpn: Vpn::new(0) },
-    )?;
+    let load = Op::Load { vpn: Vpn::new(0) };
+    call_of(rt, alloc, pool, &mut seats, 1, "load of 2", load)?;
     end(rt, alloc, shared, seats)?;
     Ok(true)
 }

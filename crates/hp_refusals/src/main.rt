@@ -1,26 +1,32 @@
 //! A program for the check: stories in which any one growth of memory may be refused, and is told and tried again.
 //!
 //! It stands on hp_client, hp_shared and hp_replay. The first byte of its input says which story it tells: `p`, as a trace
-//! begins, that trace on a core; `c` a journal that is cut; `r` a running pool that is resized; else two stores over a driver.
-//! Before those it takes memory as many times as its input has bytes: so in runs whose Nth growth is refused, a shorter input has it
+//! begins, that trace on a core; `c` a journal that is cut; `r` a running pool that is resized; `g` and `w` two stores in threads, of
+//! which a gate holds the first until the second has ended, and until it waits for the first; else two stores over a driver. Before
+//! those it takes memory as many times as its input has bytes: so in runs whose Nth growth is refused, a shorter input has it
 //! refused later in the story. `gate/refusals.py` and `gate/growths.py` have it refused everywhere, and compare what is told.
 #![tactic(auto)]
 
 ghost use Rattle.std.specs.Prelude.{◌≡◌, ◌≤◌};
 
 mod cut;
+mod gates;
 mod resized;
 mod seats;
+mod stores;
 mod story;
 mod trace;
 
 use hp_base::Config;
+use hp_core::Phase;
 use std::alloc::{AllocError, Global};
 use std::io;
 use std::io::Read;
 use std::marker::Brand;
 use std::sync::Wait;
 use std::sync::ledger::Blank;
+use std::thread::Threads;
+use stores::Meeting;
 
 /// Takes memory so many times, and gives it back.
 fn take_memory(alloc: Global, times: usize) -> Result<(), AllocError> {
@@ -58,6 +64,22 @@ fn tell_resized<R: Wait + Print>(rt: &R, alloc: Global) -> io::Result<()> {
     Ok(())
 }
 
+/// The same of the stores in threads.
+fn tell_stores<R: Threads + Wait + Sync + Print>(
+    rt: &R,
+    alloc: Global,
+    phase: Phase,
+    page: u32,
+) -> io::Result<()> {
+    let meeting = Meeting { phase, page };
+    for _ in 0..2 {
+        if stores::tell::<Brand, _>(rt, alloc, Blank::new(2), config_for(2), meeting)? {
+            return Ok(());
+        }
+    }
+    Ok(())
+}
+
 fn main(rt: HostRuntime) -> io::Result<()> {
     let mut input = [0; 1000];
     let read = rt.stdin().read(&mut input)?;
@@ -65,6 +87,8 @@ fn main(rt: HostRuntime) -> io::Result<()> {
         b'p' => trace::tell(&rt, rt.alloc(), input.get(..read).unwrap_or(&[])),
         b'c' => tell_cut(&rt, rt.alloc()),
         b'r' => tell_resized(&rt, rt.alloc()),
+        b'g' => tell_stores(&rt, rt.alloc(), Phase::Changed, 1),
+        b'w' => tell_stores(&rt, rt.alloc(), Phase::Locked, 0),
         _ => {
             take_memory(rt.alloc(), read)?;
             story::tell(&rt, rt.alloc())

@@ -1,32 +1,69 @@
 //! Calls of tasks on a running pool: one to which memory is refused goes on, or is made again where it hadn't begun.
 use hp_base::{Answer, Op};
-use hp_shared::{CallFault, CloseFault, Open, Reply, Seat, Shared, call, resume};
+use hp_shared::{CallFault, CloseFault, Gate, Hold, Open, Reply, Seat, Shared, call, resume};
 use std::alloc::Global;
 use std::io;
 use std::sync::Wait;
 use std::sync::ledger::Ledger;
 
+/// What a call came to, and what then, where it found no memory.
+#[derive(Drop)]
+pub(crate) struct Made {
+    first: Result<Reply, CallFault>,
+    then: Option<Result<Reply, CallFault>>,
+}
+
 /// Goes on with a call that found no memory.
-fn again<L: Ledger, R: Wait>(
+pub(crate) fn again<L: Ledger, H: Hold<L>, G: Gate, R: Wait>(
     rt: &R,
-    shared: &Shared<L>,
+    hold: &H,
     seat: &mut Seat<L>,
     op: &Op,
+    gate: &G,
     begun: bool,
 ) -> Result<Reply, CallFault> {
     if begun {
-        resume(shared, rt, seat, &Open)
+        resume(hold, rt, seat, gate)
     } else {
-        call(shared, rt, seat, *op, &Open)
+        call(hold, rt, seat, *op, gate)
     }
 }
 
+/// Makes a call, again where it found no memory.
+pub(crate) fn try_call<L: Ledger, H: Hold<L>, G: Gate, R: Wait>(
+    rt: &R,
+    hold: &H,
+    seat: &mut Seat<L>,
+    op: &Op,
+    gate: &G,
+) -> Made {
+    let first = call(hold, rt, seat, *op, gate);
+    let then = match first {
+        Err(CallFault::Memory { begun }) => Some(again(rt, hold, seat, op, gate, begun)),
+        Ok(_) => None,
+    };
+    Made { first, then }
+}
+
 /// Tells what a call came to.
-fn tell(rt: &impl Print, name: &str, reply: &Result<Reply, CallFault>) -> io::Result<()> {
+pub(crate) fn tell(
+    rt: &impl Print,
+    name: &str,
+    reply: &Result<Reply, CallFault>,
+) -> io::Result<()> {
     match reply {
         Ok(Reply::Ended(answer)) => println!(rt; "{name}: {answer}"),
         Ok(Reply::Refused(refusal)) => println!(rt; "{name}: refused {refusal}"),
         Err(fault) => println!(rt; "{name}: {fault}"),
+    }
+}
+
+/// The same of one that was made again where it found no memory.
+pub(crate) fn tell_made(rt: &impl Print, name: &str, made: &Made) -> io::Result<()> {
+    tell(rt, name, &made.first)?;
+    match &made.then {
+        Some(then) => tell(rt, name, then),
+        None => Ok(()),
     }
 }
 
@@ -40,13 +77,8 @@ pub(crate) fn make<L: Ledger, R: Wait + Print>(
 ) -> io::Result<()> {
     // The checker of borrows asks for a mention of the type that a reply may hold.
     let _none: Option<Answer> = None;
-    let first = call(shared, rt, seat, *op, &Open);
-    tell(rt, name, &first)?;
-    if let Err(CallFault::Memory { begun }) = first {
-        let second = again(rt, shared, seat, op, begun);
-        return tell(rt, name, &second);
-    }
-    Ok(())
+    let made = try_call(rt, shared, seat, op, &Open);
+    tell_made(rt, name, &made)
 }
 
 /// Ends the pool, and tells its entries and numbers. Where there is no memory to compare, it is asked to end again.
