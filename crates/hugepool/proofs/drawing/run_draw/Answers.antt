@@ -3,7 +3,7 @@ use Rattle.std.specs.Io.Buffered.{writer_buffer}
 use Rattle.hp_replay.specs.Streams.{TellsWrites, has_failed}
 use Rattle.hugepool.proofs.Buffered.{opens}
 use Rattle.hugepool.proofs.Texts.{answered_draw}
-use Rattle.hugepool.proofs.explaining.run_explain.Goals as goal
+use Rattle.hugepool.proofs.drawing.run_draw.Goals as goal
 
 pub returns : goal.returns
 returns g c =
