@@ -1,7 +1,7 @@
 //! Tests of `hugepool explain`, over fake streams.
+use crate::comparing::difference;
 use crate::program::program;
 use crate::tests::told;
-use crate::texts::difference;
 use hp_replay::Watched;
 use std::io;
 use std::io::{ErrorKind, Read, Write};

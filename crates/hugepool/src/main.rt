@@ -41,6 +41,8 @@ fn main(rt: HostRuntime) -> io::Result<ExitCode> {
 }
 
 #[cfg(test)]
+mod comparing;
+#[cfg(test)]
 mod drawing_tests;
 #[cfg(test)]
 mod explaining_tests;
@@ -48,5 +50,3 @@ mod explaining_tests;
 mod race_tests;
 #[cfg(test)]
 mod tests;
-#[cfg(test)]
-mod texts;

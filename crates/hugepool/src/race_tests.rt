@@ -1,6 +1,6 @@
 //! The words, the lines and the statuses of `hugepool race`.
+use crate::comparing::difference;
 use crate::tests::told;
-use crate::texts::difference;
 
 const RACE_HELP: &str =
     "Reads a script from standard input, races its tasks in threads, and writes a line for each race

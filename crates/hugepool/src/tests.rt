@@ -1,6 +1,6 @@
 //! The words, the statuses and the fault lines of the program, over fake streams.
+use crate::comparing::{difference, difference_from_both};
 use crate::program::program;
-use crate::texts::{difference, difference_from_both};
 use hp_replay::Watched;
 use std::alloc::Global;
 use std::io;
