@@ -15,7 +15,8 @@ pub(crate) fn difference<'a>(
             return Some((Some(line), should_be));
         }
     }
-    lines.next().map(|line| (None, Some(line)))
+    let missing = lines.next()?;
+    Some((None, Some(missing)))
 }
 
 /// The same where the text should be these two, one after the other.
