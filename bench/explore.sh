@@ -5,13 +5,7 @@
 # How much faster all processors are is told by the clock, so it needs a machine with nothing else to do: where others had
 # work when it began, it says so, and that number says nothing.
 set -euo pipefail
-cd "$(dirname "${BASH_SOURCE[0]}")/.."
-for need in python3 taskset; do
-    if ! command -v "$need" > /dev/null; then
-        echo "bench: '$need', which measures, is not on the PATH" >&2
-        exit 127
-    fi
-done
+source "$(dirname "${BASH_SOURCE[0]}")/needs.sh" python3 taskset
 PYTHONPATH=bench exec python3 -B - <<'P'
 import os
 import shutil

@@ -8,11 +8,7 @@
 #
 # Needs cargo, python3 and the Rattle toolchain.
 set -euo pipefail
-cd "$(dirname "${BASH_SOURCE[0]}")/.."
-if ! command -v python3 > /dev/null; then
-    echo "bench: 'python3', which measures, is not on the PATH" >&2
-    exit 127
-fi
+source "$(dirname "${BASH_SOURCE[0]}")/needs.sh" python3
 PYTHONPATH=bench exec python3 -B - "$@" <<'P'
 import os
 import statistics

@@ -2,11 +2,7 @@
 # Replays 1,000,000 lines `step 1`, each of which is refused, and a plain Rust loop that only parses the same file.
 # Prints the processor time of each, and the peak memory on that file and on one a tenth as long. Needs cargo and python3.
 set -euo pipefail
-cd "$(dirname "${BASH_SOURCE[0]}")/.."
-if ! command -v python3 > /dev/null; then
-    echo "bench: 'python3', which measures, is not on the PATH" >&2
-    exit 127
-fi
+source "$(dirname "${BASH_SOURCE[0]}")/needs.sh" python3
 PYTHONPATH=bench exec python3 -B - <<'P'
 import tempfile
 from pathlib import Path

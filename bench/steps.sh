@@ -4,11 +4,7 @@
 # same, and prints a table: processor time an event of each, the ratio of the two, and the growth of ours from the
 # smaller size to the larger. Then the peak memory of both on the largest pool. Needs cargo and python3.
 set -euo pipefail
-cd "$(dirname "${BASH_SOURCE[0]}")/.."
-if ! command -v python3 > /dev/null; then
-    echo "bench: 'python3', which measures, is not on the PATH" >&2
-    exit 127
-fi
+source "$(dirname "${BASH_SOURCE[0]}")/needs.sh" python3
 PYTHONPATH=bench exec python3 -B - "$@" <<'P'
 import subprocess
 import sys
