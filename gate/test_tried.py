@@ -65,6 +65,9 @@ def main() -> int:
         tried.record(top, marks(top))
         if tried.due(top, marks(top, "toolchain 2")) != ALL:
             faults.append("with another toolchain not all are due")
+        told = [tried.logic_of(it) for it in ("kit-1b logic 0a1b", "kit-1f logic 0a1b\n", "kit-1f logic 0a1c", "kit-1f", "kit-1g")]
+        if told[0] != told[1] or len(set(told)) != 4:
+            faults.append("versions of one logic differ, or those of others don't")
         tried.record(top, {"low": "another hash"})
         if tried.due(top, marks(top)) != {"low"}:
             faults.append("a crate that is recorded anew changes the record of others")
@@ -73,7 +76,7 @@ def main() -> int:
         if turns != ALL:
             faults.append(f"only {sorted(turns)} ever have their turn")
     print("".join(f"  {it}\n" for it in faults), end="")
-    print(f"edits that are due: {len(CHANGES) + 3 - len(faults)} passed, {len(faults)} failed")
+    print(f"edits that are due: {len(CHANGES) + 4 - len(faults)} passed, {len(faults)} failed")
     return 1 if faults else 0
 
 

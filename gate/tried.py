@@ -1,11 +1,12 @@
 """Which crates' edits are due: those of a crate whose check would read anything else than when all its edits were refused.
 
 What becomes of an edit is decided by what its check reads: the texts of the crate and of those below it, the edit, and the
-toolchain. The file tried.txt beside this one keeps, for each crate, a hash of all that, as it was when the prover refused all its edits.
+logic in which the toolchain proves. The file tried.txt beside this one keeps, for each crate, a hash of all that, as it was when the prover refused all its edits.
 """
 from __future__ import annotations
 
 import hashlib
+import re
 import subprocess
 from pathlib import Path
 from typing import Iterable
@@ -18,9 +19,16 @@ RECORD = Path("gate") / "tried.txt"
 TURN = 60
 
 
+def logic_of(version: str) -> str:
+    """The logic that a version of the toolchain proves in, which is what a version names beside itself: what doesn't follow in a logic
+    is refused by each version of it. A version that names none stands for itself."""
+    found = re.search(r"\blogic [0-9a-f]+", version)
+    return found[0] if found else version
+
+
 def toolchain() -> str:
-    """What the toolchain calls itself."""
-    return subprocess.run(["rt", "--version"], stdin=subprocess.DEVNULL, stdout=subprocess.PIPE, text=True, check=True).stdout
+    """The logic that the toolchain proves in."""
+    return logic_of(subprocess.run(["rt", "--version"], stdin=subprocess.DEVNULL, stdout=subprocess.PIPE, text=True, check=True).stdout)
 
 
 def add_files(said: hashlib._Hash, crate: Path, folders: Iterable[str]) -> None:
