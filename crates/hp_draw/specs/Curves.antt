@@ -24,24 +24,28 @@ height_of l Taken n = upper_of l n.resv
 height_of l Resv n = lower_of l n.resv
 height_of l Bare n = lower_of l n.bare
 
--- where it begins
+-- where one without a moment stands
 abbrev pub base_of : Layout → Curve → ℕ
 base_of l Free = upper_base_of l
 base_of l Taken = upper_base_of l
 base_of l Resv = lower_base_of l
 base_of l Bare = lower_base_of l
 
+-- where it begins: as far from above as in its first moment
+abbrev pub start_of : Layout → Curve → List Numbers → ℕ
+start_of l curve [] = base_of l curve
+start_of l curve (first ∷ _) = height_of l curve first
+
 -- it runs there, and on to the end of that moment
 abbrev pub point_text : Layout → Curve → Numbers → List ℕ
 point_text l curve n = codes "V" ++ (decimal (height_of l curve n) ++ (codes "H" ++ decimal (next_x_of l n.at)))
 
 -- a curve
-unfoldable pub curve_head : Layout → Curve → List ℕ
-curve_head l curve =
-    codes "<path class='" ++ (class_of curve ++ (codes "' d='M" ++ (decimal LEFT ++ (codes " " ++ decimal (base_of l curve)))))
+unfoldable pub curve_head : Layout → Curve → (start : ℕ) → List ℕ
+curve_head l curve start = codes "<path class='" ++ (class_of curve ++ (codes "' d='M" ++ (decimal LEFT ++ (codes " " ++ decimal start))))
 
 unfoldable pub curve_text : Layout → Curve → List Numbers → List ℕ
-curve_text l curve numbers = curve_head l curve ++ (texts (point_text l curve) numbers ++ codes "'/>\n")
+curve_text l curve numbers = curve_head l curve (start_of l curve numbers) ++ (texts (point_text l curve) numbers ++ codes "'/>\n")
 
 -- the place between the reserve count and the reserved indices without a page, where they differ
 abbrev pub between_text : Layout → Numbers → List ℕ

@@ -1,6 +1,6 @@
 //! The counts, as curves.
 ghost use Rattle.std.specs.Prelude.{◌≡◌, ◌++◌, ◌<◌, ◌^◌, OnOk, string_bytes};
-ghost use Rattle.hp_draw.specs.Curves.{base_of, between_text, class_of, counts_text, curve_head, curve_text, curves_text, bare_told, counts_front, four_text, height_of, hit_place, level_line, level_text};
+ghost use Rattle.hp_draw.specs.Curves.{base_of, between_text, class_of, counts_text, curve_head, curve_text, curves_text, bare_told, counts_front, four_text, height_of, start_of, hit_place, level_line, level_text};
 ghost use Rattle.hp_draw.specs.Curves.{levels_text, owed_text, owed_told, point_text, sum_text, sums_text};
 ghost use Rattle.hp_draw.specs.Shapes.{texts};
 
@@ -45,13 +45,23 @@ fn height_of(layout: &Layout, curve: Curve, counts: &Numbers) -> u64
     }
 }
 
-/// Where a curve begins.
+/// Where a curve without a moment stands.
 fn base_of(layout: &Layout, curve: Curve) -> u64
     ensures { result ≡ base_of layout.now curve }
 {
     match curve {
         Curve::Free | Curve::Taken => layout.upper_base(),
         Curve::Resv | Curve::Bare => layout.lower_base(),
+    }
+}
+
+/// Where a curve begins: as far from above as in its first moment.
+fn start_of(layout: &Layout, curve: Curve, numbers: &[Numbers]) -> u64
+    ensures { result ≡ start_of layout.now curve numbers.now }
+{
+    match numbers.first() {
+        Some(first) => height_of(layout, curve, first),
+        None => base_of(layout, curve),
     }
 }
 
@@ -86,12 +96,16 @@ fn push_points(
 
 /// Appends the front of a curve.
 #[tactic(auto, unfolding(crate::specs::Curves::curve_head))]
-fn push_curve_head(layout: &Layout, curve: Curve, text: &mut String) -> Result<(), AllocError>
-    ensures { OnOk result (string_bytes text.new ≡ string_bytes text.old ++ curve_head layout.now curve) }
+fn push_curve_head(
+    layout: &Layout,
+    curve: Curve,
+    start: u64,
+    text: &mut String,
+) -> Result<(), AllocError>
+    ensures { OnOk result (string_bytes text.new ≡ string_bytes text.old ++ curve_head layout.now curve start) }
 {
     let class = class_of(curve);
-    let base = base_of(layout, curve);
-    write!(text, "<path class='{class}' d='M{LEFT} {base}")
+    write!(text, "<path class='{class}' d='M{LEFT} {start}")
 }
 
 /// Appends a curve.
@@ -104,7 +118,7 @@ fn push_curve(
 ) -> Result<(), AllocError>
     ensures { OnOk result (string_bytes text.new ≡ string_bytes text.old ++ curve_text layout.now curve numbers.now) }
 {
-    push_curve_head(layout, curve, text)?;
+    push_curve_head(layout, curve, start_of(layout, curve, numbers), text)?;
     push_points(layout, curve, numbers, text)?;
     text.push_str("'/>\n")
 }
