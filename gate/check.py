@@ -5,10 +5,11 @@ usage: ./check [STEP] [..]
   ./check            all steps but quick: what has to pass before a change lands
   ./check all        the same, with every edit, whether or not anything changed that its check reads
   ./check ci         every proof from nothing, the edits for the known wrong bodies, all tests and programs (rt ci)
-  ./check edits [CRATE ..] [--all] [--each]
-                     the must-fail edits, many at once: with no crate named, those of the crates of which anything changed since
-                     all were refused, and of some others (--all: of every crate); then edits of which each has to be told
-                     apart, what makes a crate's edits due, and whether docs/INDEX.md is what the sources say
+  ./check edits [CRATE ..] [--all] [--due] [--each]
+                     the must-fail edits, many at once: with no crate named, those of which anything changed that their checks
+                     read since they were refused, and those of some other crates (--all: all of every crate); then edits of
+                     which each has to be told apart, what makes edits due, and whether docs/INDEX.md is what the sources say.
+                     Of crates that are named all, or with --due those that are due
   ./check examples   what the traces of examples/ print; a long race, and its trace; when ./hugepool builds; that what documents name
                      is there
   ./check refusals   that programs and drivers tell it where memory is refused to them, at each growth, one a run (it needs cc)

@@ -9,22 +9,32 @@ from pathlib import Path
 import tried
 
 FOLDERS = ("must-fail", "edits")
-ALL = {"low", "high", "alone"}
+CRATES = ("alone", "high", "low")
+ALL = {f"{crate}/{edit}" for crate in CRATES for edit in ("one", "two")}
 
 
 def repository(top: Path) -> Path:
-    """Three crates, of which one stands on another."""
+    """Three crates, of which one stands on another, with two edits each."""
     (top / "gate").mkdir()
     (top / "crates.txt").write_text("low:\nhigh: low\nalone: thiserror\n")
-    for name in ALL:
-        for folder in ("src", "specs", "proofs", "edits"):
-            (top / "crates" / name / folder).mkdir(parents=True)
-            (top / "crates" / name / folder / "one.txt").write_text(f"{name} {folder}\n")
+    for name in CRATES:
+        for file in ("src/one.rt", "specs/one.antt", "proofs/one.antt", "edits/one.edit", "must-fail/two.edit"):
+            change(top, f"crates/{name}/{file}", f"{name} {file}\n")
     return top
 
 
-def marks(top: Path, told: str = "toolchain 1") -> dict[str, str]:
+def marks(top: Path, told: str = "toolchain 1") -> dict[str, tried.Mark]:
     return tried.marks_of(top, FOLDERS, told)
+
+
+def refused(top: Path, name: str, edits: tuple[str, ...] = ("one", "two")) -> dict[str, tuple[str, set[str]]]:
+    """What is to be recorded where these edits of a crate were refused."""
+    mark = marks(top)[name]
+    return {name: (mark.texts, {mark.edits[it] for it in edits})}
+
+
+def due(top: Path, told: str = "toolchain 1") -> set[str]:
+    return {f"{name}/{it}" for name, edits in tried.due(top, marks(top, told)).items() for it in edits}
 
 
 def change(top: Path, path: str, text: str) -> None:
@@ -32,51 +42,80 @@ def change(top: Path, path: str, text: str) -> None:
     (top / path).write_text(text)
 
 
-# what changes, and which crates' edits are due then
+def of(*crates: str) -> set[str]:
+    """All edits of these crates."""
+    return {it for it in ALL if it.partition("/")[0] in crates}
+
+
+# what changes, and which edits are due then
 CHANGES = [
     (lambda top: None, set()),
-    (lambda top: change(top, "crates/low/src/one.txt", "another text\n"), {"low", "high"}),
-    (lambda top: change(top, "crates/low/proofs/two.txt", ""), {"low", "high"}),
-    (lambda top: change(top, "crates/low/edits/two.txt", "an edit more\n"), {"low"}),
-    (lambda top: change(top, "crates/high/must-fail/one.txt", "an edit more\n"), {"high"}),
-    (lambda top: change(top, "crates/high/specs/deep/one.txt", "a definition\n"), {"high"}),
-    (lambda top: (top / "crates/alone/specs/one.txt").unlink(), {"alone"}),
-    (lambda top: (top / "crates/alone/src/one.txt").rename(top / "crates/alone/src/two.txt"), {"alone"}),
-    (lambda top: change(top, "crates.txt", "low:\nhigh: low\nalone: low\n"), {"alone"}),
+    (lambda top: change(top, "crates/low/src/one.rt", "another text\n"), of("low", "high")),
+    (lambda top: change(top, "crates/low/proofs/two.antt", ""), of("low", "high")),
+    (lambda top: change(top, "crates/low/edits/three.edit", "an edit more\n"), {"low/three"}),
+    (lambda top: change(top, "crates/high/must-fail/two.edit", "another edit\n"), {"high/two"}),
+    (lambda top: (top / "crates/high/must-fail/two.edit").rename(top / "crates/high/edits/two.edit"), {"high/two"}),
+    (lambda top: (top / "crates/high/must-fail/two.edit").unlink(), set()),
+    (lambda top: change(top, "crates/high/edits/four.txt", "no edit\n"), {"high/four"}),
+    (lambda top: change(top, "crates/high/edits/why.md", "only to be read\n"), set()),
+    (lambda top: change(top, "crates/high/specs/deep/one.antt", "a definition\n"), of("high")),
+    (lambda top: (top / "crates/alone/specs/one.antt").unlink(), of("alone")),
+    (lambda top: (top / "crates/alone/src/one.rt").rename(top / "crates/alone/src/two.rt"), of("alone")),
+    (lambda top: change(top, "crates.txt", "low:\nhigh: low\nalone: low\n"), of("alone")),
     (lambda top: change(top, "crates/low/out/checked", "what a check kept\n"), set()),
     (lambda top: change(top, "gate/tried.txt", "no record\n"), ALL),
     (lambda top: (top / "gate/tried.txt").unlink(), ALL),
 ]
 
 
+def recorded(top: Path) -> Path:
+    """The repository, with a record that all edits were refused."""
+    repository(top)
+    for name in CRATES:
+        tried.record(top, refused(top, name))
+    return top
+
+
 def due_after(make) -> set[str]:
     """What is due once everything was recorded and then something changed."""
     with tempfile.TemporaryDirectory(prefix="tried-") as name:
-        top = repository(Path(name))
-        tried.record(top, marks(top))
+        top = recorded(Path(name))
         make(top)
-        return tried.due(top, marks(top))
+        return due(top)
+
+
+def faults_of_records(top: Path) -> list[str]:
+    """What is wrong with how single edits are recorded."""
+    faults = []
+    change(top, "crates/low/src/one.rt", "another text\n")
+    tried.record(top, refused(top, "low", ("one",)))
+    if due(top) != {"low/two", *of("high")}:
+        faults.append("what is recorded of other texts counts for these")
+    tried.record(top, refused(top, "low", ("two",)))
+    if due(top) != of("high"):
+        faults.append("an edit that is recorded takes away another of the same texts")
+    tried.record(top, refused(top, "high"))
+    if due(top):
+        faults.append("a crate that is recorded anew changes the record of others")
+    return faults
 
 
 def main() -> int:
-    faults = [f"change {k}: due are {sorted(found)}, and not {sorted(due)}" for k, (make, due) in enumerate(CHANGES, 1) if (found := due_after(make)) != due]
+    faults = [f"change {k}: due are {sorted(found)}, and not {sorted(wanted)}" for k, (make, wanted) in enumerate(CHANGES, 1) if (found := due_after(make)) != wanted]
     with tempfile.TemporaryDirectory(prefix="tried-") as name:
-        top = repository(Path(name))
-        tried.record(top, marks(top))
-        if tried.due(top, marks(top, "toolchain 2")) != ALL:
+        top = recorded(Path(name))
+        if due(top, "toolchain 2") != ALL:
             faults.append("with another toolchain not all are due")
         told = [tried.logic_of(it) for it in ("kit-1b logic 0a1b", "kit-1f logic 0a1b\n", "kit-1f logic 0a1c", "kit-1f", "kit-1g")]
         if told[0] != told[1] or len(set(told)) != 4:
             faults.append("versions of one logic differ, or those of others don't")
-        tried.record(top, {"low": "another hash"})
-        if tried.due(top, marks(top)) != {"low"}:
-            faults.append("a crate that is recorded anew changes the record of others")
-        edits = {it: tried.TURN for it in ALL}
-        turns = {next(iter(tried.in_turn({**marks(top), "low": str(k)}, edits, set()))) for k in range(64)}
-        if turns != ALL:
+        many = {name: tried.Mark(mark.texts, {str(k): "" for k in range(tried.TURN)}) for name, mark in marks(top).items()}
+        turns = {next(iter(tried.in_turn({**many, "low": tried.Mark(str(k), many["low"].edits)}, {}))) for k in range(64)}
+        if turns != set(CRATES):
             faults.append(f"only {sorted(turns)} ever have their turn")
+        faults += faults_of_records(top)
     print("".join(f"  {it}\n" for it in faults), end="")
-    print(f"edits that are due: {len(CHANGES) + 4 - len(faults)} passed, {len(faults)} failed")
+    print(f"edits that are due: {len(CHANGES) + 6 - len(faults)} passed, {len(faults)} failed")
     return 1 if faults else 0
 
 

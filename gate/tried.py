@@ -1,13 +1,15 @@
-"""Which crates' edits are due: those of a crate whose check would read anything else than when all its edits were refused.
+"""Which edits are due: those whose check would read anything else than when they were refused.
 
-What becomes of an edit is decided by what its check reads: the texts of the crate and of those below it, the edit, and the
-logic in which the toolchain proves. The file tried.txt beside this one keeps, for each crate, a hash of all that, as it was when the prover refused all its edits.
+What becomes of an edit is decided by what its check reads: the texts of the crate and of those below it, the edit, and the logic
+in which the toolchain proves. The file tried.txt beside this one has a line for each crate: its name, a hash of all that but the
+edit, and a hash of each edit that the prover refused then.
 """
 from __future__ import annotations
 
 import hashlib
 import re
 import subprocess
+from dataclasses import dataclass
 from pathlib import Path
 from typing import Iterable
 
@@ -17,6 +19,16 @@ from scratch import below, crates_of
 RECORD = Path("gate") / "tried.txt"
 # the crates whose turn it is to be tried although nothing changed have as many edits as this, or a few more
 TURN = 60
+# of the hash of an edit so many digits are kept: it is compared with those of one crate
+DIGITS = 12
+
+
+@dataclass(frozen=True)
+class Mark:
+    """What the checks of a crate's edits read: a hash of the texts, and of each edit one of its own, by its name."""
+
+    texts: str
+    edits: dict[str, str]
 
 
 def logic_of(version: str) -> str:
@@ -31,54 +43,68 @@ def toolchain() -> str:
     return logic_of(subprocess.run(["rt", "--version"], stdin=subprocess.DEVNULL, stdout=subprocess.PIPE, text=True, check=True).stdout)
 
 
-def add_files(said: hashlib._Hash, crate: Path, folders: Iterable[str]) -> None:
-    """Adds the names and texts of all files in these folders of a crate."""
-    for file in sorted(it for folder in folders for it in (crate / folder).rglob("*") if it.is_file()):
-        text = file.read_bytes()
-        said.update(f"{crate.name}/{file.relative_to(crate)} {len(text)}\n".encode() + text)
+def texts_of(crate: Path) -> bytes:
+    """The names and texts of all files that a check of the crate reads."""
+    files = sorted(it for folder in PARTS for it in (crate / folder).rglob("*") if it.is_file())
+    texts = ((it.relative_to(crate), it.read_bytes()) for it in files)
+    return b"".join(f"{crate.name}/{name} {len(text)}\n".encode() + text for name, text in texts)
 
 
-def marks_of(top: Path, folders: Iterable[str], told: str) -> dict[str, str]:
-    """For each crate a hash of what the checks of its edits read, where its edits stand in these folders."""
+def edits_of(crate: Path, folders: Iterable[str]) -> dict[str, str]:
+    """A hash of each edit in these folders of the crate, and of what stands there and is none."""
+    files = sorted(it for folder in folders for it in (crate / folder).glob("*") if it.suffix != ".md")
+    said = {it.stem: f"{it.parent.name}/{it.name}\n".encode() + it.read_bytes() for it in files}
+    return {name: hashlib.sha256(text).hexdigest()[:DIGITS] for name, text in said.items()}
+
+
+def marks_of(top: Path, folders: Iterable[str], told: str) -> dict[str, Mark]:
+    """The mark of each crate, where its edits stand in these folders."""
     crates, marks = crates_of(top), {}
+    texts = {name: texts_of(top / "crates" / name) for name in crates}
     for name in crates:
         said = hashlib.sha256(told.encode())
         for it in sorted({name, *below(name, crates)}):
-            said.update(f"{it}: {' '.join(crates[it])}\n".encode())
-            add_files(said, top / "crates" / it, PARTS)
-        add_files(said, top / "crates" / name, folders)
-        marks[name] = said.hexdigest()
+            said.update(f"{it}: {' '.join(crates[it])}\n".encode() + texts[it])
+        marks[name] = Mark(said.hexdigest(), edits_of(top / "crates" / name, folders))
     return marks
 
 
-def recorded(top: Path) -> dict[str, str]:
-    """What the record keeps. A line that isn't a name and a hash is no record."""
+def recorded(top: Path) -> dict[str, tuple[str, set[str]]]:
+    """What the record keeps of each crate: the hash of the texts, and those of the edits."""
     file = top / RECORD
-    lines = file.read_text(encoding="utf-8").splitlines() if file.is_file() else []
-    return dict(it for it in (tuple(line.split(" ")) for line in lines) if len(it) == 2)
+    lines = (it.split(" ") for it in file.read_text(encoding="utf-8").splitlines()) if file.is_file() else []
+    return {name: (texts, set(edits)) for name, texts, *edits in (it for it in lines if len(it) > 1)}
 
 
-def record(top: Path, marks: dict[str, str]) -> None:
-    """Keeps these hashes, beside those that are there of other crates."""
-    kept = {**recorded(top), **marks}
-    known = crates_of(top)
-    (top / RECORD).write_text("".join(f"{it} {kept[it]}\n" for it in sorted(kept) if it in known), encoding="utf-8")
-
-
-def due(top: Path, marks: dict[str, str]) -> set[str]:
-    """The crates of which the record doesn't say that all their edits were refused as they are now."""
+def record(top: Path, refused: dict[str, tuple[str, set[str]]]) -> None:
+    """Keeps of these crates which edits were refused over which texts, beside what is there: of the same texts, and of other crates."""
     kept = recorded(top)
-    return {name for name, mark in marks.items() if kept.get(name) != mark}
+    for name, (texts, edits) in refused.items():
+        was, before = kept.get(name, (texts, set()))
+        kept[name] = (texts, edits | before if was == texts else edits)
+    known = crates_of(top)
+    lines = (" ".join([name, texts, *sorted(edits)]) for name, (texts, edits) in sorted(kept.items()) if name in known)
+    (top / RECORD).write_text("".join(f"{it}\n" for it in lines), encoding="utf-8")
 
 
-def in_turn(marks: dict[str, str], edits: dict[str, int], is_due: set[str]) -> set[str]:
-    """Of the others some, whose turn it is: others whenever anything in the repository's crates changes."""
-    tree = "".join(marks[name] for name in sorted(marks))
-    order = sorted((it for it in marks if it not in is_due and edits[it]), key=lambda it: hashlib.sha256((tree + it).encode()).digest())
+def due(top: Path, marks: dict[str, Mark]) -> dict[str, set[str]]:
+    """Of each crate the edits of which the record doesn't say that they were refused as they are now, where there are any."""
+    kept = recorded(top)
+    found = {}
+    for name, mark in marks.items():
+        texts, refused = kept.get(name, ("", set()))
+        found[name] = {it for it, hash in mark.edits.items() if texts != mark.texts or hash not in refused}
+    return {name: edits for name, edits in found.items() if edits}
+
+
+def in_turn(marks: dict[str, Mark], is_due: Iterable[str]) -> set[str]:
+    """Of the other crates some, whose turn it is: others whenever anything in the repository's crates changes."""
+    tree = "".join(f"{marks[name].texts}{sorted(marks[name].edits.items())}" for name in sorted(marks))
+    left = (it for it in marks if it not in is_due and marks[it].edits)
     taken, count = set(), 0
-    for name in order:
+    for name in sorted(left, key=lambda it: hashlib.sha256((tree + it).encode()).digest()):
         if count >= TURN:
             break
         taken.add(name)
-        count += edits[name]
+        count += len(marks[name].edits)
     return taken

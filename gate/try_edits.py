@@ -1,10 +1,11 @@
 #!/usr/bin/env python3
 """Tries every must-fail edit: the prover has to refuse each for itself.
 
-usage: ./check edits [CRATE ..] [--all] [--each]
+usage: ./check edits [CRATE ..] [--all] [--due] [--each]
 
-Without a word it tries the edits of each crate whose checks would read anything else than when all its edits were refused (that is
-kept in gate/tried.txt), and those of some others, whose turn it is; --all tries those of all crates.
+Without a word it tries each edit whose check would read anything else than when it was refused (that is kept in gate/tried.txt), and
+those of some other crates, whose turn it is; --all tries all edits of all crates. Of crates that are named it tries all, with --due
+those that are due.
 
 The edits of a crate stand in its folders must-fail/ (those that the toolchain's gate tries too), edits/ and must-not-compile/
 (those that the compiler has to refuse, with the error that they name). Edits of different
@@ -28,7 +29,7 @@ from collections import Counter
 from concurrent.futures import ThreadPoolExecutor, as_completed
 from dataclasses import dataclass
 from pathlib import Path
-from typing import Iterable, Iterator
+from typing import Container, Iterable, Iterator
 
 import edit as edits
 import tried as record
@@ -42,6 +43,8 @@ FOLDERS = ("must-fail", "edits", NOT_COMPILED)
 QUIETLY = {"stdin": subprocess.DEVNULL, "stdout": subprocess.PIPE, "stderr": subprocess.STDOUT, "text": True, "errors": "replace"}
 # edits in one scratch copy: a larger share would end long after the others
 MOST = 24
+# what the result is called that says of no edit anything, but of the crate
+UNPROVED = "(none)"
 # the crate on which the gate itself is tried (test_edits.py)
 ALWAYS = "hp_frames"
 
@@ -224,7 +227,7 @@ def try_share(top: Path, share: Share, rooms: Path) -> Tried:
     trial.run(list(share.candidates))
     # refusals count only where the crate itself is proved over what the edits left behind
     if not scratch.check(Texts(trial.crate)).is_proved:
-        trial.results.append(Result("(none)", False, "without any edit the crate isn't proved, so its refusals say nothing"))
+        trial.results.append(Result(UNPROVED, False, "without any edit the crate isn't proved, so its refusals say nothing"))
     shutil.rmtree(room)
     return Tried(trial.results, scratch.checks, scratch.seconds)
 
@@ -241,8 +244,11 @@ class Lanes:
         self.more = 0
 
 
-def try_crates(top: Path, proved: Iterable[str], lanes: Lanes) -> Iterator[tuple[str, list[Result], str]]:
-    """Tries the edits of each crate once that is proved, share beside share. Gives of each crate the results and what they took."""
+def try_crates(
+    top: Path, proved: Iterable[str], lanes: Lanes, picked: dict[str, set[str]] | None = None
+) -> Iterator[tuple[str, list[Result], str]]:
+    """Tries the edits of each crate, or those that are picked, once it is proved, share beside share. Gives of each crate the results
+    and what they took."""
     def in_lane(share: Share) -> Tried:
         with lanes.free:
             return try_share(top, share, Path(rooms))
@@ -251,6 +257,7 @@ def try_crates(top: Path, proved: Iterable[str], lanes: Lanes) -> Iterator[tuple
     with tempfile.TemporaryDirectory(prefix="edits-") as rooms, ThreadPoolExecutor(lanes.most) as pool:
         for name in proved:
             candidates, bad = read_all(top / "crates" / name)
+            candidates = [it for it in candidates if picked is None or it.edit.name in picked.get(name, ())]
             ended[name] = Tried(list(bad), 0, 0.0)
             for share in shares_of(name, candidates):
                 trials[pool.submit(in_lane, share)] = name
@@ -305,27 +312,38 @@ def proved_in_order(top: Path) -> Iterator[str]:
         raise NotProved("".join(said))
 
 
-def chosen(top: Path, marks: dict[str, str], is_all: bool) -> set[str]:
-    """The crates whose edits are to be tried; the others are told."""
-    edits_of = {name: sum(map(len, read_all(top / "crates" / name))) for name in marks}
-    have = {name for name in marks if edits_of[name]}
+def chosen(top: Path, marks: dict[str, record.Mark], is_all: bool) -> dict[str, set[str]]:
+    """The edits that are to be tried, by their crates. How many are left out is told."""
+    every = {name: set(mark.edits) for name, mark in marks.items() if mark.edits}
     if is_all:
-        return have
-    due = record.due(top, marks) & have
-    turn = record.in_turn(marks, edits_of, due)
-    left = sorted(have - due - turn)
-    if left:
-        count = sum(edits_of[name] for name in left)
-        print(f"not tried, since nothing changed that the checks of their {count} edits read: {', '.join(left)}", flush=True)
-    return due | turn
+        return every
+    due = record.due(top, marks)
+    found = due | {name: every[name] for name in record.in_turn(marks, due)}
+    count = sum(map(len, every.values())) - sum(map(len, found.values()))
+    print(f"{count} edits are not tried, since nothing changed that their checks read", flush=True)
+    return found
 
 
-def try_all(top: Path, marks: dict[str, str], proved: Iterable[str], lanes: Lanes, is_each_told: bool) -> tuple[int, int]:
-    """Tries and tells, and returns how many edits were refused and how many faults there are. A crate without a fault is recorded."""
+def named(top: Path, marks: dict[str, record.Mark], crates: list[str], is_due: bool) -> dict[str, set[str]]:
+    """All edits of these crates, or those that are due."""
+    due = record.due(top, marks)
+    return {name: due.get(name, set()) if is_due else set(marks[name].edits) for name in crates}
+
+
+def note(top: Path, name: str, mark: record.Mark, results: list[Result]) -> None:
+    """Keeps which edits of a crate were refused, where the crate itself is proved."""
+    faulty = {it.name for it in results if not it.is_refused}
+    if UNPROVED not in faulty:
+        record.record(top, {name: (mark.texts, {mark.edits[it.name] for it in results if it.name not in faulty})})
+
+
+def try_all(
+    top: Path, marks: dict[str, record.Mark], picked: dict[str, set[str]], proved: Iterable[str], lanes: Lanes, is_each_told: bool
+) -> tuple[int, int]:
+    """Tries these edits and tells, and returns how many were refused and how many faults there are. What was refused is recorded."""
     refused = faults = 0
-    for name, results, told in try_crates(top, proved, lanes):
-        if all(it.is_refused for it in results):
-            record.record(top, {name: marks[name]})
+    for name, results, told in try_crates(top, proved, lanes, picked):
+        note(top, name, marks[name], results)
         print(told)
         for it in sorted(results, key=lambda it: it.name):
             if is_each_told or not it.is_refused:
@@ -341,11 +359,11 @@ def widen_when_input_ends(lanes: Lanes) -> None:
     lanes.widen()
 
 
-def try_beside(top: Path, marks: dict[str, str], names: set[str], most: int, is_each_told: bool) -> tuple[int, int]:
-    """Tries the edits of these crates of a copy of the repository, with half the lanes until the input ends. No other crate is
-    proved in the copy than those, what they stand on, and what is needed to try the gate itself."""
+def try_beside(top: Path, marks: dict[str, record.Mark], picked: dict[str, set[str]], most: int, is_each_told: bool) -> tuple[int, int]:
+    """Tries these edits in a copy of the repository, with half the lanes until the input ends. No other crate is proved in the copy
+    than theirs, what these stand on, and what is needed to try the gate itself."""
     crates = crates_of(top)
-    needed = {it for name in {*names, ALWAYS} for it in {name, *below(name, crates)}}
+    needed = {it for name in {*picked, ALWAYS} for it in {name, *below(name, crates)}}
     kept = top / "crates.txt.new"
     kept.write_text("".join(f"{it}: {' '.join(crates[it])}\n" for it in crates if it in needed), encoding="utf-8")
     # (at once, since another script reads it beside this one)
@@ -354,10 +372,10 @@ def try_beside(top: Path, marks: dict[str, str], names: set[str], most: int, is_
         shutil.rmtree(top / "crates" / it)
     lanes = Lanes(max(1, most // 2), most)
     threading.Thread(target=widen_when_input_ends, args=(lanes,), daemon=True).start()
-    return try_all(top, marks, only(proved_in_order(top), names), lanes, is_each_told)
+    return try_all(top, marks, picked, only(proved_in_order(top), picked), lanes, is_each_told)
 
 
-def only(proved: Iterable[str], names: set[str]) -> Iterator[str]:
+def only(proved: Iterable[str], names: Container[str]) -> Iterator[str]:
     return (it for it in proved if it in names)
 
 
@@ -365,6 +383,7 @@ def main() -> int:
     words = argparse.ArgumentParser(prog="./check edits", description=__doc__.split("\n")[0])
     words.add_argument("crates", nargs="*", metavar="CRATE", help="the crates whose edits are tried; none: all")
     words.add_argument("--all", action="store_true", help="try the edits of all crates")
+    words.add_argument("--due", action="store_true", help="try those edits of the named crates alone that are due")
     words.add_argument("--each", action="store_true", help="tell of each edit, not of the faults alone")
     words.add_argument("--lanes", type=int, default=os.cpu_count() or 1, metavar="N", help="how many checks side by side")
     words.add_argument("--beside", type=Path, help=argparse.SUPPRESS)
@@ -376,12 +395,12 @@ def main() -> int:
     try:
         top = given.beside or TOP
         marks = record.marks_of(top, FOLDERS, record.toolchain())
-        names = set(given.crates) or chosen(top, marks, given.all)
+        picked = named(top, marks, given.crates, given.due) if given.crates else chosen(top, marks, given.all)
         if given.beside:
-            refused, faults = try_beside(top, marks, names, most, given.each)
+            refused, faults = try_beside(top, marks, picked, most, given.each)
         else:
-            proved = proved_one_by_one(top, given.crates) if given.crates else only(proved_in_order(top), names)
-            refused, faults = try_all(top, marks, proved, Lanes(most, most), given.each)
+            proved = proved_one_by_one(top, list(picked)) if given.crates else only(proved_in_order(top), picked)
+            refused, faults = try_all(top, marks, picked, proved, Lanes(most, most), given.each)
     except NotProved as error:
         print(f"{error}check: the crates aren't proved, so not all edits were tried")
         return 1
