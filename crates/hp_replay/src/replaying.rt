@@ -1,8 +1,10 @@
 //! Replays a trace: runs each line as it comes, and writes what comes of it.
-ghost use Rattle.std.specs.Prelude.{◌≡◌, ◌<◌, ◌⊎◌, [], ◌∷◌, None, OnOk, IfErr, IfSome, IsSome, Ok, Err};
+ghost use Rattle.std.specs.Prelude.{◌≡◌, ◌<◌, ◌⊎◌, [], ◌∷◌, None, OnOk, IfOk, IfErr, IfSome, IsSome, Ok, Err, length, true};
 ghost use Rattle.std.specs.Option.{option_map};
+ghost use Rattle.std.specs.Io.BufRead.{take_through};
 ghost use Rattle.std.specs.Io.KnownBytes.{Appends, Keeps};
-ghost use Rattle.hp_replay.specs.Lines.{line_of, listed, end_of};
+ghost use Rattle.hp_base.specs.declared.event.Event.TheVariants.{Step};
+ghost use Rattle.hp_replay.specs.Lines.{line_of, event, listed, end_of};
 ghost use Rattle.hp_replay.specs.Outcomes.{state_text};
 ghost use Rattle.hp_replay.specs.Traces.{IsLineFault};
 ghost use Rattle.hp_replay.specs.Writing.{Wrote, IsWriteFault};
@@ -16,8 +18,51 @@ use crate::outcomes::write_outcome;
 use crate::state::push_state;
 use crate::streams::{PIECE, Sink, Source};
 use crate::writing::write_text;
+use hp_base::{Event, Task};
 use hp_core::Core;
 use std::alloc::Global;
+
+/// Runs one event, and writes what came of it.
+#[inline(always)]
+fn run_event<W: Sink>(
+    core: &mut Option<Core>,
+    event: Event,
+    text: &mut String,
+    writer: &mut W,
+) -> Result<(), ReplayFault>
+    requires { CanRun core.old (line_of (TraceLine.Event event)) }
+    ensures ok { OnOk result
+        (LinesRan core.old (line_of (TraceLine.Event event) ∷ []) core.new (W.contents writer.old) (W.contents writer.new)) }
+    ensures err { IfErr result (λ fault. LinesStopped fault core.old (line_of (TraceLine.Event event) ∷ [])
+        (W.contents writer.old) (W.contents writer.new)) }
+    ensures writes { TellsWrites result (W.failed writer.old) (W.failed writer.new) }
+{
+    match core {
+        Some(core) => {
+            let outcome = core.step(event)?;
+            write_outcome(writer, outcome, text)
+        }
+        None => unreachable!(),
+    }
+}
+
+/// Runs a granted step of the task of that number, and writes what came of it.
+#[inline(always)]
+fn run_step<W: Sink>(
+    core: &mut Option<Core>,
+    number: u32,
+    text: &mut String,
+    writer: &mut W,
+) -> Result<(), ReplayFault>
+    requires { CanRun core.old (event (Step number true)) }
+    ensures ok { OnOk result
+        (LinesRan core.old (event (Step number true) ∷ []) core.new (W.contents writer.old) (W.contents writer.new)) }
+    ensures err { IfErr result
+        (λ fault. LinesStopped fault core.old (event (Step number true) ∷ []) (W.contents writer.old) (W.contents writer.new)) }
+    ensures writes { TellsWrites result (W.failed writer.old) (W.failed writer.new) }
+{
+    run_event(core, Event::Step(Task::new(number), true), text, writer)
+}
 
 /// Runs one line, and writes what came of it.
 fn run_line<W: Sink>(
@@ -38,13 +83,7 @@ fn run_line<W: Sink>(
             *core = Some(opened);
             Ok(())
         }
-        TraceLine::Event(event) => match core {
-            Some(core) => {
-                let outcome = core.step(event)?;
-                write_outcome(writer, outcome, text)
-            }
-            None => unreachable!(),
-        },
+        TraceLine::Event(event) => run_event(core, event, text, writer),
     }
 }
 
@@ -69,6 +108,61 @@ fn run_taken<W: Sink>(
     }
 }
 
+/// Runs the line with which the piece begins, whatever it is; all of the piece is taken where no line ends in it. Tells how many
+/// bytes that was.
+#[inline(never)]
+fn run_any<W: Sink>(
+    alloc: Global,
+    feed: &mut TraceFeed,
+    core: &mut Option<Core>,
+    piece: &[u8],
+    text: &mut String,
+    writer: &mut W,
+) -> Result<usize, ReplayFault>
+    requires no_fault { feed.old.fault ≡ None }
+    requires opened { IsOpened feed.old core.old }
+    ensures used { IfOk result (λ used. used ≡ length (take_through 10 piece.now)) }
+    ensures ok { OnOk result (PieceRan feed.old (take_through 10 piece.now) feed.new core.old core.new
+        (W.contents writer.old) (W.contents writer.new)) }
+    ensures no_fault { OnOk result (feed.new.fault ≡ None) }
+    ensures opened { OnOk result (IsOpened feed.new core.new) }
+    ensures err { IfErr result (λ fault. PieceStopped fault feed.old piece.now feed.new core.old core.new
+        (W.contents writer.old) (W.contents writer.new)) }
+    ensures writes { TellsWrites result (W.failed writer.old) (W.failed writer.new) }
+{
+    let (used, line) = feed.take(piece)?;
+    run_taken(alloc, core, line, text, writer)?;
+    Ok(used)
+}
+
+/// The same, with a way of its own for what most lines are: the step of a task.
+#[inline(always)]
+fn run_first<W: Sink>(
+    alloc: Global,
+    feed: &mut TraceFeed,
+    core: &mut Option<Core>,
+    piece: &[u8],
+    text: &mut String,
+    writer: &mut W,
+) -> Result<usize, ReplayFault>
+    requires no_fault { feed.old.fault ≡ None }
+    requires opened { IsOpened feed.old core.old }
+    ensures used { IfOk result (λ used. used ≡ length (take_through 10 piece.now)) }
+    ensures ok { OnOk result (PieceRan feed.old (take_through 10 piece.now) feed.new core.old core.new
+        (W.contents writer.old) (W.contents writer.new)) }
+    ensures no_fault { OnOk result (feed.new.fault ≡ None) }
+    ensures opened { OnOk result (IsOpened feed.new core.new) }
+    ensures err { IfErr result (λ fault. PieceStopped fault feed.old piece.now feed.new core.old core.new
+        (W.contents writer.old) (W.contents writer.new)) }
+    ensures writes { TellsWrites result (W.failed writer.old) (W.failed writer.new) }
+{
+    if let Some((used, number)) = feed.take_step(piece) {
+        run_step(core, number, text, writer)?;
+        return Ok(used);
+    }
+    run_any(alloc, feed, core, piece, text, writer)
+}
+
 /// Runs the lines that a piece ends.
 fn run_piece<W: Sink>(
     alloc: Global,
@@ -89,9 +183,8 @@ fn run_piece<W: Sink>(
 {
     let mut rest = piece;
     while !rest.is_empty() {
-        let (used, line) = feed.take(rest)?;
+        let used = run_first(alloc, feed, core, rest, text, writer)?;
         (_, rest) = rest.split_at(used);
-        run_taken(alloc, core, line, text, writer)?;
     }
     Ok(())
 }
