@@ -109,10 +109,13 @@ fn blocked_by_two_digits(task: Task) -> [u8; 11]
 {
     let ten = b'0' + (task.number() / 10) as u8;
     let digit = b'0' + (task.number() % 10) as u8;
-    [b'b', b'l', b'o', b'c', b'k', b'e', b'd', b' ', ten, digit, b'\n']
+    [
+        b'b', b'l', b'o', b'c', b'k', b'e', b'd', b' ', ten, digit, b'\n',
+    ]
 }
 
 // Writes the line of a step that is blocked, which most lines of a busy pool are.
+#[inline(always)]
 fn write_blocked<W: Sink>(writer: &mut W, task: Task, line: &mut String) -> Result<(), ReplayFault>
     ensures ok { OnOk result (Appends (W.contents writer.old) (W.contents writer.new) (outcome_line (Outcome.Blocked task))) }
     ensures front { IfErr result (λ fault. IsWriteFault fault
@@ -132,6 +135,7 @@ fn write_blocked<W: Sink>(writer: &mut W, task: Task, line: &mut String) -> Resu
 }
 
 /// Writes the outcome's line. `line` is where it is laid out, if it doesn't stand ready.
+#[inline(always)]
 pub(crate) fn write_outcome<W: Sink>(
     writer: &mut W,
     outcome: Outcome,

@@ -5,10 +5,10 @@ use Rattle.hp_replay.proofs.replaying.run_event.Goals as goal
 
 pub returns-clause-ok : goal.returns-clause-ok
 returns-clause-ok g c =
-    event_ran c.args.core.now c.in-Some.core c.step.new.self (lines.Event c.args.event) c.args.event
-    c.in_ok-outcome-in-Some.outcome _ _ c.write_outcome.result refl c.in-Some.is c.in_ok-outcome-in-Some.ensures.row c.write_outcome.ensures.ok
+    event_ran c.args.core.now c.in-Some.core c.tell.new.core (lines.Event c.args.event) c.args.event
+    c.in_ok-outcome-in-Some.outcome _ _ c.write_outcome.result refl c.in-Some.is c.in_ok-outcome-in-Some.ensures c.write_outcome.ensures.ok
 
 pub returns-clause-err : goal.returns-clause-err
 returns-clause-err g c =
-    event_stopped c.args.core.now c.in-Some.core c.step.new.self (lines.Event c.args.event) c.args.event
-    c.in_ok-outcome-in-Some.outcome _ _ c.write_outcome.result refl c.in-Some.is c.in_ok-outcome-in-Some.ensures.row c.write_outcome.ensures.front
+    event_stopped c.args.core.now c.in-Some.core c.tell.new.core (lines.Event c.args.event) c.args.event
+    c.in_ok-outcome-in-Some.outcome _ _ c.write_outcome.result refl c.in-Some.is c.in_ok-outcome-in-Some.ensures c.write_outcome.ensures.front
