@@ -5,6 +5,8 @@ pub mod Spelled
 pub mod Ends
 pub mod WholeLines
 pub mod Widths
+pub mod StepLines
+pub mod BlockedLines
 pub mod Bytes
 pub mod BadLines
 pub mod Whole

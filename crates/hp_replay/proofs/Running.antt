@@ -211,85 +211,95 @@ opened_on n m mid new None text runs count opened some = subst (λ (x : Option C
 opened_on n m mid new (Some line) text (next, first, others, one, more, parts) count opened some =
     subst (λ (x : Option CoreState). IsSome x) (sym more.0) (some_core mid line next first one)
 
--- the next line of the piece ran
-pub line_moves : (held h next : Held) (core mid new : Option CoreState) (o o' o'' : Option (List ℕ))
-    (piece rest left : List ℕ) (line : Option Line) → Running held h core mid o o' piece rest
-    → TookLine h next line rest left → LinesRan mid (listed line []) new o' o'' → Running held next core new o o'' piece left
-line_moves held h next core mid new o o' o'' piece rest left line r t ran =
-    let s = spelled h (take_through 10 rest) (ap (λ (x : Held). x.fault) (sym t.held) ∙ t.ok) in
-    let count : next.lines ≡ h.lines + length (listed line []) =
-    ap (λ (x : Held). x.lines) t.held ∙ s.lines ∙ ap (λ (x : List Line). h.lines + length x) (sym t.lines) in
-    let one : PieceRan h (take_through 10 rest) next mid new o' o'' =
+-- the line that the bytes begin with ran
+pub line_ran : (h next : Held) (mid new : Option CoreState) (o o' : Option (List ℕ)) (rest left : List ℕ) (line : Option Line)
+    → TookLine h next line rest left → LinesRan mid (listed line []) new o o' → PieceRan h (take_through 10 rest) next mid new o o'
+line_ran h next mid new o o' rest left line t ran =
     record {
       text = ran.text;
       taken = t.held;
       runs = subst (λ (ls : List Line). LinesRun mid ls new ran.text) t.lines ran.runs;
       wrote = ran.wrote;
-    } in
-    record {
-      front = r.front ++ take_through 10 rest;
-      parts =
-          r.parts ∙ ap (λ (x : List ℕ). r.front ++ x)
-          (through_parts rest ∙ ap (λ (x : List ℕ). take_through 10 rest ++ x) (sym t.left_is))
-          ∙ sym (append_assoc r.front (take_through 10 rest) left);
-      ran = PieceRan-append held h next r.front (take_through 10 rest) core mid new o o' o'' r.ran one;
-      no_fault = t.ok;
-      opened = opened_on h.lines next.lines mid new line ran.text ran.runs count r.opened;
     }
 
+pub line_opened : (h next : Held) (mid new : Option CoreState) (o o' : Option (List ℕ)) (rest left : List ℕ) (line : Option Line)
+    → TookLine h next line rest left → LinesRan mid (listed line []) new o o' → IsOpened h mid → IsOpened next new
+line_opened h next mid new o o' rest left line t ran opened =
+    let s = spelled h (take_through 10 rest) (ap (λ (x : Held). x.fault) (sym t.held) ∙ t.ok) in
+    let count : next.lines ≡ h.lines + length (listed line []) =
+    ap (λ (x : Held). x.lines) t.held ∙ s.lines ∙ ap (λ (x : List Line). h.lines + length x) (sym t.lines) in
+    opened_on h.lines next.lines mid new line ran.text ran.runs count opened
+
 -- the line was taken, and did not run to its end
-pub line_stops : (held h next after : Held) (core mid new : Option CoreState) (o o' o'' : Option (List ℕ))
-    (piece rest left : List ℕ) (line : Option Line) (fault : ReplayFault) → Running held h core mid o o' piece rest
-    → TookLine h next line rest left → LinesStopped fault mid (listed line []) o' o''
-    → PieceStopped fault held piece after core new o o''
+pub line_stops : (h next after : Held) (mid new : Option CoreState) (o o' : Option (List ℕ)) (rest left : List ℕ)
+    (line : Option Line) (fault : ReplayFault) → TookLine h next line rest left → h.fault ≡ None
+    → LinesStopped fault mid (listed line []) o o' → PieceStopped fault h rest after mid new o o'
 unfolding held_after lines_after
-line_stops held h next after core mid new o o' o'' piece rest left line fault r t (is, inl none) =
-    inr (
-      is,
-      subst (λ (x : List ℕ). PieceRanPartly held x core o o'') (sym r.parts)
-          (PieceRanPartly-behind held h r.front rest core mid o o' o'' r.ran
-          (record { front = []; back = rest; parts = refl; ok = r.no_fault; ran = none })),
-    )
-line_stops held h next after core mid new o o' o'' piece rest left line fault r t (is, inr part) =
+line_stops h next after mid new o o' rest left line fault t ok (is, inl none) =
+    inr (is, record { front = []; back = rest; parts = refl; ok = ok; ran = none })
+line_stops h next after mid new o o' rest left line fault t ok (is, inr part) =
     let first = take_through 10 rest in
-    let left' = drop (length first) rest in
-    let ran : LinesRanPartly mid (lines_after h first) o' o'' = subst (λ (ls : List Line). LinesRanPartly mid ls o' o'') t.lines part in
     inr (
       is,
-      subst (λ (x : List ℕ). PieceRanPartly held x core o o'') (sym r.parts)
-          (PieceRanPartly-behind held h r.front rest core mid o o' o'' r.ran
-          (record {
-            front = first;
-            back = left';
-            parts = through_parts rest;
-            ok = ap (λ (x : Held). x.fault) (sym t.held) ∙ t.ok;
-            ran = ran;
-          })),
+      record {
+        front = first;
+        back = drop (length first) rest;
+        parts = through_parts rest;
+        ok = ap (λ (x : Held). x.fault) (sym t.held) ∙ t.ok;
+        ran = subst (λ (ls : List Line). LinesRanPartly mid ls o o') t.lines part;
+      },
     )
 
--- a fault: no line comes of the rest of the piece
-pub fails : (held h next : Held) (core mid : Option CoreState) (o o' : Option (List ℕ)) (piece rest : List ℕ)
-    (fault : ReplayFault) → Running held h core mid o o' piece rest → next ≡ held_after h (take_through 10 rest)
-    → lines_after h (take_through 10 rest) ≡ [] → next.fault ≡ Some fault → IsLineFault fault
-    → PieceStopped fault held piece next core mid o o'
-fails held h next core mid o o' piece rest fault r held_is none failed is =
+-- a fault: no line comes of the bytes
+pub fails : (h next : Held) (mid : Option CoreState) (o : Option (List ℕ)) (rest : List ℕ) (fault : ReplayFault)
+    → next ≡ held_after h (take_through 10 rest) → lines_after h (take_through 10 rest) ≡ [] → next.fault ≡ Some fault
+    → IsLineFault fault → PieceStopped fault h rest next mid mid o o
+fails h next mid o rest fault held_is none failed is =
     let t = take_through 10 rest in
     let left = drop (length t) rest in
     let s = stays next fault left failed in
     let taken : next ≡ held_after h (t ++ left) =
     sym s.0 ∙ ap (λ (x : Held). held_after x left) held_is ∙ sym (held_after-append h t left) in
     let no_lines : lines_after h (t ++ left) ≡ [] = lines_after-append h t left ∙ rw (none, ← held_is) s.1 in
-    let last : PieceRan h (t ++ left) next mid mid o' o' =
+    let all : PieceRan h (t ++ left) next mid mid o o =
     record {
       text = [];
       taken = taken;
       runs = subst (λ (ls : List Line). LinesRun mid ls mid []) (sym no_lines) (refl, refl);
-      wrote = Appends-nil o';
+      wrote = Appends-nil o;
     } in
-    let parts : r.front ++ (t ++ left) ≡ piece = sym (r.parts ∙ ap (λ (x : List ℕ). r.front ++ x) (through_parts rest)) in
+    inl (failed, is, subst (λ (x : List ℕ). PieceRan h x next mid mid o o) (sym (through_parts rest)) all)
+
+-- the next line of the piece ran
+pub piece_moves : (held h next : Held) (core mid new : Option CoreState) (o o' o'' : Option (List ℕ)) (piece rest left : List ℕ)
+    → Running held h core mid o o' piece rest → PieceRan h (take_through 10 rest) next mid new o' o'' → next.fault ≡ None
+    → IsOpened next new → left ≡ drop (length (take_through 10 rest)) rest → Running held next core new o o'' piece left
+piece_moves held h next core mid new o o' o'' piece rest left r one ok opened left_is =
+    record {
+      front = r.front ++ take_through 10 rest;
+      parts =
+          r.parts ∙ ap (λ (x : List ℕ). r.front ++ x)
+          (through_parts rest ∙ ap (λ (x : List ℕ). take_through 10 rest ++ x) (sym left_is))
+          ∙ sym (append_assoc r.front (take_through 10 rest) left);
+      ran = PieceRan-append held h next r.front (take_through 10 rest) core mid new o o' o'' r.ran one;
+      no_fault = ok;
+      opened = opened;
+    }
+
+-- the rest of the piece did not run to its end
+pub piece_stops : (held h next : Held) (core mid new : Option CoreState) (o o' o'' : Option (List ℕ)) (piece rest : List ℕ)
+    (fault : ReplayFault) → Running held h core mid o o' piece rest → PieceStopped fault h rest next mid new o' o''
+    → PieceStopped fault held piece next core new o o''
+piece_stops held h next core mid new o o' o'' piece rest fault r (inl (failed, is, ran)) =
     inl (
       failed,
       is,
-      subst (λ (x : List ℕ). PieceRan held x next core mid o o') parts
-          (PieceRan-append held h next r.front (t ++ left) core mid mid o o' o' r.ran last),
+      subst (λ (x : List ℕ). PieceRan held x next core new o o'') (sym r.parts)
+          (PieceRan-append held h next r.front rest core mid new o o' o'' r.ran ran),
+    )
+piece_stops held h next core mid new o o' o'' piece rest fault r (inr (is, part)) =
+    inr (
+      is,
+      subst (λ (x : List ℕ). PieceRanPartly held x core o o'') (sym r.parts)
+          (PieceRanPartly-behind held h r.front rest core mid o o' o'' r.ran part),
     )

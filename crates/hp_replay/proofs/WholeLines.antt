@@ -19,14 +19,14 @@ pub record IsWhole (h : Held) (piece : List ℕ) (end : ℕ) (l : Line) : Type 0
   pub used : length (take_through 10 piece) ≡ end + 1
 
 -- a byte inside a line
-inside_byte : (h : Held) (b : ℕ) → h.fault ≡ None → eqb h.lines 1000001 ≡ false → eqb b 10 ≡ false → eqb (length h.rest) 56 ≡ false
+pub inside_byte : (h : Held) (b : ℕ) → h.fault ≡ None → eqb h.lines 1000001 ≡ false → eqb b 10 ≡ false → eqb (length h.rest) 56 ≡ false
     → take_byte h b ≡ (record h { rest = h.rest ++ b ∷ [] }, None)
 unfolding take_byte
 inside_byte h b sound few other short =
     ap (λ (f : Option ReplayFault). unless_fault f h (next_byte h b)) sound ∙ rw (few, other, short) refl
 
 -- and the one that ends it
-end_byte : (h : Held) (b : ℕ) (l : Line) → h.fault ≡ None → eqb h.lines 1000001 ≡ false → eqb b 10 ≡ true
+pub end_byte : (h : Held) (b : ℕ) (l : Line) → h.fault ≡ None → eqb h.lines 1000001 ≡ false → eqb b 10 ≡ true
     → line_at h.lines h.rest ≡ Some l → take_byte h b ≡ (line_taken h, Some l)
 unfolding take_byte
 end_byte h b l sound few end is =

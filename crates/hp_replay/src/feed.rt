@@ -1,13 +1,14 @@
 //! Takes a trace in pieces, cut anywhere.
-ghost use Rattle.std.specs.Prelude.{◌≡◌, ◌≤◌, IfOk, IfErr, IfSome, OnOk, OnErr, MatchOption, take, length, [], ◌∷◌, None, Some};
+ghost use Rattle.std.specs.Prelude.{◌≡◌, ◌≤◌, ◌<◌, IfOk, IfErr, IfSome, OnOk, OnErr, MatchOption, take, length, [], ◌∷◌, None, Some, true};
+ghost use Rattle.hp_base.specs.declared.event.Event.TheVariants.{Step};
 ghost use Rattle.std.specs.Option.{option_map};
 ghost use Rattle.std.specs.Io.BufRead.{take_through};
 ghost use Rattle.hp_replay.specs.Lines.{Held, IsFirstEnd, line_of, line_at, opening_held, fault_at, with_fault, take_byte, held_after};
-ghost use Rattle.hp_replay.specs.Lines.{lines_after, listed, end_of};
+ghost use Rattle.hp_replay.specs.Lines.{lines_after, listed, end_of, event};
 ghost use Rattle.hp_replay.specs.Traces.{IsLineFault};
 
 use crate::fault::ReplayFault;
-use crate::reading::{event_at, header_at};
+use crate::reading::{event_at, header_at, step_at};
 use hp_base::{Config, Event};
 use memchr::memchr;
 use std::marker::Model;
@@ -118,6 +119,25 @@ impl TraceFeed {
         let line = self.line_at(&piece[..end])?;
         self.lines += 1;
         Some((end + 1, line))
+    }
+
+    /// Takes the line `step N` with which the piece begins, where all of it is there and the number is small; else nothing.
+    /// Tells how many bytes that was, and the number.
+    pub(crate) fn take_step(&mut self, piece: &[u8]) -> Option<(usize, u32)>
+        requires { self.old.fault ≡ None }
+        ensures held { IfSome result (λ _. self.new ≡ held_after self.old (take_through 10 piece.now)) }
+        ensures used { IfSome result (λ taken. taken.0 ≡ length (take_through 10 piece.now)) }
+        ensures line { IfSome result
+            (λ taken. lines_after self.old (take_through 10 piece.now) ≡ event (Step taken.1 true) ∷ []) }
+        ensures opened { IfSome result (λ _. 0 < self.old.lines) }
+        ensures none { MatchOption result (self.new ≡ self.old) (λ _. self.new.fault ≡ None) }
+    {
+        if self.len != 0 || self.lines == 0 || self.lines == MOST_LINES {
+            return None;
+        }
+        let (used, number) = step_at(piece)?;
+        self.lines += 1;
+        Some((used, number))
     }
 
     fn fault(&self) -> Option<ReplayFault>

@@ -1,5 +1,5 @@
 //! The lines of outcomes. Those without a number stand ready.
-ghost use Rattle.std.specs.Prelude.{◌≡◌, OnOk, IfErr, IfSome};
+ghost use Rattle.std.specs.Prelude.{◌≡◌, ◌<◌, ◌≤◌, OnOk, IfErr, IfSome};
 ghost use Rattle.std.specs.Io.KnownBytes.{Appends};
 ghost use Rattle.hp_replay.specs.Streams.{TellsWrites};
 ghost use Rattle.hp_replay.specs.Writing.{Wrote, IsWriteFault};
@@ -8,7 +8,7 @@ ghost use Rattle.hp_replay.specs.Outcomes.{outcome_line};
 use crate::fault::ReplayFault;
 use crate::streams::Sink;
 use crate::writing::write_text;
-use hp_base::Answer;
+use hp_base::{Answer, Task};
 use hp_machine::{Outcome, Phase, Refusal};
 
 // The line of a move to a phase.
@@ -92,7 +92,50 @@ fn ready_line(outcome: Outcome) -> Option<&'static [u8]>
     }
 }
 
+// The line of a step that is blocked by a task whose number has one digit.
+fn blocked_by_digit(task: Task) -> [u8; 10]
+    requires { task < 10 }
+    ensures { result ≡ outcome_line (Outcome.Blocked task) }
+{
+    let digit = b'0' + task.number() as u8;
+    [b'b', b'l', b'o', b'c', b'k', b'e', b'd', b' ', digit, b'\n']
+}
+
+// The same where it has two.
+fn blocked_by_two_digits(task: Task) -> [u8; 11]
+    requires few { task < 100 }
+    requires two { 10 ≤ task }
+    ensures { result ≡ outcome_line (Outcome.Blocked task) }
+{
+    let ten = b'0' + (task.number() / 10) as u8;
+    let digit = b'0' + (task.number() % 10) as u8;
+    [
+        b'b', b'l', b'o', b'c', b'k', b'e', b'd', b' ', ten, digit, b'\n',
+    ]
+}
+
+// Writes the line of a step that is blocked, which most lines of a busy pool are.
+#[inline(always)]
+fn write_blocked<W: Sink>(writer: &mut W, task: Task, line: &mut String) -> Result<(), ReplayFault>
+    ensures ok { OnOk result (Appends (W.contents writer.old) (W.contents writer.new) (outcome_line (Outcome.Blocked task))) }
+    ensures front { IfErr result (λ fault. IsWriteFault fault
+        × Wrote (W.contents writer.old) (W.contents writer.new) (outcome_line (Outcome.Blocked task))) }
+    ensures writes { TellsWrites result (W.failed writer.old) (W.failed writer.new) }
+{
+    let number = task.number();
+    if number < 10 {
+        return write_text(writer, &blocked_by_digit(task));
+    }
+    if number < 100 {
+        return write_text(writer, &blocked_by_two_digits(task));
+    }
+    line.clear();
+    writeln!(line, "{}", Outcome::Blocked(task))?;
+    write_text(writer, line.as_bytes())
+}
+
 /// Writes the outcome's line. `line` is where it is laid out, if it doesn't stand ready.
+#[inline(always)]
 pub(crate) fn write_outcome<W: Sink>(
     writer: &mut W,
     outcome: Outcome,
@@ -103,6 +146,9 @@ pub(crate) fn write_outcome<W: Sink>(
         × Wrote (W.contents writer.old) (W.contents writer.new) (outcome_line outcome)) }
     ensures writes { TellsWrites result (W.failed writer.old) (W.failed writer.new) }
 {
+    if let Outcome::Blocked(task) = outcome {
+        return write_blocked(writer, task, line);
+    }
     let Some(text) = ready_line(outcome) else {
         line.clear();
         writeln!(line, "{outcome}")?;

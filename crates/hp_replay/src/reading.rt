@@ -1,7 +1,10 @@
 //! Reads a line from its front, a word or a number at a time. Each line has one spelling.
-ghost use Rattle.std.specs.Prelude.{◌≡◌, ◌≤◌, length, IfSome};
+ghost use Rattle.std.specs.Prelude.{◌≡◌, ◌≤◌, ◌<◌, ◌++◌, ◌+◌, ◌∷◌, true, take, length, IfSome};
+ghost use Rattle.std.specs.Fmt.{decimal};
 ghost use Rattle.std.specs.Option.{option_map};
 ghost use Rattle.hp_base.specs.Text.{sizes};
+ghost use Rattle.hp_base.specs.declared.event.Event.TheVariants.{Step};
+ghost use Rattle.hp_replay.specs.Traces.{event_line};
 ghost use Rattle.hp_replay.specs.Reading.{header_at, sizes_at, quota_at, last_field_at, after_word, number_at, field_at, last_at, range_at};
 ghost use Rattle.hp_replay.specs.Reading.{pair_at, range_op_at, plain_op_at, op_at, event_at, limit, word_limit};
 
@@ -214,6 +217,44 @@ pub(crate) fn event_at(bytes: &[u8]) -> Option<Event>
     } else {
         None
     }
+}
+
+/// The digit that the bytes begin with, and the bytes behind it.
+fn digit_at(bytes: &[u8]) -> Option<(u32, &[u8])>
+    ensures digit { IfSome result (λ found. bytes.now ≡ (48 + found.0) ∷ found.1.now) }
+    ensures small { IfSome result (λ found. found.0 < 10) }
+{
+    match bytes {
+        [digit, rest @ ..] if digit.is_ascii_digit() => Some((u32::from(*digit - b'0'), rest)),
+        _ => None,
+    }
+}
+
+/// The number of one digit or two that the bytes begin with, and the bytes behind it.
+fn small_at(bytes: &[u8]) -> Option<(u32, &[u8])>
+    ensures number { IfSome result (λ found. bytes.now ≡ decimal found.0 ++ found.1.now) }
+    ensures small { IfSome result (λ found. found.0 < 100) }
+{
+    let (first, rest) = digit_at(bytes)?;
+    if first == 0 {
+        return Some((first, rest));
+    }
+    match digit_at(rest) {
+        Some((second, rest)) => Some((10 * first + second, rest)),
+        None => Some((first, rest)),
+    }
+}
+
+/// The line `step N` with which the bytes begin: its length with its end, and the number. It is told where the number has one
+/// digit or two, as that of each task of a pool has. Most lines of a trace are such lines, so they are read here at once.
+pub(crate) fn step_at(bytes: &[u8]) -> Option<(usize, u32)>
+    ensures line { IfSome result (λ step. take step.0 bytes.now ≡ event_line (Step step.1 true)) }
+    ensures within { IfSome result (λ step. step.0 ≤ length bytes.now) }
+    ensures small { IfSome result (λ step. step.1 < 100) }
+{
+    let (number, rest) = small_at(after_word(b"step ", bytes)?)?;
+    let rest = after_word(b"\n", rest)?;
+    Some((bytes.len() - rest.len(), number))
 }
 
 /// The last number of a line, behind a space.

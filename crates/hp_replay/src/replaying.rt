@@ -1,8 +1,11 @@
 //! Replays a trace: runs each line as it comes, and writes what comes of it.
-ghost use Rattle.std.specs.Prelude.{◌≡◌, ◌<◌, ◌⊎◌, [], ◌∷◌, None, OnOk, IfErr, IfSome, IsSome, Ok, Err};
+ghost use Rattle.std.specs.Prelude.{◌≡◌, ◌<◌, ◌↔◌, ◌⊎◌, [], ◌∷◌, None, OnOk, IfOk, IfErr, IfSome, IsSome, IsTrue, Ok, Err, length, true};
 ghost use Rattle.std.specs.Option.{option_map};
+ghost use Rattle.std.specs.Io.BufRead.{take_through};
 ghost use Rattle.std.specs.Io.KnownBytes.{Appends, Keeps};
-ghost use Rattle.hp_replay.specs.Lines.{line_of, listed, end_of};
+ghost use Rattle.hp_base.specs.declared.event.Event.TheVariants.{Step};
+ghost use Rattle.hp_core.specs.Runs.{Row, IsIdle};
+ghost use Rattle.hp_replay.specs.Lines.{line_of, event, listed, end_of};
 ghost use Rattle.hp_replay.specs.Outcomes.{state_text};
 ghost use Rattle.hp_replay.specs.Traces.{IsLineFault};
 ghost use Rattle.hp_replay.specs.Writing.{Wrote, IsWriteFault};
@@ -16,14 +19,98 @@ use crate::outcomes::write_outcome;
 use crate::state::push_state;
 use crate::streams::{PIECE, Sink, Source};
 use crate::writing::write_text;
+use hp_base::{Event, Task};
 use hp_core::Core;
-use std::alloc::Global;
+use hp_machine::Outcome;
+use std::alloc::{AllocError, Global};
+
+/// What an event is told that is held back, where it is looked for. Such an event changes nothing.
+#[inline(always)]
+fn look(core: &Core, event: &Event, is_looked_for: bool) -> Option<Outcome>
+    ensures { IfSome result (λ told. Row core.now event.now told core.now) }
+{
+    if !is_looked_for {
+        return None;
+    }
+    core.held_back(*event)
+}
+
+/// Runs an event. A look costs less than a step that is held back, and more than nothing: so it is taken where the event before
+/// was held back, too.
+#[inline(always)]
+fn tell(core: &mut Core, event: Event, was_held_back: bool) -> Result<Outcome, AllocError>
+    ensures { IfOk result (λ told. Row core.old event told core.new) }
+{
+    if let Some(told) = look(core, &event, was_held_back) {
+        return Ok(told);
+    }
+    core.step(event)
+}
+
+/// Whether the outcome is one of an event that is held back.
+fn is_held_back(outcome: &Outcome) -> bool
+    ensures { IsTrue result ↔ IsIdle outcome.now }
+{
+    matches!(outcome, Outcome::Blocked(_) | Outcome::Refused(_))
+}
+
+/// Runs one event, and writes what came of it. `held_back` tells whether the event before was held back.
+#[inline(always)]
+fn run_event<W: Sink>(
+    core: &mut Option<Core>,
+    event: Event,
+    held_back: &mut bool,
+    text: &mut String,
+    writer: &mut W,
+) -> Result<(), ReplayFault>
+    requires { CanRun core.old (line_of (TraceLine.Event event)) }
+    ensures ok { OnOk result
+        (LinesRan core.old (line_of (TraceLine.Event event) ∷ []) core.new (W.contents writer.old) (W.contents writer.new)) }
+    ensures err { IfErr result (λ fault. LinesStopped fault core.old (line_of (TraceLine.Event event) ∷ [])
+        (W.contents writer.old) (W.contents writer.new)) }
+    ensures writes { TellsWrites result (W.failed writer.old) (W.failed writer.new) }
+{
+    match core {
+        Some(core) => {
+            let outcome = tell(core, event, *held_back)?;
+            *held_back = is_held_back(&outcome);
+            write_outcome(writer, outcome, text)
+        }
+        None => unreachable!(),
+    }
+}
+
+/// Runs a granted step of the task of that number, and writes what came of it.
+#[inline(always)]
+fn run_step<W: Sink>(
+    core: &mut Option<Core>,
+    number: u32,
+    held_back: &mut bool,
+    text: &mut String,
+    writer: &mut W,
+) -> Result<(), ReplayFault>
+    requires { CanRun core.old (event (Step number true)) }
+    ensures ok { OnOk result
+        (LinesRan core.old (event (Step number true) ∷ []) core.new (W.contents writer.old) (W.contents writer.new)) }
+    ensures err { IfErr result
+        (λ fault. LinesStopped fault core.old (event (Step number true) ∷ []) (W.contents writer.old) (W.contents writer.new)) }
+    ensures writes { TellsWrites result (W.failed writer.old) (W.failed writer.new) }
+{
+    run_event(
+        core,
+        Event::Step(Task::new(number), true),
+        held_back,
+        text,
+        writer,
+    )
+}
 
 /// Runs one line, and writes what came of it.
 fn run_line<W: Sink>(
     alloc: Global,
     core: &mut Option<Core>,
     line: TraceLine,
+    held_back: &mut bool,
     text: &mut String,
     writer: &mut W,
 ) -> Result<(), ReplayFault>
@@ -38,13 +125,7 @@ fn run_line<W: Sink>(
             *core = Some(opened);
             Ok(())
         }
-        TraceLine::Event(event) => match core {
-            Some(core) => {
-                let outcome = core.step(event)?;
-                write_outcome(writer, outcome, text)
-            }
-            None => unreachable!(),
-        },
+        TraceLine::Event(event) => run_event(core, event, held_back, text, writer),
     }
 }
 
@@ -53,6 +134,7 @@ fn run_taken<W: Sink>(
     alloc: Global,
     core: &mut Option<Core>,
     line: Option<TraceLine>,
+    held_back: &mut bool,
     text: &mut String,
     writer: &mut W,
 ) -> Result<(), ReplayFault>
@@ -64,9 +146,66 @@ fn run_taken<W: Sink>(
     ensures writes { TellsWrites result (W.failed writer.old) (W.failed writer.new) }
 {
     match line {
-        Some(line) => run_line(alloc, core, line, text, writer),
+        Some(line) => run_line(alloc, core, line, held_back, text, writer),
         None => Ok(()),
     }
+}
+
+/// Runs the line with which the piece begins, whatever it is; all of the piece is taken where no line ends in it. Tells how many
+/// bytes that was.
+#[inline(never)]
+fn run_any<W: Sink>(
+    alloc: Global,
+    feed: &mut TraceFeed,
+    core: &mut Option<Core>,
+    piece: &[u8],
+    held_back: &mut bool,
+    text: &mut String,
+    writer: &mut W,
+) -> Result<usize, ReplayFault>
+    requires no_fault { feed.old.fault ≡ None }
+    requires opened { IsOpened feed.old core.old }
+    ensures used { IfOk result (λ used. used ≡ length (take_through 10 piece.now)) }
+    ensures ok { OnOk result (PieceRan feed.old (take_through 10 piece.now) feed.new core.old core.new
+        (W.contents writer.old) (W.contents writer.new)) }
+    ensures no_fault { OnOk result (feed.new.fault ≡ None) }
+    ensures opened { OnOk result (IsOpened feed.new core.new) }
+    ensures err { IfErr result (λ fault. PieceStopped fault feed.old piece.now feed.new core.old core.new
+        (W.contents writer.old) (W.contents writer.new)) }
+    ensures writes { TellsWrites result (W.failed writer.old) (W.failed writer.new) }
+{
+    let (used, line) = feed.take(piece)?;
+    run_taken(alloc, core, line, held_back, text, writer)?;
+    Ok(used)
+}
+
+/// The same, with a way of its own for what most lines are: the step of a task.
+#[inline(always)]
+fn run_first<W: Sink>(
+    alloc: Global,
+    feed: &mut TraceFeed,
+    core: &mut Option<Core>,
+    piece: &[u8],
+    held_back: &mut bool,
+    text: &mut String,
+    writer: &mut W,
+) -> Result<usize, ReplayFault>
+    requires no_fault { feed.old.fault ≡ None }
+    requires opened { IsOpened feed.old core.old }
+    ensures used { IfOk result (λ used. used ≡ length (take_through 10 piece.now)) }
+    ensures ok { OnOk result (PieceRan feed.old (take_through 10 piece.now) feed.new core.old core.new
+        (W.contents writer.old) (W.contents writer.new)) }
+    ensures no_fault { OnOk result (feed.new.fault ≡ None) }
+    ensures opened { OnOk result (IsOpened feed.new core.new) }
+    ensures err { IfErr result (λ fault. PieceStopped fault feed.old piece.now feed.new core.old core.new
+        (W.contents writer.old) (W.contents writer.new)) }
+    ensures writes { TellsWrites result (W.failed writer.old) (W.failed writer.new) }
+{
+    if let Some((used, number)) = feed.take_step(piece) {
+        run_step(core, number, held_back, text, writer)?;
+        return Ok(used);
+    }
+    run_any(alloc, feed, core, piece, held_back, text, writer)
 }
 
 /// Runs the lines that a piece ends.
@@ -75,6 +214,7 @@ fn run_piece<W: Sink>(
     feed: &mut TraceFeed,
     core: &mut Option<Core>,
     piece: &[u8],
+    held_back: &mut bool,
     text: &mut String,
     writer: &mut W,
 ) -> Result<(), ReplayFault>
@@ -89,9 +229,8 @@ fn run_piece<W: Sink>(
 {
     let mut rest = piece;
     while !rest.is_empty() {
-        let (used, line) = feed.take(rest)?;
+        let used = run_first(alloc, feed, core, rest, held_back, text, writer)?;
         (_, rest) = rest.split_at(used);
-        run_taken(alloc, core, line, text, writer)?;
     }
     Ok(())
 }
@@ -148,6 +287,7 @@ pub fn replay<R: Source, W: Sink>(
 {
     let mut feed = TraceFeed::new();
     let mut core = None;
+    let mut held_back = false;
     let mut text = String::new(alloc);
     let mut piece = [0; PIECE];
     loop {
@@ -155,6 +295,14 @@ pub fn replay<R: Source, W: Sink>(
         if n == 0 {
             return finish(&feed, &core, &mut text, writer);
         }
-        run_piece(alloc, &mut feed, &mut core, &piece[..n], &mut text, writer)?;
+        run_piece(
+            alloc,
+            &mut feed,
+            &mut core,
+            &piece[..n],
+            &mut held_back,
+            &mut text,
+            writer,
+        )?;
     }
 }

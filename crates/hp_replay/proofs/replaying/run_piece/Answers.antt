@@ -1,11 +1,8 @@
 use Rattle.std.proofs.Common.{arith, rules, length, ◌<◌, ◌≡◌, drop, ◌∙◌, ap, refl}
-use Rattle.std.specs.Option.{option_map}
 use Rattle.std.specs.Io.BufRead.{take_through}
 use Rattle.std.proofs.lemmas.Result.{err_from_is_err_and}
-use Rattle.hp_replay.specs.Lines.{line_of}
 use Rattle.hp_replay.specs.Streams.{sink_at}
-use Rattle.hp_replay.proofs.Told.{line_no_write}
-use Rattle.hp_replay.proofs.Running.{TookLine, starts, through_within, through_some, line_can_run, line_moves, line_stops, fails}
+use Rattle.hp_replay.proofs.Running.{starts, through_within, through_some, piece_moves, piece_stops}
 use Rattle.hp_replay.proofs.replaying.run_piece.Goals as goal
 
 pub loop-rest-init : goal.loop-rest-init
@@ -18,65 +15,30 @@ loop-rest-init g c = (
 pub returns-in_err-used-clause-err : goal.returns-in_err-used-clause-err
 returns-in_err-used-clause-err g c =
     let p = err_from_is_err_and c.from_residual.result c.from_residual.ensures.1 in
-    let ran = fails c.args.feed.now c.loop-rest.feed c.take.new.self c.args.core.now c.loop-rest.core
-    (g.W.Sink.contents c.args.writer.now) (g.W.Sink.contents c.loop-rest.writer) c.args.piece.now
-    c.loop-rest.rest.now c.in_err-used.field-0.0 c.loop-rest.invariant.0 c.take.ensures.held
-    c.in_err-used.ensures.none c.in_err-used.ensures.err c.in_err-used.ensures.kind in
-    rw (p.1, p.2) ran
+    let stopped = piece_stops c.args.feed.now c.loop-rest.feed c.run_first.new.feed c.args.core.now c.loop-rest.core
+    c.run_first.new.core (g.W.Sink.contents c.args.writer.now) (g.W.Sink.contents c.loop-rest.writer)
+    (g.W.Sink.contents c.run_first.new.writer) c.args.piece.now c.loop-rest.rest.now c.in_err-used.field-0.0
+    c.loop-rest.invariant.0 c.in_err-used.ensures.err in
+    rw (p.1, p.2) stopped
 
 pub returns-in_err-used-clause-writes : goal.returns-in_err-used-clause-writes
 returns-in_err-used-clause-writes g c =
     let p = err_from_is_err_and c.from_residual.result c.from_residual.ensures.1 in
-    rw (p.1, p.2) (c.loop-rest.invariant.1 ∙ line_no_write c.in_err-used.field-0.0 _ c.in_err-used.ensures.kind)
+    rw (p.1, p.2) (c.in_err-used.ensures.writes ∙ ap (sink_at c.in_err-used.field-0.0) c.loop-rest.invariant.1)
 
 pub split_at-requires : goal.split_at-requires
 split_at-requires g c = omega (arith, c.in_ok-used.ensures.used, through_within c.loop-rest.rest.now)
 
-pub run_taken-requires : goal.run_taken-requires
-run_taken-requires g c =
-    line_can_run c.loop-rest.feed c.take.new.self (option_map line_of c.in_ok-used.line) c.loop-rest.rest.now
-    c.loop-rest.core c.take.ensures.held c.in_ok-used.ensures.line c.in_ok-used.ensures.ok c.loop-rest.invariant.0.opened
-
 pub loop-rest-preserved : goal.loop-rest-preserved
 loop-rest-preserved g c =
     let left : c.split_at.result.1.now ≡ drop (length (take_through 10 c.loop-rest.rest.now)) c.loop-rest.rest.now =
-    c.split_at.ensures.back ∙ ap (λ n. drop n c.loop-rest.rest.now) c.in_ok-used.ensures.used in
-    let took : TookLine c.loop-rest.feed c.take.new.self (option_map line_of c.in_ok-used.line) c.loop-rest.rest.now
-    c.split_at.result.1.now = record {
-      held = c.take.ensures.held;
-      lines = c.in_ok-used.ensures.line;
-      left_is = left;
-      ok = c.in_ok-used.ensures.ok;
-    } in (
-      line_moves c.args.feed.now c.loop-rest.feed c.take.new.self c.args.core.now c.loop-rest.core c.run_taken.new.core
-          (g.W.Sink.contents c.args.writer.now) (g.W.Sink.contents c.loop-rest.writer)
-          (g.W.Sink.contents c.run_taken.new.writer) c.args.piece.now c.loop-rest.rest.now c.split_at.result.1.now
-          (option_map line_of c.in_ok-used.line) c.loop-rest.invariant.0 took c.in_ok-run_taken.ensures.ok,
-      c.in_ok-run_taken.ensures.writes ∙ c.loop-rest.invariant.1,
+    c.split_at.ensures.back ∙ ap (λ n. drop n c.loop-rest.rest.now) c.in_ok-used.ensures.used in (
+      piece_moves c.args.feed.now c.loop-rest.feed c.run_first.new.feed c.args.core.now c.loop-rest.core
+          c.run_first.new.core (g.W.Sink.contents c.args.writer.now) (g.W.Sink.contents c.loop-rest.writer)
+          (g.W.Sink.contents c.run_first.new.writer) c.args.piece.now c.loop-rest.rest.now c.split_at.result.1.now
+          c.loop-rest.invariant.0 c.in_ok-used.ensures.ok c.in_ok-used.ensures.no_fault c.in_ok-used.ensures.opened left,
+      c.in_ok-used.ensures.writes ∙ c.loop-rest.invariant.1,
     )
-
-pub returns-in_err-run_taken-clause-err : goal.returns-in_err-run_taken-clause-err
-returns-in_err-run_taken-clause-err g c =
-    let p = err_from_is_err_and c.from_residual-in_err-run_taken.result c.from_residual-in_err-run_taken.ensures.1 in
-    let left : c.split_at.result.1.now ≡ drop (length (take_through 10 c.loop-rest.rest.now)) c.loop-rest.rest.now =
-    c.split_at.ensures.back ∙ ap (λ n. drop n c.loop-rest.rest.now) c.in_ok-used.ensures.used in
-    let took : TookLine c.loop-rest.feed c.take.new.self (option_map line_of c.in_ok-used.line) c.loop-rest.rest.now
-    c.split_at.result.1.now = record {
-      held = c.take.ensures.held;
-      lines = c.in_ok-used.ensures.line;
-      left_is = left;
-      ok = c.in_ok-used.ensures.ok;
-    } in
-    rw (p.1, p.2)
-    (line_stops c.args.feed.now c.loop-rest.feed c.take.new.self c.take.new.self c.args.core.now c.loop-rest.core
-    c.run_taken.new.core (g.W.Sink.contents c.args.writer.now) (g.W.Sink.contents c.loop-rest.writer)
-    (g.W.Sink.contents c.run_taken.new.writer) c.args.piece.now c.loop-rest.rest.now c.split_at.result.1.now
-    (option_map line_of c.in_ok-used.line) c.in_err-run_taken.field-0.0 c.loop-rest.invariant.0 took c.in_err-run_taken.ensures.err)
-
-pub returns-in_err-run_taken-clause-writes : goal.returns-in_err-run_taken-clause-writes
-returns-in_err-run_taken-clause-writes g c =
-    let p = err_from_is_err_and c.from_residual-in_err-run_taken.result c.from_residual-in_err-run_taken.ensures.1 in
-    rw (p.1, p.2) (c.in_err-run_taken.ensures.writes ∙ ap (sink_at c.in_err-run_taken.field-0.0) c.loop-rest.invariant.1)
 
 pub returns-clause-writes : goal.returns-clause-writes
 returns-clause-writes g c = c.loop-rest.invariant.1
