@@ -149,7 +149,7 @@ names_nobody s t free = by (task_blocker s.parts (seat_at s.seats t)) refl
     by None e = e
     by (Some h) e = absurd (free true h s (step_blocks s t true h e, refl))
 
-waits_for_nobody : (s : CoreState) (t : ℕ) → task_blocker s.parts (seat_at s.seats t) ≡ None → WaitsFor s t None
+pub waits_for_nobody : (s : CoreState) (t : ℕ) → task_blocker s.parts (seat_at s.seats t) ≡ None → WaitsFor s t None
 unfolding WaitsFor Row
 waits_for_nobody s t e =
     λ grant holder new row. nobody holder (sym e ∙ sym (step_held s t grant (Blocked holder) (as_state new) row.0))
@@ -182,7 +182,7 @@ of_either : (b : Bool) (x y : Choice) (t u : ℕ) → (IsOf u x.event → u ≡ 
 of_either true x y t u first second h = first h
 of_either false x y t u first second h = second h
 
-of_choice : (plan : Plan) (busy alive : Bool) (made : List ℕ) (t : ℕ) (rng : Lcg) (u : ℕ)
+pub of_choice : (plan : Plan) (busy alive : Bool) (made : List ℕ) (t : ℕ) (rng : Lcg) (u : ℕ)
     → IsOf u (task_choice plan busy alive made t rng).event → u ≡ t
 of_choice plan busy alive made t rng u =
     let next = next_call plan made t in
