@@ -1,6 +1,6 @@
 -- A step from a phase whose word doesn't say otherwise leaves the slot and the lock that its call holds.
 use Rattle.std.proofs.Common.{◌≡◌, ℕ, ◌+◌, ◌-◌, refl, ap, sym, ◌∙◌, subst, true≢false}
-use Rattle.std.specs.Prelude.{Bool, true, false, not, ◌&&◌, ◌==◌, nat_le, nat_lt, max, is_some, Option, None, Some}
+use Rattle.std.specs.Prelude.{Bool, true, false, not, ◌&&◌, ◌==◌, nat_le, nat_lt, max, is_some, Option, Some}
 use Rattle.hp_base.specs.Indices.{missing, splits}
 use Rattle.hp_base.specs.Mappings.{find, first_base, without}
 use Rattle.hp_base.specs.declared.answer.Answer.{Answer}

@@ -1,5 +1,5 @@
 -- No call is in flight yet.
-use Rattle.std.proofs.Common.{rules, ◌≡◌, ◌∙◌, ℕ, List, length, ap, sym}
+use Rattle.std.proofs.Common.{rules, ◌∙◌, ℕ, List, length, ap, sym}
 use Rattle.std.specs.Prelude.{Option, None}
 use Rattle.std.proofs.lemmas.List.{length-replicate}
 use Rattle.hp_machine.specs.declared.phase.Phase.{Phase}
