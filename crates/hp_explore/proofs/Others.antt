@@ -1,6 +1,6 @@
 -- A turn that leaves what its task's call holds leaves all other tasks as able to take one as they were.
 use Rattle.std.proofs.Common.{◌≡◌, ◌≢◌, ℕ, zero, suc, ◌+◌, ◌-◌, ◌%◌, ◌≤◌, ◌<◌, refl, ap, sym, ◌∙◌, subst, arith, inl, inr}
-use Rattle.std.specs.Prelude.{Bool, true, false, not, ◌||◌, ◌&&◌, ◌==◌, Option, None, Some, IfSome, IsSome, List, [], ◌∷◌, MatchBool}
+use Rattle.std.specs.Prelude.{Bool, true, false, ◌||◌, ◌&&◌, ◌==◌, Option, None, Some, IfSome, IsSome, List, [], ◌∷◌, MatchBool}
 use Rattle.std.specs.Prelude.{is_some, length, nat_le, nat_lt, if◌then◌else◌, slice_get, slice_index, slice_index_or}
 use Rattle.std.specs.List.{All}
 use Rattle.std.proofs.lemmas.Grind.{common_steps}
@@ -9,8 +9,7 @@ use Rattle.std.proofs.lemmas.List.Elements.{All-append}
 use Rattle.rand_pcg.specs.Lcg.{Lcg}
 use Rattle.hp_base.proofs.Puts.{same_or_other}
 use Rattle.hp_base.specs.declared.event.Op.{Op}
-use Rattle.std.specs.Option.{option_map, option_eq}
-use Rattle.std.proofs.lemmas.Bool.{eqb-true}
+use Rattle.std.specs.Option.{option_map}
 use Rattle.hp_base.specs.declared.event.Event.{Event}
 use Rattle.hp_machine.specs.State.{Geometry, State, slot_of, is_dead, is_killed}
 use Rattle.hp_machine.specs.Events.{IsReached, word_of}
@@ -149,7 +148,7 @@ names_nobody s t free = by (task_blocker s.parts (seat_at s.seats t)) refl
     by None e = e
     by (Some h) e = absurd (free true h s (step_blocks s t true h e, refl))
 
-waits_for_nobody : (s : CoreState) (t : ℕ) → task_blocker s.parts (seat_at s.seats t) ≡ None → WaitsFor s t None
+pub waits_for_nobody : (s : CoreState) (t : ℕ) → task_blocker s.parts (seat_at s.seats t) ≡ None → WaitsFor s t None
 unfolding WaitsFor Row
 waits_for_nobody s t e =
     λ grant holder new row. nobody holder (sym e ∙ sym (step_held s t grant (Blocked holder) (as_state new) row.0))
@@ -182,7 +181,7 @@ of_either : (b : Bool) (x y : Choice) (t u : ℕ) → (IsOf u x.event → u ≡ 
 of_either true x y t u first second h = first h
 of_either false x y t u first second h = second h
 
-of_choice : (plan : Plan) (busy alive : Bool) (made : List ℕ) (t : ℕ) (rng : Lcg) (u : ℕ)
+pub of_choice : (plan : Plan) (busy alive : Bool) (made : List ℕ) (t : ℕ) (rng : Lcg) (u : ℕ)
     → IsOf u (task_choice plan busy alive made t rng).event → u ≡ t
 of_choice plan busy alive made t rng u =
     let next = next_call plan made t in
@@ -304,34 +303,6 @@ at_index P xs k x is all within = subst P (sym is) (all k x within)
 pub long_after : (plan : Plan) (busy alive : Bool) (made : List ℕ) (t : ℕ) (rng : Lcg)
     → length (task_choice plan busy alive made t rng).made ≡ length made
 long_after plan busy alive made t rng = (choice_leaves plan busy alive made t rng).long
-
--- a test of what calls hold that finds no difference
-both_so : (a b : Bool) → not (a && b) ≡ false → (a ≡ true) × (b ≡ true)
-both_so true true e = (refl, refl)
-both_so true false e = absurd (cc)
-both_so false b e = absurd (cc)
-
-same_place : (a b : Option (ℕ × ℕ)) → option_eq (λ x y. (x.0 == y.0) && (x.1 == y.1)) a b ≡ true → a ≡ b
-same_place None None e = refl
-same_place None (Some y) e = absurd (cc)
-same_place (Some x) None e = absurd (cc)
-same_place (Some x) (Some y) e =
-    let both = both_so (x.0 == y.0) (x.1 == y.1) (ap not e) in
-    ap (λ (p : ℕ × ℕ). Some p) (λ i. (eqb-true x.0 y.0 both.0 i, eqb-true x.1 y.1 both.1 i))
-
-same_file : (a b : Option ℕ) → option_eq (λ x y. x == y) a b ≡ true → a ≡ b
-same_file None None e = refl
-same_file None (Some y) e = absurd (cc)
-same_file (Some x) None e = absurd (cc)
-same_file (Some x) (Some y) e = ap (λ (f : ℕ). Some f) (eqb-true x y e)
-
-pub same_holding : (a b : Holding)
-    → not (option_eq (λ x y. (x.0 == y.0) && (x.1 == y.1)) a.slot b.slot && option_eq (λ x y. x == y) a.lock b.lock) ≡ false → a ≡ b
-same_holding a b e =
-    let both = both_so _ _ e in
-    let slots = same_place a.slot b.slot both.0 in
-    let locks = same_file a.lock b.lock both.1 in
-    λ i. record { slot = slots i; lock = locks i }
 
 -- So after a turn that leaves what its task's call holds, and after which the task can take another, the same tasks can take one.
 pub list_stays : (plan : Plan) (w v : World) (core : CoreState) (made : List ℕ) (event : Event) (o : Outcome) (t : ℕ) (busy alive : Bool)

@@ -16,7 +16,7 @@ use Rattle.hp_machine.specs.declared.phase.Phase.{Phase}
 use Rattle.hp_laws.specs.Bounds.{IsUnblocked}
 use Rattle.hp_laws.proofs.Meets.{caller_there}
 use Rattle.hp_laws.proofs.Waiting.{some_call_goes_on}
-use Rattle.hp_core.specs.State.{CoreState, as_state}
+use Rattle.hp_core.specs.State.{as_state}
 use Rattle.hp_core.specs.Readers.{config_of, phase_of}
 use Rattle.hp_core.specs.Runs.{IsOfConfig, Row}
 use Rattle.hp_core.specs.Waiting.{WaitsFor}

@@ -1,3 +1,4 @@
-pub mod Schedule
 pub mod Explored
+pub mod Passing
+pub mod Schedule
 pub mod Text

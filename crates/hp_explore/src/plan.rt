@@ -43,6 +43,7 @@ impl Plan {
     }
 
     /// The call of the task at this place.
+    #[inline(always)]
     pub(crate) fn call(&self, task: u32, place: usize) -> Option<Op>
         requires { 1 ≤ task }
         ensures call { result ≡ slice_get (slice_index_or self.now.queues (task - 1) []) place }

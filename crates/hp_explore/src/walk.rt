@@ -1,12 +1,15 @@
-//! One run, turn by turn.
+//! One run, turn by turn. A turn takes about a hundred nanoseconds, so what it calls is inlined: a call that isn't passes
+//! what it answers through memory.
 ghost use Rattle.std.specs.Prelude.{◌≡◌, ◌+◌, ◌-◌, ◌<◌, ◌≤◌, ◌^◌, true, false, [], None, Some, IfOk, IfSome, OnOk};
-ghost use Rattle.std.specs.Prelude.{IsSome, All, MatchOption, length, slice_index};
+ghost use Rattle.std.specs.Prelude.{ℕ, IsSome, All, length, replicate, slice_index};
 ghost use Rattle.hp_machine.specs.State.{is_alive};
-ghost use Rattle.hp_core.specs.Holding.{holding_of};
-ghost use Rattle.hp_core.specs.Readers.{life_of};
+ghost use Rattle.hp_core.specs.Readers.{life_of, phase_of, config_of};
 ghost use Rattle.hp_core.specs.Runs.{Row};
 ghost use Rattle.hp_machine.specs.declared.outcome.Outcome.{Outcome};
+ghost use Rattle.hp_laws.specs.Laws.{IsOf};
+ghost use Rattle.hp_core.specs.Waiting.{WaitsFor};
 ghost use Rattle.hp_explore.specs.Schedule.{IsStart, Turn, CanTurn, AreRunnable, choice_at, next_call, in_call};
+ghost use Rattle.hp_explore.specs.Passing.{may_wait, task_may_pass, Agrees};
 ghost use Rattle.hp_explore.specs.Explored.{EndsWell, IsClean, idle_finish, last_finish, line_of};
 
 use crate::line::{Finish, RunLine};
@@ -14,17 +17,64 @@ use crate::plan::Plan;
 use crate::script::Script;
 use hp_audit::{Finding, audit};
 use hp_base::{Event, Op, Task};
-use hp_core::{Answer, Core, Holding, Life, Readiness};
+use hp_core::{Answer, Core, Life, Outcome, Phase};
 use rand_core::SeedableRng;
 use rand_core::utils::NextWord;
 use rand_pcg::Lcg64Xsh32;
 use std::alloc::{AllocError, Global};
 use std::marker::Model;
 
+/// Whether the next step of a call that stands there may be blocked. That of any other can't.
+#[inline(always)]
+fn may_wait(at: Phase) -> bool
+    ensures { result ≡ may_wait at }
+{
+    matches!(at, Phase::Start | Phase::Want)
+}
+
+/// Whether the next turn of a task whose call stands there may take or leave a slot or a lock. That of any other leaves
+/// what the call holds.
+#[inline(always)]
+fn may_pass(at: Option<Phase>) -> bool
+    ensures { result ≡ task_may_pass at }
+{
+    matches!(
+        at,
+        Some(Phase::Start | Phase::Want | Phase::Unslot | Phase::Leave)
+    )
+}
+
+/// Where the task's call stands after its event. Most outcomes tell it.
+#[inline(always)]
+fn phase_after(core: &Core, task: u32, told: &Outcome) -> Option<Phase>
+    requires there { (1 ≤ task) × (task ≤ (config_of core.now).tasks) }
+    requires agrees { Agrees told.now (phase_of core.now task) }
+    ensures { result ≡ phase_of core.now task }
+{
+    match told {
+        Outcome::Moved(at) => Some(*at),
+        Outcome::Ended(_) => None,
+        _ => core.phase(Task::new(task)),
+    }
+}
+
+/// Where the calls of so many tasks stand before any has begun one.
+fn no_calls(alloc: Global, tasks: u32) -> Result<Vec<Option<Phase>>, AllocError>
+    ensures { IfOk result (λ phases. phases.items ≡ replicate tasks None) }
+{
+    let mut phases = Vec::with_capacity(alloc, tasks as usize)?;
+    for _ in 0..tasks {
+        phases.push_reserved(None);
+    }
+    Ok(phases)
+}
+
 /// A run between two turns.
 #[derive(Drop)]
 pub(crate) struct Walk {
     core: Core,
+    // where the call of each task stands, as the core would tell it
+    phases: Vec<Option<Phase>>,
     made: Vec<usize>,
     rng: Lcg64Xsh32,
     turns: u32,
@@ -36,6 +86,7 @@ impl Model for Walk {
     ghost use Rattle.std.specs.FinMap as map;
     ghost use Rattle.std.specs.Ordering.{nat_cmp};
     ghost use Rattle.hp_core.specs.Readers.{config_of};
+    ghost use Rattle.hp_explore.specs.Passing.{ArePhases};
     ghost use Rattle.hp_explore.specs.Schedule.{World};
 
     ghost Value = { World };
@@ -44,7 +95,12 @@ impl Model for Walk {
 
     ghost coded = { Prim.hlevel (codes, map.code {R = nat_cmp} coded_ℕ coded_ℕ) };
 
-    ghost invariant = { λ w. (length w.made.items ≤ 64) × ((config_of w.core).tasks ≡ length w.made.items) };
+    ghost invariant = { λ w. record {
+      few : length w.made.items ≤ 64;
+      tasks : (config_of w.core).tasks ≡ length w.made.items;
+      long : length w.phases.items ≡ length w.made.items;
+      phases : ArePhases w.core w.phases.items;
+    } };
 }
 
 impl Walk {
@@ -54,19 +110,42 @@ impl Walk {
         let config = script.config;
         Ok(Walk {
             core: Core::new(alloc, config)?,
+            phases: no_calls(alloc, config.tasks)?,
             made: vec![in alloc; 0usize; config.tasks as usize]?,
             rng: Lcg64Xsh32::seed_from_u64(seed),
             turns: 0,
         })
     }
 
+    /// Where the task's call stands, if one is in flight.
+    #[tactic(auto, unfolding(crate::specs::Passing::ArePhases))]
+    #[inline(always)]
+    fn phase(&self, task: u32) -> Option<Phase>
+        requires { (1 ≤ task) × (task ≤ length self.now.made) }
+        ensures { result ≡ phase_of self.now.core task }
+    {
+        self.phases[task as usize - 1]
+    }
+
+    #[inline(always)]
     fn in_call(&self, task: u32) -> bool
         requires { (1 ≤ task) × (task ≤ length self.now.made) }
         ensures { result ≡ in_call self.now task }
     {
-        self.core.phase(Task::new(task)).is_some()
+        self.phase(task).is_some()
     }
 
+    /// Whether the next step of the task's call is blocked by nobody.
+    #[inline(always)]
+    fn is_free(&self, task: u32) -> bool
+        requires { (1 ≤ task) × (task ≤ length self.now.made) }
+        ensures free { result ≡ true → WaitsFor self.now.core task None }
+        ensures held { result ≡ false → (holder : ℕ) × WaitsFor self.now.core task (Some holder) }
+    {
+        self.core.waits_for(Task::new(task)).is_none()
+    }
+
+    #[inline(always)]
     fn next_call(&self, plan: &Plan, task: u32) -> Option<Op>
         requires { (1 ≤ task) × (task ≤ length self.now.made) }
         ensures call { result ≡ next_call plan.now self.now.made task }
@@ -76,15 +155,15 @@ impl Walk {
     }
 
     /// Whether the task may take a turn.
+    #[inline(always)]
     fn can_turn(&self, plan: &Plan, task: u32) -> bool
         requires { (1 ≤ task) × (task ≤ length self.now.made) }
         ensures can { result ≡ true → CanTurn plan.now self.now task }
         ensures cannot { result ≡ false → ¬ CanTurn plan.now self.now task }
     {
-        match self.core.readiness(Task::new(task)) {
-            Readiness::Idle => self.next_call(plan, task).is_some(),
-            Readiness::Free => true,
-            Readiness::HeldUp(_) => false,
+        match self.phase(task) {
+            None => self.next_call(plan, task).is_some(),
+            Some(at) => !may_wait(at) || self.is_free(task),
         }
     }
 
@@ -103,6 +182,7 @@ impl Walk {
     }
 
     /// What a turn of the task does.
+    #[inline(always)]
     fn choose(&mut self, plan: &Plan, task: u32) -> Event
         requires { (1 ≤ task) × (task ≤ length self.old.made) }
         ensures event { result ≡ (choice_at plan.now self.old task self.old.rng).event }
@@ -116,18 +196,17 @@ impl Walk {
         if killed && self.is_alive(task) {
             return Event::Kill(Task::new(task));
         }
-        match self.next_call(plan, task) {
-            Some(op) if !self.in_call(task) => {
+        if !self.in_call(task) {
+            if let Some(op) = self.next_call(plan, task) {
                 self.made[task as usize - 1] += 1;
-                Event::Begin(Task::new(task), op)
-            }
-            _ => {
-                let granted = self.rng.next_word() % 1000 >= plan.chances.deny;
-                Event::Step(Task::new(task), granted)
+                return Event::Begin(Task::new(task), op);
             }
         }
+        let granted = self.rng.next_word() % 1000 >= plan.chances.deny;
+        Event::Step(Task::new(task), granted)
     }
 
+    #[inline(always)]
     fn is_alive(&self, task: u32) -> bool
         requires { (1 ≤ task) × (task ≤ length self.now.made) }
         ensures { result ≡ is_alive (life_of self.now.core task) }
@@ -138,16 +217,9 @@ impl Walk {
         }
     }
 
-    /// What the task's call holds.
-    fn holding(&self, task: u32) -> Holding
-        requires { (1 ≤ task) × (task ≤ length self.now.made) }
-        ensures { result ≡ holding_of self.now.core task }
-    {
-        self.core.holding(Task::new(task))
-    }
-
-    /// One turn, of one of these tasks. Lists them anew, unless the turn left what its task's call holds: then the others
-    /// can take a turn where they could before.
+    /// One turn, of one of these tasks. Lists them anew, unless the turn left what its task's call holds, and the task can
+    /// take another: then the others can take a turn where they could before.
+    #[inline(always)]
     fn turn_of(&mut self, plan: &Plan, tasks: &mut Vec<u32>) -> Result<Event, AllocError>
         requires runnable { AreRunnable plan.now self.old tasks.old.items }
         requires in_range { All (λ t. (1 ≤ t) × (t ≤ length self.old.made)) tasks.old.items }
@@ -158,19 +230,22 @@ impl Walk {
         ensures in_range { OnOk result (All (λ t. (1 ≤ t) × (t ≤ length self.new.made)) tasks.new.items) }
     {
         let task = tasks[self.rng.next_word() as usize % tasks.len()];
-        let held = self.holding(task);
+        let at = self.phase(task);
         let event = self.choose(plan, task);
         self.core.is_reached();
-        self.make(&event)?;
-        if self.holding(task) != held || !self.can_turn(plan, task) {
+        self.make(&event, task)?;
+        if may_pass(at) || !self.can_turn(plan, task) {
             self.list_runnable(plan, tasks)?;
         }
         Ok(event)
     }
 
-    /// Makes the turn's event.
-    fn make(&mut self, event: &Event) -> Result<(), AllocError>
-        requires { self.old.turns < 1000000 }
+    /// Makes the turn's event, which is one of this task alone.
+    #[inline(always)]
+    fn make(&mut self, event: &Event, task: u32) -> Result<(), AllocError>
+        requires turns { self.old.turns < 1000000 }
+        requires task { (1 ≤ task) × (task ≤ length self.old.made) }
+        requires alone { (u : ℕ) → IsOf u event.now → u ≡ task }
         ensures row { OnOk result ((told : Outcome) × Row self.old.core event.now told self.new.core) }
         ensures turns { OnOk result (self.new.turns ≡ self.old.turns + 1) }
         ensures made { OnOk result (self.new.made ≡ self.old.made) }
@@ -178,12 +253,15 @@ impl Walk {
     {
         // The checker of borrows asks for a mention of the type that an outcome may hold.
         let _none: Option<Answer> = None;
-        self.core.step(*event)?;
+        self.core.is_reached();
+        let told = self.core.step(*event)?;
+        self.phases[task as usize - 1] = phase_after(&self.core, task, &told);
         self.turns += 1;
         Ok(())
     }
 
     /// One turn, if a task may take one: tells its event. `tasks` lists those that may, before and behind it.
+    #[inline(always)]
     pub(crate) fn turn(
         &mut self,
         plan: &Plan,

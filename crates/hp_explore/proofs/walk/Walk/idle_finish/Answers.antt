@@ -14,5 +14,5 @@ returns-clause-finish c =
     idle_ends c.args.plan.now c.args.self.now
     (subst (λ (v : World). IsReached (as_state v.core)) seen c.is_reached.ensures)
     (subst (λ (v : World). IsOfConfig v.core) seen c.always.ensures.config)
-    (subst (λ (v : World). (config_of v.core).tasks ≡ length v.made) seen c.self.invariant.1)
+    (subst (λ (v : World). (config_of v.core).tasks ≡ length v.made) seen c.self.invariant.tasks)
     c.requires

@@ -1,12 +1,16 @@
 -- Listed anew, the tasks are those that can take a turn; else they are as before.
 use Rattle.std.proofs.Common.{◌≡◌, ◌≤◌, ◌<◌, ◌%◌, ◌∙◌, ℕ, List, All, length, sym, ap, subst, arith}
-use Rattle.hp_core.specs.Holding.{holding_of}
+use Rattle.hp_core.specs.Readers.{phase_of}
 use Rattle.hp_machine.specs.Events.{IsReached}
 use Rattle.hp_core.specs.State.{CoreState, as_state}
 use Rattle.hp_explore.specs.Schedule.{World, AreRunnable, CanTurn}
-use Rattle.hp_explore.proofs.Others.{all_can, at_index, list_stays, long_after, same_holding}
+use Rattle.hp_laws.specs.Laws.{IsOf}
+use Rattle.hp_base.specs.declared.event.Event.{Event}
+use Rattle.hp_explore.specs.Passing.{task_may_pass}
+use Rattle.hp_explore.proofs.Others.{all_can, at_index, list_stays, long_after, of_choice}
+use Rattle.hp_explore.proofs.Phases.{holding_stays}
 use Rattle.hp_explore.proofs.walk.Walk.turn_of.Goals as goal
-use Rattle.hp_explore.proofs.walk.Walk.turn_of.Goals.{then-ne+in_ok-list_runnable, else-ne+else-not-can_turn}
+use Rattle.hp_explore.proofs.walk.Walk.turn_of.Goals.{then-may_pass+in_ok-list_runnable, else-may_pass+else-not-can_turn}
 
 pub returns-clause-runnable : goal.returns-clause-runnable
 returns-clause-runnable c =
@@ -24,13 +28,15 @@ returns-clause-runnable c =
     let place = c.next_word.result % c.len.result in
     let within : place < length old = omega (arith, c.len.ensures, c.requires.some) in
     let one : 1 ≤ t = (at_index (λ (n : ℕ). (1 ≤ n) × (n ≤ length w.made)) old place t c.index-task.ensures c.requires.in_range within).0 in
+    let alone : (u : ℕ) → IsOf u c.choose-event.result → u ≡ t = λ u h. of_choice plan _ _ _ t _ u
+    (subst (λ (e : Event). IsOf u e) c.choose-event.ensures.event h) in
     let could = at_index (CanTurn plan w) old place t c.index-task.ensures
     (all_can plan w (length w.made) old c.requires.runnable) within in
-    elim c.if-ne.branch [
-      | then-ne+in_ok-list_runnable b ↦ subst Lists (sym (ap (λ v. v.items) b.tasks-is)) b.in_ok-list_runnable.ensures.tasks
-      | else-ne+else-not-can_turn b ↦ (let held = sym c.holding.ensures
-          ∙ (same_holding c.holding.result c.holding-held.result (sym c.ne.ensures ∙ b.if-ne.false) ∙ (c.holding-held.ensures
-          ∙ ap (λ (s : CoreState). holding_of s t) (sym left))) in
+    elim c.if-may_pass.branch [
+      | then-may_pass+in_ok-list_runnable b ↦ subst Lists (sym (ap (λ v. v.items) b.tasks-is)) b.in_ok-list_runnable.ensures.tasks
+      | else-may_pass+else-not-can_turn b ↦ (let quiet = ap (λ (s : CoreState). task_may_pass (phase_of s t)) left
+          ∙ (ap task_may_pass (sym c.phase-at.ensures) ∙ (sym c.may_pass.ensures ∙ b.if-may_pass.false)) in
+          let held = holding_stays _ v.core _ _ t c.in_ok-make.ensures.row.1 alone quiet in
           subst Lists (sym (ap (λ v. v.items) b.tasks-is))
           (list_stays plan w v _ _ _ c.in_ok-make.ensures.row.0 t _ _ _ old same_core same_made reached c.in_ok-make.ensures.row.1
           c.choose-event.ensures.event made one held could (b.can_turn.ensures.can b.if-not-can_turn.false) c.requires.runnable))
@@ -43,8 +49,13 @@ returns-clause-in_range c =
     let made = c.in_ok-make.ensures.made ∙ ap (λ (x : World). x.made) c.choose-event.ensures.left in
     let seen = ap (λ (x : World). length x.made) c.self.view_is in
     let long = ap (λ (m : List ℕ). length m) made ∙ long_after c.args.plan.now _ _ _ c.index-task.result.now _ ∙ seen in
-    elim c.if-ne.branch [
-      | then-ne+in_ok-list_runnable b ↦ subst InRange (sym (ap (λ v. v.items) b.tasks-is)) b.in_ok-list_runnable.ensures.in_range
-      | else-ne+else-not-can_turn b ↦ subst InRange (sym (ap (λ v. v.items) b.tasks-is))
+    elim c.if-may_pass.branch [
+      | then-may_pass+in_ok-list_runnable b ↦ subst InRange (sym (ap (λ v. v.items) b.tasks-is)) b.in_ok-list_runnable.ensures.in_range
+      | else-may_pass+else-not-can_turn b ↦ subst InRange (sym (ap (λ v. v.items) b.tasks-is))
           (subst (λ (n : ℕ). All (λ t. (1 ≤ t) × (t ≤ n)) c.args.tasks.now.items) (sym long) c.requires.in_range)
     ]
+
+pub make-requires-clause-alone : goal.make-requires-clause-alone
+make-requires-clause-alone c =
+    λ u h. of_choice c.args.plan.now _ _ _ c.index-task.result.now _ u
+    (subst (λ (e : Event). IsOf u e) c.choose-event.ensures.event h)
