@@ -1,3 +1,4 @@
 pub mod Lines
 pub mod Making
+pub mod Parting
 pub mod Told

@@ -1,11 +1,12 @@
 -- Calls that are made one after the other.
-use Rattle.std.proofs.Common.{◌≡◌, ℕ, suc, ◌+◌, add-one, drop-cons, get_or, ◌<◌, List, [], ◌∷◌, ◌++◌, Bool, refl, sym, ap, subst, ◌∙◌, length, length-append, arith, drop, inl, inr, ◌⊎◌}
-use Rattle.std.specs.Prelude.{true, false, ◌||◌, ◌==◌, MatchBool, All, Some, slice_get}
-use Rattle.std.specs.List.{Any}
+use Rattle.std.proofs.Common.{◌≡◌, ℕ, suc, ◌+◌, add-one, drop-cons, get_or, ◌<◌, List, [], ◌∷◌, ◌++◌, Bool, refl, sym, ap, subst, ◌∙◌, length, length-append, arith, take, drop, ◌≤◌, inl, inr, ◌⊎◌}
+use Rattle.std.specs.Prelude.{true, false, not, filter, ◌||◌, ◌==◌, MatchBool, All, Some, slice_get}
+use Rattle.std.specs.List.{Any, list_any}
+use Rattle.std.proofs.lemmas.List.Filters.{length-filter_both}
 use Rattle.std.proofs.lemmas.Bool.{and_parts, eqb-true, false≢true}
-use Rattle.std.proofs.lemmas.List.{get_or_append_left}
+use Rattle.std.proofs.lemmas.List.{drop_all, get_or_append_left, length-map, take_all}
 use Rattle.std.proofs.lemmas.Option.{get_or_from_slice_get}
-use Rattle.std.proofs.lemmas.List.Elements.{All-head, All-push, All-tail}
+use Rattle.std.proofs.lemmas.List.Elements.{All-head, All-push, All-tail, All-weaker}
 use Rattle.std.proofs.lemmas.List.Quantifiers.{Any-push}
 use Rattle.hp_base.specs.declared.event.Op.{Op}
 use Rattle.hp_explore.specs.Schedule.{calls_of}
@@ -17,8 +18,10 @@ use Rattle.hp_shared.specs.Calls.{AllMoved, BegunThen, Gained}
 use Rattle.hp_shared.specs.Replies.{IsCall}
 use Rattle.hp_shared.specs.Seats.{new_seat}
 use Rattle.hp_shared.specs.States.{SeatState}
-use Rattle.hp_race.specs.Calls.{CallMade, CallsMade, CallsStrayed, is_exit, is_not_alive, may_end}
-use Rattle.hp_race.specs.Desks.{HasMade, HasRun, HasStrayed, IsNew, SomeStrayed}
+use Rattle.hp_race.specs.Calls.{CallMade, CallsMade, CallsStrayed, EndsBy, is_exit, is_not_alive, may_end}
+use Rattle.hp_race.specs.Desks.{HasMade, HasMadeIn, HasRun, HasStrayed, HasStrayedIn, IsNew, SomeStrayed, SomeStrayedIn, calls_in, is_gone}
+use Rattle.hp_race.specs.Parts.{stretch}
+use Rattle.hp_race.specs.declared.stretch.Stretch.{Stretch}
 use Rattle.hp_race.specs.declared.desk.Ending.{Ending}
 use Rattle.hp_race.specs.declared.desk.Ending.TheVariants.{Made, Astray}
 
@@ -61,67 +64,67 @@ made_now task t gone may op reply old new l m same is_old is_new call ends good 
     call_made task gone op reply old new (subst (λ (n : ℕ). IsCall n op reply old new) same call) may_so
 
 -- the desks' seats so far, and one more that made its calls
-gathered_made : (script : Script) (made : Bool) (seats now : List SeatState) (s : SeatState)
-    → MatchBool made (All (HasMade script) seats) (SomeStrayed script seats) → HasMade script s → now ≡ seats ++ s ∷ []
-    → MatchBool made (All (HasMade script) now) (SomeStrayed script now)
-gathered_made script true seats now s had is same =
-    subst (λ (l : List SeatState). All (HasMade script) l) (sym same) (All-push (HasMade script) seats s had is)
-gathered_made script false seats now s had is same =
-    subst (λ (l : List SeatState). SomeStrayed script l) (sym same) (any_before (HasStrayed script) seats (s ∷ []) had)
+gathered_made : (script : Script) (stretch : Stretch) (made : Bool) (seats now : List SeatState) (s : SeatState)
+    → MatchBool made (All (HasMadeIn script stretch) seats) (SomeStrayedIn script stretch seats) → HasMadeIn script stretch s → now ≡ seats ++ s ∷ []
+    → MatchBool made (All (HasMadeIn script stretch) now) (SomeStrayedIn script stretch now)
+gathered_made script stretch true seats now s had is same =
+    subst (λ (l : List SeatState). All (HasMadeIn script stretch) l) (sym same) (All-push (HasMadeIn script stretch) seats s had is)
+gathered_made script stretch false seats now s had is same =
+    subst (λ (l : List SeatState). SomeStrayedIn script stretch l) (sym same) (any_before (HasStrayedIn script stretch) seats (s ∷ []) had)
 
 -- or one that strayed
-gathered_strayed : (script : Script) (seats now : List SeatState) (s : SeatState) → HasStrayed script s → now ≡ seats ++ s ∷ []
-    → SomeStrayed script now
-gathered_strayed script seats now s is same =
-    subst (λ (l : List SeatState). SomeStrayed script l) (sym same) (Any-push (HasStrayed script) seats s is)
+gathered_strayed : (script : Script) (stretch : Stretch) (seats now : List SeatState) (s : SeatState) → HasStrayedIn script stretch s → now ≡ seats ++ s ∷ []
+    → SomeStrayedIn script stretch now
+gathered_strayed script stretch seats now s is same =
+    subst (λ (l : List SeatState). SomeStrayedIn script stretch l) (sym same) (Any-push (HasStrayedIn script stretch) seats s is)
 
-pub made_too : (script : Script) (made now_made : Bool) (ending : Ending) (seats now : List SeatState) (s : SeatState)
-    → MatchBool made (All (HasMade script) seats) (SomeStrayed script seats) → HasRun script ending s → ending ≡ Made → now_made ≡ made
-    → now ≡ seats ++ s ∷ [] → MatchBool now_made (All (HasMade script) now) (SomeStrayed script now)
-made_too script made now_made ending seats now s had ran is same added =
-    subst (λ (b : Bool). MatchBool b (All (HasMade script) now) (SomeStrayed script now)) (sym same)
-    (gathered_made script made seats now s had (subst (λ (e : Ending). HasRun script e s) is ran) added)
+pub made_too : (script : Script) (stretch : Stretch) (made now_made : Bool) (ending : Ending) (seats now : List SeatState) (s : SeatState)
+    → MatchBool made (All (HasMadeIn script stretch) seats) (SomeStrayedIn script stretch seats) → HasRun script stretch ending s → ending ≡ Made → now_made ≡ made
+    → now ≡ seats ++ s ∷ [] → MatchBool now_made (All (HasMadeIn script stretch) now) (SomeStrayedIn script stretch now)
+made_too script stretch made now_made ending seats now s had ran is same added =
+    subst (λ (b : Bool). MatchBool b (All (HasMadeIn script stretch) now) (SomeStrayedIn script stretch now)) (sym same)
+    (gathered_made script stretch made seats now s had (subst (λ (e : Ending). HasRun script stretch e s) is ran) added)
 
-pub strayed_too : (script : Script) (now_made : Bool) (ending : Ending) (seats now : List SeatState) (s : SeatState)
-    → HasRun script ending s → ending ≡ Astray → now_made ≡ false
-    → now ≡ seats ++ s ∷ [] → MatchBool now_made (All (HasMade script) now) (SomeStrayed script now)
-strayed_too script now_made ending seats now s ran is same added =
-    subst (λ (b : Bool). MatchBool b (All (HasMade script) now) (SomeStrayed script now)) (sym same)
-    (gathered_strayed script seats now s (subst (λ (e : Ending). HasRun script e s) is ran) added)
+pub strayed_too : (script : Script) (stretch : Stretch) (now_made : Bool) (ending : Ending) (seats now : List SeatState) (s : SeatState)
+    → HasRun script stretch ending s → ending ≡ Astray → now_made ≡ false
+    → now ≡ seats ++ s ∷ [] → MatchBool now_made (All (HasMadeIn script stretch) now) (SomeStrayedIn script stretch now)
+strayed_too script stretch now_made ending seats now s ran is same added =
+    subst (λ (b : Bool). MatchBool b (All (HasMadeIn script stretch) now) (SomeStrayedIn script stretch now)) (sym same)
+    (gathered_strayed script stretch seats now s (subst (λ (e : Ending). HasRun script stretch e s) is ran) added)
 
 -- the next of the calls that are left
 next_call : (calls : List Op) (k : ℕ) (op : Op) → k < length calls → op ≡ get_or calls k op → drop k calls ≡ op ∷ drop (k + 1) calls
 next_call calls k op below is = rw add-one (drop-cons calls k op below ∙ ap (λ (x : Op). x ∷ drop (suc k) calls) (sym is))
 
 -- a call that is made of those that are left
-pub made_on : (task t : ℕ) (gone next may leaves : Bool) (calls : List Op) (k : ℕ) (op : Op) (reply : Reply) (start old new l m : List Entry)
+pub made_on : (task t : ℕ) (had gone next may leaves : Bool) (calls : List Op) (k : ℕ) (op : Op) (reply : Reply) (start old new l m : List Entry)
     → k < length calls → op ≡ get_or calls k op → t ≡ task → l ≡ old → m ≡ new
-    → ((end : List Entry) → CallsMade task gone (drop k calls) old end → CallsMade task false calls start end)
+    → ((end : List Entry) → CallsMade task gone (drop k calls) old end → CallsMade task had calls start end)
     → IsCall t op reply old new → may ≡ may_end gone reply (length l) (length m) → may ≡ true → leaves ≡ is_exit op
-    → next ≡ (gone || leaves) → (end : List Entry) → CallsMade task next (drop (k + 1) calls) new end → CallsMade task false calls start end
-made_on task t gone next may leaves calls k op reply start old new l m below is same is_old is_new h call ends good exits gone_next end rest =
+    → next ≡ (gone || leaves) → (end : List Entry) → CallsMade task next (drop (k + 1) calls) new end → CallsMade task had calls start end
+made_on task t had gone next may leaves calls k op reply start old new l m below is same is_old is_new h call ends good exits gone_next end rest =
     let made : CallMade task gone op old new = made_now task t gone may op reply old new l m same is_old is_new call ends good in
     let after : CallsMade task (gone || is_exit op) (drop (k + 1) calls) new end =
     subst (λ (b : Bool). CallsMade task b (drop (k + 1) calls) new end) (gone_next ∙ ap (λ (b : Bool). gone || b) exits) rest in
     h end (subst (λ (ops : List Op). CallsMade task gone ops old end) (sym (next_call calls k op below is)) (new, made, after))
 
-pub strayed_on : (task t : ℕ) (gone next may leaves : Bool) (calls : List Op) (k : ℕ) (op : Op) (reply : Reply) (start old new l m : List Entry)
+pub strayed_on : (task t : ℕ) (had gone next may leaves : Bool) (calls : List Op) (k : ℕ) (op : Op) (reply : Reply) (start old new l m : List Entry)
     → k < length calls → op ≡ get_or calls k op → t ≡ task → l ≡ old → m ≡ new
-    → ((end : List Entry) → CallsStrayed task gone (drop k calls) old end → CallsStrayed task false calls start end)
+    → ((end : List Entry) → CallsStrayed task gone (drop k calls) old end → CallsStrayed task had calls start end)
     → IsCall t op reply old new → may ≡ may_end gone reply (length l) (length m) → may ≡ true → leaves ≡ is_exit op
-    → next ≡ (gone || leaves) → (end : List Entry) → CallsStrayed task next (drop (k + 1) calls) new end → CallsStrayed task false calls start end
-strayed_on task t gone next may leaves calls k op reply start old new l m below is same is_old is_new h call ends good exits gone_next end rest =
+    → next ≡ (gone || leaves) → (end : List Entry) → CallsStrayed task next (drop (k + 1) calls) new end → CallsStrayed task had calls start end
+strayed_on task t had gone next may leaves calls k op reply start old new l m below is same is_old is_new h call ends good exits gone_next end rest =
     let made : CallMade task gone op old new = made_now task t gone may op reply old new l m same is_old is_new call ends good in
     let after : CallsStrayed task (gone || is_exit op) (drop (k + 1) calls) new end =
     subst (λ (b : Bool). CallsStrayed task b (drop (k + 1) calls) new end) (gone_next ∙ ap (λ (b : Bool). gone || b) exits) rest in
     h end (subst (λ (ops : List Op). CallsStrayed task gone ops old end) (sym (next_call calls k op below is)) (inr (new, made, after)))
 
 -- or that strays
-pub strayed_here : (task t : ℕ) (gone may : Bool) (calls : List Op) (k : ℕ) (op : Op) (reply : Reply) (start old new l m : List Entry)
+pub strayed_here : (task t : ℕ) (had gone may : Bool) (calls : List Op) (k : ℕ) (op : Op) (reply : Reply) (start old new l m : List Entry)
     → k < length calls → op ≡ get_or calls k op → t ≡ task → l ≡ old → m ≡ new
-    → ((end : List Entry) → CallsStrayed task gone (drop k calls) old end → CallsStrayed task false calls start end)
-    → IsCall t op reply old new → may ≡ may_end gone reply (length l) (length m) → may ≡ false → CallsStrayed task false calls start new
-strayed_here task t gone may calls k op reply start old new l m below is same is_old is_new h call ends bad =
+    → ((end : List Entry) → CallsStrayed task gone (drop k calls) old end → CallsStrayed task had calls start end)
+    → IsCall t op reply old new → may ≡ may_end gone reply (length l) (length m) → may ≡ false → CallsStrayed task had calls start new
+strayed_here task t had gone may calls k op reply start old new l m below is same is_old is_new h call ends bad =
     let other : may_end gone reply (length old) (length new) ≡ false =
     ap (λ (x : List Entry). may_end gone reply (length x) (length new)) (sym is_old)
     ∙ ap (λ (x : List Entry). may_end gone reply (length l) (length x)) (sym is_new) ∙ sym ends ∙ bad in
@@ -141,14 +144,59 @@ one_more P xs now x same all is = subst (λ (l : List _). All P l) (sym same) (A
 pub one_longer : {X : Type 0} (xs now : List X) (x : X) → now ≡ xs ++ x ∷ [] → length now ≡ length xs + 1
 one_longer xs now x same = ap length same ∙ length-append xs (x ∷ [])
 
-pub nothing_in : (calls : List Op) → length calls ≡ 0 → calls ≡ []
-nothing_in [] none = refl
-nothing_in (op ∷ ops) none = absurd (omega (arith, none))
+-- a task without calls in the stretch has made them all
+pub idle_made : (script : Script) (stretch : Stretch) (s : SeatState) (calls : List Op) → calls ≡ calls_of script.calls.items s.task
+    → length calls ≤ stretch.from → IsNew s → HasMadeIn script stretch s
+idle_made script stretch s calls is few new =
+    let mine : List Op = calls_of script.calls.items s.task in
+    let short : length mine ≤ stretch.from = omega (arith, ap length is, few) in
+    let some : 0 ≤ stretch.most = omega arith in
+    let none : calls_in stretch mine ≡ [] = ap (λ (ops : List Op). take stretch.most ops) (drop_all stretch.from mine short) ∙ take_all stretch.most [] some in
+    subst (λ (ops : List Op). CallsMade s.task (is_gone stretch mine) ops [] s.list) (sym none) new
 
--- a task without calls has made them all
-pub idle_made : (script : Script) (s : SeatState) (calls : List Op) → calls ≡ calls_of script.calls.items s.task → calls ≡ [] → IsNew s
-    → HasMade script s
-idle_made script s calls is none new = subst (λ (ops : List Op). CallsMade s.task false ops [] s.list) (sym none ∙ is) new
+-- no task has more calls than the script
+pub few_calls : (lines : List (ℕ × Op)) (task : ℕ) → length (calls_of lines task) ≤ length lines
+few_calls lines task =
+    let some = length-map (filter (λ (line : ℕ × Op). line.0 == task) lines) (λ (line : ℕ × Op). line.1) in
+    let both = length-filter_both (λ (line : ℕ × Op). line.0 == task) (λ (line : ℕ × Op). not (line.0 == task)) (λ line. refl) lines in
+    omega (arith, some, both)
+
+-- a stretch of as many calls as the script has, from the first on, is all of a task's
+whole_made : (script : Script) (s : SeatState) → HasMadeIn script (stretch 0 (length script.calls.items)) s → HasMade script s
+whole_made script s made =
+    subst (λ (ops : List Op). CallsMade s.task false ops [] s.list)
+    (take_all (length script.calls.items) (calls_of script.calls.items s.task) (few_calls script.calls.items s.task)) made
+
+whole_strayed : (script : Script) (s : SeatState) → HasStrayedIn script (stretch 0 (length script.calls.items)) s → HasStrayed script s
+whole_strayed script s strayed =
+    subst (λ (ops : List Op). CallsStrayed s.task false ops [] s.list)
+    (take_all (length script.calls.items) (calls_of script.calls.items s.task) (few_calls script.calls.items s.task)) strayed
+
+-- so what came of that stretch, came of all calls
+pub whole : (script : Script) (most : ℕ) (made : Bool) (seats : List SeatState) → most ≡ length script.calls.items
+    → MatchBool made (All (HasMadeIn script (stretch 0 most)) seats) (SomeStrayedIn script (stretch 0 most) seats)
+    → MatchBool made (All (HasMade script) seats) (SomeStrayed script seats)
+whole script most true seats is had =
+    All-weaker (HasMadeIn script (stretch 0 (length script.calls.items))) (HasMade script) (whole_made script) seats
+    (subst (λ (n : ℕ). All (HasMadeIn script (stretch 0 n)) seats) is had)
+whole script most false seats is had =
+    let strayed : SomeStrayedIn script (stretch 0 (length script.calls.items)) seats =
+    subst (λ (n : ℕ). SomeStrayedIn script (stretch 0 n) seats) is had in
+    (strayed.0, strayed.1, strayed.2, strayed.3, whole_strayed script strayed.1 strayed.4)
+
+-- what comes of the calls that a stretch has comes of the stretch
+pub ran_in : (script : Script) (calls : Stretch) (ending : Ending) (task : ℕ) (gone : Bool) (all before now : List Op) (old new : List Entry)
+    → all ≡ calls_of script.calls.items task → before ≡ take calls.from all → now ≡ calls_in calls all → gone ≡ list_any is_exit before → old ≡ []
+    → EndsBy ending task gone now old new
+    → EndsBy ending task (is_gone calls (calls_of script.calls.items task)) (calls_in calls (calls_of script.calls.items task)) [] new
+ran_in script calls ending task gone all before now old new is front mid exits none ran =
+    let mine : List Op = calls_of script.calls.items task in
+    let out : gone ≡ is_gone calls mine =
+    exits ∙ ap (λ (ops : List Op). list_any is_exit ops) front ∙ ap (λ (ops : List Op). is_gone calls ops) is in
+    let within : now ≡ calls_in calls mine = mid ∙ ap (λ (ops : List Op). calls_in calls ops) is in
+    subst (λ (b : Bool). EndsBy ending task b (calls_in calls mine) [] new) out
+    (subst (λ (ops : List Op). EndsBy ending task gone ops [] new) within
+    (subst (λ (l : List Entry). EndsBy ending task gone now l new) none ran))
 
 -- new seats have made nothing
 pub all_new : (n : ℕ) (seats : List SeatState) → length seats ≡ n

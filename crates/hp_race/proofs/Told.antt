@@ -49,7 +49,7 @@ none_earlier [] none = refl
 none_earlier (e ∷ es) none = absurd (omega (arith, none))
 
 -- the core that a closed pool gives out is one that a pool came to
-closed_came : (seats : List SeatState) (core : CoreState) (first : ℕ) (journal : List Entry) → ClosesWith seats core first journal
+pub closed_came : (seats : List SeatState) (core : CoreState) (first : ℕ) (journal : List Entry) → ClosesWith seats core first journal
     → IsCameTo core
 closed_came seats core first journal h = came_to first h.1 core journal (h.0, h.2, h.3) h.5
 

@@ -60,7 +60,7 @@ CallsStrayed task gone (op ∷ ops) old new =
     ⊎ ((mid : List Entry) × CallMade task gone op old mid × CallsStrayed task (gone || is_exit op) ops mid new)
 
 -- what came of the calls
-abbrev pub EndsBy : Ending → (task : ℕ) → List Op → List Entry → List Entry → Type 0
-EndsBy Made task ops old new = CallsMade task false ops old new
-EndsBy Astray task ops old new = CallsStrayed task false ops old new
-EndsBy Memory task ops old new = Unit {0}
+abbrev pub EndsBy : Ending → (task : ℕ) → (gone : Bool) → List Op → List Entry → List Entry → Type 0
+EndsBy Made task gone ops old new = CallsMade task gone ops old new
+EndsBy Astray task gone ops old new = CallsStrayed task gone ops old new
+EndsBy Memory task gone ops old new = Unit {0}

@@ -1,5 +1,6 @@
 pub mod Calls
 pub mod Desks
+pub mod Parts
 pub mod Races
 pub mod Text
 pub mod Writing

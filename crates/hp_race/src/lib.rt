@@ -6,13 +6,17 @@
 //! race of many it is it doesn't know, nor when a thread goes on.
 #![tactic(auto)]
 
+mod again;
 mod course;
 mod desk;
 mod line;
+mod parts;
 mod racing;
+mod stretch;
 mod telling;
 mod writing;
 
 pub use line::{Race, Verdict};
+pub use parts::race_in_parts;
 pub use racing::{race, race_trace};
 pub use writing::{write_race_trace, write_races};

@@ -3,8 +3,9 @@ ghost use Rattle.std.specs.Prelude.{◌≡◌, ◌≤◌, All, IfOk, IfSome, Mat
 ghost use Rattle.hp_race.specs.Desks.{HasMade, SomeStrayed};
 ghost use Rattle.hp_race.specs.Races.{IsKept, IsTold};
 
-use crate::desk::{gather_seats, run_desks, set_desks};
+use crate::desk::make_stretch;
 use crate::line::Race;
+use crate::stretch::Stretch;
 use crate::telling::{keep, tell};
 use hp_explore::Script;
 use hp_replay::{MOST_EVENTS, Trace};
@@ -86,8 +87,11 @@ fn run_by<L: Ledger + Send + Sync, R: Threads + Wait + Sync>(
     ensures calls { IfOk result (λ ran. MatchBool ran.1 (All (HasMade script.now) ran.2.items) (SomeStrayed script.now ran.2.items)) }
 {
     let (shared, seats) = Shared::<L>::new(alloc, blank, script.config)?;
-    let (mut desks, idle) = set_desks(alloc, script, seats)?;
-    run_desks(rt, &shared, script, &mut desks);
-    let (made, seats) = gather_seats(script, desks, idle)?;
+    // No task has more calls than the script.
+    let all = Stretch {
+        from: 0,
+        most: script.calls.len(),
+    };
+    let (made, seats) = make_stretch(rt, alloc, &shared, script, all, seats)?;
     Ok((shared, made, seats))
 }

@@ -4,8 +4,10 @@ ghost use Rattle.hp_base.specs.Text.{sizes};
 ghost use Rattle.hp_core.specs.State.{CoreState};
 ghost use Rattle.hp_shared.specs.Journal.{events_of};
 ghost use Rattle.hp_race.specs.Desks.{HasMade, SomeStrayed};
+ghost use Rattle.hp_race.specs.Parts.{IsAgain, IsVerdictOnParts};
 ghost use Rattle.hp_race.specs.Races.{Counts, IsKept, IsKeptOf, IsOfScript, IsTold, IsToldOfRefused, IsVerdictOn};
 
+use crate::again::Again;
 use crate::line::{Race, Verdict};
 use hp_base::{Config, Event};
 use hp_core::Tally;
@@ -63,8 +65,39 @@ fn told_of_closed(script: &Script, made: bool, closed: &Closed) -> Race
     }
 }
 
-// What is told of a pool that wasn't.
-fn told_of_refused(fault: CloseFault, tally: Tally) -> Result<Race, AllocError>
+// Whether what was closed is what happened again, with nothing in its journal.
+fn is_again(again: &Again, closed: &Closed) -> bool
+    ensures { MatchBool result
+        (IsAgain again.now.entries again.now.core closed.now.last.first closed.now.last.entries.items closed.now.core)
+        (¬ (IsAgain again.now.entries again.now.core closed.now.last.first closed.now.last.entries.items closed.now.core)) }
+{
+    closed.last.first == again.entries
+        && closed.last.entries.is_empty()
+        && closed.core.tally() == again.core.tally()
+}
+
+/// What is told of a pool that was closed behind the last part, where all parts were made or one went wrong.
+pub(crate) fn told_of_parts(made: bool, again: &Again, closed: &Closed) -> Race
+    ensures verdict { IsVerdictOnParts made
+        (IsAgain again.now.entries again.now.core closed.now.last.first closed.now.last.entries.items closed.now.core)
+        result.verdict }
+    ensures counts { Counts result closed.now.entries closed.now.core }
+{
+    let verdict = if made && is_again(again, closed) {
+        Verdict::Closed
+    } else {
+        Verdict::Astray
+    };
+    Race {
+        verdict,
+        entries: closed.entries,
+        free: closed.core.free(),
+        resv: closed.core.resv(),
+    }
+}
+
+/// What is told of a pool that wasn't.
+pub(crate) fn told_of_refused(fault: CloseFault, tally: Tally) -> Result<Race, AllocError>
     ensures { IfOk result (λ race. IsToldOfRefused fault tally race) }
 {
     let (verdict, entries) = match fault {

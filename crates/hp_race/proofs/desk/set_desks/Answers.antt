@@ -1,26 +1,24 @@
-use Rattle.std.proofs.Common.{◌∷◌, [], ap, sym, ◌∙◌, length, length-append, vec_len, arith}
-use Rattle.std.proofs.lemmas.Bool.{eqb-true}
+use Rattle.std.proofs.Common.{◌∷◌, [], ap, ◌∙◌, length, length-append, arith}
 use Rattle.hp_explore.specs.Schedule.{calls_of}
-use Rattle.hp_race.specs.Desks.{HasMade, IsNew, IsSet}
-use Rattle.hp_race.proofs.Making.{idle_made, nothing_in, one_longer, one_more, taken_apart}
+use Rattle.hp_race.specs.Desks.{HasMadeIn, IsNew, IsSet}
+use Rattle.hp_race.proofs.Making.{idle_made, one_longer, one_more, taken_apart}
 use Rattle.hp_race.proofs.desk.set_desks.Goals as goal
 
-pub loop-seat-preserved-then-is_empty : goal.loop-seat-preserved-then-is_empty
-loop-seat-preserved-then-is_empty g c =
+pub loop-seat-preserved-then-len-stretch : goal.loop-seat-preserved-then-len-stretch
+loop-seat-preserved-then-len-stretch g c =
     let at = c.loop-seat in
     let inv = at.invariant in
     let apart = taken_apart IsNew _ _ c.in-Some.seat c.in-Some.ensures.steps.0 inv.2 in
     let items = c.in_ok-push.ensures.items in
-    let none = eqb-true (vec_len c.in_ok-calls.calls) 0 (sym c.is_empty.ensures ∙ c.if-is_empty.true) in
     let short = ap length c.in-Some.ensures.steps.0 in (
       tt,
       tt,
       apart.1,
       inv.3,
-      one_more (HasMade c.args.script.now) _ _ c.in-Some.seat items inv.4
-          (idle_made c.args.script.now c.in-Some.seat c.in_ok-calls.calls.items
+      one_more (HasMadeIn c.args.script.now c.args.stretch) _ _ c.in-Some.seat items inv.4
+          (idle_made c.args.script.now c.args.stretch c.in-Some.seat c.in_ok-calls.calls.items
           (c.in_ok-calls.ensures ∙ ap (calls_of c.args.script.now.calls.items) c.task.ensures)
-          (nothing_in c.in_ok-calls.calls.items (omega (arith, none, c.in_ok-calls.calls.ok))) apart.0),
+          (omega (arith, c.if-len-stretch.true, c.in_ok-calls.calls.ok)) apart.0),
       omega (arith, inv.5, ap length items, length-append at.idle.items (c.in-Some.seat ∷ []), short),
       omega (arith, inv.6, c.in-Some.ensures.steps.1, short),
     )

@@ -1,7 +1,7 @@
 use Rattle.std.proofs.Common.{◌≡◌, ◌+◌, length}
 use Rattle.std.specs.Prelude.{All}
 use Rattle.std.specs.Vec.Iter.{into_iter_items, into_iter_len}
-use Rattle.hp_race.specs.Desks.{HasMade, IsNew, IsSet}
+use Rattle.hp_race.specs.Desks.{HasMadeIn, IsNew, IsSet}
 use Rattle.hp_race.proofs.desk.set_desks.Given as goal
 
 abbrev pub invariant-loop-seat : goal.invariant-loop-seat
@@ -10,6 +10,6 @@ invariant-loop-seat g l =
     × (goal.iterator-loop-seat g).is_finite l.seat-iterator
     × All IsNew (into_iter_items l.seat-iterator)
     × All (λ d. IsSet l.script d.calls.items d.seat) l.desks.items
-    × All (HasMade l.script) l.idle.items
+    × All (HasMadeIn l.script l.stretch) l.idle.items
     × (length l.desks.items + length l.idle.items + length (into_iter_items l.seat-iterator) ≡ length l.fn.seats.items)
     × (into_iter_len l.seat-iterator ≡ length (into_iter_items l.seat-iterator))

@@ -1,8 +1,11 @@
-use Rattle.hp_race.proofs.Making.{all_new}
+use Rattle.std.proofs.Common.{arith}
+use Rattle.hp_race.proofs.Making.{all_new, whole}
 use Rattle.hp_race.proofs.racing.run_by.Goals as goal
 
-pub set_desks-requires : goal.set_desks-requires
-set_desks-requires g c = all_new _ _ c.in_ok-shared.ensures.count c.in_ok-shared.ensures.seats
+pub make_stretch-requires-after_bounds : goal.make_stretch-requires-after_bounds
+make_stretch-requires-after_bounds g c κs within = all_new _ _ c.in_ok-shared.ensures.count c.in_ok-shared.ensures.seats
 
-pub run_desks-requires-after_bounds : goal.run_desks-requires-after_bounds
-run_desks-requires-after_bounds g c κs within = rw c.deref_mut.ensures.value c.in_ok-desks.ensures.desks
+pub returns-clause-calls : goal.returns-clause-calls
+returns-clause-calls g c =
+    whole c.args.script.now c.len.result c.in_ok-made.made c.in_ok-made.seats.items
+    (omega (arith, c.len.ensures, c.args.script.now.calls.ok)) c.in_ok-made.ensures.calls

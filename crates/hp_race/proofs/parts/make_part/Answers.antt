@@ -1,0 +1,19 @@
+use Rattle.std.proofs.Common.{◌∙◌, ap, length, arith}
+use Rattle.hp_race.proofs.Parting.{all_emptied, part_made, same_items}
+use Rattle.hp_race.proofs.parts.make_part.Goals as goal
+
+pub returns-clause-new : goal.returns-clause-new
+returns-clause-new g c =
+    λ cut.
+    same_items c.cut_part.new.seats c.in_ok-made.seats.items c.in_ok-made.seats.len
+    (omega (arith, c.in_ok-made.seats.ok)) (c.in_ok-cut.ensures.count ∙ ap length c.deref_mut.ensures.value)
+    (all_emptied _ c.cut_part.new.seats (c.in_ok-cut.ensures.seats cut))
+
+pub returns-clause-part : goal.returns-clause-part
+returns-clause-part g c =
+    λ cut.
+    part_made c.args.script.now c.args.stretch c.args.again.now.entries c.cut_part.new.again.entries c.args.again.now.core
+    c.cut_part.new.again.core c.in_ok-made.seats.items c.in_ok-made.made c.if-not-made.false c.in_ok-made.ensures.calls
+    (rw (← c.as_slice.ensures.value) (c.are_seated.ensures c.if-not-are_seated.false))
+    (c.in_ok-made.ensures.count ∙ c.requires.count)
+    (rw (← c.deref_mut.ensures.value) (c.in_ok-cut.ensures.part cut))
