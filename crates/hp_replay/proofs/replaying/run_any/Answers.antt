@@ -1,4 +1,4 @@
-use Rattle.std.proofs.Common.{length, ◌≡◌, drop, refl}
+use Rattle.std.proofs.Common.{length, drop, refl}
 use Rattle.std.specs.Option.{option_map}
 use Rattle.std.specs.Io.BufRead.{take_through}
 use Rattle.std.proofs.lemmas.Result.{err_from_is_err_and}

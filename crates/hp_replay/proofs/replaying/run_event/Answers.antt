@@ -11,4 +11,5 @@ returns-clause-ok g c =
 pub returns-clause-err : goal.returns-clause-err
 returns-clause-err g c =
     event_stopped c.args.core.now c.in-Some.core c.tell.new.core (lines.Event c.args.event) c.args.event
-    c.in_ok-outcome-in-Some.outcome _ _ c.write_outcome.result refl c.in-Some.is c.in_ok-outcome-in-Some.ensures c.write_outcome.ensures.front
+    c.in_ok-outcome-in-Some.outcome _ _ c.write_outcome.result refl c.in-Some.is c.in_ok-outcome-in-Some.ensures
+    c.write_outcome.ensures.front

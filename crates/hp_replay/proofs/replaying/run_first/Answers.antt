@@ -1,4 +1,4 @@
-use Rattle.std.proofs.Common.{length, ◌≡◌, drop, refl, sym, true}
+use Rattle.std.proofs.Common.{length, drop, refl, sym, true}
 use Rattle.std.specs.Prelude.{Option, Some}
 use Rattle.std.specs.Io.BufRead.{take_through}
 use Rattle.std.proofs.lemmas.Result.{err_from_is_err_and}
