@@ -102,3 +102,53 @@ impl Gate for SeenAt {
         true
     }
 }
+
+/// Two stores that cross, once they are told to: task 1 is held where it has changed the regions until task 2 is about to leave,
+/// and task 2 where it wants a slot until task 1 has changed them. So neither comes to its end before the other has begun.
+#[derive(Drop)]
+pub struct Crossing {
+    begun: AtomicBool,
+    changed: Signal,
+    leaving: Signal,
+}
+
+impl Crossing {
+    pub fn new() -> Crossing {
+        Crossing {
+            begun: AtomicBool::new(false),
+            changed: Signal::new(),
+            leaving: Signal::new(),
+        }
+    }
+
+    /// From now on calls are held.
+    pub fn begin(&self) {
+        self.begun.store(true, Ordering::SeqCst);
+    }
+
+    /// Whether neither task waited in vain.
+    pub fn came(&self) -> bool {
+        self.changed.came() && self.leaving.came()
+    }
+}
+
+impl Gate for Crossing {
+    fn between(&self, task: Task, phase: Phase) {
+        if !self.begun.load(Ordering::SeqCst) {
+            return;
+        }
+        match (task.number(), phase) {
+            (1, Phase::Changed) => {
+                self.changed.give();
+                self.leaving.wait();
+            }
+            (2, Phase::Want) => self.changed.wait(),
+            (2, Phase::Leave) => self.leaving.give(),
+            _ => {}
+        }
+    }
+
+    fn grant(&self, _task: Task, _phase: Phase) -> bool {
+        true
+    }
+}

@@ -5,6 +5,8 @@
 #![tactic(auto)]
 
 #[cfg(test)]
+mod crossings;
+#[cfg(test)]
 mod cuts;
 #[cfg(test)]
 mod gates;

@@ -1,7 +1,8 @@
 //! Races of scripts, with a thread for each task.
-use hp_race::{Race, Verdict, race, write_races};
+use hp_race::{Race, Verdict, race, race_in_parts, write_races};
 use hp_replay::{ReplayFault, Script, Watched, read_script};
 use std::alloc::Global;
+use std::num::NonZeroU32;
 use std::test::Fail;
 
 // The scripts of examples/.
@@ -83,6 +84,38 @@ fn a_task_alone_has_one_race(rt: HostRuntime) -> Result<(), Fail> {
     assert_eq!(rt;
         told.into_inner().as_slice(),
         b"run 0 closed entries 8 free 4 resv 4\nrun 1 closed entries 8 free 4 resv 4\n".as_slice()
+    );
+    Ok(())
+}
+
+/// However few calls a part has.
+#[test]
+fn races_in_parts_are_closed(rt: HostRuntime) -> Result<(), Fail> {
+    for text in [
+        STORE_AGAINST_MAP,
+        TRUNCATE_AGAINST_STORE,
+        TWO_FILES_SHORT_POOL,
+    ] {
+        let script = script(rt.alloc(), text)?;
+        for number in 1..7 {
+            let most = NonZeroU32::new(number).ok_or("a number")?;
+            assert_eq!(rt;
+                race_in_parts(&rt, rt.alloc(), &script, most)?.verdict,
+                Verdict::Closed
+            );
+        }
+    }
+    Ok(())
+}
+
+/// An exit is a part of its own, and the calls behind it are parts without an entry.
+#[test]
+fn an_exit_lasts_beyond_its_part(rt: HostRuntime) -> Result<(), Fail> {
+    let script = script(rt.alloc(), AFTER_AN_EXIT)?;
+    let whole = race(&rt, rt.alloc(), &script)?;
+    assert_eq!(rt;
+        race_in_parts(&rt, rt.alloc(), &script, NonZeroU32::MIN)?,
+        whole
     );
     Ok(())
 }
