@@ -6,8 +6,8 @@ is what is drawn of the trace NAME.
 What is complained is compared with NAME.err, and the status with NAME.status; without these files, with nothing and 0.
 Each script is explored by the words behind each `#` of the file NAME.lines beside it, and its lines are compared with those
 below the words; and the schedule of each first run is replayed, and ends with the counts of that run's line. Each script is
-raced some times in threads, too: every race has to be closed. At last each `$` line of docs/TRACES.md is run by a shell, and what
-it tells is compared with the lines below it.
+raced some times in threads, too, whole and in parts: every race has to be closed. At last each `$` line of docs/TRACES.md is run
+by a shell, and what it tells is compared with the lines below it.
 """
 from __future__ import annotations
 
@@ -24,6 +24,8 @@ PICTURES = TOP / "docs" / "pictures"
 # the documents whose commands are run
 SHOWN = ("TRACES.md",)
 RACES = 20
+# how the journal of a race is cut, or that it isn't
+CUTS = ([], ["--cut", "1"], ["--cut", "3"])
 RACED = re.compile(r"run \d+ closed entries \d+ free \d+ resv \d+")
 
 
@@ -110,19 +112,19 @@ def script_difference(name: str) -> str | None:
         counts = lines[0][lines[0].index(" free ") + 1 :]
         if not any(line.startswith(f"{counts} calls 0") for line in replayed.splitlines()):
             return f"{told}: the replay of its first run doesn't end with {counts}"
-    return race_difference(name)
+    return next(filter(None, (race_difference(script, cut) for cut in CUTS)), None)
 
 
-def race_difference(name: str) -> str | None:
+def race_difference(script: bytes, cut: list[str]) -> str | None:
     """The first line of a script's races that isn't one of a closed race with its number, if there is one."""
-    script = (FOLDER / f"{name}.script").read_bytes()
-    ran = subprocess.run([TOP / "hugepool", "race", "--times", str(RACES)], input=script, capture_output=True, check=False)
-    lines = ran.stdout.decode().splitlines()
+    words = ["race", "--times", str(RACES), *cut]
+    ran = subprocess.run([TOP / "hugepool", *words], input=script, capture_output=True, check=False)
+    lines, told = ran.stdout.decode().splitlines(), " ".join(words)
     for k, line in enumerate(lines):
         if not (RACED.fullmatch(line) and line.startswith(f"run {k} ")):
-            return f"race: line {k + 1}: {line!r}"
+            return f"{told}: line {k + 1}: {line!r}"
     if ran.returncode or len(lines) != RACES:
-        return f"race: status {ran.returncode}, {len(lines)} lines: {ran.stderr.decode().strip()}"
+        return f"{told}: status {ran.returncode}, {len(lines)} lines: {ran.stderr.decode().strip()}"
     return None
 
 

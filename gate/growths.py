@@ -144,6 +144,7 @@ def cases() -> list[Case]:
         plain("explore --runs 2 --audit", crowd(6)),
         plain("schedule --seed 7", script),
         raced("race --times 2", script),
+        raced("race --times 1 --cut 2", script),
         raced("race --times 1", crowd(12)),
     ]
 

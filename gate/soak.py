@@ -1,9 +1,9 @@
 #!/usr/bin/env python3
 """Races a long script: 8 tasks make calls of all kinds in threads, and what they did is compared with what was asked.
 
-The race has to be closed. Of a second one the trace is read: the begins of each task are the script's calls of that task, in
-their order up to its exit, and a replay of it blocks and refuses nothing and ends with no call in flight. A trace that lacks a
-line of those, or in which two of one task are swapped, is told. (A script has no kills: those of
+The race has to be closed, and so has one whose journal is cut. Of a third one the trace is read: the begins of each task are the
+script's calls of that task, in their order up to its exit, and a replay of it blocks and refuses nothing and ends with no call in
+flight. A trace that lacks a line of those, or in which two of one task are swapped, is told. (A script has no kills: those of
 `crates/hp_soak_tests` are made through the library.)
 """
 from __future__ import annotations
@@ -62,10 +62,10 @@ def run(words: list[str], lines: list[str]) -> list[str]:
     return ran.stdout.splitlines()
 
 
-def race_fault(asked: list[str]) -> str | None:
-    """What is wrong with the line of a race, if anything is."""
-    lines = run(["race", "--times", "1"], asked)
-    return None if len(lines) == 1 and RACED.fullmatch(lines[0]) else f"race: {lines!r}"
+def race_fault(asked: list[str], cut: list[str]) -> str | None:
+    """What is wrong with the line of a race, cut or not, if anything is."""
+    lines = run(["race", "--times", "1", *cut], asked)
+    return None if len(lines) == 1 and RACED.fullmatch(lines[0]) else f"race {' '.join(cut)}: {lines!r}"
 
 
 def trace_fault(asked: list[str], trace: list[str]) -> str | None:
@@ -95,14 +95,14 @@ def damaged(trace: list[str]) -> list[list[str]]:
 
 def main() -> int:
     asked = script()
-    faults = [fault for fault in [race_fault(asked)] if fault]
+    faults = [fault for fault in [race_fault(asked, []), race_fault(asked, ["--cut", "1000"])] if fault]
     trace = run(["race", "--trace"], asked)
     if fault := trace_fault(asked, trace):
         faults.append(fault)
     else:
         faults += ["a damaged trace passes" for it in damaged(trace) if not trace_fault(asked, it)]
     print("".join(f"  {it}\n" for it in faults), end="")
-    print(f"soak: {5 - len(faults)} passed, {len(faults)} failed")
+    print(f"soak: {6 - len(faults)} passed, {len(faults)} failed")
     return 1 if faults else 0
 
 

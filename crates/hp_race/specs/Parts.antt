@@ -1,5 +1,5 @@
 -- A race whose journal is cut, and what is told of one.
-use Rattle.std.specs.Prelude.{◌≡◌, ◌+◌, ◌≤◌, ◌⊎◌, ℕ, Bool, true, false, List, [], ◌∷◌, length, All}
+use Rattle.std.specs.Prelude.{◌≡◌, ◌+◌, ◌≤◌, ◌⊎◌, ℕ, Bool, true, false, List, [], ◌∷◌, length, All, Option, None, Some}
 use Rattle.hp_core.specs.Readers.{free_of, resv_of}
 use Rattle.hp_core.specs.Runs.{IsOpening}
 use Rattle.hp_core.specs.State.{CoreState}
@@ -11,7 +11,7 @@ use Rattle.hp_shared.specs.Journal.{Follows, Interleaves, IsCameTo}
 use Rattle.hp_shared.specs.Seats.{AllSeated, lists_of}
 use Rattle.hp_shared.specs.States.{SeatState, tally_of}
 use Rattle.hp_race.specs.Desks.{HasMadeIn}
-use Rattle.hp_race.specs.Races.{Counts, IsDisagreed}
+use Rattle.hp_race.specs.Races.{Counts, IsDisagreed, IsTold}
 use Rattle.hp_race.specs.declared.line.Race.{Race}
 use Rattle.hp_race.specs.declared.line.Verdict.{Verdict}
 use Rattle.hp_race.specs.declared.line.Verdict.TheVariants.{Closed, Disagree, Astray}
@@ -94,3 +94,8 @@ IsToldInPartsAs script most Astray race = IsGivenUp race
 -- what is told of a race whose journal is cut behind so many calls of each task is so
 abbrev pub IsToldInParts : Script → (most : ℕ) → Race → Type 0
 IsToldInParts script most race = IsToldInPartsAs script most race.verdict race
+
+-- the same of a race whose journal is cut so, or not at all
+abbrev pub IsToldBy : Script → (cut : Option ℕ) → Race → Type 0
+IsToldBy script None race = IsTold script race
+IsToldBy script (Some most) race = IsToldInParts script most race

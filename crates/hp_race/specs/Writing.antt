@@ -8,7 +8,8 @@ use Rattle.hp_explore.specs.declared.script.Script.{Script}
 use Rattle.hp_race.specs.declared.line.Race.{Race}
 use Rattle.hp_race.specs.declared.line.Verdict.{Verdict}
 use Rattle.hp_race.specs.declared.line.Verdict.TheVariants.{Closed, Disagree, Astray}
-use Rattle.hp_race.specs.Races.{IsTold, IsTraceOf, IsUnclosed}
+use Rattle.hp_race.specs.Parts.{IsToldBy}
+use Rattle.hp_race.specs.Races.{IsTraceOf, IsUnclosed}
 use Rattle.hp_race.specs.Text.{lines_text}
 use Rattle.hp_replay.specs.Traces.{trace_text}
 use Rattle.hp_replay.specs.Writing.{Wrote}
@@ -22,18 +23,18 @@ abbrev pub is_closed : Race → Bool
 is_closed race = is_verdict_closed race.verdict
 
 -- a line was written for each race, numbered from 0, and it is known whether all were closed
-pub record WroteRaces (script : Script) (times : ℕ) (closed : Bool) (before after : Option (List ℕ)) : Type 0 where
+pub record WroteRaces (script : Script) (cut : Option ℕ) (times : ℕ) (closed : Bool) (before after : Option (List ℕ)) : Type 0 where
   pub races : List Race
   pub count : length races ≡ times
-  pub told : All (IsTold script) races
+  pub told : All (IsToldBy script cut) races
   pub wrote : Appends before after (lines_text 0 races)
   pub ends : closed ≡ list_all is_closed races
 
 -- a front of the lines of some races was written
-pub record WroteSomeRaces (script : Script) (times : ℕ) (before after : Option (List ℕ)) : Type 0 where
+pub record WroteSomeRaces (script : Script) (cut : Option ℕ) (times : ℕ) (before after : Option (List ℕ)) : Type 0 where
   pub races : List Race
   pub few : length races ≤ times
-  pub told : All (IsTold script) races
+  pub told : All (IsToldBy script cut) races
   pub wrote : Wrote before after (lines_text 0 races)
 
 -- the trace of a race was written where it was closed, and nothing where it wasn't

@@ -1,16 +1,21 @@
 //! Writes a line for each race.
 ghost use Rattle.std.specs.Prelude.{◌≡◌, ◌&&◌, [], OnOk, IfErr, IfOk, string_bytes};
+ghost use Rattle.std.specs.Int.NonZero.{non_zero_u32_get};
 ghost use Rattle.std.specs.Io.KnownBytes.{Appends};
+ghost use Rattle.std.specs.Option.{option_map};
+ghost use Rattle.hp_race.specs.Parts.{IsToldBy};
 ghost use Rattle.hp_race.specs.Text.{run_line};
 ghost use Rattle.hp_race.specs.Writing.{WroteRaces, WroteSomeRaces, WroteSomeTrace, WroteTrace, is_closed};
 ghost use Rattle.hp_replay.specs.Streams.{TellsWrites};
 ghost use Rattle.hp_replay.specs.Writing.{IsWriteFault, Wrote};
 
 use crate::line::{Race, Verdict};
+use crate::parts::race_in_parts;
 use crate::racing::{race, race_trace};
 use hp_explore::Script;
 use hp_replay::{ReplayFault, Sink, write_text, write_trace};
-use std::alloc::Global;
+use std::alloc::{AllocError, Global};
+use std::num::NonZeroU32;
 use std::sync::Wait;
 use std::thread::Threads;
 
@@ -43,23 +48,40 @@ fn both(a: bool, b: bool) -> bool
     a && b
 }
 
-/// Races the script's calls so many times, and writes each race's line before the next begins. Tells whether all were
-/// closed. Nothing is tried again after an error.
+// One race. Where a number is given, its journal is cut behind so many calls of each task.
+fn race_once<R: Threads + Wait + Sync>(
+    rt: &R,
+    alloc: Global,
+    script: &Script,
+    cut: Option<NonZeroU32>,
+) -> Result<Race, AllocError>
+    ensures { IfOk result (λ race. IsToldBy script.now (option_map non_zero_u32_get cut) race) }
+{
+    match cut {
+        None => race(rt, alloc, script),
+        Some(most) => race_in_parts(rt, alloc, script, most),
+    }
+}
+
+/// Races the script's calls so many times, and writes each race's line before the next begins. Where `cut` is a number, the
+/// journal is cut behind so many calls of each task. Tells whether all were closed. Nothing is tried again after an error.
 pub fn write_races<R: Threads + Wait + Sync, W: Sink>(
     rt: &R,
     alloc: Global,
     script: &Script,
+    cut: Option<NonZeroU32>,
     times: u32,
     writer: &mut W,
 ) -> Result<bool, ReplayFault>
-    ensures ok { IfOk result (λ closed. WroteRaces script.now times closed (W.contents writer.old) (W.contents writer.new)) }
+    ensures ok { IfOk result (λ closed. WroteRaces script.now (option_map non_zero_u32_get cut) times closed
+        (W.contents writer.old) (W.contents writer.new)) }
     ensures err { IfErr result (λ fault. IsWriteFault fault
-        × WroteSomeRaces script.now times (W.contents writer.old) (W.contents writer.new)) }
+        × WroteSomeRaces script.now (option_map non_zero_u32_get cut) times (W.contents writer.old) (W.contents writer.new)) }
     ensures writes { TellsWrites result (W.failed writer.old) (W.failed writer.new) }
 {
     let mut closed = true;
     for run in 0..times {
-        let ended = race(rt, alloc, script)?;
+        let ended = race_once(rt, alloc, script, cut)?;
         write_race(alloc, run, ended, writer)?;
         closed = both(closed, is_closed(&ended));
     }

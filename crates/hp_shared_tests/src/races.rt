@@ -80,7 +80,7 @@ fn races_of_the_examples_are_closed(rt: HostRuntime) -> Result<(), Fail> {
 fn a_task_alone_has_one_race(rt: HostRuntime) -> Result<(), Fail> {
     let script = script(rt.alloc(), MAP_ALONE)?;
     let mut told = Watched::new(Vec::new(rt.alloc()));
-    assert!(rt; write_races(&rt, rt.alloc(), &script, 2, &mut told)?);
+    assert!(rt; write_races(&rt, rt.alloc(), &script, None, 2, &mut told)?);
     assert_eq!(rt;
         told.into_inner().as_slice(),
         b"run 0 closed entries 8 free 4 resv 4\nrun 1 closed entries 8 free 4 resv 4\n".as_slice()

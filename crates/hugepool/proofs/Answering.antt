@@ -115,7 +115,7 @@ explores_kept e finished from to start before mid after same kept h =
 
 wrote_kept : (r : Racing) (script : Script) (closed : Bool) (before mid after : Option (List ℕ)) → Keeps mid after
     → WroteRacing r script closed before mid → WroteRacing r script closed before after
-wrote_kept (Times times) script closed before mid after kept h =
+wrote_kept (Times times cut) script closed before mid after kept h =
     record {
       races = h.races;
       count = h.count;

@@ -1,5 +1,7 @@
 -- What comes of `hugepool race`.
 use Rattle.std.specs.Prelude.{ℕ, List, Option, Bool, map}
+use Rattle.std.specs.Int.NonZero.{non_zero_u32_get}
+use Rattle.std.specs.Option.{option_map}
 use Rattle.hp_base.specs.Text.{sizes}
 use Rattle.hp_explore.specs.declared.script.Script.{Script}
 use Rattle.hp_race.specs.Writing.{WroteRaces, WroteTrace}
@@ -10,7 +12,7 @@ use Rattle.hugepool.specs.declared.racing.Racing.TheVariants.{Times, Trace}
 
 -- what a script's races have written; all were closed, or some weren't
 abbrev pub WroteRacing : Racing → Script → (closed : Bool) → (before after : Option (List ℕ)) → Type 0
-WroteRacing (Times times) script closed before after = WroteRaces script times closed before after
+WroteRacing (Times times cut) script closed before after = WroteRaces script (option_map non_zero_u32_get cut) times closed before after
 WroteRacing Trace script closed before after = WroteTrace script closed before after
 
 -- A script was read, and a line written for each race of it, or the trace of one. A reader had the bytes `from` left, and now

@@ -9,6 +9,7 @@ Usage: hugepool race [OPTIONS] < FILE
 
 Options:
       --times <N>  How many races [default: 10]
+      --cut <N>    Cuts the journal behind each N calls of each task
       --trace      Races once, and writes what happened to the pool as a trace
   -h, --help       Print help
 
@@ -20,8 +21,12 @@ two races need be alike. At the end what each task did is compared with what hap
   astray       a call ended as none may
 An entry is a hold of the pool's lock that changed it. A trace has the events of all entries, in their order, a million
 at most; where the race isn't closed, nothing is written.
+With --cut N each task makes N of its calls; when all have made theirs, what happened is compared and cut off, and the
+next N calls are made. So a pool never keeps the entries of more calls. What is cut off happens once more to a pool of
+one thread, where the same has to come of it, or the race is astray. An entry of any part counts.
 docs/TRACES.md and hugepool replay --help tell the form of a trace. Some scripts stand in examples/:
   hugepool race --times 3 < examples/truncate-against-store.script
+  hugepool race --cut 2 < examples/truncate-against-store.script
   hugepool race --trace < examples/truncate-against-store.script | hugepool replay
 ";
 
@@ -74,6 +79,33 @@ fn a_script_without_calls(rt: HostRuntime) {
     );
 }
 
+/// However often its journal is cut, a race of one task alone is the same. The store makes ten entries behind the map's eight.
+#[test]
+fn a_race_is_cut(rt: HostRuntime) {
+    let script = "pool 4 1 4 1\nbegin 1 map 0 0 2\nbegin 1 store 0 41\n";
+    for number in ["1", "2", "65536"] {
+        let words = ["hugepool", "race", "--times", "1", "--cut", number];
+        let (status, out, faults) = told(&rt, rt.alloc(), &words, script);
+        assert_eq!(rt; status, 0);
+        assert!(rt; faults.is_empty());
+        assert_eq!(rt;
+            out.as_slice(),
+            b"run 0 closed entries 18 free 3 resv 1\n".as_slice()
+        );
+    }
+}
+
+#[test]
+fn cuts_out_of_range(rt: HostRuntime) {
+    for number in ["0", "65537", "-1", "x"] {
+        let words = ["hugepool", "race", "--cut", number];
+        let (status, out, faults) = told(&rt, rt.alloc(), &words, MAP);
+        assert_eq!(rt; status, 2);
+        assert!(rt; out.is_empty());
+        assert!(rt; faults.as_slice().starts_with(b"error: "));
+    }
+}
+
 /// Numbers outside their range are the command line's fault, and nothing is raced.
 #[test]
 fn times_out_of_range(rt: HostRuntime) {
@@ -98,12 +130,14 @@ fn a_race_is_traced(rt: HostRuntime) {
     );
 }
 
-/// Of many races no trace is written.
+/// Of many races, and of one whose journal is cut, no trace is written.
 #[test]
 fn races_are_counted_or_traced(rt: HostRuntime) {
-    let words = ["hugepool", "race", "--times", "3", "--trace"];
-    let (status, out, faults) = told(&rt, rt.alloc(), &words, MAP);
-    assert_eq!(rt; status, 2);
-    assert!(rt; out.is_empty());
-    assert!(rt; faults.as_slice().starts_with(b"error: "));
+    for option in ["--times", "--cut"] {
+        let words = ["hugepool", "race", option, "3", "--trace"];
+        let (status, out, faults) = told(&rt, rt.alloc(), &words, MAP);
+        assert_eq!(rt; status, 2);
+        assert!(rt; out.is_empty());
+        assert!(rt; faults.as_slice().starts_with(b"error: "));
+    }
 }

@@ -15,14 +15,15 @@ use hp_race::{write_race_trace, write_races};
 use hp_replay::{ReplayFault, Sink, Source, Watched, read_script};
 use std::alloc::Global;
 use std::io::Write;
+use std::num::NonZeroU32;
 use std::sync::Wait;
 use std::thread::Threads;
 
 /// Which races of a script are run.
 #[derive(Clone, Copy)]
 pub(crate) enum Racing {
-    /// So many, with a line for each.
-    Times(u32),
+    /// So many, with a line for each. Where `cut` is a number, the journal is cut behind so many calls of each task.
+    Times { times: u32, cut: Option<NonZeroU32> },
     /// One, which is written as a trace.
     Trace,
 }
@@ -37,8 +38,12 @@ two races need be alike. At the end what each task did is compared with what hap
   astray       a call ended as none may
 An entry is a hold of the pool's lock that changed it. A trace has the events of all entries, in their order, a million
 at most; where the race isn't closed, nothing is written.
+With --cut N each task makes N of its calls; when all have made theirs, what happened is compared and cut off, and the
+next N calls are made. So a pool never keeps the entries of more calls. What is cut off happens once more to a pool of
+one thread, where the same has to come of it, or the race is astray. An entry of any part counts.
 docs/TRACES.md and hugepool replay --help tell the form of a trace. Some scripts stand in examples/:
   hugepool race --times 3 < examples/truncate-against-store.script
+  hugepool race --cut 2 < examples/truncate-against-store.script
   hugepool race --trace < examples/truncate-against-store.script | hugepool replay";
 
 /// The words of the command.
@@ -50,10 +55,17 @@ pub(crate) fn race_command<'a>(alloc: Global) -> Result<Command<'a>, Error> {
         .default_value("10")
         .value_parser(clap::value_parser!(u32).range(1..=65_536))
         .help("How many races");
+    let cut = Arg::new(alloc, "cut")
+        .long("cut")
+        .value_name("N")
+        .action(ArgAction::Set)
+        .value_parser(clap::value_parser!(u32).range(1..=65_536))
+        .help("Cuts the journal behind each N calls of each task");
     let trace = Arg::new(alloc, "trace")
         .long("trace")
         .action(ArgAction::SetTrue)
         .conflicts_with("times")?
+        .conflicts_with("cut")?
         .help("Races once, and writes what happened to the pool as a trace");
     Ok(
         Command::new(alloc, "race")
@@ -63,6 +75,7 @@ pub(crate) fn race_command<'a>(alloc: Global) -> Result<Command<'a>, Error> {
             .override_usage("hugepool race [OPTIONS] < FILE")
             .after_help(RACES)
             .arg(times)?
+            .arg(cut)?
             .arg(trace)?,
     )
 }
@@ -72,7 +85,10 @@ pub(crate) fn race_words(given: &ArgMatches) -> Racing {
     if given.get_flag("trace") {
         Racing::Trace
     } else {
-        Racing::Times(given.get_one::<u32>("times").unwrap_or(10))
+        Racing::Times {
+            times: given.get_one::<u32>("times").unwrap_or(10),
+            cut: given.get_one::<u32>("cut").and_then(NonZeroU32::new),
+        }
     }
 }
 
@@ -89,7 +105,7 @@ fn write_racing<W: Sink>(
     ensures writes { TellsWrites result (W.failed writer.old) (W.failed writer.new) }
 {
     match racing {
-        Racing::Times(times) => write_races(rt, alloc, script, times, writer),
+        Racing::Times { times, cut } => write_races(rt, alloc, script, cut, times, writer),
         Racing::Trace => write_race_trace(rt, alloc, script, writer),
     }
 }
