@@ -52,17 +52,25 @@ fn verdict(script: &Script, made: bool, closed: &Closed) -> Verdict
     }
 }
 
+// A race of which this was found, with the counts of what was closed.
+fn race_of(found: Verdict, closed: &Closed) -> Race
+    ensures verdict { result.verdict ≡ found }
+    ensures counts { Counts result closed.now.entries closed.now.core }
+{
+    Race {
+        verdict: found,
+        entries: closed.entries,
+        free: closed.core.free(),
+        resv: closed.core.resv(),
+    }
+}
+
 // What is told of it.
 fn told_of_closed(script: &Script, made: bool, closed: &Closed) -> Race
     ensures verdict { IsVerdictOn script.now made closed.now.last.first closed.now.core result.verdict }
     ensures counts { Counts result closed.now.entries closed.now.core }
 {
-    Race {
-        verdict: verdict(script, made, closed),
-        entries: closed.entries,
-        free: closed.core.free(),
-        resv: closed.core.resv(),
-    }
+    race_of(verdict(script, made, closed), closed)
 }
 
 // Whether what was closed is what happened again, with nothing in its journal.
@@ -83,17 +91,12 @@ pub(crate) fn told_of_parts(made: bool, again: &Again, closed: &Closed) -> Race
         result.verdict }
     ensures counts { Counts result closed.now.entries closed.now.core }
 {
-    let verdict = if made && is_again(again, closed) {
+    let found = if made && is_again(again, closed) {
         Verdict::Closed
     } else {
         Verdict::Astray
     };
-    Race {
-        verdict,
-        entries: closed.entries,
-        free: closed.core.free(),
-        resv: closed.core.resv(),
-    }
+    race_of(found, closed)
 }
 
 /// What is told of a pool that wasn't.
