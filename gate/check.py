@@ -7,7 +7,7 @@ usage: ./check [STEP] [..]
   ./check ci         every proof from nothing, the edits for the known wrong bodies, all tests and programs (rt ci)
   ./check edits [CRATE ..] [--all] [--due] [--each]
                      the must-fail edits, many at once: with no crate named, those of which anything changed that their checks
-                     read since they were refused, and those of some other crates (--all: all of every crate); then edits of
+                     read since they were refused; where few are, those of some other crates (--all: all); then edits of
                      which each has to be told apart, what makes edits due, and whether docs/INDEX.md is what the sources say.
                      Of crates that are named all, or with --due those that are due
   ./check examples   what the traces of examples/ print; a long race, and its trace; when ./hugepool builds; that what documents name

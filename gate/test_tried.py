@@ -113,9 +113,11 @@ def main() -> int:
         turns = {next(iter(tried.in_turn({**many, "low": tried.Mark(str(k), many["low"].edits)}, {}))) for k in range(64)}
         if turns != set(CRATES):
             faults.append(f"only {sorted(turns)} ever have their turn")
+        if tried.in_turn(many, {"low": set(map(str, range(tried.TURN)))}):
+            faults.append("others have their turn though enough is due")
         faults += faults_of_records(top)
     print("".join(f"  {it}\n" for it in faults), end="")
-    print(f"edits that are due: {len(CHANGES) + 6 - len(faults)} passed, {len(faults)} failed")
+    print(f"edits that are due: {len(CHANGES) + 7 - len(faults)} passed, {len(faults)} failed")
     return 1 if faults else 0
 
 

@@ -17,7 +17,7 @@ from edit import PARTS
 from scratch import below, crates_of
 
 RECORD = Path("gate") / "tried.txt"
-# the crates whose turn it is to be tried although nothing changed have as many edits as this, or a few more
+# where fewer edits than this are due, other crates have their turn, until there are as many, or a few more
 TURN = 60
 # of the hash of an edit so many digits are kept: it is compared with those of one crate
 DIGITS = 12
@@ -97,11 +97,11 @@ def due(top: Path, marks: dict[str, Mark]) -> dict[str, set[str]]:
     return {name: edits for name, edits in found.items() if edits}
 
 
-def in_turn(marks: dict[str, Mark], is_due: Iterable[str]) -> set[str]:
-    """Of the other crates some, whose turn it is: others whenever anything in the repository's crates changes."""
+def in_turn(marks: dict[str, Mark], due: dict[str, set[str]]) -> set[str]:
+    """Beside the edits that are due, the crates whose turn it is, if there is time for some: others whenever anything changes."""
     tree = "".join(f"{marks[name].texts}{sorted(marks[name].edits.items())}" for name in sorted(marks))
-    left = (it for it in marks if it not in is_due and marks[it].edits)
-    taken, count = set(), 0
+    left = (it for it in marks if it not in due and marks[it].edits)
+    taken, count = set(), sum(map(len, due.values()))
     for name in sorted(left, key=lambda it: hashlib.sha256((tree + it).encode()).digest()):
         if count >= TURN:
             break

@@ -3,8 +3,8 @@
 
 usage: ./check edits [CRATE ..] [--all] [--due] [--each]
 
-Without a word it tries each edit whose check would read anything else than when it was refused (that is kept in gate/tried.txt), and
-those of some other crates, whose turn it is; --all tries all edits of all crates. Of crates that are named it tries all, with --due
+Without a word it tries each edit whose check would read anything else than when it was refused (that is kept in gate/tried.txt), and,
+where those are few, the edits of some other crates, whose turn it is; --all tries all edits of all crates. Of crates that are named it tries all, with --due
 those that are due.
 
 The edits of a crate stand in its folders must-fail/ (those that the toolchain's gate tries too), edits/ and must-not-compile/
