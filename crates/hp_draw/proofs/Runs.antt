@@ -1,5 +1,6 @@
 -- Runs, and what is drawn of them, event by event.
-use Rattle.std.proofs.Common.{◌≡◌, ℕ, zero, suc, ◌+◌, ◌<◌, ◌≤◌, List, [], ◌∷◌, ◌++◌, length, take, get_or, Option, refl, sym, ap, subst, ◌∙◌, append_assoc, arith, length-append, add-one}
+use Rattle.std.proofs.Common.{◌≡◌, ℕ, zero, suc, ◌+◌, ◌<◌, ◌≤◌, List, [], ◌∷◌, ◌++◌, length, take, get_or, Option, refl, sym}
+use Rattle.std.proofs.Common.{ap, subst, ◌∙◌, append_assoc, arith, length-append, add-one}
 use Rattle.std.specs.Prelude.{None}
 use Rattle.std.proofs.lemmas.List.{append-nil, take_all, take_more}
 use Rattle.hp_base.specs.Text.{Sizes, sizes}
@@ -9,7 +10,8 @@ use Rattle.hp_core.specs.Runs.{Row, IsOpening}
 use Rattle.hp_core.specs.State.{CoreState}
 use Rattle.hp_machine.specs.declared.outcome.Outcome.{Outcome}
 use Rattle.hp_draw.specs.Following.{stay_in}
-use Rattle.hp_draw.specs.Sketches.{Happening, events_of, Happens, Drawn, IsDrawn, nothing_drawn, after, after_all, listed, stays_in, with_stays_in}
+use Rattle.hp_draw.specs.Sketches.{Happening, events_of, Happens, Drawn, IsDrawn, nothing_drawn, after, after_all, listed}
+use Rattle.hp_draw.specs.Sketches.{stays_in, with_stays_in}
 use Rattle.hp_draw.specs.declared.following.Standing.{Standing}
 use Rattle.hp_draw.specs.declared.following.Stay.{Stay}
 

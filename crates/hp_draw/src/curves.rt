@@ -1,6 +1,8 @@
 //! The counts, as curves.
 ghost use Rattle.std.specs.Prelude.{◌≡◌, ◌++◌, ◌<◌, ◌^◌, OnOk, string_bytes};
-ghost use Rattle.hp_draw.specs.Curves.{base_of, between_text, class_of, counts_text, curve_head, curve_text, curves_text, bare_told, counts_front, four_text, height_of, start_of, hit_place, level_line, level_text};
+ghost use Rattle.hp_draw.specs.Curves.{base_of, between_text, class_of, counts_text, curve_head, curve_text, curves_text};
+ghost use Rattle.hp_draw.specs.Curves.{bare_told, counts_front, four_text, height_of, start_of, hit_place, level_line};
+ghost use Rattle.hp_draw.specs.Curves.{level_text};
 ghost use Rattle.hp_draw.specs.Curves.{levels_text, owed_text, owed_told, point_text, sum_text, sums_text};
 ghost use Rattle.hp_draw.specs.Shapes.{texts};
 

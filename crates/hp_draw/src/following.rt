@@ -1,7 +1,8 @@
 //! What an event changes of what is drawn.
 ghost use Rattle.std.specs.Prelude.{◌≡◌, ◌≤◌, ◌++◌, Bool, OnOk};
 ghost use Rattle.hp_core.specs.Readers.{config_of};
-ghost use Rattle.hp_draw.specs.Following.{begun, blocked, column_of, column_of_task, has_moved, held_up, is_holder, mark_of, moved, next_of};
+ghost use Rattle.hp_draw.specs.Following.{begun, blocked, column_of, column_of_task, has_moved, held_up, is_holder, mark_of};
+ghost use Rattle.hp_draw.specs.Following.{moved, next_of};
 ghost use Rattle.hp_draw.specs.Following.{numbers_of, phase_in, sign_of, standing_after, stay_in, stay_left, stay_of};
 ghost use Rattle.hp_draw.specs.Sketches.{listed};
 

@@ -1,6 +1,7 @@
 //! What stands round the picture: its head, its legend, and the numbers of lines.
 ghost use Rattle.std.specs.Prelude.{◌≡◌, ◌++◌, OnOk, string_bytes};
-ghost use Rattle.hp_draw.specs.Frames.{head_text, legend_text, lines_text, number_at, number_text, numbers_text, background, size_text, style_text, view_text, whole_height_of, whole_width_of};
+ghost use Rattle.hp_draw.specs.Frames.{head_text, legend_text, lines_text, number_at, number_text, numbers_text, background};
+ghost use Rattle.hp_draw.specs.Frames.{size_text, style_text, view_text, whole_height_of, whole_width_of};
 
 use crate::layout::{Layout, TOP};
 use crate::shapes::{Place, push_box, push_count, push_line, push_words};

@@ -2,7 +2,8 @@
 ghost use Rattle.std.specs.Prelude.{◌≡◌, ◌++◌, ◌+◌, ◌/◌, ◌<◌, ◌^◌, OnOk, codes, string_bytes, length};
 ghost use Rattle.hp_machine.specs.Text.{phase_word};
 ghost use Rattle.hp_draw.specs.Lanes.{blocked_words, call_text, class_of, ended_words, hatch_text, holder_text, label_of, label_text};
-ghost use Rattle.hp_draw.specs.Lanes.{box_of, lane_at, lane_place, lane_text, lanes_text, name_of, phase_text, place_of, stay_text, told_text, wait_text, between_text};
+ghost use Rattle.hp_draw.specs.Lanes.{box_of, lane_at, lane_place, lane_text, lanes_text, name_of, phase_text, place_of};
+ghost use Rattle.hp_draw.specs.Lanes.{stay_text, told_text, wait_text, between_text};
 ghost use Rattle.hp_draw.specs.Shapes.{texts, words_text};
 
 use crate::following::{Next, Standing, Stay};

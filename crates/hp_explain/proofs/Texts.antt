@@ -15,7 +15,8 @@ use Rattle.hp_replay.specs.Writing.{Wrote, IsWriteFault}
 use Rattle.hp_replay.specs.declared.fault.ReplayFault.{ReplayFault}
 use Rattle.hp_replay.proofs.Writes.{Wrote-behind, Wrote-more}
 use Rattle.hp_explain.specs.Rows.{head_text, rows_text, end_text}
-use Rattle.hp_explain.specs.Explaining.{RowsWritten, RowsPartlyWritten, Explanation, Beginning, WroteExplanation, PartlyExplained, nothing, some_rows, to_the_end}
+use Rattle.hp_explain.specs.Explaining.{RowsWritten, RowsPartlyWritten, Explanation, Beginning, WroteExplanation}
+use Rattle.hp_explain.specs.Explaining.{PartlyExplained, nothing, some_rows, to_the_end}
 use Rattle.hp_explain.specs.Explaining.{NotExplained}
 
 -- a pool that was opened, and the widths of its columns

@@ -1,7 +1,8 @@
 -- The words of the phases in which calls stand, kept beside the core: what they say of it, and that an event's outcome
 -- tells the word of its task's call.
 use Rattle.std.proofs.Common.{◌≡◌, ℕ, ◌-◌, ◌≤◌, ◌<◌, refl, ap, sym, ◌∙◌, subst, inl, inr, arith, true≢false}
-use Rattle.std.specs.Prelude.{Bool, true, false, not, is_some, Option, None, Some, List, length, replicate, slice_index_or, slice_set, if◌then◌else◌}
+use Rattle.std.specs.Prelude.{Bool, true, false, not, is_some, Option, None, Some, List, length, replicate, slice_index_or}
+use Rattle.std.specs.Prelude.{slice_set, if◌then◌else◌}
 use Rattle.std.specs.Option.{option_map}
 use Rattle.std.proofs.lemmas.List.{get_or-set_same, get_or-set_other, get_or-replicate, length-replicate, length-set}
 use Rattle.hp_base.proofs.Puts.{put_same, same_or_other}

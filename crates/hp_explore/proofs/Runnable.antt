@@ -1,6 +1,6 @@
 -- The tasks that may take a turn.
 use Rattle.std.proofs.Common.{◌≡◌, ℕ, zero, suc, ◌+◌, ◌<◌, ◌≤◌, inl, inr, List, [], ◌∷◌}
-use Rattle.std.proofs.Common.{◌++◌, length, add-one, refl, sym, ap, ◌∙◌, subst, arith}
+use Rattle.std.proofs.Common.{◌++◌, length, length-append, add-one, refl, sym, ap, ◌∙◌, subst, arith}
 use Rattle.std.specs.Prelude.{Bool, true, false, not, ◌&&◌, ◌==◌, Option, None, Some, is_none, is_some, IsSome}
 use Rattle.std.specs.Prelude.{MatchBool, if◌then◌else◌}
 use Rattle.std.specs.List.{All, range_with_len, list_all}
@@ -63,6 +63,14 @@ no_more plan w n tasks same h cannot is =
 pub none_yet : (plan : Plan) (w : World) (tasks : List ℕ) → tasks ≡ [] → AreRunnableOf plan w 0 tasks
 unfolding AreRunnableOf
 none_yet plan w tasks is = is
+
+-- no more than all
+pub no_more_than : (plan : Plan) (w : World) (n : ℕ) (tasks : List ℕ) → AreRunnableOf plan w n tasks → length tasks ≤ n
+unfolding AreRunnableOf
+no_more_than plan w zero tasks h = rw h (omega arith)
+no_more_than plan w (suc n) tasks (front, before, inl last) =
+    rw last.1 (omega (arith, length-append front (suc n ∷ []), no_more_than plan w n front before))
+no_more_than plan w (suc n) tasks (front, before, inr last) = rw last.1 (omega (arith, no_more_than plan w n front before))
 
 -- all of them are there
 abbrev pub InRange : ℕ → List ℕ → Type 0

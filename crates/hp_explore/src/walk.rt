@@ -229,7 +229,9 @@ impl Walk {
         ensures runnable { OnOk result (AreRunnable plan.now self.new tasks.new.items) }
         ensures in_range { OnOk result (All (λ t. (1 ≤ t) × (t ≤ length self.new.made)) tasks.new.items) }
     {
-        let task = tasks[self.rng.next_word() as usize % tasks.len()];
+        // A division of 32 bits: one of 64 takes twice the time, and more.
+        let place = self.rng.next_word() % tasks.len() as u32;
+        let task = tasks[place as usize];
         let at = self.phase(task);
         let event = self.choose(plan, task);
         self.core.is_reached();

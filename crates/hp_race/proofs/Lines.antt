@@ -1,5 +1,6 @@
 -- Lines of races that are written one by one.
-use Rattle.std.proofs.Common.{◌≡◌, ℕ, ◌+◌, ◌<◌, ◌≤◌, List, [], ◌∷◌, ◌++◌, length, length-append, Option, refl, sym, ap, subst, ◌∙◌, append_assoc, arith}
+use Rattle.std.proofs.Common.{◌≡◌, ℕ, ◌+◌, ◌<◌, ◌≤◌, List, [], ◌∷◌, ◌++◌, length, length-append, Option, refl, sym, ap}
+use Rattle.std.proofs.Common.{subst, ◌∙◌, append_assoc, arith}
 use Rattle.std.specs.Prelude.{All, Bool, ◌&&◌, true, false}
 use Rattle.std.specs.List.{list_all}
 use Rattle.std.specs.Io.KnownBytes.{Appends}
@@ -94,7 +95,8 @@ stopped_before script cut run times closed before now s few =
       wrote = record { front = lines_text 0 s.races; back = []; parts = sym (append-nil (lines_text 0 s.races)); appends = s.wrote };
     }
 
-pub all_raced : (script : Script) (cut : Option ℕ) (run times : ℕ) (closed : Bool) (before now : Option (List ℕ)) → SoFar script cut run closed before now
+pub all_raced : (script : Script) (cut : Option ℕ) (run times : ℕ) (closed : Bool) (before now : Option (List ℕ))
+    → SoFar script cut run closed before now
     → run ≡ times → WroteRaces script cut times closed before now
 all_raced script cut run times closed before now s same =
     record { races = s.races; count = s.count ∙ same; told = s.told; wrote = s.wrote; ends = s.ends }

@@ -1,5 +1,6 @@
 -- Calls that are made one after the other.
-use Rattle.std.proofs.Common.{◌≡◌, ℕ, suc, ◌+◌, add-one, drop-cons, get_or, ◌<◌, List, [], ◌∷◌, ◌++◌, Bool, refl, sym, ap, subst, ◌∙◌, length, length-append, arith, take, drop, ◌≤◌, inl, inr, ◌⊎◌}
+use Rattle.std.proofs.Common.{◌≡◌, ℕ, suc, ◌+◌, add-one, drop-cons, get_or, ◌<◌, List, [], ◌∷◌, ◌++◌, Bool, refl, sym, ap}
+use Rattle.std.proofs.Common.{subst, ◌∙◌, length, length-append, arith, take, drop, ◌≤◌, inl, inr, ◌⊎◌}
 use Rattle.std.specs.Prelude.{true, false, not, filter, ◌||◌, ◌==◌, MatchBool, All, Some, slice_get}
 use Rattle.std.specs.List.{Any, list_any}
 use Rattle.std.proofs.lemmas.List.Filters.{length-filter_both}
@@ -65,7 +66,8 @@ made_now task t gone may op reply old new l m same is_old is_new call ends good 
 
 -- the desks' seats so far, and one more that made its calls
 gathered_made : (script : Script) (stretch : Stretch) (made : Bool) (seats now : List SeatState) (s : SeatState)
-    → MatchBool made (All (HasMadeIn script stretch) seats) (SomeStrayedIn script stretch seats) → HasMadeIn script stretch s → now ≡ seats ++ s ∷ []
+    → MatchBool made (All (HasMadeIn script stretch) seats) (SomeStrayedIn script stretch seats) → HasMadeIn script stretch s
+    → now ≡ seats ++ s ∷ []
     → MatchBool made (All (HasMadeIn script stretch) now) (SomeStrayedIn script stretch now)
 gathered_made script stretch true seats now s had is same =
     subst (λ (l : List SeatState). All (HasMadeIn script stretch) l) (sym same) (All-push (HasMadeIn script stretch) seats s had is)
@@ -73,13 +75,15 @@ gathered_made script stretch false seats now s had is same =
     subst (λ (l : List SeatState). SomeStrayedIn script stretch l) (sym same) (any_before (HasStrayedIn script stretch) seats (s ∷ []) had)
 
 -- or one that strayed
-gathered_strayed : (script : Script) (stretch : Stretch) (seats now : List SeatState) (s : SeatState) → HasStrayedIn script stretch s → now ≡ seats ++ s ∷ []
+gathered_strayed : (script : Script) (stretch : Stretch) (seats now : List SeatState) (s : SeatState)
+    → HasStrayedIn script stretch s → now ≡ seats ++ s ∷ []
     → SomeStrayedIn script stretch now
 gathered_strayed script stretch seats now s is same =
     subst (λ (l : List SeatState). SomeStrayedIn script stretch l) (sym same) (Any-push (HasStrayedIn script stretch) seats s is)
 
 pub made_too : (script : Script) (stretch : Stretch) (made now_made : Bool) (ending : Ending) (seats now : List SeatState) (s : SeatState)
-    → MatchBool made (All (HasMadeIn script stretch) seats) (SomeStrayedIn script stretch seats) → HasRun script stretch ending s → ending ≡ Made → now_made ≡ made
+    → MatchBool made (All (HasMadeIn script stretch) seats) (SomeStrayedIn script stretch seats)
+    → HasRun script stretch ending s → ending ≡ Made → now_made ≡ made
     → now ≡ seats ++ s ∷ [] → MatchBool now_made (All (HasMadeIn script stretch) now) (SomeStrayedIn script stretch now)
 made_too script stretch made now_made ending seats now s had ran is same added =
     subst (λ (b : Bool). MatchBool b (All (HasMadeIn script stretch) now) (SomeStrayedIn script stretch now)) (sym same)
@@ -112,7 +116,8 @@ pub strayed_on : (task t : ℕ) (had gone next may leaves : Bool) (calls : List 
     → k < length calls → op ≡ get_or calls k op → t ≡ task → l ≡ old → m ≡ new
     → ((end : List Entry) → CallsStrayed task gone (drop k calls) old end → CallsStrayed task had calls start end)
     → IsCall t op reply old new → may ≡ may_end gone reply (length l) (length m) → may ≡ true → leaves ≡ is_exit op
-    → next ≡ (gone || leaves) → (end : List Entry) → CallsStrayed task next (drop (k + 1) calls) new end → CallsStrayed task had calls start end
+    → next ≡ (gone || leaves) → (end : List Entry) → CallsStrayed task next (drop (k + 1) calls) new end
+    → CallsStrayed task had calls start end
 strayed_on task t had gone next may leaves calls k op reply start old new l m below is same is_old is_new h call ends good exits gone_next end rest =
     let made : CallMade task gone op old new = made_now task t gone may op reply old new l m same is_old is_new call ends good in
     let after : CallsStrayed task (gone || is_exit op) (drop (k + 1) calls) new end =
@@ -186,7 +191,8 @@ whole script most false seats is had =
 
 -- what comes of the calls that a stretch has comes of the stretch
 pub ran_in : (script : Script) (calls : Stretch) (ending : Ending) (task : ℕ) (gone : Bool) (all before now : List Op) (old new : List Entry)
-    → all ≡ calls_of script.calls.items task → before ≡ take calls.from all → now ≡ calls_in calls all → gone ≡ list_any is_exit before → old ≡ []
+    → all ≡ calls_of script.calls.items task → before ≡ take calls.from all → now ≡ calls_in calls all
+    → gone ≡ list_any is_exit before → old ≡ []
     → EndsBy ending task gone now old new
     → EndsBy ending task (is_gone calls (calls_of script.calls.items task)) (calls_in calls (calls_of script.calls.items task)) [] new
 ran_in script calls ending task gone all before now old new is front mid exits none ran =

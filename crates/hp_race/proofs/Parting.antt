@@ -1,5 +1,6 @@
 -- Parts of a race, one after the other.
-use Rattle.std.proofs.Common.{◌≡◌, ℕ, ◌+◌, List, [], ◌∷◌, ◌++◌, Bool, refl, sym, ap, subst, ◌∙◌, length, map, take, drop, get_or, ◌<◌, ◌≤◌, max, inl, inr, arith}
+use Rattle.std.proofs.Common.{◌≡◌, ℕ, ◌+◌, List, [], ◌∷◌, ◌++◌, Bool, refl, sym, ap, subst, ◌∙◌, length, map, take, drop}
+use Rattle.std.proofs.Common.{get_or, ◌<◌, ◌≤◌, max, inl, inr, arith}
 use Rattle.std.specs.Prelude.{true, false, MatchBool, All}
 use Rattle.std.proofs.lemmas.Bool.{cases_lt, false≢true}
 use Rattle.std.proofs.lemmas.List.{append-nil, drop_all, length-map, take_all, take_more}
@@ -21,7 +22,8 @@ use Rattle.hp_shared.specs.declared.entry.Entry.{Entry}
 use Rattle.hp_shared.specs.declared.fault.CloseFault.{CloseFault}
 use Rattle.hp_shared.specs.declared.fault.CloseFault.TheVariants as fault
 use Rattle.hp_race.specs.Desks.{HasMadeIn, IsNew, SomeStrayedIn}
-use Rattle.hp_race.specs.Parts.{AreParts, GoesOn, IsAgain, IsPart, IsToTheEnd, IsToldInParts, IsToldInPartsAs, IsVerdictOnParts, Part, stretch}
+use Rattle.hp_race.specs.Parts.{AreParts, GoesOn, IsAgain, IsPart, IsToTheEnd, IsToldInParts, IsToldInPartsAs}
+use Rattle.hp_race.specs.Parts.{IsVerdictOnParts, Part, stretch}
 use Rattle.hp_race.specs.Races.{Counts, IsToldOfRefused}
 use Rattle.hp_race.specs.declared.line.Race.{Race}
 use Rattle.hp_race.specs.declared.line.Verdict.{Verdict}

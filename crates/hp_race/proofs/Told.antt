@@ -23,7 +23,8 @@ use Rattle.hp_shared.specs.declared.entry.Entry.{Entry}
 use Rattle.hp_shared.specs.declared.fault.CloseFault.{CloseFault}
 use Rattle.hp_shared.specs.declared.fault.CloseFault.TheVariants as fault
 use Rattle.hp_race.specs.Desks.{HasMade, SomeStrayed}
-use Rattle.hp_race.specs.Races.{Counts, HasClosedAnother, HaveDisagreed, IsKept, IsKeptOf, IsOfScript, IsTold, IsToldAs, IsRace, IsToldOfRefused, IsUnclosed, IsVerdictOn}
+use Rattle.hp_race.specs.Races.{Counts, HasClosedAnother, HaveDisagreed, IsKept, IsKeptOf, IsOfScript, IsTold, IsToldAs}
+use Rattle.hp_race.specs.Races.{IsRace, IsToldOfRefused, IsUnclosed, IsVerdictOn}
 use Rattle.hp_race.specs.declared.line.Race.{Race}
 use Rattle.hp_race.specs.declared.line.Verdict.{Verdict}
 use Rattle.hp_race.specs.declared.line.Verdict.TheVariants.{Closed, Disagree, Astray}

@@ -5,7 +5,8 @@ use Rattle.std.specs.Io.BufRead.{take_through}
 use Rattle.std.proofs.lemmas.Bool.{ne_eqb, eq-eqb}
 use Rattle.std.proofs.lemmas.Grind.{common_steps}
 use Rattle.hp_replay.specs.declared.fault.ReplayFault.{ReplayFault}
-use Rattle.hp_replay.specs.Lines.{Held, IsFirstEnd, Line, take_byte, next_byte, end_line, unless_fault, held_after, lines_after, line_at, listed}
+use Rattle.hp_replay.specs.Lines.{Held, IsFirstEnd, Line, take_byte, next_byte, end_line, unless_fault, held_after}
+use Rattle.hp_replay.specs.Lines.{lines_after, line_at, listed}
 use Rattle.hp_replay.proofs.Feeding.{turns, ends}
 
 -- what is held once the line is taken

@@ -9,7 +9,8 @@ use Rattle.hp_machine.specs.declared.outcome.Outcome.{Outcome}
 use Rattle.hp_machine.specs.Text.{outcome_text, life_word}
 use Rattle.hp_core.specs.Runs.{Row, IsOpening}
 use Rattle.hp_core.specs.State.{CoreState}
-use Rattle.hp_core.specs.Readers.{config_of, free_of, resv_of, used_of, quota_of, calls_of, size_of, reserved_of, regions_of, pages_of, changes_of}
+use Rattle.hp_core.specs.Readers.{config_of, free_of, resv_of, used_of, quota_of, calls_of, size_of, reserved_of, regions_of}
+use Rattle.hp_core.specs.Readers.{pages_of, changes_of}
 use Rattle.hp_core.specs.Readers.{spare_of, life_of, mappings_of, entries_of}
 
 -- the events, one after the other, have these outcomes and lead from old to new

@@ -30,7 +30,8 @@ use Rattle.hugepool.specs.declared.program.Stop.TheVariants as stop
 use Rattle.hugepool.proofs.Buffered.{unbuffered}
 
 -- a fault of writing tells nothing of the bytes that were read
-pub no_script_fault : (from : Option (List ℕ)) (fault : ReplayFault) → IsWriteFault fault → IfSome from (λ bytes. HasScriptFault bytes fault)
+pub no_script_fault : (from : Option (List ℕ)) (fault : ReplayFault) → IsWriteFault fault
+    → IfSome from (λ bytes. HasScriptFault bytes fault)
 no_script_fault None fault is = tt
 no_script_fault (Some bytes) BadHeader is = absurd is
 no_script_fault (Some bytes) (BadLine n) is = absurd is
@@ -159,7 +160,8 @@ reached P Q (Err fault) f done = tt
 
 pub answered_explore : {E : Type 0} (e : Exploration) (from to : Option (List ℕ)) (old new : Bool) (start before mid after : Option (List ℕ))
     (explored : Result Bool ReplayFault) (flushed : Result (Unit {0}) E) (told : Result (Unit {0}) Stop) → start ≡ before
-    → IfOk explored (λ finished. Explores e finished from to start mid) → IfErr explored (λ fault. IfSome from (λ bytes. HasScriptFault bytes fault))
+    → IfOk explored (λ finished. Explores e finished from to start mid)
+    → IfErr explored (λ fault. IfSome from (λ bytes. HasScriptFault bytes fault))
     → TellsReads explored old new → Keeps mid after → OnErr flushed (told ≡ Err (stop.Replay Write))
     → OnOk flushed (IfErr explored (λ fault. told ≡ Err (stop.Replay fault))) → OnOk flushed (explored ≡ Ok true → told ≡ Ok tt)
     → OnOk flushed (explored ≡ Ok false → told ≡ Err stop.Unfinished) → AnsweredExplore e told from to old new before (Some after)
@@ -189,7 +191,8 @@ done_by (Ok x) (Ok y) p f = f p
 done_by (Ok x) (Err e) p f = tt
 done_by (Err e) s p f = tt
 
-pub done_flushed : {A B E F P Q : Type 0} (r : Result A E) (s : Result B F) (failed : Bool) (left : List ℕ) → OnOk r P → OnOk r (failed ≡ false)
+pub done_flushed : {A B E F P Q : Type 0} (r : Result A E) (s : Result B F) (failed : Bool) (left : List ℕ) → OnOk r P
+    → OnOk r (failed ≡ false)
     → OnOk s (failed ≡ false → left ≡ []) → (left ≡ [] → P → Q) → OnOk r (OnOk s Q)
 done_flushed (Ok x) (Ok y) failed left p good empty f = f (empty good) p
 done_flushed (Ok x) (Err e) failed left p good empty f = tt
@@ -202,7 +205,8 @@ on_ok_then (Err e) a b c same is = tt
 -- a script was read, and its lines written
 pub explores : (e : Exploration) (from to before after : Option (List ℕ)) (script : Script) (explored : Result Bool ReplayFault)
     → ReadsTrace from to (sizes script.config) (map begin_of script.calls.items)
-    → IfOk explored (λ finished. WroteRuns script e finished before after) → IfOk explored (λ finished. Explores e finished from to before after)
+    → IfOk explored (λ finished. WroteRuns script e finished before after)
+    → IfOk explored (λ finished. Explores e finished from to before after)
 explores e from to before after script (Ok finished) reads runs = record { script = script; reads = reads; runs = runs }
 explores e from to before after script (Err fault) reads runs = tt
 

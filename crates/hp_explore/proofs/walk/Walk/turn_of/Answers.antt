@@ -9,8 +9,16 @@ use Rattle.hp_base.specs.declared.event.Event.{Event}
 use Rattle.hp_explore.specs.Passing.{task_may_pass}
 use Rattle.hp_explore.proofs.Others.{all_can, at_index, list_stays, long_after, of_choice}
 use Rattle.hp_explore.proofs.Phases.{holding_stays}
+use Rattle.hp_explore.proofs.Runnable.{no_more_than}
 use Rattle.hp_explore.proofs.walk.Walk.turn_of.Goals as goal
 use Rattle.hp_explore.proofs.walk.Walk.turn_of.Goals.{then-may_pass+in_ok-list_runnable, else-may_pass+else-not-can_turn}
+
+-- no more tasks than 64
+pub overflow_cast-place : goal.overflow_cast-place
+overflow_cast-place c =
+    let few = no_more_than c.args.plan.now c.args.self.now (length c.args.self.now.made) c.args.tasks.now.items c.requires.runnable in
+    let seen = ap (λ (x : World). length x.made) c.self.view_is in
+    omega (arith, few, seen, c.self.invariant.few, c.len.ensures)
 
 pub returns-clause-runnable : goal.returns-clause-runnable
 returns-clause-runnable c =
