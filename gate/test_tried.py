@@ -13,13 +13,42 @@ CRATES = ("alone", "high", "low")
 ALL = {f"{crate}/{edit}" for crate in CRATES for edit in ("one", "two")}
 
 
+# a crate's source: a function, a constant, one that is computed when it is compiled, and one whose result's type its body tells
+SOURCE = """const COUNT: u32 = 1;
+
+pub fn first(of: u32) -> u32
+    ensures { result ≡ of }
+{
+    of + 0
+}
+
+pub const fn second() -> u32 {
+    2
+}
+
+pub fn third() -> impl Iterator<Item = u32>
+    ensures { result ≡ [] }
+{
+    empty()
+}
+"""
+
+
 def repository(top: Path) -> Path:
-    """Three crates, of which one stands on another, with two edits each."""
+    """Three crates, of which one stands on another and names one of its lemmas, with two edits each."""
     (top / "gate").mkdir()
     (top / "crates.txt").write_text("low:\nhigh: low\nalone: thiserror\n")
     for name in CRATES:
-        for file in ("src/one.rt", "specs/one.antt", "proofs/one.antt", "edits/one.edit", "must-fail/two.edit"):
+        change(top, f"crates/{name}/src/one.rt", SOURCE)
+        for file in ("specs/one.antt", "edits/one.edit", "must-fail/two.edit"):
             change(top, f"crates/{name}/{file}", f"{name} {file}\n")
+    change(top, "crates/low/proofs/Deep/Last.antt", "last : none\n")
+    change(top, "crates/low/proofs/Next.antt", "use Rattle.low.proofs.Deep.Last.{last}\n")
+    change(top, "crates/low/proofs/Own.antt", "own : none\n")
+    change(top, "crates/low/proofs/Told.antt", "told : none\n")
+    change(top, "crates/low/proofs/first/Answers.antt", "use Rattle.low.proofs.Own.{own}\n")
+    change(top, "crates/high/proofs/first/Answers.antt", "use Rattle.low.proofs.Next.{next}\n")
+    change(top, "crates/high/src/two.rt", "#[tactic(auto, using(low::proofs::Told::told))]\n")
     return top
 
 
@@ -42,6 +71,12 @@ def change(top: Path, path: str, text: str) -> None:
     (top / path).write_text(text)
 
 
+def replace(top: Path, path: str, old: str, new: str) -> None:
+    text = (top / path).read_text()
+    assert text.count(old) == 1, path
+    (top / path).write_text(text.replace(old, new))
+
+
 def of(*crates: str) -> set[str]:
     """All edits of these crates."""
     return {it for it in ALL if it.partition("/")[0] in crates}
@@ -50,8 +85,19 @@ def of(*crates: str) -> set[str]:
 # what changes, and which edits are due then
 CHANGES = [
     (lambda top: None, set()),
-    (lambda top: change(top, "crates/low/src/one.rt", "another text\n"), of("low", "high")),
-    (lambda top: change(top, "crates/low/proofs/two.antt", ""), of("low", "high")),
+    (lambda top: replace(top, "crates/low/src/one.rt", "COUNT: u32 = 1", "COUNT: u32 = 2"), of("low", "high")),
+    (lambda top: replace(top, "crates/low/src/one.rt", "result ≡ of", "result ≡ 0"), of("low", "high")),
+    (lambda top: replace(top, "crates/low/src/one.rt", "of + 0", "of"), of("low")),
+    (lambda top: replace(top, "crates/low/src/one.rt", "    2\n", "    3\n"), of("low", "high")),
+    (lambda top: replace(top, "crates/low/src/one.rt", "empty()", "once(1)"), of("low", "high")),
+    (lambda top: replace(top, "crates/high/src/one.rt", "of + 0", "of"), of("high")),
+    (lambda top: change(top, "crates/low/specs/two.antt", ""), of("low", "high")),
+    (lambda top: change(top, "crates/low/proofs/two.antt", ""), of("low")),
+    (lambda top: change(top, "crates/low/proofs/Own.antt", "own : ⊤\n"), of("low")),
+    (lambda top: change(top, "crates/low/proofs/first/Answers.antt", "another proof\n"), of("low")),
+    (lambda top: change(top, "crates/low/proofs/Next.antt", "next : none\n"), of("low", "high")),
+    (lambda top: change(top, "crates/low/proofs/Deep/Last.antt", "last : ⊤\n"), of("low", "high")),
+    (lambda top: change(top, "crates/low/proofs/Told.antt", "told : ⊤\n"), of("low", "high")),
     (lambda top: change(top, "crates/low/edits/three.edit", "an edit more\n"), {"low/three"}),
     (lambda top: change(top, "crates/high/must-fail/two.edit", "another edit\n"), {"high/two"}),
     (lambda top: (top / "crates/high/must-fail/two.edit").rename(top / "crates/high/edits/two.edit"), {"high/two"}),

@@ -1,8 +1,9 @@
 """Which edits are due: those whose check would read anything else than when they were refused.
 
-What becomes of an edit is decided by what its check reads: the texts of the crate and of those below it, the edit, and the logic
-in which the toolchain proves. The file tried.txt beside this one has a line for each crate: its name, a hash of all that but the
-edit, and a hash of each edit that the prover refused then.
+What becomes of an edit is decided by what its check reads: the texts of the crate, what it sees of those below it, the edit, and
+the logic in which the toolchain proves. Of a crate below, a check sees types, contracts and definitions, and the lemmas that are
+named; neither the bodies of functions nor their proofs. The file tried.txt beside this one has a line for each crate: its name, a
+hash of all that but the edit, and a hash of each edit that the prover refused then.
 """
 from __future__ import annotations
 
@@ -13,6 +14,7 @@ from dataclasses import dataclass
 from pathlib import Path
 from typing import Iterable
 
+import source
 from edit import PARTS
 from scratch import below, crates_of
 
@@ -21,6 +23,9 @@ RECORD = Path("gate") / "tried.txt"
 TURN = 60
 # of the hash of an edit so many digits are kept: it is compared with those of one crate
 DIGITS = 12
+# a module of proofs that a text names, and a lemma in one that a tactic names
+LEMMAS = re.compile(r"\bRattle\.(\w+)\.proofs\.([\w.+-]+)")
+OF_TACTICS = re.compile(r"\b(\w+)::proofs::([\w:]+)::")
 
 
 @dataclass(frozen=True)
@@ -43,11 +48,54 @@ def toolchain() -> str:
     return logic_of(subprocess.run(["rt", "--version"], stdin=subprocess.DEVNULL, stdout=subprocess.PIPE, text=True, check=True).stdout)
 
 
+def files_of(crate: Path, parts: Iterable[str]) -> list[Path]:
+    """The files that a check of the crate reads, in these folders."""
+    return sorted(it for part in parts for it in (crate / part).rglob("*") if it.is_file())
+
+
+def named(crate: Path, file: Path, text: bytes) -> bytes:
+    """A file's text, with its name and its length before it."""
+    return f"{crate.name}/{file.relative_to(crate)} {len(text)}\n".encode() + text
+
+
 def texts_of(crate: Path) -> bytes:
     """The names and texts of all files that a check of the crate reads."""
-    files = sorted(it for folder in PARTS for it in (crate / folder).rglob("*") if it.is_file())
-    texts = ((it.relative_to(crate), it.read_bytes()) for it in files)
-    return b"".join(f"{crate.name}/{name} {len(text)}\n".encode() + text for name, text in texts)
+    return b"".join(named(crate, it, it.read_bytes()) for it in files_of(crate, PARTS))
+
+
+def without_bodies(path: str, text: str) -> str:
+    """A source file without what stands in its functions. Those that are computed when it is compiled keep it, and those whose body
+    says of which type the result is."""
+    lines = text.split("\n")
+    for _, first, last in reversed(source.functions(path, text)):
+        begins = source.body_of(lines, first, last)
+        head = " ".join(lines[first:begins + 1])
+        if lines[begins].endswith("{") and not re.search(r"\bconst fn\b|-> .*\bimpl\b", head):
+            del lines[begins + 1:last]
+    return "\n".join(lines)
+
+
+def seen_of(crate: Path) -> bytes:
+    """What the checks of the crates above see of a crate, whatever they name: its sources without bodies, and its definitions."""
+    said = b"".join(named(crate, it, it.read_bytes()) for it in files_of(crate, ["specs"]))
+    for it in files_of(crate, ["src"]):
+        path = str(it.relative_to(crate))
+        said += named(crate, it, without_bodies(path, it.read_text(encoding="utf-8")).encode())
+    return said
+
+
+def lemmas_named(top: Path, names: Iterable[str], text: bytes) -> dict[Path, bytes]:
+    """The files of lemmas of these crates that a text names, and those that they name in their turn."""
+    known, found, left = set(names), {}, [text]
+    while left:
+        text = left.pop().decode()
+        for crate, module in {*LEMMAS.findall(text), *OF_TACTICS.findall(text)}:
+            path = [it for it in re.split(r"[.:]+", module) if it]
+            file = (top / "crates" / crate / "proofs").joinpath(*path).with_suffix(".antt")
+            if crate in known and file not in found and file.is_file():
+                found[file] = file.read_bytes()
+                left.append(found[file])
+    return found
 
 
 def edits_of(crate: Path, folders: Iterable[str]) -> dict[str, str]:
@@ -60,11 +108,14 @@ def edits_of(crate: Path, folders: Iterable[str]) -> dict[str, str]:
 def marks_of(top: Path, folders: Iterable[str], told: str) -> dict[str, Mark]:
     """The mark of each crate, where its edits stand in these folders."""
     crates, marks = crates_of(top), {}
-    texts = {name: texts_of(top / "crates" / name) for name in crates}
+    seen = {name: seen_of(top / "crates" / name) for name in crates}
     for name in crates:
+        low, text = below(name, crates), texts_of(top / "crates" / name)
         said = hashlib.sha256(told.encode())
-        for it in sorted({name, *below(name, crates)}):
-            said.update(f"{it}: {' '.join(crates[it])}\n".encode() + texts[it])
+        for it in sorted({name, *low}):
+            said.update(f"{it}: {' '.join(crates[it])}\n".encode() + (text if it == name else seen[it]))
+        for file, lemmas in sorted(lemmas_named(top, low, text).items()):
+            said.update(f"{file.relative_to(top)} {len(lemmas)}\n".encode() + lemmas)
         marks[name] = Mark(said.hexdigest(), edits_of(top / "crates" / name, folders))
     return marks
 
