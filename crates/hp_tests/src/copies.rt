@@ -1,20 +1,10 @@
 //! Copies of a pool beside their source.
+use crate::calls::{call, happens};
 use hp_base::{Answer, Config, Event, File, Index, Op, Task, Vpn};
-use hp_core::{Core, Life, Outcome};
+use hp_core::{Core, Life, Tally};
 use std::alloc::{AllocError, Global};
 use std::process::Abort;
 use std::test::Fail;
-
-// Begins a call and steps it until it ends, within 64 steps.
-fn call(core: &mut Core, task: Task, op: Op) -> Result<Option<Answer>, AllocError> {
-    core.step(Event::Begin(task, op))?;
-    for _ in 0..64 {
-        if let Outcome::Ended(answer) = core.step(Event::Step(task, true))? {
-            return Ok(Some(answer));
-        }
-    }
-    Ok(None)
-}
 
 // Of six frames two are retired, a task has stored to one of two pages that it has mapped, another has none left for its
 // own map and is dead.
@@ -23,7 +13,7 @@ fn some_calls(alloc: Global) -> Result<Core, Fail> {
     let (one, two) = (Task::new(1), Task::new(2));
     // The checker of borrows asks for a mention of the type that an outcome may hold.
     let _none: Option<Answer> = None;
-    core.step(Event::Resize(4))?;
+    happens(&mut core, Event::Resize(4))?;
     let (file, other) = (File::new(0), File::new(1));
     let from = Index::new(1);
     let vpn = Vpn::new(1);
@@ -42,19 +32,19 @@ fn some_calls(alloc: Global) -> Result<Core, Fail> {
     Ok(core)
 }
 
-// What the readers of the whole pool tell.
+// What the readers of the whole pool tell: its tally and its sizes.
+fn sizes(core: &Core) -> (Tally, Config) {
+    (core.tally(), core.config())
+}
+
+// And its other numbers.
+fn numbers(core: &Core) -> (u32, u32, Option<u32>, u32) {
+    (core.frames(), core.used(), core.quota(), core.calls())
+}
+
 fn compare(rt: &impl Abort, copy: &Core, source: &Core) {
-    assert_eq!(rt; copy.tally(), source.tally());
-    assert_eq!(rt; copy.config(), source.config());
-    assert_eq!(rt;
-        (copy.frames(), copy.used(), copy.quota(), copy.calls()),
-        (
-            source.frames(),
-            source.used(),
-            source.quota(),
-            source.calls()
-        )
-    );
+    assert_eq!(rt; sizes(copy), sizes(source));
+    assert_eq!(rt; numbers(copy), numbers(source));
 }
 
 #[test]

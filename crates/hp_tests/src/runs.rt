@@ -1,4 +1,5 @@
 //! Runs that no clause says: that ample memory meets no want of it, and what the readers tell then.
+use crate::calls::{call, happens};
 use crate::pool::new_pool;
 use hp_base::{Answer, Config, Event, File, Frame, Index, Op, Task, Vpn};
 use hp_core::{Core, Life, Outcome, Phase, Picture, Refusal, RunFault, Tally, audit};
@@ -111,11 +112,6 @@ fn a_second_map_waits_for_the_first(rt: HostRuntime) -> Result<(), Fail> {
     Ok(())
 }
 
-// One event. The tests ask for what comes of it, and not for its row.
-fn happens(core: &mut Core, event: Event) -> Result<Outcome, AllocError> {
-    core.step(event)
-}
-
 #[test]
 fn a_second_map_is_blocked_by_the_first(rt: HostRuntime) -> Result<(), Fail> {
     // Names the type inside `Outcome`, which the borrow checker's part asks for.
@@ -171,17 +167,6 @@ fn events_that_change_something_are_not(rt: HostRuntime) -> Result<(), Fail> {
         assert_eq!(rt; held_back(&core, event), None);
     }
     Ok(())
-}
-
-// Begins a call and steps it until it ends, within 32 steps.
-fn call(core: &mut Core, task: Task, op: Op) -> Result<Option<Answer>, AllocError> {
-    happens(core, Event::Begin(task, op))?;
-    for _ in 0..32 {
-        if let Outcome::Ended(answer) = happens(core, Event::Step(task, true))? {
-            return Ok(Some(answer));
-        }
-    }
-    Ok(None)
 }
 
 // In a pool of one frame a task maps the page of file 0 and stores a word to it: what each call ends with.
