@@ -1,8 +1,6 @@
 //! Tests of `hugepool draw`, over fake streams.
-use crate::explaining_tests::{Cut, Narrow, TRACE};
-use crate::program::program;
-use crate::tests::told;
-use hp_replay::Watched;
+use crate::explaining_tests::{TRACE, fails_to_read, writes_a_front};
+use crate::tests::{Fault, fails, told};
 
 const WORDS: [&str; 2] = ["hugepool", "draw"];
 
@@ -35,17 +33,19 @@ fn a_trace_is_drawn(rt: HostRuntime) {
 /// The whole trace is read before anything is written.
 #[test]
 fn a_bad_line_is_told_before_any_picture(rt: HostRuntime) {
-    for (trace, fault) in [
+    for (trace, told) in [
         (
             "pool 1 1 1 1\nstep 1\nstep 01\n",
             "hugepool: line 3 is not allowed here\n",
         ),
         ("", "hugepool: line 1 is not a pool header\n"),
     ] {
-        let (status, out, faults) = told(&rt, rt.alloc(), &WORDS, trace);
-        assert_eq!(rt; status, 1);
-        assert!(rt; out.is_empty());
-        assert_eq!(rt; faults.as_slice(), fault.as_bytes());
+        let fault = Fault {
+            status: 1,
+            out: "",
+            told,
+        };
+        fails(&rt, rt.alloc(), &WORDS, trace, &fault);
     }
 }
 
@@ -67,35 +67,11 @@ fn help_of_draw_is_told(rt: HostRuntime) {
 fn a_failed_write_leaves_a_front_of_the_picture(rt: HostRuntime) {
     let (_status, whole, _faults) = told(&rt, rt.alloc(), &WORDS, TRACE);
     for room in [0, 1, 100, 4000, whole.len().saturating_sub(1)] {
-        let mut out = Narrow {
-            taken: Vec::new(rt.alloc()),
-            room,
-        };
-        let mut faults = Vec::new(rt.alloc());
-        let mut bytes = TRACE.as_bytes();
-        let (status, _) = program(&rt, rt.alloc(), &WORDS, &mut bytes, &mut out, &mut faults);
-        assert_eq!(rt; status, 1);
-        assert_eq!(rt; out.taken.len(), room);
-        assert!(rt; whole.starts_with(out.taken.as_slice()));
-        assert_eq!(rt; faults.as_slice(), b"hugepool: writing failed\n".as_slice());
+        writes_a_front(&rt, rt.alloc(), &WORDS, whole.as_slice(), room);
     }
 }
 
 #[test]
 fn a_failed_read_is_told_before_any_picture(rt: HostRuntime) {
-    let mut out = Vec::new(rt.alloc());
-    let mut faults = Vec::new(rt.alloc());
-    let (status, _) = program(
-        &rt,
-        rt.alloc(),
-        &WORDS,
-        &mut Watched::new(Cut {
-            bytes: TRACE.as_bytes(),
-        }),
-        &mut out,
-        &mut faults,
-    );
-    assert_eq!(rt; status, 1);
-    assert!(rt; out.is_empty());
-    assert_eq!(rt; faults.as_slice(), b"hugepool: reading failed\n".as_slice());
+    fails_to_read(&rt, rt.alloc(), &WORDS);
 }

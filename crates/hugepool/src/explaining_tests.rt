@@ -1,10 +1,12 @@
 //! Tests of `hugepool explain`, over fake streams.
-use crate::comparing::difference;
-use crate::program::program;
-use crate::tests::told;
+use crate::tests::{Fault, fails, status_of, told, writes};
 use hp_replay::Watched;
+use std::alloc::Global;
 use std::io;
 use std::io::{ErrorKind, Read, Write};
+use std::process::Abort;
+use std::sync::Wait;
+use std::thread::Threads;
 
 const WORDS: [&str; 2] = ["hugepool", "explain"];
 
@@ -29,16 +31,13 @@ task 2 alive mappings 0 entries 0
 
 #[test]
 fn a_trace_is_explained(rt: HostRuntime) {
-    let (status, out, faults) = told(&rt, rt.alloc(), &WORDS, TRACE);
-    assert_eq!(rt; status, 0);
-    assert!(rt; faults.is_empty());
-    assert_eq!(rt; difference(out.as_slice(), TEXT), None);
+    writes(&rt, rt.alloc(), &WORDS, TRACE, TEXT);
 }
 
 /// The whole trace is read before anything is written.
 #[test]
 fn a_bad_line_is_told_before_any_row(rt: HostRuntime) {
-    for (trace, fault) in [
+    for (trace, told) in [
         (
             "pool 1 1 1 1\nstep 1\nstep 01\n",
             "hugepool: line 3 is not allowed here\n",
@@ -49,10 +48,12 @@ fn a_bad_line_is_told_before_any_row(rt: HostRuntime) {
         ),
         ("", "hugepool: line 1 is not a pool header\n"),
     ] {
-        let (status, out, faults) = told(&rt, rt.alloc(), &WORDS, trace);
-        assert_eq!(rt; status, 1);
-        assert!(rt; out.is_empty());
-        assert_eq!(rt; faults.as_slice(), fault.as_bytes());
+        let fault = Fault {
+            status: 1,
+            out: "",
+            told,
+        };
+        fails(&rt, rt.alloc(), &WORDS, trace, &fault);
     }
 }
 
@@ -71,9 +72,9 @@ fn help_of_explain_is_told(rt: HostRuntime) {
 
 /// An output with room for some bytes.
 #[derive(Drop)]
-pub(crate) struct Narrow {
-    pub(crate) taken: Vec<u8>,
-    pub(crate) room: usize,
+struct Narrow {
+    taken: Vec<u8>,
+    room: usize,
 }
 
 impl Write for Narrow {
@@ -94,28 +95,39 @@ impl Write for Narrow {
     }
 }
 
+/// Asserts that an output with so much room takes a front of the whole, and that the fault is told.
+pub(crate) fn writes_a_front<R: Abort + Threads + Wait + Sync>(
+    rt: &R,
+    alloc: Global,
+    words: &[&str],
+    whole: &[u8],
+    room: usize,
+) {
+    let mut out = Narrow {
+        taken: Vec::new(alloc),
+        room,
+    };
+    let mut faults = Vec::new(alloc);
+    let mut bytes = TRACE.as_bytes();
+    let status = status_of(rt, alloc, words, &mut bytes, &mut out, &mut faults);
+    assert_eq!(rt; status, 1);
+    assert_eq!(rt; out.taken.len(), room);
+    assert!(rt; whole.starts_with(out.taken.as_slice()));
+    assert_eq!(rt; faults.as_slice(), b"hugepool: writing failed\n".as_slice());
+}
+
 /// Wherever the output ends, a front of the text is written and the fault is told.
 #[test]
 fn a_failed_write_leaves_a_front(rt: HostRuntime) {
     for room in 0..TEXT.len() {
-        let mut out = Narrow {
-            taken: Vec::new(rt.alloc()),
-            room,
-        };
-        let mut faults = Vec::new(rt.alloc());
-        let mut bytes = TRACE.as_bytes();
-        let (status, _) = program(&rt, rt.alloc(), &WORDS, &mut bytes, &mut out, &mut faults);
-        assert_eq!(rt; status, 1);
-        assert_eq!(rt; out.taken.len(), room);
-        assert!(rt; TEXT.as_bytes().starts_with(out.taken.as_slice()));
-        assert_eq!(rt; faults.as_slice(), b"hugepool: writing failed\n".as_slice());
+        writes_a_front(&rt, rt.alloc(), &WORDS, TEXT.as_bytes(), room);
     }
 }
 
 /// Gives its bytes, and then answers an error.
 #[derive(Drop)]
-pub(crate) struct Cut<'a> {
-    pub(crate) bytes: &'a [u8],
+struct Cut<'a> {
+    bytes: &'a [u8],
 }
 
 impl Read for Cut<'_> {
@@ -131,21 +143,24 @@ impl Read for Cut<'_> {
     }
 }
 
-#[test]
-fn a_failed_read_is_told_before_any_row(rt: HostRuntime) {
-    let mut out = Vec::new(rt.alloc());
-    let mut faults = Vec::new(rt.alloc());
-    let (status, _) = program(
-        &rt,
-        rt.alloc(),
-        &WORDS,
-        &mut Watched::new(Cut {
-            bytes: TRACE.as_bytes(),
-        }),
-        &mut out,
-        &mut faults,
-    );
+/// Asserts that nothing is written where the trace can't be read to its end, and that the fault is told.
+pub(crate) fn fails_to_read<R: Abort + Threads + Wait + Sync>(
+    rt: &R,
+    alloc: Global,
+    words: &[&str],
+) {
+    let mut out = Vec::new(alloc);
+    let mut faults = Vec::new(alloc);
+    let mut reader = Watched::new(Cut {
+        bytes: TRACE.as_bytes(),
+    });
+    let status = status_of(rt, alloc, words, &mut reader, &mut out, &mut faults);
     assert_eq!(rt; status, 1);
     assert!(rt; out.is_empty());
     assert_eq!(rt; faults.as_slice(), b"hugepool: reading failed\n".as_slice());
+}
+
+#[test]
+fn a_failed_read_is_told_before_any_row(rt: HostRuntime) {
+    fails_to_read(&rt, rt.alloc(), &WORDS);
 }

@@ -1,6 +1,5 @@
 //! The words, the lines and the statuses of `hugepool race`.
-use crate::comparing::difference;
-use crate::tests::told;
+use crate::tests::{refuses, told, writes};
 
 const RACE_HELP: &str =
     "Reads a script from standard input, races its tasks in threads, and writes a line for each race
@@ -34,10 +33,8 @@ const MAP: &str = "pool 4 1 4 1\nbegin 1 map 0 0 4\n";
 
 #[test]
 fn help_of_race_is_told(rt: HostRuntime) {
-    let (status, out, faults) = told(&rt, rt.alloc(), &["hugepool", "race", "--help"], "");
-    assert_eq!(rt; status, 0);
-    assert!(rt; faults.is_empty());
-    assert_eq!(rt; difference(out.as_slice(), RACE_HELP), None);
+    let words = &["hugepool", "race", "--help"];
+    writes(&rt, rt.alloc(), words, "", RACE_HELP);
 }
 
 /// A task alone has one race, of eight holds: the begin and seven steps of examples/map-four-of-four.trace.
@@ -47,12 +44,12 @@ fn a_script_is_raced(rt: HostRuntime) {
         ["hugepool", "race", "--times", "2"].as_slice(),
         &["hugepool", "race", "--times=2"],
     ] {
-        let (status, out, faults) = told(&rt, rt.alloc(), words, MAP);
-        assert_eq!(rt; status, 0);
-        assert!(rt; faults.is_empty());
-        assert_eq!(rt;
-            out.as_slice(),
-            b"run 0 closed entries 8 free 4 resv 4\nrun 1 closed entries 8 free 4 resv 4\n".as_slice()
+        writes(
+            &rt,
+            rt.alloc(),
+            words,
+            MAP,
+            "run 0 closed entries 8 free 4 resv 4\nrun 1 closed entries 8 free 4 resv 4\n",
         );
     }
 }
@@ -70,27 +67,21 @@ fn ten_races_where_no_number_is_given(rt: HostRuntime) {
 /// A pool without calls is closed as it was opened.
 #[test]
 fn a_script_without_calls(rt: HostRuntime) {
-    let words = ["hugepool", "race", "--times", "1"];
-    let (status, out, _) = told(&rt, rt.alloc(), &words, "pool 4 1 4 3\n");
-    assert_eq!(rt; status, 0);
-    assert_eq!(rt;
-        out.as_slice(),
-        b"run 0 closed entries 0 free 4 resv 0\n".as_slice()
-    );
+    let words = &["hugepool", "race", "--times", "1"];
+    let line = "run 0 closed entries 0 free 4 resv 0\n";
+    writes(&rt, rt.alloc(), words, "pool 4 1 4 3\n", line);
 }
 
 /// However often its journal is cut, a race of one task alone is the same. The store makes ten entries behind the map's eight.
 #[test]
 fn a_race_is_cut(rt: HostRuntime) {
-    let script = "pool 4 1 4 1\nbegin 1 map 0 0 2\nbegin 1 store 0 41\n";
     for number in ["1", "2", "65536"] {
-        let words = ["hugepool", "race", "--times", "1", "--cut", number];
-        let (status, out, faults) = told(&rt, rt.alloc(), &words, script);
-        assert_eq!(rt; status, 0);
-        assert!(rt; faults.is_empty());
-        assert_eq!(rt;
-            out.as_slice(),
-            b"run 0 closed entries 18 free 3 resv 1\n".as_slice()
+        writes(
+            &rt,
+            rt.alloc(),
+            &["hugepool", "race", "--times", "1", "--cut", number],
+            "pool 4 1 4 1\nbegin 1 map 0 0 2\nbegin 1 store 0 41\n",
+            "run 0 closed entries 18 free 3 resv 1\n",
         );
     }
 }
@@ -99,10 +90,7 @@ fn a_race_is_cut(rt: HostRuntime) {
 fn cuts_out_of_range(rt: HostRuntime) {
     for number in ["0", "65537", "-1", "x"] {
         let words = ["hugepool", "race", "--cut", number];
-        let (status, out, faults) = told(&rt, rt.alloc(), &words, MAP);
-        assert_eq!(rt; status, 2);
-        assert!(rt; out.is_empty());
-        assert!(rt; faults.as_slice().starts_with(b"error: "));
+        refuses(&rt, rt.alloc(), &words, MAP);
     }
 }
 
@@ -111,22 +99,19 @@ fn cuts_out_of_range(rt: HostRuntime) {
 fn times_out_of_range(rt: HostRuntime) {
     for number in ["0", "65537", "-1", "x"] {
         let words = ["hugepool", "race", "--times", number];
-        let (status, out, faults) = told(&rt, rt.alloc(), &words, MAP);
-        assert_eq!(rt; status, 2);
-        assert!(rt; out.is_empty());
-        assert!(rt; faults.as_slice().starts_with(b"error: "));
+        refuses(&rt, rt.alloc(), &words, MAP);
     }
 }
 
 /// The trace of a task alone is that of examples/map-four-of-four.trace.
 #[test]
 fn a_race_is_traced(rt: HostRuntime) {
-    let (status, out, faults) = told(&rt, rt.alloc(), &["hugepool", "race", "--trace"], MAP);
-    assert_eq!(rt; status, 0);
-    assert!(rt; faults.is_empty());
-    assert_eq!(rt;
-        out.as_slice(),
-        b"pool 4 1 4 1\nbegin 1 map 0 0 4\nstep 1\nstep 1\nstep 1\nstep 1\nstep 1\nstep 1\nstep 1\n".as_slice()
+    writes(
+        &rt,
+        rt.alloc(),
+        &["hugepool", "race", "--trace"],
+        MAP,
+        "pool 4 1 4 1\nbegin 1 map 0 0 4\nstep 1\nstep 1\nstep 1\nstep 1\nstep 1\nstep 1\nstep 1\n",
     );
 }
 
@@ -135,9 +120,6 @@ fn a_race_is_traced(rt: HostRuntime) {
 fn races_are_counted_or_traced(rt: HostRuntime) {
     for option in ["--times", "--cut"] {
         let words = ["hugepool", "race", option, "3", "--trace"];
-        let (status, out, faults) = told(&rt, rt.alloc(), &words, MAP);
-        assert_eq!(rt; status, 2);
-        assert!(rt; out.is_empty());
-        assert!(rt; faults.as_slice().starts_with(b"error: "));
+        refuses(&rt, rt.alloc(), &words, MAP);
     }
 }

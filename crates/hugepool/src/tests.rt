@@ -1,13 +1,31 @@
 //! The words, the statuses and the fault lines of the program, over fake streams.
 use crate::comparing::{difference, difference_from_both};
 use crate::program::program;
-use hp_replay::Watched;
-use std::alloc::Global;
+use hp_reasons::Recalls;
+use hp_replay::{Source, Watched};
+use std::alloc::{AllocError, Global};
 use std::io;
 use std::io::{ErrorKind, Read, Write};
+use std::process::Abort;
 use std::sync::Wait;
 use std::test::Fail;
 use std::thread::Threads;
+
+// Each test is proved to be safe. What runs the program and what asserts stand in functions of their own, without contracts,
+// so that a test's proof sees neither what the program promises nor what an assertion does.
+
+/// The status over any streams.
+pub(crate) fn status_of<H: Threads + Wait + Sync, R: Source + Recalls, W: Write + Drop, F: Write>(
+    rt: &H,
+    alloc: Global,
+    words: &[&str],
+    reader: &mut R,
+    out: W,
+    faults: &mut F,
+) -> u8 {
+    let (status, _) = program(rt, alloc, words, reader, out, faults);
+    status
+}
 
 /// The status, the output and the fault lines.
 pub(crate) fn told<R: Threads + Wait + Sync>(
@@ -19,31 +37,96 @@ pub(crate) fn told<R: Threads + Wait + Sync>(
     let mut out = Vec::new(alloc);
     let mut faults = Vec::new(alloc);
     let mut bytes = input.as_bytes();
-    let (status, _) = program(rt, alloc, words, &mut bytes, &mut out, &mut faults);
+    let status = status_of(rt, alloc, words, &mut bytes, &mut out, &mut faults);
     (status, out, faults)
+}
+
+/// Asserts that the program does what was asked, and writes this.
+pub(crate) fn writes<R: Abort + Threads + Wait + Sync>(
+    rt: &R,
+    alloc: Global,
+    words: &[&str],
+    input: &str,
+    wanted: &str,
+) {
+    let (status, out, faults) = told(rt, alloc, words, input);
+    assert_eq!(rt; status, 0);
+    assert!(rt; faults.is_empty());
+    assert_eq!(rt; difference(out.as_slice(), wanted), None);
+}
+
+/// Asserts that it writes these two texts, one after the other.
+fn writes_both<R: Abort + Threads + Wait + Sync>(
+    rt: &R,
+    alloc: Global,
+    words: &[&str],
+    front: &str,
+    back: &str,
+) {
+    let (status, out, faults) = told(rt, alloc, words, "");
+    assert_eq!(rt; status, 0);
+    assert!(rt; faults.is_empty());
+    assert_eq!(rt; difference_from_both(out.as_slice(), front, back), None);
+}
+
+/// What is written before a fault, and what is told of it.
+#[derive(Clone, Copy)]
+pub(crate) struct Fault<'a> {
+    pub(crate) status: u8,
+    pub(crate) out: &'a str,
+    pub(crate) told: &'a str,
+}
+
+/// Asserts that the program ends in this fault.
+pub(crate) fn fails<R: Abort + Threads + Wait + Sync>(
+    rt: &R,
+    alloc: Global,
+    words: &[&str],
+    input: &str,
+    fault: &Fault,
+) {
+    let (status, out, faults) = told(rt, alloc, words, input);
+    assert_eq!(rt; status, fault.status);
+    assert_eq!(rt; difference(out.as_slice(), fault.out), None);
+    assert_eq!(rt; difference(faults.as_slice(), fault.told), None);
+}
+
+/// Asserts that these words are the command line's fault, and nothing is written.
+pub(crate) fn refuses<R: Abort + Threads + Wait + Sync>(
+    rt: &R,
+    alloc: Global,
+    words: &[&str],
+    input: &str,
+) {
+    let (status, out, faults) = told(rt, alloc, words, input);
+    assert_eq!(rt; status, 2);
+    assert!(rt; out.is_empty());
+    assert!(rt; faults.as_slice().starts_with(b"error: "));
 }
 
 #[test]
 fn faults_and_statuses(rt: HostRuntime) {
-    let words = ["hugepool", "replay"];
-    let (status, out, faults) = told(&rt, rt.alloc(), words.as_slice(), "");
-    assert_eq!(rt; status, 1);
-    assert!(rt; out.is_empty());
-    assert_eq!(rt;
-        faults.as_slice(),
-        b"hugepool: line 1 is not a pool header\n".as_slice()
-    );
-    let (status, out, faults) = told(
+    fails(
         &rt,
         rt.alloc(),
-        words.as_slice(),
-        "pool 1 1 1 1\nstep 1\nstep 01\n",
+        &["hugepool", "replay"],
+        "",
+        &Fault {
+            status: 1,
+            out: "",
+            told: "hugepool: line 1 is not a pool header\n",
+        },
     );
-    assert_eq!(rt; status, 1);
-    assert_eq!(rt; out.as_slice(), b"refused idle\n".as_slice());
-    assert_eq!(rt;
-        faults.as_slice(),
-        b"hugepool: line 3 is not allowed here\n".as_slice()
+    fails(
+        &rt,
+        rt.alloc(),
+        &["hugepool", "replay"],
+        "pool 1 1 1 1\nstep 1\nstep 01\n",
+        &Fault {
+            status: 1,
+            out: "refused idle\n",
+            told: "hugepool: line 3 is not allowed here\n",
+        },
     );
 }
 
@@ -123,20 +206,14 @@ Options:
 #[test]
 fn help_is_told(rt: HostRuntime) {
     for word in ["--help", "-h", "help"] {
-        let (status, out, faults) = told(&rt, rt.alloc(), &["hugepool", word], "");
-        assert_eq!(rt; status, 0);
-        assert!(rt; faults.is_empty());
-        assert_eq!(rt; difference_from_both(out.as_slice(), HELP, TRACES), None);
+        writes_both(&rt, rt.alloc(), &["hugepool", word], HELP, TRACES);
     }
 }
 
 #[test]
 fn the_version_is_told(rt: HostRuntime) {
     for word in ["--version", "-V"] {
-        let (status, out, faults) = told(&rt, rt.alloc(), &["hugepool", word], "");
-        assert_eq!(rt; status, 0);
-        assert!(rt; faults.is_empty());
-        assert_eq!(rt; out.as_slice(), b"hugepool 0.1.0\n".as_slice());
+        writes(&rt, rt.alloc(), &["hugepool", word], "", "hugepool 0.1.0\n");
     }
 }
 
@@ -146,22 +223,14 @@ fn help_of_replay_is_told(rt: HostRuntime) {
         ["hugepool", "replay", "--help"],
         ["hugepool", "help", "replay"],
     ] {
-        let (status, out, faults) = told(&rt, rt.alloc(), &words, "");
-        assert_eq!(rt; status, 0);
-        assert!(rt; faults.is_empty());
-        assert_eq!(rt;
-            difference_from_both(out.as_slice(), REPLAY_HELP, TRACES),
-            None
-        );
+        writes_both(&rt, rt.alloc(), &words, REPLAY_HELP, TRACES);
     }
 }
 
 #[test]
 fn help_of_explore_is_told(rt: HostRuntime) {
-    let (status, out, faults) = told(&rt, rt.alloc(), &["hugepool", "explore", "--help"], "");
-    assert_eq!(rt; status, 0);
-    assert!(rt; faults.is_empty());
-    assert_eq!(rt; difference(out.as_slice(), EXPLORE_HELP), None);
+    let words = &["hugepool", "explore", "--help"];
+    writes(&rt, rt.alloc(), words, "", EXPLORE_HELP);
 }
 
 const MAP: &str = "pool 4 1 4 1\nbegin 1 map 0 0 4\n";
@@ -172,68 +241,60 @@ fn a_script_is_explored(rt: HostRuntime) {
         ["hugepool", "explore", "--runs", "2"].as_slice(),
         &["hugepool", "explore", "--runs=2", "--audit"],
     ] {
-        let (status, out, faults) = told(&rt, rt.alloc(), words, MAP);
-        assert_eq!(rt; status, 0);
-        assert!(rt; faults.is_empty());
-        assert_eq!(rt;
-            out.as_slice(),
-            b"run 0 finished turns 8 free 4 resv 4\nrun 1 finished turns 8 free 4 resv 4\n".as_slice()
+        writes(
+            &rt,
+            rt.alloc(),
+            words,
+            MAP,
+            "run 0 finished turns 8 free 4 resv 4\nrun 1 finished turns 8 free 4 resv 4\n",
         );
     }
 }
 
 #[test]
 fn a_killed_script_is_explored(rt: HostRuntime) {
-    let (status, out, _) = told(
+    writes(
         &rt,
         rt.alloc(),
         &[
             "hugepool", "explore", "--seed", "1", "--runs", "1", "--kill", "1000",
         ],
         "pool 4 1 4 1\nbegin 1 map 0 0 4\nbegin 1 exit\n",
-    );
-    assert_eq!(rt; status, 0);
-    assert_eq!(rt;
-        out.as_slice(),
-        b"run 0 finished turns 5 free 4 resv 0\n".as_slice()
+        "run 0 finished turns 5 free 4 resv 0\n",
     );
 }
 
 #[test]
 fn a_schedule_is_written(rt: HostRuntime) {
-    let words = ["hugepool", "schedule", "--deny", "1000"];
-    let (status, out, faults) = told(&rt, rt.alloc(), &words, MAP);
-    assert_eq!(rt; status, 0);
-    assert!(rt; faults.is_empty());
-    assert_eq!(rt;
-        out.as_slice(),
-        b"pool 4 1 4 1\nbegin 1 map 0 0 4\ndeny 1\ndeny 1\ndeny 1\n".as_slice()
+    writes(
+        &rt,
+        rt.alloc(),
+        &["hugepool", "schedule", "--deny", "1000"],
+        MAP,
+        "pool 4 1 4 1\nbegin 1 map 0 0 4\ndeny 1\ndeny 1\ndeny 1\n",
     );
 }
 
 #[test]
 fn a_trace_is_checked(rt: HostRuntime) {
-    let words = ["hugepool", "check"];
-    let (status, out, faults) = told(&rt, rt.alloc(), &words, "pool 1 1 1 1\nstep 1\ndeny 1\n");
-    assert_eq!(rt; status, 0);
-    assert!(rt; faults.is_empty());
-    assert_eq!(rt; out.as_slice(), b"events 2\n".as_slice());
+    let words = &["hugepool", "check"];
+    let trace = "pool 1 1 1 1\nstep 1\ndeny 1\n";
+    writes(&rt, rt.alloc(), words, trace, "events 2\n");
 }
 
 #[test]
 fn bad_lines_of_scripts_are_told(rt: HostRuntime) {
     for word in ["explore", "schedule", "race"] {
-        let (status, out, faults) = told(
+        fails(
             &rt,
             rt.alloc(),
             &["hugepool", word],
             "pool 4 1 4 1\nstep 1\n",
-        );
-        assert_eq!(rt; status, 1);
-        assert!(rt; out.is_empty());
-        assert_eq!(rt;
-            faults.as_slice(),
-            b"hugepool: line 2 is not allowed here\n".as_slice()
+            &Fault {
+                status: 1,
+                out: "",
+                told: "hugepool: line 2 is not allowed here\n",
+            },
         );
     }
 }
@@ -250,26 +311,24 @@ fn numbers_out_of_range(rt: HostRuntime) {
         ("--kill", "1001"),
         ("--kill", "x"),
     ] {
-        let (status, out, faults) = told(
-            &rt,
-            rt.alloc(),
-            &["hugepool", "explore", option, number],
-            MAP,
-        );
-        assert_eq!(rt; status, 2);
-        assert!(rt; out.is_empty());
-        assert!(rt; faults.as_slice().starts_with(b"error: "));
+        let words = ["hugepool", "explore", option, number];
+        refuses(&rt, rt.alloc(), &words, MAP);
     }
 }
 
-/// The status and the fault lines of words that ask for nothing; nothing is written then.
-fn refused<R: Threads + Wait + Sync>(
+/// Asserts that these words ask for nothing, and that this is told of them.
+fn asks_for_nothing<R: Abort + Threads + Wait + Sync>(
     rt: &R,
     alloc: Global,
     words: &[&str],
-) -> Option<(u8, Vec<u8>)> {
-    let (status, out, faults) = told(rt, alloc, words, "pool 1 1 1 1\n");
-    out.is_empty().then_some((status, faults))
+    told: &str,
+) {
+    let fault = Fault {
+        status: 2,
+        out: "",
+        told,
+    };
+    fails(rt, alloc, words, "pool 1 1 1 1\n", &fault);
 }
 
 #[test]
@@ -281,12 +340,7 @@ Usage: hugepool <COMMAND>
 
 For more information, try '--help'.
 ";
-    let (status, faults) = refused(&rt, rt.alloc(), &["hugepool"]).unwrap_or((
-        0,
-        Vec::new(rt.alloc()),
-    ));
-    assert_eq!(rt; status, 2);
-    assert_eq!(rt; difference(faults.as_slice(), text), None);
+    asks_for_nothing(&rt, rt.alloc(), &["hugepool"], text);
 }
 
 #[test]
@@ -297,12 +351,7 @@ Usage: hugepool <COMMAND>
 
 For more information, try '--help'.
 ";
-    let (status, faults) = refused(&rt, rt.alloc(), &["hugepool", "42"]).unwrap_or((
-        0,
-        Vec::new(rt.alloc()),
-    ));
-    assert_eq!(rt; status, 2);
-    assert_eq!(rt; difference(faults.as_slice(), text), None);
+    asks_for_nothing(&rt, rt.alloc(), &["hugepool", "42"], text);
 }
 
 #[test]
@@ -315,12 +364,7 @@ Usage: hugepool <COMMAND>
 
 For more information, try '--help'.
 ";
-    let (status, faults) = refused(&rt, rt.alloc(), &["hugepool", "repay"]).unwrap_or((
-        0,
-        Vec::new(rt.alloc()),
-    ));
-    assert_eq!(rt; status, 2);
-    assert_eq!(rt; difference(faults.as_slice(), text), None);
+    asks_for_nothing(&rt, rt.alloc(), &["hugepool", "repay"], text);
 }
 
 /// A file that is named, where it has to be the standard input: the usage tells so.
@@ -332,28 +376,21 @@ Usage: hugepool replay < FILE
 
 For more information, try '--help'.
 ";
-    let words = ["hugepool", "replay", "FILE"];
-    let (status, faults) = refused(&rt, rt.alloc(), &words).unwrap_or((0, Vec::new(rt.alloc())));
-    assert_eq!(rt; status, 2);
-    assert_eq!(rt; difference(faults.as_slice(), text), None);
+    asks_for_nothing(&rt, rt.alloc(), &["hugepool", "replay", "FILE"], text);
 }
 
 /// A call that ends without a frame is an outcome as any other: the program did what was asked.
 #[test]
 fn map_five_of_four(rt: HostRuntime) {
-    let (status, out, faults) = told(
+    writes(
         &rt,
         rt.alloc(),
-        ["hugepool", "replay"].as_slice(),
+        &["hugepool", "replay"],
         "pool 4 1 4 1\nbegin 1 map 0 0 5\nstep 1\nstep 1\nstep 1\nstep 1\nstep 1\nstep 1\n",
-    );
-    assert_eq!(rt; status, 0);
-    assert!(rt; faults.is_empty());
-    let text =
         "begun\nmoved room\nmoved missing\nmoved changed\nmoved abort\nmoved leave\nended noframe\n\
         free 4 resv 0 calls 0\nfile 0 size 0 reserved 0 regions 0 pages 0 changes 0 spare 1\n\
-        task 1 alive mappings 0 entries 0\n";
-    assert_eq!(rt; difference(out.as_slice(), text), None);
+        task 1 alive mappings 0 entries 0\n",
+    );
 }
 
 /// An output with room for some bytes, whose flush may fail.
@@ -386,13 +423,13 @@ impl Write for Output {
     }
 }
 
-/// The status, and the fault lines, where the output is such a one, and what that takes.
+/// The status where the output is such a one, with what that takes and the fault lines.
 fn told_to<R: Threads + Wait + Sync>(
     rt: &R,
     alloc: Global,
     words: &[&str],
-    room: usize,
-    flushes: bool,
+    input: &str,
+    (room, flushes): (usize, bool),
 ) -> (u8, Vec<u8>, Vec<u8>) {
     let mut out = Output {
         taken: Vec::new(alloc),
@@ -400,60 +437,65 @@ fn told_to<R: Threads + Wait + Sync>(
         flushes,
     };
     let mut faults = Vec::new(alloc);
-    let mut bytes = b"pool 1 1 1 1\nstep 1\n".as_slice();
-    let (status, _) = program(rt, alloc, words, &mut bytes, &mut out, &mut faults);
+    let mut bytes = input.as_bytes();
+    let status = status_of(rt, alloc, words, &mut bytes, &mut out, &mut faults);
     (status, out.taken, faults)
 }
 
 const WRITING: &[u8] = b"hugepool: writing failed\n";
 
+/// Asserts that the program tells of such an output that writing failed. Answers what it takes.
+fn fails_to_write<R: Abort + Threads + Wait + Sync>(
+    rt: &R,
+    alloc: Global,
+    words: &[&str],
+    output: (usize, bool),
+) -> Vec<u8> {
+    let (status, out, faults) = told_to(rt, alloc, words, "pool 1 1 1 1\nstep 1\n", output);
+    assert_eq!(rt; status, 1);
+    assert_eq!(rt; faults.as_slice(), WRITING);
+    out
+}
+
 #[test]
 fn a_failed_write_is_told(rt: HostRuntime) {
     for room in [0, 5] {
-        let (status, out, faults) = told_to(&rt, rt.alloc(), &["hugepool", "replay"], room, true);
-        assert_eq!(rt; status, 1);
+        let out = fails_to_write(&rt, rt.alloc(), &["hugepool", "replay"], (room, true));
         assert_eq!(rt; out.len(), room);
-        assert_eq!(rt; faults.as_slice(), WRITING);
     }
 }
 
 #[test]
 fn a_failed_flush_is_a_failed_write(rt: HostRuntime) {
-    let words = ["hugepool", "replay"];
-    let (status, out, faults) = told_to(&rt, rt.alloc(), &words, 1000, false);
-    assert_eq!(rt; status, 1);
+    let words = &["hugepool", "replay"];
+    let out = fails_to_write(&rt, rt.alloc(), words, (1000, false));
     assert!(rt; out.starts_with(b"refused idle\nfree 1 resv 0 calls 0\n"));
-    assert_eq!(rt; faults.as_slice(), WRITING);
-    let (status, _, faults) = told_to(&rt, rt.alloc(), &words, 1000, true);
+    let input = "pool 1 1 1 1\nstep 1\n";
+    let (status, _, faults) = told_to(&rt, rt.alloc(), words, input, (1000, true));
     assert_eq!(rt; status, 0);
     assert!(rt; faults.is_empty());
+}
+
+/// Asserts what is told of a bad line to an output whose flush may fail.
+fn tells_of_a_bad_line<R: Abort + Threads + Wait + Sync>(
+    rt: &R,
+    alloc: Global,
+    flushes: bool,
+    told: &[u8],
+) {
+    let (words, input) = (&["hugepool", "replay"], "pool 1 1 1 1\nstep 1\nstep\n");
+    let (status, out, faults) = told_to(rt, alloc, words, input, (1000, flushes));
+    assert_eq!(rt; status, 1);
+    assert_eq!(rt; out.as_slice(), b"refused idle\n".as_slice());
+    assert_eq!(rt; faults.as_slice(), told);
 }
 
 /// Whoever is told of a bad line has all that came before it.
 #[test]
 fn a_failed_flush_is_told_before_a_bad_line(rt: HostRuntime) {
-    for (flushes, told) in [
-        (true, b"hugepool: line 3 is not allowed here\n".as_slice()),
-        (false, WRITING),
-    ] {
-        let mut out = Output {
-            taken: Vec::new(rt.alloc()),
-            room: 1000,
-            flushes,
-        };
-        let mut faults = Vec::new(rt.alloc());
-        let (status, _) = program(
-            &rt,
-            rt.alloc(),
-            &["hugepool", "replay"],
-            &mut b"pool 1 1 1 1\nstep 1\nstep\n".as_slice(),
-            &mut out,
-            &mut faults,
-        );
-        assert_eq!(rt; status, 1);
-        assert_eq!(rt; out.taken.as_slice(), b"refused idle\n".as_slice());
-        assert_eq!(rt; faults.as_slice(), told);
-    }
+    let told = b"hugepool: line 3 is not allowed here\n";
+    tells_of_a_bad_line(&rt, rt.alloc(), true, told);
+    tells_of_a_bad_line(&rt, rt.alloc(), false, WRITING);
 }
 
 /// An output that refuses its first write, and takes all others.
@@ -483,27 +525,28 @@ impl Write for Hiccup {
     }
 }
 
-/// More output than the program's buffer holds, so that it is written before the trace ends.
-#[test]
-fn nothing_is_written_after_a_failed_write(rt: HostRuntime) -> Result<(), Fail> {
-    let mut input = Vec::new(rt.alloc());
+/// A trace of so many lines that the program's buffer doesn't hold what is written for them.
+fn long_trace(alloc: Global) -> Result<Vec<u8>, AllocError> {
+    let mut input = Vec::new(alloc);
     input.extend_from_slice(b"pool 1 1 1 1\n")?;
     for _ in 0..1000 {
         input.extend_from_slice(b"step 1\n")?;
     }
+    Ok(input)
+}
+
+/// More output than the program's buffer holds, so that it is written before the trace ends.
+#[test]
+fn nothing_is_written_after_a_failed_write(rt: HostRuntime) -> Result<(), Fail> {
+    let input = long_trace(rt.alloc())?;
     let mut out = Hiccup {
         taken: Vec::new(rt.alloc()),
         refuses: true,
     };
     let mut faults = Vec::new(rt.alloc());
-    let (status, _) = program(
-        &rt,
-        rt.alloc(),
-        &["hugepool", "replay"],
-        &mut input.as_slice(),
-        &mut out,
-        &mut faults,
-    );
+    let words = &["hugepool", "replay"];
+    let mut bytes = input.as_slice();
+    let status = status_of(&rt, rt.alloc(), words, &mut bytes, &mut out, &mut faults);
     assert_eq!(rt; status, 1);
     assert!(rt; out.taken.is_empty());
     assert_eq!(rt; faults.as_slice(), WRITING);
@@ -512,10 +555,8 @@ fn nothing_is_written_after_a_failed_write(rt: HostRuntime) -> Result<(), Fail> 
 
 #[test]
 fn help_that_is_not_written_is_told(rt: HostRuntime) {
-    for (room, flushes) in [(0, true), (5, true), (4096, false)] {
-        let (status, _, faults) = told_to(&rt, rt.alloc(), &["hugepool", "--help"], room, flushes);
-        assert_eq!(rt; status, 1);
-        assert_eq!(rt; faults.as_slice(), WRITING);
+    for output in [(0, true), (5, true), (4096, false)] {
+        fails_to_write(&rt, rt.alloc(), &["hugepool", "--help"], output);
     }
 }
 
@@ -538,60 +579,52 @@ impl Read for Input<'_> {
     }
 }
 
-/// The status where the input fails behind these bytes, with what is written and the fault lines.
-fn told_of<R: Threads + Wait + Sync>(
+/// Asserts that this is written where the input fails behind these bytes, and that the fault is told.
+fn fails_to_read<R: Abort + Threads + Wait + Sync>(
     rt: &R,
     alloc: Global,
     bytes: &[u8],
-) -> (u8, Vec<u8>, Vec<u8>) {
+    told: &[u8],
+) {
     let mut out = Vec::new(alloc);
     let mut faults = Vec::new(alloc);
-    let words = ["hugepool", "replay"];
-    let (status, _) = program(
-        rt,
-        alloc,
-        &words,
-        &mut Watched::new(Input { bytes }),
-        &mut out,
-        &mut faults,
-    );
-    (status, out, faults)
+    let mut reader = Watched::new(Input { bytes });
+    let words = &["hugepool", "replay"];
+    let status = status_of(rt, alloc, words, &mut reader, &mut out, &mut faults);
+    assert_eq!(rt; status, 1);
+    assert_eq!(rt; out.as_slice(), told);
+    assert_eq!(rt; faults.as_slice(), b"hugepool: reading failed\n".as_slice());
 }
 
 #[test]
 fn a_failed_read_is_told(rt: HostRuntime) {
-    for (bytes, told) in [
-        (b"".as_slice(), b"".as_slice()),
-        (b"pool 1 1 1 1\nst", b""),
-        (b"pool 1 1 1 1\nstep 1\n", b"refused idle\n"),
-    ] {
-        let (status, out, faults) = told_of(&rt, rt.alloc(), bytes);
-        assert_eq!(rt; status, 1);
-        assert_eq!(rt; out.as_slice(), told);
-        assert_eq!(rt; faults.as_slice(), b"hugepool: reading failed\n".as_slice());
-    }
+    fails_to_read(&rt, rt.alloc(), b"", b"");
+    fails_to_read(&rt, rt.alloc(), b"pool 1 1 1 1\nst", b"");
+    fails_to_read(
+        &rt,
+        rt.alloc(),
+        b"pool 1 1 1 1\nstep 1\n",
+        b"refused idle\n",
+    );
+}
+
+/// The status where no fault line can be told.
+fn untold<R: Threads + Wait + Sync>(rt: &R, alloc: Global, words: &[&str]) -> u8 {
+    let mut faults = Output {
+        taken: Vec::new(alloc),
+        room: 0,
+        flushes: false,
+    };
+    let mut out = Vec::new(alloc);
+    let mut bytes = b"".as_slice();
+    status_of(rt, alloc, words, &mut bytes, &mut out, &mut faults)
 }
 
 /// The status doesn't hang on whether its fault line can be told.
 #[test]
 fn a_fault_that_is_not_told_is_one(rt: HostRuntime) {
-    for (words, wanted) in [(&["hugepool", "replay"][..], 1), (&["hugepool"], 2)] {
-        let mut faults = Output {
-            taken: Vec::new(rt.alloc()),
-            room: 0,
-            flushes: false,
-        };
-        let mut out = Vec::new(rt.alloc());
-        let (status, _) = program(
-            &rt,
-            rt.alloc(),
-            words,
-            &mut b"".as_slice(),
-            &mut out,
-            &mut faults,
-        );
-        assert_eq!(rt; status, wanted);
-    }
+    assert_eq!(rt; untold(&rt, rt.alloc(), &["hugepool", "replay"]), 1);
+    assert_eq!(rt; untold(&rt, rt.alloc(), &["hugepool"]), 2);
 }
 
 /// What a `work` of these words answers: its status, what is written, and the fault line. Nothing is read.
@@ -603,49 +636,64 @@ fn worked<R: Threads + Wait + Sync>(
     told(rt, alloc, words, "no trace")
 }
 
-#[test]
-fn work_tells_of_each_workload(rt: HostRuntime) -> Result<(), Fail> {
-    for (name, calls) in [
-        ("readback", 3),
-        ("alloc-instantiate-race", 4),
-        ("fallocate_align", 3),
-        ("counters", 6),
-    ] {
-        let text = format!(in rt.alloc(); "{name} ok calls {calls}\n")?;
-        let (status, out, faults) = worked(&rt, rt.alloc(), &["hugepool", "work", name]);
-        assert_eq!(rt; status, 0);
-        assert_eq!(rt; out.as_slice(), text.as_bytes());
-        assert!(rt; faults.is_empty());
-        for driver in ["core", "pool"] {
-            let words = ["hugepool", "work", name, "--on", driver];
-            let (status, out, _faults) = worked(&rt, rt.alloc(), &words);
-            assert_eq!(rt; status, 0);
-            assert_eq!(rt; out.as_slice(), text.as_bytes());
-        }
+/// Asserts that a workload is well, of so many calls, on each of its drivers.
+fn works<R: Abort + Threads + Wait + Sync>(rt: &R, alloc: Global, name: &str, told: &str) {
+    writes(rt, alloc, &["hugepool", "work", name], "no trace", told);
+    for driver in ["core", "pool"] {
+        let words = ["hugepool", "work", name, "--on", driver];
+        writes(rt, alloc, &words, "no trace", told);
     }
-    Ok(())
+}
+
+#[test]
+fn work_tells_of_each_workload(rt: HostRuntime) {
+    works(&rt, rt.alloc(), "readback", "readback ok calls 3\n");
+    works(
+        &rt,
+        rt.alloc(),
+        "alloc-instantiate-race",
+        "alloc-instantiate-race ok calls 4\n",
+    );
+    works(
+        &rt,
+        rt.alloc(),
+        "fallocate_align",
+        "fallocate_align ok calls 3\n",
+    );
+    works(&rt, rt.alloc(), "counters", "counters ok calls 6\n");
+}
+
+/// Asserts that a workload isn't found by these words, and that this is told of them.
+fn finds_no_work<R: Abort + Threads + Wait + Sync>(
+    rt: &R,
+    alloc: Global,
+    words: &[&str],
+    told: &str,
+) {
+    let fault = Fault {
+        status: 2,
+        out: "",
+        told,
+    };
+    fails(rt, alloc, words, "no trace", &fault);
 }
 
 #[test]
 fn work_refuses_other_names(rt: HostRuntime) {
-    let (status, out, faults) = worked(&rt, rt.alloc(), &["hugepool", "work", "nothing"]);
-    assert_eq!(rt; status, 2);
-    assert!(rt; out.is_empty());
-    assert_eq!(rt;
-        faults.as_slice(),
-        b"hugepool: no workload nothing\n".as_slice()
+    let told = "hugepool: no workload nothing\n";
+    finds_no_work(&rt, rt.alloc(), &["hugepool", "work", "nothing"], told);
+    finds_no_work(
+        &rt,
+        rt.alloc(),
+        &["hugepool", "work", "nothing", "--on", "moon"],
+        told,
     );
-    let words = ["hugepool", "work", "nothing", "--on", "moon"];
-    let (_status, _out, faults) = worked(&rt, rt.alloc(), &words);
-    assert_eq!(rt;
-        faults.as_slice(),
-        b"hugepool: no workload nothing\n".as_slice()
+    finds_no_work(
+        &rt,
+        rt.alloc(),
+        &["hugepool", "work", "readback", "--on", "moon"],
+        "hugepool: no driver moon\n",
     );
-    let words = ["hugepool", "work", "readback", "--on", "moon"];
-    let (status, out, faults) = worked(&rt, rt.alloc(), &words);
-    assert_eq!(rt; status, 2);
-    assert!(rt; out.is_empty());
-    assert_eq!(rt; faults.as_slice(), b"hugepool: no driver moon\n".as_slice());
 }
 
 #[test]
