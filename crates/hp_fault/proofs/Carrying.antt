@@ -1,6 +1,6 @@
--- From the row of a turn that names no phase, the row of an operation.
-use Rattle.std.proofs.Common.{◌≡◌, ℕ, ap, refl}
-use Rattle.std.specs.Prelude.{Bool, true, false, Option, Some, None, MatchBool, MatchOption, nat_le}
+-- From the row of a turn that names no phase, the row of an operation; what is known where an error is mapped.
+use Rattle.std.proofs.Common.{◌≡◌, ℕ, Result, Ok, Err, ap, refl}
+use Rattle.std.specs.Prelude.{Bool, true, false, Option, Some, None, MatchBool, MatchOption, MatchResult, IfOk, is_ok, nat_le}
 use Rattle.hp_base.specs.declared.answer.Answer.{Answer}
 use Rattle.hp_machine.specs.State.{Pool, slot_of}
 use Rattle.hp_machine.specs.Parts.{StartRow, WantSlotRow}
@@ -41,3 +41,10 @@ pub carry_blocked : {P : Type 0} (here next : P) (turn : Turn (Unit {0})) (Q : T
 carry_blocked here next (Moved u) Q h = tt
 carry_blocked here next (Blocked u holder) Q h = (refl, h)
 carry_blocked here next (Ended a) Q h = tt
+
+-- what is known of a value stays known where the error is mapped
+pub ok_kept : {T D E : Type 0} (r : Result T D) (mapped : Result T E) (P : T → Type 0) (Q : D → Type 0)
+    → MatchResult r (λ x. mapped ≡ Ok x) Q → is_ok mapped ≡ is_ok r → IfOk r P → IfOk mapped P
+ok_kept (Ok x) mapped P Q cases same known = rw cases known
+ok_kept (Err d) (Ok x) P Q cases same known = cc
+ok_kept (Err d) (Err e) P Q cases same known = tt

@@ -27,8 +27,12 @@ pub struct Exploration {
     pub audited: bool,
 }
 
-/// How many runs are explored before their lines are written.
-const PART: u32 = 512;
+/// How many runs are explored before the first lines are written.
+const FIRST_PART: u32 = 512;
+/// How many lines are kept at most until they are written.
+const MOST_PART: u32 = 16_384;
+/// A part of fewer turns is soon done.
+const SOON: u32 = 4_000_000;
 
 /// The lines of the runs 0 to `runs - 1`, in order. Run k goes by the generator that is seeded with `seed + k`, wrapping; of a
 /// thousand steps `deny` are denied, by chance. However many threads there are, the lines are the same.
@@ -107,8 +111,25 @@ fn both(a: bool, b: bool) -> bool
     a && b
 }
 
-/// Explores some hundreds of runs at a time, in order, and writes their lines before it goes on: so whoever reads them sees
-/// how far it is, and memory is taken for one part alone. Tells whether all runs came to their ends.
+/// How many runs the next part has: twice as many, where each was so short that all were soon done. To begin the threads of a
+/// part takes as long as hundreds of short runs.
+fn next_part(part: u32, lines: &[RunLine]) -> u32
+    requires some { 0 < part }
+    requires most { part ≤ MOST_PART }
+    ensures some { 0 < result }
+    ensures most { result ≤ MOST_PART }
+{
+    let few = SOON / part;
+    if lines.iter().all(|line| line.turns < few) {
+        (part * 2).min(MOST_PART)
+    } else {
+        part
+    }
+}
+
+/// Explores some hundreds of runs at a time, some thousands where they are short, in order, and writes their lines before it goes
+/// on: so whoever reads them sees how far it is, and memory is taken for one part alone. Tells whether all runs came to their
+/// ends.
 pub fn write_explored<W: Sink>(
     rt: &(impl Threads + Sync),
     alloc: Global,
@@ -122,12 +143,14 @@ pub fn write_explored<W: Sink>(
     ensures writes { TellsWrites result (W.failed writer.old) (W.failed writer.new) }
 {
     let mut first = 0;
+    let mut part = FIRST_PART;
     let mut finished = true;
     while first < exploration.runs {
-        let runs = (exploration.runs - first).min(PART);
+        let runs = (exploration.runs - first).min(part);
         let lines = explore_part(rt, alloc, script, exploration, first, runs)?;
         write_lines(alloc, lines.as_slice(), writer)?;
         finished = both(finished, are_finished(lines.as_slice()));
+        part = next_part(part, lines.as_slice());
         first += runs;
     }
     Ok(finished)

@@ -48,5 +48,8 @@ returns-in-Truncate-clause-blocked c =
 pub returns-in-Touch-clause-room : goal.returns-in-Touch-clause-room
 returns-in-Touch-clause-room c = rw c.in-Touch.is c.step_touch.ensures.room
 
+pub returns-in-Alloc-clause-room : goal.returns-in-Alloc-clause-room
+returns-in-Alloc-clause-room c = rw c.in-Alloc.is c.step_alloc.ensures.room
+
 pub returns-in-Punch-clause-room : goal.returns-in-Punch-clause-room
 returns-in-Punch-clause-room c = rw c.in-Punch.is c.step_punch.ensures.room

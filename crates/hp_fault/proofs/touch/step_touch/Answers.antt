@@ -1,13 +1,5 @@
-use Rattle.std.proofs.Common.{◌≡◌, Result, Ok, Err}
-use Rattle.std.specs.Prelude.{MatchResult, IfOk, is_ok}
+use Rattle.hp_fault.proofs.Carrying.{ok_kept}
 use Rattle.hp_fault.proofs.touch.step_touch.Goals as goal
-
--- what is known of a value stays known where the error is mapped
-ok_kept : {T D E : Type 0} (r : Result T D) (mapped : Result T E) (P : T → Type 0) (Q : D → Type 0)
-    → MatchResult r (λ x. mapped ≡ Ok x) Q → is_ok mapped ≡ is_ok r → IfOk r P → IfOk mapped P
-ok_kept (Ok x) mapped P Q cases same known = rw cases known
-ok_kept (Err d) (Ok x) P Q cases same known = cc
-ok_kept (Err d) (Err e) P Q cases same known = tt
 
 pub returns-in-Found-clause-row : goal.returns-in-Found-clause-row
 returns-in-Found-clause-row c =

@@ -75,3 +75,6 @@ returns-clause-idle c =
     (with_room (λ n. IfOk c.step_event.result (λ told. IsIdle told → n ≡ s)) s _ _ _ c.step_event.ensures.capacity
     (idle_result s c.args.event c.step_event.result _ _ c.self.invariant
     (fits_from_sound s c.args.event c.self.invariant) c.step_event.ensures.row c.step_event.ensures.blocked))
+
+pub returns-clause-room : goal.returns-clause-room
+returns-clause-room c = rw (← c.self.view_is) (λ none. (c.step_event.ensures.room none, c.step_event.ensures.capacity))
