@@ -25,6 +25,6 @@ loop-first-preserved g c =
           c.in_ok-lines.ensures c.as_slice.ensures.value c.in_ok-write_lines.ensures.ok c.both-finished.ensures c.are_finished.ensures
           c.as_slice-in-loop-first.ensures.value,
       c.in_ok-write_lines.ensures.writes ∙ c.loop-first.invariant.1,
-      c.next_part.ensures.some,
-      c.next_part.ensures.most,
+      c.next_part-part.ensures.some,
+      c.next_part-part.ensures.most,
     )
