@@ -13,8 +13,47 @@ CRATES = ("alone", "high", "low")
 ALL = {f"{crate}/{edit}" for crate in CRATES for edit in ("one", "two")}
 
 
-# a crate's source: a function, a constant, one that is computed when it is compiled, and one whose result's type its body tells
-SOURCE = """const COUNT: u32 = 1;
+# a crate's source: constants, of which a type and an own function name one each; a function that the crate has for itself, and one
+# that a definition names; public functions, of which one is computed when it is compiled, and one's body tells its result's type
+SOURCE = """const COUNT: usize = 1;
+const MINE: u32 = 4;
+
+/// A type.
+pub struct Some([u32; COUNT]);
+
+impl Some {
+    pub fn all(&self) -> &[u32] {
+        &self.0
+    }
+
+    fn count(&self) -> usize
+        ensures { result ≡ 5 }
+    {
+        self.0.len()
+    }
+}
+
+impl Named for Some {
+    fn name(&self) -> u32
+        ensures { result ≡ 6 }
+    {
+        7
+    }
+}
+
+// An own function.
+#[inline]
+fn mine(of: u32) -> u32
+    ensures { result ≡ MINE }
+{
+    of + 3
+}
+
+fn named() -> u32
+    ensures { result ≡ 8 }
+{
+    8
+}
 
 pub fn first(of: u32) -> u32
     ensures { result ≡ of }
@@ -42,6 +81,7 @@ def repository(top: Path) -> Path:
         change(top, f"crates/{name}/src/one.rt", SOURCE)
         for file in ("specs/one.antt", "edits/one.edit", "must-fail/two.edit"):
             change(top, f"crates/{name}/{file}", f"{name} {file}\n")
+    change(top, "crates/low/specs/two/Names.antt", "says of named\n")
     change(top, "crates/low/proofs/Deep/Last.antt", "last : none\n")
     change(top, "crates/low/proofs/Next.antt", "use Rattle.low.proofs.Deep.Last.{last}\n")
     change(top, "crates/low/proofs/Own.antt", "own : none\n")
@@ -85,7 +125,16 @@ def of(*crates: str) -> set[str]:
 # what changes, and which edits are due then
 CHANGES = [
     (lambda top: None, set()),
-    (lambda top: replace(top, "crates/low/src/one.rt", "COUNT: u32 = 1", "COUNT: u32 = 2"), of("low", "high")),
+    (lambda top: replace(top, "crates/low/src/one.rt", "COUNT: usize = 1", "COUNT: usize = 2"), of("low", "high")),
+    (lambda top: replace(top, "crates/low/src/one.rt", "MINE: u32 = 4", "MINE: u32 = 5"), of("low")),
+    (lambda top: replace(top, "crates/low/src/one.rt", "/// A type.", "/// A type of its own."), of("low")),
+    (lambda top: replace(top, "crates/low/src/one.rt", "// An own function.\n#[inline]\n", ""), of("low")),
+    (lambda top: replace(top, "crates/low/src/one.rt", "fn mine(of: u32)", "fn mine(of: u64)"), of("low")),
+    (lambda top: replace(top, "crates/low/src/one.rt", "fn mine(of: u32)", "pub fn mine(of: u32)"), of("low", "high")),
+    (lambda top: replace(top, "crates/low/src/one.rt", "fn count(&self) -> usize", "fn count(self) -> usize"), of("low")),
+    (lambda top: replace(top, "crates/low/src/one.rt", "result ≡ 6", "result ≡ 7"), of("low", "high")),
+    (lambda top: replace(top, "crates/low/src/one.rt", "result ≡ 8", "result ≡ 9"), of("low", "high")),
+    (lambda top: replace(top, "crates/low/src/one.rt", "    8\n}\n", "    8\n}\n\nfn more() {\n}\n"), of("low")),
     (lambda top: replace(top, "crates/low/src/one.rt", "result ≡ of", "result ≡ 0"), of("low", "high")),
     (lambda top: replace(top, "crates/low/src/one.rt", "of + 0", "of"), of("low")),
     (lambda top: replace(top, "crates/low/src/one.rt", "    2\n", "    3\n"), of("low", "high")),
