@@ -2,8 +2,8 @@
 
 What becomes of an edit is decided by what its check reads: the texts of the crate, what it sees of those below it, the edit, and
 the logic in which the toolchain proves. Of a crate below, a check sees types, contracts and definitions, and the lemmas that are
-named; neither the bodies of functions nor their proofs, nor what only that crate can name. The file tried.txt beside this one has a line for each crate: its name, a
-hash of all that but the edit, and a hash of each edit that the prover refused then.
+named; neither the bodies of functions nor their proofs, nor what only that crate can name. The file tried.txt beside this one has
+a line for each crate: its name, a hash of all that but the edit, and a hash of each edit that the prover refused then.
 """
 from __future__ import annotations
 
