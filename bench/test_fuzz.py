@@ -59,6 +59,7 @@ WRONG = [
     Wrong("one event too few is read", TEXT, "events < MOST_EVENTS", "events + 1 < MOST_EVENTS", 1_000_002),
     Wrong("a fault has status 0", PROGRAM_FILE, "    ExitCode::FAILURE", "    ExitCode::SUCCESS"),
     Wrong("a fault is told in other words", PROGRAM_FILE, "not a pool header", "no pool header"),
+    Wrong("a fault is told twice", PROGRAM_FILE, "is not allowed here\")", "is not allowed here\\nhugepool: line {line}\")"),
 ]
 
 
@@ -105,6 +106,16 @@ def fault(room: Path, wrong: Wrong, theirs: Path) -> str | None:
     return None
 
 
+def without_reasons(room: Path) -> list[str]:
+    """What is wrong with the run in which ours is the plain program, which doesn't say what is wrong with a line."""
+    room.mkdir()
+    plain = PLAIN / "target" / "release" / "simulate"
+    words = [FUZZ, str(SECONDS), "1", room, plain, "--", plain]
+    ran = subprocess.run(words, stdout=subprocess.PIPE, text=True, check=False)
+    is_told = ran.returncode == 1 and "ours gives no reason in one line" in ran.stdout
+    return [] if is_told else [f"a program that gives no reasons: status {ran.returncode}, and told is {ran.stdout!r}"]
+
+
 def statuses() -> list[str]:
     """What is wrong with the statuses of the command line."""
     faults = []
@@ -119,12 +130,13 @@ def main() -> int:
     faults = statuses()
     with tempfile.TemporaryDirectory(prefix="test-fuzz-") as name:
         room = Path(name)
+        faults += without_reasons(room / "room")
         for k, wrong in enumerate(WRONG):
             theirs = build(room / f"plain-{k}", wrong, room / "target")
             if found := fault(room / f"room-{k}", wrong, theirs):
                 faults.append(f"{wrong.name}: {found}")
     print("".join(f"  {it}\n" for it in faults), end="")
-    print(f"fuzz: {len(WRONG) + 6 - len(faults)} passed, {len(faults)} failed")
+    print(f"fuzz: {len(WRONG) + 7 - len(faults)} passed, {len(faults)} failed")
     return 1 if faults else 0
 
 

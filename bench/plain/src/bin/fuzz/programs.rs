@@ -80,13 +80,26 @@ fn first_difference(ours: &[u8], theirs: &[u8]) -> String {
     unreachable!("they differ")
 }
 
+// What of our complaints the other program has to tell, too: all but the one line that says, behind the number of a line that is
+// wrong, what is wrong with it. Nothing where that line is missing.
+fn without_reason(ours: &[u8]) -> Option<&[u8]> {
+    if !ours.starts_with(b"hugepool: line ") { return Some(ours); }
+    let end = ours.iter().position(|it| *it == b'\n')? + 1;
+    let (first, reason) = ours.split_at(end);
+    let is_one_line = reason.iter().position(|it| *it == b'\n') == reason.len().checked_sub(1);
+    (is_one_line && reason.starts_with(b"hugepool: ")).then_some(first)
+}
+
 impl Ended {
-    /// How this differs from what the other program did. A status that no replay has is wrong in both.
+    /// How this differs from what the other program did, which gives no reasons. A status that no replay has is wrong in both.
     pub fn difference(&self, other: &Ended) -> Option<String> {
         let told = |it: &Ended| it.status.map_or("no end".to_string(), |status| status.to_string());
         if self.output != other.output { return Some(format!("output: {}", first_difference(&self.output, &other.output))); }
-        if self.complaints != other.complaints {
-            return Some(format!("standard error: {}", first_difference(&self.complaints, &other.complaints)));
+        let Some(complaints) = without_reason(&self.complaints) else {
+            return Some(format!("standard error: ours gives no reason in one line: {:?}", String::from_utf8_lossy(&self.complaints)));
+        };
+        if complaints != other.complaints {
+            return Some(format!("standard error: {}", first_difference(complaints, &other.complaints)));
         }
         let is_known = matches!(self.status.and_then(|it| it.code()), Some(0 | 1));
         if self.status != other.status || !is_known { return Some(format!("status: of ours {}, of the other {}", told(self), told(other))); }
