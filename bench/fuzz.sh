@@ -1,7 +1,8 @@
 #!/usr/bin/env bash
 # Gives traces that are made by chance, and damaged ones, to `./hugepool replay` and to a plain Rust program that replays traces
 # with nothing proved; and compares what they write, what they complain of, and their statuses, for so many seconds. Whoever
-# changes a row of the machine, or the text of a trace, runs it.
+# changes a row of the machine, or the text of a trace, runs it. Behind the number of a wrong line ours has to say in one more line
+# what is wrong with it; the plain one doesn't, and what ours says there isn't judged.
 #
 #   bench/fuzz.sh SECONDS [SEED]
 #
@@ -9,7 +10,7 @@
 # that was found to show it. The same seed gives the same traces; without one the clock gives it. Needs cargo.
 set -euo pipefail
 if (($# < 1 || $# > 2)) || [[ ! $1 =~ ^[1-9][0-9]{0,8}$ || ! ${2-1} =~ ^(0|[1-9][0-9]{0,17})$ ]]; then
-    sed -n '2,9s/^# \{0,1\}//p' "${BASH_SOURCE[0]}" >&2
+    sed -n '2,10s/^# \{0,1\}//p' "${BASH_SOURCE[0]}" >&2
     exit 2
 fi
 cd "$(dirname "${BASH_SOURCE[0]}")/.."

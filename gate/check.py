@@ -11,7 +11,7 @@ usage: ./check [STEP] [..]
                      which each has to be told apart, what makes edits due, and whether docs/INDEX.md is what the sources say.
                      Of crates that are named all, or with --due those that are due
   ./check examples   what the traces of examples/ print; a long race, and its trace; when ./hugepool builds; that what documents name
-                     is there
+                     is there; where there is cargo, a few seconds of random and damaged traces beside a plain program
   ./check refusals   that programs and drivers tell it where memory is refused to them, at each growth, one a run (it needs cc)
   ./check linux      what a Linux kernel answered (conformance/), and what records that, as far as it needs no kernel (it needs cc)
   ./check quick      before a commit: that texts are formatted; proofs and tests of what changed since the last time, over kept
@@ -123,6 +123,14 @@ def examples(step: Step, _: list[str]) -> None:
     step.run(python("soak.py"))
     step.run(python("test_launcher.py"))
     step.run(python("documents.py"))
+    fuzz(step)
+
+
+def fuzz(step: Step) -> None:
+    if shutil.which("cargo") is None:
+        print("bench/fuzz.sh is left out: 'cargo', which builds the plain program, is not on the PATH")
+        return
+    step.passed += step.run([str(TOP / "bench" / "fuzz.sh"), "10", "1"])
 
 
 def refusals(step: Step, _: list[str]) -> None:
