@@ -44,8 +44,8 @@ fn compare(words: &Words, trace: &[u8]) -> std::io::Result<(Ended, Option<String
 fn tell_difference(words: &Words, k: u64, trace: Vec<u8>) -> std::io::Result<()> {
     println!("fuzz: the programs differ on trace {k} of seed {}, {} lines; making it smaller", words.seed, shrink::lines(&trace).len());
     let until = Instant::now() + SHRINKING;
-    let differs = |it: &[u8]| Instant::now() < until && matches!(compare(words, it), Ok((_, Some(_))));
-    let least = shrink::least(&trace, differs);
+    let differs = |it: &[u8]| matches!(compare(words, it), Ok((_, Some(_))));
+    let least = shrink::least(&trace, || Instant::now() >= until, differs);
     let how = compare(words, &least)?.1.unwrap_or_else(|| "the two don't differ when it is given again".to_string());
     let file = words.room.keep(&format!("difference-{}-{k}.trace", words.seed), &least)?;
     println!("fuzz: {how}\nfuzz: {} lines show it: {}", shrink::lines(&least).len(), file.display());

@@ -3,10 +3,15 @@
 /// The lines of a text, each with its end.
 pub fn lines(text: &[u8]) -> Vec<&[u8]> { text.split_inclusive(|byte| *byte == b'\n').collect() }
 
-// Drops each part of so many lines without which it still holds.
-fn without_parts<'a>(mut kept: Vec<&'a [u8]>, part: usize, holds: &mut impl FnMut(&[u8]) -> bool) -> Vec<&'a [u8]> {
+// Drops each part of so many lines without which it still holds, as long as there is time.
+fn without_parts<'a>(
+    mut kept: Vec<&'a [u8]>,
+    part: usize,
+    is_over: impl Fn() -> bool,
+    holds: &mut impl FnMut(&[u8]) -> bool,
+) -> Vec<&'a [u8]> {
     let mut at = 0;
-    while at < kept.len() {
+    while at < kept.len() && !is_over() {
         let end = (at + part).min(kept.len());
         let fewer = [&kept[..at], &kept[end..]].concat();
         if holds(&fewer.concat()) { kept = fewer } else { at = end }
@@ -15,17 +20,18 @@ fn without_parts<'a>(mut kept: Vec<&'a [u8]>, part: usize, holds: &mut impl FnMu
 }
 
 /// A text with some of the lines of this, of which it still holds: halves are dropped first, single lines last, and these until
-/// none can be.
-pub fn least(text: &[u8], mut holds: impl FnMut(&[u8]) -> bool) -> Vec<u8> {
+/// none can be, or the time is over.
+pub fn least(text: &[u8], is_over: impl Fn() -> bool, mut holds: impl FnMut(&[u8]) -> bool) -> Vec<u8> {
     let mut kept = lines(text);
     let mut part = kept.len().div_ceil(2).max(1);
-    loop {
+    while !is_over() {
         let before = kept.len();
-        kept = without_parts(kept, part, &mut holds);
+        kept = without_parts(kept, part, &is_over, &mut holds);
         if part > 1 {
             part = part.div_ceil(2);
         } else if kept.len() == before {
-            return kept.concat();
+            break;
         }
     }
+    kept.concat()
 }
