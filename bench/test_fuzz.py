@@ -2,7 +2,8 @@
 """Shows that bench/fuzz.sh notices wrong programs: it compares the program with plain ones that have one wrong line each.
 
 Each has to be noticed within a minute, with a trace that shows it when it is given again. And the right plain program has to
-be passed, and the words of the command line judged.
+be passed, and the words of the command line judged. It takes some minutes, and needs a processor for itself: where it has none,
+what is rare isn't met in a minute. `bench/test_fuzz.py WORD` tries the wrong lines alone whose names have that word.
 """
 from __future__ import annotations
 
@@ -21,8 +22,9 @@ PLAIN = TOP / "bench" / "plain"
 FUZZ = PLAIN / "target" / "release" / "fuzz"
 PROGRAM = [str(TOP / "crates" / "hugepool" / "out" / "hugepool"), "replay"]
 SECONDS = 60
-# a trace that shows a wrong line has at most so many lines, but for the two that are about the limit of events
-FEW = 80
+# a trace that shows a wrong line has at most so many lines, but for the two that are about the limit of events: there is no time to
+# make these smaller
+FEW, LONG = 80, 1_000_100
 
 
 class Wrong(NamedTuple):
@@ -55,8 +57,8 @@ WRONG = [
     Wrong("a last line without its end is read", TEXT, "if whole && events", "if events"),
     Wrong("4,097 frames are allowed", TEXT, "within(all[1], 1, MOST_FRAMES)", "within(all[1], 1, MOST_FRAMES + 1)"),
     Wrong("the wrong line is named", TEXT, "Fault::BadLine(events + 1)", "Fault::BadLine(events)"),
-    Wrong("one event too many is read", TEXT, "events < MOST_EVENTS", "events <= MOST_EVENTS", 1_000_002),
-    Wrong("one event too few is read", TEXT, "events < MOST_EVENTS", "events + 1 < MOST_EVENTS", 1_000_002),
+    Wrong("one event too many is read", TEXT, "events < MOST_EVENTS", "events <= MOST_EVENTS", LONG),
+    Wrong("one event too few is read", TEXT, "events < MOST_EVENTS", "events + 1 < MOST_EVENTS", LONG),
     Wrong("a fault has status 0", PROGRAM_FILE, "    ExitCode::FAILURE", "    ExitCode::SUCCESS"),
     Wrong("a fault is told in other words", PROGRAM_FILE, "not a pool header", "no pool header"),
     Wrong("a fault is told twice", PROGRAM_FILE, "is not allowed here\")", "is not allowed here\\nhugepool: line {line}\")"),
@@ -126,19 +128,19 @@ def statuses() -> list[str]:
     return faults
 
 
-def main() -> int:
-    faults = statuses()
+def main(word: str = "") -> int:
+    faults, tried = statuses(), [it for it in WRONG if word in it.name]
     with tempfile.TemporaryDirectory(prefix="test-fuzz-") as name:
         room = Path(name)
         faults += without_reasons(room / "room")
-        for k, wrong in enumerate(WRONG):
+        for k, wrong in enumerate(tried):
             theirs = build(room / f"plain-{k}", wrong, room / "target")
             if found := fault(room / f"room-{k}", wrong, theirs):
                 faults.append(f"{wrong.name}: {found}")
     print("".join(f"  {it}\n" for it in faults), end="")
-    print(f"fuzz: {len(WRONG) + 7 - len(faults)} passed, {len(faults)} failed")
+    print(f"fuzz: {len(tried) + 7 - len(faults)} passed, {len(faults)} failed")
     return 1 if faults else 0
 
 
 if __name__ == "__main__":
-    sys.exit(main())
+    sys.exit(main(*sys.argv[1:2]))
