@@ -19,10 +19,21 @@ fn without_parts<'a>(
     kept
 }
 
-/// A text with some of the lines of this, of which it still holds: halves are dropped first, single lines last, and these until
-/// none can be, or the time is over.
+// How many of the first lines are enough for it to hold. Where more lines never make it fail, no fewer are.
+fn front(kept: &[&[u8]], is_over: impl Fn() -> bool, holds: &mut impl FnMut(&[u8]) -> bool) -> usize {
+    let (mut few, mut enough) = (0, kept.len());
+    while few + 1 < enough && !is_over() {
+        let middle = (few + enough) / 2;
+        if holds(&kept[..middle].concat()) { enough = middle } else { few = middle }
+    }
+    enough
+}
+
+/// A text with some of the lines of this, of which it still holds: what stands behind where it shows is dropped first, then halves,
+/// single lines last, and these until none can be, or the time is over.
 pub fn least(text: &[u8], is_over: impl Fn() -> bool, mut holds: impl FnMut(&[u8]) -> bool) -> Vec<u8> {
     let mut kept = lines(text);
+    kept.truncate(front(&kept, &is_over, &mut holds));
     let mut part = kept.len().div_ceil(2).max(1);
     while !is_over() {
         let before = kept.len();
