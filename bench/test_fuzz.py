@@ -24,7 +24,7 @@ PROGRAM = [str(TOP / "crates" / "hugepool" / "out" / "hugepool"), "replay"]
 SECONDS = 60
 # (with another seed the rarest, a promised descriptor, may take longer)
 SEED = "3"
-# a trace that shows a wrong line has at most so many lines, of some 3,000, but for the two that are about the limit of events: there is no time to
+# a trace that shows a wrong line has at most so many lines, of some 3,000, but for the two about the limit of events: there is no time to
 # make these smaller
 FEW, LONG = 250, 1_000_100
 
