@@ -13,8 +13,9 @@ CRATES = ("alone", "high", "low")
 ALL = {f"{crate}/{edit}" for crate in CRATES for edit in ("one", "two")}
 
 
-# a crate's source: constants, of which a type and an own function name one each; a function that the crate has for itself, and one
-# that a definition names; public functions, of which one is computed when it is compiled, and one's body tells its result's type
+# a crate's source: constants, of which a type and an own function name one each; a function that the crate has for itself, one that
+# a definition names, and one that a lemma names; public functions, of which one is computed when it is compiled, and one's body tells
+# its result's type
 SOURCE = """const COUNT: usize = 1;
 const MINE: u32 = 4;
 
@@ -53,6 +54,12 @@ fn named() -> u32
     ensures { result ≡ 8 }
 {
     8
+}
+
+fn told() -> u32
+    ensures { result ≡ 10 }
+{
+    10
 }
 
 pub fn first(of: u32) -> u32
@@ -134,6 +141,7 @@ CHANGES = [
     (lambda top: replace(top, "crates/low/src/one.rt", "fn count(&self) -> usize", "fn count(self) -> usize"), of("low")),
     (lambda top: replace(top, "crates/low/src/one.rt", "result ≡ 6", "result ≡ 7"), of("low", "high")),
     (lambda top: replace(top, "crates/low/src/one.rt", "result ≡ 8", "result ≡ 9"), of("low", "high")),
+    (lambda top: replace(top, "crates/low/src/one.rt", "result ≡ 10", "result ≡ 11"), of("low", "high")),
     (lambda top: replace(top, "crates/low/src/one.rt", "    8\n}\n", "    8\n}\n\nfn more() {\n}\n"), of("low")),
     (lambda top: replace(top, "crates/low/src/one.rt", "result ≡ of", "result ≡ 0"), of("low", "high")),
     (lambda top: replace(top, "crates/low/src/one.rt", "of + 0", "of"), of("low")),
