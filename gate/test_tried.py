@@ -13,11 +13,39 @@ CRATES = ("alone", "high", "low")
 ALL = {f"{crate}/{edit}" for crate in CRATES for edit in ("one", "two")}
 
 
-# a crate's source: constants, of which a type and an own function name one each; a function that the crate has for itself, one that
-# a definition names, and one that a lemma names; public functions, of which one is computed when it is compiled, and one's body tells
-# its result's type
-SOURCE = """const COUNT: usize = 1;
+# a crate's source: imports; constants, of which a type and an own function name one each; types that the crate has for itself, of which
+# a public one has one inside and a lemma names one; a function that the crate has for itself, one that a definition names, and one that
+# a lemma names; public functions, of which one is computed when it is compiled, and one's body tells its result's type
+SOURCE = """ghost use Rattle.std.specs.Prelude.{◌≡◌, ◌+◌, []};
+
+use std::mem::swap;
+use std::slice::{
+    Named,
+    Unnamed,
+};
+
+mod deeper;
+
+const COUNT: usize = 1;
 const MINE: u32 = 4;
+
+struct Own {
+    place: u16,
+}
+
+impl Own {
+    pub(crate) fn first(&self) -> u16
+        ensures { result ≡ 11 }
+    {
+        self.place
+    }
+}
+
+struct Inside(u8);
+
+struct Cited(u64);
+
+pub struct Outside(Inside);
 
 /// A type.
 pub struct Some([u32; COUNT]);
@@ -88,14 +116,18 @@ def repository(top: Path) -> Path:
         change(top, f"crates/{name}/src/one.rt", SOURCE)
         for file in ("specs/one.antt", "edits/one.edit", "must-fail/two.edit"):
             change(top, f"crates/{name}/{file}", f"{name} {file}\n")
-    change(top, "crates/low/specs/two/Names.antt", "says of named\n")
+    change(top, "crates/low/specs/two/Names.antt", "says of named, and has an Own that is no type of the source\n")
     change(top, "crates/low/proofs/Deep/Last.antt", "last : none\n")
     change(top, "crates/low/proofs/Next.antt", "use Rattle.low.proofs.Deep.Last.{last}\n")
-    change(top, "crates/low/proofs/Own.antt", "own : none\n")
+    change(top, "crates/low/proofs/Own.antt", "-- it isn't mine, and no Own\nown : none\n")
+    change(top, "crates/low/proofs/Types.antt", "use Rattle.low.specs.declared.one.Cited.{Cited}\n")
+    change(top, "crates/low/specs/Looked.antt", "use Rattle.low.specs.deep.Last.{last}\n")
+    change(top, "crates/low/specs/deep/Last.antt", "last : none\n")
+    change(top, "crates/low/specs/Lib.antt", "pub mod Looked\n")
     change(top, "crates/low/proofs/Told.antt", "told : none\n")
     change(top, "crates/low/proofs/first/Answers.antt", "use Rattle.low.proofs.Own.{own}\n")
     change(top, "crates/high/proofs/first/Answers.antt", "use Rattle.low.proofs.Next.{next}\n")
-    change(top, "crates/high/src/two.rt", "#[tactic(auto, using(low::proofs::Told::told))]\n")
+    change(top, "crates/high/src/two.rt", "ghost use Rattle.low.specs.Looked.{look};\n#[tactic(auto, using(low::proofs::Told::told))]\n")
     return top
 
 
@@ -148,9 +180,26 @@ CHANGES = [
     (lambda top: replace(top, "crates/low/src/one.rt", "    2\n", "    3\n"), of("low", "high")),
     (lambda top: replace(top, "crates/low/src/one.rt", "empty()", "once(1)"), of("low", "high")),
     (lambda top: replace(top, "crates/high/src/one.rt", "of + 0", "of"), of("high")),
-    (lambda top: change(top, "crates/low/specs/two.antt", ""), of("low", "high")),
+    (lambda top: change(top, "crates/low/specs/two.antt", ""), of("low")),
+    (lambda top: change(top, "crates/low/specs/Looked.antt", "look : none\n"), of("low", "high")),
+    (lambda top: change(top, "crates/low/specs/deep/Last.antt", "last : ⊤\n"), of("low", "high")),
+    (lambda top: change(top, "crates/low/specs/Lib.antt", "pub mod Looked\npub mod Other\n"), of("low")),
+    (lambda top: replace(top, "crates/low/src/one.rt", "◌≡◌, ◌+◌, []", "◌≡◌, []"), of("low")),
+    (lambda top: replace(top, "crates/low/src/one.rt", "std.specs.Prelude", "std.specs.Other"), of("low", "high")),
+    (lambda top: replace(top, "crates/low/src/one.rt", "use std::mem::swap;\n", ""), of("low")),
+    (lambda top: replace(top, "crates/low/src/one.rt", "    Unnamed,\n", "    Other,\n"), of("low")),
+    (lambda top: replace(top, "crates/low/src/one.rt", "std::slice::", "std::vec::"), of("low", "high")),
+    (lambda top: replace(top, "crates/low/src/one.rt", "mod deeper;\n", ""), of("low")),
+    (lambda top: replace(top, "crates/low/src/one.rt", "mod deeper;\n", "pub mod deeper;\n"), of("low", "high")),
+    (lambda top: replace(top, "crates/low/src/one.rt", "place: u16", "place: u32"), of("low")),
+    (lambda top: replace(top, "crates/low/src/one.rt", "result ≡ 11", "result ≡ 12"), of("low")),
+    (lambda top: replace(top, "crates/low/src/one.rt", "struct Own", "pub struct Own"), of("low", "high")),
+    (lambda top: replace(top, "crates/low/src/one.rt", "struct Inside(u8)", "struct Inside(u16)"), of("low", "high")),
+    (lambda top: replace(top, "crates/low/src/one.rt", "struct Cited(u64)", "struct Cited(u32)"), of("low", "high")),
+    (lambda top: change(top, "crates/low/src/own.rt", "use std::mem::swap;\n\nstruct Another;\n"), of("low")),
     (lambda top: change(top, "crates/low/proofs/two.antt", ""), of("low")),
     (lambda top: change(top, "crates/low/proofs/Own.antt", "own : ⊤\n"), of("low")),
+    (lambda top: change(top, "crates/low/proofs/Own.antt", "own : mine\n"), of("low", "high")),
     (lambda top: change(top, "crates/low/proofs/first/Answers.antt", "another proof\n"), of("low")),
     (lambda top: change(top, "crates/low/proofs/Next.antt", "next : none\n"), of("low", "high")),
     (lambda top: change(top, "crates/low/proofs/Deep/Last.antt", "last : ⊤\n"), of("low", "high")),

@@ -1,9 +1,8 @@
 """Which edits are due: those whose check would read anything else than when they were refused.
 
-What becomes of an edit is decided by what its check reads: the texts of the crate, what it sees of those below it, the edit, and
-the logic in which the toolchain proves. Of a crate below, a check sees types, contracts and definitions, and the lemmas that are
-named; neither the bodies of functions nor their proofs, nor what only that crate can name. The file tried.txt beside this one has
-a line for each crate: its name, a hash of all that but the edit, and a hash of each edit that the prover refused then.
+What becomes of an edit is decided by what its check reads: the texts of the crate, what it sees of those below it (seen.py) and the
+lemmas that are named there, the edit, and the logic in which the toolchain proves. The file tried.txt beside this one has a line for
+each crate: its name, a hash of all that but the edit, and a hash of each edit that the prover refused then.
 """
 from __future__ import annotations
 
@@ -14,9 +13,9 @@ from dataclasses import dataclass
 from pathlib import Path
 from typing import Iterable
 
-import source
 from edit import PARTS
 from scratch import below, crates_of
+from seen import definitions_named, files_of, named, seen_of
 
 RECORD = Path("gate") / "tried.txt"
 # where fewer edits than this are due, other crates have their turn, until there are as many, or a few more
@@ -26,10 +25,6 @@ DIGITS = 12
 # a module of proofs that a text names, and a lemma in one that a tactic names
 LEMMAS = re.compile(r"\bRattle\.(\w+)\.proofs\.([\w.+-]+)")
 OF_TACTICS = re.compile(r"\b(\w+)::proofs::([\w:]+)::")
-# an item that only its own crate can name, unless it stands in a trait or in an impl of one: its word, and its name
-PRIVATE = re.compile(r"^ *(?:pub\([^)]*\) )?(?:(?:const |unsafe )*fn|const|static) (\w+)")
-# proofs of functions, each in a folder of its own, and no lemmas
-OF_FUNCTIONS = ("Answers", "Invariants")
 
 
 @dataclass(frozen=True)
@@ -52,75 +47,9 @@ def toolchain() -> str:
     return logic_of(subprocess.run(["rt", "--version"], stdin=subprocess.DEVNULL, stdout=subprocess.PIPE, text=True, check=True).stdout)
 
 
-def files_of(crate: Path, parts: Iterable[str]) -> list[Path]:
-    """The files that a check of the crate reads, in these folders."""
-    return sorted(it for part in parts for it in (crate / part).rglob("*") if it.is_file())
-
-
-def named(crate: Path, file: Path, text: bytes) -> bytes:
-    """A file's text, with its name and its length before it."""
-    return f"{crate.name}/{file.relative_to(crate)} {len(text)}\n".encode() + text
-
-
 def texts_of(crate: Path) -> bytes:
     """The names and texts of all files that a check of the crate reads."""
     return b"".join(named(crate, it, it.read_bytes()) for it in files_of(crate, PARTS))
-
-
-def is_private(lines: list[str], first: int) -> bool:
-    """Whether what begins at this line is an item that only its own crate can name."""
-    above = (it for it in range(first) if source.IMPL.match(lines[it]) or source.TRAIT.match(lines[it]))
-    around = [lines[it] for it in above if source.end_of(lines, it, re.match(" *", lines[it])[0]) >= first]
-    return bool(PRIVATE.match(lines[first])) and all(source.IMPL.match(it) and " for " not in it for it in around)
-
-
-def seen_in(path: str, text: str) -> tuple[str, dict[str, str]]:
-    """A source file without comments, and without what stands in its functions; and by their names, apart from that, the items that
-    only its own crate can name. Functions that are computed when the crate is compiled keep their bodies, and those whose body says of
-    which type the result is."""
-    lines, hidden = text.split("\n"), {}
-    bounds = {first: last for _, first, last in source.functions(path, text)}
-    bounds |= {at: source.end_of(lines, at, "") for at, it in enumerate(lines) if re.match(r"(?:pub\([^)]*\) )?(?:const|static) \w+:", it)}
-    outer = {it: to for it, to in bounds.items() if not any(at < it <= end for at, end in bounds.items())}
-    left = list(lines)
-    for first, last in sorted(outer.items(), reverse=True):
-        begins = source.body_of(lines, first, last)
-        head = " ".join(lines[first:begins + 1])
-        if lines[begins].endswith("{") and not re.search(r"\bconst fn\b|-> .*\bimpl\b", head):
-            del left[begins + 1:last]
-            last = begins + 1
-        if is_private(lines, first):
-            while first and left[first - 1].lstrip().startswith(("#[", "//")):
-                first -= 1
-            item = without_comments(left[first:last + 1])
-            name = PRIVATE.match(next(filter(PRIVATE.match, item)))[1]
-            hidden[name] = hidden.get(name, "") + "".join(item)
-            del left[first:last + 1]
-    return "".join(without_comments(left)), hidden
-
-
-def without_comments(lines: Iterable[str]) -> list[str]:
-    """Lines with their ends, but for those that are empty or nothing but a comment."""
-    return [f"{it}\n" for it in lines if it and not it.lstrip().startswith("//")]
-
-
-def seen_of(crate: Path) -> bytes:
-    """What the checks of the crates above see of a crate, whatever they name: its definitions, its sources without bodies and without
-    items that only the crate itself can name, unless one of the others or a lemma names them."""
-    said = b"".join(named(crate, it, it.read_bytes()) for it in files_of(crate, ["specs"]))
-    hidden = {}
-    for it in files_of(crate, ["src"]):
-        path = str(it.relative_to(crate))
-        text, own = seen_in(path, it.read_text(encoding="utf-8"))
-        said += named(crate, it, text.encode())
-        hidden |= {name: hidden.get(name, "") + text for name, text in own.items()}
-    lemmas = (it.read_bytes() for it in files_of(crate, ["proofs"]) if it.stem not in OF_FUNCTIONS)
-    words = set(re.findall(r"\w+", (said + b"".join(lemmas)).decode()))
-    while named_too := sorted(hidden.keys() & words):
-        for name in named_too:
-            words |= set(re.findall(r"\w+", hidden[name]))
-            said += hidden.pop(name).encode()
-    return said
 
 
 def lemmas_named(top: Path, names: Iterable[str], text: bytes) -> dict[Path, bytes]:
@@ -151,10 +80,11 @@ def marks_of(top: Path, folders: Iterable[str], told: str) -> dict[str, Mark]:
     for name in crates:
         low, text = below(name, crates), texts_of(top / "crates" / name)
         said = hashlib.sha256(told.encode())
-        for it in sorted({name, *low}):
-            said.update(f"{it}: {' '.join(crates[it])}\n".encode() + (text if it == name else seen[it]))
+        read = [f"{it}: {' '.join(crates[it])}\n".encode() + (text if it == name else seen[it].text) for it in sorted({name, *low})]
         for file, lemmas in sorted(lemmas_named(top, low, text).items()):
-            said.update(f"{file.relative_to(top)} {len(lemmas)}\n".encode() + lemmas)
+            read.append(f"{file.relative_to(top)} {len(lemmas)}\n".encode() + lemmas)
+        read.append(definitions_named(b"".join(read), {it: seen[it].definitions for it in low if it != name}))
+        said.update(b"".join(read))
         marks[name] = Mark(said.hexdigest(), edits_of(top / "crates" / name, folders))
     return marks
 
