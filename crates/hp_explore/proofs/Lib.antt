@@ -1,8 +1,11 @@
 pub mod Collected
+pub mod Growing
+pub mod Inverse
 pub mod OneLine
 pub mod Others
 pub mod Phases
 pub mod Quiet
+pub mod Retained
 pub mod Runnable
 pub mod Runs
 pub mod Twins

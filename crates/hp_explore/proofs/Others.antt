@@ -32,8 +32,7 @@ use Rattle.hp_fault.specs.State.{PartsState}
 use Rattle.hp_fault.specs.View.{holders_of}
 use Rattle.hp_slots.specs.Holders.{slot_number}
 use Rattle.hp_core.specs.Blockers.{slot_blocker, lock_blocker, call_blocker, seat_call_blocker, task_blocker, is_bad}
-use Rattle.hp_core.specs.Holding.{holding_of}
-use Rattle.hp_core.specs.declared.holding.Holding.{Holding}
+use Rattle.hp_core.specs.Holding.{held_by, holding_of}
 use Rattle.hp_core.specs.Readers.{phase_of}
 use Rattle.hp_core.specs.Runs.{Row}
 use Rattle.hp_core.specs.State.{CoreState, as_state, seat_at, calls_of, lives_of}
@@ -41,41 +40,39 @@ use Rattle.hp_core.specs.Waiting.{WaitsFor}
 use Rattle.hp_core.proofs.Waits.{nobody, step_blocks, step_held}
 use Rattle.hp_explore.specs.Schedule.{Plan, World, Choice, CanTurn, AreRunnable, AreRunnableOf, in_call, next_call, word, drawn}
 use Rattle.hp_explore.specs.Schedule.{call_choice, kill_choice, step_choice, task_choice}
+use Rattle.hp_explore.proofs.Growing.{HeldOn, held_same}
 use Rattle.hp_explore.proofs.Twins.{reached_next}
 
--- Two reached states of one geometry in which calls hold the same: who holds a slot in the one holds it in the other,
-abbrev HoldAlike : State → State → Type 0
-HoldAlike s v =
+-- Two reached states of one geometry, in the second of which the calls hold all that they hold in the first: who holds a slot in
+-- the first holds it in the second,
+abbrev pub HoldOn : State → State → Type 0
+HoldOn s v =
     record {
       reached : IsReached s;
       other : IsReached v;
       geometry : v.geometry ≡ s.geometry;
-      slots : (u : ℕ) → slot_held (v.calls u) ≡ slot_held (s.calls u);
-      locks : (u : ℕ) → locked_file (v.calls u) ≡ locked_file (s.calls u);
+      held : (u : ℕ) → HeldOn (held_by (s.calls u)) (held_by (v.calls u));
     }
+
+-- and two in which they hold the same
+abbrev HoldAlike : State → State → Type 0
+HoldAlike s v = HoldOn s v × HoldOn v s
 
 turned : (s v : State) → HoldAlike s v → HoldAlike v s
-turned s v h =
-    record {
-      reached = h.other;
-      other = h.reached;
-      geometry = sym h.geometry;
-      slots = λ u. sym (h.slots u);
-      locks = λ u. sym (h.locks u);
-    }
+turned s v h = (h.1, h.0)
 
-slot_kept : (s v : State) → HoldAlike s v → (k u : ℕ) → s.slots k ≡ Some u → v.slots k ≡ Some u
+pub slot_kept : (s v : State) → HoldOn s v → (k u : ℕ) → s.slots k ≡ Some u → v.slots k ≡ Some u
 slot_kept s v h k u e =
     let place = (always s h.reached).inv.holders.slot k u e in
-    let there : slot_held (v.calls u) ≡ Some place.0 = h.slots u ∙ place.1 in
+    let there : slot_held (v.calls u) ≡ Some place.0 = (h.held u).slot place.0 place.1 in
     let has : v.slots (slot_of v.geometry place.0.0 place.0.1) ≡ Some u =
     subst (λ (o : Option (ℕ × ℕ)). IfSome o (λ p. HasSlot v.geometry v u p.0 p.1)) there ((always v h.other).inv.stands u).slot in
     subst (λ (n : ℕ). v.slots n ≡ Some u) (ap (λ (g : Geometry). slot_of g place.0.0 place.0.1) h.geometry ∙ place.2) has
 
 -- and so of a lock
-lock_kept : (s v : State) → HoldAlike s v → (f u : ℕ) → s.locks f ≡ Some u → v.locks f ≡ Some u
+pub lock_kept : (s v : State) → HoldOn s v → (f u : ℕ) → s.locks f ≡ Some u → v.locks f ≡ Some u
 lock_kept s v h f u e =
-    let there : locked_file (v.calls u) ≡ Some f = h.locks u ∙ (always s h.reached).inv.holders.lock f u e in
+    let there : locked_file (v.calls u) ≡ Some f = (h.held u).lock f ((always s h.reached).inv.holders.lock f u e) in
     subst (λ (o : Option ℕ). IfSome o (λ file. HasLock v u file)) there ((always v h.other).inv.stands u).lock
 
 -- options that have a value where the other has it are the same
@@ -85,10 +82,10 @@ same_option None (Some u) there back = sym (back u refl)
 same_option (Some u) b there back = there u refl
 
 same_slots : (s v : State) → HoldAlike s v → (k : ℕ) → v.slots k ≡ s.slots k
-same_slots s v h k = same_option (s.slots k) (v.slots k) (slot_kept s v h k) (slot_kept v s (turned s v h) k)
+same_slots s v h k = same_option (s.slots k) (v.slots k) (slot_kept s v h.0 k) (slot_kept v s h.1 k)
 
 same_locks : (s v : State) → HoldAlike s v → (f : ℕ) → v.locks f ≡ s.locks f
-same_locks s v h f = same_option (s.locks f) (v.locks f) (lock_kept s v h f) (lock_kept v s (turned s v h) f)
+same_locks s v h f = same_option (s.locks f) (v.locks f) (lock_kept s v h.0 f) (lock_kept v s h.1 f)
 
 -- parts with as many files and slots, and with the same holders
 abbrev AreHeldAlike : PartsState → PartsState → Type 0
@@ -132,7 +129,7 @@ same_blocker p q h killed (call.Truncate (truncate.Want s)) = same_slot p q h s.
 same_blocker p q h killed c = refl
 
 -- whom a task of this life, with this call, waits for
-abbrev blocker : PartsState → Life → Option Call → Option ℕ
+abbrev pub blocker : PartsState → Life → Option Call → Option ℕ
 blocker p life o = if is_dead life then None else seat_call_blocker p (is_killed life) o
 
 same_for : (p q : PartsState) → AreHeldAlike p q → (life : Life) (o : Option Call) → blocker q life o ≡ blocker p life o
@@ -140,7 +137,7 @@ same_for p q h life None = refl
 same_for p q h life (Some c) = ap (λ (o : Option ℕ). if is_dead life then None else o) (same_blocker p q h (is_killed life) c)
 
 -- a task waits for nobody exactly where the reader names nobody
-names_nobody : (s : CoreState) (t : ℕ) → WaitsFor s t None → task_blocker s.parts (seat_at s.seats t) ≡ None
+pub names_nobody : (s : CoreState) (t : ℕ) → WaitsFor s t None → task_blocker s.parts (seat_at s.seats t) ≡ None
 unfolding WaitsFor Row
 names_nobody s t free = by (task_blocker s.parts (seat_at s.seats t)) refl
   where
@@ -159,8 +156,8 @@ waits_alike : (s v : CoreState) (t : ℕ) → HoldAlike (as_state s) (as_state v
 unfolding calls_of lives_of
 waits_alike s v t h calls life free =
     let parts : AreHeldAlike s.parts v.parts = record {
-      files = ap (λ (g : Geometry). g.files) h.geometry;
-      many = ap (λ (g : Geometry). g.slots) h.geometry;
+      files = ap (λ (g : Geometry). g.files) h.0.geometry;
+      many = ap (λ (g : Geometry). g.slots) h.0.geometry;
       slots = same_slots (as_state s) (as_state v) h;
       locks = same_locks (as_state s) (as_state v) h;
     } in
@@ -193,7 +190,7 @@ of_choice plan busy alive made t rng u =
     (of_either test killed other t u (λ h. h) (of_call busy next plan.deny made t (drawn rng) u))
 
 -- it leaves the calls that other tasks have begun
-abbrev LeavesOthers : (made : List ℕ) (t : ℕ) → Choice → Type 0
+abbrev pub LeavesOthers : (made : List ℕ) (t : ℕ) → Choice → Type 0
 LeavesOthers made t choice =
     record {
       long : length choice.made ≡ length made;
@@ -220,7 +217,7 @@ either_leaves : (made : List ℕ) (t : ℕ) (b : Bool) (x y : Choice) → Leaves
 either_leaves made t true x y first second = first
 either_leaves made t false x y first second = second
 
-choice_leaves : (plan : Plan) (busy alive : Bool) (made : List ℕ) (t : ℕ) (rng : Lcg)
+pub choice_leaves : (plan : Plan) (busy alive : Bool) (made : List ℕ) (t : ℕ) (rng : Lcg)
     → LeavesOthers made t (task_choice plan busy alive made t rng)
 choice_leaves plan busy alive made t rng =
     let next = next_call plan made t in
@@ -231,27 +228,40 @@ choice_leaves plan busy alive made t rng =
     (call_leaves busy next plan.deny made t rng)
     (either_leaves made t test killed other (leaves_all made t killed refl) (call_leaves busy next plan.deny made t (drawn rng)))
 
--- an event of the task alone, which leaves what its call holds, leaves what all calls hold
-held_alike : (s v : CoreState) (event : Event) (o : Outcome) (t : ℕ) → IsReached (as_state s) → Row s event o v
-    → ((u : ℕ) → IsOf u event → u ≡ t) → holding_of v t ≡ holding_of s t → HoldAlike (as_state s) (as_state v)
+-- An event of the task alone, behind which its call holds all that it held: so do all calls.
+pub holds_on_all : (s v : CoreState) (event : Event) (o : Outcome) (t : ℕ) → IsReached (as_state s) → Row s event o v
+    → ((u : ℕ) → IsOf u event → u ≡ t) → HeldOn (holding_of s t) (holding_of v t) → HoldOn (as_state s) (as_state v)
 unfolding Row holding_of
-held_alike s v event o t reached row of held = record {
+holds_on_all s v event o t reached row of held = record {
   reached = reached;
   other = reached_next (as_state s) (as_state v) event o reached row.0;
   geometry = measures_stay (as_state s) event o (as_state v) (always (as_state s) reached) row.0;
-  slots = λ u. each slot_held (ap (λ (h : Holding). h.slot) held) u;
-  locks = λ u. each locked_file (ap (λ (h : Holding). h.lock) held) u;
+  held = λ u. elim (same_or_other u t) [
+    | inl e ↦ subst (λ (k : ℕ). HeldOn (held_by ((as_state s).calls k)) (held_by ((as_state v).calls k))) (sym e) held
+    | inr other ↦ held_same _ _ (ap held_by (others_stay (as_state s) (as_state v) event o u row.0 (λ is. other (of u is))).0)
+  ];
 }
-  where
-    each : {A : Type 0} (f : Option Call → A) → f ((as_state v).calls t) ≡ f ((as_state s).calls t) → (u : ℕ)
-        → f ((as_state v).calls u) ≡ f ((as_state s).calls u)
-    each f own u = elim (same_or_other u t) [
-      | inl e ↦ subst (λ (k : ℕ). f ((as_state v).calls k) ≡ f ((as_state s).calls k)) (sym e) own
-      | inr other ↦ ap f (others_stay (as_state s) (as_state v) event o u row.0 (λ is. other (of u is))).0
-    ]
+
+-- and where it holds the same, the calls hold the same
+held_alike : (s v : CoreState) (event : Event) (o : Outcome) (t : ℕ) → IsReached (as_state s) → Row s event o v
+    → ((u : ℕ) → IsOf u event → u ≡ t) → holding_of v t ≡ holding_of s t → HoldAlike (as_state s) (as_state v)
+unfolding Row holding_of
+held_alike s v event o t reached row of held =
+    let on : HoldOn (as_state s) (as_state v) = holds_on_all s v event o t reached row of (held_same _ _ held) in (
+      on,
+      record {
+        reached = on.other;
+        other = on.reached;
+        geometry = sym on.geometry;
+        held = λ u. elim (same_or_other u t) [
+          | inl e ↦ subst (λ (k : ℕ). HeldOn (held_by ((as_state v).calls k)) (held_by ((as_state s).calls k))) (sym e) (held_same _ _ (sym held))
+          | inr other ↦ held_same _ _ (sym (ap held_by (others_stay (as_state s) (as_state v) event o u row.0 (λ is. other (of u is))).0))
+        ];
+      },
+    )
 
 -- a task that can take a turn can take one where it is the same
-can_same : {A B C D : Type 0} (b c : Bool) → c ≡ b → (A → B) → (C → D) → MatchBool b A C → MatchBool c B D
+pub can_same : {A B C D : Type 0} (b c : Bool) → c ≡ b → (A → B) → (C → D) → MatchBool b A C → MatchBool c B D
 can_same true true e f g h = f h
 can_same false false e f g h = g h
 can_same true false e f g h = absurd (cc)
@@ -296,13 +306,22 @@ all_can plan w (suc n) tasks (front, before, inl last) =
 all_can plan w (suc n) tasks (front, before, inr last) = subst (All (CanTurn plan w)) (sym last.1) (all_can plan w n front before)
 
 -- what holds of all of a list holds of what is read from it
-pub at_index : (P : ℕ → Type 0) (xs : List ℕ) (k x : ℕ) → x ≡ slice_index_or xs k x → All P xs → k < length xs → P x
-at_index P xs k x is all within = subst P (sym is) (all k x within)
+pub at_index : (P : ℕ → Type 0) (xs : List ℕ) (k x : ℕ) → x ≡ slice_index xs k → All P xs → k < length xs → P x
+at_index P xs k x is all within = subst P (sym is) (all k 0 within)
 
 -- as many tasks have calls after a choice as before it
 pub long_after : (plan : Plan) (busy alive : Bool) (made : List ℕ) (t : ℕ) (rng : Lcg)
     → length (task_choice plan busy alive made t rng).made ≡ length made
 long_after plan busy alive made t rng = (choice_leaves plan busy alive made t rng).long
+
+-- the calls that another task has left stay
+pub next_stays : (plan : Plan) (w v : World) (made : List ℕ) (t u : ℕ) (choice : Choice) → LeavesOthers made t choice → v.made ≡ choice.made
+    → made ≡ w.made → 1 ≤ t → 1 ≤ u → u ≢ t → next_call plan v.made u ≡ next_call plan w.made u
+next_stays plan w v made t u choice leaves begun same_made one above other =
+    let at : slice_index v.made (u - 1) ≡ slice_index w.made (u - 1) =
+    ap (λ (m : List ℕ). slice_index m (u - 1)) begun ∙ leaves.others (u - 1) (λ e. other (omega (arith, e, above, one)))
+    ∙ ap (λ (m : List ℕ). slice_index m (u - 1)) same_made in
+    ap (λ (n : ℕ). slice_get (slice_index_or plan.queues (u - 1) []) n) at
 
 -- So after a turn that leaves what its task's call holds, and after which the task can take another, the same tasks can take one.
 pub list_stays : (plan : Plan) (w v : World) (core : CoreState) (made : List ℕ) (event : Event) (o : Outcome) (t : ℕ) (busy alive : Bool)
@@ -329,11 +348,7 @@ list_stays plan w v core made event o t busy alive rng tasks same_core same_made
         (held_alike core v.core event o t reached row of held)
 
     next : (u : ℕ) → 1 ≤ u → u ≢ t → next_call plan v.made u ≡ next_call plan w.made u
-    next u above other =
-        let at : slice_index v.made (u - 1) ≡ slice_index w.made (u - 1) =
-        ap (λ (m : List ℕ). slice_index m (u - 1)) begun ∙ leaves.others (u - 1) (λ e. other (omega (arith, e, above, one)))
-        ∙ ap (λ (m : List ℕ). slice_index m (u - 1)) same_made in
-        ap (λ (n : ℕ). slice_get (slice_index_or plan.queues (u - 1) []) n) at
+    next u above other = next_stays plan w v made t u (task_choice plan busy alive made t rng) leaves begun same_made one above other
 
     stay : (u : ℕ) → u ≢ t → ((as_state v.core).calls u ≡ (as_state w.core).calls u) × ((as_state v.core).life u ≡ (as_state w.core).life u)
     stay u other =

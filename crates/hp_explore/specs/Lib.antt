@@ -1,4 +1,6 @@
 pub mod Explored
+pub mod Inverses
+pub mod Leaving
 pub mod Passing
 pub mod Schedule
 pub mod Text

@@ -7,6 +7,7 @@ ghost use Rattle.hp_explore.specs.declared.line.RunLine.{RunLine};
 
 use crate::line::{Finish, RunLine};
 use crate::plan::{Chances, Plan};
+use crate::runnable_tasks::RunnableTasks;
 use crate::script::Script;
 use crate::walk::Walk;
 use hp_audit::Finding;
@@ -19,7 +20,7 @@ use std::thread::Threads;
 const TURN_LIMIT: u32 = 1_000_000;
 
 /// What the audit of a turn finds, where it is asked for.
-fn finding(alloc: Global, walk: &Walk, audited: bool) -> Result<Option<Finding>, AllocError>
+fn found_where(alloc: Global, walk: &Walk, audited: bool) -> Result<Option<Finding>, AllocError>
     ensures { IfOk result (λ found. found ≡ None) }
 {
     if audited { walk.audit(alloc) } else { Ok(None) }
@@ -41,19 +42,19 @@ fn explore_one(
     // The checker of borrows asks for a mention of the type that an event may hold.
     let _none: Option<Op> = None;
     let mut walk = Walk::new(alloc, script, seed.wrapping_add(u64::from(run)))?;
-    let mut tasks = Vec::new(alloc);
-    walk.list_runnable(plan, &mut tasks)?;
+    let mut tasks = RunnableTasks::new();
+    walk.list_runnable(plan, &mut tasks);
     for turn in 0..TURN_LIMIT {
         let told = walk.turn(plan, &mut tasks)?;
         if told.is_none() {
             return Ok(walk.line(run, walk.idle_finish(plan)));
         }
         walk.is_clean();
-        if let Some(found) = finding(alloc, &walk, audited)? {
+        if let Some(found) = found_where(alloc, &walk, audited)? {
             return Ok(walk.line(run, Finish::Found(found)));
         }
     }
-    let finish = walk.last_finish(plan, tasks.as_slice());
+    let finish = walk.last_finish(plan, &tasks);
     Ok(walk.line(run, finish))
 }
 
@@ -139,8 +140,8 @@ fn events_of(
     // The checker of borrows asks for a mention of the type that an event may hold.
     let _none: Option<Op> = None;
     let mut walk = Walk::new(alloc, script, seed)?;
-    let mut tasks = Vec::new(alloc);
-    walk.list_runnable(plan, &mut tasks)?;
+    let mut tasks = RunnableTasks::new();
+    walk.list_runnable(plan, &mut tasks);
     let mut events = Vec::new(alloc);
     for made in 0..TURN_LIMIT {
         match walk.turn(plan, &mut tasks)? {
@@ -149,7 +150,7 @@ fn events_of(
         }
         walk.is_clean();
     }
-    let _finish = walk.last_finish(plan, tasks.as_slice());
+    let _finish = walk.last_finish(plan, &tasks);
     Ok(events)
 }
 

@@ -11,6 +11,8 @@ mod exploring;
 mod laws;
 mod line;
 mod plan;
+mod remainders;
+mod runnable_tasks;
 mod script;
 mod walk;
 

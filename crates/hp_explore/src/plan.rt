@@ -2,6 +2,7 @@
 ghost use Rattle.std.specs.Prelude.{◌≡◌, ◌+◌, ◌-◌, ◌<◌, ◌≤◌, ◌^◌, IsSome, [], IfOk, slice_get, slice_index_or, map};
 ghost use Rattle.hp_explore.specs.Schedule.{calls_of, plan_of, queues_of};
 
+use crate::remainders::Remainders;
 use crate::script::Script;
 use hp_base::{Op, Task};
 use std::alloc::{AllocError, Global};
@@ -19,6 +20,7 @@ pub struct Chances {
 pub(crate) struct Plan {
     queues: Vec<Vec<Op>>,
     pub(crate) chances: Chances,
+    pub(crate) remainders: Remainders,
 }
 
 impl Model for Plan {
@@ -39,7 +41,11 @@ impl Plan {
         ensures { IfOk result (λ plan. plan ≡ plan_of script.now chances.deny chances.kill) }
     {
         let queues = queues_of(alloc, script.calls.as_slice(), script.config.tasks)?;
-        Ok(Plan { queues, chances })
+        Ok(Plan {
+            queues,
+            chances,
+            remainders: Remainders::new(),
+        })
     }
 
     /// The call of the task at this place.

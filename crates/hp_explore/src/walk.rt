@@ -1,7 +1,7 @@
 //! One run, turn by turn. A turn takes about a hundred nanoseconds, so what it calls is inlined: a call that isn't passes
 //! what it answers through memory.
 ghost use Rattle.std.specs.Prelude.{◌≡◌, ◌+◌, ◌-◌, ◌<◌, ◌≤◌, ◌^◌, true, false, [], None, Some, IfOk, IfSome, OnOk};
-ghost use Rattle.std.specs.Prelude.{ℕ, IsSome, All, length, replicate, slice_index};
+ghost use Rattle.std.specs.Prelude.{ℕ, IsSome, All, filter, length, replicate, slice_index};
 ghost use Rattle.hp_machine.specs.State.{is_alive};
 ghost use Rattle.hp_core.specs.Readers.{life_of, phase_of, config_of};
 ghost use Rattle.hp_core.specs.Runs.{Row};
@@ -10,10 +10,12 @@ ghost use Rattle.hp_laws.specs.Laws.{IsOf};
 ghost use Rattle.hp_core.specs.Waiting.{WaitsFor};
 ghost use Rattle.hp_explore.specs.Schedule.{IsStart, Turn, CanTurn, AreRunnable, choice_at, next_call, in_call};
 ghost use Rattle.hp_explore.specs.Passing.{may_wait, task_may_pass, Agrees};
+ghost use Rattle.hp_explore.specs.Leaving.{can_now, task_may_leave};
 ghost use Rattle.hp_explore.specs.Explored.{EndsWell, IsClean, idle_finish, last_finish, line_of};
 
 use crate::line::{Finish, RunLine};
 use crate::plan::Plan;
+use crate::runnable_tasks::RunnableTasks;
 use crate::script::Script;
 use hp_audit::{Finding, audit};
 use hp_base::{Event, Op, Task};
@@ -42,6 +44,15 @@ fn may_pass(at: Option<Phase>) -> bool
         at,
         Some(Phase::Start | Phase::Want | Phase::Unslot | Phase::Leave)
     )
+}
+
+/// Whether the next turn of a task whose call stands there may leave a slot or a lock. That of any other keeps what the
+/// call holds.
+#[inline(always)]
+fn can_leave(at: Option<Phase>) -> bool
+    ensures { result ≡ task_may_leave at }
+{
+    matches!(at, Some(Phase::Unslot | Phase::Leave))
 }
 
 /// Where the task's call stands after its event. Most outcomes tell it.
@@ -167,18 +178,30 @@ impl Walk {
         }
     }
 
-    /// Lists the tasks that may take a turn, in ascending order. The list's memory is used again.
-    pub(crate) fn list_runnable(&self, plan: &Plan, tasks: &mut Vec<u32>) -> Result<(), AllocError>
-        ensures tasks { OnOk result (AreRunnable plan.now self.now tasks.new.items) }
-        ensures in_range { OnOk result (All (λ t. (1 ≤ t) × (t ≤ length self.now.made)) tasks.new.items) }
+    /// Lists the tasks that may take a turn, in ascending order.
+    pub(crate) fn list_runnable(&self, plan: &Plan, tasks: &mut RunnableTasks)
+        ensures tasks { AreRunnable plan.now self.now tasks.new }
+        ensures in_range { All (λ t. (1 ≤ t) × (t ≤ length self.now.made)) tasks.new }
     {
         tasks.clear();
         for place in 0..self.made.len() as u32 {
-            if self.can_turn(plan, place + 1) {
-                tasks.push(place + 1)?;
-            }
+            let can = self.can_turn(plan, place + 1);
+            tasks.push_if(place + 1, can);
         }
-        Ok(())
+    }
+
+    /// Strikes the tasks off the list that can't take a turn now.
+    fn strike(&self, plan: &Plan, tasks: &mut RunnableTasks)
+        requires { All (λ t. (1 ≤ t) × (t ≤ length self.now.made)) tasks.old }
+        ensures { tasks.new ≡ filter (can_now plan.now self.now) tasks.old }
+    {
+        let before = tasks.copy();
+        tasks.clear();
+        for place in 0..before.len() {
+            let task = before.at(place);
+            let can = self.can_turn(plan, task);
+            tasks.push_if(task, can);
+        }
     }
 
     /// What a turn of the task does.
@@ -217,27 +240,29 @@ impl Walk {
         }
     }
 
-    /// One turn, of one of these tasks. Lists them anew, unless the turn left what its task's call holds, and the task can
-    /// take another: then the others can take a turn where they could before.
+    /// One turn, of one of these tasks. Where it may leave a slot or a lock, others may go on: the tasks are listed anew. Where
+    /// it may take one, or where its task can't take another, some of these may be held up: they are struck off. Else the same
+    /// can take a turn as before.
     #[inline(always)]
-    fn turn_of(&mut self, plan: &Plan, tasks: &mut Vec<u32>) -> Result<Event, AllocError>
-        requires runnable { AreRunnable plan.now self.old tasks.old.items }
-        requires in_range { All (λ t. (1 ≤ t) × (t ≤ length self.old.made)) tasks.old.items }
-        requires some { 0 < length tasks.old.items }
+    fn turn_of(&mut self, plan: &Plan, tasks: &mut RunnableTasks) -> Result<Event, AllocError>
+        requires runnable { AreRunnable plan.now self.old tasks.old }
+        requires in_range { All (λ t. (1 ≤ t) × (t ≤ length self.old.made)) tasks.old }
+        requires some { 0 < length tasks.old }
         requires turns { self.old.turns < 1000000 }
         ensures turn { IfOk result (λ event. Turn plan.now self.old event self.new) }
-        ensures runnable { OnOk result (AreRunnable plan.now self.new tasks.new.items) }
-        ensures in_range { OnOk result (All (λ t. (1 ≤ t) × (t ≤ length self.new.made)) tasks.new.items) }
+        ensures runnable { OnOk result (AreRunnable plan.now self.new tasks.new) }
+        ensures in_range { OnOk result (All (λ t. (1 ≤ t) × (t ≤ length self.new.made)) tasks.new) }
     {
-        // A division of 32 bits: one of 64 takes twice the time, and more.
-        let place = self.rng.next_word() % tasks.len() as u32;
-        let task = tasks[place as usize];
+        let place = plan.remainders.of(self.rng.next_word(), tasks.len());
+        let task = tasks.at(place);
         let at = self.phase(task);
         let event = self.choose(plan, task);
         self.core.is_reached();
         self.make(&event, task)?;
-        if may_pass(at) || !self.can_turn(plan, task) {
-            self.list_runnable(plan, tasks)?;
+        if can_leave(at) {
+            self.list_runnable(plan, tasks);
+        } else if may_pass(at) || !self.can_turn(plan, task) {
+            self.strike(plan, tasks);
         }
         Ok(event)
     }
@@ -267,16 +292,16 @@ impl Walk {
     pub(crate) fn turn(
         &mut self,
         plan: &Plan,
-        tasks: &mut Vec<u32>,
+        tasks: &mut RunnableTasks,
     ) -> Result<Option<Event>, AllocError>
         requires turns { self.old.turns < 1000000 }
-        requires runnable { AreRunnable plan.now self.old tasks.old.items }
-        requires in_range { All (λ t. (1 ≤ t) × (t ≤ length self.old.made)) tasks.old.items }
+        requires runnable { AreRunnable plan.now self.old tasks.old }
+        requires in_range { All (λ t. (1 ≤ t) × (t ≤ length self.old.made)) tasks.old }
         ensures turn { IfOk result (λ told. IfSome told (λ event. Turn plan.now self.old event self.new)) }
         ensures idle { IfOk result (λ told. told ≡ None → AreRunnable plan.now self.old []) }
         ensures stays { IfOk result (λ told. told ≡ None → self.new ≡ self.old) }
-        ensures runnable { OnOk result (AreRunnable plan.now self.new tasks.new.items) }
-        ensures in_range { OnOk result (All (λ t. (1 ≤ t) × (t ≤ length self.new.made)) tasks.new.items) }
+        ensures runnable { OnOk result (AreRunnable plan.now self.new tasks.new) }
+        ensures in_range { OnOk result (All (λ t. (1 ≤ t) × (t ≤ length self.new.made)) tasks.new) }
     {
         if tasks.is_empty() {
             return Ok(None);
@@ -286,7 +311,7 @@ impl Walk {
     }
 
     /// How the run ends where no turn is left. These are the tasks that could take one.
-    pub(crate) fn last_finish(&self, plan: &Plan, tasks: &[u32]) -> Finish
+    pub(crate) fn last_finish(&self, plan: &Plan, tasks: &RunnableTasks) -> Finish
         requires { AreRunnable plan.now self.now tasks.now }
         ensures finish { result ≡ last_finish plan.now self.now tasks.now }
         ensures ends { EndsWell result }

@@ -16,8 +16,8 @@ loop-made-init c =
     let script = c.args.script.now in
     record {
       turns = c.in_ok-walk.ensures.turns;
-      runnable = c.in_ok-list_runnable.ensures.tasks;
-      in_range = c.in_ok-list_runnable.ensures.in_range;
+      runnable = c.list_runnable.ensures.tasks;
+      in_range = c.list_runnable.ensures.in_range;
       count = ap (λ (es : List Event). length es) c.new-events.ensures.items;
       goes_on = λ rest line run. subst (λ (es : List Event). IsExplored script c.args.seed plan.deny plan.kill 0 (es ++ rest) line)
           (sym c.new-events.ensures.items)
@@ -69,7 +69,7 @@ returns c =
     let plan = c.args.plan.now in
     let w = c.loop-made.walk in
     let left = 1000000 - c.loop-made.made in
-    let tasks = c.loop-made.tasks.items in
+    let tasks = c.loop-made.tasks in
     let none : left ≡ 0 = omega arith in
     let line = line_of 0 (last_finish plan w tasks) w in
     record {

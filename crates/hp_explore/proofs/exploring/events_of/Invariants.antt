@@ -9,8 +9,8 @@ use Rattle.hp_explore.proofs.exploring.events_of.Given as goal
 abbrev pub invariant-loop-made : goal.invariant-loop-made
 invariant-loop-made l = record {
   turns : l.walk.turns ≡ l.made;
-  runnable : AreRunnable l.plan l.walk l.tasks.items;
-  in_range : All (λ t. (1 ≤ t) × (t ≤ length l.walk.made)) l.tasks.items;
+  runnable : AreRunnable l.plan l.walk l.tasks;
+  in_range : All (λ t. (1 ≤ t) × (t ≤ length l.walk.made)) l.tasks;
   count : length l.events.items ≡ l.made;
   goes_on : (rest : List Event) (line : RunLine) → IsRun l.plan 0 (1000000 - l.made) l.walk rest line
       → IsExplored l.script l.seed l.plan.deny l.plan.kill 0 (l.events.items ++ rest) line;

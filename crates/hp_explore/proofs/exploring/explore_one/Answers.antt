@@ -1,11 +1,11 @@
 -- Each turn leaves a run of one turn less, and the last world ends it.
-use Rattle.std.proofs.Common.{◌≡◌, ◌+◌, ◌-◌, ◌%◌, ◌^◌, ◌∙◌, ℕ, List, [], ◌∷◌, sym, ap, subst}
+use Rattle.std.proofs.Common.{◌≡◌, ◌+◌, ◌-◌, ◌%◌, ◌^◌, ◌∙◌, ℕ, [], ◌∷◌, sym, ap, subst}
 use Rattle.std.proofs.Common.{refl, arith}
 use Rattle.std.specs.Prelude.{Option, not, IfSome}
 use Rattle.hp_base.specs.declared.event.Event.{Event}
 use Rattle.hp_explore.specs.declared.line.Finish.{Finish}
 use Rattle.hp_explore.specs.declared.line.RunLine.{RunLine}
-use Rattle.hp_explore.specs.Schedule.{AreRunnable, Turn}
+use Rattle.hp_explore.specs.Schedule.{Turn}
 use Rattle.hp_explore.specs.Explored.{IsRun, line_of}
 use Rattle.hp_explore.proofs.Runs.{by_turn, by_idling, by_limit, explored, none_told, some_told, idle_line}
 use Rattle.hp_explore.proofs.exploring.explore_one.Goals as goal
@@ -15,8 +15,8 @@ loop-turn-init c =
     let plan = c.args.plan.now in
     record {
       turns = c.in_ok-walk.ensures.turns;
-      runnable = c.in_ok-list_runnable.ensures.tasks;
-      in_range = c.in_ok-list_runnable.ensures.in_range;
+      runnable = c.list_runnable.ensures.tasks;
+      in_range = c.list_runnable.ensures.in_range;
       goes_on = λ events line run. (
         events,
         explored c.args.script.now c.args.seed plan.deny plan.kill c.args.run _ 1000000 plan c.in_ok-walk.walk events line c.requires
@@ -64,5 +64,4 @@ returns-clause-line c =
     let is = c.line-2.ensures ∙ ap (λ (f : Finish). line_of run f w) c.last_finish-finish.ensures.finish in
     c.loop-turn.invariant.goes_on [] c.line-2.result
     (subst (λ (l : RunLine). IsRun plan run left w [] l) (sym is)
-    (by_limit plan run left w c.as_slice.result.now none
-    (subst (λ (ts : List ℕ). AreRunnable plan w ts) (sym c.as_slice.ensures.value) c.loop-turn.invariant.runnable)))
+    (by_limit plan run left w c.loop-turn.tasks none c.loop-turn.invariant.runnable))

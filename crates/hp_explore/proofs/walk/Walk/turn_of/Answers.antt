@@ -1,51 +1,52 @@
 -- Listed anew, the tasks are those that can take a turn; else they are as before.
-use Rattle.std.proofs.Common.{◌≡◌, ◌≤◌, ◌<◌, ◌%◌, ◌∙◌, ℕ, List, All, length, sym, ap, subst, arith}
+use Rattle.std.proofs.Common.{◌≡◌, ◌≤◌, ◌<◌, ◌∙◌, ℕ, List, All, length, sym, ap, subst, arith}
 use Rattle.hp_core.specs.Readers.{phase_of}
 use Rattle.hp_machine.specs.Events.{IsReached}
 use Rattle.hp_core.specs.State.{CoreState, as_state}
 use Rattle.hp_explore.specs.Schedule.{World, AreRunnable, CanTurn}
 use Rattle.hp_laws.specs.Laws.{IsOf}
 use Rattle.hp_base.specs.declared.event.Event.{Event}
+use Rattle.hp_explore.specs.Leaving.{can_now, task_may_leave}
 use Rattle.hp_explore.specs.Passing.{task_may_pass}
 use Rattle.hp_explore.proofs.Others.{all_can, at_index, list_stays, long_after, of_choice}
-use Rattle.hp_explore.proofs.Phases.{holding_stays}
-use Rattle.hp_explore.proofs.Runnable.{no_more_than}
+use Rattle.hp_explore.proofs.Phases.{holding_stays, holds_on}
+use Rattle.hp_explore.proofs.Retained.{list_struck}
+use Rattle.std.proofs.lemmas.List.Elements.{All-filter}
 use Rattle.hp_explore.proofs.walk.Walk.turn_of.Goals as goal
-use Rattle.hp_explore.proofs.walk.Walk.turn_of.Goals.{then-may_pass+in_ok-list_runnable, else-may_pass+else-not-can_turn}
-
--- no more tasks than 64
-pub overflow_cast-place : goal.overflow_cast-place
-overflow_cast-place c =
-    let few = no_more_than c.args.plan.now c.args.self.now (length c.args.self.now.made) c.args.tasks.now.items c.requires.runnable in
-    let seen = ap (λ (x : World). length x.made) c.self.view_is in
-    omega (arith, few, seen, c.self.invariant.few, c.len.ensures)
+use Rattle.hp_explore.proofs.walk.Walk.turn_of.Goals.{then-can_leave, else-can_leave+then-may_pass, else-can_leave+else-may_pass+else-not-can_turn}
 
 pub returns-clause-runnable : goal.returns-clause-runnable
 returns-clause-runnable c =
     let plan = c.args.plan.now in
     let w = c.args.self.now in
     let v = c.make.new.self in
-    let t = c.index-task.result.now in
-    let old = c.args.tasks.now.items in
+    let t = c.at-task.result in
+    let old = c.args.tasks.now in
     let Lists : List ℕ → Type 0 = λ ts. AreRunnable plan v ts in
     let left = ap (λ (x : World). x.core) c.choose-event.ensures.left in
     let same_core = left ∙ ap (λ (x : World). x.core) c.self.view_is in
     let same_made = ap (λ (x : World). x.made) c.self.view_is in
     let made = c.in_ok-make.ensures.made ∙ ap (λ (x : World). x.made) c.choose-event.ensures.left in
     let reached = subst (λ (x : World). IsReached (as_state x.core)) c.self-2.view_is c.is_reached.ensures in
-    let place = c.next_word.result % c.len.result in
-    let within : place < length old = omega (arith, c.len.ensures, c.requires.some) in
-    let one : 1 ≤ t = (at_index (λ (n : ℕ). (1 ≤ n) × (n ≤ length w.made)) old place t c.index-task.ensures c.requires.in_range within).0 in
+    let place = c.of-place.result in
+    let within : place < length old = omega (arith, c.of-place.ensures, c.len.ensures.len, c.requires.some) in
+    let one : 1 ≤ t = (at_index (λ (n : ℕ). (1 ≤ n) × (n ≤ length w.made)) old place t c.at-task.ensures.task c.requires.in_range within).0 in
     let alone : (u : ℕ) → IsOf u c.choose-event.result → u ≡ t = λ u h. of_choice plan _ _ _ t _ u
     (subst (λ (e : Event). IsOf u e) c.choose-event.ensures.event h) in
-    let could = at_index (CanTurn plan w) old place t c.index-task.ensures
+    let could = at_index (CanTurn plan w) old place t c.at-task.ensures.task
     (all_can plan w (length w.made) old c.requires.runnable) within in
-    elim c.if-may_pass.branch [
-      | then-may_pass+in_ok-list_runnable b ↦ subst Lists (sym (ap (λ v. v.items) b.tasks-is)) b.in_ok-list_runnable.ensures.tasks
-      | else-may_pass+else-not-can_turn b ↦ (let quiet = ap (λ (s : CoreState). task_may_pass (phase_of s t)) left
-          ∙ (ap task_may_pass (sym c.phase-at.ensures) ∙ (sym c.may_pass.ensures ∙ b.if-may_pass.false)) in
+    elim c.if-can_leave.branch [
+      | then-can_leave b ↦ subst Lists (sym b.tasks-is) b.list_runnable.ensures.tasks
+      | else-can_leave+then-may_pass b ↦ (let stays = ap (λ (s : CoreState). task_may_leave (phase_of s t)) left
+          ∙ (ap task_may_leave (sym c.phase-at.ensures) ∙ (sym c.can_leave.ensures ∙ b.if-can_leave.false)) in
+          let held = holds_on _ v.core _ _ t c.in_ok-make.ensures.row.1 alone stays in
+          subst Lists (sym (b.tasks-is ∙ b.strike.ensures))
+          (list_struck plan w v _ _ _ c.in_ok-make.ensures.row.0 t _ _ _ old same_core same_made reached c.in_ok-make.ensures.row.1
+          c.choose-event.ensures.event made one held could c.requires.runnable))
+      | else-can_leave+else-may_pass+else-not-can_turn b ↦ (let quiet = ap (λ (s : CoreState). task_may_pass (phase_of s t)) left
+          ∙ (ap task_may_pass (sym c.phase-at.ensures) ∙ (sym b.may_pass.ensures ∙ b.if-may_pass.false)) in
           let held = holding_stays _ v.core _ _ t c.in_ok-make.ensures.row.1 alone quiet in
-          subst Lists (sym (ap (λ v. v.items) b.tasks-is))
+          subst Lists (sym b.tasks-is)
           (list_stays plan w v _ _ _ c.in_ok-make.ensures.row.0 t _ _ _ old same_core same_made reached c.in_ok-make.ensures.row.1
           c.choose-event.ensures.event made one held could (b.can_turn.ensures.can b.if-not-can_turn.false) c.requires.runnable))
     ]
@@ -56,14 +57,17 @@ returns-clause-in_range c =
     let InRange : List ℕ → Type 0 = λ ts. All (λ t. (1 ≤ t) × (t ≤ length v.made)) ts in
     let made = c.in_ok-make.ensures.made ∙ ap (λ (x : World). x.made) c.choose-event.ensures.left in
     let seen = ap (λ (x : World). length x.made) c.self.view_is in
-    let long = ap (λ (m : List ℕ). length m) made ∙ long_after c.args.plan.now _ _ _ c.index-task.result.now _ ∙ seen in
-    elim c.if-may_pass.branch [
-      | then-may_pass+in_ok-list_runnable b ↦ subst InRange (sym (ap (λ v. v.items) b.tasks-is)) b.in_ok-list_runnable.ensures.in_range
-      | else-may_pass+else-not-can_turn b ↦ subst InRange (sym (ap (λ v. v.items) b.tasks-is))
-          (subst (λ (n : ℕ). All (λ t. (1 ≤ t) × (t ≤ n)) c.args.tasks.now.items) (sym long) c.requires.in_range)
+    let long = ap (λ (m : List ℕ). length m) made ∙ long_after c.args.plan.now _ _ _ c.at-task.result _ ∙ seen in
+    elim c.if-can_leave.branch [
+      | then-can_leave b ↦ subst InRange (sym b.tasks-is) b.list_runnable.ensures.in_range
+      | else-can_leave+then-may_pass b ↦ subst InRange (sym (b.tasks-is ∙ b.strike.ensures))
+          (All-filter (can_now c.args.plan.now v) (λ t. (1 ≤ t) × (t ≤ length v.made)) c.args.tasks.now
+          (subst (λ (n : ℕ). All (λ t. (1 ≤ t) × (t ≤ n)) c.args.tasks.now) (sym long) c.requires.in_range))
+      | else-can_leave+else-may_pass+else-not-can_turn b ↦ subst InRange (sym b.tasks-is)
+          (subst (λ (n : ℕ). All (λ t. (1 ≤ t) × (t ≤ n)) c.args.tasks.now) (sym long) c.requires.in_range)
     ]
 
 pub make-requires-clause-alone : goal.make-requires-clause-alone
 make-requires-clause-alone c =
-    λ u h. of_choice c.args.plan.now _ _ _ c.index-task.result.now _ u
+    λ u h. of_choice c.args.plan.now _ _ _ c.at-task.result _ u
     (subst (λ (e : Event). IsOf u e) c.choose-event.ensures.event h)
