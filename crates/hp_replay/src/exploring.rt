@@ -1,5 +1,5 @@
 //! The lines of a script's explored runs, and one of them as a trace.
-ghost use Rattle.std.specs.Prelude.{◌≡◌, ◌≤◌, ◌<◌, ◌+◌, ◌^◌, ◌&&◌, IfOk, IfErr, All, length};
+ghost use Rattle.std.specs.Prelude.{◌≡◌, ◌≤◌, ◌<◌, ◌+◌, ◌*◌, ◌/◌, ◌^◌, ◌&&◌, if◌then◌else◌, min, nat_lt, IfOk, IfErr, All, length};
 ghost use Rattle.std.specs.List.{AllZip, list_all, range_with_len};
 ghost use Rattle.hp_base.specs.Text.{sizes};
 ghost use Rattle.hp_explore.specs.Explored.{EndsWell, IsExplored, IsLine};
@@ -111,16 +111,23 @@ fn both(a: bool, b: bool) -> bool
     a && b
 }
 
+/// Whether each run was ended by fewer turns.
+fn are_shorter(lines: &[RunLine], turns: u32) -> bool
+    ensures { result ≡ list_all (λ line. nat_lt line.turns turns) lines.now }
+{
+    lines.iter().all(|line| line.turns < turns)
+}
+
 /// How many runs the next part has: twice as many, where each was so short that all were soon done. To begin the threads of a
 /// part takes as long as hundreds of short runs.
 fn next_part(part: u32, lines: &[RunLine]) -> u32
     requires some { 0 < part }
     requires most { part ≤ MOST_PART }
+    ensures grows { result ≡ (if list_all (λ line. nat_lt line.turns (SOON / part)) lines.now then min (part * 2) MOST_PART else part) }
     ensures some { 0 < result }
     ensures most { result ≤ MOST_PART }
 {
-    let few = SOON / part;
-    if lines.iter().all(|line| line.turns < few) {
+    if are_shorter(lines, SOON / part) {
         (part * 2).min(MOST_PART)
     } else {
         part
