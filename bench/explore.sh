@@ -3,7 +3,8 @@
 # proved; then on all processors; then with the audit of every turn, fewer runs; and a script of 64 tasks in a pool of 4,096
 # frames beside one of 4 tasks, a turn each. Says whether both wrote the same lines. Needs cargo, python3 and taskset.
 # How much faster all processors are is told by the clock, so it needs a machine with nothing else to do: where others had
-# work when it began, it says so, and that number says nothing.
+# work when it began, it says so, and that number says nothing. What the machine gives is told beside it: how much more as
+# many plain explorers do at once, a whole exploration each, than one does.
 set -euo pipefail
 source "$(dirname "${BASH_SOURCE[0]}")/needs.sh" python3 taskset
 PYTHONPATH=bench exec python3 -B - <<'P'
@@ -48,6 +49,21 @@ def wall(words, path):
     return best
 
 
+def at_once(words, path, many):
+    """The seconds that the clock tells for as many of these at once, the best of five."""
+    best = float("inf")
+    for _ in range(5):
+        start = time.perf_counter()
+        started = []
+        for _ in range(many):
+            with open(path) as source:
+                started.append(subprocess.Popen(words, stdin=source, stdout=subprocess.DEVNULL))
+        if any([it.wait() for it in started]):
+            sys.exit("bench: one of them failed")
+        best = min(best, time.perf_counter() - start)
+    return best
+
+
 def busy():
     """The seconds that all processors have been at work since the system began."""
     user, nice, system = Path("/proc/stat").read_text().split(maxsplit=4)[1:4]
@@ -79,6 +95,8 @@ with tempfile.TemporaryDirectory() as folder:
     others = busy_processors()
     one, all_of_them = wall([*ONE, *OURS, *options], small), wall([*OURS, *options], small)
     print(f"by the clock: {one:.3f} s on one processor, {all_of_them:.3f} s on {cores}: {one / all_of_them:.2f} times as fast")
+    alone, together = at_once([*THEIRS, *options], small, 1), at_once([*THEIRS, *options], small, cores)
+    print(f"  (plain explorers, one beside the other on {cores}, do {cores * alone / together:.2f} times as much as one)")
     if others > 0.1:
         print(f"  (others kept {others:.1f} processors busy before that: it says nothing of {cores} free ones)")
     few = ["--runs", "2000", "--deny", "50", "--kill", "1"]

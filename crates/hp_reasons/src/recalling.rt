@@ -44,9 +44,10 @@ impl Model for Recent {
 // Counted in bytes, so that many are compared at once: a branch for each would take as long as most else that is done with a line.
 fn lines_in(bytes: &[u8]) -> u64 {
     bytes.chunks(255).fold(0, |lines: u64, chunk| {
-        let some = chunk
-            .iter()
-            .fold(0u8, |some, byte| some.wrapping_add(u8::from(*byte == b'\n')));
+        let some = chunk.iter().fold(
+            0u8,
+            |some, byte| some.wrapping_add(u8::from(*byte == b'\n')),
+        );
         lines.saturating_add(u64::from(some))
     })
 }
