@@ -1,7 +1,8 @@
 """What the check of a crate sees of one below it: types, contracts and definitions, and what these and its lemmas name.
 
 It sees neither the bodies of functions nor their proofs, nor what only the crate below can name: private functions, constants and
-types with their impls, modules, imports that only those need, and files of definitions that nobody names who is seen.
+types with their impls, modules, imports that only those need, and files of definitions that nobody names who is seen. Of a type that
+it sees as the value of its model it doesn't see how it is kept, unless its declaration is named: its private fields, its view and its invariant.
 """
 from __future__ import annotations
 
@@ -15,6 +16,10 @@ import source
 # an item that only its own crate can name, unless it stands in a trait or in an impl of one: its word, and its name
 PRIVATE = re.compile(r"^ *(?:pub\([^)]*\) )?(?:(?:const |unsafe )*fn|const|static) (\w+)")
 PRIVATE_TYPE = re.compile(r"^(?:pub\([^)]*\) )?(?:struct|enum) (\w+)")
+# a struct with its fields by name, an impl of what it is seen as, and what that says of how it is kept
+STRUCT = re.compile(r"^pub struct (\w+)\b.* \{$")
+MODEL = re.compile(r"^impl\b.* Model for ")
+KEPT = re.compile(r"^    ghost (?:view|invariant) = ")
 # a line that declares a module in a file of its own; one of a public module of definitions only says that its file is there
 MODULE = re.compile(r"^(?:pub\([^)]*\) )?mod \w+;\n", re.M)
 DEFINED = re.compile(r"^(?:pub )?mod \w+\n", re.M)
@@ -29,7 +34,7 @@ OF_FUNCTIONS = ("Answers", "Invariants")
 
 @dataclass(frozen=True)
 class Seen:
-    """What is seen of a crate whoever looks, and its files of definitions, of which those are seen that are named."""
+    """What is seen of a crate whoever looks, and its files of definitions and how its types are kept, which is seen where it is named."""
 
     text: bytes
     definitions: dict[tuple[str, ...], bytes]
@@ -92,10 +97,38 @@ def take_private_types(lines: list[str], names: set[str], hidden: dict[str, str]
             hidden[name] = take_away(lines, at, source.end_of(lines, at, "")) + hidden.get(name, "")
 
 
-def seen_in(path: str, text: str, private: set[str]) -> tuple[str, dict[str, str]]:
-    """A source file without comments, and without what stands in its functions; and by their names, apart from that, the items that
-    only its own crate can name, of which some types are. Functions that are computed when the crate is compiled keep their bodies, and
-    those whose body says of which type the result is."""
+def fields_of(lines: list[str], first: int) -> list[range]:
+    """Where the private fields of a struct stand. One goes on to the line before the next, and an attribute is kept."""
+    last = source.end_of(lines, first, "")
+    begins = [at for at in range(first + 1, last) if re.match(r" {4}[^\s)\]}]", lines[at])]
+    return [range(at, to) for at, to in zip(begins, [*begins[1:], last]) if not lines[at].startswith(("    pub ", "    #["))]
+
+
+def kept_of(lines: list[str], first: int) -> list[range]:
+    """Where an impl of a model says how the type is kept."""
+    inside = range(first + 1, source.end_of(lines, first, ""))
+    return [range(at, source.end_of(lines, at, "    ") + 1) for at in inside if KEPT.match(lines[at])]
+
+
+def take_insides(lines: list[str]) -> dict[str, str]:
+    """Takes away how those types are kept that are seen as the values of their models, and tells it by their names."""
+    modelled = {type_of(it) for it in lines if MODEL.match(it)}
+    found = {}
+    for at in reversed(range(len(lines))):
+        struct = STRUCT.match(lines[at])
+        name = struct[1] if struct else type_of(lines[at]) if MODEL.match(lines[at]) else None
+        if name not in modelled:
+            continue
+        for where in reversed(fields_of(lines, at) if struct else kept_of(lines, at)):
+            found[name] = "".join(without_comments(lines[it] for it in where)) + found.get(name, "")
+            del lines[where.start:where.stop]
+    return found
+
+
+def seen_in(path: str, text: str, private: set[str]) -> tuple[str, dict[str, str], dict[str, str]]:
+    """A source file without comments, and without what stands in its functions; by their names, apart from that, the items that only
+    its own crate can name, of which some types are; and how types are kept that are seen as the values of their models. Functions that
+    are computed when the crate is compiled keep their bodies, and those whose body says of which type the result is."""
     lines, hidden = text.split("\n"), {}
     bounds = {first: last for _, first, last in source.functions(path, text)}
     bounds |= {at: source.end_of(lines, at, "") for at, it in enumerate(lines) if re.match(r"(?:pub\([^)]*\) )?(?:const|static) \w+:", it)}
@@ -112,7 +145,8 @@ def seen_in(path: str, text: str, private: set[str]) -> tuple[str, dict[str, str
             name = owner if owner in private else PRIVATE.match(left[first])[1]
             hidden[name] = hidden.get(name, "") + take_away(left, first, last)
     take_private_types(left, private, hidden)
-    return MODULE.sub("", "".join(without_comments(left))), hidden
+    insides = take_insides(left)
+    return MODULE.sub("", "".join(without_comments(left))), hidden, insides
 
 
 def is_used(name: str, text: str, words: set[str]) -> bool:
@@ -153,16 +187,19 @@ def seen_of(crate: Path) -> Seen:
     private = {name for it in own["src"] for name in private_types(texts[it])}
     sources = {it: seen_in(str(it.relative_to(crate)), texts[it], private) for it in own["src"]}
     hidden, shown = {}, set()
-    for _, items in sources.values():
+    for _, items, _ in sources.values():
         hidden |= {name: hidden.get(name, "") + text for name, text in items.items()}
     more = {name for it in own["specs"] + own["proofs"] for name in names_in(texts[it], hidden, private)}
-    more |= hidden.keys() & words_of("".join(IMPORT.sub("", text) for text, _ in sources.values()))
+    more |= hidden.keys() & words_of("".join(IMPORT.sub("", text) for text, _, _ in sources.values()))
     while more:
         shown |= more
         more = hidden.keys() & words_of("".join(hidden[name] for name in more)) - shown
-    files = {it: (text, "".join(items[name] for name in sorted(items.keys() & shown))) for it, (text, items) in sources.items()}
+    files = {it: (text, "".join(items[name] for name in sorted(items.keys() & shown))) for it, (text, items, _) in sources.items()}
     seen = (named(crate, it, (without_needless(text, beside) + beside).encode()) for it, (text, beside) in files.items() if IMPORT.sub("", text) + beside)
     definitions = {it.relative_to(crate / "specs").with_suffix("").parts: named(crate, it, DEFINED.sub("", texts[it]).encode()) for it in own["specs"]}
+    for file, (_, _, insides) in sources.items():
+        module = source.module_of(str(file.relative_to(crate)))
+        definitions |= {("declared", *module, name): named(crate, file, text.encode()) for name, text in insides.items()}
     return Seen(b"".join(seen), definitions)
 
 

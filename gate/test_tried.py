@@ -15,7 +15,7 @@ ALL = {f"{crate}/{edit}" for crate in CRATES for edit in ("one", "two")}
 
 # a crate's source: imports; constants, of which a type and an own function name one each; types that the crate has for itself, of which
 # a public one has one inside and a lemma names one; a function that the crate has for itself, one that a definition names, and one that
-# a lemma names; public functions, of which one is computed when it is compiled, and one's body tells its result's type
+# a lemma names; types that are seen as numbers, of which a lemma that is seen names one's declaration; public functions, of which one is computed when it is compiled, and one's body tells its result's type
 SOURCE = """ghost use Rattle.std.specs.Prelude.{◌≡◌, ◌+◌, []};
 
 use std::mem::swap;
@@ -90,6 +90,34 @@ fn told() -> u32
     10
 }
 
+/// A type that is seen as a number.
+pub struct Kept {
+    pub open: u8,
+    closed: Vec<
+        u16,
+    >,
+}
+
+impl Model for Kept {
+    ghost Value = { ℕ };
+
+    ghost view = { λ k. k.closed + 1 };
+
+    ghost invariant = { λ k. record {
+      few : k.closed ≤ 13;
+    } };
+}
+
+pub struct Declared {
+    number: i8,
+}
+
+impl Model for Declared {
+    ghost Value = { ℕ };
+
+    ghost view = { λ d. d.number + 14 };
+}
+
 pub fn first(of: u32) -> u32
     ensures { result ≡ of }
 {
@@ -117,7 +145,7 @@ def repository(top: Path) -> Path:
         for file in ("specs/one.antt", "edits/one.edit", "must-fail/two.edit"):
             change(top, f"crates/{name}/{file}", f"{name} {file}\n")
     change(top, "crates/low/specs/two/Names.antt", "says of named, and has an Own that is no type of the source\n")
-    change(top, "crates/low/proofs/Deep/Last.antt", "last : none\n")
+    change(top, "crates/low/proofs/Deep/Last.antt", "use Rattle.low.specs.declared.one.Declared.{Declared}\nlast : none\n")
     change(top, "crates/low/proofs/Next.antt", "use Rattle.low.proofs.Deep.Last.{last}\n")
     change(top, "crates/low/proofs/Own.antt", "-- it isn't mine, and no Own\nown : none\n")
     change(top, "crates/low/proofs/Types.antt", "use Rattle.low.specs.declared.one.Cited.{Cited}\n")
@@ -196,6 +224,15 @@ CHANGES = [
     (lambda top: replace(top, "crates/low/src/one.rt", "struct Own", "pub struct Own"), of("low", "high")),
     (lambda top: replace(top, "crates/low/src/one.rt", "struct Inside(u8)", "struct Inside(u16)"), of("low", "high")),
     (lambda top: replace(top, "crates/low/src/one.rt", "struct Cited(u64)", "struct Cited(u32)"), of("low", "high")),
+    (lambda top: replace(top, "crates/low/src/one.rt", "u16,\n    >", "u8,\n    >"), of("low")),
+    (lambda top: replace(top, "crates/low/src/one.rt", "k.closed + 1", "k.closed + 2"), of("low")),
+    (lambda top: replace(top, "crates/low/src/one.rt", "k.closed ≤ 13", "k.closed ≤ 12"), of("low")),
+    (lambda top: replace(top, "crates/low/src/one.rt", "pub open: u8", "pub open: u64"), of("low", "high")),
+    (lambda top: replace(top, "crates/low/src/one.rt", "    pub open: u8,\n", "    open: u8,\n"), of("low", "high")),
+    (lambda top: replace(top, "crates/low/src/one.rt", "Value = { ℕ };\n\n    ghost view = { λ k.", "Value = { Bool };\n\n    ghost view = { λ k."), of("low", "high")),
+    (lambda top: replace(top, "crates/low/src/one.rt", "impl Model for Kept", "impl Other for Kept"), of("low", "high")),
+    (lambda top: replace(top, "crates/low/src/one.rt", "number: i8", "number: i16"), of("low", "high")),
+    (lambda top: replace(top, "crates/low/src/one.rt", "d.number + 14", "d.number + 15"), of("low", "high")),
     (lambda top: change(top, "crates/low/src/own.rt", "use std::mem::swap;\n\nstruct Another;\n"), of("low")),
     (lambda top: change(top, "crates/low/proofs/two.antt", ""), of("low")),
     (lambda top: change(top, "crates/low/proofs/Own.antt", "own : ⊤\n"), of("low")),

@@ -1,6 +1,7 @@
 pub mod Chunks
 pub mod Copies
 pub mod Listing
+pub mod Lists
 pub mod Slots
 pub mod Tables
 pub mod Views

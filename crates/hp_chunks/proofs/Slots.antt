@@ -1,11 +1,11 @@
 -- The frame of each number, as the chunks keep it.
-use Rattle.std.proofs.Common.{◌≡◌, ℕ, ◌+◌, ◌*◌, ◌/◌, ◌%◌, ◌<◌, ◌≤◌, true, false, List, Option, None, Some, length, get_or, set}
+use Rattle.std.proofs.Common.{◌≡◌, ◌≢◌, ℕ, ◌+◌, ◌*◌, ◌/◌, ◌%◌, ◌<◌, ◌≤◌, true, false, List, Option, None, Some, length, get_or, set}
 use Rattle.std.proofs.Common.{refl, sym, ap, ◌∙◌, arith, inl, inr, true≢false}
 use Rattle.std.specs.Bool.{then_some}
 use Rattle.std.specs.Prelude.{Bool, is_some, nat_lt}
 use Rattle.std.proofs.lemmas.Bool.{cases_eq, cases_lt, ltb-true, ltb-false}
 use Rattle.std.proofs.lemmas.Bool.Decides.{nat_tests}
-use Rattle.std.proofs.lemmas.List.{get_or_past, get_or-set_same, get_or-set_other}
+use Rattle.std.proofs.lemmas.List.{get_or_past, get_or_default, get_or-set_same, get_or-set_other}
 use Rattle.std.proofs.lemmas.Nat.{div-mul-add, mod-mul-add}
 use Rattle.hp_base.specs.Indices.{count_below}
 use Rattle.hp_base.specs.Numbers.{put}
@@ -36,32 +36,31 @@ frame_of_slot chunks number slot is = frame_of-is chunks number ∙ ap (λ (s : 
 pub frame_of_no_chunk : (chunks : List Slot) (number : ℕ) → slot_at chunks (number / 64) ≡ None → frame_of chunks number ≡ None
 frame_of_no_chunk chunks number none = frame_of-is chunks number ∙ ap (λ (slot : Slot). frame_in slot (number % 64)) none
 
--- where none of the chunks is there, there is none
-pub no_slots : (chunks : List Slot) → ((k : ℕ) → k < length chunks → slot_at chunks k ≡ None)
-    → (k : ℕ) → slot_at chunks k ≡ None
-no_slots chunks none k =
-    elim (cases_lt k (length chunks)) [
-      | inl below ↦ none k below
-      | inr past ↦ get_or_past chunks k None (omega arith)
-    ]
+-- where chunks end of which there are at most n
+pub chunks_end : (n : ℕ) (chunks : List Slot) → length chunks ≤ n → EndsBy (frame_of chunks) (n * 64)
+chunks_end n chunks few number past = frame_of_no_chunk chunks number (get_or_past chunks (number / 64) None (omega arith))
 
--- where n chunks end
-pub chunks_end : (n : ℕ) (chunks : List Slot) → length chunks ≡ n → EndsBy (frame_of chunks) (n * 64)
-chunks_end n chunks whole number past = frame_of_no_chunk chunks number (get_or_past chunks (number / 64) None (omega arith))
-
--- a chunk in which one place differs makes one frame differ
-pub frame_of-set : (chunks : List Slot) (number : ℕ) (slot : Slot) (frame : Option ℕ) → number / 64 < length chunks
-    → ((place : ℕ) → place < 64 → frame_in slot place ≡ put (frame_in (slot_at chunks (number / 64))) (number % 64) frame place)
-    → (q : ℕ) → frame_of (set chunks (number / 64) slot) q ≡ put (frame_of chunks) number frame q
+-- where one place of one chunk differs, one frame does
+pub frame_of-one : (before after : List Slot) (number : ℕ) (frame : Option ℕ)
+    → ((at : ℕ) → at ≢ number / 64 → slot_at after at ≡ slot_at before at)
+    → ((place : ℕ) → place < 64
+    → frame_in (slot_at after (number / 64)) place ≡ put (frame_in (slot_at before (number / 64))) (number % 64) frame place)
+    → (q : ℕ) → frame_of after q ≡ put (frame_of before) number frame q
 unfolding frame_of put
-frame_of-set chunks number slot frame within differs q =
+frame_of-one before after number frame others here q =
     elim (cases_eq (q / 64) (number / 64)) [
-      | inl same ↦
-          rw (same, get_or-set_same chunks (number / 64) slot None within)
-          (differs (q % 64) (omega arith) ∙ grind (arith, nat_tests))
-      | inr other ↦
-          rw (get_or-set_other chunks (number / 64) (q / 64) slot None other) (grind (arith, nat_tests))
+      | inl same ↦ rw same (here (q % 64) (omega arith) ∙ grind (arith, nat_tests))
+      | inr other ↦ rw (others (q / 64) other) (grind (arith, nat_tests))
     ]
+
+-- so a chunk is written in which one place differs
+pub frame_of-set : (chunks : List Slot) (number : ℕ) (slot d : Slot) (frame : Option ℕ) → number / 64 < length chunks
+    → ((place : ℕ) → place < 64 → frame_in slot place ≡ put (frame_in (get_or chunks (number / 64) d)) (number % 64) frame place)
+    → (q : ℕ) → frame_of (set chunks (number / 64) slot) q ≡ put (frame_of chunks) number frame q
+frame_of-set chunks number slot d frame listed differs =
+    frame_of-one chunks (set chunks (number / 64) slot) number frame
+    (λ at other. get_or-set_other chunks (number / 64) at slot None other)
+    (rw (get_or-set_same chunks (number / 64) slot None listed, ← get_or_default chunks (number / 64) d None listed) differs)
 
 -- one frame more
 pub count_of-more : (before after : ℕ → Option ℕ) (number frame limit : ℕ) → number < limit → before number ≡ None

@@ -1,9 +1,10 @@
 -- Frames as they are kept: chunks of places.
-use Rattle.std.specs.Prelude.{◌≡◌, ℕ, zero, suc, ◌*◌, ◌/◌, ◌%◌, ◌<◌, List, Option, None, Some, is_some, ⊤}
-use Rattle.std.specs.Prelude.{slice_index_or, length, count_by}
+use Rattle.std.specs.Prelude.{◌≡◌, ℕ, zero, suc, ◌+◌, ◌*◌, ◌/◌, ◌%◌, ◌<◌, List, Option, None, Some, is_some, ⊤}
+use Rattle.std.specs.Prelude.{slice_index_or, length, map, count_by}
 use Rattle.std.specs.Global.{Box}
 use Rattle.std.specs.Ordering.{nat_cmp}
-use Rattle.std.specs.FinMap as map
+use Rattle.std.specs.FinMap as finite
+use Rattle.std.specs.Option.{option_map}
 use Rattle.hp_chunks.specs.declared.chunk.TheConstants.{PLACES}
 use Rattle.hp_chunks.specs.Framed.{Framed}
 
@@ -29,24 +30,32 @@ abbrev pub frame_in : Slot → ℕ → Option ℕ
 frame_in None place = None
 frame_in (Some chunk) place = slice_index_or chunk.value place None
 
+-- the places of a chunk, where it is there
+abbrev pub places_of : Slot → Option Places
+places_of slot = option_map (λ chunk. chunk.value) slot
+
+-- chunks with the same places, in memory of their own
+abbrev pub AreCopies : List Slot → List Slot → Type 0
+AreCopies copies chunks = map places_of copies ≡ map places_of chunks
+
 -- the frame of a number
 unfoldable pub frame_of : List Slot → ℕ → Option ℕ
 frame_of chunks number = frame_in (slice_index_or chunks (number / PLACES) None) (number % PLACES)
 
--- for how many numbers there is memory
-abbrev pub room_of : List Slot → ℕ
-room_of chunks = PLACES * count_by is_some chunks
+-- for how many places there is memory: for those of the chunks that are there, and for chunks to be listed
+abbrev pub room_of : List Slot → ℕ → ℕ
+room_of chunks capacity = PLACES * count_by is_some chunks + capacity
 
 -- a map with the value of a key, where it has one
-abbrev pub with_value : map.FinMap nat_cmp ℕ → ℕ → Option ℕ → map.FinMap nat_cmp ℕ
+abbrev pub with_value : finite.FinMap nat_cmp ℕ → ℕ → Option ℕ → finite.FinMap nat_cmp ℕ
 with_value m key None = m
-with_value m key (Some value) = map.insert m key value
+with_value m key (Some value) = finite.insert m key value
 
 -- the keys below a limit that have a value, as a finite map
-unfoldable pub map_below : (ℕ → Option ℕ) → ℕ → map.FinMap nat_cmp ℕ
-map_below values zero = map.empty
+unfoldable pub map_below : (ℕ → Option ℕ) → ℕ → finite.FinMap nat_cmp ℕ
+map_below values zero = finite.empty
 map_below values (suc limit) = with_value (map_below values limit) limit (values limit)
 
--- what a map with these chunks is seen as, where there can be n of them
-abbrev pub seen_as : ℕ → List Slot → Framed
-seen_as n chunks = record { frames = map_below (frame_of chunks) (n * PLACES); room = room_of chunks }
+-- what a map with these chunks is seen as, where there can be n of them, and memory to list so many
+abbrev pub seen_as : ℕ → List Slot → (capacity : ℕ) → Framed
+seen_as n chunks capacity = record { frames = map_below (frame_of chunks) (n * PLACES); room = room_of chunks capacity }

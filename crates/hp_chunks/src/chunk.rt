@@ -14,7 +14,7 @@ pub const PLACES: usize = 64;
 
 /// The frame of each of its places that has one. For which numbers they stand it doesn't know.
 #[derive(Drop)]
-pub struct Chunk {
+pub(crate) struct Chunk {
     frames: [Option<Frame>; PLACES],
     // how many places have one
     count: usize,
@@ -36,7 +36,7 @@ impl Model for Chunk {
 
 impl Chunk {
     /// A chunk with no frame.
-    pub fn new() -> Self
+    pub(crate) fn new() -> Self
         ensures { result ≡ replicate PLACES None }
     {
         Chunk {
@@ -46,7 +46,7 @@ impl Chunk {
     }
 
     /// The frame of a place, where it has one.
-    pub fn get(&self, place: usize) -> Option<Frame>
+    pub(crate) fn get(&self, place: usize) -> Option<Frame>
         requires { place < PLACES }
         ensures { result ≡ slice_index_or self.now place None }
     {
@@ -54,7 +54,7 @@ impl Chunk {
     }
 
     /// Puts a frame into a place that has none.
-    pub fn put(&mut self, place: usize, frame: Frame)
+    pub(crate) fn put(&mut self, place: usize, frame: Frame)
         requires in_chunk { place < PLACES }
         requires vacant { slice_index_or self.old place None ≡ None }
         ensures { self.new ≡ slice_set self.old place (Some frame) }
@@ -64,7 +64,7 @@ impl Chunk {
     }
 
     /// Takes the frame out of a place that has one.
-    pub fn take(&mut self, place: usize) -> Frame
+    pub(crate) fn take(&mut self, place: usize) -> Frame
         requires in_chunk { place < PLACES }
         requires present { IsSome (slice_index_or self.old place None) }
         ensures frame { slice_index_or self.old place None ≡ Some result }
@@ -76,14 +76,14 @@ impl Chunk {
     }
 
     /// Whether no place has a frame.
-    pub fn is_empty(&self) -> bool
+    pub(crate) fn is_empty(&self) -> bool
         ensures { IsTrue result ↔ (count_by is_some self.now ≡ 0) }
     {
         self.count == 0
     }
 
     /// The highest place that has a frame.
-    pub fn highest(&self) -> usize
+    pub(crate) fn highest(&self) -> usize
         requires { HasFrame self.now }
         ensures in_chunk { result < PLACES }
         ensures present { IsSome (slice_index_or self.now result None) }
@@ -98,7 +98,7 @@ impl Chunk {
     }
 
     /// The first place at or after that one that has a frame, and its frame.
-    pub fn first_from(&self, place: usize) -> Option<(usize, Frame)>
+    pub(crate) fn first_from(&self, place: usize) -> Option<(usize, Frame)>
         ensures { IsFirstWithin (λ k. slice_index_or self.now k None) place PLACES result }
     {
         for at in place..PLACES {
@@ -110,7 +110,7 @@ impl Chunk {
     }
 
     /// A chunk with the same frames.
-    pub fn copy(&self) -> Self
+    pub(crate) fn copy(&self) -> Self
         ensures { result ≡ self.now }
     {
         let mut copy = Chunk::new();
@@ -121,7 +121,7 @@ impl Chunk {
 }
 
 /// The first place of a chunk at or after that one that has a frame, where the chunk is there.
-pub fn first_in(slot: &Option<Box<Chunk>>, place: usize) -> Option<(usize, Frame)>
+pub(crate) fn first_in(slot: &Option<Box<Chunk>>, place: usize) -> Option<(usize, Frame)>
     requires { IsKept slot.now }
     ensures { IsFirstWithin (frame_in slot.now) place PLACES result }
 {
@@ -130,7 +130,7 @@ pub fn first_in(slot: &Option<Box<Chunk>>, place: usize) -> Option<(usize, Frame
 }
 
 /// Puts a frame into a place that has none. A chunk is made for its first frame.
-pub fn put_into(
+pub(crate) fn put_into(
     alloc: Global,
     slot: &mut Option<Box<Chunk>>,
     place: usize,
@@ -154,7 +154,7 @@ pub fn put_into(
 }
 
 /// Takes the frame out of a place that has one. A chunk goes with its last frame.
-pub fn take_from(slot: &mut Option<Box<Chunk>>, place: usize) -> Frame
+pub(crate) fn take_from(slot: &mut Option<Box<Chunk>>, place: usize) -> Frame
     requires kept { IsKept slot.old }
     requires in_chunk { place < PLACES }
     requires present { IsSome (frame_in slot.old place) }

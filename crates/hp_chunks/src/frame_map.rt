@@ -6,18 +6,18 @@ ghost use Rattle.hp_base.specs.Indices.{count_below};
 ghost use Rattle.hp_base.specs.Pages.{IsPagesEnd};
 ghost use Rattle.hp_chunks.specs.Framed.{IsFirstWithin};
 
-use crate::chunk::{Chunk, PLACES, first_in, put_into, take_from};
+use crate::chunk::{Chunk, PLACES, first_in, take_from};
+use crate::chunk_list::{copy_all, put_at};
 use hp_base::Frame;
 use std::alloc::{AllocError, Global};
-use std::array;
 use std::marker::Model;
 
 /// The frame of each number below `CHUNKS * PLACES` that has one.
 #[derive(Drop)]
 pub struct FrameMap<const CHUNKS: usize> {
     // The place of a number is in the chunk `number / PLACES`, at `number % PLACES`. A chunk is there where one of its
-    // places has a frame.
-    chunks: [Option<Box<Chunk>>; CHUNKS],
+    // places has a frame. The list ends with the last chunk that was ever there: so a new map takes no memory, and is small.
+    chunks: Vec<Option<Box<Chunk>>>,
     // how many places of all chunks have a frame
     count: usize,
     // where chunks come from
@@ -25,7 +25,7 @@ pub struct FrameMap<const CHUNKS: usize> {
 }
 
 impl<const CHUNKS: usize> Model for FrameMap<CHUNKS> {
-    ghost use Rattle.std.specs.Prelude.{◌≡◌, ◌*◌, ◌^◌, ◌≤◌, All, is_some, length};
+    ghost use Rattle.std.specs.Prelude.{◌≡◌, ◌*◌, ◌^◌, ◌≤◌, All, is_some, length, vec_capacity};
     ghost use Rattle.hp_base.specs.Indices.{count_below};
     ghost use Rattle.hp_chunks.specs.declared.chunk.TheConstants.{PLACES};
     ghost use Rattle.hp_chunks.specs.Framed.{Framed, framed_code};
@@ -35,13 +35,13 @@ impl<const CHUNKS: usize> Model for FrameMap<CHUNKS> {
 
     ghost coded = { framed_code };
 
-    ghost view = { λ m. seen_as CHUNKS m.chunks };
+    ghost view = { λ m. seen_as CHUNKS m.chunks.items (vec_capacity m.chunks) };
 
     ghost invariant = { λ m. record {
-      whole : length m.chunks ≡ CHUNKS;
+      few : length m.chunks.items ≤ CHUNKS;
       small : CHUNKS * PLACES ≤ 2 ^ 31;
-      kept : All IsKept m.chunks;
-      counted : m.count ≡ count_below (λ k. is_some (frame_of m.chunks k)) (CHUNKS * PLACES);
+      kept : All IsKept m.chunks.items;
+      counted : m.count ≡ count_below (λ k. is_some (frame_of m.chunks.items k)) (CHUNKS * PLACES);
     } };
 }
 
@@ -53,7 +53,7 @@ impl<const CHUNKS: usize> FrameMap<CHUNKS> {
         ensures room { result.room ≡ 0 }
     {
         FrameMap {
-            chunks: array::from_fn(|_| None),
+            chunks: Vec::new(alloc),
             count: 0,
             alloc,
         }
@@ -68,20 +68,15 @@ impl<const CHUNKS: usize> FrameMap<CHUNKS> {
         chunk.get(number % PLACES)
     }
 
-    /// Gives a frame to a number that has none. Memory is wanted for the first number of a chunk.
+    /// Gives a frame to a number that has none. Memory is wanted for the first number of a chunk, and to list the chunk.
     pub fn insert(&mut self, number: u32, frame: Frame) -> Result<(), AllocError>
         requires vacant { map.get self.old.frames number ≡ None }
         requires within { number < CHUNKS * PLACES }
         ensures ok { OnOk result (self.new.frames ≡ map.insert self.old.frames number frame) }
         ensures err { OnErr result (self.new ≡ self.old) }
     {
-        let number = number as usize;
-        put_into(
-            self.alloc,
-            &mut self.chunks[number / PLACES],
-            number % PLACES,
-            frame,
-        )?;
+        let (at, place) = (number as usize / PLACES, number as usize % PLACES);
+        put_at(self.alloc, &mut self.chunks, at, place, frame)?;
         self.count += 1;
         Ok(())
     }
@@ -105,7 +100,7 @@ impl<const CHUNKS: usize> FrameMap<CHUNKS> {
         ensures end { IsPagesEnd (map.get self.now.frames) result }
         ensures within { result ≤ CHUNKS * PLACES }
     {
-        for at in (0..CHUNKS).rev() {
+        for at in (0..self.chunks.len()).rev() {
             if let Some(chunk) = &self.chunks[at] {
                 return (at * PLACES + chunk.highest()) as u32 + 1;
             }
@@ -120,7 +115,8 @@ impl<const CHUNKS: usize> FrameMap<CHUNKS> {
         ensures { IsFirstWithin (map.get self.now.frames) from to result }
     {
         let mut place = from as usize % PLACES;
-        for at in from as usize / PLACES..(to as usize).div_ceil(PLACES) {
+        let listed = (to as usize).div_ceil(PLACES).min(self.chunks.len());
+        for at in from as usize / PLACES..listed {
             if let Some(found) = first_in(&self.chunks[at], place) {
                 let number = (at * PLACES + found.0) as u32;
                 return (number < to).then_some((number, found.1));
@@ -135,7 +131,7 @@ impl<const CHUNKS: usize> FrameMap<CHUNKS> {
         ensures frames { result ≡ map.entries self.now.frames }
         ensures within { All (λ entry. entry.0 < CHUNKS * PLACES) result }
     {
-        let _chunks: &[Option<Box<Chunk>>; CHUNKS] = &self.chunks;
+        let _chunks: &[Option<Box<Chunk>>] = &self.chunks;
         Frames {
             frames: self,
             next: 0,
@@ -148,7 +144,7 @@ impl<const CHUNKS: usize> FrameMap<CHUNKS> {
         ensures count { result ≡ count_below (λ k. is_some (map.get self.now.frames k)) (CHUNKS * PLACES) }
         ensures within { result ≤ CHUNKS * PLACES }
     {
-        let _chunks: &[Option<Box<Chunk>>; CHUNKS] = &self.chunks;
+        let _chunks: &[Option<Box<Chunk>>] = &self.chunks;
         self.count as u32
     }
 
@@ -156,15 +152,11 @@ impl<const CHUNKS: usize> FrameMap<CHUNKS> {
     pub fn copy(&self, alloc: Global) -> Result<Self, AllocError>
         ensures { IfOk result (λ copy. copy.frames ≡ self.now.frames) }
     {
-        let count = self.count;
-        let mut copy = FrameMap::new(alloc);
-        for (at, chunk) in self.chunks.iter().enumerate() {
-            if let Some(chunk) = chunk {
-                copy.chunks[at] = Some(Box::new(alloc, chunk.copy())?);
-            }
-        }
-        copy.count = count;
-        Ok(copy)
+        Ok(FrameMap {
+            chunks: copy_all(alloc, &self.chunks)?,
+            count: self.count,
+            alloc,
+        })
     }
 }
 

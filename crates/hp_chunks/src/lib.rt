@@ -8,6 +8,7 @@
 #![tactic(auto)]
 
 mod chunk;
+mod chunk_list;
 pub mod frame_map;
 
 pub use chunk::PLACES;

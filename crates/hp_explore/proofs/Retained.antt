@@ -123,13 +123,14 @@ is_nobody : (o : Option ℕ) → is_none o ≡ true → o ≡ None
 is_nobody None e = refl
 is_nobody (Some h) e = (let d : false ≡ true = e in absurd (cc))
 
--- so it is
+-- The test is true exactly where the task may take a turn,
 pub tells_can : (plan : Plan) (w : World) (t : ℕ) → (can_now plan w t ≡ true → CanTurn plan w t) × (CanTurn plan w t → can_now plan w t ≡ true)
 tells_can plan w t =
     by_word (in_call w t) (is_none (task_blocker w.core.parts (seat_at w.core.seats t))) (is_some (next_call plan w.made t))
     ((λ e. waits_for_nobody w.core t (is_nobody _ e)), (λ free. ap (λ (o : Option ℕ). is_none o) (names_nobody w.core t free)))
     ((λ e. e), (λ e. e))
 
+-- so an answer that is right is the test's
 pub is_told : (plan : Plan) (w : World) (t : ℕ) (can : Bool) → (can ≡ true → CanTurn plan w t) → (can ≡ false → ¬ CanTurn plan w t)
     → can ≡ can_now plan w t
 is_told plan w t true on off = sym ((tells_can plan w t).1 (on refl))
@@ -154,7 +155,8 @@ struck plan w v (suc n) tasks back (front, before, last) =
       ],
     )
   where
-    by : (b : Bool) → can_now plan v (suc n) ≡ b → (front : List ℕ) → filter (can_now plan v) tasks ≡ filter (can_now plan v) front ++ filter (can_now plan v) (suc n ∷ [])
+    by : (b : Bool) → can_now plan v (suc n) ≡ b → (front : List ℕ)
+        → filter (can_now plan v) tasks ≡ filter (can_now plan v) front ++ filter (can_now plan v) (suc n ∷ [])
         → (CanTurn plan v (suc n) × (filter (can_now plan v) tasks ≡ filter (can_now plan v) front ++ suc n ∷ []))
         ⊎ ((¬ CanTurn plan v (suc n)) × (filter (can_now plan v) tasks ≡ filter (can_now plan v) front))
     by true e front is = inl ((tells_can plan v (suc n)).0 e, is ∙ ap (λ (b : Bool). filter (can_now plan v) front ++ cond b (suc n ∷ []) []) e)

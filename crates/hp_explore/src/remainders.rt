@@ -1,4 +1,4 @@
-//! Remainders by the number of tasks, without a division: that takes three times as long as two multiplications.
+//! Remainders by the number of tasks, by two multiplications: a turn would wait for a division.
 ghost use Rattle.std.specs.Prelude.{◌≡◌, ◌%◌, ◌≤◌, ◌-◌};
 ghost use Rattle.hp_explore.specs.Inverses.{inverse_of};
 

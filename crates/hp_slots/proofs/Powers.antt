@@ -19,7 +19,7 @@ power_within (suc d) n small one = by (λ within half. power_within d (n / 2) wi
         let half = below (omega (arith, small, ones_le_self n, one)) (omega (arith, split, one, e)) in
         (half.0 + 1, omega (arith, half.1, even, pow-add 2 half.0 1))
 
--- so
+-- so the mask below it gives the remainder
 pub mask_is_remainder : (n d : ℕ) → true ≡ is_power_of_two d → bit_and n (d - 1) ≡ n % d
 mask_is_remainder n d power =
     let k = power_within d d (omega arith) (eqb-true (count_ones d) 1 (sym power)) in

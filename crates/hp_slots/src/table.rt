@@ -72,7 +72,7 @@ impl SlotTable {
     }
 
     /// The place of a page's fault mutex (Linux: `hugetlb_fault_mutex_hash`). Where their number is a power of two, as Linux
-    /// makes it, a mask takes the place of a division, which would take as long as all else in a look at who holds the place.
+    /// makes it, a mask takes the place of a division, for which a step would wait.
     pub fn slot_of(&self, file: File, index: Index) -> u32
         ensures number { result ≡ slot_number (length self.now) file index }
         ensures within { result < length self.now }

@@ -30,7 +30,8 @@ loop-place-preserved c =
     let test = can_now c.args.plan.now c.args.self.now in
     let within : place < length listed = omega (arith, c.loop-place-test.true, c.len-place-end.ensures.len) in
     let told : c.can_turn-can.result ≡ test (slice_index listed place) =
-    is_told c.args.plan.now c.args.self.now t c.can_turn-can.result c.can_turn-can.ensures.can c.can_turn-can.ensures.cannot ∙ ap test c.at-task.ensures.task in
+    is_told c.args.plan.now c.args.self.now t c.can_turn-can.result c.can_turn-can.ensures.can c.can_turn-can.ensures.cannot
+    ∙ ap test c.at-task.ensures.task in
     c.push_if.ensures
     ∙ (λ i. if told i then c.loop-place.invariant i ++ c.at-task.ensures.task i ∷ [] else c.loop-place.invariant i)
     ∙ (either (test (slice_index listed place)) (filter test (take place listed)) (slice_index listed place)

@@ -1,4 +1,4 @@
--- Listed anew, the tasks are those that can take a turn; else they are as before.
+-- Listed anew or struck off, the tasks are those that can take a turn; else they are as before.
 use Rattle.std.proofs.Common.{◌≡◌, ◌≤◌, ◌<◌, ◌∙◌, ℕ, List, All, length, sym, ap, subst, arith}
 use Rattle.hp_core.specs.Readers.{phase_of}
 use Rattle.hp_machine.specs.Events.{IsReached}
@@ -71,3 +71,33 @@ pub make-requires-clause-alone : goal.make-requires-clause-alone
 make-requires-clause-alone c =
     λ u h. of_choice c.args.plan.now _ _ _ c.at-task.result _ u
     (subst (λ (e : Event). IsOf u e) c.choose-event.ensures.event h)
+
+pub make-requires-clause-task : goal.make-requires-clause-task
+make-requires-clause-task c =
+    let w = c.args.self.now in
+    let old = c.args.tasks.now in
+    let seen = ap (λ (x : World). length x.made) c.self.view_is in
+    let long = ap (λ (x : World). length x.made) c.choose-event.ensures.left ∙ long_after c.args.plan.now _ _ _ c.at-task.result _ ∙ seen in
+    let within : c.of-place.result < length old = omega (arith, c.of-place.ensures, c.len.ensures.len, c.requires.some) in
+    let there = at_index (λ (n : ℕ). (1 ≤ n) × (n ≤ length w.made)) old c.of-place.result c.at-task.result c.at-task.ensures.task
+    c.requires.in_range within in
+    (there.0, omega (arith, there.1, long))
+
+pub can_turn-requires : goal.can_turn-requires
+can_turn-requires c =
+    let w = c.args.self.now in
+    let old = c.args.tasks.now in
+    let made = c.in_ok-make.ensures.made ∙ ap (λ (x : World). x.made) c.choose-event.ensures.left in
+    let seen = ap (λ (x : World). length x.made) c.self.view_is in
+    let long = ap (λ (m : List ℕ). length m) made ∙ long_after c.args.plan.now _ _ _ c.at-task.result _ ∙ seen in
+    let within : c.of-place.result < length old = omega (arith, c.of-place.ensures, c.len.ensures.len, c.requires.some) in
+    let there = at_index (λ (n : ℕ). (1 ≤ n) × (n ≤ length w.made)) old c.of-place.result c.at-task.result c.at-task.ensures.task
+    c.requires.in_range within in
+    (there.0, omega (arith, there.1, long))
+
+pub strike-requires : goal.strike-requires
+strike-requires c =
+    let made = c.in_ok-make.ensures.made ∙ ap (λ (x : World). x.made) c.choose-event.ensures.left in
+    let seen = ap (λ (x : World). length x.made) c.self.view_is in
+    let long = ap (λ (m : List ℕ). length m) made ∙ long_after c.args.plan.now _ _ _ c.at-task.result _ ∙ seen in
+    subst (λ (n : ℕ). All (λ t. (1 ≤ t) × (t ≤ n)) c.args.tasks.now) (sym long) c.requires.in_range
