@@ -103,7 +103,11 @@ class Beside:
 
 
 def ci(step: Step, _: list[str]) -> None:
-    step.run(["rt", "ci"])
+    """Where it ends well, ./hugepool runs the program that was proved and built by it."""
+    with tempfile.NamedTemporaryFile(prefix="check-began-") as began:
+        if step.run(["rt", "ci"]):
+            own = {**os.environ, "HUGEPOOL_BUILT_SINCE": began.name}
+            subprocess.run([TOP / "hugepool", "--help"], env=own, stdout=subprocess.DEVNULL, check=True)
 
 
 def edits(step: Step, words: list[str]) -> None:

@@ -7,6 +7,7 @@ import shutil
 import subprocess
 import sys
 import tempfile
+import time
 from concurrent.futures import ThreadPoolExecutor
 from pathlib import Path
 from typing import Iterator
@@ -41,9 +42,9 @@ class Room:
         (self.top / path).parent.mkdir(parents=True, exist_ok=True)
         (self.top / path).write_text(text)
 
-    def said(self, launcher: str = "hugepool", path: str = "bin") -> tuple[int, str, str]:
+    def said(self, launcher: str = "hugepool", path: str = "bin", **more: str) -> tuple[int, str, str]:
         """The launcher's status, and what it wrote to both streams."""
-        own = {"env": {**os.environ, "PATH": f"{self.top / path}:/usr/bin:/bin"}, "cwd": "/"}
+        own = {"env": {**os.environ, "PATH": f"{self.top / path}:/usr/bin:/bin", **more}, "cwd": "/"}
         ran = subprocess.run([self.top / launcher, "a", "b"], capture_output=True, text=True, check=False, **own)
         return ran.returncode, ran.stdout, ran.stderr
 
@@ -88,10 +89,19 @@ def tries(room: Room) -> Iterator[tuple[str, bool]]:
         yield f"a failure is told{again}", (status, out, why) == (126, "", True)
     (room.top / "broken").unlink()
     yield "after it was mended it is built", room.runs_build(10) and room.runs_build(10)
+    room.write("crates/a/src/main.rt", "by another command")
+    time.sleep(0.02)
+    room.write("since", "")
+    time.sleep(0.02)
+    subprocess.run(["../../bin/rt"], cwd=room.top / "crates/hugepool", check=True)
+    since = {"HUGEPOOL_BUILT_SINCE": str(room.top / "since")}
+    yield "what another command built is taken over", room.said(**since)[:2] == (0, "a b of 11\n") and room.runs_build(11)
+    room.write("crates/a/src/main.rt", "newest")
+    yield "what was written since it began to isn't in that", room.said(**since)[:2] == (0, "a b of 12\n") and room.runs_build(12)
     room.write("long", "")
     room.write("crates/a/src/main.rt", "newer")
     with ThreadPoolExecutor(3) as pool:
-        yield "of three calls at once one builds", all(pool.map(room.runs_build, [11, 11, 11]))
+        yield "of three calls at once one builds", all(pool.map(room.runs_build, [13, 13, 13]))
 
 
 def main() -> int:
