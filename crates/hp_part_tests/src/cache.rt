@@ -1,69 +1,99 @@
 //! Pages that come and go, in files of all sizes, with ample memory and with a growth refused.
+ghost use Rattle.std.specs.Prelude.{◌<◌};
+
 use hp_base::{Frame, Index, LIMIT};
 use hp_cache::PageCache;
 use std::alloc::{AllocError, Global};
 use std::process::Abort;
-use std::test::Fail;
+
+/// Asserts which frame an index has.
+fn has(rt: &impl Abort, cache: &PageCache, index: u32, frame: Option<u32>) {
+    assert_eq!(rt; cache.get(Index::new(index)).map(Frame::number), frame);
+}
+
+/// Asserts where the pages end, and how many there are.
+fn ends(rt: &impl Abort, cache: &PageCache, top: u32, count: u32) {
+    assert_eq!(rt; (cache.top(), cache.count()), (top, count));
+}
+
+/// Asserts that an index has no page, and puts one there.
+fn place(rt: &impl Abort, cache: &mut PageCache, index: u32, frame: u32) -> Result<(), AllocError>
+    requires { index < LIMIT }
+{
+    let index = Index::new(index);
+    assert_eq!(rt; cache.get(index), None);
+    cache.place(index, Frame::new(frame))
+}
+
+/// Asserts that an index has that frame, and that it is told when the page goes.
+fn evict(rt: &impl Abort, cache: &mut PageCache, index: u32, frame: u32) {
+    let (index, frame) = (Index::new(index), Frame::new(frame));
+    assert_eq!(rt; cache.get(index), Some(frame));
+    assert_eq!(rt; cache.evict(index), frame);
+}
 
 #[test]
-fn a_page_is_placed(rt: HostRuntime) -> Result<(), Fail> {
+fn a_page_is_placed(rt: HostRuntime) -> Result<(), AllocError> {
     let mut cache = PageCache::new(rt.alloc());
-    assert_eq!(rt; cache.get(Index::new(3)), None);
-    assert_eq!(rt; (cache.top(), cache.count()), (0, 0));
-
-    cache.place(Index::new(3), Frame::new(7))?;
-    assert_eq!(rt; cache.get(Index::new(1)), None);
-    assert_eq!(rt; (cache.top(), cache.count()), (4, 1));
+    ends(&rt, &cache, 0, 0);
+    place(&rt, &mut cache, 3, 7)?;
+    has(&rt, &cache, 1, None);
+    ends(&rt, &cache, 4, 1);
     Ok(())
 }
 
 // Index 3 has frame 7, and index 1, which came later, frame 9.
 fn two_pages(rt: &impl Abort, alloc: Global) -> Result<PageCache, AllocError> {
     let mut cache = PageCache::new(alloc);
-    assert_eq!(rt; cache.get(Index::new(3)), None);
-    cache.place(Index::new(3), Frame::new(7))?;
-    assert_eq!(rt; cache.get(Index::new(1)), None);
-    cache.place(Index::new(1), Frame::new(9))?;
+    place(rt, &mut cache, 3, 7)?;
+    place(rt, &mut cache, 1, 9)?;
     Ok(cache)
 }
 
-#[test]
-fn pages_are_told_in_order(rt: HostRuntime) -> Result<(), Fail> {
-    let cache = two_pages(&rt, rt.alloc())?;
-    assert_eq!(rt; cache.get(Index::new(3)), Some(Frame::new(7)));
-    assert_eq!(rt; (cache.top(), cache.count()), (4, 2));
-    let pages = [
-        (Index::new(1), Frame::new(9)),
-        (Index::new(3), Frame::new(7)),
-    ];
-    assert_eq!(rt; cache.pages(rt.alloc())?.as_slice(), pages.as_slice());
+/// Asserts which pages are told.
+fn tells(
+    rt: &impl Abort,
+    alloc: Global,
+    cache: &PageCache,
+    pages: &[(Index, Frame)],
+) -> Result<(), AllocError> {
+    assert_eq!(rt; cache.pages(alloc)?.as_slice(), pages);
     Ok(())
 }
 
 #[test]
-fn pages_are_evicted(rt: HostRuntime) -> Result<(), Fail> {
-    let mut cache = two_pages(&rt, rt.alloc())?;
-    assert_eq!(rt; cache.get(Index::new(3)), Some(Frame::new(7)));
-    assert_eq!(rt; cache.evict(Index::new(3)), Frame::new(7));
-    assert_eq!(rt; cache.get(Index::new(1)), Some(Frame::new(9)));
-    assert_eq!(rt; (cache.top(), cache.count()), (2, 1));
+fn pages_are_told_in_order(rt: HostRuntime) -> Result<(), AllocError> {
+    let cache = two_pages(&rt, rt.alloc())?;
+    has(&rt, &cache, 3, Some(7));
+    ends(&rt, &cache, 4, 2);
+    let pages = [
+        (Index::new(1), Frame::new(9)),
+        (Index::new(3), Frame::new(7)),
+    ];
+    tells(&rt, rt.alloc(), &cache, &pages)
+}
 
-    assert_eq!(rt; cache.evict(Index::new(1)), Frame::new(9));
-    assert_eq!(rt; (cache.top(), cache.count()), (0, 0));
+#[test]
+fn pages_are_evicted(rt: HostRuntime) -> Result<(), AllocError> {
+    let mut cache = two_pages(&rt, rt.alloc())?;
+    evict(&rt, &mut cache, 3, 7);
+    has(&rt, &cache, 1, Some(9));
+    ends(&rt, &cache, 2, 1);
+    evict(&rt, &mut cache, 1, 9);
+    ends(&rt, &cache, 0, 0);
     Ok(())
 }
 
 // With `--fail-alloc 1` the first growth is refused: no page is there, and the next try succeeds.
 #[test]
-fn refused_growth_changes_nothing(rt: HostRuntime) -> Result<(), Fail> {
+fn refused_growth_changes_nothing(rt: HostRuntime) -> Result<(), AllocError> {
     let mut cache = PageCache::new(rt.alloc());
-    assert_eq!(rt; cache.get(Index::new(3)), None);
-    if cache.place(Index::new(3), Frame::new(7)).is_err() {
-        assert_eq!(rt; cache.get(Index::new(3)), None);
+    if place(&rt, &mut cache, 3, 7).is_err() {
+        has(&rt, &cache, 3, None);
         assert_eq!(rt; cache.count(), 0);
-        cache.place(Index::new(3), Frame::new(7))?;
+        place(&rt, &mut cache, 3, 7)?;
     }
-    assert_eq!(rt; cache.get(Index::new(3)), Some(Frame::new(7)));
+    has(&rt, &cache, 3, Some(7));
     Ok(())
 }
 
@@ -71,52 +101,47 @@ fn refused_growth_changes_nothing(rt: HostRuntime) -> Result<(), Fail> {
 fn whole_file(rt: &impl Abort, alloc: Global) -> Result<PageCache, AllocError> {
     let mut cache = PageCache::new(alloc);
     for number in 0..LIMIT {
-        let index = Index::new(number);
-        assert_eq!(rt; cache.get(index), None);
-        cache.place(index, Frame::new(LIMIT - number))?;
+        place(rt, &mut cache, number, LIMIT - number)?;
     }
     Ok(cache)
 }
 
 #[test]
-fn a_whole_file_comes_and_goes(rt: HostRuntime) -> Result<(), Fail> {
+fn a_whole_file_comes_and_goes(rt: HostRuntime) -> Result<(), AllocError> {
     let mut cache = whole_file(&rt, rt.alloc())?;
-    assert_eq!(rt; (cache.top(), cache.count()), (LIMIT, LIMIT));
+    ends(&rt, &cache, LIMIT, LIMIT);
 
     // Each index comes once, since 1,001 and 4,096 have no divisor in common.
     for turn in 0..LIMIT {
         let number = turn * 1_001 % LIMIT;
-        let index = Index::new(number);
-        let frame = Frame::new(LIMIT - number);
-        assert_eq!(rt; cache.get(index), Some(frame));
-        assert_eq!(rt; cache.evict(index), frame);
-        assert_eq!(rt; (cache.get(index), cache.count()), (None, LIMIT - turn - 1));
+        evict(&rt, &mut cache, number, LIMIT - number);
+        has(&rt, &cache, number, None);
+        assert_eq!(rt; cache.count(), LIMIT - turn - 1);
     }
     assert_eq!(rt; cache.top(), 0);
     Ok(())
 }
 
-#[test]
-fn a_copy_is_compared_with_its_source(rt: HostRuntime) -> Result<(), Fail> {
-    for source in [two_pages(&rt, rt.alloc())?, whole_file(&rt, rt.alloc())?] {
-        let copy = source.copy(rt.alloc())?;
-        assert_eq!(rt; (copy.top(), copy.count()), (source.top(), source.count()));
-        assert_eq!(rt;
-            copy.pages(rt.alloc())?.as_slice(),
-            source.pages(rt.alloc())?.as_slice()
-        );
-    }
-    Ok(())
+/// Asserts that a copy tells what its source does.
+fn compare_with_copy(rt: &impl Abort, alloc: Global, source: &PageCache) -> Result<(), AllocError> {
+    let copy = source.copy(alloc)?;
+    ends(rt, &copy, source.top(), source.count());
+    tells(rt, alloc, &copy, source.pages(alloc)?.as_slice())
 }
 
 #[test]
-fn a_copy_stays_as_it_was(rt: HostRuntime) -> Result<(), Fail> {
+fn a_copy_is_compared_with_its_source(rt: HostRuntime) -> Result<(), AllocError> {
+    compare_with_copy(&rt, rt.alloc(), &two_pages(&rt, rt.alloc())?)?;
+    compare_with_copy(&rt, rt.alloc(), &whole_file(&rt, rt.alloc())?)
+}
+
+#[test]
+fn a_copy_stays_as_it_was(rt: HostRuntime) -> Result<(), AllocError> {
     let mut source = two_pages(&rt, rt.alloc())?;
     let copy = source.copy(rt.alloc())?;
-    assert_eq!(rt; source.get(Index::new(3)), Some(Frame::new(7)));
-    assert_eq!(rt; source.evict(Index::new(3)), Frame::new(7));
-    assert_eq!(rt; (source.top(), source.count()), (2, 1));
-    assert_eq!(rt; copy.get(Index::new(3)), Some(Frame::new(7)));
-    assert_eq!(rt; (copy.top(), copy.count()), (4, 2));
+    evict(&rt, &mut source, 3, 7);
+    ends(&rt, &source, 2, 1);
+    has(&rt, &copy, 3, Some(7));
+    ends(&rt, &copy, 4, 2);
     Ok(())
 }

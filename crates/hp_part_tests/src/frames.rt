@@ -1,137 +1,260 @@
 //! Frames that go from hand to hand, what they leave of a quota, and the texts of the faults.
-ghost use Rattle.std.specs.Prelude.{◌≡◌, IfOk};
+ghost use Rattle.std.specs.Prelude.{◌≡◌, ℕ, IfOk};
+ghost use Rattle.hp_frames.specs.Bank.{HasWord, IsPlaced};
 
+use crate::texts::each_reads;
 use hp_base::Frame;
 use hp_frames::{Bank, Fault};
-use std::alloc::Global;
+use std::alloc::{AllocError, Global};
+use std::process::Abort;
 use std::test::Fail;
 
-#[test]
-fn reservations_are_counted(rt: HostRuntime) -> Result<(), Fail> {
-    let mut bank = Bank::new(rt.alloc(), 2, None)?;
-    assert_eq!(rt; bank.account(3), Err(Fault::Short));
-    assert_eq!(rt; bank.account(2), Ok(()));
-    assert_eq!(rt; (bank.resv(), bank.used()), (2, 2));
-    assert!(rt; matches!(bank.take_unreserved(), Err(Fault::NoFrame)));
-    Ok(())
+/// Asserts how many frames are free, and how many pages are reserved.
+fn free_and_reserved(rt: &impl Abort, bank: &Bank, free: u32, resv: u32) {
+    assert_eq!(rt; (bank.free(), bank.resv()), (free, resv));
+}
+
+/// Asserts how many frames are free, and how many pages are used.
+fn free_and_used(rt: &impl Abort, bank: &Bank, free: u32, used: u32) {
+    assert_eq!(rt; (bank.free(), bank.used()), (free, used));
+}
+
+/// Asserts how many pages are reserved, and how many are used.
+fn reserved_and_used(rt: &impl Abort, bank: &Bank, resv: u32, used: u32) {
+    assert_eq!(rt; (bank.resv(), bank.used()), (resv, used));
+}
+
+/// Asserts what it answers to reserve n pages more.
+fn account(rt: &impl Abort, bank: &mut Bank, n: u32, answer: Result<(), Fault>) {
+    assert!(rt; n <= u32::MAX - bank.used());
+    assert_eq!(rt; bank.account(n), answer);
+}
+
+/// Asserts why no unreserved frame is to be had.
+fn take_is_refused(rt: &impl Abort, bank: &mut Bank, fault: Fault)
+    ensures { bank.new ≡ bank.old }
+{
+    assert!(rt; bank.used() < u32::MAX);
+    match bank.take_unreserved() {
+        Err(why) => assert_eq!(rt; why, fault),
+        Ok(_) => panic!(rt; "a frame was taken"),
+    }
+}
+
+/// Gives n reservations back.
+fn settle(rt: &impl Abort, bank: &mut Bank, n: u32) {
+    assert!(rt; n <= bank.resv() && n <= bank.used());
+    bank.settle(n);
 }
 
 #[test]
-fn a_reserved_frame_is_restored(rt: HostRuntime) -> Result<(), Fail> {
+fn reservations_are_counted(rt: HostRuntime) -> Result<(), AllocError> {
     let mut bank = Bank::new(rt.alloc(), 2, None)?;
-    bank.account(2)?;
+    account(&rt, &mut bank, 3, Err(Fault::Short));
+    account(&rt, &mut bank, 2, Ok(()));
+    reserved_and_used(&rt, &bank, 2, 2);
+    take_is_refused(&rt, &mut bank, Fault::NoFrame);
+    Ok(())
+}
+
+/// Asserts what is free and reserved while a reserved frame is in a hand.
+fn take_and_restore(rt: &impl Abort, bank: &mut Bank, free: u32, resv: u32) {
+    assert!(rt; bank.resv() >= 1);
     let held = bank.take_reserved();
-    assert_eq!(rt; (bank.free(), bank.resv()), (1, 1));
+    free_and_reserved(rt, bank, free, resv);
     bank.restore(held);
-    assert_eq!(rt; (bank.free(), bank.resv()), (2, 2));
-    bank.settle(2);
-    assert_eq!(rt; (bank.free(), bank.resv()), (2, 0));
+}
+
+#[test]
+fn a_reserved_frame_is_restored(rt: HostRuntime) -> Result<(), AllocError> {
+    let mut bank = Bank::new(rt.alloc(), 2, None)?;
+    account(&rt, &mut bank, 2, Ok(()));
+    take_and_restore(&rt, &mut bank, 1, 1);
+    free_and_reserved(&rt, &bank, 2, 2);
+    settle(&rt, &mut bank, 2);
+    free_and_reserved(&rt, &bank, 2, 0);
     assert_eq!(rt; bank.used(), 0);
     Ok(())
+}
+
+/// Asserts that no reservation of n pages more is to be had, and why.
+fn account_is_refused(rt: &impl Abort, bank: &mut Bank, n: u32, fault: Fault)
+    ensures { bank.new ≡ bank.old }
+{
+    assert!(rt; n <= u32::MAX - bank.used());
+    match bank.account(n) {
+        Err(why) => assert_eq!(rt; why, fault),
+        Ok(()) => panic!(rt; "pages were reserved"),
+    }
+}
+
+/// Takes the one frame of a quota and gives it back. In between no other is to be had.
+fn use_up(rt: &impl Abort, bank: &mut Bank) -> Result<(), Fault> {
+    assert!(rt; bank.used() < u32::MAX);
+    let held = bank.take_unreserved()?;
+    free_and_used(rt, bank, 1, 1);
+    take_is_refused(rt, bank, Fault::Quota);
+    account_is_refused(rt, bank, 1, Fault::Quota);
+    bank.give(held);
+    Ok(())
+}
+
+/// One page is no longer used.
+fn drop_used(rt: &impl Abort, bank: &mut Bank) {
+    assert!(rt; bank.used() >= 1);
+    bank.drop_used(1);
 }
 
 #[test]
 fn a_quota_limits_what_is_used(rt: HostRuntime) -> Result<(), Fail> {
     let mut bank = Bank::new(rt.alloc(), 2, Some(1))?;
     assert_eq!(rt; bank.quota(), Some(1));
-    let held = bank.take_unreserved()?;
-    assert_eq!(rt; (bank.free(), bank.used()), (1, 1));
-    assert!(rt; matches!(bank.take_unreserved(), Err(Fault::Quota)));
-    assert_eq!(rt; bank.account(1), Err(Fault::Quota));
-    bank.give(held);
-    assert_eq!(rt; (bank.free(), bank.used()), (2, 1));
-    bank.drop_used(1);
+    use_up(&rt, &mut bank)?;
+    free_and_used(&rt, &bank, 2, 1);
+    drop_used(&rt, &mut bank);
     assert_eq!(rt; bank.used(), 0);
-    assert_eq!(rt; bank.account(1), Ok(()));
-    assert_eq!(rt; (bank.resv(), bank.used()), (1, 1));
+    account(&rt, &mut bank, 1, Ok(()));
+    reserved_and_used(&rt, &bank, 1, 1);
     Ok(())
 }
 
 #[test]
-fn the_quota_is_asked_before_the_frames(rt: HostRuntime) -> Result<(), Fail> {
+fn the_quota_is_asked_before_the_frames(rt: HostRuntime) -> Result<(), AllocError> {
     let mut bank = Bank::new(rt.alloc(), 1, Some(1))?;
-    assert_eq!(rt; bank.account(2), Err(Fault::Quota));
-    assert_eq!(rt; bank.account(1), Ok(()));
-    assert!(rt; matches!(bank.take_unreserved(), Err(Fault::Quota)));
+    account(&rt, &mut bank, 2, Err(Fault::Quota));
+    account(&rt, &mut bank, 1, Ok(()));
+    take_is_refused(&rt, &mut bank, Fault::Quota);
     let mut bank = Bank::new(rt.alloc(), 1, Some(2))?;
-    assert_eq!(rt; bank.account(2), Err(Fault::Short));
-    assert_eq!(rt; bank.account(1), Ok(()));
-    assert!(rt; matches!(bank.take_unreserved(), Err(Fault::NoFrame)));
+    account(&rt, &mut bank, 2, Err(Fault::Short));
+    account(&rt, &mut bank, 1, Ok(()));
+    take_is_refused(&rt, &mut bank, Fault::NoFrame);
     Ok(())
 }
 
-#[test]
-fn a_bank_shrinks_and_grows(rt: HostRuntime) -> Result<(), Fail> {
-    let mut bank = Bank::new(rt.alloc(), 4, None)?;
-    bank.account(1)?;
-    assert!(rt; bank.free() - bank.resv() >= 3);
-    bank.retire(3);
-    assert_eq!(rt; (bank.frames(), bank.free(), bank.resv()), (1, 1, 1));
-    assert_eq!(rt; bank.numbers(), 4);
-    assert_eq!(rt; bank.retired().count(), 3);
+/// Retires k frames.
+fn retire(rt: &impl Abort, bank: &mut Bank, k: u32) {
+    assert!(rt; bank.free() - bank.resv() >= k);
+    bank.retire(k);
+}
+
+/// Lets a bank of few frames have k more.
+fn grow(rt: &impl Abort, bank: &mut Bank, k: u32) -> Result<(), AllocError> {
+    assert!(rt; k <= 4096 && bank.frames() <= 4096 - k);
+    bank.grow(k)
+}
+
+/// Asserts how many frames there are, how many are free, and how many are retired.
+fn frames_are(rt: &impl Abort, bank: &Bank, frames: u32, free: u32, retired: usize) {
+    assert_eq!(rt;
+        (bank.frames(), bank.free(), bank.retired().count()),
+        (frames, free, retired)
+    );
+}
+
+/// Asserts that the retired frames are told as retired, and not as free.
+fn retired_are_not_free(rt: &impl Abort, bank: &Bank) {
     assert!(rt;
         bank.retired()
             .all(|frame| bank.is_retired(frame) && !bank.is_free(frame))
     );
-    bank.grow(2)?;
-    assert_eq!(rt;
-        (bank.frames(), bank.free(), bank.retired().count()),
-        (3, 3, 1)
-    );
-    bank.grow(3)?;
-    assert_eq!(rt;
-        (bank.frames(), bank.free(), bank.retired().count()),
-        (6, 6, 0)
-    );
+}
+
+#[test]
+fn a_bank_shrinks_and_grows(rt: HostRuntime) -> Result<(), AllocError> {
+    let mut bank = Bank::new(rt.alloc(), 4, None)?;
+    account(&rt, &mut bank, 1, Ok(()));
+    retire(&rt, &mut bank, 3);
+    frames_are(&rt, &bank, 1, 1, 3);
+    assert_eq!(rt; (bank.numbers(), bank.resv()), (4, 1));
+    retired_are_not_free(&rt, &bank);
+    grow(&rt, &mut bank, 2)?;
+    frames_are(&rt, &bank, 3, 3, 1);
+    grow(&rt, &mut bank, 3)?;
+    frames_are(&rt, &bank, 6, 6, 0);
     assert_eq!(rt; bank.numbers(), 6);
     assert!(rt; bank.is_free(Frame::new(5)) && !bank.is_free(Frame::new(6)));
     Ok(())
 }
 
-#[test]
-fn a_copy_tells_the_same(rt: HostRuntime) -> Result<(), Fail> {
-    let mut bank = Bank::new(rt.alloc(), 5, Some(9))?;
-    bank.account(1)?;
-    assert!(rt; bank.free() - bank.resv() >= 2);
-    bank.retire(2);
+// A page with that word, in a frame that nobody reserved.
+fn new_page(rt: &impl Abort, bank: &mut Bank, word: u64) -> Result<Frame, Fault>
+    ensures { IfOk result (λ frame. HasWord bank.new frame word) }
+{
+    assert!(rt; bank.used() < u32::MAX);
     let held = bank.take_unreserved()?;
     assert_eq!(rt; bank.hands(), 1);
     let page = bank.place(held);
-    bank.store(page, 9);
+    bank.store(page, word);
+    Ok(page)
+}
+
+// A copy of a bank no frame of which is in a hand.
+fn copied(rt: &impl Abort, bank: &Bank, alloc: Global) -> Result<Bank, AllocError>
+    ensures { IfOk result (λ copy. (page word : ℕ) → HasWord bank.now page word → HasWord copy page word) }
+{
     assert_eq!(rt; bank.hands(), 0);
-    let copy = bank.copy(rt.alloc())?;
-    assert_eq!(rt; copy.load(page), 9);
-    assert_eq!(rt;
-        (copy.numbers(), copy.frames(), copy.free(), copy.hands()),
-        (bank.numbers(), bank.frames(), bank.free(), bank.hands())
-    );
-    assert_eq!(rt;
-        (copy.resv(), copy.used(), copy.quota()),
-        (bank.resv(), bank.used(), bank.quota())
-    );
+    bank.copy(alloc)
+}
+
+/// Asserts the word of a page.
+fn reads_word(rt: &impl Abort, bank: &Bank, page: Frame, word: u64)
+    requires { IsPlaced bank.now page }
+    ensures { HasWord bank.now page word }
+{
+    assert_eq!(rt; bank.load(page), word);
+}
+
+/// Asserts that a copy tells the same counts.
+fn compare_counts(rt: &impl Abort, copy: &Bank, bank: &Bank) {
+    frames_are(rt, copy, bank.frames(), bank.free(), bank.retired().count());
+    reserved_and_used(rt, copy, bank.resv(), bank.used());
+    assert_eq!(rt; copy.numbers(), bank.numbers());
+    assert_eq!(rt; copy.hands(), bank.hands());
+    assert_eq!(rt; copy.quota(), bank.quota());
+}
+
+/// Asserts that a copy tells the same of each frame.
+fn compare_frames(rt: &impl Abort, copy: &Bank, bank: &Bank) {
     for number in 0..bank.numbers() {
         let frame = Frame::new(number);
         assert_eq!(rt; copy.is_free(frame), bank.is_free(frame));
         assert_eq!(rt; copy.is_retired(frame), bank.is_retired(frame));
     }
     assert!(rt; copy.retired().eq(bank.retired()));
+}
+
+#[test]
+fn a_copy_tells_the_same(rt: HostRuntime) -> Result<(), Fail> {
+    let mut bank = Bank::new(rt.alloc(), 5, Some(9))?;
+    account(&rt, &mut bank, 1, Ok(()));
+    retire(&rt, &mut bank, 2);
+    let page = new_page(&rt, &mut bank, 9)?;
+    let copy = copied(&rt, &bank, rt.alloc())?;
+    reads_word(&rt, &copy, page, 9);
+    compare_counts(&rt, &copy, &bank);
+    compare_frames(&rt, &copy, &bank);
     Ok(())
+}
+
+/// A page goes, and its frame is free.
+fn evict(bank: &mut Bank, page: Frame)
+    requires { IsPlaced bank.old page }
+{
+    let held = bank.evict(page);
+    bank.give(held);
 }
 
 #[test]
 fn a_copy_goes_on_apart(rt: HostRuntime) -> Result<(), Fail> {
     let mut bank = Bank::new(rt.alloc(), 3, None)?;
-    let held = bank.take_unreserved()?;
-    let page = bank.place(held);
-    bank.store(page, 9);
-    assert_eq!(rt; bank.hands(), 0);
-    let mut copy = bank.copy(rt.alloc())?;
+    let page = new_page(&rt, &mut bank, 9)?;
+    let mut copy = copied(&rt, &bank, rt.alloc())?;
     bank.store(page, 8);
-    assert_eq!(rt; (bank.load(page), copy.load(page)), (8, 9));
-    let held = copy.evict(page);
-    copy.give(held);
+    reads_word(&rt, &bank, page, 8);
+    reads_word(&rt, &copy, page, 9);
+    evict(&mut copy, page);
     assert_eq!(rt; (copy.free(), copy.hands()), (3, 0));
-    assert_eq!(rt; (bank.free(), bank.used()), (2, 1));
+    free_and_used(&rt, &bank, 2, 1);
     Ok(())
 }
 
@@ -144,44 +267,46 @@ fn a_page_keeps_its_word(rt: HostRuntime) -> Result<(), Fail> {
     assert_eq!(rt; frame, number);
     assert!(rt; !bank.is_free(frame));
     bank.store(frame, 9);
-    assert_eq!(rt; bank.load(frame), 9);
+    reads_word(&rt, &bank, frame, 9);
     Ok(())
 }
 
 // Two free frames, of which one was a page with the word 9.
-fn once_used(alloc: Global) -> Result<Bank, Fail>
-    ensures { IfOk result (λ bank. bank.used ≡ 0) }
-{
+fn once_used(rt: &impl Abort, alloc: Global) -> Result<Bank, Fail> {
     let mut bank = Bank::new(alloc, 2, None)?;
-    let held = bank.take_unreserved()?;
-    let frame = bank.place(held);
-    bank.store(frame, 9);
-    let held = bank.evict(frame);
-    bank.give(held);
-    bank.drop_used(1);
+    let page = new_page(rt, &mut bank, 9)?;
+    evict(&mut bank, page);
+    drop_used(rt, &mut bank);
     Ok(bank)
+}
+
+/// Asserts that a page has the word 0 before one was written.
+fn new_page_reads_0(rt: &impl Abort, bank: &mut Bank) -> Result<(), Fault> {
+    assert!(rt; bank.used() < u32::MAX);
+    let held = bank.take_unreserved()?;
+    let page = bank.place(held);
+    reads_word(rt, bank, page, 0);
+    Ok(())
 }
 
 #[test]
 fn new_pages_have_the_word_0(rt: HostRuntime) -> Result<(), Fail> {
-    let mut bank = once_used(rt.alloc())?;
+    let mut bank = once_used(&rt, rt.alloc())?;
     assert_eq!(rt; bank.free(), 2);
-    let first = bank.take_unreserved()?;
-    let first = bank.place(first);
-    assert_eq!(rt; bank.load(first), 0);
-    let second = bank.take_unreserved()?;
-    let second = bank.place(second);
-    assert_eq!(rt; bank.load(second), 0);
+    new_page_reads_0(&rt, &mut bank)?;
+    new_page_reads_0(&rt, &mut bank)?;
     Ok(())
 }
 
 #[test]
-fn texts(rt: HostRuntime) -> Result<(), Fail> {
-    let short = format!(in rt.alloc(); "{}", Fault::Short)?;
-    assert_eq!(rt; short.as_str(), "too few unreserved frames are free");
-    let none = format!(in rt.alloc(); "{}", Fault::NoFrame)?;
-    assert_eq!(rt; none.as_str(), "no unreserved frame is free");
-    let quota = format!(in rt.alloc(); "{}", Fault::Quota)?;
-    assert_eq!(rt; quota.as_str(), "the quota of pages is used up");
-    Ok(())
+fn texts(rt: HostRuntime) -> Result<(), AllocError> {
+    each_reads(
+        &rt,
+        rt.alloc(),
+        &[
+            (Fault::Short, "too few unreserved frames are free"),
+            (Fault::NoFrame, "no unreserved frame is free"),
+            (Fault::Quota, "the quota of pages is used up"),
+        ],
+    )
 }

@@ -5,6 +5,9 @@
 //! tests is proved twice, once for itself and once with its tests: here there is little to prove but the tests,
 //! and the crates below are proved once. Beside the tests stands one function, by which they and those of
 //! hp_tests tell values apart (`differing::all_differ`): it has a contract, so it can't pass values that are equal.
+//!
+//! Each test is proved to be safe, as any function. What asserts stands in functions of its own, to which tests pass
+//! literals, since a proof with the literals, the calls and the assertions at once takes many times as long.
 #![tactic(auto)]
 
 #[cfg(test)]
@@ -24,3 +27,5 @@ mod region;
 mod slots;
 #[cfg(test)]
 mod table;
+#[cfg(test)]
+mod texts;

@@ -1,9 +1,46 @@
 //! Changes, removals and the numbers that the readers tell then; the texts of the faults.
-use hp_base::Index;
-use hp_region::{ChangeFault, DelFault, RegionMap};
-use std::alloc::Global;
+ghost use Rattle.std.specs.Prelude.{◌<◌, ◌≤◌};
+
+use crate::texts::each_reads;
+use hp_base::{Index, LIMIT};
+use hp_region::{ChangeFault, DelFault, Pending, RegionMap};
+use std::alloc::{AllocError, Global};
 use std::process::Abort;
 use std::test::Fail;
+
+// Begins to add [from, to).
+fn change(map: &mut RegionMap, grant: bool, from: u32, to: u32) -> Result<Pending, ChangeFault>
+    requires some { from < to }
+    requires in_limit { to ≤ LIMIT }
+{
+    map.change(grant, Index::new(from), Index::new(to))
+}
+
+/// Asserts how many indices are added by a change that ends.
+fn commit(rt: &impl Abort, map: &mut RegionMap, change: Pending, added: u32) {
+    assert!(rt; map.pending() > 0);
+    assert_eq!(rt; map.commit(change), added);
+}
+
+/// Asserts what it answers to remove an index.
+fn remove(rt: &impl Abort, map: &mut RegionMap, index: u32, answer: Result<u32, DelFault>) {
+    assert_eq!(rt; map.remove_one(false, Index::new(index)), answer);
+}
+
+/// Asserts how many changes are in progress, and for how many regions there is room.
+fn is_promised(rt: &impl Abort, map: &RegionMap, pending: usize, spare: usize) {
+    assert_eq!(rt; (map.pending(), map.spare()), (pending, spare));
+}
+
+/// Asserts how many indices are reserved, and in how many regions.
+fn is_reserved(rt: &impl Abort, map: &RegionMap, count: u32, regions: usize) {
+    assert_eq!(rt; (map.count(), map.regions()), (count, regions));
+}
+
+/// Asserts where the region at a place begins and ends.
+fn region_is(rt: &impl Abort, map: &RegionMap, place: usize, from: u32, to: u32) {
+    assert_eq!(rt; map.region(place), Some((Index::new(from), Index::new(to))));
+}
 
 // The indices 0 to 3 are reserved, by two changes that overlap: so there is one region, and a spare descriptor.
 fn four_reserved(alloc: Global) -> Result<RegionMap, ChangeFault> {
@@ -22,96 +59,131 @@ fn two_regions(alloc: Global) -> Result<RegionMap, Fail> {
     Ok(map)
 }
 
-#[test]
-fn changes_tell_what_is_missing(rt: HostRuntime) -> Result<(), Fail> {
-    let mut map = RegionMap::new(rt.alloc());
-    let first = map.change(true, Index::new(0), Index::new(2))?;
-    assert_eq!(rt; first.missing(), 2);
-    let second = map.change(true, Index::new(1), Index::new(4))?;
-    assert_eq!(rt; second.missing(), 3);
-    assert_eq!(rt; (map.pending(), map.spare()), (2, 2));
-
+/// Asserts the range of a change, and how many of its indices are missing.
+fn is_change(rt: &impl Abort, change: &Pending, from: u32, to: u32, missing: u32) {
+    assert_eq!(rt; change.missing(), missing);
     assert_eq!(rt;
-        (second.from(), second.to()),
-        (Index::new(1), Index::new(4))
+        (change.from(), change.to()),
+        (Index::new(from), Index::new(to))
     );
+}
+
+#[test]
+fn changes_tell_what_is_missing(rt: HostRuntime) -> Result<(), ChangeFault> {
+    let mut map = RegionMap::new(rt.alloc());
+    let first = change(&mut map, true, 0, 2)?;
+    is_change(&rt, &first, 0, 2, 2);
+    let second = change(&mut map, true, 1, 4)?;
+    is_change(&rt, &second, 1, 4, 3);
+    is_promised(&rt, &map, 2, 2);
     Ok(())
 }
 
 #[test]
-fn the_later_change_commits_first(rt: HostRuntime) -> Result<(), Fail> {
+fn the_later_change_commits_first(rt: HostRuntime) -> Result<(), ChangeFault> {
     let mut map = RegionMap::new(rt.alloc());
-    let first = map.change(true, Index::new(0), Index::new(2))?;
-    let second = map.change(true, Index::new(1), Index::new(4))?;
-    assert_eq!(rt; map.commit(second), 3);
+    let first = change(&mut map, true, 0, 2)?;
+    let second = change(&mut map, true, 1, 4)?;
+    commit(&rt, &mut map, second, 3);
     assert_eq!(rt; map.spare(), 1);
-    assert_eq!(rt; map.commit(first), 1);
+    commit(&rt, &mut map, first, 1);
     Ok(())
 }
 
-// What the readers of a map and of its copy tell.
-fn compare(rt: &impl Abort, copy: &RegionMap, source: &RegionMap) {
-    assert_eq!(rt; copy.count(), source.count());
-    assert_eq!(rt;
-        (copy.pending(), copy.spare()),
-        (source.pending(), source.spare())
-    );
-    assert_eq!(rt; copy.regions(), source.regions());
+// A copy of a map with no change in progress.
+fn copied(rt: &impl Abort, map: &RegionMap, alloc: Global) -> Result<RegionMap, AllocError> {
+    assert_eq!(rt; map.pending(), 0);
+    map.copy(alloc)
+}
+
+/// Asserts that a copy tells the same numbers.
+fn compare_counts(rt: &impl Abort, copy: &RegionMap, source: &RegionMap) {
+    is_reserved(rt, copy, source.count(), source.regions());
+    is_promised(rt, copy, source.pending(), source.spare());
+    let (from, to) = (Index::new(0), Index::new(8));
+    assert_eq!(rt; copy.missing(from, to), source.missing(from, to));
+}
+
+/// Asserts that a copy tells the same of an index.
+fn compare_index(rt: &impl Abort, copy: &RegionMap, source: &RegionMap, index: u32) {
+    let index = Index::new(index);
+    assert_eq!(rt; copy.contains(index), source.contains(index));
+    assert_eq!(rt; copy.seek(index), source.seek(index));
+}
+
+/// Asserts that a copy has the same regions.
+fn compare_regions(rt: &impl Abort, copy: &RegionMap, source: &RegionMap) {
     for place in 0..3 {
         assert_eq!(rt; copy.region(place), source.region(place));
     }
-    for index in [0, 1, 2, 3, 4].map(Index::new) {
-        assert_eq!(rt; copy.contains(index), source.contains(index));
-        assert_eq!(rt; copy.seek(index), source.seek(index));
+}
+
+// What the readers of a map and of its copy tell.
+fn compare(rt: &impl Abort, alloc: Global, source: &RegionMap) -> Result<(), AllocError> {
+    let copy = copied(rt, source, alloc)?;
+    compare_counts(rt, &copy, source);
+    compare_regions(rt, &copy, source);
+    for index in 0..5 {
+        compare_index(rt, &copy, source, index);
     }
-    let all = (Index::new(0), Index::new(8));
-    assert_eq!(rt; copy.missing(all.0, all.1), source.missing(all.0, all.1));
+    Ok(())
 }
 
 #[test]
 fn a_copy_is_compared_with_its_source(rt: HostRuntime) -> Result<(), Fail> {
-    for source in [four_reserved(rt.alloc())?, two_regions(rt.alloc())?] {
-        assert_eq!(rt; source.pending(), 0);
-        let copy = source.copy(rt.alloc())?;
-        compare(&rt, &copy, &source);
-    }
+    compare(&rt, rt.alloc(), &four_reserved(rt.alloc())?)?;
+    compare(&rt, rt.alloc(), &two_regions(rt.alloc())?)?;
     Ok(())
 }
 
 #[test]
 fn a_copy_goes_on_apart(rt: HostRuntime) -> Result<(), Fail> {
     let mut source = four_reserved(rt.alloc())?;
-    assert_eq!(rt; source.pending(), 0);
-    let mut copy = source.copy(rt.alloc())?;
+    let mut copy = copied(&rt, &source, rt.alloc())?;
     copy.remove_one(false, Index::new(2))?;
     source.remove_tail(Index::new(1));
-    assert_eq!(rt; (copy.count(), copy.regions(), copy.spare()), (3, 2, 0));
-    assert_eq!(rt;
-        (source.count(), source.regions(), source.spare()),
-        (1, 1, 1)
-    );
+    is_reserved(&rt, &copy, 3, 2);
+    assert_eq!(rt; copy.spare(), 0);
+    is_reserved(&rt, &source, 1, 1);
+    assert_eq!(rt; source.spare(), 1);
     Ok(())
 }
 
 #[test]
-fn regions_merge(rt: HostRuntime) -> Result<(), Fail> {
+fn regions_merge(rt: HostRuntime) -> Result<(), ChangeFault> {
     let map = four_reserved(rt.alloc())?;
     assert_eq!(rt; map.regions(), 1);
-    assert_eq!(rt; map.region(0), Some((Index::new(0), Index::new(4))));
-    assert_eq!(rt; (map.pending(), map.spare()), (0, 1));
+    region_is(&rt, &map, 0, 0, 4);
+    is_promised(&rt, &map, 0, 1);
     Ok(())
 }
 
+/// Asserts that a change gets no room.
+fn change_is_denied(rt: &impl Abort, map: &mut RegionMap, from: u32, to: u32)
+    requires some { from < to }
+    requires in_limit { to ≤ LIMIT }
+{
+    assert_eq!(rt;
+        change(map, false, from, to).err(),
+        Some(ChangeFault::Denied)
+    );
+}
+
+// A change that is in progress ends, and adds nothing.
+fn abort(rt: &impl Abort, map: &mut RegionMap, change: Pending) {
+    assert!(rt; map.pending() > 0);
+    map.abort(change);
+}
+
 #[test]
-fn a_change_keeps_its_room(rt: HostRuntime) -> Result<(), Fail> {
+fn a_change_keeps_its_room(rt: HostRuntime) -> Result<(), ChangeFault> {
     let mut map = four_reserved(rt.alloc())?;
-    let kept = map.change(false, Index::new(9), Index::new(10))?;
+    let kept = change(&mut map, false, 9, 10)?;
     assert_eq!(rt; kept.missing(), 1);
-    let denied = map.change(false, Index::new(11), Index::new(12));
-    assert_eq!(rt; denied.err(), Some(ChangeFault::Denied));
-    assert_eq!(rt; map.remove_one(false, Index::new(2)), Err(DelFault::Denied));
-    map.abort(kept);
-    assert_eq!(rt; map.remove_one(false, Index::new(2)), Ok(1));
+    change_is_denied(&rt, &mut map, 11, 12);
+    remove(&rt, &mut map, 2, Err(DelFault::Denied));
+    abort(&rt, &mut map, kept);
+    remove(&rt, &mut map, 2, Ok(1));
     assert_eq!(rt; map.regions(), 2);
     assert_eq!(rt; map.spare(), 0);
     Ok(())
@@ -120,8 +192,8 @@ fn a_change_keeps_its_room(rt: HostRuntime) -> Result<(), Fail> {
 #[test]
 fn a_region_is_split(rt: HostRuntime) -> Result<(), Fail> {
     let map = two_regions(rt.alloc())?;
-    assert_eq!(rt; map.region(0), Some((Index::new(0), Index::new(2))));
-    assert_eq!(rt; map.region(1), Some((Index::new(3), Index::new(4))));
+    region_is(&rt, &map, 0, 0, 2);
+    region_is(&rt, &map, 1, 3, 4);
     assert_eq!(rt; map.region(2), None);
     assert_eq!(rt; map.spare(), 0);
     assert_eq!(rt; map.missing(Index::new(0), Index::new(4)), 1);
@@ -132,10 +204,10 @@ fn a_region_is_split(rt: HostRuntime) -> Result<(), Fail> {
 #[test]
 fn a_tail_is_removed(rt: HostRuntime) -> Result<(), Fail> {
     let mut map = two_regions(rt.alloc())?;
-    assert_eq!(rt; map.remove_one(false, Index::new(1)), Ok(1));
+    remove(&rt, &mut map, 1, Ok(1));
     assert_eq!(rt; map.remove_tail(Index::new(1)), 1);
-    assert_eq!(rt; map.region(0), Some((Index::new(0), Index::new(1))));
-    assert_eq!(rt; (map.regions(), map.count()), (1, 1));
+    region_is(&rt, &map, 0, 0, 1);
+    is_reserved(&rt, &map, 1, 1);
     assert!(rt; map.contains(Index::new(0)));
     assert!(rt; !map.contains(Index::new(1)));
     Ok(())
@@ -143,17 +215,17 @@ fn a_tail_is_removed(rt: HostRuntime) -> Result<(), Fail> {
 
 // With `--fail-alloc N` one growth is refused: the map is as before, and the next try succeeds.
 #[test]
-fn a_refused_change_changes_nothing(rt: HostRuntime) -> Result<(), Fail> {
+fn a_refused_change_changes_nothing(rt: HostRuntime) -> Result<(), ChangeFault> {
     let mut map = RegionMap::new(rt.alloc());
-    let whole = match map.change(true, Index::new(0), Index::new(4)) {
+    let whole = match change(&mut map, true, 0, 4) {
         Ok(change) => change,
         Err(fault) => {
             assert_eq!(rt; fault, ChangeFault::Memory);
-            assert_eq!(rt; (map.pending(), map.spare()), (0, 0));
-            map.change(true, Index::new(0), Index::new(4))?
+            is_promised(&rt, &map, 0, 0);
+            change(&mut map, true, 0, 4)?
         }
     };
-    assert_eq!(rt; map.commit(whole), 4);
+    commit(&rt, &mut map, whole, 4);
     Ok(())
 }
 
@@ -169,36 +241,43 @@ fn four_at_once(alloc: Global) -> Result<RegionMap, ChangeFault> {
 }
 
 #[test]
-fn a_refused_split_changes_nothing(rt: HostRuntime) -> Result<(), Fail> {
+fn a_refused_split_changes_nothing(rt: HostRuntime) -> Result<(), ChangeFault> {
     let mut map = four_at_once(rt.alloc())?;
     if let Err(fault) = map.remove_one(true, Index::new(2)) {
         assert_eq!(rt; fault, DelFault::Memory);
-        assert_eq!(rt; (map.count(), map.regions()), (4, 1));
+        is_reserved(&rt, &map, 4, 1);
         assert_eq!(rt; map.remove_one(true, Index::new(2)), Ok(1));
     }
-    assert_eq!(rt; (map.count(), map.regions()), (3, 2));
+    is_reserved(&rt, &map, 3, 2);
     Ok(())
 }
 
 #[test]
-fn faults_are_told(rt: HostRuntime) -> Result<(), Fail> {
-    for (fault, text) in [
-        (
-            ChangeFault::Denied,
-            "room for a region is wanted and was not granted",
-        ),
-        (ChangeFault::Memory, "no memory for a region"),
-    ] {
-        assert_eq!(rt; format!(in rt.alloc(); "{fault}")?.as_str(), text);
-    }
-    for (fault, text) in [
-        (
-            DelFault::Denied,
-            "room to split a region is wanted and was not granted",
-        ),
-        (DelFault::Memory, "no memory to split a region"),
-    ] {
-        assert_eq!(rt; format!(in rt.alloc(); "{fault}")?.as_str(), text);
-    }
-    Ok(())
+fn faults_of_changes_are_told(rt: HostRuntime) -> Result<(), AllocError> {
+    each_reads(
+        &rt,
+        rt.alloc(),
+        &[
+            (
+                ChangeFault::Denied,
+                "room for a region is wanted and was not granted",
+            ),
+            (ChangeFault::Memory, "no memory for a region"),
+        ],
+    )
+}
+
+#[test]
+fn faults_of_removals_are_told(rt: HostRuntime) -> Result<(), AllocError> {
+    each_reads(
+        &rt,
+        rt.alloc(),
+        &[
+            (
+                DelFault::Denied,
+                "room to split a region is wanted and was not granted",
+            ),
+            (DelFault::Memory, "no memory to split a region"),
+        ],
+    )
 }
