@@ -53,9 +53,9 @@ def words_of(text: str) -> set[str]:
     return set(re.findall(r"\w+", text))
 
 
-def without_comments(lines: Iterable[str]) -> list[str]:
-    """Lines with their ends, but for those that are empty or nothing but a comment."""
-    return [f"{it}\n" for it in lines if it and not it.lstrip().startswith("//")]
+def without_remarks(lines: Iterable[str]) -> list[str]:
+    """Lines with their ends, but for those that are empty, or nothing but a comment or a hint of what the compiler is to inline."""
+    return [f"{it}\n" for it in lines if it and not it.lstrip().startswith(("//", "#[inline"))]
 
 
 def is_private(lines: list[str], first: int) -> bool:
@@ -69,7 +69,7 @@ def take_away(lines: list[str], first: int, last: int) -> str:
     """Takes an item away, with the attributes and the comments above it, and tells its text."""
     while first and lines[first - 1].lstrip().startswith(("#[", "//")):
         first -= 1
-    text = "".join(without_comments(lines[first:last + 1]))
+    text = "".join(without_remarks(lines[first:last + 1]))
     del lines[first:last + 1]
     return text
 
@@ -120,7 +120,7 @@ def take_insides(lines: list[str]) -> dict[str, str]:
         if name not in modelled:
             continue
         for where in reversed(fields_of(lines, at) if struct else kept_of(lines, at)):
-            found[name] = "".join(without_comments(lines[it] for it in where)) + found.get(name, "")
+            found[name] = "".join(without_remarks(lines[it] for it in where)) + found.get(name, "")
             del lines[where.start:where.stop]
     return found
 
@@ -146,7 +146,7 @@ def seen_in(path: str, text: str, private: set[str]) -> tuple[str, dict[str, str
             hidden[name] = hidden.get(name, "") + take_away(left, first, last)
     take_private_types(left, private, hidden)
     insides = take_insides(left)
-    return MODULE.sub("", "".join(without_comments(left))), hidden, insides
+    return MODULE.sub("", "".join(without_remarks(left))), hidden, insides
 
 
 def is_used(name: str, text: str, words: set[str]) -> bool:

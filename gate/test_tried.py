@@ -233,6 +233,8 @@ CHANGES = [
     (lambda top: replace(top, "crates/low/src/one.rt", "impl Model for Kept", "impl Other for Kept"), of("low", "high")),
     (lambda top: replace(top, "crates/low/src/one.rt", "number: i8", "number: i16"), of("low", "high")),
     (lambda top: replace(top, "crates/low/src/one.rt", "d.number + 14", "d.number + 15"), of("low", "high")),
+    (lambda top: replace(top, "crates/low/src/one.rt", "pub fn first(of", "#[inline(always)]\npub fn first(of"), of("low")),
+    (lambda top: replace(top, "crates/low/src/one.rt", "pub fn first(of", "#[tactic(auto)]\npub fn first(of"), of("low", "high")),
     (lambda top: change(top, "crates/low/src/own.rt", "use std::mem::swap;\n\nstruct Another;\n"), of("low")),
     (lambda top: change(top, "crates/low/proofs/two.antt", ""), of("low")),
     (lambda top: change(top, "crates/low/proofs/Own.antt", "own : ⊤\n"), of("low")),

@@ -12,6 +12,7 @@ use hp_machine::unmap::UnmapPhase;
 use hp_machine::{Call, Phase};
 
 /// The word of the phase.
+#[inline(always)]
 pub fn phase_word(call: &Call) -> Phase
     ensures { result ≡ word_of call.now }
 {
@@ -26,6 +27,7 @@ pub fn phase_word(call: &Call) -> Phase
     }
 }
 
+#[inline(always)]
 fn touch_word(phase: &TouchPhase) -> Phase
     ensures { result ≡ word_of (Call.Touch phase.now) }
 {
@@ -45,6 +47,7 @@ fn touch_word(phase: &TouchPhase) -> Phase
     }
 }
 
+#[inline(always)]
 fn map_word(phase: &MapPhase) -> Phase
     ensures { result ≡ word_of (Call.Map phase.now) }
 {
@@ -61,6 +64,7 @@ fn map_word(phase: &MapPhase) -> Phase
     }
 }
 
+#[inline(always)]
 fn alloc_word(phase: &AllocPhase) -> Phase
     ensures { result ≡ word_of (Call.Alloc phase.now) }
 {
@@ -82,6 +86,7 @@ fn alloc_word(phase: &AllocPhase) -> Phase
     }
 }
 
+#[inline(always)]
 fn punch_word(phase: &PunchPhase) -> Phase
     ensures { result ≡ word_of (Call.Punch phase.now) }
 {
@@ -98,6 +103,7 @@ fn punch_word(phase: &PunchPhase) -> Phase
     }
 }
 
+#[inline(always)]
 fn truncate_word(phase: &TruncatePhase) -> Phase
     ensures { result ≡ word_of (Call.Truncate phase.now) }
 {
@@ -116,6 +122,7 @@ fn truncate_word(phase: &TruncatePhase) -> Phase
     }
 }
 
+#[inline(always)]
 fn unmap_word(phase: &UnmapPhase) -> Phase
     ensures { result ≡ word_of (Call.Unmap phase.now) }
 {
@@ -126,6 +133,7 @@ fn unmap_word(phase: &UnmapPhase) -> Phase
     }
 }
 
+#[inline(always)]
 fn exit_word(phase: &ExitPhase) -> Phase
     ensures { result ≡ word_of (Call.Exit phase.now) }
 {
