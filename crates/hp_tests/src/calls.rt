@@ -1,7 +1,7 @@
 //! Events and whole calls, without what the core promises of them: a proof that doesn't ask for it is many times as fast.
 use hp_base::{Answer, Event, Op, Task};
-use hp_core::{Core, Outcome};
-use std::alloc::AllocError;
+use hp_core::{Core, Outcome, Picture, RunFault};
+use std::alloc::{AllocError, Global};
 
 /// One event. The tests ask for what comes of it, and not for its row.
 pub(crate) fn happens(core: &mut Core, event: Event) -> Result<Outcome, AllocError> {
@@ -17,4 +17,18 @@ pub(crate) fn call(core: &mut Core, task: Task, op: Op) -> Result<Option<Answer>
         }
     }
     Ok(None)
+}
+
+/// A run. The tests ask for what it tells, and not for its rows.
+pub(crate) fn told_of(
+    core: &mut Core,
+    alloc: Global,
+    events: &[Event],
+) -> Result<Vec<Outcome>, RunFault> {
+    core.run(alloc, events)
+}
+
+/// The pool's picture. The tests ask for what it shows, and not for what the core promises of it.
+pub(crate) fn pictured(core: &Core, alloc: Global) -> Result<Picture, AllocError> {
+    core.picture(alloc)
 }

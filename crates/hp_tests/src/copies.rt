@@ -1,7 +1,7 @@
 //! Copies of a pool beside their source.
-use crate::calls::{call, happens};
+use crate::calls::{call, happens, pictured};
 use hp_base::{Answer, Config, Event, File, Index, Op, Task, Vpn};
-use hp_core::{Core, Life, Tally};
+use hp_core::{Core, Life, Picture, Tally};
 use std::alloc::{AllocError, Global};
 use std::process::Abort;
 use std::test::Fail;
@@ -32,9 +32,20 @@ fn some_calls(alloc: Global) -> Result<Core, Fail> {
     Ok(core)
 }
 
-// What the readers of the whole pool tell: its tally and its sizes.
-fn sizes(core: &Core) -> (Tally, Config) {
-    (core.tally(), core.config())
+// Asserts that no call is open in the pool, and copies it.
+fn copied(rt: &impl Abort, alloc: Global, source: &Core) -> Result<Core, AllocError> {
+    assert_eq!(rt; source.calls(), 0);
+    source.copy(alloc)
+}
+
+// What the readers of the whole pool tell: its tally.
+fn tally(core: &Core) -> Tally {
+    core.tally()
+}
+
+// Its sizes.
+fn sizes(core: &Core) -> Config {
+    core.config()
 }
 
 // And its other numbers.
@@ -42,7 +53,9 @@ fn numbers(core: &Core) -> (u32, u32, Option<u32>, u32) {
     (core.frames(), core.used(), core.quota(), core.calls())
 }
 
+// Asserts that both tell the same of the whole pool.
 fn compare(rt: &impl Abort, copy: &Core, source: &Core) {
+    assert_eq!(rt; tally(copy), tally(source));
     assert_eq!(rt; sizes(copy), sizes(source));
     assert_eq!(rt; numbers(copy), numbers(source));
 }
@@ -50,39 +63,50 @@ fn compare(rt: &impl Abort, copy: &Core, source: &Core) {
 #[test]
 fn a_copy_is_compared_with_its_source(rt: HostRuntime) -> Result<(), Fail> {
     let source = some_calls(rt.alloc())?;
-    assert_eq!(rt; source.calls(), 0);
-    let copy = source.copy(rt.alloc())?;
+    let copy = copied(&rt, rt.alloc(), &source)?;
     compare(&rt, &copy, &source);
     assert_eq!(rt; (copy.free(), copy.resv(), copy.used()), (3, 1, 2));
     Ok(())
 }
 
+// Asserts that both show the same: two retired frames, and one translation.
+fn compare_pictures(rt: &impl Abort, here: &Picture, there: &Picture) {
+    assert_eq!(rt; (here.retired.len(), here.tables.len()), (2, 1));
+    assert!(rt; *here == *there);
+}
+
 #[test]
 fn a_copys_picture_is_compared_with_its_sources(rt: HostRuntime) -> Result<(), Fail> {
     let source = some_calls(rt.alloc())?;
-    assert_eq!(rt; source.calls(), 0);
-    let copy = source.copy(rt.alloc())?;
-    let (here, there) = (copy.picture(rt.alloc())?, source.picture(rt.alloc())?);
-    assert_eq!(rt; (here.retired.len(), here.tables.len()), (2, 1));
-    assert!(rt; here == there);
+    let copy = copied(&rt, rt.alloc(), &source)?;
+    let here = pictured(&copy, rt.alloc())?;
+    let there = pictured(&source, rt.alloc())?;
+    compare_pictures(&rt, &here, &there);
     Ok(())
+}
+
+// What the readers tell of a task. Asserts that it is one of two.
+fn task_told(rt: &impl Abort, core: &Core, number: u32) -> (Life, usize, usize) {
+    assert_eq!(rt; core.config().tasks, 2);
+    assert!(rt; number == 1 || number == 2);
+    let task = Task::new(number);
+    (core.life(task), core.mappings(task), core.entries(task))
+}
+
+// Asserts that both tell the same of a task, and answers its life.
+fn compare_tasks(rt: &impl Abort, copy: &Core, source: &Core, number: u32) -> Life {
+    let (here, there) = (task_told(rt, copy, number), task_told(rt, source, number));
+    assert_eq!(rt; here, there);
+    here.0
 }
 
 #[test]
 fn a_copys_tasks_are_compared_with_its_sources(rt: HostRuntime) -> Result<(), Fail> {
     let source = some_calls(rt.alloc())?;
-    assert_eq!(rt; source.calls(), 0);
-    let copy = source.copy(rt.alloc())?;
-    assert_eq!(rt; copy.config().tasks, 2);
-    assert_eq!(rt; source.config().tasks, 2);
-    for task in [Task::new(1), Task::new(2)] {
-        assert_eq!(rt; copy.life(task), source.life(task));
-        assert_eq!(rt;
-            (copy.mappings(task), copy.entries(task)),
-            (source.mappings(task), source.entries(task))
-        );
-    }
-    assert_eq!(rt; copy.life(Task::new(2)), Life::Dead);
+    let copy = copied(&rt, rt.alloc(), &source)?;
+    compare_tasks(&rt, &copy, &source, 1);
+    let life = compare_tasks(&rt, &copy, &source, 2);
+    assert_eq!(rt; life, Life::Dead);
     Ok(())
 }
 
@@ -95,8 +119,7 @@ fn load(core: &mut Core) -> Result<Option<Answer>, AllocError> {
 #[test]
 fn a_copy_goes_on_apart(rt: HostRuntime) -> Result<(), Fail> {
     let mut source = some_calls(rt.alloc())?;
-    assert_eq!(rt; source.calls(), 0);
-    let mut copy = source.copy(rt.alloc())?;
+    let mut copy = copied(&rt, rt.alloc(), &source)?;
     let vpn = Vpn::new(1);
     let stored = call(&mut source, Task::new(1), Op::Store { vpn, word: 42 })?;
     assert_eq!(rt; stored, Some(Answer::Done));

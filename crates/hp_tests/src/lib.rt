@@ -23,4 +23,6 @@ mod sizes;
 #[cfg(test)]
 mod stories;
 #[cfg(test)]
+mod texts;
+#[cfg(test)]
 mod traces;

@@ -1,15 +1,11 @@
 //! Runs that no clause says: that ample memory meets no want of it, and what the readers tell then.
-use crate::calls::{call, happens};
+use crate::calls::{call, happens, pictured, told_of};
 use crate::pool::new_pool;
 use hp_base::{Answer, Config, Event, File, Frame, Index, Op, Task, Vpn};
 use hp_core::{Core, Life, Outcome, Phase, Picture, Refusal, RunFault, Tally, audit};
 use std::alloc::{AllocError, Global};
+use std::process::Abort;
 use std::test::Fail;
-
-// A run. The tests ask for what it tells, and not for its rows.
-fn told_of(core: &mut Core, alloc: Global, events: &[Event]) -> Result<Vec<Outcome>, RunFault> {
-    core.run(alloc, events)
-}
 
 #[test]
 fn nothing_happens(rt: HostRuntime) -> Result<(), Fail> {
@@ -223,7 +219,7 @@ fn two_tasks_share_a_page(rt: HostRuntime) -> Result<(), Fail> {
 
 // The picture of that pool.
 fn shared_picture(alloc: Global) -> Result<Picture, Fail> {
-    Ok(shared_page(alloc)?.picture(alloc)?)
+    Ok(pictured(&shared_page(alloc)?, alloc)?)
 }
 
 #[test]
@@ -298,7 +294,7 @@ fn a_pool_grows(rt: HostRuntime) -> Result<(), Fail> {
 
 // The picture of such a pool.
 fn resized_picture(alloc: Global, sizes: &[u32]) -> Result<Picture, Fail> {
-    Ok(resized(alloc, sizes)?.picture(alloc)?)
+    Ok(pictured(&resized(alloc, sizes)?, alloc)?)
 }
 
 #[test]
@@ -341,14 +337,17 @@ fn laws_of_waiting_ask_for_nothing(rt: HostRuntime) -> Result<(), Fail> {
     Ok(())
 }
 
+// Asserts that the fault has this text.
+fn has_text(rt: &impl Abort, alloc: Global, fault: RunFault, text: &str) -> Result<(), Fail> {
+    let told = format!(in alloc; "{fault}")?;
+    assert_eq!(rt; told.as_str(), text);
+    Ok(())
+}
+
 #[test]
 fn texts(rt: HostRuntime) -> Result<(), Fail> {
-    for (done, text) in [
-        (3, "out of memory after 3 events"),
-        (1_000_000, "out of memory after 1000000 events"),
-    ] {
-        let told = format!(in rt.alloc(); "{}", RunFault { done })?;
-        assert_eq!(rt; told.as_str(), text);
-    }
+    let (few, many) = (RunFault { done: 3 }, RunFault { done: 1_000_000 });
+    has_text(&rt, rt.alloc(), few, "out of memory after 3 events")?;
+    has_text(&rt, rt.alloc(), many, "out of memory after 1000000 events")?;
     Ok(())
 }

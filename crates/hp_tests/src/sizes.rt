@@ -1,23 +1,43 @@
 //! The largest sizes: with ample memory none of them meets a want of it.
+use crate::calls::told_of;
+use crate::texts::{is_written, lines, read, replayed};
 use hp_core::Core;
-use hp_replay::{ReplayFault, Watched, read_trace, replay, write_trace};
+use hp_replay::Trace;
 use std::alloc::{AllocError, Global};
+use std::process::Abort;
 use std::test::Fail;
 
-/// What a replay of this text answers, and what it writes.
-fn replayed(alloc: Global, text: &str) -> (Result<(), ReplayFault>, Vec<u8>) {
-    let mut out = Vec::new(alloc);
-    let answer = replay(alloc, &mut text.as_bytes(), &mut Watched::new(&mut out));
-    (answer, out)
+/// Asserts that a replay of this text has no fault, and writes this at the end. The whole is what it answers.
+fn ends_with(rt: &impl Abort, alloc: Global, text: &str, told: &[u8]) -> Vec<u8> {
+    let (answer, out) = replayed(alloc, text.as_bytes());
+    assert_eq!(rt; answer, Ok(()));
+    assert!(rt; out.ends_with(told));
+    out
+}
+
+/// Asserts that it writes this at the beginning besides.
+fn begins_and_ends_with(
+    rt: &impl Abort,
+    alloc: Global,
+    text: &str,
+    first: &[u8],
+    last: &[u8],
+) -> Vec<u8> {
+    let out = ends_with(rt, alloc, text, last);
+    assert!(rt; out.starts_with(first));
+    out
 }
 
 #[test]
 fn the_largest_pool(rt: HostRuntime) {
-    let (answer, out) = replayed(rt.alloc(), "pool 4096 16 64 64\n");
-    assert_eq!(rt; answer, Ok(()));
-    assert!(rt; out.starts_with(b"free 4096 resv 0 calls 0\n"));
-    assert!(rt; out.ends_with(b"task 64 alive mappings 0 entries 0\n"));
-    assert_eq!(rt; out.iter().filter(|byte| **byte == 10).count(), 81);
+    let out = begins_and_ends_with(
+        &rt,
+        rt.alloc(),
+        "pool 4096 16 64 64\n",
+        b"free 4096 resv 0 calls 0\n",
+        b"task 64 alive mappings 0 entries 0\n",
+    );
+    assert_eq!(rt; lines(out.as_slice()), 81);
 }
 
 /// Adds so many steps of the only task.
@@ -34,31 +54,32 @@ fn the_most_pages(rt: HostRuntime) -> Result<(), Fail> {
     let mut text = String::new(rt.alloc());
     text.push_str("pool 4096 1 1 1\nbegin 1 alloc 0 0 4096\n")?;
     add_steps(&mut text, 50_000)?;
-    let (answer, out) = replayed(rt.alloc(), text.as_str());
-    assert_eq!(rt; answer, Ok(()));
     let told = b"free 0 resv 0 calls 0\n\
         file 0 size 4096 reserved 4096 regions 1 pages 4096 changes 0 spare 1\n\
         task 1 alive mappings 0 entries 0\n";
-    assert!(rt; out.ends_with(told));
+    ends_with(&rt, rt.alloc(), text.as_str(), told);
     Ok(())
 }
 
 /// A pool of one frame grows to the most frames, all of which are used, and then has none to give up.
-#[test]
-fn the_most_frames(rt: HostRuntime) -> Result<(), Fail> {
-    let mut text = String::new(rt.alloc());
+fn grown_and_shrunk(alloc: Global) -> Result<String, AllocError> {
+    let mut text = String::new(alloc);
     text.push_str("pool 1 1 1 1\nresize 4097\nresize 4096\nbegin 1 alloc 0 0 4096\n")?;
     add_steps(&mut text, 50_000)?;
     text.push_str("resize 1\nbegin 1 punch 0 0 4096\n")?;
     add_steps(&mut text, 50_000)?;
     text.push_str("resize 1\n")?;
-    let (answer, out) = replayed(rt.alloc(), text.as_str());
-    assert_eq!(rt; answer, Ok(()));
-    assert!(rt; out.starts_with(b"refused badsize\nresized 4096\nbegun\n"));
+    Ok(text)
+}
+
+#[test]
+fn the_most_frames(rt: HostRuntime) -> Result<(), Fail> {
+    let text = grown_and_shrunk(rt.alloc())?;
     let told = b"resized 1\nfree 1 resv 0 calls 0\n\
         file 0 size 4096 reserved 0 regions 0 pages 0 changes 0 spare 1\n\
         task 1 alive mappings 0 entries 0\n";
-    assert!(rt; out.ends_with(told));
+    let first = b"refused badsize\nresized 4096\nbegun\n";
+    begins_and_ends_with(&rt, rt.alloc(), text.as_str(), first, told);
     Ok(())
 }
 
@@ -77,12 +98,10 @@ fn every_other_index(alloc: Global) -> Result<String, AllocError> {
 #[test]
 fn the_most_regions(rt: HostRuntime) -> Result<(), Fail> {
     let text = every_other_index(rt.alloc())?;
-    let (answer, out) = replayed(rt.alloc(), text.as_str());
-    assert_eq!(rt; answer, Ok(()));
     let told = b"free 2048 resv 0 calls 0\n\
         file 0 size 4095 reserved 2048 regions 2048 pages 2048 changes 0 spare 0\n\
         task 1 alive mappings 0 entries 0\n";
-    assert!(rt; out.ends_with(told));
+    ends_with(&rt, rt.alloc(), text.as_str(), told);
     Ok(())
 }
 
@@ -104,12 +123,10 @@ fn mapped_one_by_one(alloc: Global) -> Result<String, AllocError> {
 #[test]
 fn many_mappings_and_translations(rt: HostRuntime) -> Result<(), Fail> {
     let text = mapped_one_by_one(rt.alloc())?;
-    let (answer, out) = replayed(rt.alloc(), text.as_str());
-    assert_eq!(rt; answer, Ok(()));
     let told = b"free 0 resv 0 calls 0\n\
         file 0 size 4096 reserved 4096 regions 1 pages 4096 changes 0 spare 1\n\
         task 1 alive mappings 4096 entries 4096\n";
-    assert!(rt; out.ends_with(told));
+    ends_with(&rt, rt.alloc(), text.as_str(), told);
     Ok(())
 }
 
@@ -117,22 +134,26 @@ fn many_mappings_and_translations(rt: HostRuntime) -> Result<(), Fail> {
 #[test]
 fn a_long_trace(rt: HostRuntime) -> Result<(), Fail> {
     let text = every_other_index(rt.alloc())?;
-    let trace = read_trace(rt.alloc(), &mut text.as_bytes())?;
+    let trace = read(rt.alloc(), text.as_bytes())?;
     assert_eq!(rt; trace.events.len(), 26_624);
-    let mut written = Vec::new(rt.alloc());
-    write_trace(rt.alloc(), &trace, &mut Watched::new(&mut written))?;
-    assert_eq!(rt; written.as_slice(), text.as_bytes());
+    is_written(&rt, rt.alloc(), &trace, text.as_bytes());
     Ok(())
+}
+
+/// How many outcomes a run of the trace tells, and how many frames are free then.
+fn run_whole(alloc: Global, trace: &Trace) -> Result<(usize, u32), Fail> {
+    let mut core = Core::new(alloc, trace.config)?;
+    let told = told_of(&mut core, alloc, trace.events.as_slice())?;
+    Ok((told.len(), core.free()))
 }
 
 /// Those events in one run: each has its outcome.
 #[test]
 fn a_long_run(rt: HostRuntime) -> Result<(), Fail> {
     let text = every_other_index(rt.alloc())?;
-    let trace = read_trace(rt.alloc(), &mut text.as_bytes())?;
-    let mut core = Core::new(rt.alloc(), trace.config)?;
-    let told = core.run(rt.alloc(), trace.events.as_slice())?;
-    assert_eq!(rt; told.len(), 26_624);
-    assert_eq!(rt; core.free(), 2048);
+    let trace = read(rt.alloc(), text.as_bytes())?;
+    let (told, free) = run_whole(rt.alloc(), &trace)?;
+    assert_eq!(rt; told, 26_624);
+    assert_eq!(rt; free, 2048);
     Ok(())
 }

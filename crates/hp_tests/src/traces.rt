@@ -1,15 +1,17 @@
 //! What no clause says: that calls succeed, the texts of the faults, and fakes that fail.
 ghost use Rattle.std.specs.Prelude.{Some};
 
+use crate::texts::{add_lines, is_written, lines, read, replay_to, replayed};
 use hp_base::{Config, Event, File, Index, Op, Task};
 use hp_replay::{
-    MOST_EVENTS, ReplayFault, TraceFeed, TraceLine, Watched, a_stopped_replay_names_the_fault,
-    bytes_have_one_reading, pieces_do_not_show, read_trace, replay, what_is_held_is_spelled,
-    write_trace,
+    MOST_EVENTS, ReplayFault, Trace, TraceFeed, TraceLine, Watched,
+    a_stopped_replay_names_the_fault, bytes_have_one_reading, pieces_do_not_show, read_trace,
+    replay, what_is_held_is_spelled,
 };
-use std::alloc::Global;
+use std::alloc::{AllocError, Global};
 use std::io;
 use std::io::{ErrorKind, Read, Write};
+use std::process::Abort;
 use std::test::Fail;
 
 const TRACE: &[u8] = b"pool 1 1 1 1\nbegin 1 map 0 0 1\ndeny 1\ndeny 1\n";
@@ -69,9 +71,14 @@ impl Read for SmallReader<'_> {
     }
 }
 
+/// Asserts that these are the trace's events.
+fn has_events(rt: &impl Abort, trace: &Trace, events: &[Event]) {
+    assert_eq!(rt; trace.events.as_slice(), events);
+}
+
 #[test]
 fn a_trace_has_one_text(rt: HostRuntime) -> Result<(), Fail> {
-    let trace = read_trace(rt.alloc(), &mut &TRACE[..])?;
+    let trace = read(rt.alloc(), TRACE)?;
     assert_eq!(rt; trace.config, Config::new(1, 1, 1, 1)?);
     let op = Op::Map {
         file: File::new(0),
@@ -84,106 +91,116 @@ fn a_trace_has_one_text(rt: HostRuntime) -> Result<(), Fail> {
         Event::Step(task, false),
         Event::Step(task, false),
     ];
-    assert_eq!(rt; trace.events.as_slice(), events.as_slice());
-
-    assert!(rt; trace.events.len() <= MOST_EVENTS);
-    let mut written = Vec::new(rt.alloc());
-    write_trace(rt.alloc(), &trace, &mut Watched::new(&mut written))?;
-    assert_eq!(rt; written.as_slice(), TRACE);
+    has_events(&rt, &trace, events.as_slice());
+    is_written(&rt, rt.alloc(), &trace, TRACE);
     Ok(())
 }
 
-/// What a replay of the bytes answers, and what it writes.
-fn replayed(alloc: Global, mut bytes: &[u8]) -> (Result<(), ReplayFault>, Vec<u8>) {
-    let mut written = Vec::new(alloc);
-    let answer = replay(alloc, &mut bytes, &mut Watched::new(&mut written));
-    (answer, written)
+/// Asserts that a replay and a reading of the bytes have this fault. What the replay writes is the answer.
+fn has_fault(rt: &impl Abort, alloc: Global, bytes: &[u8], fault: ReplayFault) -> Vec<u8> {
+    let (answer, written) = replayed(alloc, bytes);
+    assert_eq!(rt; answer, Err(fault), "{bytes:?}");
+    assert_eq!(rt; read(alloc, bytes).err(), Some(fault), "{bytes:?}");
+    written
 }
 
-/// Whether the bytes are a trace, and the fault where they aren't.
-fn read(alloc: Global, mut bytes: &[u8]) -> Result<(), ReplayFault> {
-    read_trace(alloc, &mut bytes).map(|_| ())
+/// Asserts that each of the texts has no header, and that a replay of it writes nothing.
+fn have_bad_headers(rt: &impl Abort, alloc: Global, texts: &[&[u8]]) {
+    for bytes in texts {
+        let written = has_fault(rt, alloc, bytes, ReplayFault::BadHeader);
+        assert!(rt; written.is_empty());
+    }
 }
 
 #[test]
-fn a_bad_header_is_named(rt: HostRuntime) -> Result<(), Fail> {
-    let alloc = rt.alloc();
-    for bytes in [
-        &b""[..],
-        b"pool 1 1 1 1",
-        b"pool 4097 1 1 1\n",
-        b"pool 04 1 4 1\n",
-        b"pool 4 1 4 1 65537\n",
-        b"pool 4 1 4 1 00\n",
-        b"pool 1 1 1 1\r\n",
-        b"step 1\n",
-    ] {
-        let (answer, written) = replayed(alloc, bytes);
-        assert_eq!(rt; answer, Err(ReplayFault::BadHeader), "{bytes:?}");
-        assert!(rt; written.is_empty());
-        let answer = read(alloc, bytes);
-        assert_eq!(rt; answer, Err(ReplayFault::BadHeader), "{bytes:?}");
+fn a_bad_header_is_named(rt: HostRuntime) {
+    have_bad_headers(
+        &rt,
+        rt.alloc(),
+        &[
+            &b""[..],
+            b"pool 1 1 1 1",
+            b"pool 4097 1 1 1\n",
+            b"pool 04 1 4 1\n",
+            b"pool 4 1 4 1 65537\n",
+            b"pool 4 1 4 1 00\n",
+            b"pool 1 1 1 1\r\n",
+            b"step 1\n",
+        ],
+    );
+}
+
+/// The trace with this line at its end.
+fn trace_and(alloc: Global, line: &[u8]) -> Result<Vec<u8>, AllocError> {
+    let mut bytes = TRACE.to_vec(alloc)?;
+    bytes.extend_from_slice(line)?;
+    Ok(bytes)
+}
+
+/// Asserts that each of the lines is bad at the end of the trace, of which a replay writes the three outcomes.
+fn are_bad_lines(rt: &impl Abort, alloc: Global, added: &[&[u8]]) -> Result<(), AllocError> {
+    for line in added {
+        let bytes = trace_and(alloc, line)?;
+        let written = has_fault(rt, alloc, bytes.as_slice(), ReplayFault::BadLine(5));
+        assert_eq!(rt; lines(written.as_slice()), 3, "{line:?}");
     }
     Ok(())
 }
 
 #[test]
 fn the_first_bad_line_is_named(rt: HostRuntime) -> Result<(), Fail> {
-    let alloc = rt.alloc();
-    for line in [
-        &b"\n"[..],
-        b"step 01\n",
-        b"step  1\n",
-        b"step 1 \n",
-        b"step 4294967296\n",
-        b"resize\n",
-        b"resize \n",
-        b"resize 01\n",
-        b"resize 4294967296\n",
-        b"begin 1 store 0 18446744073709551616\n",
-        b"pool 1 1 1 1\n",
-        b"aaaaaaaaaaaaaaaaaaaaaaaaaaaaaaaaaaaaaaaaaaaaaaaaaaaaaaaaa",
-        b"step",
-    ] {
-        let mut bytes = TRACE.to_vec(alloc)?;
-        bytes.extend_from_slice(line)?;
-        let (answer, written) = replayed(alloc, bytes.as_slice());
-        assert_eq!(rt; answer, Err(ReplayFault::BadLine(5)), "{line:?}");
-        let lines = written.iter().filter(|byte| **byte == 10).count();
-        assert_eq!(rt; lines, 3, "{line:?}");
-        let answer = read(alloc, bytes.as_slice());
-        assert_eq!(rt; answer, Err(ReplayFault::BadLine(5)), "{line:?}");
-    }
+    are_bad_lines(
+        &rt,
+        rt.alloc(),
+        &[
+            &b"\n"[..],
+            b"step 01\n",
+            b"step  1\n",
+            b"step 1 \n",
+            b"step 4294967296\n",
+            b"resize\n",
+            b"resize \n",
+            b"resize 01\n",
+            b"resize 4294967296\n",
+            b"begin 1 store 0 18446744073709551616\n",
+            b"pool 1 1 1 1\n",
+            b"aaaaaaaaaaaaaaaaaaaaaaaaaaaaaaaaaaaaaaaaaaaaaaaaaaaaaaaaa",
+            b"step",
+        ],
+    )?;
     Ok(())
 }
 
+/// Asserts that a replay of the bytes has no fault, and writes this.
+fn writes(rt: &impl Abort, alloc: Global, bytes: &[u8], told: &[u8]) {
+    let (answer, written) = replayed(alloc, bytes);
+    assert_eq!(rt; answer, Ok(()));
+    assert_eq!(rt; written.as_slice(), told);
+}
+
 #[test]
-fn a_replay_writes_outcomes_and_the_state(rt: HostRuntime) -> Result<(), Fail> {
-    let alloc = rt.alloc();
-    let bytes = b"pool 3 2 1 2\nstep 2\nstep 4294967295\n";
-    let mut written = Vec::new(alloc);
-    replay(alloc, &mut &bytes[..], &mut Watched::new(&mut written))?;
-    let text = b"refused idle\nrefused notalive\nfree 3 resv 0 calls 0\n\
+fn a_replay_writes_outcomes_and_the_state(rt: HostRuntime) {
+    writes(
+        &rt,
+        rt.alloc(),
+        b"pool 3 2 1 2\nstep 2\nstep 4294967295\n",
+        b"refused idle\nrefused notalive\nfree 3 resv 0 calls 0\n\
         file 0 size 0 reserved 0 regions 0 pages 0 changes 0 spare 0\n\
         file 1 size 0 reserved 0 regions 0 pages 0 changes 0 spare 0\n\
-        task 1 alive mappings 0 entries 0\ntask 2 alive mappings 0 entries 0\n";
-    assert_eq!(rt; written.as_slice(), text.as_slice());
-    Ok(())
+        task 1 alive mappings 0 entries 0\ntask 2 alive mappings 0 entries 0\n",
+    );
 }
 
 #[test]
 fn the_longest_numbers_are_read(rt: HostRuntime) -> Result<(), Fail> {
     let bytes = b"pool 4096 16 64 64\nbegin 1 map 0 4294967295 4294967295\n";
-    let trace = read_trace(rt.alloc(), &mut &bytes[..])?;
+    let trace = read(rt.alloc(), bytes)?;
     let op = Op::Map {
         file: File::new(0),
         from: Index::new(u32::MAX),
         len: u32::MAX,
     };
-    assert_eq!(rt;
-        trace.events.as_slice(),
-        [Event::Begin(Task::new(1), op)].as_slice()
-    );
+    has_events(&rt, &trace, &[Event::Begin(Task::new(1), op)]);
     Ok(())
 }
 
@@ -195,142 +212,205 @@ struct Fed {
     lines: u32,
 }
 
-/// What it tells of the bytes, in pieces of at most `most` bytes.
-fn told_of(feed: &mut TraceFeed, bytes: &[u8], most: usize) -> Result<Fed, ReplayFault> {
-    let (mut headers, mut events): (u32, u32) = (0, 0);
-    for piece in bytes.chunks(most.max(1)) {
-        let mut rest = piece;
-        for _ in 0..piece.len() {
-            let (used, line) = feed.take(rest)?;
-            rest = rest.get(used..).unwrap_or(&[]);
-            match line {
-                Some(TraceLine::Header(_)) => headers = headers.saturating_add(1),
-                Some(TraceLine::Event(_)) => events = events.saturating_add(1),
-                None => {}
-            }
+/// What a feed takes of a piece. The tests ask for what it tells alone.
+fn take(feed: &mut TraceFeed, piece: &[u8]) -> Result<(usize, Option<TraceLine>), ReplayFault> {
+    feed.take(piece)
+}
+
+/// Adds what it tells of a piece.
+fn add_piece(feed: &mut TraceFeed, piece: &[u8], told: &mut Fed) -> Result<(), ReplayFault> {
+    let mut rest = piece;
+    for _ in 0..piece.len() {
+        let (used, line) = take(feed, rest)?;
+        rest = rest.get(used..).unwrap_or(&[]);
+        match line {
+            Some(TraceLine::Header(_)) => told.headers = told.headers.saturating_add(1),
+            Some(TraceLine::Event(_)) => told.events = told.events.saturating_add(1),
+            None => {}
         }
     }
+    Ok(())
+}
+
+/// What it tells of the bytes, in pieces of at most `most` bytes.
+fn told_of(feed: &mut TraceFeed, bytes: &[u8], most: usize) -> Result<Fed, ReplayFault> {
+    let mut told = Fed {
+        headers: 0,
+        events: 0,
+        lines: 0,
+    };
+    for piece in bytes.chunks(most.max(1)) {
+        add_piece(feed, piece, &mut told)?;
+    }
     feed.end()?;
-    Ok(Fed {
-        headers,
-        events,
-        lines: feed.line(),
-    })
+    told.lines = feed.line();
+    Ok(told)
+}
+
+/// Asserts what feeds tell of a whole trace of three events, of all of it but its last byte, and of nothing.
+fn are_taken(rt: &impl Abort, bytes: &[u8], cut: &[u8], most: usize) {
+    let whole = told_of(&mut TraceFeed::new(), bytes, most);
+    let told = Fed {
+        headers: 1,
+        events: 3,
+        lines: 4,
+    };
+    assert_eq!(rt; whole, Ok(told));
+    let cut = told_of(&mut TraceFeed::new(), cut, most);
+    assert_eq!(rt; cut, Err(ReplayFault::BadLine(4)));
+    let nothing = told_of(&mut TraceFeed::new(), b"", most);
+    assert_eq!(rt; nothing, Err(ReplayFault::BadHeader));
+}
+
+/// Asserts that a feed that has failed takes nothing more.
+fn stays_failed(rt: &impl Abort, bytes: &[u8]) {
+    let mut feed = TraceFeed::new();
+    let bad = told_of(&mut feed, b"pool\n", 5);
+    assert_eq!(rt; bad, Err(ReplayFault::BadHeader));
+    let more = told_of(&mut feed, bytes, 1);
+    assert_eq!(rt; more, Err(ReplayFault::BadHeader));
+    assert_eq!(rt; feed.end(), Err(ReplayFault::BadHeader));
 }
 
 #[test]
 fn a_feed_takes_any_pieces(rt: HostRuntime) -> Result<(), Fail> {
     let bytes = b"pool 1 1 1 1\nbegin 1 exit\ndeny 1\ndeny 1\n";
-    let mut feed = TraceFeed::new();
-    let (used, line) = feed.take(bytes)?;
+    let (used, line) = take(&mut TraceFeed::new(), bytes)?;
     assert_eq!(rt; used, 13);
     assert!(rt; matches!(line, Some(TraceLine::Header(_))));
     for most in [bytes.len(), 3, 1] {
-        let whole = told_of(&mut TraceFeed::new(), bytes, most);
-        let told = Fed {
-            headers: 1,
-            events: 3,
-            lines: 4,
-        };
-        assert_eq!(rt; whole, Ok(told));
-        let cut = told_of(&mut TraceFeed::new(), &bytes[..bytes.len() - 1], most);
-        assert_eq!(rt; cut, Err(ReplayFault::BadLine(4)));
-        let nothing = told_of(&mut TraceFeed::new(), b"", most);
-        assert_eq!(rt; nothing, Err(ReplayFault::BadHeader));
+        are_taken(&rt, bytes, &bytes[..bytes.len() - 1], most);
     }
-    let mut feed = TraceFeed::new();
-    assert_eq!(rt;
-        told_of(&mut feed, b"pool\n", 5),
-        Err(ReplayFault::BadHeader)
-    );
-    assert_eq!(rt; told_of(&mut feed, bytes, 1), Err(ReplayFault::BadHeader));
-    assert_eq!(rt; feed.end(), Err(ReplayFault::BadHeader));
+    stays_failed(&rt, bytes);
     Ok(())
+}
+
+/// Asserts that a replay of the bytes has no fault, and writes so many lines.
+fn writes_lines(rt: &impl Abort, alloc: Global, bytes: &[u8], count: usize) {
+    let (answer, written) = replayed(alloc, bytes);
+    assert_eq!(rt; answer, Ok(()));
+    assert_eq!(rt; lines(written.as_slice()), count);
+}
+
+/// Asserts that a replay of the bytes has this fault, and writes so many bytes before it.
+fn writes_bytes(rt: &impl Abort, alloc: Global, bytes: &[u8], fault: ReplayFault, count: usize) {
+    let (answer, written) = replayed(alloc, bytes);
+    assert_eq!(rt; answer, Err(fault));
+    assert_eq!(rt; written.len(), count);
 }
 
 #[test]
 fn a_million_events_are_enough(rt: HostRuntime) -> Result<(), Fail> {
     let alloc = rt.alloc();
     let mut bytes = b"pool 1 1 1 1\n".to_vec(alloc)?;
-    for _ in 0..MOST_EVENTS {
-        bytes.extend_from_slice(b"step 1\n")?;
-    }
-    let mut written = Vec::new(alloc);
-    replay(
-        alloc,
-        &mut bytes.as_slice(),
-        &mut Watched::new(&mut written),
-    )?;
-    assert_eq!(rt;
-        written.iter().filter(|byte| **byte == 10).count(),
-        MOST_EVENTS + 3
-    );
-    bytes.extend_from_slice(b"step 1\n")?;
-    let mut written = Vec::new(alloc);
-    let answer = replay(
-        alloc,
-        &mut bytes.as_slice(),
-        &mut Watched::new(&mut written),
-    );
-    assert_eq!(rt; answer, Err(ReplayFault::BadLine(1_000_002)));
-    assert_eq!(rt; written.len(), 13 * MOST_EVENTS);
+    add_lines(&mut bytes, b"step 1\n", MOST_EVENTS)?;
+    writes_lines(&rt, alloc, bytes.as_slice(), MOST_EVENTS + 3);
+    add_lines(&mut bytes, b"step 1\n", 1)?;
+    let fault = ReplayFault::BadLine(1_000_002);
+    writes_bytes(&rt, alloc, bytes.as_slice(), fault, 13 * MOST_EVENTS);
     Ok(())
+}
+
+/// What a replay of the trace to a writer answers, and whether the writer failed.
+fn replay_small(alloc: Global, writer: &mut SmallWriter) -> (Result<(), ReplayFault>, bool) {
+    let mut sink = Watched::new(writer);
+    let answer = replay(alloc, &mut &TRACE[..], &mut sink);
+    (answer, sink.has_failed())
+}
+
+/// Asserts that a writer of this kind that fails after so many calls is told of, and has taken so much of the text.
+fn write_fails(rt: &impl Abort, alloc: Global, calls: usize, is_quiet: bool, text: &[u8]) {
+    let mut writer = SmallWriter {
+        taken: Vec::new(alloc),
+        calls,
+        is_quiet,
+    };
+    let (answer, failed) = replay_small(alloc, &mut writer);
+    assert_eq!(rt; answer, Err(ReplayFault::Write));
+    assert!(rt; failed);
+    assert_eq!(rt; Some(writer.taken.as_slice()), text.get(..calls));
+}
+
+/// Asserts that a writer that never fails has taken the text.
+fn write_goes_well(rt: &impl Abort, alloc: Global, text: &[u8]) {
+    let mut writer = SmallWriter {
+        taken: Vec::new(alloc),
+        calls: usize::MAX,
+        is_quiet: false,
+    };
+    let (answer, failed) = replay_small(alloc, &mut writer);
+    assert_eq!(rt; answer, Ok(()));
+    assert!(rt; !failed);
+    assert_eq!(rt; writer.taken.as_slice(), text);
 }
 
 #[test]
 fn a_failed_write_is_told(rt: HostRuntime) -> Result<(), Fail> {
     let alloc = rt.alloc();
     let mut text = Vec::new(alloc);
-    replay(alloc, &mut &TRACE[..], &mut Watched::new(&mut text))?;
-    for is_quiet in [false, true] {
-        for calls in 0..text.len() {
-            let mut writer = SmallWriter {
-                taken: Vec::new(alloc),
-                calls,
-                is_quiet,
-            };
-            let mut sink = Watched::new(&mut writer);
-            let answer = replay(alloc, &mut &TRACE[..], &mut sink);
-            assert_eq!(rt; answer, Err(ReplayFault::Write));
-            assert!(rt; sink.has_failed());
-            assert_eq!(rt; writer.taken.as_slice(), &text[..calls]);
-        }
+    replay_to(alloc, TRACE, &mut text)?;
+    for calls in 0..text.len() {
+        write_fails(&rt, alloc, calls, false, text.as_slice());
+        write_fails(&rt, alloc, calls, true, text.as_slice());
     }
-    let mut writer = SmallWriter {
-        taken: Vec::new(alloc),
-        calls: usize::MAX,
-        is_quiet: false,
-    };
-    let mut sink = Watched::new(&mut writer);
-    replay(alloc, &mut &TRACE[..], &mut sink)?;
-    assert!(rt; !sink.has_failed());
-    assert_eq!(rt; writer.taken.as_slice(), text.as_slice());
+    write_goes_well(&rt, alloc, text.as_slice());
     Ok(())
+}
+
+/// A reader of the trace that fails after so many calls.
+fn small_reader(calls: usize) -> Watched<SmallReader<'static>> {
+    Watched::new(SmallReader {
+        bytes: TRACE,
+        calls,
+    })
+}
+
+/// What a replay from a reader answers, and whether the reader failed.
+fn replay_from(
+    alloc: Global,
+    mut source: Watched<SmallReader<'_>>,
+    out: &mut Vec<u8>,
+) -> (Result<(), ReplayFault>, bool) {
+    let answer = replay(alloc, &mut source, &mut Watched::new(out));
+    (answer, source.has_failed())
+}
+
+/// The trace that is read from a reader.
+fn read_from(alloc: Global, mut source: Watched<SmallReader<'_>>) -> Result<Trace, ReplayFault> {
+    read_trace(alloc, &mut source)
+}
+
+/// Asserts that a reader that fails after so many calls is told of, and that only a beginning of the text is written.
+fn read_fails(rt: &impl Abort, alloc: Global, calls: usize, text: &[u8]) {
+    let mut written = Vec::new(alloc);
+    let (answer, failed) = replay_from(alloc, small_reader(calls), &mut written);
+    assert!(rt; failed);
+    assert_eq!(rt; answer, Err(ReplayFault::Read));
+    assert!(rt; text.starts_with(written.as_slice()));
+    let answer = read_from(alloc, small_reader(calls));
+    assert_eq!(rt; answer.err(), Some(ReplayFault::Read));
 }
 
 #[test]
 fn a_failed_read_is_told(rt: HostRuntime) -> Result<(), Fail> {
     let alloc = rt.alloc();
     let mut text = Vec::new(alloc);
-    replay(alloc, &mut &TRACE[..], &mut Watched::new(&mut text))?;
+    replay_to(alloc, TRACE, &mut text)?;
     for calls in 0..=TRACE.len() {
-        let reader = SmallReader {
-            bytes: TRACE,
-            calls,
-        };
-        let mut written = Vec::new(alloc);
-        let mut source = Watched::new(reader);
-        let answer = replay(alloc, &mut source, &mut Watched::new(&mut written));
-        assert!(rt; source.has_failed());
-        assert_eq!(rt; answer, Err(ReplayFault::Read));
-        assert!(rt; text.starts_with(written.as_slice()));
-        let reader = SmallReader {
-            bytes: TRACE,
-            calls,
-        };
-        let answer = read_trace(alloc, &mut Watched::new(reader)).map(|_| ());
-        assert_eq!(rt; answer, Err(ReplayFault::Read));
+        read_fails(&rt, alloc, calls, text.as_slice());
     }
+    Ok(())
+}
+
+/// Asserts that the fault has this text.
+fn has_text(
+    rt: &impl Abort,
+    alloc: Global,
+    fault: ReplayFault,
+    text: &str,
+) -> Result<(), AllocError> {
+    let told = format!(in alloc; "{fault}")?;
+    assert_eq!(rt; told.as_str(), text);
     Ok(())
 }
 
@@ -347,7 +427,7 @@ fn faults_have_texts(rt: HostRuntime) -> Result<(), Fail> {
         (ReplayFault::Write, "writing failed"),
         (ReplayFault::Memory, "out of memory"),
     ] {
-        assert_eq!(rt; format!(in rt.alloc(); "{fault}")?.as_str(), text);
+        has_text(&rt, rt.alloc(), fault, text)?;
     }
     Ok(())
 }
