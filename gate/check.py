@@ -33,6 +33,7 @@ from concurrent.futures import ThreadPoolExecutor
 from pathlib import Path
 from typing import Iterable
 
+import programs
 import tests
 import tried
 import try_edits
@@ -103,9 +104,10 @@ class Beside:
 
 
 def ci(step: Step, _: list[str]) -> None:
-    """Where it ends well, ./hugepool runs the program that was proved and built by it."""
+    """Where it ends well, the other steps run the programs that were proved and built by it."""
     with tempfile.NamedTemporaryFile(prefix="check-began-") as began:
         if step.run(["rt", "ci"]):
+            os.environ[programs.BEGAN] = str(os.stat(began.name).st_mtime)
             own = {**os.environ, "HUGEPOOL_BUILT_SINCE": began.name}
             subprocess.run([TOP / "hugepool", "--help"], env=own, stdout=subprocess.DEVNULL, check=True)
 

@@ -20,6 +20,7 @@ from concurrent.futures import ThreadPoolExecutor
 from pathlib import Path
 from typing import Callable, NamedTuple
 
+from programs import built
 from scratch import TOP
 
 # no line of words has so many growths
@@ -317,16 +318,6 @@ class Tried:
     def add_wrong(self, tried: int, let: list[str]) -> None:
         self.passed += tried - len(let)
         self.faults += let
-
-
-def built(crate: str) -> Path:
-    """A program of the repository, which is proved and built where it isn't yet."""
-    if crate == "hugepool":
-        subprocess.run([TOP / "hugepool", "--help"], stdout=subprocess.DEVNULL, check=True)
-    else:
-        how = {"stdin": subprocess.DEVNULL, "stdout": subprocess.DEVNULL, "stderr": subprocess.DEVNULL}
-        subprocess.run(["rt", "run"], cwd=TOP / "crates" / crate, check=True, **how)
-    return TOP / "crates" / crate / "out" / crate
 
 
 def main() -> int:

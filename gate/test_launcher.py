@@ -1,5 +1,5 @@
 #!/usr/bin/env python3
-"""Tests when ./hugepool builds the program, in a small repository with an `rt` that counts its calls."""
+"""Tests when ./hugepool builds the program, in a small repository with an `rt` that counts its calls; and when `rt ci` has built one."""
 from __future__ import annotations
 
 import os
@@ -12,6 +12,7 @@ from concurrent.futures import ThreadPoolExecutor
 from pathlib import Path
 from typing import Iterator
 
+import programs
 from scratch import TOP
 
 # builds a program that tells its words and how often it was built, unless there is a file `broken`
@@ -104,9 +105,33 @@ def tries(room: Room) -> Iterator[tuple[str, bool]]:
         yield "of three calls at once one builds", all(pool.map(room.runs_build, [13, 13, 13]))
 
 
+def takes_over(top: Path) -> Iterator[tuple[str, bool]]:
+    """Which programs stand for those of `rt ci`, where it began at the second 100, the sources being written before and the program after."""
+    program, folder = top / "crates/b/out/b", top / "crates/a/src"
+    for path in (top / "crates.txt", folder / "deep/main.rt", program):
+        path.parent.mkdir(parents=True, exist_ok=True)
+        path.touch()
+    for path in (top / "crates.txt", *(top / "crates").rglob("*")):
+        os.utime(path, (50, 50))
+    os.utime(program, (150, 150))
+    yield "without ./check none does", not programs.is_built(top, program)
+    os.environ[programs.BEGAN] = "100"
+    yield "one that was built since, of older sources, does", programs.is_built(top, program)
+    yield "one that isn't there doesn't", not programs.is_built(top, program.with_name("c"))
+    for path in (top / "crates.txt", folder, folder / "deep", folder / "deep/main.rt"):
+        os.utime(path, (120, 120))
+        yield f"nor where {path.name} was written since", not programs.is_built(top, program)
+        os.utime(path, (50, 50))
+    os.utime(program, (99, 99))
+    yield "nor does one that was built before", not programs.is_built(top, program)
+    del os.environ[programs.BEGAN]
+
+
 def main() -> int:
     with tempfile.TemporaryDirectory(prefix="launcher-") as name:
         tried = list(tries(Room(Path(name))))
+    with tempfile.TemporaryDirectory(prefix="programs-") as name:
+        tried += takes_over(Path(name))
     print("".join(f"  not so: {what}\n" for what, is_so in tried if not is_so), end="")
     failed = sum(not is_so for _, is_so in tried)
     print(f"launcher: {len(tried) - failed} passed, {failed} failed")
