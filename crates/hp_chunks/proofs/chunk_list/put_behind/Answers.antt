@@ -43,7 +43,8 @@ unwrap-requires-2 c =
     ))
 
 -- all are listed
-listed : (c : goal.After-unwrap-2) → c.push-2.new.self.items ≡ longer c.args.chunks.now.items (c.args.at - length c.args.chunks.now.items) ++ c.put_into.new.slot ∷ []
+listed : (c : goal.After-unwrap-2)
+    → c.push-2.new.self.items ≡ longer c.args.chunks.now.items (c.args.at - length c.args.chunks.now.items) ++ c.put_into.new.slot ∷ []
 listed c =
     let old = c.args.chunks.now.items in
     let last : c.loop.counter ≡ c.args.at = omega (arith, c.loop.auto, c.loop-test.false) in

@@ -8,7 +8,8 @@ use Rattle.hp_chunks.proofs.frame_map.FrameMap.end.Goals as goal
 pub returns-in-Some-clause-end : goal.returns-in-Some-clause-end
 returns-in-Some-clause-end g c =
     let chunks = c.self.inside.chunks.items in
-    let shows : Shows g.row.CHUNKS chunks c.args.self.now = record { capacity = vec_capacity c.self.inside.chunks; is = c.self.view_is; few = c.self.invariant.few } in
+    let shows : Shows g.row.CHUNKS chunks c.args.self.now =
+    record { capacity = vec_capacity c.self.inside.chunks; is = c.self.view_is; few = c.self.invariant.few } in
     let at = c.loop-at.at - 1 in
     let within : at < length chunks = omega arith in
     let here : slot_at chunks at ≡ Some c.in-Some.chunk =

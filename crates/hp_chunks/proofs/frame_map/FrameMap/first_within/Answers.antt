@@ -12,7 +12,8 @@ use Rattle.hp_chunks.proofs.frame_map.FrameMap.first_within.Goals as goal
 pub returns-in-Some : goal.returns-in-Some
 returns-in-Some g c =
     let chunks = c.self.inside.chunks.items in
-    let shows : Shows g.row.CHUNKS chunks c.args.self.now = record { capacity = vec_capacity c.self.inside.chunks; is = c.self.view_is; few = c.self.invariant.few } in
+    let shows : Shows g.row.CHUNKS chunks c.args.self.now =
+    record { capacity = vec_capacity c.self.inside.chunks; is = c.self.view_is; few = c.self.invariant.few } in
     let at = c.loop-at.at in
     let i = c.loop-at.invariant in
     let here : c.index.result.now ≡ slot_at chunks at =
