@@ -1,8 +1,6 @@
 -- What is blocked or refused leaves the core as it was.
 use Rattle.std.proofs.Common.{◌≡◌, ℕ, List, refl, sym, ◌∙◌, ap, subst, inl, inr, ◌⊎◌}
-use Rattle.std.specs.Prelude.{Bool, true, false, ◌&&◌, not, Option, Some, None, IfSome, Result, Ok, Err, IfOk, if◌then◌else◌}
-use Rattle.hp_base.specs.Numbers.{is_none}
-use Rattle.hp_machine.specs.declared.outcome.Life.TheVariants.{Dead}
+use Rattle.std.specs.Prelude.{Bool, ◌&&◌, not, Option, Some, None, IfSome, Result, Ok, Err, IfOk}
 use Rattle.std.specs.declared.alloc.AllocError.{AllocError}
 use Rattle.hp_base.specs.declared.event.Event.{Event}
 use Rattle.hp_base.specs.declared.event.Event.TheVariants.{Begin, Step, Kill, Resize}
@@ -33,9 +31,8 @@ use Rattle.hp_core.specs.Fits.{EventFits}
 use Rattle.hp_core.specs.Seats.{StepSeats, EventSeats, BlockedStays}
 use Rattle.hp_core.specs.Sound.{IsSound}
 use Rattle.hp_core.specs.Runs.{IsIdle}
-use Rattle.hp_core.specs.Turns.{finished, IfToldBlocked, IfToldRefused}
+use Rattle.hp_core.specs.Turns.{Settles, IfToldBlocked, IfToldRefused}
 use Rattle.hp_core.proofs.Headlines.{reached_of}
-use Rattle.hp_core.proofs.Rows.{Done}
 use Rattle.hp_core.proofs.Seats.{by_test, by_option}
 use Rattle.hp_core.proofs.Steps.{event_row, with_fields}
 
@@ -62,19 +59,18 @@ told_by_turn inflight here Q (Slot f i) (Blocked p u) h = (h.1, ap (λ again. So
 told_by_turn inflight here Q (Slot f i) (Ended a) h = tt
 
 -- a blocked turn is told as a call that stands again where it stood
-pub finished_blocked : {P : Type 0} (inflight : P → Call) (here : P) (Q : Type 0) (w : Want)
-    (stepped : Result (Turn P) (Stopped P)) (done : Done)
-    → done ≡ finished inflight stepped
+pub settled_blocked : {P : Type 0} (inflight : P → Call) (here : P) (Q : Type 0) (w : Want)
+    (stepped : Result (Turn P) (Stopped P)) (result : Result Outcome AllocError) (next : Option Call)
+    → Settles inflight stepped result next
     → IfOk stepped (λ turn. IfWanting w (IfBlocked turn (λ again. (again ≡ here) × Q)))
-    → IfOk done (λ d. IfToldBlocked d.0 (IfWanting w (Q × (d.1 ≡ Some (inflight here)))))
-finished_blocked {P} inflight here Q w stepped done e h =
-    subst (λ (r : Done). IfOk r (λ d. IfToldBlocked d.0 (IfWanting w (Q × (d.1 ≡ Some (inflight here)))))) (sym e)
-    (by_result stepped h)
-  where
-    by_result : (stepped : Result (Turn P) (Stopped P)) → IfOk stepped (λ turn. IfWanting w (IfBlocked turn (λ again. (again ≡ here) × Q)))
-        → IfOk (finished inflight stepped) (λ d. IfToldBlocked d.0 (IfWanting w (Q × (d.1 ≡ Some (inflight here)))))
-    by_result (Ok turn) h = told_by_turn inflight here Q w turn h
-    by_result (Err stopped) h = tt
+    → IfOk result (λ told. IfToldBlocked told (IfWanting w (Q × (next ≡ Some (inflight here)))))
+settled_blocked inflight here Q w (Ok turn) result next h b =
+    subst (λ (res : Result Outcome AllocError). IfOk res (λ told. IfToldBlocked told (IfWanting w (Q × (next ≡ Some (inflight here))))))
+    (sym h.0)
+    (subst (λ (o : Option Call). IfToldBlocked (rows.told inflight turn) (IfWanting w (Q × (o ≡ Some (inflight here))))) (sym h.1)
+    (told_by_turn inflight here Q w turn b))
+settled_blocked inflight here Q w (Err stopped) (Err e) next h b = tt
+settled_blocked inflight here Q w (Err stopped) (Ok told) next h b = (let no = h.0 in absurd (cc))
 
 -- an unmap wants neither lock nor slot
 pub unmap_wants : (p : UnmapPhase) (Q : Type 0) → IfWanting (standing (call.Unmap p)).wants Q
@@ -194,39 +190,3 @@ idle_result s event (Ok (outcome.Blocked u)) after new h fits row stays =
     λ _. same_fields s after new (blocked_same s event u after new h fits row stays)
 idle_result s event (Ok (outcome.Refused why)) after new h fits row stays =
     λ _. same_fields s after new (refused_same s.parts after s.seats new event (outcome.Refused why) why row refl)
-
--- what is asked of a blocked outcome may be asked more weakly
-told_map : {P Q : Type 0} (o : Outcome) → (P → Q) → IfToldBlocked o P → IfToldBlocked o Q
-told_map outcome.Begun f h = tt
-told_map (outcome.Moved p) f h = tt
-told_map (outcome.Blocked u) f h = f h
-told_map (outcome.Ended a) f h = tt
-told_map outcome.Marked f h = tt
-told_map (outcome.Resized frames) f h = tt
-told_map (outcome.Refused why) f h = tt
-
--- so may what is asked of a call that wants something
-want_map : {P Q : Type 0} (w : Want) → (P → Q) → IfWanting w P → IfWanting w Q
-want_map Nothing f h = tt
-want_map (Lock k) f h = f h
-want_map (Slot k i) f h = f h
-
--- a seat whose call stands again is what it was: it isn't over, so its task lives on
-pub seat_same : (o : Outcome) (old new : Seat) (c : Call) (next : Option Call) (exits : Bool) (Q : Type 0) → old.call ≡ Some c
-    → new.life ≡ (if exits && is_none next then Dead else old.life) → new.call ≡ next
-    → IfToldBlocked o (IfWanting (standing c).wants (Q × (next ≡ Some c)))
-    → IfToldBlocked o (IfSome old.call (λ call. IfWanting (standing call).wants (Q × (new ≡ old))))
-seat_same o old new c next exits Q was life there =
-    told_map o (λ h. subst
-    (λ (call : Option Call). IfSome call (λ call. IfWanting (standing call).wants (Q × (new ≡ old)))) (sym was)
-    (want_map (standing c).wants (λ q. (q.0, same q.1)) h))
-  where
-    lives : (b : Bool) → (if b && false then Dead else old.life) ≡ old.life
-    lives true = refl
-    lives false = refl
-
-    same : next ≡ Some c → new ≡ old
-    same e =
-        let a : new.life ≡ old.life = life ∙ (ap (λ (n : Option Call). if exits && is_none n then Dead else old.life) e ∙ lives exits) in
-        let b : new.call ≡ old.call = there ∙ (e ∙ sym was) in
-        λ i. record { life = a i; call = b i }

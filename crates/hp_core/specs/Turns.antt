@@ -1,5 +1,6 @@
 -- A step's turn, told as an outcome, with the call that it leaves in flight, and how its task lives on.
-use Rattle.std.specs.Prelude.{Bool, true, false, ◌&&◌, Option, Result, Ok, Err, if◌then◌else◌}
+use Rattle.std.specs.Prelude.{◌≡◌, Bool, true, false, ◌&&◌, Option, Some, Result, Ok, Err, IsErr, if◌then◌else◌}
+use Rattle.std.specs.declared.alloc.AllocError.{AllocError}
 use Rattle.hp_base.specs.Numbers.{is_none}
 use Rattle.hp_machine.specs.Events.{told, left}
 use Rattle.hp_machine.specs.declared.call.Call.{Call}
@@ -31,10 +32,10 @@ IfToldRefused outcome.Marked Q = Unit {0}
 IfToldRefused (outcome.Resized frames) Q = Unit {0}
 IfToldRefused (outcome.Refused why) Q = Q
 
--- how a turn is told and the call that it leaves; without memory the call as it stood
-abbrev pub finished : {P : Type 0} → (P → Call) → Result (Turn P) (Stopped P) → Result (Outcome × Option Call) Call
-finished call (Ok turn) = Ok (told call turn, left call turn)
-finished call (Err stopped) = Err (call stopped.phase)
+-- a step is told as its turn is, and leaves that turn's call; without memory it leaves the call as it stood
+abbrev pub Settles : {P : Type 0} → (P → Call) → Result (Turn P) (Stopped P) → Result Outcome AllocError → Option Call → Type 0
+Settles call (Ok turn) result next = (result ≡ Ok (told call turn)) × (next ≡ left call turn)
+Settles call (Err stopped) result next = IsErr result × (next ≡ Some (call stopped.phase))
 
 abbrev pub is_exit_call : Call → Bool
 is_exit_call (call.Exit phase) = true

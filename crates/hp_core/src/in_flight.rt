@@ -1,9 +1,8 @@
-//! A step's turn, told as an outcome, with the call that it leaves in flight.
+//! Of each operation, the call that stands in one of its phases.
 ghost use Rattle.std.specs.Prelude.{◌≡◌};
 ghost use Rattle.hp_machine.specs.declared.call.Call.{Call};
-ghost use Rattle.hp_core.specs.Turns.{finished};
 
-use crate::words::phase_word;
+use hp_machine::Call;
 use hp_machine::alloc::AllocPhase;
 use hp_machine::exit::ExitPhase;
 use hp_machine::map::MapPhase;
@@ -11,7 +10,6 @@ use hp_machine::punch::PunchPhase;
 use hp_machine::touch::TouchPhase;
 use hp_machine::truncate::TruncatePhase;
 use hp_machine::unmap::UnmapPhase;
-use hp_machine::{Call, Outcome, Stopped, Turn};
 
 /// The phases of one operation.
 pub trait InFlight {
@@ -75,24 +73,5 @@ impl InFlight for ExitPhase {
 
     fn into_call(self) -> Call {
         Call::Exit(self)
-    }
-}
-
-/// What a step is told as, and the call that it leaves; or without memory the call as it stood.
-pub fn finish<P: InFlight>(
-    stepped: Result<Turn<P>, Stopped<P>>,
-) -> Result<(Outcome, Option<Call>), Call>
-    ensures { result ≡ finished P.call_of stepped }
-{
-    match stepped {
-        Ok(Turn::Moved(phase)) => {
-            let call = phase.into_call();
-            Ok((Outcome::Moved(phase_word(&call)), Some(call)))
-        }
-        Ok(Turn::Blocked(phase, holder)) => {
-            Ok((Outcome::Blocked(holder), Some(phase.into_call())))
-        }
-        Ok(Turn::Ended(answer)) => Ok((Outcome::Ended(answer), None)),
-        Err(stopped) => Err(stopped.phase.into_call()),
     }
 }

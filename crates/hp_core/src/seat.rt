@@ -1,5 +1,5 @@
 //! A task's life and its call in flight, and one step of it.
-ghost use Rattle.std.specs.Prelude.{◌≡◌, true, IfOk, IfErr, IfSome, IsSomeAnd, OnErr, MatchOption, IsSome, IfNone, None, Some, ◌≤◌, ◌&&◌};
+ghost use Rattle.std.specs.Prelude.{◌≡◌, true, IfOk, IfSome, IsSomeAnd, OnErr, MatchOption, IsSome, IfNone, None, Some, ◌≤◌, ◌&&◌};
 ghost use Rattle.std.specs.Prelude.{if◌then◌else◌};
 ghost use Rattle.hp_base.specs.Numbers.{is_none};
 ghost use Rattle.hp_machine.specs.Events.{CallRow};
@@ -11,12 +11,13 @@ ghost use Rattle.hp_fault.specs.View.{view};
 ghost use Rattle.hp_core.specs.Fits.{CallFits};
 ghost use Rattle.hp_machine.specs.Standings.{standing};
 ghost use Rattle.hp_fault.specs.Turns.{IfWanting};
-ghost use Rattle.hp_core.specs.Turns.{is_exit_call, life_after, IfToldBlocked};
+ghost use Rattle.hp_core.specs.Turns.{is_exit_call, life_after, IfToldBlocked, Settles};
 
-use crate::in_flight::finish;
+use crate::in_flight::InFlight;
+use crate::words::phase_word;
 use hp_base::Task;
 use hp_fault::{Parts, step_alloc, step_map, step_touch};
-use hp_machine::{Call, Life, Outcome};
+use hp_machine::{Call, Life, Outcome, Stopped, Turn};
 use hp_remove::{step_exit, step_punch, step_truncate, step_unmap};
 use std::alloc::AllocError;
 
@@ -54,45 +55,80 @@ fn is_exit(call: &Call) -> bool
     matches!(call, Call::Exit(_))
 }
 
-// One step of a call. Without memory nothing changed, and the call is handed back.
+// What a step makes of the seat's call, and what it is told as. It writes the call where it is to stand: a call that were
+// handed on would be copied once more for each hand.
+fn settle<P: InFlight>(
+    seat: &mut Seat,
+    stepped: Result<Turn<P>, Stopped<P>>,
+) -> Result<Outcome, AllocError>
+    ensures call { Settles P.call_of stepped result seat.new.call }
+    ensures life { seat.new.life ≡ seat.old.life }
+{
+    match stepped {
+        Ok(Turn::Moved(phase)) => {
+            let call = phase.into_call();
+            let word = phase_word(&call);
+            seat.call = Some(call);
+            Ok(Outcome::Moved(word))
+        }
+        Ok(Turn::Blocked(phase, holder)) => {
+            seat.call = Some(phase.into_call());
+            Ok(Outcome::Blocked(holder))
+        }
+        Ok(Turn::Ended(answer)) => {
+            seat.call = None;
+            Ok(Outcome::Ended(answer))
+        }
+        Err(stopped) => {
+            seat.call = Some(stopped.phase.into_call());
+            Err(AllocError)
+        }
+    }
+}
+
+// One step of a call, to what it leaves in the seat. Without memory nothing changed, and the call stands there as it did.
 fn step_call(
     parts: &mut Parts,
+    seat: &mut Seat,
     task: Task,
-    killed: bool,
     grant: bool,
     call: Call,
-) -> Result<(Outcome, Option<Call>), Call>
+) -> Result<Outcome, AllocError>
     requires { CallFits (state_of parts.old) task call }
-    ensures row { IfOk result (λ done. CallRow (view parts.old) task killed grant call done.0 (view parts.new) done.1) }
+    ensures row { IfOk result
+        (λ told. CallRow (view parts.old) task (machine.is_killed seat.old.life) grant call told (view parts.new) seat.new.call) }
     ensures sizes { SizesStay (state_of parts.old) (state_of parts.new) }
     ensures room { RoomStaysUnless grant (Wants (view parts.old) task call) (state_of parts.old) (state_of parts.new) }
-    ensures blocked { IfOk result (λ done. IfToldBlocked done.0
-        (IfWanting (standing call).wants ((state_of parts.new ≡ state_of parts.old) × (done.1 ≡ Some call)))) }
-    ensures call { IfErr result (λ again. again ≡ call) }
+    ensures blocked { IfOk result (λ told. IfToldBlocked told
+        (IfWanting (standing call).wants ((state_of parts.new ≡ state_of parts.old) × (seat.new.call ≡ Some call)))) }
+    ensures life { seat.new.life ≡ seat.old.life }
+    ensures call { OnErr result (seat.new.call ≡ Some call) }
     ensures err { OnErr result (state_of parts.new ≡ state_of parts.old) }
     ensures growth { OnErr result (grant ≡ true) }
     ensures wanted { OnErr result (Wants (view parts.old) task call) }
 {
+    let killed = is_killed(seat.life);
     match call {
-        Call::Touch(phase) => finish(step_touch(parts, task, killed, grant, phase)),
-        Call::Map(phase) => finish(step_map(parts, task, killed, grant, phase)),
-        Call::Alloc(phase) => finish(step_alloc(parts, task, killed, grant, phase)),
-        Call::Punch(phase) => finish(step_punch(parts, task, killed, grant, phase)),
-        Call::Truncate(phase) => finish(Ok(step_truncate(parts, task, killed, grant, phase))),
-        Call::Unmap(phase) => finish(Ok(step_unmap(parts, task, killed, grant, phase))),
-        Call::Exit(phase) => finish(Ok(step_exit(parts, task, killed, grant, phase))),
+        Call::Touch(phase) => settle(seat, step_touch(parts, task, killed, grant, phase)),
+        Call::Map(phase) => settle(seat, step_map(parts, task, killed, grant, phase)),
+        Call::Alloc(phase) => settle(seat, step_alloc(parts, task, killed, grant, phase)),
+        Call::Punch(phase) => settle(seat, step_punch(parts, task, killed, grant, phase)),
+        Call::Truncate(phase) => {
+            settle(seat, Ok(step_truncate(parts, task, killed, grant, phase)))
+        }
+        Call::Unmap(phase) => settle(seat, Ok(step_unmap(parts, task, killed, grant, phase))),
+        Call::Exit(phase) => settle(seat, Ok(step_exit(parts, task, killed, grant, phase))),
     }
 }
 
-// What a step of the seat's call leaves there: a call that is the end of its task leaves it dead once it is over.
-fn leave_seat(seat: &mut Seat, exits: bool, next: Option<Call>)
-    ensures life { seat.new.life ≡ (if exits && is_none next then Life.Dead else seat.old.life) }
-    ensures call { seat.new.call ≡ next }
+// A task whose call is its end is dead once that is over.
+fn end_life(seat: &mut Seat, exits: bool)
+    ensures life { seat.new.life ≡ (if exits && is_none seat.old.call then Life.Dead else seat.old.life) }
+    ensures call { seat.new.call ≡ seat.old.call }
 {
-    if exits && next.is_none() {
+    if exits && seat.call.is_none() {
         seat.life = Life::Dead;
     }
-    seat.call = next;
 }
 
 /// One step of a seat's call; none where no call is in flight. Without memory nothing changed.
@@ -124,14 +160,7 @@ pub fn step_seat(
         return Ok(None);
     };
     let exits = is_exit(&call);
-    match step_call(parts, task, is_killed(seat.life), grant, call) {
-        Ok((outcome, next)) => {
-            leave_seat(seat, exits, next);
-            Ok(Some(outcome))
-        }
-        Err(again) => {
-            seat.call = Some(again);
-            Err(AllocError)
-        }
-    }
+    let told = step_call(parts, seat, task, grant, call)?;
+    end_life(seat, exits);
+    Ok(Some(told))
 }
