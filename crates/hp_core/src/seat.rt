@@ -11,7 +11,7 @@ ghost use Rattle.hp_fault.specs.View.{view};
 ghost use Rattle.hp_core.specs.Fits.{CallFits};
 ghost use Rattle.hp_machine.specs.Standings.{standing};
 ghost use Rattle.hp_fault.specs.Turns.{IfWanting};
-ghost use Rattle.hp_core.specs.Turns.{is_exit_call, life_after, IfToldBlocked, Settles};
+ghost use Rattle.hp_core.specs.Turns.{life_after, IfToldBlocked, Settles};
 
 use crate::in_flight::InFlight;
 use crate::words::phase_word;
@@ -48,21 +48,15 @@ pub fn is_dead(life: Life) -> bool
     }
 }
 
-// Whether the call is the end of its task.
-fn is_exit(call: &Call) -> bool
-    ensures { result ≡ is_exit_call call.now }
-{
-    matches!(call, Call::Exit(_))
-}
-
 // What a step makes of the seat's call, and what it is told as. It writes the call where it is to stand: a call that were
-// handed on would be copied once more for each hand.
+// handed on would be copied once more for each hand. A task whose call is its end (`exits`) is dead once that is over.
 fn settle<P: InFlight>(
     seat: &mut Seat,
+    exits: bool,
     stepped: Result<Turn<P>, Stopped<P>>,
 ) -> Result<Outcome, AllocError>
     ensures call { Settles P.call_of stepped result seat.new.call }
-    ensures life { seat.new.life ≡ seat.old.life }
+    ensures life { seat.new.life ≡ (if exits && is_none seat.new.call then Life.Dead else seat.old.life) }
 {
     match stepped {
         Ok(Turn::Moved(phase)) => {
@@ -77,6 +71,9 @@ fn settle<P: InFlight>(
         }
         Ok(Turn::Ended(answer)) => {
             seat.call = None;
+            if exits {
+                seat.life = Life::Dead;
+            }
             Ok(Outcome::Ended(answer))
         }
         Err(stopped) => {
@@ -101,7 +98,7 @@ fn step_call(
     ensures room { RoomStaysUnless grant (Wants (view parts.old) task call) (state_of parts.old) (state_of parts.new) }
     ensures blocked { IfOk result (λ told. IfToldBlocked told
         (IfWanting (standing call).wants ((state_of parts.new ≡ state_of parts.old) × (seat.new.call ≡ Some call)))) }
-    ensures life { seat.new.life ≡ seat.old.life }
+    ensures life { seat.new.life ≡ life_after seat.old.life call seat.new.call }
     ensures call { OnErr result (seat.new.call ≡ Some call) }
     ensures err { OnErr result (state_of parts.new ≡ state_of parts.old) }
     ensures growth { OnErr result (grant ≡ true) }
@@ -109,25 +106,23 @@ fn step_call(
 {
     let killed = is_killed(seat.life);
     match call {
-        Call::Touch(phase) => settle(seat, step_touch(parts, task, killed, grant, phase)),
-        Call::Map(phase) => settle(seat, step_map(parts, task, killed, grant, phase)),
-        Call::Alloc(phase) => settle(seat, step_alloc(parts, task, killed, grant, phase)),
-        Call::Punch(phase) => settle(seat, step_punch(parts, task, killed, grant, phase)),
+        Call::Touch(phase) => settle(seat, false, step_touch(parts, task, killed, grant, phase)),
+        Call::Map(phase) => settle(seat, false, step_map(parts, task, killed, grant, phase)),
+        Call::Alloc(phase) => settle(seat, false, step_alloc(parts, task, killed, grant, phase)),
+        Call::Punch(phase) => settle(seat, false, step_punch(parts, task, killed, grant, phase)),
         Call::Truncate(phase) => {
-            settle(seat, Ok(step_truncate(parts, task, killed, grant, phase)))
+            settle(
+                seat,
+                false,
+                Ok(step_truncate(parts, task, killed, grant, phase)),
+            )
         }
-        Call::Unmap(phase) => settle(seat, Ok(step_unmap(parts, task, killed, grant, phase))),
-        Call::Exit(phase) => settle(seat, Ok(step_exit(parts, task, killed, grant, phase))),
-    }
-}
-
-// A task whose call is its end is dead once that is over.
-fn end_life(seat: &mut Seat, exits: bool)
-    ensures life { seat.new.life ≡ (if exits && is_none seat.old.call then Life.Dead else seat.old.life) }
-    ensures call { seat.new.call ≡ seat.old.call }
-{
-    if exits && seat.call.is_none() {
-        seat.life = Life::Dead;
+        Call::Unmap(phase) => settle(
+            seat,
+            false,
+            Ok(step_unmap(parts, task, killed, grant, phase)),
+        ),
+        Call::Exit(phase) => settle(seat, true, Ok(step_exit(parts, task, killed, grant, phase))),
     }
 }
 
@@ -159,8 +154,6 @@ pub fn step_seat(
     let Some(call) = seat.call.take() else {
         return Ok(None);
     };
-    let exits = is_exit(&call);
     let told = step_call(parts, seat, task, grant, call)?;
-    end_life(seat, exits);
     Ok(Some(told))
 }
