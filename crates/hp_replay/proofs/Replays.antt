@@ -15,10 +15,10 @@ use Rattle.hp_replay.specs.Lines.{Held, opening_held, Line, header, event, fault
 use Rattle.hp_replay.specs.Traces.{IsTrace, HasNoEnd, IsLineFault, trace_text}
 use Rattle.hp_replay.specs.Outcomes.{Run, RunOf, outcomes_text, outcome_line, state_text}
 use Rattle.hp_replay.specs.Writing.{Wrote, IsWriteFault}
-use Rattle.hp_replay.specs.Running.{LinesRun, PieceRan, PieceStopped, IsOpened}
+use Rattle.hp_replay.specs.Running.{LinesRun, PieceRan, PieceRanPartly, PieceStopped, IsOpened}
 use Rattle.hp_replay.specs.Replaying.{Replayed, StoppedEarly, StoppedAtRead, RunWrites, nothing, so_far, to_the_end, AllRunWrites}
 use Rattle.hp_replay.specs.Replaying.{no_line, each_line, Stopped}
-use Rattle.hp_replay.proofs.Writes.{Wrote-behind}
+use Rattle.hp_replay.proofs.Writes.{Wrote-behind, Wrote-more}
 use Rattle.hp_replay.proofs.Bytes.{IsHeld, room}
 use Rattle.hp_replay.proofs.BadLines.{NoLine, stops, cut}
 use Rattle.hp_replay.proofs.Running.{PieceRan-append, PieceRanPartly-behind}
@@ -196,6 +196,38 @@ smaller from mid h h' core core' o o' o'' piece g more ok some =
     let same : room h' ≡ room (held_after h piece) = ap room more.taken in
     omega arith
 
+-- what ran before some point writes some of the run's text
+ran_writes : {to : Option (List ℕ)} {front back text : List ℕ} {core : Option CoreState}
+    → Ran front back text core → RunWrites to (front ++ back) text
+ran_writes (before none empty is) = nothing empty
+ran_writes {to} {front} {back} (behind t count parts run) =
+    so_far ((held_after opening_held front).rest ++ back) run.new
+    (record {
+      sizes = t.trace.sizes;
+      events = t.trace.events;
+      outcomes = run.outcomes;
+      trace = t.trace.trace;
+      parts = parts;
+      run = run.run;
+      text_is = run.text_is;
+    })
+
+-- a piece of which a front ran, and a front of what that writes was written
+piece_partly : (from mid to : Option (List ℕ)) (h : Held) (core : Option CoreState) (o o' o'' : Option (List ℕ))
+    (piece : List ℕ) → Going from mid h core o o' → Consumes mid to piece → PieceRanPartly h piece core o' o''
+    → StoppedEarly from to o o''
+piece_partly from mid to h core o o' o'' piece g read part =
+    let all = PieceRanPartly-behind opening_held h g.bytes piece None core o o' o'' g.piece part in
+    record {
+      bytes = g.bytes ++ piece;
+      text = all.ran.text;
+      reads = Consumes-trans from mid to g.bytes piece g.reads read;
+      run =
+          subst (λ (x : List ℕ). RunWrites to x all.ran.text) (sym all.parts)
+          (ran_writes (ran all.front all.back all.ran.text all.ran.new all.ok all.ran.runs));
+      wrote = all.ran.wrote;
+    }
+
 pub piece_stopped : (from mid to : Option (List ℕ)) (h h' : Held) (core core' : Option CoreState)
     (o o' o'' : Option (List ℕ)) (piece : List ℕ) (fault : ReplayFault) → Going from mid h core o o'
     → Consumes mid to piece → PieceStopped fault h piece h' core core' o' o'' → Stopped fault from to o o''
@@ -211,32 +243,121 @@ piece_stopped from mid to h h' core core' o o' o'' piece fault g read (inl (fail
     (λ _. simp (length-append) (omega arith))
     (for_some to _ s.bad))
 piece_stopped from mid to h h' core core' o o' o'' piece fault g read (inr (is, part)) =
-    let all = PieceRanPartly-behind opening_held h g.bytes piece None core o o' o'' g.piece part in
-    let reads : Consumes from to (g.bytes ++ piece) = Consumes-trans from mid to g.bytes piece g.reads read in
-    early fault from to o o'' is
+    subst (λ (f : ReplayFault). Stopped f from to o o'') (sym is) (piece_partly from mid to h core o o' o'' piece g read part)
+
+-- ---- lines that are collected, and then written
+
+-- the text that was collected is that of the run, where none was before
+collected : (l t text : List ℕ) → l ≡ [] → Appends (Some l) (Some t) text → t ≡ text
+collected l t text none e = e ∙ ap (λ (x : List ℕ). x ++ text) none
+
+-- a piece whose lines were collected ran to the writer once all of them are written
+pub ran_written : (h h' : Held) (piece : List ℕ) (core core' : Option CoreState) (o o' : Option (List ℕ)) (l t : List ℕ)
+    → l ≡ [] → PieceRan h piece h' core core' (Some l) (Some t) → Appends o o' t → PieceRan h piece h' core core' o o'
+ran_written h h' piece core core' o o' l t none p all =
+    record {
+      text = p.text;
+      taken = p.taken;
+      runs = p.runs;
+      wrote = subst (λ (x : List ℕ). Appends o o' x) (collected l t p.text none p.wrote) all;
+    }
+
+-- so did one that stopped
+pub stopped_written : (fault : ReplayFault) (h h' : Held) (piece : List ℕ) (core core' : Option CoreState)
+    (o o' : Option (List ℕ)) (l t : List ℕ) → l ≡ [] → PieceStopped fault h piece h' core core' (Some l) (Some t)
+    → Appends o o' t → PieceStopped fault h piece h' core core' o o'
+stopped_written fault h h' piece core core' o o' l t none (inl (failed, is, p)) all =
+    inl (failed, is, ran_written h h' piece core core' o o' l t none p all)
+stopped_written fault h h' piece core core' o o' l t none (inr (is, p)) all =
+    inr (
+      is,
+      record {
+        front = p.front;
+        back = p.back;
+        parts = p.parts;
+        ok = p.ok;
+        ran = record {
+          new = p.ran.new;
+          text = p.ran.text;
+          runs = p.ran.runs;
+          wrote = record {
+            front = p.ran.wrote.front;
+            back = p.ran.wrote.back;
+            parts = p.ran.wrote.parts;
+            appends = subst (λ (x : List ℕ). Appends o o' x) (collected l t p.ran.wrote.front none p.ran.wrote.appends) all;
+          };
+        };
+      },
+    )
+
+-- what a piece came to whose lines were collected
+abbrev pub PieceCame : Result (Unit {0}) ReplayFault → Held → List ℕ → Held → Option CoreState → Option CoreState
+    → List ℕ → List ℕ → Type 0
+PieceCame (Ok x) h piece h' core core' l t = PieceRan h piece h' core core' (Some l) (Some t) × (h'.fault ≡ None)
+PieceCame (Err fault) h piece h' core core' l t = PieceStopped fault h piece h' core core' (Some l) (Some t)
+
+pub came : (r : Result (Unit {0}) ReplayFault) (h h' : Held) (piece : List ℕ) (core core' : Option CoreState) (l t : List ℕ)
+    → OnOk r (PieceRan h piece h' core core' (Some l) (Some t)) → OnOk r (h'.fault ≡ None)
+    → IfErr r (λ fault. PieceStopped fault h piece h' core core' (Some l) (Some t)) → PieceCame r h piece h' core core' l t
+came (Ok x) h h' piece core core' l t p ok stopped = (p, ok)
+came (Err fault) h h' piece core core' l t p ok stopped = stopped
+
+-- where not all of its lines could be written, a front of the run's text was
+pub unwritten : (from mid to : Option (List ℕ)) (h h' : Held) (core core' : Option CoreState)
+    (o o' o'' : Option (List ℕ)) (piece l t : List ℕ) (r : Result (Unit {0}) ReplayFault) → Going from mid h core o o'
+    → Consumes mid to piece → l ≡ [] → PieceCame r h piece h' core core' l t → Wrote o' o'' t → StoppedEarly from to o o''
+unwritten from mid to h h' core core' o o' o'' piece l t (Ok x) g read none (p, ok) some =
+    piece_partly from mid to h core o o' o'' piece g read
     (record {
-      bytes = g.bytes ++ piece;
-      text = all.ran.text;
-      reads = reads;
-      run =
-          subst (λ (x : List ℕ). RunWrites to x all.ran.text) (sym all.parts)
-          (writes (ran all.front all.back all.ran.text all.ran.new all.ok all.ran.runs));
-      wrote = all.ran.wrote;
+      front = piece;
+      back = [];
+      parts = sym (append-nil piece);
+      ok = ap (λ (y : Held). y.fault) (sym p.taken) ∙ ok;
+      ran = record {
+        new = core';
+        text = p.text;
+        runs = p.runs;
+        wrote = subst (λ (y : List ℕ). Wrote o' o'' y) (collected l t p.text none p.wrote) some;
+      };
     })
-  where
-    writes : {front back text : List ℕ} {core : Option CoreState} → Ran front back text core → RunWrites to (front ++ back) text
-    writes (before none empty is) = nothing empty
-    writes {front} {back} (behind t count parts run) =
-        so_far ((held_after opening_held front).rest ++ back) run.new
-        (record {
-          sizes = t.trace.sizes;
-          events = t.trace.events;
-          outcomes = run.outcomes;
-          trace = t.trace.trace;
-          parts = parts;
-          run = run.run;
-          text_is = run.text_is;
-        })
+unwritten from mid to h h' core core' o o' o'' piece l t (Err fault) g read none (inr (is, p)) some =
+    piece_partly from mid to h core o o' o'' piece g read
+    (record {
+      front = p.front;
+      back = p.back;
+      parts = p.parts;
+      ok = p.ok;
+      ran = record {
+        new = p.ran.new;
+        text = p.ran.text;
+        runs = p.ran.runs;
+        wrote =
+            subst (λ (y : List ℕ). Wrote o' o'' y) (sym p.ran.wrote.parts)
+            (Wrote-more o' o'' p.ran.wrote.front p.ran.wrote.back
+            (subst (λ (y : List ℕ). Wrote o' o'' y) (collected l t p.ran.wrote.front none p.ran.wrote.appends) some));
+      };
+    })
+unwritten from mid to h h' core core' o o' o'' piece l t (Err fault) g read none (inl (failed, is, p)) some =
+    let both = g.piece.text ++ p.text in
+    let first : PieceRan opening_held g.bytes h None core (Some []) (Some g.piece.text) =
+    record { text = g.piece.text; taken = g.piece.taken; runs = g.piece.runs; wrote = refl } in
+    let more : PieceRan h piece h' core core' (Some g.piece.text) (Some both) =
+    record { text = p.text; taken = p.taken; runs = p.runs; wrote = refl } in
+    let all = PieceRan-append opening_held h h' g.bytes piece None core core' (Some []) (Some g.piece.text) (Some both) first more in
+    let s = stops opening_held (g.bytes ++ piece) fault refl opening_is (ap (λ (x : Held). x.fault) (sym all.taken) ∙ failed) in
+    record {
+      bytes = g.bytes ++ piece;
+      text = all.text;
+      reads = Consumes-trans from mid to g.bytes piece g.reads read;
+      run =
+          subst (λ (x : List ℕ). RunWrites to x all.text) (sym s.parts)
+          (ran_writes (ran s.front s.back all.text core' s.ok
+          (subst (λ (x : List Line). LinesRun None x core' all.text) s.lines all.runs)));
+      wrote =
+          subst (λ (y : List ℕ). Wrote o o'' y) (collected [] both all.text refl all.wrote)
+          (Wrote-behind o o' o'' g.piece.text p.text g.piece.wrote
+          (subst (λ (y : List ℕ). Wrote o' o'' y) (collected l t p.text none p.wrote) some));
+    }
 
 -- what the feed holds
 held_is : (from mid : Option (List ℕ)) (h : Held) (core : Option CoreState) (o o' : Option (List ℕ))

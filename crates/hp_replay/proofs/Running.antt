@@ -1,9 +1,9 @@
 -- Lines that run one after the other, piece by piece.
 use Rattle.std.proofs.Common.{◌≡◌, ℕ, zero, suc, ◌+◌, ◌<◌, ◌≤◌, Bool, true, false, eqb, List, [], ◌∷◌, ◌++◌, length, drop, Option}
 use Rattle.std.proofs.Common.{Some, None, refl, sym, ap, subst, ◌∙◌, append_assoc, length-append, arith, inl, inr}
-use Rattle.std.specs.Prelude.{IsSome, IfErr, OnOk, Result, Ok, Err}
+use Rattle.std.specs.Prelude.{IsSome, OnOk, Result, Ok, Err}
+use Rattle.std.specs.declared.alloc.AllocError.{AllocError}
 use Rattle.std.specs.Io.BufRead.{take_through}
-use Rattle.std.specs.Io.KnownBytes.{Appends}
 use Rattle.std.proofs.KnownBytes.{Appends-nil, Appends-trans}
 use Rattle.std.proofs.lemmas.List.{append-nil}
 use Rattle.hp_base.specs.declared.config.Config.{Config}
@@ -12,13 +12,13 @@ use Rattle.hp_machine.specs.declared.outcome.Outcome.{Outcome}
 use Rattle.hp_core.specs.Runs.{Row, IsOpening}
 use Rattle.hp_core.specs.State.{CoreState}
 use Rattle.hp_replay.specs.declared.fault.ReplayFault.{ReplayFault}
+use Rattle.hp_replay.specs.declared.fault.ReplayFault.TheVariants.{Memory}
 use Rattle.hp_replay.specs.declared.feed.TraceLine.{TraceLine}
 use Rattle.hp_replay.specs.declared.feed.TraceLine.TheVariants as lines
 use Rattle.hp_replay.specs.Lines.{Held, Line, header, event, line_of, held_after, lines_after, listed, AreLines}
 use Rattle.hp_replay.specs.Outcomes.{outcome_line}
 use Rattle.hp_replay.specs.Traces.{IsLineFault}
-use Rattle.hp_replay.specs.Writing.{Wrote, IsWriteFault}
-use Rattle.hp_replay.specs.Running.{LineRuns, LinesRun, LinesRan, LinesRanPartly, LinesStopped, PieceRan, PieceRanPartly}
+use Rattle.hp_replay.specs.Running.{LineRuns, LinesRun, LinesRan, PieceRan, PieceRanPartly}
 use Rattle.hp_replay.specs.Running.{PieceStopped, CanRun, CanRunIfSome, IsOpened}
 use Rattle.hp_replay.proofs.Feeding.{held_after-append, lines_after-append, stays}
 use Rattle.hp_replay.proofs.Spelled.{spelled}
@@ -67,27 +67,11 @@ event_runs old core new line e outcome is some row =
     (one_runs (Some core) (event e) (Some new) (outcome_line outcome) (outcome, row, refl)))
 
 pub event_ran : (old : Option CoreState) (core new : CoreState) (line : TraceLine) (e : Event) (outcome : Outcome)
-    (o o' : Option (List ℕ)) (r : Result (Unit {0}) ReplayFault) → line ≡ lines.Event e → old ≡ Some core
-    → Row core e outcome new → OnOk r (Appends o o' (outcome_line outcome))
-    → OnOk r (LinesRan old (line_of line ∷ []) (Some new) o o')
-event_ran old core new line e outcome o o' (Err fault) is some row wrote = tt
-event_ran old core new line e outcome o o' (Ok x) is some row wrote =
+    (l l' : List ℕ) (r : Result (Unit {0}) AllocError) → line ≡ lines.Event e → old ≡ Some core → Row core e outcome new
+    → OnOk r (l' ≡ l ++ outcome_line outcome) → OnOk r (LinesRan old (line_of line ∷ []) (Some new) (Some l) (Some l'))
+event_ran old core new line e outcome l l' (Err x) is some row wrote = tt
+event_ran old core new line e outcome l l' (Ok x) is some row wrote =
     record { text = outcome_line outcome; runs = event_runs old core new line e outcome is some row; wrote = wrote }
-
-pub event_stopped : (old : Option CoreState) (core new : CoreState) (line : TraceLine) (e : Event) (outcome : Outcome)
-    (o o' : Option (List ℕ)) (r : Result (Unit {0}) ReplayFault) → line ≡ lines.Event e → old ≡ Some core
-    → Row core e outcome new → IfErr r (λ fault. IsWriteFault fault × Wrote o o' (outcome_line outcome))
-    → IfErr r (λ fault. LinesStopped fault old (line_of line ∷ []) o o')
-event_stopped old core new line e outcome o o' (Ok x) is some row stopped = tt
-event_stopped old core new line e outcome o o' (Err fault) is some row stopped = (
-  stopped.0,
-  inr (record {
-    new = Some new;
-    text = outcome_line outcome;
-    runs = event_runs old core new line e outcome is some row;
-    wrote = stopped.1;
-  }),
-)
 
 -- ---- pieces
 
@@ -230,23 +214,24 @@ line_opened h next mid new o o' rest left line t ran opened =
     ap (λ (x : Held). x.lines) t.held ∙ s.lines ∙ ap (λ (x : List Line). h.lines + length x) (sym t.lines) in
     opened_on h.lines next.lines mid new line ran.text ran.runs count opened
 
--- the line was taken, and did not run to its end
-pub line_stops : (h next after : Held) (mid new : Option CoreState) (o o' : Option (List ℕ)) (rest left : List ℕ)
-    (line : Option Line) (fault : ReplayFault) → TookLine h next line rest left → h.fault ≡ None
-    → LinesStopped fault mid (listed line []) o o' → PieceStopped fault h rest after mid new o o'
+-- the line was taken, and memory was wanted to run it: of the bytes nothing ran, and no text came
+pub line_unrun : (h after : Held) (mid new : Option CoreState) (l l' rest : List ℕ) → h.fault ≡ None → l' ≡ l
+    → PieceStopped Memory h rest after mid new (Some l) (Some l')
 unfolding held_after lines_after
-line_stops h next after mid new o o' rest left line fault t ok (is, inl none) =
-    inr (is, record { front = []; back = rest; parts = refl; ok = ok; ran = none })
-line_stops h next after mid new o o' rest left line fault t ok (is, inr part) =
-    let first = take_through 10 rest in
+line_unrun h after mid new l l' rest ok same =
     inr (
-      is,
+      refl,
       record {
-        front = first;
-        back = drop (length first) rest;
-        parts = through_parts rest;
-        ok = ap (λ (x : Held). x.fault) (sym t.held) ∙ t.ok;
-        ran = subst (λ (ls : List Line). LinesRanPartly mid ls o o') t.lines part;
+        front = [];
+        back = rest;
+        parts = refl;
+        ok = ok;
+        ran = record {
+          new = mid;
+          text = [];
+          runs = (refl, refl);
+          wrote = record { front = []; back = []; parts = refl; appends = same ∙ sym (append-nil l) };
+        };
       },
     )
 

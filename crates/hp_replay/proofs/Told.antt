@@ -47,7 +47,16 @@ pub stopped_no_read : (fault : ReplayFault) (held : Held) (piece : List ℕ) (ne
     (before after : Option (List ℕ)) (failed : Bool) → PieceStopped fault held piece next old new before after
     → failed ≡ source_at fault failed
 stopped_no_read fault held piece next old new before after failed (inl (bad, is, ran)) = line_no_read fault failed is
-stopped_no_read fault held piece next old new before after failed (inr (is, ran)) = write_no_read fault failed is
+stopped_no_read fault held piece next old new before after failed (inr (is, ran)) =
+    subst (λ (f : ReplayFault). failed ≡ source_at f failed) (sym is) refl
+
+-- nor is it one of writing
+pub stopped_no_write : (fault : ReplayFault) (held : Held) (piece : List ℕ) (next : Held) (old new : Option CoreState)
+    (before after : Option (List ℕ)) (failed : Bool) → PieceStopped fault held piece next old new before after
+    → failed ≡ sink_at fault failed
+stopped_no_write fault held piece next old new before after failed (inl (bad, is, ran)) = line_no_write fault failed is
+stopped_no_write fault held piece next old new before after failed (inr (is, ran)) =
+    subst (λ (f : ReplayFault). failed ≡ sink_at f failed) (sym is) refl
 
 -- nor did the end
 pub finish_no_read : (h : Held) (core : Option CoreState) (o o' : Option (List ℕ)) (r : Result (Unit {0}) ReplayFault)

@@ -7,10 +7,11 @@ use Rattle.hp_machine.specs.declared.outcome.Outcome.{Outcome}
 use Rattle.hp_core.specs.Runs.{Row, IsOpening}
 use Rattle.hp_core.specs.State.{CoreState}
 use Rattle.hp_replay.specs.declared.fault.ReplayFault.{ReplayFault}
+use Rattle.hp_replay.specs.declared.fault.ReplayFault.TheVariants.{Memory}
 use Rattle.hp_replay.specs.Lines.{Held, Line, header, event, held_after, lines_after}
 use Rattle.hp_replay.specs.Outcomes.{outcome_line}
 use Rattle.hp_replay.specs.Traces.{IsLineFault}
-use Rattle.hp_replay.specs.Writing.{Wrote, IsWriteFault}
+use Rattle.hp_replay.specs.Writing.{Wrote}
 
 -- what one line does: the first opens the core, another is one event of it, with its outcome's line
 abbrev pub LineRuns : Option CoreState → Line → Option CoreState → List ℕ → Type 0
@@ -54,11 +55,6 @@ pub record LinesRanPartly (old : Option CoreState) (lines : List Line) (before a
   pub runs : LinesRun old lines new text
   pub wrote : Wrote before after text
 
--- memory was refused before the lines ran, or their text was not written to its end
-abbrev pub LinesStopped : ReplayFault → Option CoreState → List Line → Option (List ℕ) → Option (List ℕ) → Type 0
-LinesStopped fault old lines before after =
-    IsWriteFault fault × (LinesRanPartly old [] before after ⊎ LinesRanPartly old lines before after)
-
 -- the lines of a piece ran, and their text was written
 pub record PieceRan (held : Held) (piece : List ℕ) (next : Held) (old new : Option CoreState)
     (before after : Option (List ℕ)) : Type 0 where
@@ -75,9 +71,9 @@ pub record PieceRanPartly (held : Held) (piece : List ℕ) (old : Option CoreSta
   pub ok : (held_after held front).fault ≡ None
   pub ran : LinesRanPartly old (lines_after held front) before after
 
--- a line of the piece is bad, or not all was run and written
+-- a line of the piece is bad, or memory was wanted before all of it had run
 abbrev pub PieceStopped : ReplayFault → Held → List ℕ → Held → Option CoreState → Option CoreState → Option (List ℕ)
     → Option (List ℕ) → Type 0
 PieceStopped fault held piece next old new before after =
     ((next.fault ≡ Some fault) × IsLineFault fault × PieceRan held piece next old new before after)
-    ⊎ (IsWriteFault fault × PieceRanPartly held piece old before after)
+    ⊎ ((fault ≡ Memory) × PieceRanPartly held piece old before after)

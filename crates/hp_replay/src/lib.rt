@@ -13,6 +13,7 @@ mod exploring;
 mod fault;
 mod feed;
 mod laws;
+mod line_buffer;
 mod outcomes;
 mod reading;
 mod replaying;

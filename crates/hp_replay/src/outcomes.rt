@@ -1,17 +1,14 @@
 //! The lines of outcomes. Those without a number stand ready.
-ghost use Rattle.std.specs.Prelude.{◌≡◌, ◌<◌, ◌≤◌, OnOk, IfErr, IfSome};
-ghost use Rattle.std.specs.Io.KnownBytes.{Appends};
-ghost use Rattle.hp_replay.specs.Streams.{TellsWrites};
-ghost use Rattle.hp_replay.specs.Writing.{Wrote, IsWriteFault};
+ghost use Rattle.std.specs.Prelude.{◌≡◌, ◌++◌, ◌<◌, ◌≤◌, OnOk, OnErr, IfSome};
 ghost use Rattle.hp_replay.specs.Outcomes.{outcome_line};
 
-use crate::fault::ReplayFault;
-use crate::streams::Sink;
-use crate::writing::write_text;
+use crate::line_buffer::LineBuffer;
 use hp_base::{Answer, Task};
 use hp_machine::{Outcome, Phase, Refusal};
+use std::alloc::AllocError;
 
 // The line of a move to a phase.
+#[inline(always)]
 fn moved_line(phase: Phase) -> &'static [u8]
     ensures { result.now ≡ outcome_line (Outcome.Moved phase) }
 {
@@ -47,6 +44,7 @@ fn moved_line(phase: Phase) -> &'static [u8]
 }
 
 // The line of an end, where its answer has no number.
+#[inline(always)]
 fn ended_line(answer: Answer) -> Option<&'static [u8]>
     ensures { IfSome result (λ line. line.now ≡ outcome_line (Outcome.Ended answer)) }
 {
@@ -67,6 +65,7 @@ fn ended_line(answer: Answer) -> Option<&'static [u8]>
     }
 }
 
+#[inline(always)]
 fn refused_line(refusal: Refusal) -> &'static [u8]
     ensures { result.now ≡ outcome_line (Outcome.Refused refusal) }
 {
@@ -79,6 +78,7 @@ fn refused_line(refusal: Refusal) -> &'static [u8]
 }
 
 // The line of an outcome that has no number.
+#[inline(always)]
 fn ready_line(outcome: Outcome) -> Option<&'static [u8]>
     ensures { IfSome result (λ line. line.now ≡ outcome_line outcome) }
 {
@@ -114,45 +114,33 @@ fn blocked_by_two_digits(task: Task) -> [u8; 11]
     ]
 }
 
-// Writes the line of a step that is blocked, which most lines of a busy pool are.
+// Appends the line of a step that is blocked, which most lines of a busy pool are.
 #[inline(always)]
-fn write_blocked<W: Sink>(writer: &mut W, task: Task, line: &mut String) -> Result<(), ReplayFault>
-    ensures ok { OnOk result (Appends (W.contents writer.old) (W.contents writer.new) (outcome_line (Outcome.Blocked task))) }
-    ensures front { IfErr result (λ fault. IsWriteFault fault
-        × Wrote (W.contents writer.old) (W.contents writer.new) (outcome_line (Outcome.Blocked task))) }
-    ensures writes { TellsWrites result (W.failed writer.old) (W.failed writer.new) }
+fn push_blocked(lines: &mut LineBuffer, task: Task) -> Result<(), AllocError>
+    ensures ok { OnOk result (lines.new ≡ lines.old ++ outcome_line (Outcome.Blocked task)) }
+    ensures err { OnErr result (lines.new ≡ lines.old) }
 {
     let number = task.number();
     if number < 10 {
-        return write_text(writer, &blocked_by_digit(task));
+        return lines.push(&blocked_by_digit(task));
     }
     if number < 100 {
-        return write_text(writer, &blocked_by_two_digits(task));
+        return lines.push(&blocked_by_two_digits(task));
     }
-    line.clear();
-    writeln!(line, "{}", Outcome::Blocked(task))?;
-    write_text(writer, line.as_bytes())
+    lines.spell(&Outcome::Blocked(task))
 }
 
-/// Writes the outcome's line. `line` is where it is laid out, if it doesn't stand ready.
+/// Appends the outcome's line, or nothing where it finds no memory.
 #[inline(always)]
-pub(crate) fn write_outcome<W: Sink>(
-    writer: &mut W,
-    outcome: Outcome,
-    line: &mut String,
-) -> Result<(), ReplayFault>
-    ensures ok { OnOk result (Appends (W.contents writer.old) (W.contents writer.new) (outcome_line outcome)) }
-    ensures front { IfErr result (λ fault. IsWriteFault fault
-        × Wrote (W.contents writer.old) (W.contents writer.new) (outcome_line outcome)) }
-    ensures writes { TellsWrites result (W.failed writer.old) (W.failed writer.new) }
+pub(crate) fn push_outcome(lines: &mut LineBuffer, outcome: Outcome) -> Result<(), AllocError>
+    ensures ok { OnOk result (lines.new ≡ lines.old ++ outcome_line outcome) }
+    ensures err { OnErr result (lines.new ≡ lines.old) }
 {
     if let Outcome::Blocked(task) = outcome {
-        return write_blocked(writer, task, line);
+        return push_blocked(lines, task);
     }
-    let Some(text) = ready_line(outcome) else {
-        line.clear();
-        writeln!(line, "{outcome}")?;
-        return write_text(writer, line.as_bytes());
+    let Some(line) = ready_line(outcome) else {
+        return lines.spell(&outcome);
     };
-    write_text(writer, text)
+    lines.push(line)
 }

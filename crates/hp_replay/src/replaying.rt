@@ -1,5 +1,6 @@
 //! Replays a trace: runs each line as it comes, and writes what comes of it.
-ghost use Rattle.std.specs.Prelude.{◌≡◌, ◌<◌, ◌↔◌, ◌⊎◌, [], ◌∷◌, None, OnOk, IfOk, IfErr, IfSome, IsSome, IsTrue, Ok, Err, length, true};
+ghost use Rattle.std.specs.Prelude.{◌≡◌, ◌<◌, ◌↔◌, ◌⊎◌, [], ◌∷◌, None, Some, OnOk, OnErr, IfOk, IfErr, IfSome, IsSome, IsTrue, Ok, Err};
+ghost use Rattle.std.specs.Prelude.{length, true};
 ghost use Rattle.std.specs.Option.{option_map};
 ghost use Rattle.std.specs.Io.BufRead.{take_through};
 ghost use Rattle.std.specs.Io.KnownBytes.{Appends, Keeps};
@@ -9,17 +10,18 @@ ghost use Rattle.hp_replay.specs.Lines.{line_of, event, listed, end_of};
 ghost use Rattle.hp_replay.specs.Outcomes.{state_text};
 ghost use Rattle.hp_replay.specs.Traces.{IsLineFault};
 ghost use Rattle.hp_replay.specs.Writing.{Wrote, IsWriteFault};
-ghost use Rattle.hp_replay.specs.Running.{CanRun, CanRunIfSome, IsOpened, LinesRan, LinesStopped, PieceRan, PieceStopped};
+ghost use Rattle.hp_replay.specs.Running.{CanRun, CanRunIfSome, IsOpened, LinesRan, PieceRan, PieceStopped};
 ghost use Rattle.hp_replay.specs.Replaying.{Replayed, Stopped};
 ghost use Rattle.hp_replay.specs.Streams.{TellsReads, TellsWrites};
 
 use crate::fault::ReplayFault;
 use crate::feed::{TraceFeed, TraceLine};
-use crate::outcomes::write_outcome;
+use crate::line_buffer::LineBuffer;
+use crate::outcomes::push_outcome;
 use crate::state::push_state;
 use crate::streams::{PIECE, Sink, Source};
 use crate::writing::write_text;
-use hp_base::{Event, Task};
+use hp_base::{Answer, Event, Op, Task};
 use hp_core::Core;
 use hp_machine::Outcome;
 use std::alloc::{AllocError, Global};
@@ -54,70 +56,60 @@ fn is_held_back(outcome: &Outcome) -> bool
     matches!(outcome, Outcome::Blocked(_) | Outcome::Refused(_))
 }
 
-/// Runs one event, and writes what came of it. `held_back` tells whether the event before was held back.
+/// Runs one event, and appends what came of it, or nothing where memory is wanted. `held_back` tells whether the event before
+/// was held back.
 #[inline(always)]
-fn run_event<W: Sink>(
+fn run_event(
     core: &mut Option<Core>,
     event: Event,
     held_back: &mut bool,
-    text: &mut String,
-    writer: &mut W,
-) -> Result<(), ReplayFault>
+    lines: &mut LineBuffer,
+) -> Result<(), AllocError>
     requires { CanRun core.old (line_of (TraceLine.Event event)) }
     ensures ok { OnOk result
-        (LinesRan core.old (line_of (TraceLine.Event event) ∷ []) core.new (W.contents writer.old) (W.contents writer.new)) }
-    ensures err { IfErr result (λ fault. LinesStopped fault core.old (line_of (TraceLine.Event event) ∷ [])
-        (W.contents writer.old) (W.contents writer.new)) }
-    ensures writes { TellsWrites result (W.failed writer.old) (W.failed writer.new) }
+        (LinesRan core.old (line_of (TraceLine.Event event) ∷ []) core.new (Some lines.old) (Some lines.new)) }
+    ensures err { OnErr result (lines.new ≡ lines.old) }
 {
+    // The checker of borrows asks for a mention of the type that an outcome may hold.
+    let _none: Option<Answer> = None;
     match core {
         Some(core) => {
             let outcome = tell(core, event, *held_back)?;
             *held_back = is_held_back(&outcome);
-            write_outcome(writer, outcome, text)
+            push_outcome(lines, outcome)
         }
         None => unreachable!(),
     }
 }
 
-/// Runs a granted step of the task of that number, and writes what came of it.
+/// Runs a granted step of the task of that number, and appends what came of it.
 #[inline(always)]
-fn run_step<W: Sink>(
+fn run_step(
     core: &mut Option<Core>,
     number: u32,
     held_back: &mut bool,
-    text: &mut String,
-    writer: &mut W,
-) -> Result<(), ReplayFault>
+    lines: &mut LineBuffer,
+) -> Result<(), AllocError>
     requires { CanRun core.old (event (Step number true)) }
     ensures ok { OnOk result
-        (LinesRan core.old (event (Step number true) ∷ []) core.new (W.contents writer.old) (W.contents writer.new)) }
-    ensures err { IfErr result
-        (λ fault. LinesStopped fault core.old (event (Step number true) ∷ []) (W.contents writer.old) (W.contents writer.new)) }
-    ensures writes { TellsWrites result (W.failed writer.old) (W.failed writer.new) }
+        (LinesRan core.old (event (Step number true) ∷ []) core.new (Some lines.old) (Some lines.new)) }
+    ensures err { OnErr result (lines.new ≡ lines.old) }
 {
-    run_event(
-        core,
-        Event::Step(Task::new(number), true),
-        held_back,
-        text,
-        writer,
-    )
+    let event = Event::Step(Task::new(number), true);
+    run_event(core, event, held_back, lines)
 }
 
-/// Runs one line, and writes what came of it.
-fn run_line<W: Sink>(
+/// Runs one line, and appends what came of it.
+fn run_line(
     alloc: Global,
     core: &mut Option<Core>,
     line: TraceLine,
     held_back: &mut bool,
-    text: &mut String,
-    writer: &mut W,
-) -> Result<(), ReplayFault>
+    lines: &mut LineBuffer,
+) -> Result<(), AllocError>
     requires { CanRun core.old (line_of line) }
-    ensures ok { OnOk result (LinesRan core.old (line_of line ∷ []) core.new (W.contents writer.old) (W.contents writer.new)) }
-    ensures err { IfErr result (λ fault. LinesStopped fault core.old (line_of line ∷ []) (W.contents writer.old) (W.contents writer.new)) }
-    ensures writes { TellsWrites result (W.failed writer.old) (W.failed writer.new) }
+    ensures ok { OnOk result (LinesRan core.old (line_of line ∷ []) core.new (Some lines.old) (Some lines.new)) }
+    ensures err { OnErr result (lines.new ≡ lines.old) }
 {
     match line {
         TraceLine::Header(config) => {
@@ -125,28 +117,24 @@ fn run_line<W: Sink>(
             *core = Some(opened);
             Ok(())
         }
-        TraceLine::Event(event) => run_event(core, event, held_back, text, writer),
+        TraceLine::Event(event) => run_event(core, event, held_back, lines),
     }
 }
 
 /// Runs the line that came, if one did.
-fn run_taken<W: Sink>(
+fn run_taken(
     alloc: Global,
     core: &mut Option<Core>,
     line: Option<TraceLine>,
     held_back: &mut bool,
-    text: &mut String,
-    writer: &mut W,
-) -> Result<(), ReplayFault>
+    lines: &mut LineBuffer,
+) -> Result<(), AllocError>
     requires { CanRunIfSome core.old (option_map line_of line) }
-    ensures ok { OnOk result (LinesRan core.old (listed (option_map line_of line) []) core.new
-        (W.contents writer.old) (W.contents writer.new)) }
-    ensures err { IfErr result (λ fault. LinesStopped fault core.old (listed (option_map line_of line) [])
-        (W.contents writer.old) (W.contents writer.new)) }
-    ensures writes { TellsWrites result (W.failed writer.old) (W.failed writer.new) }
+    ensures ok { OnOk result (LinesRan core.old (listed (option_map line_of line) []) core.new (Some lines.old) (Some lines.new)) }
+    ensures err { OnErr result (lines.new ≡ lines.old) }
 {
     match line {
-        Some(line) => run_line(alloc, core, line, held_back, text, writer),
+        Some(line) => run_line(alloc, core, line, held_back, lines),
         None => Ok(()),
     }
 }
@@ -154,104 +142,101 @@ fn run_taken<W: Sink>(
 /// Runs the line with which the piece begins, whatever it is; all of the piece is taken where no line ends in it. Tells how many
 /// bytes that was.
 #[inline(never)]
-fn run_any<W: Sink>(
+fn run_any(
     alloc: Global,
     feed: &mut TraceFeed,
     core: &mut Option<Core>,
     piece: &[u8],
     held_back: &mut bool,
-    text: &mut String,
-    writer: &mut W,
+    lines: &mut LineBuffer,
 ) -> Result<usize, ReplayFault>
     requires no_fault { feed.old.fault ≡ None }
     requires opened { IsOpened feed.old core.old }
     ensures used { IfOk result (λ used. used ≡ length (take_through 10 piece.now)) }
-    ensures ok { OnOk result (PieceRan feed.old (take_through 10 piece.now) feed.new core.old core.new
-        (W.contents writer.old) (W.contents writer.new)) }
+    ensures ok { OnOk result
+        (PieceRan feed.old (take_through 10 piece.now) feed.new core.old core.new (Some lines.old) (Some lines.new)) }
     ensures no_fault { OnOk result (feed.new.fault ≡ None) }
     ensures opened { OnOk result (IsOpened feed.new core.new) }
-    ensures err { IfErr result (λ fault. PieceStopped fault feed.old piece.now feed.new core.old core.new
-        (W.contents writer.old) (W.contents writer.new)) }
-    ensures writes { TellsWrites result (W.failed writer.old) (W.failed writer.new) }
+    ensures err { IfErr result
+        (λ fault. PieceStopped fault feed.old piece.now feed.new core.old core.new (Some lines.old) (Some lines.new)) }
 {
+    // The checker of borrows asks for a mention of the types that a line may hold.
+    let _none: (Option<Event>, Option<Op>) = (None, None);
     let (used, line) = feed.take(piece)?;
-    run_taken(alloc, core, line, held_back, text, writer)?;
+    run_taken(alloc, core, line, held_back, lines)?;
     Ok(used)
 }
 
 /// The same, with a way of its own for what most lines are: the step of a task.
 #[inline(always)]
-fn run_first<W: Sink>(
+fn run_first(
     alloc: Global,
     feed: &mut TraceFeed,
     core: &mut Option<Core>,
     piece: &[u8],
     held_back: &mut bool,
-    text: &mut String,
-    writer: &mut W,
+    lines: &mut LineBuffer,
 ) -> Result<usize, ReplayFault>
     requires no_fault { feed.old.fault ≡ None }
     requires opened { IsOpened feed.old core.old }
     ensures used { IfOk result (λ used. used ≡ length (take_through 10 piece.now)) }
-    ensures ok { OnOk result (PieceRan feed.old (take_through 10 piece.now) feed.new core.old core.new
-        (W.contents writer.old) (W.contents writer.new)) }
+    ensures ok { OnOk result
+        (PieceRan feed.old (take_through 10 piece.now) feed.new core.old core.new (Some lines.old) (Some lines.new)) }
     ensures no_fault { OnOk result (feed.new.fault ≡ None) }
     ensures opened { OnOk result (IsOpened feed.new core.new) }
-    ensures err { IfErr result (λ fault. PieceStopped fault feed.old piece.now feed.new core.old core.new
-        (W.contents writer.old) (W.contents writer.new)) }
-    ensures writes { TellsWrites result (W.failed writer.old) (W.failed writer.new) }
+    ensures err { IfErr result
+        (λ fault. PieceStopped fault feed.old piece.now feed.new core.old core.new (Some lines.old) (Some lines.new)) }
 {
     if let Some((used, number)) = feed.take_step(piece) {
-        run_step(core, number, held_back, text, writer)?;
+        run_step(core, number, held_back, lines)?;
         return Ok(used);
     }
-    run_any(alloc, feed, core, piece, held_back, text, writer)
+    run_any(alloc, feed, core, piece, held_back, lines)
 }
 
-/// Runs the lines that a piece ends.
-fn run_piece<W: Sink>(
+/// Runs the lines that a piece ends, and appends what came of them: of a bad line, and where memory is wanted, what came of
+/// those before.
+fn run_piece(
     alloc: Global,
     feed: &mut TraceFeed,
     core: &mut Option<Core>,
     piece: &[u8],
     held_back: &mut bool,
-    text: &mut String,
-    writer: &mut W,
+    lines: &mut LineBuffer,
 ) -> Result<(), ReplayFault>
     requires no_fault { feed.old.fault ≡ None }
     requires opened { IsOpened feed.old core.old }
-    ensures ok { OnOk result (PieceRan feed.old piece.now feed.new core.old core.new (W.contents writer.old) (W.contents writer.new)) }
+    ensures ok { OnOk result (PieceRan feed.old piece.now feed.new core.old core.new (Some lines.old) (Some lines.new)) }
     ensures no_fault { OnOk result (feed.new.fault ≡ None) }
     ensures opened { OnOk result (IsOpened feed.new core.new) }
-    ensures err { IfErr result (λ fault. PieceStopped fault feed.old piece.now feed.new core.old core.new
-        (W.contents writer.old) (W.contents writer.new)) }
-    ensures writes { TellsWrites result (W.failed writer.old) (W.failed writer.new) }
+    ensures err { IfErr result
+        (λ fault. PieceStopped fault feed.old piece.now feed.new core.old core.new (Some lines.old) (Some lines.new)) }
 {
     let mut rest = piece;
     while !rest.is_empty() {
-        let used = run_first(alloc, feed, core, rest, held_back, text, writer)?;
+        let used = run_first(alloc, feed, core, rest, held_back, lines)?;
         (_, rest) = rest.split_at(used);
     }
     Ok(())
 }
 
 /// Writes the state at the end of a trace.
-fn write_state<W: Sink>(core: &Core, text: &mut String, writer: &mut W) -> Result<(), ReplayFault>
+fn write_state<W: Sink>(alloc: Global, core: &Core, writer: &mut W) -> Result<(), ReplayFault>
     ensures ok { OnOk result (Appends (W.contents writer.old) (W.contents writer.new) (state_text core.now)) }
     ensures err { IfErr result (λ fault. IsWriteFault fault
         × Wrote (W.contents writer.old) (W.contents writer.new) (state_text core.now)) }
     ensures writes { TellsWrites result (W.failed writer.old) (W.failed writer.new) }
 {
-    text.clear();
-    push_state(core, text)?;
+    let mut text = String::new(alloc);
+    push_state(core, &mut text)?;
     write_text(writer, text.as_bytes())
 }
 
 /// Tells what the end of the trace says, and then writes the state.
 fn finish<W: Sink>(
+    alloc: Global,
     feed: &TraceFeed,
     core: &Option<Core>,
-    text: &mut String,
     writer: &mut W,
 ) -> Result<(), ReplayFault>
     requires { IsOpened feed.now core.now }
@@ -266,13 +251,14 @@ fn finish<W: Sink>(
 {
     feed.end()?;
     match core {
-        Some(core) => write_state(core, text, writer),
+        Some(core) => write_state(alloc, core, writer),
         None => unreachable!(),
     }
 }
 
 /// Runs a trace as it is read, and writes a line for each outcome and then the lines of the state.
-/// Each line is written before more is read. Nothing is tried again after an error.
+/// The lines of a piece that was read are written, together, before more is read, also where one of them is bad. Nothing is
+/// tried again after an error.
 pub fn replay<R: Source, W: Sink>(
     alloc: Global,
     reader: &mut R,
@@ -288,21 +274,23 @@ pub fn replay<R: Source, W: Sink>(
     let mut feed = TraceFeed::new();
     let mut core = None;
     let mut held_back = false;
-    let mut text = String::new(alloc);
+    let mut lines = LineBuffer::new(alloc);
     let mut piece = [0; PIECE];
     loop {
         let n = reader.read_piece(&mut piece)?;
         if n == 0 {
-            return finish(&feed, &core, &mut text, writer);
+            return finish(alloc, &feed, &core, writer);
         }
-        run_piece(
+        lines.clear();
+        let ran = run_piece(
             alloc,
             &mut feed,
             &mut core,
             &piece[..n],
             &mut held_back,
-            &mut text,
-            writer,
-        )?;
+            &mut lines,
+        );
+        lines.write(writer)?;
+        ran?;
     }
 }

@@ -3,11 +3,11 @@ use Rattle.hp_replay.proofs.Bytes.{room}
 use Rattle.hp_replay.proofs.Replays.{Going}
 use Rattle.hp_replay.proofs.replaying.replay.Given as goal
 
-abbrev pub invariant-loop-text : goal.invariant-loop-text
-invariant-loop-text g l =
+abbrev pub invariant-loop-lines : goal.invariant-loop-lines
+invariant-loop-lines g l =
     Going (g.R.Source.remaining l.fn.reader) (g.R.Source.remaining l.reader) l.feed l.core
     (g.W.Sink.contents l.fn.writer) (g.W.Sink.contents l.writer)
     × (g.R.Source.failed l.reader ≡ g.R.Source.failed l.fn.reader) × (g.W.Sink.failed l.writer ≡ g.W.Sink.failed l.fn.writer)
 
-abbrev pub decreases-loop-text : goal.decreases-loop-text
-decreases-loop-text g l = room l.feed
+abbrev pub decreases-loop-lines : goal.decreases-loop-lines
+decreases-loop-lines g l = room l.feed

@@ -1,15 +1,10 @@
 use Rattle.std.proofs.Common.{refl}
 use Rattle.hp_replay.specs.declared.feed.TraceLine.TheVariants as lines
-use Rattle.hp_replay.proofs.Running.{event_ran, event_stopped}
+use Rattle.hp_replay.proofs.Running.{event_ran}
 use Rattle.hp_replay.proofs.replaying.run_event.Goals as goal
 
 pub returns-clause-ok : goal.returns-clause-ok
-returns-clause-ok g c =
+returns-clause-ok c =
     event_ran c.args.core.now c.in-Some.core c.tell.new.core (lines.Event c.args.event) c.args.event
-    c.in_ok-outcome-in-Some.outcome _ _ c.write_outcome.result refl c.in-Some.is c.in_ok-outcome-in-Some.ensures c.write_outcome.ensures.ok
-
-pub returns-clause-err : goal.returns-clause-err
-returns-clause-err g c =
-    event_stopped c.args.core.now c.in-Some.core c.tell.new.core (lines.Event c.args.event) c.args.event
-    c.in_ok-outcome-in-Some.outcome _ _ c.write_outcome.result refl c.in-Some.is c.in_ok-outcome-in-Some.ensures
-    c.write_outcome.ensures.front
+    c.in_ok-outcome-in-Some.outcome _ _ c.push_outcome.result refl c.in-Some.is c.in_ok-outcome-in-Some.ensures
+    c.push_outcome.ensures.ok
