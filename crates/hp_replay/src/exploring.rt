@@ -33,6 +33,8 @@ const FIRST_PART: u32 = 512;
 const MOST_PART: u32 = 16_384;
 /// A part of fewer turns is soon done.
 const SOON: u32 = 4_000_000;
+/// How many times as many runs the next part has where one was soon done.
+const GROWTH: u32 = 4;
 
 /// The lines of the runs 0 to `runs - 1`, in order. Run k goes by the generator that is seeded with `seed + k`, wrapping; of a
 /// thousand steps `deny` are denied, by chance. However many threads there are, the lines are the same.
@@ -118,17 +120,17 @@ fn are_shorter(lines: &[RunLine], turns: u32) -> bool
     lines.iter().all(|line| line.turns < turns)
 }
 
-/// How many runs the next part has: twice as many, where each was so short that all were soon done. To begin the threads of a
-/// part takes as long as hundreds of short runs.
+/// How many runs the next part has: more, where each was so short that all were soon done. To begin the threads of a part takes
+/// as long as hundreds of short runs.
 fn next_part(part: u32, lines: &[RunLine]) -> u32
     requires some { 0 < part }
     requires most { part ≤ MOST_PART }
-    ensures grows { result ≡ (if list_all (λ line. nat_lt line.turns (SOON / part)) lines.now then min (part * 2) MOST_PART else part) }
+    ensures grows { result ≡ (if list_all (λ line. nat_lt line.turns (SOON / part)) lines.now then min (part * GROWTH) MOST_PART else part) }
     ensures some { 0 < result }
     ensures most { result ≤ MOST_PART }
 {
     if are_shorter(lines, SOON / part) {
-        (part * 2).min(MOST_PART)
+        (part * GROWTH).min(MOST_PART)
     } else {
         part
     }

@@ -37,11 +37,7 @@ impl Model for LineBuffer {
 
 // Appends a line, or nothing where it finds no memory.
 #[inline(always)]
-fn append(
-    front: &mut Vec<u8>,
-    back: &mut ArrayVec<u8, ROOM>,
-    line: &[u8],
-) -> Result<(), AllocError>
+fn append(front: &mut Vec<u8>, back: &mut ArrayVec<u8, ROOM>, line: &[u8]) -> Result<(), AllocError>
     ensures ok { OnOk result (front.new.items ++ back.new.items ≡ (front.old.items ++ back.old.items) ++ line.now) }
     ensures err { OnErr result (front.new.items ++ back.new.items ≡ front.old.items ++ back.old.items) }
 {

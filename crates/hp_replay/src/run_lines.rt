@@ -1,15 +1,48 @@
 //! The lines of explored runs, as text.
-ghost use Rattle.std.specs.Prelude.{◌≡◌, [], OnOk, IfErr, string_bytes};
+ghost use Rattle.std.specs.Prelude.{◌≡◌, ◌++◌, [], OnOk, IfErr, string_bytes};
+ghost use Rattle.std.specs.Fmt.{decimal};
 ghost use Rattle.std.specs.Io.KnownBytes.{Appends};
-ghost use Rattle.hp_replay.specs.RunLines.{lines_text};
+ghost use Rattle.hp_explore.specs.declared.line.Finish.{Finish};
+ghost use Rattle.hp_replay.specs.RunLines.{lines_text, run_line};
 ghost use Rattle.hp_replay.specs.Streams.{TellsWrites};
 ghost use Rattle.hp_replay.specs.Writing.{Wrote, IsWriteFault};
 
 use crate::fault::ReplayFault;
 use crate::streams::Sink;
 use crate::writing::write_text;
-use hp_explore::RunLine;
+use hp_explore::{Finish, RunLine};
+use itoa::Buffer;
 use std::alloc::{AllocError, Global};
+
+/// Lays a number out behind a word.
+fn push_field(word: &str, number: u32, text: &mut String) -> Result<(), AllocError>
+    ensures { OnOk result (string_bytes text.new ≡ string_bytes text.old ++ (word.now ++ decimal number)) }
+{
+    text.push_str(word)?;
+    text.push_str(Buffer::new().format(number))
+}
+
+/// Lays out the line of a run that came to its end, as nearly all do.
+fn push_finished(line: &RunLine, text: &mut String) -> Result<(), AllocError>
+    requires { line.now.finish ≡ Finish.Finished }
+    ensures { OnOk result (string_bytes text.new ≡ string_bytes text.old ++ run_line line.now) }
+{
+    push_field("run ", line.run, text)?;
+    push_field(" finished turns ", line.turns, text)?;
+    push_field(" free ", line.free, text)?;
+    push_field(" resv ", line.resv, text)?;
+    text.push('\n')
+}
+
+/// Lays a line out.
+fn push_line(line: &RunLine, text: &mut String) -> Result<(), AllocError>
+    ensures { OnOk result (string_bytes text.new ≡ string_bytes text.old ++ run_line line.now) }
+{
+    if line.finish == Finish::Finished {
+        return push_finished(line, text);
+    }
+    writeln!(text, "{line}")
+}
 
 /// Lays the lines out, one after the other.
 fn push_lines(lines: &[RunLine], text: &mut String) -> Result<(), AllocError>
@@ -17,7 +50,7 @@ fn push_lines(lines: &[RunLine], text: &mut String) -> Result<(), AllocError>
     ensures { OnOk result (string_bytes text.new ≡ lines_text lines.now) }
 {
     for line in lines {
-        writeln!(text, "{line}")?;
+        push_line(line, text)?;
     }
     Ok(())
 }
