@@ -72,6 +72,15 @@ settled_blocked inflight here Q w (Ok turn) result next h b =
 settled_blocked inflight here Q w (Err stopped) (Err e) next h b = tt
 settled_blocked inflight here Q w (Err stopped) (Ok told) next h b = (let no = h.0 in absurd (cc))
 
+-- so it is of a seat that has the call
+pub seat_blocked : (result : Result Outcome AllocError) (o : Option Call) (c : Call) (Q : Type 0) (next : Option Call) → o ≡ Some c
+    → IfOk result (λ told. IfToldBlocked told (IfWanting (standing c).wants (Q × (next ≡ Some c))))
+    → IfOk result (λ told. IfToldBlocked told (IfSome o (λ call. IfWanting (standing call).wants (Q × (next ≡ Some call)))))
+seat_blocked (Err e) o c Q next was h = tt
+seat_blocked (Ok told) o c Q next was h =
+    subst (λ (x : Option Call). IfToldBlocked told (IfSome x (λ call. IfWanting (standing call).wants (Q × (next ≡ Some call)))))
+    (sym was) h
+
 -- an unmap wants neither lock nor slot
 pub unmap_wants : (p : UnmapPhase) (Q : Type 0) → IfWanting (standing (call.Unmap p)).wants Q
 unmap_wants (unmap.Start p) Q = tt

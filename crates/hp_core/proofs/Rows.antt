@@ -1,9 +1,10 @@
 -- The rows of the machine, put together from what the steps ensure.
-use Rattle.std.proofs.Common.{ℕ, refl, sym, subst}
-use Rattle.std.specs.Prelude.{Bool, Option, Result, Ok, Err, IfOk}
+use Rattle.std.proofs.Common.{◌≡◌, ℕ, refl, sym, subst}
+use Rattle.std.specs.Prelude.{Bool, Option, Some, Result, Ok, Err, IfOk, IfSome, IsSomeAnd}
 use Rattle.std.specs.declared.alloc.AllocError.{AllocError}
 use Rattle.hp_machine.specs.State.{Pool}
 use Rattle.hp_machine.specs.Events.{CallRow, TurnRow}
+use Rattle.hp_machine.specs.Wants.{Wants}
 use Rattle.hp_machine.specs.TouchRows.{TouchRow}
 use Rattle.hp_machine.specs.MapRows.{MapRow}
 use Rattle.hp_machine.specs.ExitRows.{ExitRow}
@@ -98,3 +99,17 @@ pub exit_row : (s : Pool) (t : ℕ) (killed grant : Bool) (p : ExitPhase) (new :
 unfolding CallRow
 exit_row s t killed grant p new turn result next h r =
     settled_row call.Exit (ExitRow s t killed grant p) new (Ok turn) result next h r
+
+-- so it is of a seat that has the call, and of a task that is killed as the step was told
+pub seat_row : (s : Pool) (t : ℕ) (killed now grant : Bool) (o : Option Call) (c : Call) (new : Pool)
+    (result : Result Outcome AllocError) (next : Option Call) → o ≡ Some c → killed ≡ now
+    → IfOk result (λ told. CallRow s t killed grant c told new next)
+    → IfOk result (λ told. IfSome o (λ call. CallRow s t now grant call told new next))
+seat_row s t killed now grant o c new (Err e) next was same h = tt
+seat_row s t killed now grant o c new (Ok told) next was same h =
+    subst (λ (x : Option Call). IfSome x (λ call. CallRow s t now grant call told new next)) (sym was)
+    (subst (λ (b : Bool). CallRow s t b grant c told new next) same h)
+
+-- and what its call wants, the seat's does
+pub seat_wants : (s : Pool) (t : ℕ) (o : Option Call) (c : Call) → o ≡ Some c → Wants s t c → IsSomeAnd o (λ call. Wants s t call)
+seat_wants s t o c was wants = subst (λ (x : Option Call). IsSomeAnd x (λ call. Wants s t call)) (sym was) wants

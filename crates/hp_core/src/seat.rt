@@ -83,46 +83,53 @@ fn settle<P: InFlight>(
     }
 }
 
-// One step of a call, to what it leaves in the seat. Without memory nothing changed, and the call stands there as it did.
+// One step of the seat's call, to what it leaves there. Without memory nothing changed, and the call stands as it did.
 fn step_call(
     parts: &mut Parts,
     seat: &mut Seat,
     task: Task,
     grant: bool,
-    call: Call,
 ) -> Result<Outcome, AllocError>
-    requires { CallFits (state_of parts.old) task call }
-    ensures row { IfOk result
-        (λ told. CallRow (view parts.old) task (machine.is_killed seat.old.life) grant call told (view parts.new) seat.new.call) }
+    requires there { IsSome seat.old.call }
+    requires fits { IfSome seat.old.call (λ call. CallFits (state_of parts.old) task call) }
+    ensures row { IfOk result (λ told. IfSome seat.old.call
+        (λ call. CallRow (view parts.old) task (machine.is_killed seat.old.life) grant call told (view parts.new) seat.new.call)) }
     ensures sizes { SizesStay (state_of parts.old) (state_of parts.new) }
-    ensures room { RoomStaysUnless grant (Wants (view parts.old) task call) (state_of parts.old) (state_of parts.new) }
-    ensures blocked { IfOk result (λ told. IfToldBlocked told
-        (IfWanting (standing call).wants ((state_of parts.new ≡ state_of parts.old) × (seat.new.call ≡ Some call)))) }
-    ensures life { seat.new.life ≡ life_after seat.old.life call seat.new.call }
-    ensures call { OnErr result (seat.new.call ≡ Some call) }
+    ensures room { RoomStaysUnless grant (IsSomeAnd seat.old.call (λ call. Wants (view parts.old) task call))
+        (state_of parts.old) (state_of parts.new) }
+    ensures blocked { IfOk result (λ told. IfToldBlocked told (IfSome seat.old.call
+        (λ call. IfWanting (standing call).wants ((state_of parts.new ≡ state_of parts.old) × (seat.new.call ≡ Some call))))) }
+    ensures life { IfSome seat.old.call (λ call. seat.new.life ≡ life_after seat.old.life call seat.new.call) }
+    ensures call { OnErr result (seat.new.call ≡ seat.old.call) }
     ensures err { OnErr result (state_of parts.new ≡ state_of parts.old) }
     ensures growth { OnErr result (grant ≡ true) }
-    ensures wanted { OnErr result (Wants (view parts.old) task call) }
+    ensures wanted { OnErr result (IsSomeAnd seat.old.call (λ call. Wants (view parts.old) task call)) }
 {
     let killed = is_killed(seat.life);
-    match call {
-        Call::Touch(phase) => settle(seat, false, step_touch(parts, task, killed, grant, phase)),
-        Call::Map(phase) => settle(seat, false, step_map(parts, task, killed, grant, phase)),
-        Call::Alloc(phase) => settle(seat, false, step_alloc(parts, task, killed, grant, phase)),
-        Call::Punch(phase) => settle(seat, false, step_punch(parts, task, killed, grant, phase)),
-        Call::Truncate(phase) => {
-            settle(
-                seat,
-                false,
-                Ok(step_truncate(parts, task, killed, grant, phase)),
-            )
+    match seat.call.take() {
+        Some(Call::Touch(phase)) => {
+            settle(seat, false, step_touch(parts, task, killed, grant, phase))
         }
-        Call::Unmap(phase) => settle(
-            seat,
-            false,
-            Ok(step_unmap(parts, task, killed, grant, phase)),
-        ),
-        Call::Exit(phase) => settle(seat, true, Ok(step_exit(parts, task, killed, grant, phase))),
+        Some(Call::Map(phase)) => settle(seat, false, step_map(parts, task, killed, grant, phase)),
+        Some(Call::Alloc(phase)) => {
+            settle(seat, false, step_alloc(parts, task, killed, grant, phase))
+        }
+        Some(Call::Punch(phase)) => {
+            settle(seat, false, step_punch(parts, task, killed, grant, phase))
+        }
+        Some(Call::Truncate(phase)) => {
+            let turn = step_truncate(parts, task, killed, grant, phase);
+            settle(seat, false, Ok(turn))
+        }
+        Some(Call::Unmap(phase)) => {
+            let turn = step_unmap(parts, task, killed, grant, phase);
+            settle(seat, false, Ok(turn))
+        }
+        Some(Call::Exit(phase)) => {
+            let turn = step_exit(parts, task, killed, grant, phase);
+            settle(seat, true, Ok(turn))
+        }
+        None => unreachable!(),
     }
 }
 
@@ -151,9 +158,9 @@ pub fn step_seat(
     ensures growth { OnErr result (grant ≡ true) }
     ensures wanted { OnErr result (IsSomeAnd seat.old.call (λ call. Wants (view parts.old) task call)) }
 {
-    let Some(call) = seat.call.take() else {
+    if seat.call.is_none() {
         return Ok(None);
-    };
-    let told = step_call(parts, seat, task, grant, call)?;
+    }
+    let told = step_call(parts, seat, task, grant)?;
     Ok(Some(told))
 }

@@ -1,62 +1,76 @@
-use Rattle.std.specs.Prelude.{Ok}
+use Rattle.std.proofs.Common.{sym, ap, ◌∙◌}
+use Rattle.std.specs.Prelude.{Some, Ok}
 use Rattle.hp_machine.specs.declared.call.Call.TheVariants as call
-use Rattle.hp_core.proofs.Rows.{touch_row, map_row, alloc_row, punch_row, truncate_row, unmap_row, exit_row}
-use Rattle.hp_core.proofs.Blocked.{settled_blocked}
+use Rattle.hp_fault.specs.View.{view}
+use Rattle.hp_core.proofs.Rows.{touch_row, map_row, alloc_row, punch_row, truncate_row, unmap_row, exit_row, seat_row, seat_wants}
+use Rattle.hp_core.proofs.Blocked.{settled_blocked, seat_blocked}
 use Rattle.hp_core.proofs.seat.step_call.Goals as goal
 
-pub returns-in-Touch-clause-row : goal.returns-in-Touch-clause-row
-returns-in-Touch-clause-row c =
-    rw (c.in-Touch.is, ← c.is_killed-killed.ensures) (touch_row _ _ _ _ _ _ _ _ _ c.settle.ensures.call c.step_touch.ensures.row)
+pub returns-in-Some-Touch-clause-row : goal.returns-in-Some-Touch-clause-row
+returns-in-Some-Touch-clause-row c =
+    seat_row _ _ _ _ _ _ _ _ _ _ (sym c.take.ensures.value ∙ c.in-Some-Touch.is ∙ ap (λ it. Some it) c.in-Some-Touch.field-0-is)
+    c.is_killed-killed.ensures (touch_row _ _ _ _ _ _ _ _ _ c.settle.ensures.call c.step_touch.ensures.row)
 
-pub returns-in-Map-clause-row : goal.returns-in-Map-clause-row
-returns-in-Map-clause-row c =
-    rw (c.in-Map.is, ← c.is_killed-killed.ensures) (map_row _ _ _ _ _ _ _ _ _ c.settle-in-Map.ensures.call c.step_map.ensures.row)
+pub returns-in-Some-Map-clause-row : goal.returns-in-Some-Map-clause-row
+returns-in-Some-Map-clause-row c =
+    seat_row _ _ _ _ _ _ _ _ _ _ (sym c.take.ensures.value ∙ c.in-Some-Map.is ∙ ap (λ it. Some it) c.in-Some-Map.field-0-is)
+    c.is_killed-killed.ensures (map_row _ _ _ _ _ _ _ _ _ c.settle-in-Some-Map.ensures.call c.step_map.ensures.row)
 
-pub returns-in-Alloc-clause-row : goal.returns-in-Alloc-clause-row
-returns-in-Alloc-clause-row c =
-    rw (c.in-Alloc.is, ← c.is_killed-killed.ensures) (alloc_row _ _ _ _ _ _ _ _ _ c.settle-in-Alloc.ensures.call c.step_alloc.ensures.row)
+pub returns-in-Some-Alloc-clause-row : goal.returns-in-Some-Alloc-clause-row
+returns-in-Some-Alloc-clause-row c =
+    seat_row _ _ _ _ _ _ _ _ _ _ (sym c.take.ensures.value ∙ c.in-Some-Alloc.is ∙ ap (λ it. Some it) c.in-Some-Alloc.field-0-is)
+    c.is_killed-killed.ensures (alloc_row _ _ _ _ _ _ _ _ _ c.settle-in-Some-Alloc.ensures.call c.step_alloc.ensures.row)
 
-pub returns-in-Punch-clause-row : goal.returns-in-Punch-clause-row
-returns-in-Punch-clause-row c =
-    rw (c.in-Punch.is, ← c.is_killed-killed.ensures) (punch_row _ _ _ _ _ _ _ _ _ c.settle-in-Punch.ensures.call c.step_punch.ensures.row)
+pub returns-in-Some-Punch-clause-row : goal.returns-in-Some-Punch-clause-row
+returns-in-Some-Punch-clause-row c =
+    seat_row _ _ _ _ _ _ _ _ _ _ (sym c.take.ensures.value ∙ c.in-Some-Punch.is ∙ ap (λ it. Some it) c.in-Some-Punch.field-0-is)
+    c.is_killed-killed.ensures (punch_row _ _ _ _ _ _ _ _ _ c.settle-in-Some-Punch.ensures.call c.step_punch.ensures.row)
 
-pub returns-in-Truncate-clause-row : goal.returns-in-Truncate-clause-row
-returns-in-Truncate-clause-row c =
-    rw (c.in-Truncate.is, ← c.is_killed-killed.ensures) (truncate_row _ _ _ _ _ _ _ _ _ c.settle-in-Truncate.ensures.call c.step_truncate.ensures.row)
+pub returns-in-Some-Truncate-clause-row : goal.returns-in-Some-Truncate-clause-row
+returns-in-Some-Truncate-clause-row c =
+    seat_row _ _ _ _ _ _ _ _ _ _ (sym c.take.ensures.value ∙ c.in-Some-Truncate.is ∙ ap (λ it. Some it) c.in-Some-Truncate.field-0-is)
+    c.is_killed-killed.ensures (truncate_row _ _ _ _ _ _ _ _ _ c.settle-in-Some-Truncate.ensures.call c.step_truncate-turn.ensures.row)
 
-pub returns-in-Unmap-clause-row : goal.returns-in-Unmap-clause-row
-returns-in-Unmap-clause-row c =
-    rw (c.in-Unmap.is, ← c.is_killed-killed.ensures) (unmap_row _ _ _ _ _ _ _ _ _ c.settle-in-Unmap.ensures.call c.step_unmap.ensures.row)
+pub returns-in-Some-Unmap-clause-row : goal.returns-in-Some-Unmap-clause-row
+returns-in-Some-Unmap-clause-row c =
+    seat_row _ _ _ _ _ _ _ _ _ _ (sym c.take.ensures.value ∙ c.in-Some-Unmap.is ∙ ap (λ it. Some it) c.in-Some-Unmap.field-0-is)
+    c.is_killed-killed.ensures (unmap_row _ _ _ _ _ _ _ _ _ c.settle-in-Some-Unmap.ensures.call c.step_unmap-turn.ensures.row)
 
-pub returns-in-Exit-clause-row : goal.returns-in-Exit-clause-row
-returns-in-Exit-clause-row c =
-    rw (c.in-Exit.is, ← c.is_killed-killed.ensures) (exit_row _ _ _ _ _ _ _ _ _ c.settle-in-Exit.ensures.call c.step_exit.ensures.row)
+pub returns-in-Some-Exit-clause-row : goal.returns-in-Some-Exit-clause-row
+returns-in-Some-Exit-clause-row c =
+    seat_row _ _ _ _ _ _ _ _ _ _ (sym c.take.ensures.value ∙ c.in-Some-Exit.is ∙ ap (λ it. Some it) c.in-Some-Exit.field-0-is)
+    c.is_killed-killed.ensures (exit_row _ _ _ _ _ _ _ _ _ c.settle-in-Some-Exit.ensures.call c.step_exit-turn.ensures.row)
 
-pub returns-in-Touch-clause-blocked : goal.returns-in-Touch-clause-blocked
-returns-in-Touch-clause-blocked c =
-    rw c.in-Touch.is (settled_blocked call.Touch _ _ _ _ _ _ c.settle.ensures.call c.step_touch.ensures.blocked)
+pub returns-in-Some-Punch-clause-room : goal.returns-in-Some-Punch-clause-room
+returns-in-Some-Punch-clause-room c =
+    λ no. c.step_punch.ensures.room
+    (λ yes. no (
+      yes.0,
+      seat_wants (view c.args.parts.now) c.args.task c.args.seat.now.call (call.Punch c.in-Some-Punch.phase)
+          (sym c.take.ensures.value ∙ c.in-Some-Punch.is ∙ ap (λ it. Some it) c.in-Some-Punch.field-0-is) yes.1,
+    ))
 
-pub returns-in-Map-clause-blocked : goal.returns-in-Map-clause-blocked
-returns-in-Map-clause-blocked c =
-    rw c.in-Map.is (settled_blocked call.Map _ _ _ _ _ _ c.settle-in-Map.ensures.call c.step_map.ensures.blocked)
+pub returns-in-Some-Touch-clause-blocked : goal.returns-in-Some-Touch-clause-blocked
+returns-in-Some-Touch-clause-blocked c =
+    seat_blocked _ _ _ _ _ (sym c.take.ensures.value ∙ c.in-Some-Touch.is ∙ ap (λ it. Some it) c.in-Some-Touch.field-0-is)
+    (settled_blocked call.Touch _ _ _ _ _ _ c.settle.ensures.call c.step_touch.ensures.blocked)
 
-pub returns-in-Alloc-clause-blocked : goal.returns-in-Alloc-clause-blocked
-returns-in-Alloc-clause-blocked c =
-    rw c.in-Alloc.is (settled_blocked call.Alloc _ _ _ _ _ _ c.settle-in-Alloc.ensures.call c.step_alloc.ensures.blocked)
+pub returns-in-Some-Map-clause-blocked : goal.returns-in-Some-Map-clause-blocked
+returns-in-Some-Map-clause-blocked c =
+    seat_blocked _ _ _ _ _ (sym c.take.ensures.value ∙ c.in-Some-Map.is ∙ ap (λ it. Some it) c.in-Some-Map.field-0-is)
+    (settled_blocked call.Map _ _ _ _ _ _ c.settle-in-Some-Map.ensures.call c.step_map.ensures.blocked)
 
-pub returns-in-Punch-clause-blocked : goal.returns-in-Punch-clause-blocked
-returns-in-Punch-clause-blocked c =
-    rw c.in-Punch.is (settled_blocked call.Punch _ _ _ _ _ _ c.settle-in-Punch.ensures.call c.step_punch.ensures.blocked)
+pub returns-in-Some-Alloc-clause-blocked : goal.returns-in-Some-Alloc-clause-blocked
+returns-in-Some-Alloc-clause-blocked c =
+    seat_blocked _ _ _ _ _ (sym c.take.ensures.value ∙ c.in-Some-Alloc.is ∙ ap (λ it. Some it) c.in-Some-Alloc.field-0-is)
+    (settled_blocked call.Alloc _ _ _ _ _ _ c.settle-in-Some-Alloc.ensures.call c.step_alloc.ensures.blocked)
 
-pub returns-in-Truncate-clause-blocked : goal.returns-in-Truncate-clause-blocked
-returns-in-Truncate-clause-blocked c =
-    rw c.in-Truncate.is (settled_blocked call.Truncate _ _ _ (Ok c.step_truncate.result) _ _ c.settle-in-Truncate.ensures.call c.step_truncate.ensures.blocked)
+pub returns-in-Some-Punch-clause-blocked : goal.returns-in-Some-Punch-clause-blocked
+returns-in-Some-Punch-clause-blocked c =
+    seat_blocked _ _ _ _ _ (sym c.take.ensures.value ∙ c.in-Some-Punch.is ∙ ap (λ it. Some it) c.in-Some-Punch.field-0-is)
+    (settled_blocked call.Punch _ _ _ _ _ _ c.settle-in-Some-Punch.ensures.call c.step_punch.ensures.blocked)
 
-pub returns-in-Touch-clause-room : goal.returns-in-Touch-clause-room
-returns-in-Touch-clause-room c = rw c.in-Touch.is c.step_touch.ensures.room
-
-pub returns-in-Alloc-clause-room : goal.returns-in-Alloc-clause-room
-returns-in-Alloc-clause-room c = rw c.in-Alloc.is c.step_alloc.ensures.room
-
-pub returns-in-Punch-clause-room : goal.returns-in-Punch-clause-room
-returns-in-Punch-clause-room c = rw c.in-Punch.is c.step_punch.ensures.room
+pub returns-in-Some-Truncate-clause-blocked : goal.returns-in-Some-Truncate-clause-blocked
+returns-in-Some-Truncate-clause-blocked c =
+    seat_blocked _ _ _ _ _ (sym c.take.ensures.value ∙ c.in-Some-Truncate.is ∙ ap (λ it. Some it) c.in-Some-Truncate.field-0-is)
+    (settled_blocked call.Truncate _ _ _ (Ok c.step_truncate-turn.result) _ _ c.settle-in-Some-Truncate.ensures.call c.step_truncate-turn.ensures.blocked)
