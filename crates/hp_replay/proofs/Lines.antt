@@ -237,11 +237,11 @@ plain_op_takes bytes op e =
 
 pub op_takes : (bytes : List ℕ) (op : Op) → op_at bytes ≡ Some op → Spells bytes op
 unfolding op_at
-op_takes bytes op e = by (range_op_at bytes) refl e
+op_takes bytes op e = by (plain_op_at bytes) refl e
   where
-    by : (first : Option Op) → range_op_at bytes ≡ first → option_or first (plain_op_at bytes) ≡ Some op → Spells bytes op
-    by (Some found) is d = range_op_takes bytes op (is ∙ d)
-    by None is d = plain_op_takes bytes op d
+    by : (first : Option Op) → plain_op_at bytes ≡ first → option_or first (range_op_at bytes) ≡ Some op → Spells bytes op
+    by (Some found) is d = plain_op_takes bytes op (is ∙ d)
+    by None is d = range_op_takes bytes op d
 
 -- ---- events
 
@@ -290,16 +290,16 @@ begin_case bytes rest event parts e =
 pub event_takes : (bytes : List ℕ) (event : Event) → event_at bytes ≡ Some event → SpellsEvent bytes event
 unfolding event_at
 event_takes bytes event e =
-    elim (behind_some (codes "step ") bytes _ _ event e) [
-      | inl w ↦ event_case (codes "step ") bytes w.0 (λ n. Step n true) event (λ _ f. f) (λ _. refl) w.1 w.2
-      | inr e0 ↦ elim (behind_some (codes "deny ") bytes _ _ event e0) [
-        | inl w ↦ event_case (codes "deny ") bytes w.0 (λ n. Step n false) event (λ _ f. f) (λ _. refl) w.1 w.2
-        | inr e1 ↦ elim (behind_some (codes "kill ") bytes _ _ event e1) [
-          | inl w ↦ event_case (codes "kill ") bytes w.0 Kill event (λ _ f. f) (λ _. refl) w.1 w.2
-          | inr e2 ↦ elim (behind_some (codes "resize ") bytes _ _ event e2) [
-            | inl w ↦ event_case (codes "resize ") bytes w.0 Resize event (λ _ f. f) (λ _. refl) w.1 w.2
-            | inr e3 ↦ elim (behind_some (codes "begin ") bytes _ _ event e3) [
-              | inl w ↦ begin_case bytes w.0 event w.1 w.2
+    elim (behind_some (codes "begin ") bytes _ _ event e) [
+      | inl w ↦ begin_case bytes w.0 event w.1 w.2
+      | inr e0 ↦ elim (behind_some (codes "step ") bytes _ _ event e0) [
+        | inl w ↦ event_case (codes "step ") bytes w.0 (λ n. Step n true) event (λ _ f. f) (λ _. refl) w.1 w.2
+        | inr e1 ↦ elim (behind_some (codes "deny ") bytes _ _ event e1) [
+          | inl w ↦ event_case (codes "deny ") bytes w.0 (λ n. Step n false) event (λ _ f. f) (λ _. refl) w.1 w.2
+          | inr e2 ↦ elim (behind_some (codes "kill ") bytes _ _ event e2) [
+            | inl w ↦ event_case (codes "kill ") bytes w.0 Kill event (λ _ f. f) (λ _. refl) w.1 w.2
+            | inr e3 ↦ elim (behind_some (codes "resize ") bytes _ _ event e3) [
+              | inl w ↦ event_case (codes "resize ") bytes w.0 Resize event (λ _ f. f) (λ _. refl) w.1 w.2
               | inr e4 ↦ absurd (none_some e4)
             ]
           ]

@@ -98,20 +98,20 @@ plain_op_at bytes =
 
 -- the operation behind a task
 unfoldable pub op_at : List ℕ → Option Op
-op_at bytes = option_or (range_op_at bytes) (plain_op_at bytes)
+op_at bytes = option_or (plain_op_at bytes) (range_op_at bytes)
 
 -- a line behind the first, without its end
 unfoldable pub event_at : List ℕ → Option Event
 event_at bytes =
-    behind (codes "step ") bytes (λ rest. last_at rest >>= λ n. Some (Step n true))
-    (behind (codes "deny ") bytes (λ rest. last_at rest >>= λ n. Some (Step n false))
-    (behind (codes "kill ") bytes (λ rest. last_at rest >>= λ n. Some (Kill n))
-    (behind (codes "resize ") bytes (λ rest. last_at rest >>= λ n. Some (Resize n))
-    (behind (codes "begin ") bytes (λ rest. do
+    behind (codes "begin ") bytes (λ rest. do
       task ← number_at limit rest
       text ← after_word (codes " ") task.1
       op ← op_at text
-      Some (Begin task.0 op)) None))))
+      Some (Begin task.0 op))
+    (behind (codes "step ") bytes (λ rest. last_at rest >>= λ n. Some (Step n true))
+    (behind (codes "deny ") bytes (λ rest. last_at rest >>= λ n. Some (Step n false))
+    (behind (codes "kill ") bytes (λ rest. last_at rest >>= λ n. Some (Kill n))
+    (behind (codes "resize ") bytes (λ rest. last_at rest >>= λ n. Some (Resize n)) None))))
 
 -- a space, and the last number of a line
 unfoldable pub last_field_at : List ℕ → Option ℕ

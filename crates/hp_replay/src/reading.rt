@@ -187,9 +187,9 @@ fn plain_op_at(bytes: &[u8]) -> Option<Op>
 fn op_at(bytes: &[u8]) -> Option<Op>
     ensures { result ≡ op_at bytes.now }
 {
-    match range_op_at(bytes) {
+    match plain_op_at(bytes) {
         Some(op) => Some(op),
-        None => plain_op_at(bytes),
+        None => range_op_at(bytes),
     }
 }
 
@@ -198,7 +198,11 @@ fn op_at(bytes: &[u8]) -> Option<Op>
 pub(crate) fn event_at(bytes: &[u8]) -> Option<Event>
     ensures { result ≡ event_at bytes.now }
 {
-    if let Some(rest) = after_word(b"step ", bytes) {
+    if let Some(rest) = after_word(b"begin ", bytes) {
+        let (task, rest) = short_at(rest)?;
+        let op = op_at(after_word(b" ", rest)?)?;
+        Some(Event::Begin(Task::new(task), op))
+    } else if let Some(rest) = after_word(b"step ", bytes) {
         let task = Task::new(last_at(rest)?);
         Some(Event::Step(task, true))
     } else if let Some(rest) = after_word(b"deny ", bytes) {
@@ -210,10 +214,6 @@ pub(crate) fn event_at(bytes: &[u8]) -> Option<Event>
     } else if let Some(rest) = after_word(b"resize ", bytes) {
         let frames = last_at(rest)?;
         Some(Event::Resize(frames))
-    } else if let Some(rest) = after_word(b"begin ", bytes) {
-        let (task, rest) = short_at(rest)?;
-        let op = op_at(after_word(b" ", rest)?)?;
-        Some(Event::Begin(Task::new(task), op))
     } else {
         None
     }
