@@ -1,6 +1,6 @@
 //! Tests of `hugepool draw`, over fake streams.
-use crate::explaining_tests::{TRACE, fails_to_read, writes_a_front};
-use crate::tests::{Fault, fails, told};
+use crate::explaining_tests::{TRACE, writes_a_front};
+use crate::tests::{Fault, fails, fails_to_read, is_well, told, writes_first};
 
 const WORDS: [&str; 2] = ["hugepool", "draw"];
 
@@ -24,10 +24,9 @@ fn is_right(picture: &str) -> bool {
 
 #[test]
 fn a_trace_is_drawn(rt: HostRuntime) {
-    let (status, out, faults) = told(&rt, rt.alloc(), &WORDS, TRACE);
-    assert_eq!(rt; status, 0);
-    assert!(rt; faults.is_empty());
-    assert!(rt; str::from_utf8(out.as_slice()).is_ok_and(is_right));
+    let ran = told(&rt, rt.alloc(), &WORDS, TRACE);
+    is_well(&rt, &ran);
+    assert!(rt; str::from_utf8(ran.out.as_slice()).is_ok_and(is_right));
 }
 
 /// The whole trace is read before anything is written.
@@ -51,21 +50,19 @@ fn a_bad_line_is_told_before_any_picture(rt: HostRuntime) {
 
 #[test]
 fn help_of_draw_is_told(rt: HostRuntime) {
-    let (status, out, faults) = told(&rt, rt.alloc(), &["hugepool", "draw", "--help"], "");
-    assert_eq!(rt; status, 0);
-    assert!(rt; faults.is_empty());
-    assert!(rt;
-        out.starts_with(
-            b"Reads a trace from standard input, runs it, and writes a picture of the run, an SVG for a browser\n\n\
-            Usage: hugepool draw < FILE\n"
-        )
+    writes_first(
+        &rt,
+        rt.alloc(),
+        &["hugepool", "draw", "--help"],
+        b"Reads a trace from standard input, runs it, and writes a picture of the run, an SVG for a browser\n\n\
+        Usage: hugepool draw < FILE\n",
     );
 }
 
 /// Wherever the output ends, a front of the picture is written and the fault is told.
 #[test]
 fn a_failed_write_leaves_a_front_of_the_picture(rt: HostRuntime) {
-    let (_status, whole, _faults) = told(&rt, rt.alloc(), &WORDS, TRACE);
+    let whole = told(&rt, rt.alloc(), &WORDS, TRACE).out;
     for room in [0, 1, 100, 4000, whole.len().saturating_sub(1)] {
         writes_a_front(&rt, rt.alloc(), &WORDS, whole.as_slice(), room);
     }
@@ -73,5 +70,5 @@ fn a_failed_write_leaves_a_front_of_the_picture(rt: HostRuntime) {
 
 #[test]
 fn a_failed_read_is_told_before_any_picture(rt: HostRuntime) {
-    fails_to_read(&rt, rt.alloc(), &WORDS);
+    fails_to_read(&rt, rt.alloc(), &WORDS, TRACE.as_bytes(), b"");
 }

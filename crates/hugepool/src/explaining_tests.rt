@@ -1,9 +1,6 @@
 //! Tests of `hugepool explain`, over fake streams.
-use crate::tests::{Fault, fails, status_of, told, writes};
-use hp_replay::Watched;
+use crate::tests::{Fault, fails, fails_to_read, is_unwritten, told_to, writes, writes_first};
 use std::alloc::Global;
-use std::io;
-use std::io::{ErrorKind, Read, Write};
 use std::process::Abort;
 use std::sync::Wait;
 use std::thread::Threads;
@@ -59,40 +56,13 @@ fn a_bad_line_is_told_before_any_row(rt: HostRuntime) {
 
 #[test]
 fn help_of_explain_is_told(rt: HostRuntime) {
-    let (status, out, faults) = told(&rt, rt.alloc(), &["hugepool", "explain", "--help"], "");
-    assert_eq!(rt; status, 0);
-    assert!(rt; faults.is_empty());
-    assert!(rt;
-        out.starts_with(
-            b"Reads a trace from standard input, runs it, and writes a row of words for each event and then the state\n\n\
-            Usage: hugepool explain < FILE\n"
-        )
+    writes_first(
+        &rt,
+        rt.alloc(),
+        &["hugepool", "explain", "--help"],
+        b"Reads a trace from standard input, runs it, and writes a row of words for each event and then the state\n\n\
+        Usage: hugepool explain < FILE\n",
     );
-}
-
-/// An output with room for some bytes.
-#[derive(Drop)]
-struct Narrow {
-    taken: Vec<u8>,
-    room: usize,
-}
-
-impl Write for Narrow {
-    fn write(&mut self, buf: &[u8]) -> io::Result<usize> {
-        match buf {
-            [first, ..] if self.room != 0 => {
-                self.taken.push(*first)?;
-                self.room -= 1;
-                Ok(1)
-            }
-            [] => Ok(0),
-            _ => Err(io::Error::from(ErrorKind::BrokenPipe)),
-        }
-    }
-
-    fn flush(&mut self) -> io::Result<()> {
-        Ok(())
-    }
 }
 
 /// Asserts that an output with so much room takes a front of the whole, and that the fault is told.
@@ -103,17 +73,10 @@ pub(crate) fn writes_a_front<R: Abort + Threads + Wait + Sync>(
     whole: &[u8],
     room: usize,
 ) {
-    let mut out = Narrow {
-        taken: Vec::new(alloc),
-        room,
-    };
-    let mut faults = Vec::new(alloc);
-    let mut bytes = TRACE.as_bytes();
-    let status = status_of(rt, alloc, words, &mut bytes, &mut out, &mut faults);
-    assert_eq!(rt; status, 1);
-    assert_eq!(rt; out.taken.len(), room);
-    assert!(rt; whole.starts_with(out.taken.as_slice()));
-    assert_eq!(rt; faults.as_slice(), b"hugepool: writing failed\n".as_slice());
+    let ran = told_to(rt, alloc, words, TRACE, (room, true));
+    is_unwritten(rt, &ran);
+    assert_eq!(rt; ran.out.len(), room);
+    assert!(rt; whole.starts_with(ran.out.as_slice()));
 }
 
 /// Wherever the output ends, a front of the text is written and the fault is told.
@@ -124,43 +87,8 @@ fn a_failed_write_leaves_a_front(rt: HostRuntime) {
     }
 }
 
-/// Gives its bytes, and then answers an error.
-#[derive(Drop)]
-struct Cut<'a> {
-    bytes: &'a [u8],
-}
-
-impl Read for Cut<'_> {
-    fn read(&mut self, buf: &mut [u8]) -> io::Result<usize> {
-        match self.bytes {
-            [first, rest @ ..] if !buf.is_empty() => {
-                buf[0] = *first;
-                self.bytes = rest;
-                Ok(1)
-            }
-            _ => Err(io::Error::from(ErrorKind::BrokenPipe)),
-        }
-    }
-}
-
-/// Asserts that nothing is written where the trace can't be read to its end, and that the fault is told.
-pub(crate) fn fails_to_read<R: Abort + Threads + Wait + Sync>(
-    rt: &R,
-    alloc: Global,
-    words: &[&str],
-) {
-    let mut out = Vec::new(alloc);
-    let mut faults = Vec::new(alloc);
-    let mut reader = Watched::new(Cut {
-        bytes: TRACE.as_bytes(),
-    });
-    let status = status_of(rt, alloc, words, &mut reader, &mut out, &mut faults);
-    assert_eq!(rt; status, 1);
-    assert!(rt; out.is_empty());
-    assert_eq!(rt; faults.as_slice(), b"hugepool: reading failed\n".as_slice());
-}
-
+/// Nothing is written where the trace can't be read to its end.
 #[test]
 fn a_failed_read_is_told_before_any_row(rt: HostRuntime) {
-    fails_to_read(&rt, rt.alloc(), &WORDS);
+    fails_to_read(&rt, rt.alloc(), &WORDS, TRACE.as_bytes(), b"");
 }

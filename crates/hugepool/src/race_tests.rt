@@ -56,10 +56,10 @@ fn a_script_is_raced(rt: HostRuntime) {
 
 #[test]
 fn ten_races_where_no_number_is_given(rt: HostRuntime) {
-    let (status, out, _) = told(&rt, rt.alloc(), &["hugepool", "race"], MAP);
-    assert_eq!(rt; status, 0);
+    let ran = told(&rt, rt.alloc(), &["hugepool", "race"], MAP);
+    assert_eq!(rt; ran.status, 0);
     assert!(rt;
-        out.as_slice()
+        ran.out
             .ends_with(b"\nrun 9 closed entries 8 free 4 resv 4\n")
     );
 }

@@ -1,5 +1,5 @@
 //! The words, the statuses and the fault lines of the program, over fake streams.
-use crate::comparing::{difference, difference_from_both};
+use crate::comparing::{is_both, is_text};
 use crate::program::program;
 use hp_reasons::Recalls;
 use hp_replay::{Source, Watched};
@@ -27,18 +27,36 @@ pub(crate) fn status_of<H: Threads + Wait + Sync, R: Source + Recalls, W: Write 
     status
 }
 
+/// What a run of the program comes to.
+#[derive(Drop)]
+pub(crate) struct Ran {
+    pub(crate) status: u8,
+    pub(crate) out: Vec<u8>,
+    pub(crate) faults: Vec<u8>,
+}
+
 /// The status, the output and the fault lines.
 pub(crate) fn told<R: Threads + Wait + Sync>(
     rt: &R,
     alloc: Global,
     words: &[&str],
     input: &str,
-) -> (u8, Vec<u8>, Vec<u8>) {
+) -> Ran {
     let mut out = Vec::new(alloc);
     let mut faults = Vec::new(alloc);
     let mut bytes = input.as_bytes();
     let status = status_of(rt, alloc, words, &mut bytes, &mut out, &mut faults);
-    (status, out, faults)
+    Ran {
+        status,
+        out,
+        faults,
+    }
+}
+
+/// Asserts that a run did what was asked, and told no fault.
+pub(crate) fn is_well(rt: &impl Abort, ran: &Ran) {
+    assert_eq!(rt; ran.status, 0);
+    assert!(rt; ran.faults.is_empty());
 }
 
 /// Asserts that the program does what was asked, and writes this.
@@ -49,10 +67,9 @@ pub(crate) fn writes<R: Abort + Threads + Wait + Sync>(
     input: &str,
     wanted: &str,
 ) {
-    let (status, out, faults) = told(rt, alloc, words, input);
-    assert_eq!(rt; status, 0);
-    assert!(rt; faults.is_empty());
-    assert_eq!(rt; difference(out.as_slice(), wanted), None);
+    let ran = told(rt, alloc, words, input);
+    is_well(rt, &ran);
+    is_text(rt, ran.out.as_slice(), wanted);
 }
 
 /// Asserts that it writes these two texts, one after the other.
@@ -63,10 +80,21 @@ fn writes_both<R: Abort + Threads + Wait + Sync>(
     front: &str,
     back: &str,
 ) {
-    let (status, out, faults) = told(rt, alloc, words, "");
-    assert_eq!(rt; status, 0);
-    assert!(rt; faults.is_empty());
-    assert_eq!(rt; difference_from_both(out.as_slice(), front, back), None);
+    let ran = told(rt, alloc, words, "");
+    is_well(rt, &ran);
+    is_both(rt, ran.out.as_slice(), front, back);
+}
+
+/// Asserts that it begins with this.
+pub(crate) fn writes_first<R: Abort + Threads + Wait + Sync>(
+    rt: &R,
+    alloc: Global,
+    words: &[&str],
+    front: &[u8],
+) {
+    let ran = told(rt, alloc, words, "");
+    is_well(rt, &ran);
+    assert!(rt; ran.out.starts_with(front));
 }
 
 /// What is written before a fault, and what is told of it.
@@ -77,6 +105,13 @@ pub(crate) struct Fault<'a> {
     pub(crate) told: &'a str,
 }
 
+/// Asserts that a run ended in this fault.
+fn is_fault(rt: &impl Abort, ran: &Ran, fault: &Fault) {
+    assert_eq!(rt; ran.status, fault.status);
+    is_text(rt, ran.out.as_slice(), fault.out);
+    is_text(rt, ran.faults.as_slice(), fault.told);
+}
+
 /// Asserts that the program ends in this fault.
 pub(crate) fn fails<R: Abort + Threads + Wait + Sync>(
     rt: &R,
@@ -85,10 +120,15 @@ pub(crate) fn fails<R: Abort + Threads + Wait + Sync>(
     input: &str,
     fault: &Fault,
 ) {
-    let (status, out, faults) = told(rt, alloc, words, input);
-    assert_eq!(rt; status, fault.status);
-    assert_eq!(rt; difference(out.as_slice(), fault.out), None);
-    assert_eq!(rt; difference(faults.as_slice(), fault.told), None);
+    let ran = told(rt, alloc, words, input);
+    is_fault(rt, &ran, fault);
+}
+
+/// Asserts that a run found a fault in its words, told of it in this way, and wrote nothing.
+fn is_refusal(rt: &impl Abort, ran: &Ran, front: &[u8]) {
+    assert_eq!(rt; ran.status, 2);
+    assert!(rt; ran.out.is_empty());
+    assert!(rt; ran.faults.as_slice().starts_with(front));
 }
 
 /// Asserts that these words are the command line's fault, and nothing is written.
@@ -98,10 +138,8 @@ pub(crate) fn refuses<R: Abort + Threads + Wait + Sync>(
     words: &[&str],
     input: &str,
 ) {
-    let (status, out, faults) = told(rt, alloc, words, input);
-    assert_eq!(rt; status, 2);
-    assert!(rt; out.is_empty());
-    assert!(rt; faults.as_slice().starts_with(b"error: "));
+    let ran = told(rt, alloc, words, input);
+    is_refusal(rt, &ran, b"error: ");
 }
 
 #[test]
@@ -424,13 +462,13 @@ impl Write for Output {
 }
 
 /// The status where the output is such a one, with what that takes and the fault lines.
-fn told_to<R: Threads + Wait + Sync>(
+pub(crate) fn told_to<R: Threads + Wait + Sync>(
     rt: &R,
     alloc: Global,
     words: &[&str],
     input: &str,
     (room, flushes): (usize, bool),
-) -> (u8, Vec<u8>, Vec<u8>) {
+) -> Ran {
     let mut out = Output {
         taken: Vec::new(alloc),
         room,
@@ -439,10 +477,20 @@ fn told_to<R: Threads + Wait + Sync>(
     let mut faults = Vec::new(alloc);
     let mut bytes = input.as_bytes();
     let status = status_of(rt, alloc, words, &mut bytes, &mut out, &mut faults);
-    (status, out.taken, faults)
+    Ran {
+        status,
+        out: out.taken,
+        faults,
+    }
 }
 
 const WRITING: &[u8] = b"hugepool: writing failed\n";
+
+/// Asserts that a run told that writing failed.
+pub(crate) fn is_unwritten(rt: &impl Abort, ran: &Ran) {
+    assert_eq!(rt; ran.status, 1);
+    assert_eq!(rt; ran.faults.as_slice(), WRITING);
+}
 
 /// Asserts that the program tells of such an output that writing failed. Answers what it takes.
 fn fails_to_write<R: Abort + Threads + Wait + Sync>(
@@ -451,10 +499,9 @@ fn fails_to_write<R: Abort + Threads + Wait + Sync>(
     words: &[&str],
     output: (usize, bool),
 ) -> Vec<u8> {
-    let (status, out, faults) = told_to(rt, alloc, words, "pool 1 1 1 1\nstep 1\n", output);
-    assert_eq!(rt; status, 1);
-    assert_eq!(rt; faults.as_slice(), WRITING);
-    out
+    let ran = told_to(rt, alloc, words, "pool 1 1 1 1\nstep 1\n", output);
+    is_unwritten(rt, &ran);
+    ran.out
 }
 
 #[test]
@@ -471,9 +518,15 @@ fn a_failed_flush_is_a_failed_write(rt: HostRuntime) {
     let out = fails_to_write(&rt, rt.alloc(), words, (1000, false));
     assert!(rt; out.starts_with(b"refused idle\nfree 1 resv 0 calls 0\n"));
     let input = "pool 1 1 1 1\nstep 1\n";
-    let (status, _, faults) = told_to(&rt, rt.alloc(), words, input, (1000, true));
-    assert_eq!(rt; status, 0);
-    assert!(rt; faults.is_empty());
+    let ran = told_to(&rt, rt.alloc(), words, input, (1000, true));
+    is_well(&rt, &ran);
+}
+
+/// Asserts that a run ended in a fault of what is read or written, and what it had written and told.
+fn is_broken(rt: &impl Abort, ran: &Ran, out: &[u8], told: &[u8]) {
+    assert_eq!(rt; ran.status, 1);
+    assert_eq!(rt; ran.out.as_slice(), out);
+    assert_eq!(rt; ran.faults.as_slice(), told);
 }
 
 /// Asserts what is told of a bad line to an output whose flush may fail.
@@ -484,10 +537,8 @@ fn tells_of_a_bad_line<R: Abort + Threads + Wait + Sync>(
     told: &[u8],
 ) {
     let (words, input) = (&["hugepool", "replay"], "pool 1 1 1 1\nstep 1\nstep\n");
-    let (status, out, faults) = told_to(rt, alloc, words, input, (1000, flushes));
-    assert_eq!(rt; status, 1);
-    assert_eq!(rt; out.as_slice(), b"refused idle\n".as_slice());
-    assert_eq!(rt; faults.as_slice(), told);
+    let ran = told_to(rt, alloc, words, input, (1000, flushes));
+    is_broken(rt, &ran, b"refused idle\n", told);
 }
 
 /// Whoever is told of a bad line has all that came before it.
@@ -535,21 +586,30 @@ fn long_trace(alloc: Global) -> Result<Vec<u8>, AllocError> {
     Ok(input)
 }
 
-/// More output than the program's buffer holds, so that it is written before the trace ends.
-#[test]
-fn nothing_is_written_after_a_failed_write(rt: HostRuntime) -> Result<(), Fail> {
-    let input = long_trace(rt.alloc())?;
+/// A run over this input, with such an output.
+fn told_after_a_hiccup<R: Threads + Wait + Sync>(rt: &R, alloc: Global, input: &[u8]) -> Ran {
     let mut out = Hiccup {
-        taken: Vec::new(rt.alloc()),
+        taken: Vec::new(alloc),
         refuses: true,
     };
-    let mut faults = Vec::new(rt.alloc());
+    let mut faults = Vec::new(alloc);
     let words = &["hugepool", "replay"];
-    let mut bytes = input.as_slice();
-    let status = status_of(&rt, rt.alloc(), words, &mut bytes, &mut out, &mut faults);
-    assert_eq!(rt; status, 1);
-    assert!(rt; out.taken.is_empty());
-    assert_eq!(rt; faults.as_slice(), WRITING);
+    let mut bytes = input;
+    let status = status_of(rt, alloc, words, &mut bytes, &mut out, &mut faults);
+    Ran {
+        status,
+        out: out.taken,
+        faults,
+    }
+}
+
+/// More output than the program's buffer holds, so that it is written before the trace ends.
+#[test]
+fn nothing_is_written_after_a_failed_write(rt: HostRuntime) -> Result<(), AllocError> {
+    let input = long_trace(rt.alloc())?;
+    let ran = told_after_a_hiccup(&rt, rt.alloc(), input.as_slice());
+    is_unwritten(&rt, &ran);
+    assert!(rt; ran.out.is_empty());
     Ok(())
 }
 
@@ -579,33 +639,40 @@ impl Read for Input<'_> {
     }
 }
 
-/// Asserts that this is written where the input fails behind these bytes, and that the fault is told.
-fn fails_to_read<R: Abort + Threads + Wait + Sync>(
-    rt: &R,
-    alloc: Global,
-    bytes: &[u8],
-    told: &[u8],
-) {
+/// A run whose input fails behind these bytes.
+fn told_from<R: Threads + Wait + Sync>(rt: &R, alloc: Global, words: &[&str], bytes: &[u8]) -> Ran {
     let mut out = Vec::new(alloc);
     let mut faults = Vec::new(alloc);
     let mut reader = Watched::new(Input { bytes });
-    let words = &["hugepool", "replay"];
     let status = status_of(rt, alloc, words, &mut reader, &mut out, &mut faults);
-    assert_eq!(rt; status, 1);
-    assert_eq!(rt; out.as_slice(), told);
-    assert_eq!(rt; faults.as_slice(), b"hugepool: reading failed\n".as_slice());
+    Ran {
+        status,
+        out,
+        faults,
+    }
+}
+
+const READING: &[u8] = b"hugepool: reading failed\n";
+
+/// Asserts that this is written where the input fails behind these bytes, and that the fault is told.
+pub(crate) fn fails_to_read<R: Abort + Threads + Wait + Sync>(
+    rt: &R,
+    alloc: Global,
+    words: &[&str],
+    bytes: &[u8],
+    told: &[u8],
+) {
+    let ran = told_from(rt, alloc, words, bytes);
+    is_broken(rt, &ran, told, READING);
 }
 
 #[test]
 fn a_failed_read_is_told(rt: HostRuntime) {
-    fails_to_read(&rt, rt.alloc(), b"", b"");
-    fails_to_read(&rt, rt.alloc(), b"pool 1 1 1 1\nst", b"");
-    fails_to_read(
-        &rt,
-        rt.alloc(),
-        b"pool 1 1 1 1\nstep 1\n",
-        b"refused idle\n",
-    );
+    let words = &["hugepool", "replay"];
+    fails_to_read(&rt, rt.alloc(), words, b"", b"");
+    fails_to_read(&rt, rt.alloc(), words, b"pool 1 1 1 1\nst", b"");
+    let trace = b"pool 1 1 1 1\nstep 1\n";
+    fails_to_read(&rt, rt.alloc(), words, trace, b"refused idle\n");
 }
 
 /// The status where no fault line can be told.
@@ -625,15 +692,6 @@ fn untold<R: Threads + Wait + Sync>(rt: &R, alloc: Global, words: &[&str]) -> u8
 fn a_fault_that_is_not_told_is_one(rt: HostRuntime) {
     assert_eq!(rt; untold(&rt, rt.alloc(), &["hugepool", "replay"]), 1);
     assert_eq!(rt; untold(&rt, rt.alloc(), &["hugepool"]), 2);
-}
-
-/// What a `work` of these words answers: its status, what is written, and the fault line. Nothing is read.
-fn worked<R: Threads + Wait + Sync>(
-    rt: &R,
-    alloc: Global,
-    words: &[&str],
-) -> (u8, Vec<u8>, Vec<u8>) {
-    told(rt, alloc, words, "no trace")
 }
 
 /// Asserts that a workload is well, of so many calls, on each of its drivers.
@@ -698,32 +756,31 @@ fn work_refuses_other_names(rt: HostRuntime) {
 
 #[test]
 fn work_needs_a_name(rt: HostRuntime) {
-    let (status, out, faults) = worked(&rt, rt.alloc(), &["hugepool", "work"]);
-    assert_eq!(rt; status, 2);
-    assert!(rt; out.is_empty());
-    assert!(rt;
-        faults.starts_with(
-            b"error: the following required arguments were not provided:\n  <NAME>\n"
-        )
-    );
+    let ran = told(&rt, rt.alloc(), &["hugepool", "work"], "no trace");
+    let front = b"error: the following required arguments were not provided:\n  <NAME>\n";
+    is_refusal(&rt, &ran, front);
 }
 
-/// The help of `work` has a line on each workload, in their order.
-#[test]
-fn help_of_work_is_told(rt: HostRuntime) -> Result<(), Fail> {
-    let (status, out, faults) = worked(&rt, rt.alloc(), &["hugepool", "work", "--help"]);
-    assert_eq!(rt; status, 0);
-    assert!(rt; faults.is_empty());
-    let text = str::from_utf8(out.as_slice())?;
+/// Asserts that a text has a line on each workload, in their order, and ends with them.
+fn lists_each_workload(rt: &impl Abort, alloc: Global, text: &str) -> Result<(), Fail> {
     let (_front, list) = text
         .split_once("The workloads")
         .ok_or("the list of workloads")?;
     let mut lines = list.lines().skip(1);
     for workload in hp_client::Workload::ALL {
         let line = lines.next().ok_or("a line on each workload")?;
-        let name = format!(in rt.alloc(); "  {} ", workload.name())?;
+        let name = format!(in alloc; "  {} ", workload.name())?;
         assert!(rt; line.starts_with(name.as_str()));
     }
     assert_eq!(rt; lines.next(), None);
     Ok(())
+}
+
+/// The help of `work` has a line on each workload, in their order.
+#[test]
+fn help_of_work_is_told(rt: HostRuntime) -> Result<(), Fail> {
+    let words = &["hugepool", "work", "--help"];
+    let ran = told(&rt, rt.alloc(), words, "no trace");
+    is_well(&rt, &ran);
+    lists_each_workload(&rt, rt.alloc(), str::from_utf8(ran.out.as_slice())?)
 }
