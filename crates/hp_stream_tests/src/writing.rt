@@ -5,7 +5,7 @@ use hp_replay::{
     Chances, Exploration, Finish, ReplayFault, RunLine, Watched, read_script, read_trace, replay,
     write_count, write_explored, write_lines, write_text, write_trace,
 };
-use std::alloc::Global;
+use std::alloc::{AllocError, Global};
 use std::io::ErrorKind;
 use std::process::Abort;
 use std::test::Fail;
@@ -124,4 +124,38 @@ fn a_write_that_breaks_is_told(rt: HostRuntime) {
             }
         }
     }
+}
+
+/// What comes of a trace of these lines, each of which is refused.
+fn replayed(alloc: Global, lines: usize) -> Result<Vec<u8>, ReplayFault> {
+    let mut trace = b"pool 1 1 1 1\n".to_vec(alloc)?;
+    for _ in 0..lines {
+        trace.extend_from_slice(b"step 99\n")?;
+    }
+    let mut out = Vec::new(alloc);
+    replay(alloc, &mut trace.as_slice(), &mut Watched::new(&mut out))?;
+    Ok(out)
+}
+
+/// And what has to come of it.
+fn refused(alloc: Global, lines: usize) -> Result<Vec<u8>, AllocError> {
+    let mut text = Vec::new(alloc);
+    for _ in 0..lines {
+        text.extend_from_slice(b"refused notalive\n")?;
+    }
+    text.extend_from_slice(
+        b"free 1 resv 0 calls 0\nfile 0 size 0 reserved 0 regions 0 pages 0 changes 0 spare 0\n\
+        task 1 alive mappings 0 entries 0\n",
+    )?;
+    Ok(text)
+}
+
+/// A piece of 4,096 bytes comes to more than 8,192 here, which is all that a replay has room for in itself.
+#[test]
+fn a_piece_may_come_to_much_text(rt: HostRuntime) -> Result<(), Fail> {
+    let told = replayed(rt.alloc(), 2_000)?;
+    let wanted = refused(rt.alloc(), 2_000)?;
+    assert_eq!(rt; told.len(), wanted.len());
+    assert!(rt; told == wanted);
+    Ok(())
 }
