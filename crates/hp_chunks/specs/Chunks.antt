@@ -1,6 +1,7 @@
 -- Frames as they are kept: chunks of places.
 use Rattle.std.specs.Prelude.{◌≡◌, ℕ, zero, suc, ◌+◌, ◌*◌, ◌/◌, ◌%◌, ◌<◌, List, Option, None, Some, is_some, ⊤}
-use Rattle.std.specs.Prelude.{slice_index_or, length, map, count_by}
+use Rattle.std.specs.Prelude.{slice_index_or, length, map, count_by, ◌==◌, [], ◌∷◌}
+use Rattle.std.specs.Bool.{then_some}
 use Rattle.std.specs.Global.{Box}
 use Rattle.std.specs.Ordering.{nat_cmp}
 use Rattle.std.specs.FinMap as finite
@@ -15,6 +16,15 @@ Places = List (Option ℕ)
 -- a chunk, where it is there
 abbrev pub Slot : Type 0
 Slot = Option (Box Places)
+
+-- a frame where a bit is 1, and none where it is 0
+abbrev pub frame_by : (bit frame : ℕ) → Option ℕ
+frame_by bit frame = then_some (bit == 1) frame
+
+-- the frames of the places whose bits are 1, the lowest bit for the first place
+unfoldable pub where_present : (present : ℕ) → (frames : List ℕ) → Places
+where_present present [] = []
+where_present present (frame ∷ frames) = frame_by (present % 2) frame ∷ where_present (present / 2) frames
 
 -- some place has a frame
 abbrev pub HasFrame : Places → Type 0

@@ -15,23 +15,22 @@ pub const PLACES: usize = 64;
 /// The frame of each of its places that has one. For which numbers they stand it doesn't know.
 #[derive(Drop)]
 pub(crate) struct Chunk {
-    frames: [Option<Frame>; PLACES],
-    // how many places have one
-    count: usize,
+    // a bit for each place that has a frame, the lowest for the first: a frame takes 4 bytes so, where an option takes 8
+    present: u64,
+    // the frame of each of these, and of the others any
+    frames: [Frame; PLACES],
 }
 
 impl Model for Chunk {
-    ghost use Rattle.std.specs.Prelude.{◌≡◌, ℕ, List, Option, is_some, length, count_by};
+    ghost use Rattle.std.specs.Prelude.{◌≡◌, ℕ, List, Option, length};
     ghost use Rattle.hp_chunks.specs.declared.chunk.TheConstants.{PLACES};
+    ghost use Rattle.hp_chunks.specs.Chunks.{where_present};
 
     ghost Value = { List (Option ℕ) };
 
-    ghost view = { λ c. c.frames };
+    ghost view = { λ c. where_present c.present c.frames };
 
-    ghost invariant = { λ c. record {
-      whole : length c.frames ≡ PLACES;
-      counted : c.count ≡ count_by is_some c.frames;
-    } };
+    ghost invariant = { λ c. length c.frames ≡ PLACES };
 }
 
 impl Chunk {
@@ -40,8 +39,8 @@ impl Chunk {
         ensures { result ≡ replicate PLACES None }
     {
         Chunk {
-            frames: [None; PLACES],
-            count: 0,
+            present: 0,
+            frames: [Frame::new(0); PLACES],
         }
     }
 
@@ -50,7 +49,8 @@ impl Chunk {
         requires { place < PLACES }
         ensures { result ≡ slice_index_or self.now place None }
     {
-        self.frames[place]
+        let present = (self.present >> place) & 1 == 1;
+        present.then_some(self.frames[place])
     }
 
     /// Puts a frame into a place that has none.
@@ -59,8 +59,8 @@ impl Chunk {
         requires vacant { slice_index_or self.old place None ≡ None }
         ensures { self.new ≡ slice_set self.old place (Some frame) }
     {
-        self.frames[place] = Some(frame);
-        self.count += 1;
+        self.present |= 1 << place;
+        self.frames[place] = frame;
     }
 
     /// Takes the frame out of a place that has one.
@@ -70,16 +70,15 @@ impl Chunk {
         ensures frame { slice_index_or self.old place None ≡ Some result }
         ensures rest { self.new ≡ slice_set self.old place None }
     {
-        let frame = self.frames[place].take().unwrap();
-        self.count -= 1;
-        frame
+        self.present &= !(1 << place);
+        self.frames[place]
     }
 
     /// Whether no place has a frame.
     pub(crate) fn is_empty(&self) -> bool
         ensures { IsTrue result ↔ (count_by is_some self.now ≡ 0) }
     {
-        self.count == 0
+        self.present == 0
     }
 
     /// The highest place that has a frame.
@@ -89,40 +88,37 @@ impl Chunk {
         ensures present { IsSome (slice_index_or self.now result None) }
         ensures none_above { (k : ℕ) → result < k → slice_index_or self.now k None ≡ None }
     {
-        for place in (0..PLACES).rev() {
-            if self.frames[place].is_some() {
-                return place;
-            }
-        }
-        unreachable!()
+        self.present.ilog2() as usize
     }
 
     /// The first place at or after that one that has a frame, and its frame.
     pub(crate) fn first_from(&self, place: usize) -> Option<(usize, Frame)>
+        requires { place < PLACES }
         ensures { IsFirstWithin (λ k. slice_index_or self.now k None) place PLACES result }
     {
-        for at in place..PLACES {
-            if let Some(frame) = self.frames[at] {
-                return Some((at, frame));
-            }
+        let later = self.present >> place;
+        if later == 0 {
+            return None;
         }
-        None
+        let at = place + later.trailing_zeros() as usize;
+        Some((at, self.frames[at]))
     }
 
     /// A chunk with the same frames.
     pub(crate) fn copy(&self) -> Self
         ensures { result ≡ self.now }
     {
-        let mut copy = Chunk::new();
-        copy.frames.copy_from_slice(&self.frames);
-        copy.count = self.count;
-        copy
+        Chunk {
+            present: self.present,
+            frames: self.frames,
+        }
     }
 }
 
 /// The first place of a chunk at or after that one that has a frame, where the chunk is there.
 pub(crate) fn first_in(slot: &Option<Box<Chunk>>, place: usize) -> Option<(usize, Frame)>
-    requires { IsKept slot.now }
+    requires kept { IsKept slot.now }
+    requires in_chunk { place < PLACES }
     ensures { IsFirstWithin (frame_in slot.now) place PLACES result }
 {
     let chunk = slot.as_ref()?;

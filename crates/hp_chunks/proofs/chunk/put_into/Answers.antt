@@ -12,6 +12,10 @@ returns-in-Some-clause-ok c k below =
     (set_place (frame_in c.args.slot.now) chunk.value c.args.place (Some c.args.frame) within
     (frames_at c.args.slot.now chunk c.in-Some.is) k)
 
+pub put-requires-in_default-clause-vacant : goal.put-requires-in_default-clause-vacant
+put-requires-in_default-clause-vacant c =
+    rw (c.deref_mut-in_default.ensures.value, (c.in_ok-chunk.ensures {u = tt}).ok, c.new.ensures) (get_or_none 64 c.args.place)
+
 -- the chunk that is made has its one frame
 made : (c : goal.Joined-slot-2) → c.put-in_default.new.self ≡ set bare c.args.place (Some c.args.frame)
 made c =
