@@ -3,13 +3,14 @@
 # proved; then on all processors; then with the audit of every turn, fewer runs; and a script of 64 tasks in a pool of 4,096
 # frames beside one of 4 tasks, a turn each. Says whether both wrote the same lines. Needs cargo, python3 and taskset.
 # How much faster all processors are is told by the clock, so it needs a machine with nothing else to do: where others had
-# work when it began, it says so, and that number says nothing. What the machine gives is told beside it: how much more as
-# many plain explorers do at once, a whole exploration each, than one does.
+# work when it began, it says so. Beside it stands what the machine gives: how much more as many explorations do at once, each
+# on a processor of its own, than one does alone (processors that share a core, or that other guests share, do less than so many).
 set -euo pipefail
 source "$(dirname "${BASH_SOURCE[0]}")/needs.sh" python3 taskset
 PYTHONPATH=bench exec python3 -B - <<'P'
 import os
 import shutil
+import statistics
 import subprocess
 import sys
 import tempfile
@@ -17,8 +18,16 @@ import time
 from pathlib import Path
 from measure import PLAIN, PROVED, in_turn, prepare
 
-TASKSET = shutil.which("taskset")
-ONE = [TASKSET, "-c", "0"]
+PROCESSORS = sorted(os.sched_getaffinity(0))
+ROUNDS = 9
+
+
+def alone_on(processor):
+    """The words that keep a program on one processor."""
+    return [shutil.which("taskset"), "-c", str(processor)]
+
+
+ONE = alone_on(PROCESSORS[0])
 OURS = [PROVED[0], "explore"]
 THEIRS = [str(PLAIN / "explore")]
 
@@ -39,24 +48,33 @@ def lines_of(words, path):
         return subprocess.run(words, stdin=source, capture_output=True, check=True, text=True).stdout
 
 
+def clock(programs, path):
+    """The seconds that the clock tells until all of these, begun at once, have ended."""
+    start = time.perf_counter()
+    started = []
+    for words in programs:
+        with open(path) as source:
+            started.append(subprocess.Popen(words, stdin=source, stdout=subprocess.DEVNULL))
+    if any([it.wait() for it in started]):
+        sys.exit("bench: one of them failed")
+    return time.perf_counter() - start
+
+
 def wall(words, path):
     """The seconds that the clock tells of one of these, the best of five."""
-    return at_once(words, path, 1)
+    return min(clock([words], path) for _ in range(5))
 
 
-def at_once(words, path, many):
-    """The seconds that the clock tells for as many of these at once, the best of five."""
-    best = float("inf")
-    for _ in range(5):
-        start = time.perf_counter()
-        started = []
-        for _ in range(many):
-            with open(path) as source:
-                started.append(subprocess.Popen(words, stdin=source, stdout=subprocess.DEVNULL))
-        if any([it.wait() for it in started]):
-            sys.exit("bench: one of them failed")
-        best = min(best, time.perf_counter() - start)
-    return best
+def print_all_processors(words, path):
+    """How many times as fast the exploration is on all processors as on one, and what as many at once do."""
+    cores = len(PROCESSORS)
+    kinds = [[[*ONE, *words]], [words], [[*alone_on(it), *words] for it in PROCESSORS]]
+    seen = [[clock(programs, path) for programs in kinds] for _ in range(ROUNDS)]
+    one, on_all, at_once = (statistics.median(times) for times in zip(*seen))
+    print(f"by the clock, median of {ROUNDS} rounds in turn: {one:.3f} s on one processor, {on_all:.3f} s on {cores}:"
+        f" {one / on_all:.2f} times as fast")
+    print(f"  {cores} of them at once, each on a processor of its own, do {cores * one / at_once:.2f} times as much as one alone:"
+        f" it has {at_once / cores / on_all:.2f} of that")
 
 
 def busy():
@@ -77,7 +95,6 @@ def turns_of(text):
 
 
 prepare()
-cores = len(os.sched_getaffinity(0))
 with tempfile.TemporaryDirectory() as folder:
     small = Path(folder) / "small"
     small.write_text(script(8, 4, 2))
@@ -88,12 +105,9 @@ with tempfile.TemporaryDirectory() as folder:
     print(f"20,000 runs of {turns_of(text) / 20_000:.0f} turns each, both wrote the same lines")
     in_turn("on one processor", small, {"hugepool": [*ONE, *OURS, *options], "plain": [*ONE, *THEIRS, *options]}, 7)
     others = busy_processors()
-    one, all_of_them = wall([*ONE, *OURS, *options], small), wall([*OURS, *options], small)
-    print(f"by the clock: {one:.3f} s on one processor, {all_of_them:.3f} s on {cores}: {one / all_of_them:.2f} times as fast")
-    alone, together = at_once([*THEIRS, *options], small, 1), at_once([*THEIRS, *options], small, cores)
-    print(f"  (plain explorers, one beside the other on {cores}, do {cores * alone / together:.2f} times as much as one)")
+    print_all_processors([*OURS, *options], small)
     if others > 0.1:
-        print(f"  (others kept {others:.1f} processors busy before that: it says nothing of {cores} free ones)")
+        print(f"  (others kept {others:.1f} processors busy before that: it says nothing of {len(PROCESSORS)} free ones)")
     few = ["--runs", "2000", "--deny", "50", "--kill", "1"]
     bare, audited = wall([*ONE, *OURS, *few], small), wall([*ONE, *OURS, *few, "--audit"], small)
     print(f"2,000 runs with the audit of every turn: {audited:.3f} s, without {bare:.3f} s, on one processor")
