@@ -1,5 +1,5 @@
 #!/usr/bin/env bash
-# Replays traces that are made here, each of one way to use a pool and most in two sizes; and so does a plain Rust
+# Replays traces that are made here, each of one way to use a pool, in two sizes; and so does a plain Rust
 # program that makes the same steps with maps and balanced trees, and with nothing proved. Says whether both wrote the
 # same, and prints a table: processor time an event of each, the ratio of the two, and the growth of ours from the
 # smaller size to the larger. Then the peak memory of both on the largest pool. Needs cargo and python3.

@@ -220,4 +220,6 @@ def main(paths: list[Path]) -> int:
 
 
 if __name__ == "__main__":
+    if any(word.startswith("-") for word in sys.argv[1:]):
+        sys.exit(__doc__)
     sys.exit(main([Path(word) for word in sys.argv[1:]]))
