@@ -126,6 +126,7 @@ def index(step: Step) -> None:
 
 def examples(step: Step, _: list[str]) -> None:
     step.run(python("examples.py"))
+    step.run(python("showing.py"))
     step.run(python("soak.py"))
     step.run(python("test_launcher.py"))
     step.run(python("documents.py"))
@@ -142,6 +143,7 @@ def fuzz(step: Step) -> None:
 def refusals(step: Step, _: list[str]) -> None:
     step.run(python("refusals.py"))
     step.run(python("growths.py"))
+    step.run(python("failing.py"))
 
 
 def linux(step: Step, _: list[str]) -> None:

@@ -97,6 +97,10 @@ class Case(NamedTuple):
     right: str = ""
     apart: str | None = None
     brought: tuple[str, ...] = ()
+    # whether it is promised to start threads, so that some refused growth is a thread's
+    starts: bool = False
+    # where this is a number, some run that lacks memory has written lines, and fewer than so many
+    lines: int = 0
 
 
 def is_same(out: str, right: str) -> bool:
@@ -118,6 +122,11 @@ def is_race(out: str, right: str) -> bool:
     return is_race_front(out, right) and out.count("\n") == right.count("\n")
 
 
+def plain_words(words: str, read: str) -> Case:
+    """Words whose output is the same each time."""
+    return Case(words, read, is_same, is_front)
+
+
 def example(name: str) -> str:
     return (TOP / "examples" / name).read_text(encoding="utf-8")
 
@@ -131,20 +140,23 @@ def crowd(tasks: int) -> str:
 
 def cases() -> list[Case]:
     """What is run."""
-    plain = lambda words, read: Case(words, read, is_same, is_front)
-    raced = lambda words, read: Case(words, read, is_race, is_race_front)
+    plain = plain_words
+    run = lambda trace: plain("replay", trace)._replace(lines=trace.count("\n") - 1)
+    # (where there is one processor runs are explored by no second thread)
+    explored = lambda words, read: plain(words, read)._replace(starts=(os.cpu_count() or 1) > 1)
+    raced = lambda words, read: Case(words, read, is_race, is_race_front, starts=True)
     wide, script = example("calls-in-flight.trace"), example("truncate-against-store.script")
     traces = [wide, example("alloc-punch-and-store-under-a-quota.trace"), example("resize-keeps-reserved-frames.trace")]
     return [
-        *(plain("replay", trace) for trace in traces),
+        *(run(trace) for trace in traces),
         *(plain(f"work {name}", "") for name in WORKLOADS),
-        *(plain(f"work {name} --on pool", "") for name in ("shared", "alloc-instantiate-race")),
+        *(plain(f"work {name} --on pool", "")._replace(starts=True) for name in ("shared", "alloc-instantiate-race")),
         *(plain(words, wide) for words in ("explain", "draw", "check", "--help", "replay --help", "nothing", "replay --all")),
         plain("replay", example("a-bad-line.trace")),
-        plain("explore --seed 7 --runs 3 --deny 100 --kill 10", script),
-        plain("explore --runs 2 --audit", crowd(6)),
+        explored("explore --seed 7 --runs 3 --deny 100 --kill 10", script),
+        explored("explore --runs 2 --audit", crowd(6)),
         plain("schedule --seed 7", script),
-        raced("race --times 2", script),
+        raced("race --times 2", script)._replace(lines=2),
         raced("race --times 1 --cut 2", script),
         raced("race --times 1", crowd(12)),
     ]
@@ -233,15 +245,19 @@ def faults(program: Program, case: Case, pool: ThreadPoolExecutor, judge: Judge 
     if right.refused or judge(case, right, right) or judge is story_fault and right.out != case.right:
         return 0, [f"{name}: with all memory it tells {right.out[-100:]!r}"]
     found, step, whole = [], os.cpu_count() or 1, 0
-    brought = set(case.brought)
+    brought, has_started, has_shown = set(case.brought), False, False
     for first in range(1, MOST, step):
         numbers = range(first, first + step)
         for number, told in zip(numbers, pool.map(lambda n: program.told(case, n), numbers)):
             if wrong := judge(case, right, told):
                 found.append(f"{name}: growth {number}: {wrong}")
             brought = {it for it in brought if it not in told.out}
+            has_started = has_started or told.refused == "t"
+            has_shown = has_shown or (told.status, told.err) == REFUSED and 0 < told.out.count("\n") < case.lines
             if not told.refused:
                 found += [f"{name}: in no run is told {it!r}" for it in sorted(brought)]
+                found += [f"{name}: it starts no thread"] if case.starts and not has_started else []
+                found += [f"{name}: where it lacks memory it never shows what came before"] if case.lines and not has_shown else []
                 many = judge is fault and whole * 3 > number - 1
                 return number - 1, [*found, *([f"{name}: of {number - 1} refused growths {whole} are not told"] if many else [])]
             whole += told.refused == "m" and is_whole(case, right, told)
@@ -328,6 +344,11 @@ def main() -> int:
         room = Room(Path(name))
         tried.add(Program(program, room.library), cases(), fault, pool)
         tried.add(Program(teller, room.library), stories(), story_fault, pool)
+        # an audit takes memory for a picture after each turn: there are several times as many growths with it (the word itself takes some, too)
+        audit, right = plain_words("explore --runs 2 --audit", crowd(6)), Program(program, room.library)
+        without = audit._replace(words="explore --runs 2")
+        is_audited = faults(right, audit, pool)[0] > 2 * faults(right, without, pool)[0]
+        tried.add_wrong(1, [] if is_audited else ["explore --audit takes no more memory than without it: nothing is audited"])
         tried.add_wrong(len(WRONG) + 1, room.unnoticed(program, replay, fault, WRONG, pool))
         for read, wrong in (("c", WRONG_STORIES), ("g", WRONG_STORES)):
             tried.add_wrong(len(wrong) + 1, room.unnoticed(teller, told[read], story_fault, wrong, pool))
