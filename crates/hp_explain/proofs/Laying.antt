@@ -1,6 +1,6 @@
 -- Columns that are laid out one by one.
 use Rattle.std.proofs.Common.{◌≡◌, ℕ, suc, ◌+◌, List, ◌∷◌, [], ◌++◌, sym, ap, ◌∙◌, append_assoc, add-one}
-use Rattle.std.specs.Prelude.{Bool, ◌==◌, slice_index_or}
+use Rattle.std.specs.Prelude.{◌==◌, slice_index_or}
 use Rattle.std.proofs.lemmas.List.{append-nil}
 use Rattle.hp_core.specs.Readers.{phase_of}
 use Rattle.hp_core.specs.State.{CoreState}

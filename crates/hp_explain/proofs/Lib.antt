@@ -1,3 +1,4 @@
 pub mod Laying
+pub mod Widths
 pub mod Happenings
 pub mod Texts

@@ -1,10 +1,9 @@
 -- The head, the rows and the end, one behind the other.
-use Rattle.std.proofs.Common.{◌≡◌, ℕ, ◌+◌, List, [], ◌++◌, length, Option, refl, sym, ap, subst, ◌∙◌, append_assoc}
-use Rattle.std.proofs.Common.{inl, inr}
+use Rattle.std.proofs.Common.{◌≡◌, ℕ, ◌+◌, List, [], ◌++◌, length, Option, refl, sym, ap, subst, ◌∙◌}
+use Rattle.std.proofs.Common.{All, inr}
 use Rattle.std.specs.Prelude.{OnOk, IfErr, Result, Ok, Err}
-use Rattle.std.specs.Io.KnownBytes.{Appends, Keeps}
+use Rattle.std.specs.Io.KnownBytes.{Appends}
 use Rattle.std.proofs.KnownBytes.{Appends-trans}
-use Rattle.std.proofs.lemmas.List.{append-nil}
 use Rattle.hp_base.specs.Text.{Sizes, sizes}
 use Rattle.hp_base.specs.declared.config.Config.{Config}
 use Rattle.hp_base.specs.declared.event.Event.{Event}
@@ -15,22 +14,32 @@ use Rattle.hp_replay.specs.Writing.{Wrote, IsWriteFault}
 use Rattle.hp_replay.specs.declared.fault.ReplayFault.{ReplayFault}
 use Rattle.hp_replay.proofs.Writes.{Wrote-behind, Wrote-more}
 use Rattle.hp_explain.specs.Rows.{head_text, rows_text, end_text}
-use Rattle.hp_explain.specs.Explaining.{RowsWritten, RowsPartlyWritten, Explanation, Beginning, WroteExplanation}
-use Rattle.hp_explain.specs.Explaining.{PartlyExplained, nothing, some_rows, to_the_end}
+use Rattle.hp_explain.specs.Explaining.{RowsWritten, RowsPartlyWritten, Explanation, WroteExplanation}
+use Rattle.hp_explain.specs.Explaining.{PartlyExplained, some_rows, to_the_end}
 use Rattle.hp_explain.specs.Explaining.{NotExplained}
+use Rattle.hp_explain.specs.Widths.{HasRoom}
 
 -- a pool that was opened, and the widths of its columns
-pub record Opened (config : Config) (widths : List ℕ) (first : CoreState) : Type 0 where
+pub record Opened (config : Config) (events : List Event) (widths : List ℕ) (first : CoreState) : Type 0 where
   pub opening : IsOpening config first
   pub width_each : length widths ≡ (sizes config).tasks + 1
+  pub rooms : All (HasRoom (sizes config).tasks widths) events
 
-pub opened : (config : Config) (widths items : List ℕ) (first : CoreState) → IsOpening config first → widths ≡ items
-    → length items ≡ (sizes config).tasks + 1 → Opened config widths first
-opened config widths items first opening same count = record { opening = opening; width_each = ap length same ∙ count }
+pub opened : (config : Config) (events slice : List Event) (widths items : List ℕ) (first : CoreState) → slice ≡ events
+    → IsOpening config first → widths ≡ items → length items ≡ (sizes config).tasks + 1
+    → All (HasRoom (sizes config).tasks items) events → Opened config slice widths first
+opened config events slice widths items first alike opening same count rooms =
+    record {
+      opening = opening;
+      width_each = ap length same ∙ count;
+      rooms =
+          subst (λ (x : List ℕ). All (HasRoom (sizes config).tasks x) slice) (sym same)
+          (subst (All (HasRoom (sizes config).tasks items)) (sym alike) rooms);
+    }
 
 -- a run of all events
 explanation : (config : Config) (events : List Event) (widths : List ℕ) (first new : CoreState) (a b : Option (List ℕ))
-    → Opened config widths first → (r : RowsWritten widths 2 events first new a b)
+    → Opened config events widths first → (r : RowsWritten widths 2 events first new a b)
     → Explanation (sizes config) events (head_text widths ++ (rows_text widths 2 r.happenings ++ end_text new))
 explanation config events widths first new a b o r =
     record {
@@ -40,6 +49,7 @@ explanation config events widths first new a b o r =
       opening = o.opening;
       widths = widths;
       width_each = o.width_each;
+      rooms = o.rooms;
       happenings = r.happenings;
       are_events = r.are_events;
       new = new;
@@ -48,7 +58,7 @@ explanation config events widths first new a b o r =
     }
 
 pub explained : (config : Config) (events : List Event) (widths : List ℕ) (first new : CoreState) (before a b after : Option (List ℕ))
-    → Opened config widths first → Appends before a (head_text widths) → RowsWritten widths 2 events first new a b
+    → Opened config events widths first → Appends before a (head_text widths) → RowsWritten widths 2 events first new a b
     → Appends b after (end_text new) → WroteExplanation (sizes config) events before after
 explained config events widths first new before a b after o head r end =
     record {
@@ -61,7 +71,7 @@ explained config events widths first new before a b after o head r end =
 
 -- the end was not written to its own
 pub end_stopped : (config : Config) (events : List Event) (widths : List ℕ) (first new : CoreState) (before a b after : Option (List ℕ))
-    → Opened config widths first → Appends before a (head_text widths) → RowsWritten widths 2 events first new a b
+    → Opened config events widths first → Appends before a (head_text widths) → RowsWritten widths 2 events first new a b
     → Wrote b after (end_text new) → PartlyExplained (sizes config) events before after
 end_stopped config events widths first new before a b after o head r end =
     to_the_end (head_text widths ++ (rows_text widths 2 r.happenings ++ end_text new)) (explanation config events widths first new a b o r)
@@ -70,7 +80,7 @@ end_stopped config events widths first new before a b after o head r end =
 
 -- nor were the rows
 pub rows_stopped : (config : Config) (events : List Event) (widths : List ℕ) (first : CoreState) (before a after : Option (List ℕ))
-    → Opened config widths first → Appends before a (head_text widths) → RowsPartlyWritten widths 2 events first a after
+    → Opened config events widths first → Appends before a (head_text widths) → RowsPartlyWritten widths 2 events first a after
     → PartlyExplained (sizes config) events before after
 rows_stopped config events widths first before a after o head r =
     some_rows (head_text widths ++ rows_text widths 2 r.happenings)
@@ -81,6 +91,7 @@ rows_stopped config events widths first before a after o head r =
       opening = o.opening;
       widths = widths;
       width_each = o.width_each;
+      rooms = o.rooms;
       happenings = r.happenings;
       rest = r.rest;
       are_events = r.are_events;
@@ -92,7 +103,7 @@ rows_stopped config events widths first before a after o head r =
 
 -- nor was the head
 pub head_stopped : (config : Config) (events : List Event) (widths : List ℕ) (first : CoreState) (before after : Option (List ℕ))
-    → Opened config widths first → Wrote before after (head_text widths) → PartlyExplained (sizes config) events before after
+    → Opened config events widths first → Wrote before after (head_text widths) → PartlyExplained (sizes config) events before after
 head_stopped config events widths first before after o head =
     some_rows (head_text widths ++ rows_text widths 2 [])
     (record {
@@ -102,6 +113,7 @@ head_stopped config events widths first before after o head =
       opening = o.opening;
       widths = widths;
       width_each = o.width_each;
+      rooms = o.rooms;
       happenings = [];
       rest = events;
       are_events = refl;
@@ -114,7 +126,7 @@ head_stopped config events widths first before after o head =
 -- ---- what comes of the end
 
 pub explained_to_the_end : {A : Type 0} (r : Result A ReplayFault) (config : Config) (events slice : List Event) (widths : List ℕ)
-    (first new : CoreState) (before a b after : Option (List ℕ)) → slice ≡ events → Opened config widths first
+    (first new : CoreState) (before a b after : Option (List ℕ)) → slice ≡ events → Opened config slice widths first
     → Appends before a (head_text widths) → RowsWritten widths 2 slice first new a b → OnOk r (Appends b after (end_text new))
     → OnOk r (WroteExplanation (sizes config) events before after)
 explained_to_the_end (Ok x) config events slice widths first new before a b after same o head rows end =
@@ -123,7 +135,7 @@ explained_to_the_end (Ok x) config events slice widths first new before a b afte
 explained_to_the_end (Err fault) config events slice widths first new before a b after same o head rows end = tt
 
 pub stopped_at_the_end : {A : Type 0} (r : Result A ReplayFault) (config : Config) (events slice : List Event) (widths : List ℕ)
-    (first new : CoreState) (before a b after : Option (List ℕ)) → slice ≡ events → Opened config widths first
+    (first new : CoreState) (before a b after : Option (List ℕ)) → slice ≡ events → Opened config slice widths first
     → Appends before a (head_text widths) → RowsWritten widths 2 slice first new a b
     → IfErr r (λ fault. IsWriteFault fault × Wrote b after (end_text new))
     → IfErr r (λ fault. IsWriteFault fault × PartlyExplained (sizes config) events before after)

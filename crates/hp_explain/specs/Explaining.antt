@@ -1,16 +1,16 @@
 -- What is read and written where a trace is explained.
-use Rattle.std.specs.Prelude.{◌≡◌, ℕ, suc, ◌+◌, List, [], ◌∷◌, ◌++◌, length, map, Option, ◌⊎◌}
+use Rattle.std.specs.Prelude.{◌≡◌, ℕ, ◌+◌, List, [], ◌∷◌, ◌++◌, length, map, Option, ◌⊎◌, All}
 use Rattle.std.specs.Io.KnownBytes.{Appends, Keeps}
 use Rattle.hp_base.specs.Text.{Sizes, sizes}
 use Rattle.hp_base.specs.declared.config.Config.{Config}
 use Rattle.hp_base.specs.declared.event.Event.{Event}
-use Rattle.hp_core.specs.Readers.{config_of}
 use Rattle.hp_core.specs.Runs.{Row, IsOpening}
 use Rattle.hp_core.specs.State.{CoreState}
 use Rattle.hp_replay.specs.Collecting.{ReadsTrace, NotRead}
 use Rattle.hp_replay.specs.Writing.{Wrote, IsWriteFault}
 use Rattle.hp_replay.specs.declared.fault.ReplayFault.{ReplayFault}
 use Rattle.hp_explain.specs.Rows.{Happening, head_text, row_text, rows_text, end_text}
+use Rattle.hp_explain.specs.Widths.{HasRoom}
 
 -- A reader had the bytes `from` left, and now has `to`; a writer held `before`, and now holds `after`.
 
@@ -54,7 +54,7 @@ pub record RowsPartlyWritten (widths : List ℕ) (line : ℕ) (events : List Eve
   pub wrote : Wrote before after (rows_text widths line happenings)
 
 -- A run of a trace from the opening state of a pool of these sizes, and the widths of its columns: one for each task of the
--- pool, and one for what is of none. Its events are lines 2 and on of the trace
+-- pool, and one for what is of none, each with room for its events. Its events are lines 2 and on of the trace
 pub record Explanation (s : Sizes) (events : List Event) (text : List ℕ) : Type 0 where
   pub config : Config
   pub sizes_are : sizes config ≡ s
@@ -62,6 +62,7 @@ pub record Explanation (s : Sizes) (events : List Event) (text : List ℕ) : Typ
   pub opening : IsOpening config first
   pub widths : List ℕ
   pub width_each : length widths ≡ s.tasks + 1
+  pub rooms : All (HasRoom s.tasks widths) events
   pub happenings : List Happening
   pub are_events : events_of happenings ≡ events
   pub new : CoreState
@@ -82,6 +83,7 @@ pub record Beginning (s : Sizes) (events : List Event) (text : List ℕ) : Type 
   pub opening : IsOpening config first
   pub widths : List ℕ
   pub width_each : length widths ≡ s.tasks + 1
+  pub rooms : All (HasRoom s.tasks widths) events
   pub happenings : List Happening
   pub rest : List Event
   pub are_events : events_of happenings ++ rest ≡ events

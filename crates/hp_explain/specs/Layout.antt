@@ -1,5 +1,5 @@
 -- How a row is laid out: a number at the left, a column for each task that appears, and three numbers at the right.
-use Rattle.std.specs.Prelude.{ℕ, zero, suc, ◌-◌, ◌^◌, ◌<◌, Bool, false, ◌==◌, ◌||◌, nat_lt, List, [], ◌∷◌, ◌++◌, length, ℤ}
+use Rattle.std.specs.Prelude.{ℕ, zero, suc, ◌-◌, ◌^◌, Bool, ◌==◌, ◌||◌, nat_lt, List, [], ◌∷◌, ◌++◌, length, ℤ}
 use Rattle.std.specs.Prelude.{codes, slice_index_or, if◌then◌else◌}
 use Rattle.std.specs.Fmt.{decimal, format_spec, styled_decimal, styled_signed_decimal}
 

@@ -1,4 +1,5 @@
 pub mod Layout
 pub mod Words
+pub mod Widths
 pub mod Rows
 pub mod Explaining

@@ -1,6 +1,8 @@
 //! How wide the columns are to be.
-ghost use Rattle.std.specs.Prelude.{◌≡◌, ◌+◌, IfOk, length};
+ghost use Rattle.std.specs.Prelude.{◌≡◌, ◌≤◌, ◌<◌, ◌+◌, ◌-◌, ◌^◌, All, IfOk, OnOk, length, min, slice_index_or};
 ghost use Rattle.hp_base.specs.Text.{sizes};
+ghost use Rattle.hp_core.specs.Readers.{config_of};
+ghost use Rattle.hp_explain.specs.Widths.{HasRoom, NoneNarrower};
 
 use crate::words::{column_of, lay_cell};
 use hp_base::{Answer, Event};
@@ -22,7 +24,8 @@ fn no_columns(alloc: Global, tasks: u32) -> Result<Vec<usize>, AllocError>
 
 /// Makes room for a text in a column, with a space behind it.
 fn widen(widths: &mut [usize], column: usize, text: &str)
-    ensures { length widths.new ≡ length widths.old }
+    ensures grows { NoneNarrower widths.old widths.new }
+    ensures room { column < length widths.old → min (length text.now + 1) (2 ^ 64 - 1) ≤ slice_index_or widths.new column 0 }
 {
     if column < widths.len() {
         let width = text.len().saturating_add(1);
@@ -37,7 +40,10 @@ fn measure_event(
     widths: &mut [usize],
     cell: &mut String,
 ) -> Result<(), AllocError>
-    ensures { length widths.new ≡ length widths.old }
+    requires { length widths.old ≡ (config_of core.old).tasks + 1 }
+    ensures grows { OnOk result (NoneNarrower widths.old widths.new) }
+    ensures room { OnOk result (HasRoom (config_of core.old).tasks widths.new event) }
+    ensures config { OnOk result (config_of core.new ≡ config_of core.old) }
 {
     // The checker of borrows asks for a mention of the types that an outcome may hold.
     let _no_answer: Option<Answer> = None;
@@ -58,7 +64,8 @@ pub(crate) fn measure(
     trace: &Trace,
     cell: &mut String,
 ) -> Result<Vec<usize>, AllocError>
-    ensures { IfOk result (λ widths. length widths.items ≡ (sizes trace.now.config).tasks + 1) }
+    ensures count { IfOk result (λ widths. length widths.items ≡ (sizes trace.now.config).tasks + 1) }
+    ensures rooms { IfOk result (λ widths. All (HasRoom (sizes trace.now.config).tasks widths.items) trace.now.events.items) }
 {
     let mut widths = no_columns(alloc, trace.config.tasks)?;
     let mut core = Core::new(alloc, trace.config)?;
