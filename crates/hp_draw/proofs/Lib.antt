@@ -1,2 +1,4 @@
 pub mod Pieces
 pub mod Runs
+pub mod Columns
+pub mod Placing

@@ -1,9 +1,9 @@
 -- Runs, and what is drawn of them, event by event.
-use Rattle.std.proofs.Common.{◌≡◌, ℕ, zero, suc, ◌+◌, ◌<◌, ◌≤◌, List, [], ◌∷◌, ◌++◌, length, take, get_or, Option, refl, sym}
+use Rattle.std.proofs.Common.{◌≡◌, ℕ, suc, ◌+◌, ◌<◌, ◌≤◌, List, [], ◌∷◌, ◌++◌, length, take, get_or, Option, refl, sym}
 use Rattle.std.proofs.Common.{ap, subst, ◌∙◌, append_assoc, arith, length-append, add-one}
 use Rattle.std.specs.Prelude.{None}
 use Rattle.std.proofs.lemmas.List.{append-nil, take_all, take_more}
-use Rattle.hp_base.specs.Text.{Sizes, sizes}
+use Rattle.hp_base.specs.Text.{sizes}
 use Rattle.hp_base.specs.declared.config.Config.{Config}
 use Rattle.hp_base.specs.declared.event.Event.{Event}
 use Rattle.hp_core.specs.Runs.{Row, IsOpening}

@@ -1,5 +1,5 @@
 -- The counts, as curves.
-use Rattle.std.specs.Prelude.{ℕ, ℤ, pos, ◌+◌, ◌-◌, ◌/◌, ◌==◌, ◌||◌, nat_lt, Bool, List, [], ◌∷◌, ◌++◌, codes, if◌then◌else◌}
+use Rattle.std.specs.Prelude.{ℕ, ℤ, ◌+◌, ◌-◌, ◌/◌, ◌==◌, ◌||◌, nat_lt, List, [], ◌∷◌, ◌++◌, codes, if◌then◌else◌}
 use Rattle.std.specs.Fmt.{decimal, signed_decimal}
 use Rattle.hp_draw.specs.Layouts.{x_of, next_x_of, width_of, upper_base_of, lower_base_of, upper_of, lower_of}
 use Rattle.hp_draw.specs.Shapes.{box_text, words_text, texts}

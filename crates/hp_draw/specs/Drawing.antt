@@ -1,5 +1,5 @@
 -- What is read and written where a trace is drawn.
-use Rattle.std.specs.Prelude.{◌≡◌, ℕ, List, Option, ◌⊎◌}
+use Rattle.std.specs.Prelude.{◌≡◌, ℕ, List, length, Option, ◌⊎◌}
 use Rattle.std.specs.Io.KnownBytes.{Appends, Keeps}
 use Rattle.hp_base.specs.Text.{Sizes}
 use Rattle.hp_base.specs.declared.event.Event.{Event}
@@ -7,16 +7,18 @@ use Rattle.hp_replay.specs.Collecting.{ReadsTrace, NotRead}
 use Rattle.hp_replay.specs.Writing.{Wrote, IsWriteFault}
 use Rattle.hp_replay.specs.declared.fault.ReplayFault.{ReplayFault}
 use Rattle.hp_draw.specs.Pictures.{picture_text}
+use Rattle.hp_draw.specs.Places.{HasPlaces}
 use Rattle.hp_draw.specs.Sketches.{Drawn, IsDrawn}
 use Rattle.hp_draw.specs.declared.layout.Layout.{Layout}
 
 -- A reader had the bytes `from` left, and now has `to`; a writer held `before`, and now holds `after`.
 
--- the text is the picture of a run of these events, laid out in some way
+-- the text is the picture of a run of these events, laid out in some way in which all has its place
 pub record PictureOf (s : Sizes) (events : List Event) (text : List ℕ) : Type 0 where
   pub drawn : Drawn
   pub of_run : IsDrawn s events drawn
   pub layout : Layout
+  pub places : HasPlaces (length events) drawn layout
   pub is : text ≡ picture_text layout s drawn
 
 -- such a text was written

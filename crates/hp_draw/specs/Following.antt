@@ -1,6 +1,5 @@
 -- What an event changes of what is drawn.
-use Rattle.std.specs.Prelude.{ℕ, ◌+◌, ◌-◌, ◌==◌, ◌&&◌, nat_le, Bool, true, false, not, Option, Some, None, if◌then◌else◌}
-use Rattle.hp_base.specs.declared.answer.Answer.{Answer}
+use Rattle.std.specs.Prelude.{ℕ, ◌-◌, ◌==◌, ◌&&◌, nat_le, Bool, true, false, not, Option, Some, None, if◌then◌else◌}
 use Rattle.hp_base.specs.declared.event.Event.{Event}
 use Rattle.hp_base.specs.declared.event.Event.TheVariants.{Begin, Step, Kill, Resize}
 use Rattle.hp_machine.specs.declared.outcome.Outcome.{Outcome}

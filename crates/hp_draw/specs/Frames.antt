@@ -1,5 +1,5 @@
 -- What stands round the picture: its head, its legend, and the numbers of lines.
-use Rattle.std.specs.Prelude.{ℕ, zero, suc, ◌+◌, ◌-◌, ◌*◌, ◌/◌, ◌%◌, ◌==◌, List, [], ◌++◌, codes, max, if◌then◌else◌}
+use Rattle.std.specs.Prelude.{ℕ, zero, suc, ◌+◌, ◌*◌, ◌/◌, ◌%◌, ◌==◌, List, [], ◌++◌, codes, max, if◌then◌else◌}
 use Rattle.std.specs.Fmt.{decimal}
 use Rattle.hp_draw.specs.Layouts.{x_of, lower_base_of}
 use Rattle.hp_draw.specs.Shapes.{box_text, words_text, line_text}

@@ -1,18 +1,15 @@
 -- The lanes of tasks, and the stays in them.
-use Rattle.std.specs.Prelude.{ℕ, zero, suc, ◌+◌, ◌-◌, ◌/◌, ◌==◌, nat_le, nat_lt, List, [], ◌∷◌, ◌++◌, length, Option, Some}
+use Rattle.std.specs.Prelude.{ℕ, zero, suc, ◌+◌, ◌-◌, ◌/◌, ◌==◌, nat_le, nat_lt, List, [], ◌++◌, length, Option, Some}
 use Rattle.std.specs.Prelude.{None, get_or, codes, if◌then◌else◌}
 use Rattle.std.specs.Fmt.{decimal}
 use Rattle.hp_base.specs.Text.{answer_text, op_text}
-use Rattle.hp_base.specs.declared.answer.Answer.{Answer}
 use Rattle.hp_base.specs.declared.event.Op.{Op}
 use Rattle.hp_base.specs.declared.event.Op.TheVariants.{Map, MapNoReserve, Unmap, Load, Store, Alloc, Punch, Truncate, Exit}
 use Rattle.hp_machine.specs.Text.{phase_word}
-use Rattle.hp_machine.specs.declared.phase.Phase.{Phase}
 use Rattle.hp_draw.specs.Layouts.{x_of, width_of, top_of}
 use Rattle.hp_draw.specs.Shapes.{box_text, words_text, upright_text, line_text}
 use Rattle.hp_draw.specs.declared.following.Next.{Next}
 use Rattle.hp_draw.specs.declared.following.Next.TheVariants.{GoesOn, Ended, InFlight}
-use Rattle.hp_draw.specs.declared.following.Standing.{Standing}
 use Rattle.hp_draw.specs.declared.following.Stay.{Stay}
 use Rattle.hp_draw.specs.declared.layout.Layout.{Layout}
 use Rattle.hp_draw.specs.declared.layout.TheConstants.{LEFT}

@@ -1,6 +1,7 @@
 pub mod Following
 pub mod Sketches
 pub mod Layouts
+pub mod Places
 pub mod Shapes
 pub mod Lanes
 pub mod Marks

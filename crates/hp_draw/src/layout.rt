@@ -1,6 +1,8 @@
 //! Where things stand in the picture.
-ghost use Rattle.std.specs.Prelude.{◌≡◌, ◌≤◌, ◌<◌, ◌^◌, None, length, get_or};
+ghost use Rattle.std.specs.Prelude.{◌≡◌, ◌≤◌, ◌<◌, ◌^◌, All, IfOk, IsTrue, None, false, true, get_or, is_some, length, map, slice_set};
 ghost use Rattle.hp_draw.specs.Layouts.{x_of, next_x_of, width_of, top_of, upper_base_of, lower_base_of, upper_of, lower_of};
+ghost use Rattle.hp_draw.specs.Places.{HasPlaces, HaveRoom, InColumns, StandBelow};
+ghost use Rattle.hp_draw.specs.Sketches.{seen};
 
 use crate::following::Numbers;
 use crate::sketch::Sketch;
@@ -17,7 +19,7 @@ pub(crate) const UPPER: u64 = 80;
 
 pub(crate) const LOWER: u64 = 112;
 
-/// Where things stand in the picture. It is laid out by eye: nothing is promised of it.
+/// Where things stand in the picture. All has its place there; where that is is laid out by eye.
 #[derive(Drop)]
 pub(crate) struct Layout {
     /// How many events there are.
@@ -38,7 +40,9 @@ pub(crate) struct Layout {
 }
 
 /// How wide an event is: a few are wide enough for words, many are narrow, and of very many the picture isn't too wide.
-fn step_of(events: u32) -> u16 {
+fn step_of(events: u32) -> u16
+    ensures { 0 < result }
+{
     if events <= 2000 {
         (1440 / events.max(1)).max(14).min(60) as u16
     } else {
@@ -58,19 +62,29 @@ fn tick_of(step: u16) -> u16 {
 }
 
 /// How high a box is: where events are narrow, words stand upright in it.
-fn tall_of(step: u16) -> u16 {
+fn tall_of(step: u16) -> u16
+    ensures some { 0 < result }
+    ensures most { result ≤ 66 }
+{
     if step >= 60 { 32 } else { 66 }
 }
 
 /// Notes that a column has events.
-fn appear(seen: &mut [bool], column: usize) {
+fn appear(seen: &mut [bool], column: usize)
+    ensures { seen.new ≡ slice_set seen.old column true }
+{
     if column < seen.len() {
         seen[column] = true;
     }
 }
 
 /// Which columns have something in them.
-fn columns_seen(alloc: Global, sketch: &Sketch) -> Result<Vec<bool>, AllocError> {
+fn columns_seen(alloc: Global, sketch: &Sketch) -> Result<Vec<bool>, AllocError>
+    requires { InColumns (seen sketch.now) }
+    ensures count { IfOk result (λ found. length found.items ≡ length sketch.now.standings.items) }
+    ensures stays { IfOk result (λ found. All (λ s. IsTrue (get_or found.items s.column false)) sketch.now.stays.items) }
+    ensures marks { IfOk result (λ found. All (λ m. IsTrue (get_or found.items m.column false)) sketch.now.marks.items) }
+{
     let mut seen = Vec::new(alloc);
     for _column in 0..sketch.standings.len() {
         seen.push(false)?;
@@ -89,13 +103,18 @@ fn place_lanes(
     alloc: Global,
     seen: &[bool],
     tall: u16,
-) -> Result<(Vec<Option<u32>>, u32), AllocError> {
+) -> Result<(Vec<Option<u32>>, u32), AllocError>
+    requires few { length seen.now ≤ 65 }
+    requires tall { tall ≤ 66 }
+    ensures each { IfOk result (λ placed. map is_some placed.0.items ≡ seen.now) }
+    ensures lanes { IfOk result (λ placed. StandBelow tall TOP placed.0.items placed.1) }
+{
     let mut tops = Vec::new(alloc);
     let mut foot = TOP;
     for is_seen in seen {
         if *is_seen {
-            tops.push(Some(foot.saturating_add(18)))?;
-            foot = foot.saturating_add(u32::from(tall) + 36);
+            tops.push(Some(foot + 18))?;
+            foot += u32::from(tall) + 36;
         } else {
             tops.push(None)?;
         }
@@ -104,8 +123,10 @@ fn place_lanes(
 }
 
 /// The most of each kind of count.
-fn most_of(numbers: &[Numbers]) -> (u32, u32) {
-    let (mut most_free, mut most_resv) = (1, 1);
+fn most_of(numbers: &[Numbers]) -> (u32, u32)
+    ensures { All (HaveRoom result.0 result.1) numbers.now }
+{
+    let (mut most_free, mut most_resv) = (1_u32, 1_u32);
     for counts in numbers {
         most_free = most_free.max(counts.free).max(counts.resv);
         most_resv = most_resv.max(counts.resv).max(counts.bare);
@@ -119,7 +140,10 @@ pub(crate) fn lay_out(
     events: &[Event],
     sketch: &Sketch,
 ) -> Result<Layout, AllocError>
-    requires { length events.now ≤ MOST_EVENTS }
+    requires events { length events.now ≤ MOST_EVENTS }
+    requires columns { InColumns (seen sketch.now) }
+    requires few { length sketch.now.standings.items ≤ 65 }
+    ensures { IfOk result (HasPlaces (length events.now) (seen sketch.now)) }
 {
     let events = events.len() as u32;
     let step = step_of(events);

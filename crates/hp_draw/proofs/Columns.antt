@@ -1,0 +1,167 @@
+-- Each stay and each mark of a run stands in a column.
+use Rattle.std.proofs.Common.{◌≡◌, ℕ, zero, suc, ◌+◌, ◌<◌, ◌≤◌, Bool, true, false, List, [], ◌∷◌, ◌++◌, length, Option, All, sym, ap, subst, ◌∙◌}
+use Rattle.std.proofs.Common.{arith, length-set, get_or}
+use Rattle.std.specs.Prelude.{Some, None, IfSome, if◌then◌else◌}
+use Rattle.std.proofs.lemmas.Bool.Decides.{nat_tests}
+use Rattle.std.proofs.lemmas.List.{length-replicate}
+use Rattle.std.proofs.lemmas.List.Elements.{All-nil, All-cons, All-append, All-weaker}
+use Rattle.hp_base.specs.Limits.{IsWithinLimits}
+use Rattle.hp_base.specs.Text.{Sizes, sizes}
+use Rattle.hp_base.specs.declared.config.Config.{Config}
+use Rattle.hp_base.specs.declared.event.Event.{Event}
+use Rattle.hp_base.specs.declared.event.Event.TheVariants.{Begin, Step, Kill, Resize}
+use Rattle.hp_core.specs.Readers.{config_of}
+use Rattle.hp_core.specs.Runs.{Row, IsOpening}
+use Rattle.hp_core.specs.State.{CoreState}
+use Rattle.hp_machine.specs.declared.outcome.Outcome.{Outcome}
+use Rattle.hp_draw.specs.Following.{column_of, column_of_task, phase_in, standing_after, stay_in, stay_left}
+use Rattle.hp_draw.specs.Following.{has_moved, next_of, mark_of, mark_with, sign_of}
+use Rattle.hp_draw.specs.Places.{InColumns}
+use Rattle.hp_draw.specs.Sketches.{Happening, Happens, Drawn, IsDrawn, nothing_drawn, after, after_all, listed, stays_in}
+use Rattle.hp_draw.specs.declared.following.Sign.{Sign}
+use Rattle.hp_draw.specs.declared.following.Standing.{Standing}
+use Rattle.hp_draw.specs.declared.following.Stay.{Stay}
+
+-- so many columns, and all stands in one of them
+record Inside (n : ℕ) (d : Drawn) : Type 0 where
+  count : length d.standings ≡ n
+  stays : All (λ s. s.column < n) d.stays
+  marks : All (λ m. m.column < n) d.marks
+
+task_inside : (tasks task : ℕ) → column_of_task tasks task < tasks + 1
+task_inside tasks task = grind (arith, nat_tests)
+
+event_inside : (tasks : ℕ) (e : Event) → column_of tasks e < tasks + 1
+event_inside tasks (Begin task op) = task_inside tasks task
+event_inside tasks (Step task granted) = task_inside tasks task
+event_inside tasks (Kill task) = task_inside tasks task
+event_inside tasks (Resize frames) = omega arith
+
+-- what is added, if anything is
+
+listed_all : {A : Type 0} (P : A → Type 0) (o : Option A) → IfSome o P → All P (listed o)
+listed_all P None h = All-nil P
+listed_all P (Some x) h = All-cons P x [] h (All-nil P)
+
+if_stay : (n : ℕ) (b : Bool) (s : Stay) → s.column < n → IfSome (if b then Some s else None) (λ x. x.column < n)
+if_stay n true s h = h
+if_stay n false s h = tt
+
+left_inside : (n column at : ℕ) (before now : Option Standing) (told : Outcome) → column < n
+    → IfSome (stay_left column at before now told) (λ x. x.column < n)
+left_inside n column at None now told h = tt
+left_inside n column at (Some s) now told h =
+    if_stay n (has_moved s now) (record { column = column; standing = s; until = at; next = next_of told }) h
+
+in_inside : (n column at : ℕ) (standing : Option Standing) → column < n → IfSome (stay_in column at standing) (λ x. x.column < n)
+in_inside n column at None h = tt
+in_inside n column at (Some s) h = h
+
+mark_inside : (n column at : ℕ) (sign : Option Sign) → column < n → IfSome (mark_with column at sign) (λ x. x.column < n)
+mark_inside n column at None h = tt
+mark_inside n column at (Some s) h = h
+
+-- an event of one of the columns
+after_inside : (tasks at : ℕ) (d : Drawn) (h : Happening) → (config_of h.core).tasks ≡ tasks → Inside (tasks + 1) d
+    → Inside (tasks + 1) (after at d h)
+unfolding after
+after_inside tasks at d h same i =
+    record {
+      count = length-set d.standings column now ∙ i.count;
+      stays =
+          All-append (λ s. s.column < tasks + 1) d.stays (listed (stay_left column at before now h.told)) i.stays
+          (listed_all (λ s. s.column < tasks + 1) (stay_left column at before now h.told)
+          (left_inside (tasks + 1) column at before now h.told there));
+      marks =
+          All-append (λ m. m.column < tasks + 1) d.marks (listed (mark_of column at h.event h.told)) i.marks
+          (listed_all (λ m. m.column < tasks + 1) (mark_of column at h.event h.told)
+          (mark_inside (tasks + 1) column at (sign_of h.event h.told) there));
+    }
+  where
+    column : ℕ
+    column = column_of (config_of h.core).tasks h.event
+
+    before : Option Standing
+    before = get_or d.standings column None
+
+    now : Option Standing
+    now = standing_after before at h.event h.told (phase_in h.core column)
+
+    there : column < tasks + 1
+    there = subst (λ (n : ℕ). column < n + 1) same (event_inside (config_of h.core).tasks h.event)
+
+-- the config stays
+row_keeps : (old new : CoreState) (e : Event) (told : Outcome) → Row old e told new → config_of new ≡ config_of old
+unfolding Row config_of
+row_keeps old new e told row = row.1
+
+-- one event after the other
+all_inside : (tasks at : ℕ) (d : Drawn) (old new : CoreState) (list : List Happening) → (config_of old).tasks ≡ tasks
+    → Happens old list new → Inside (tasks + 1) d → Inside (tasks + 1) (after_all at d list)
+unfolding after_all
+all_inside tasks at d old new [] same happens i = i
+all_inside tasks at d old new (h ∷ more) same happens i =
+    all_inside tasks (suc at) (after at d h) h.core new more kept happens.1 (after_inside tasks at d h kept i)
+  where
+    kept : (config_of h.core).tasks ≡ tasks
+    kept = ap (λ (s : Sizes). s.tasks) (row_keeps old h.core h.event h.told happens.0) ∙ same
+
+-- the calls in flight at the end
+flight_inside : (at : ℕ) (standings : List (Option Standing)) (n : ℕ) → All (λ s. s.column < n) (stays_in at standings n)
+unfolding stays_in
+flight_inside at standings zero = All-nil (λ s. s.column < 0)
+flight_inside at standings (suc n) =
+    All-append (λ s. s.column < suc n) (stays_in at standings n) _
+    (All-weaker (λ s. s.column < n) (λ s. s.column < suc n) (λ s lt. omega (arith, lt)) (stays_in at standings n) (flight_inside at standings n))
+    (listed_all (λ s. s.column < suc n) _ (in_inside (suc n) n at _ (omega arith)))
+
+opened : (config : Config) (first : CoreState) → IsOpening config first → config_of first ≡ sizes config
+unfolding IsOpening config_of
+opened config first opening = opening.0
+
+nothing_inside : (tasks : ℕ) → Inside (tasks + 1) (nothing_drawn tasks)
+nothing_inside tasks =
+    record {
+      count = length-replicate (tasks + 1) None;
+      stays = All-nil (λ s. s.column < tasks + 1);
+      marks = All-nil (λ m. m.column < tasks + 1);
+    }
+
+run_inside : (s : Sizes) (events : List Event) (d : Drawn) (r : IsDrawn s events d)
+    → Inside (s.tasks + 1) (after_all 0 (nothing_drawn s.tasks) r.happenings)
+run_inside s events d r =
+    all_inside s.tasks 0 (nothing_drawn s.tasks) r.first r.new r.happenings
+    (ap (λ (z : Sizes). z.tasks) (opened r.config r.first r.opening ∙ r.sizes_are)) r.happens (nothing_inside s.tasks)
+
+-- what is drawn of a run has a column for each task, and one for what is of none
+pub columns_count : (s : Sizes) (events : List Event) (d : Drawn) → IsDrawn s events d → length d.standings ≡ s.tasks + 1
+columns_count s events d r = ap (λ (x : Drawn). length x.standings) r.is ∙ (run_inside s events d r).count
+
+-- and all stands in them
+pub in_columns : (s : Sizes) (events : List Event) (d : Drawn) → IsDrawn s events d → InColumns d
+in_columns s events d r = subst InColumns (sym r.is) whole
+  where
+    ran : Drawn
+    ran = after_all 0 (nothing_drawn s.tasks) r.happenings
+
+    i : Inside (s.tasks + 1) ran
+    i = run_inside s events d r
+
+    whole : InColumns (record {
+      standings = ran.standings;
+      stays = ran.stays ++ stays_in (length r.happenings) ran.standings (length ran.standings);
+      marks = ran.marks;
+      numbers = ran.numbers;
+    })
+    whole =
+        record {
+          stays =
+              All-append (λ s. s.column < length ran.standings) ran.stays _
+              (subst (λ (n : ℕ). All (λ s. s.column < n) ran.stays) (sym i.count) i.stays)
+              (flight_inside (length r.happenings) ran.standings (length ran.standings));
+          marks = subst (λ (n : ℕ). All (λ m. m.column < n) ran.marks) (sym i.count) i.marks;
+        }
+
+-- they are few
+pub few_columns : (a b c d n : ℕ) → n ≡ d + 1 → IsWithinLimits a b c d → n ≤ 65
+few_columns a b c d n count h = grind (arith, nat_tests, count, h)
