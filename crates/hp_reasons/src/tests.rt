@@ -54,6 +54,27 @@ fn what_is_wrong_with_events(rt: HostRuntime) -> Result<(), Fail> {
 }
 
 #[test]
+fn how_many_words_each_event_has(rt: HostRuntime) -> Result<(), Fail> {
+    for (line, wanted) in [
+        ("begin 1 map 0 0", "there are 5 words, a map has 6"),
+        ("begin 1 mapn 0 0", "there are 5 words, a mapn has 6"),
+        ("begin 1 alloc 0 0", "there are 5 words, an alloc has 6"),
+        ("begin 1 allock 0 0", "there are 5 words, an allock has 6"),
+        ("begin 1 punch 0 0", "there are 5 words, a punch has 6"),
+        ("begin 1 trunc 0", "there are 4 words, a trunc has 5"),
+        ("begin 1 trunc 0 01", "01 begins with a zero"),
+        ("begin 1 load", "there are 3 words, a load has 4"),
+        ("begin 1 unmap", "there are 3 words, an unmap has 4"),
+        ("step", "there are 1 words, a step has 2"),
+        ("deny", "there are 1 words, a deny has 2"),
+        ("kill", "there are 1 words, a kill has 2"),
+    ] {
+        assert_eq!(rt; said(rt.alloc(), line.as_bytes(), 2)?.as_str(), wanted);
+    }
+    Ok(())
+}
+
+#[test]
 fn what_is_wrong_with_headers(rt: HostRuntime) -> Result<(), Fail> {
     for (line, wanted) in [
         ("pool 0 1 1 1", "there are 0 frames, a pool has 1 to 4096"),
