@@ -1,9 +1,9 @@
-//! Ends that are refused, and journals that are no interleaving.
+//! Ends that are refused, journals that are no interleaving, and the texts of faults.
 ghost use Rattle.std.specs.Prelude.{◌≡◌};
 
 use hp_base::{Answer, Config, Event, Op, Task};
 use hp_core::{Outcome, Refusal};
-use hp_shared::{CloseFault, Entry, Open, Reply, Shared, interleaved, resume};
+use hp_shared::{CloseFault, CutFault, Entry, Open, Reply, Shared, interleaved, resume};
 use std::alloc::Global;
 use std::marker::Brand;
 use std::sync::Wait;
@@ -74,5 +74,46 @@ fn a_journal_that_is_no_interleaving(rt: HostRuntime) -> Result<(), Fail> {
     assert_eq!(rt; interleaved(alloc, &[a, b], lists.as_slice())?, Ok(()));
     assert_eq!(rt; interleaved(alloc, &[b, a], lists.as_slice())?, Err(0));
     assert_eq!(rt; interleaved(alloc, &[a], lists.as_slice())?, Err(1));
+    Ok(())
+}
+
+#[test]
+fn why_a_pool_is_not_closed(rt: HostRuntime) -> Result<(), Fail> {
+    for (fault, text) in [
+        (
+            CloseFault::SeatMissing(Task::new(2)),
+            "the seat of task 2 is missing",
+        ),
+        (
+            CloseFault::Disagree(7),
+            "the seats' lists and the journal disagree at position 7",
+        ),
+        (CloseFault::Memory, "out of memory"),
+    ] {
+        assert_eq!(rt; format!(in rt.alloc(); "{fault}")?.as_str(), text);
+    }
+    Ok(())
+}
+
+#[test]
+fn why_a_journal_is_not_cut(rt: HostRuntime) -> Result<(), Fail> {
+    for (fault, text) in [
+        (
+            CutFault::SeatMissing(Task::new(2)),
+            "the seat of task 2 is missing",
+        ),
+        (
+            CutFault::InFlight(Task::new(2)),
+            "task 2 has a call in flight",
+        ),
+        (CutFault::Full, "no position is left"),
+        (
+            CutFault::Disagree(7),
+            "the seats' lists and the journal disagree at position 7",
+        ),
+        (CutFault::Memory, "out of memory"),
+    ] {
+        assert_eq!(rt; format!(in rt.alloc(); "{fault}")?.as_str(), text);
+    }
     Ok(())
 }
