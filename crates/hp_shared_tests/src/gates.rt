@@ -1,12 +1,20 @@
-//! Gates by which threads meet.
-use hp_base::Task;
+//! Gates by which threads meet, one that refuses, and holds by which it is told who waits.
+ghost use Rattle.std.specs.Prelude.{◌≡◌};
+
+use hp_base::{Event, Task};
+use hp_core::Outcome;
 use hp_machine::Phase;
-use hp_shared::Gate;
-use std::sync::atomic::{AtomicBool, Ordering};
+use hp_shared::{CallFault, Gate, Hold, Seat, Shared};
+use std::sync::Wait;
+use std::sync::atomic::{AtomicBool, AtomicUsize, Ordering};
+use std::sync::ledger::Ledger;
 use std::thread;
 
 /// How often a thread looks whether a signal was given.
 const TURNS: u32 = 1_000_000;
+
+/// How often others go first, so that one who is about to sleep does.
+const TURNS_TO_SLEEP: u32 = 10_000;
 
 /// What one thread tells another.
 #[derive(Drop)]
@@ -150,5 +158,111 @@ impl Gate for Crossing {
 
     fn grant(&self, _task: Task, _phase: Phase) -> bool {
         true
+    }
+}
+
+/// Refuses the growth that a step wants in a phase.
+#[derive(Drop)]
+pub struct Denying {
+    pub phase: Phase,
+}
+
+impl Gate for Denying {
+    fn between(&self, _task: Task, _phase: Phase) {}
+
+    fn grant(&self, _task: Task, phase: Phase) -> bool {
+        phase != self.phase
+    }
+}
+
+/// Holds a call of several pages where it has the slot of the first, until another call waits for that slot; and again where it
+/// has let the slot go and wants the next, until the other call has ended.
+#[derive(Drop)]
+pub struct BetweenSlots {
+    was_held: AtomicBool,
+    pub there: Signal,
+    pub waiting: Signal,
+    pub ended: Signal,
+}
+
+impl BetweenSlots {
+    pub fn new() -> BetweenSlots {
+        BetweenSlots {
+            was_held: AtomicBool::new(false),
+            there: Signal::new(),
+            waiting: Signal::new(),
+            ended: Signal::new(),
+        }
+    }
+
+    /// Whether nobody waited in vain.
+    pub fn came(&self) -> bool {
+        self.there.came() && self.waiting.came() && self.ended.came()
+    }
+
+    fn hold(&self) {
+        self.was_held.store(true, Ordering::SeqCst);
+        self.there.give();
+        self.waiting.wait();
+        for _ in 0..TURNS_TO_SLEEP {
+            thread::yield_now();
+        }
+    }
+}
+
+impl Gate for BetweenSlots {
+    fn between(&self, _task: Task, phase: Phase) {
+        let was_held = self.was_held.load(Ordering::SeqCst);
+        match phase {
+            Phase::Locked if !was_held => self.hold(),
+            Phase::Want if was_held => self.ended.wait(),
+            _ => {}
+        }
+    }
+
+    fn grant(&self, _task: Task, _phase: Phase) -> bool {
+        true
+    }
+}
+
+/// The holds of a pool, by which it is told that somebody waits, and counted how often one was blocked.
+#[derive(Drop)]
+pub struct Telling<'a, L: Ledger> {
+    shared: &'a Shared<L>,
+    waiting: &'a Signal,
+    blocked: AtomicUsize,
+}
+
+impl<'a, L: Ledger> Telling<'a, L> {
+    pub fn new(shared: &'a Shared<L>, waiting: &'a Signal) -> Telling<'a, L> {
+        Telling {
+            shared,
+            waiting,
+            blocked: AtomicUsize::new(0),
+        }
+    }
+
+    pub fn blocked(&self) -> usize {
+        self.blocked.load(Ordering::SeqCst)
+    }
+}
+
+impl<'a, L: Ledger> Hold<L> for Telling<'a, L> {
+    fn attempt<R: Wait>(
+        &self,
+        rt: &R,
+        seat: &mut Seat<L>,
+        event: Event,
+    ) -> Result<Outcome, CallFault> {
+        let told = self.shared.attempt(rt, seat, event);
+        if matches!(told, Ok(Outcome::Blocked(_))) {
+            self.blocked.fetch_add(1, Ordering::SeqCst);
+        }
+        told
+    }
+
+    fn pause<R: Wait>(&self, rt: &R, seat: &Seat<L>) {
+        self.waiting.give();
+        self.shared.pause(rt, seat);
     }
 }

@@ -19,3 +19,5 @@ pub mod numbers;
 mod races;
 #[cfg(test)]
 mod rounds;
+#[cfg(test)]
+mod waiting;
