@@ -8,13 +8,16 @@ use hp_shared::{CallFault, Gate, Hold, Seat, Shared};
 use std::sync::Wait;
 use std::sync::atomic::{AtomicBool, AtomicUsize, Ordering};
 use std::sync::ledger::Ledger;
-use std::thread;
+use std::{hint, thread};
 
 /// How often a thread looks whether a signal was given.
 const TURNS: u32 = 1_000_000;
 
-/// How often others go first, so that one who is about to sleep does.
-const TURNS_TO_SLEEP: u32 = 10_000;
+/// How often others go first, and how long each time, so that one who is about to sleep does. On a busy processor a turn takes
+/// milliseconds, so there are few.
+const TURNS_TO_SLEEP: u32 = 100;
+
+const SPINS: u32 = 200;
 
 /// What one thread tells another.
 #[derive(Drop)]
@@ -206,6 +209,9 @@ impl BetweenSlots {
         self.waiting.wait();
         for _ in 0..TURNS_TO_SLEEP {
             thread::yield_now();
+            for _ in 0..SPINS {
+                hint::spin_loop();
+            }
         }
     }
 }
