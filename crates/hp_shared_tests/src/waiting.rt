@@ -135,7 +135,7 @@ fn a_pool_of_two<L: Ledger + Send + Sync, R: Threads + Wait + Sync>(
     a_store_waits(rt, &shared, first, second)
 }
 
-/// The store is woken while the punch goes on, and before that it sleeps: it is blocked once and asks no more until the slot is free.
+/// The store ends while the punch still wants its next slot, and it is blocked once: it asks no more until its slot is free.
 #[test]
 fn a_store_sleeps_until_its_slot_is_free(rt: HostRuntime) -> Result<(), Fail> {
     let config = Config::new(4, 1, 4, 2)?;
