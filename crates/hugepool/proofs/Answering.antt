@@ -1,33 +1,28 @@
--- What is answered of a script or of a checked trace.
-use Rattle.std.proofs.Common.{◌≡◌, ℕ, List, [], Option, Some, None, Bool, true, false, refl, sym, subst, ◌∙◌}
+-- What is answered of a script whose runs or races are told, in lines to an output without a buffer.
+use Rattle.std.proofs.Common.{◌≡◌, ℕ, List, Option, Some, None, Bool, true, false, refl, sym, subst, inl, inr, arith}
 use Rattle.std.specs.Prelude.{OnOk, OnErr, IfErr, IfOk, IfSome, Result, Ok, Err, map}
-use Rattle.std.specs.Io.KnownBytes.{Appends, Keeps, append_known}
+use Rattle.std.specs.Io.KnownBytes.{Keeps}
 use Rattle.std.proofs.KnownBytes.{Appends-kept, Keeps-trans}
-use Rattle.hp_base.specs.Text.{Sizes, sizes}
-use Rattle.hp_base.specs.declared.event.Event.{Event}
-use Rattle.hp_explore.specs.Explored.{IsExplored}
-use Rattle.hp_explore.specs.declared.line.RunLine.{RunLine}
+use Rattle.hp_base.specs.Text.{sizes}
 use Rattle.hp_explore.specs.declared.script.Script.{Script}
 use Rattle.hp_race.specs.Text.{lines_text as race_lines}
 use Rattle.hp_replay.specs.Collecting.{ReadsTrace}
 use Rattle.hp_replay.specs.declared.exploring.Exploration.{Exploration}
 use Rattle.hp_replay.specs.declared.fault.ReplayFault.{ReplayFault}
 use Rattle.hp_replay.specs.declared.fault.ReplayFault.TheVariants.{BadLine, BadHeader, Read, Write, Memory}
-use Rattle.hp_replay.specs.Checking.{count_line}
-use Rattle.hp_replay.specs.RunLines.{lines_text, WroteRuns}
+use Rattle.hp_replay.specs.RunLines.{lines_text, WroteRuns, WroteSomeRuns}
 use Rattle.hp_replay.specs.Scripts.{begin_of, HasScriptFault}
-use Rattle.hp_replay.specs.Streams.{source_at, TellsReads}
+use Rattle.hp_replay.specs.Streams.{source_at, TellsReads, TellsWrites}
 use Rattle.hp_replay.specs.Traces.{HasFault, trace_text}
-use Rattle.hp_replay.specs.Writing.{IsWriteFault}
+use Rattle.hp_replay.specs.Writing.{IsWriteFault, Wrote}
 use Rattle.hugepool.specs.Endings.{ReaderAt}
-use Rattle.hugepool.specs.Racing.{Races, WroteRacing}
-use Rattle.hugepool.specs.Requests.{Explores, Checks, Schedules, AnsweredBy, AnsweredExplore, AnsweredRace, AnsweredRuns}
-use Rattle.hugepool.specs.declared.command.Scheduling.{Scheduling}
+use Rattle.hugepool.specs.Racing.{Races, RacesPartly, WroteRacing, WroteSomeRacing}
+use Rattle.hugepool.specs.Requests.{Explores, ExploresPartly, NotDone, PartAt, AnsweredExplore, AnsweredRace, AnsweredRuns}
 use Rattle.hugepool.specs.declared.racing.Racing.{Racing}
 use Rattle.hugepool.specs.declared.racing.Racing.TheVariants.{Times, Trace}
 use Rattle.hugepool.specs.declared.program.Stop.{Stop}
 use Rattle.hugepool.specs.declared.program.Stop.TheVariants as stop
-use Rattle.hugepool.proofs.Buffered.{unbuffered}
+use Rattle.hugepool.proofs.Buffered.{all_of}
 
 -- a fault of writing tells nothing of the bytes that were read
 pub no_script_fault : (from : Option (List ℕ)) (fault : ReplayFault) → IsWriteFault fault
@@ -54,50 +49,6 @@ reader_at (BadLine n) old new h = h
 reader_at Read old new h = h
 reader_at Write old new h = tt
 reader_at Memory old new h = h
-
--- what was done reached the output
-pub checks_kept : (from to start before mid after : Option (List ℕ)) → start ≡ before → Keeps mid after → Checks from to start mid
-    → Checks from to before after
-checks_kept from to start before mid after same kept h =
-    subst (λ (x : Option (List ℕ)). Checks from to x after) same
-    (record { events = h.events; reads = h.reads; wrote = Appends-kept start mid after (count_line h.events) h.wrote kept })
-
-pub schedules_kept : (s : Scheduling) (from to before mid after : Option (List ℕ)) → Keeps mid after → Schedules s from to before mid
-    → Schedules s from to before after
-schedules_kept s from to before mid after kept h =
-    record {
-      script = h.script;
-      events = h.events;
-      line = h.line;
-      reads = h.reads;
-      explored = h.explored;
-      wrote = Appends-kept before mid after (trace_text (sizes h.script.config) h.events) h.wrote kept;
-    }
-
--- through a buffer that is empty then
-pub schedules_flushed : (s : Scheduling) (from to start before mid after : Option (List ℕ)) (left : List ℕ) → start ≡ before → left ≡ []
-    → Keeps mid (append_known after left) → Schedules s from to start mid → Schedules s from to before after
-schedules_flushed s from to start before mid after left same empty kept h =
-    let whole : Keeps mid (append_known after []) = subst (λ (x : List ℕ). Keeps mid (append_known after x)) empty kept in
-    subst (λ (x : Option (List ℕ)). Schedules s from to x after) same
-    (schedules_kept s from to start mid after (subst (λ (x : Option (List ℕ)). Keeps mid x) (unbuffered after) whole) h)
-
-pub answered_by : {E : Type 0} (Done : Option (List ℕ) → Type 0) (Bad : ReplayFault → Type 0) (old new : Bool) (after : Option (List ℕ))
-    (written answer : Result (Unit {0}) ReplayFault) (flushed : Result (Unit {0}) E) (told : Result (Unit {0}) Stop)
-    → OnOk written (OnOk flushed (Done after)) → IfErr written Bad → Bad Write → TellsReads written old new
-    → OnOk flushed (answer ≡ written) → OnErr flushed (answer ≡ Err Write)
-    → OnOk answer (told ≡ Ok tt) → IfErr answer (λ fault. told ≡ Err (stop.Replay fault)) → AnsweredBy Done Bad told old new (Some after)
-answered_by Done Bad old new after written answer (Err e) told done bad unwritten reads is not good wrong =
-    let failed : told ≡ Err (stop.Replay Write) =
-    subst (λ (r : Result (Unit {0}) ReplayFault). IfErr r (λ fault. told ≡ Err (stop.Replay fault))) not wrong in
-    subst (λ (t : Result (Unit {0}) Stop). AnsweredBy Done Bad t old new (Some after)) (sym failed) (tt, unwritten)
-answered_by Done Bad old new after (Ok x) answer (Ok y) told done bad unwritten reads is not good wrong =
-    let ended : told ≡ Ok tt = subst (λ (r : Result (Unit {0}) ReplayFault). OnOk r (told ≡ Ok tt)) is good in
-    subst (λ (t : Result (Unit {0}) Stop). AnsweredBy Done Bad t old new (Some after)) (sym ended) (reads, done)
-answered_by Done Bad old new after (Err fault) answer (Ok y) told done bad unwritten reads is not good wrong =
-    let failed : told ≡ Err (stop.Replay fault) =
-    subst (λ (r : Result (Unit {0}) ReplayFault). IfErr r (λ fault. told ≡ Err (stop.Replay fault))) is wrong in
-    subst (λ (t : Result (Unit {0}) Stop). AnsweredBy Done Bad t old new (Some after)) (sym failed) (reader_at fault old new reads, bad)
 
 explores_kept : (e : Exploration) (finished : Bool) (from to start before mid after : Option (List ℕ)) → start ≡ before → Keeps mid after
     → Explores e finished from to start mid → Explores e finished from to before after
@@ -137,98 +88,193 @@ races_kept r closed from to start before mid after same kept h =
     subst (λ (x : Option (List ℕ)). Races r closed from to x after) same
     (record { script = h.script; reads = h.reads; wrote = wrote_kept r h.script closed start mid after kept h.wrote })
 
+-- what was written where a fault is told, by an output that has no buffer
+part_at : (Partly : Option (List ℕ) → Type 0) (fault : ReplayFault) (old new : Bool) (before after : Option (List ℕ))
+    → NotDone (Partly after) fault old new before after → PartAt Partly fault before after
+part_at Partly BadHeader old new before after (inl (none, good)) = none
+part_at Partly BadHeader old new before after (inr (is, partly, told)) = absurd is
+part_at Partly (BadLine n) old new before after (inl (none, good)) = none
+part_at Partly (BadLine n) old new before after (inr (is, partly, told)) = absurd is
+part_at Partly Read old new before after (inl (none, good)) = none
+part_at Partly Read old new before after (inr (is, partly, told)) = absurd is
+part_at Partly Write old new before after (inl (none, good)) = inl none
+part_at Partly Write old new before after (inr (is, partly, told)) = inr partly
+part_at Partly Memory old new before after (inl (none, good)) = inl none
+part_at Partly Memory old new before after (inr (is, partly, told)) = inr partly
+
+-- and where the flush fails behind it
+part_unflushed : (Partly : Option (List ℕ) → Type 0) (fault : ReplayFault) (old new : Bool) (before after : Option (List ℕ))
+    → NotDone (Partly after) fault old new before after → PartAt Partly Write before after
+part_unflushed Partly fault old new before after (inl (none, good)) = inl none
+part_unflushed Partly fault old new before after (inr (is, partly, told)) = inr partly
+
 -- what is answered of runs, once their lines reached the output
-answered_runs : {E : Type 0} (Done : Bool → Option (List ℕ) → Type 0) (Bad : ReplayFault → Type 0) (old new : Bool) (after : Option (List ℕ))
+answered_runs : {E : Type 0} (Done : Bool → Option (List ℕ) → Type 0) (Partly : Option (List ℕ) → Type 0) (Bad : ReplayFault → Type 0)
+    (old new unfailed failed : Bool) (before after : Option (List ℕ))
     (runs : Result Bool ReplayFault) (flushed : Result (Unit {0}) E) (told : Result (Unit {0}) Stop)
-    → IfOk runs (λ ended. Done ended after) → IfErr runs Bad → Bad Write
+    → IfOk runs (λ ended. Done ended after) → ((ended : Bool) → Done ended after → Partly after)
+    → IfErr runs (λ fault. NotDone (Partly after) fault unfailed failed before after) → IfErr runs Bad → Bad Write
     → TellsReads runs old new → OnErr flushed (told ≡ Err (stop.Replay Write))
     → OnOk flushed (IfErr runs (λ fault. told ≡ Err (stop.Replay fault))) → OnOk flushed (runs ≡ Ok true → told ≡ Ok tt)
-    → OnOk flushed (runs ≡ Ok false → told ≡ Err stop.Unfinished) → AnsweredRuns Done Bad told old new (Some after)
-answered_runs Done Bad old new after runs (Err x) told done bad unwritten reads failed fault all some =
-    subst (λ (t : Result (Unit {0}) Stop). AnsweredRuns Done Bad t old new (Some after)) (sym failed) (tt, unwritten)
-answered_runs Done Bad old new after (Ok true) (Ok y) told done bad unwritten reads failed fault all some =
-    subst (λ (t : Result (Unit {0}) Stop). AnsweredRuns Done Bad t old new (Some after)) (sym (all refl)) (reads, done)
-answered_runs Done Bad old new after (Ok false) (Ok y) told done bad unwritten reads failed fault all some =
-    subst (λ (t : Result (Unit {0}) Stop). AnsweredRuns Done Bad t old new (Some after)) (sym (some refl)) (reads, done)
-answered_runs Done Bad old new after (Err f) (Ok y) told done bad unwritten reads failed fault all some =
-    subst (λ (t : Result (Unit {0}) Stop). AnsweredRuns Done Bad t old new (Some after)) (sym fault) (reader_at f old new reads, bad)
+    → OnOk flushed (runs ≡ Ok false → told ≡ Err stop.Unfinished) → AnsweredRuns Done Partly Bad told old new before (Some after)
+answered_runs Done Partly Bad old new unfailed failed before after (Ok ended) (Err x) told done part short bad unwritten reads wrong fault all some =
+    subst (λ (t : Result (Unit {0}) Stop). AnsweredRuns Done Partly Bad t old new before (Some after)) (sym wrong)
+    (tt, unwritten, inr (part ended done))
+answered_runs Done Partly Bad old new unfailed failed before after (Err f) (Err x) told done part short bad unwritten reads wrong fault all some =
+    subst (λ (t : Result (Unit {0}) Stop). AnsweredRuns Done Partly Bad t old new before (Some after)) (sym wrong)
+    (tt, unwritten, part_unflushed Partly f unfailed failed before after short)
+answered_runs Done Partly Bad old new unfailed failed before after (Ok true) (Ok y) told done part short bad unwritten reads wrong fault all some =
+    subst (λ (t : Result (Unit {0}) Stop). AnsweredRuns Done Partly Bad t old new before (Some after)) (sym (all refl)) (reads, done)
+answered_runs Done Partly Bad old new unfailed failed before after (Ok false) (Ok y) told done part short bad unwritten reads wrong fault all some =
+    subst (λ (t : Result (Unit {0}) Stop). AnsweredRuns Done Partly Bad t old new before (Some after)) (sym (some refl)) (reads, done)
+answered_runs Done Partly Bad old new unfailed failed before after (Err f) (Ok y) told done part short bad unwritten reads wrong fault all some =
+    subst (λ (t : Result (Unit {0}) Stop). AnsweredRuns Done Partly Bad t old new before (Some after)) (sym fault)
+    (reader_at f old new reads, bad, part_at Partly f unfailed failed before after short)
 
 -- what was done reached the output
 reached : (P Q : Bool → Type 0) (runs : Result Bool ReplayFault) → ((ended : Bool) → P ended → Q ended) → IfOk runs P → IfOk runs Q
 reached P Q (Ok ended) f done = f ended done
 reached P Q (Err fault) f done = tt
 
-pub answered_explore : {E : Type 0} (e : Exploration) (from to : Option (List ℕ)) (old new : Bool) (start before mid after : Option (List ℕ))
+-- and what was done in part
+part_reached : (P : Type 0) (Q : Option (List ℕ) → Type 0) (runs : Result Bool ReplayFault) (old new : Bool) (start before mid after : Option (List ℕ))
+    → start ≡ before → Keeps mid after → (P → Q after) → IfErr runs (λ fault. NotDone P fault old new start mid)
+    → IfErr runs (λ fault. NotDone (Q after) fault old new before after)
+part_reached P Q (Ok ended) old new start before mid after same kept f short = tt
+part_reached P Q (Err fault) old new start before mid after same kept f (inl (none, good)) =
+    inl (subst (λ (b : Option (List ℕ)). Keeps b after) same (Keeps-trans start mid after none kept), good)
+part_reached P Q (Err fault) old new start before mid after same kept f (inr (is, partly, told)) = inr (is, f partly, told)
+
+-- a front that was written stays
+front_kept : (start before mid after : Option (List ℕ)) (text : List ℕ) → start ≡ before → Keeps mid after → Wrote start mid text
+    → Wrote before after text
+front_kept start before mid after text same kept w =
+    subst (λ (b : Option (List ℕ)). Wrote b after text) same
+    (record { front = w.front; back = w.back; parts = w.parts; appends = Appends-kept start mid after w.front w.appends kept })
+
+explores_partly : (e : Exploration) (finished : Bool) (from to before after : Option (List ℕ)) → Explores e finished from to before after
+    → ExploresPartly e from to before after
+explores_partly e finished from to before after h =
+    record {
+      script = h.script;
+      reads = h.reads;
+      runs = record {
+        runs = e.runs;
+        few = omega arith;
+        lines = h.runs.lines;
+        are = h.runs.are;
+        wrote = all_of before after (lines_text h.runs.lines) h.runs.wrote;
+      };
+    }
+
+explores_partly_kept : (e : Exploration) (from to start before mid after : Option (List ℕ)) → start ≡ before → Keeps mid after
+    → ExploresPartly e from to start mid → ExploresPartly e from to before after
+explores_partly_kept e from to start before mid after same kept h =
+    record {
+      script = h.script;
+      reads = h.reads;
+      runs = record {
+        runs = h.runs.runs;
+        few = h.runs.few;
+        lines = h.runs.lines;
+        are = h.runs.are;
+        wrote = front_kept start before mid after (lines_text h.runs.lines) same kept h.runs.wrote;
+      };
+    }
+
+pub answered_explore : {E : Type 0} (e : Exploration) (from to : Option (List ℕ)) (old new unfailed failed : Bool)
+    (start before mid after : Option (List ℕ))
     (explored : Result Bool ReplayFault) (flushed : Result (Unit {0}) E) (told : Result (Unit {0}) Stop) → start ≡ before
     → IfOk explored (λ finished. Explores e finished from to start mid)
+    → IfErr explored (λ fault. NotDone (ExploresPartly e from to start mid) fault unfailed failed start mid)
     → IfErr explored (λ fault. IfSome from (λ bytes. HasScriptFault bytes fault))
     → TellsReads explored old new → Keeps mid after → OnErr flushed (told ≡ Err (stop.Replay Write))
     → OnOk flushed (IfErr explored (λ fault. told ≡ Err (stop.Replay fault))) → OnOk flushed (explored ≡ Ok true → told ≡ Ok tt)
     → OnOk flushed (explored ≡ Ok false → told ≡ Err stop.Unfinished) → AnsweredExplore e told from to old new before (Some after)
-answered_explore e from to old new start before mid after explored flushed told same done bad reads kept failed fault finished unfinished =
-    answered_runs (λ ended out. Explores e ended from to before out) (λ f. IfSome from (λ bytes. HasScriptFault bytes f)) old new after
-    explored flushed told
+answered_explore e from to old new unfailed failed start before mid after explored flushed told same done short bad reads kept wrong fault all some =
+    answered_runs (λ ended out. Explores e ended from to before out) (ExploresPartly e from to before)
+    (λ f. IfSome from (λ bytes. HasScriptFault bytes f)) old new unfailed failed before after explored flushed told
     (reached (λ ended. Explores e ended from to start mid) (λ ended. Explores e ended from to before after) explored
     (λ ended h. explores_kept e ended from to start before mid after same kept h) done)
-    bad (no_script_fault from Write tt) reads failed fault finished unfinished
+    (λ ended h. explores_partly e ended from to before after h)
+    (part_reached (ExploresPartly e from to start mid) (ExploresPartly e from to before) explored unfailed failed start before mid after
+    same kept (explores_partly_kept e from to start before mid after same kept) short)
+    bad (no_script_fault from Write tt) reads wrong fault all some
 
-pub answered_race : {E : Type 0} (r : Racing) (from to : Option (List ℕ)) (old new : Bool) (start before mid after : Option (List ℕ))
+wrote_some : (r : Racing) (script : Script) (closed : Bool) (before after : Option (List ℕ)) → WroteRacing r script closed before after
+    → WroteSomeRacing r script before after
+wrote_some (Times times cut) script closed before after h =
+    record {
+      races = h.races;
+      few = omega (arith, h.count);
+      told = h.told;
+      wrote = all_of before after (race_lines 0 h.races) h.wrote;
+    }
+wrote_some Trace script true before after h =
+    inr (h.0, h.1, all_of before after (trace_text (sizes script.config) h.0) h.2)
+wrote_some Trace script false before after h = inl h.1
+
+some_kept : (r : Racing) (script : Script) (start before mid after : Option (List ℕ)) → start ≡ before → Keeps mid after
+    → WroteSomeRacing r script start mid → WroteSomeRacing r script before after
+some_kept (Times times cut) script start before mid after same kept h =
+    record {
+      races = h.races;
+      few = h.few;
+      told = h.told;
+      wrote = front_kept start before mid after (race_lines 0 h.races) same kept h.wrote;
+    }
+some_kept Trace script start before mid after same kept (inl none) =
+    inl (subst (λ (b : Option (List ℕ)). Keeps b after) same (Keeps-trans start mid after none kept))
+some_kept Trace script start before mid after same kept (inr (events, is, wrote)) =
+    inr (events, is, front_kept start before mid after (trace_text (sizes script.config) events) same kept wrote)
+
+pub answered_race : {E : Type 0} (r : Racing) (from to : Option (List ℕ)) (old new unfailed failed : Bool)
+    (start before mid after : Option (List ℕ))
     (raced : Result Bool ReplayFault) (flushed : Result (Unit {0}) E) (told : Result (Unit {0}) Stop) → start ≡ before
-    → IfOk raced (λ closed. Races r closed from to start mid) → IfErr raced (λ fault. IfSome from (λ bytes. HasScriptFault bytes fault))
+    → IfOk raced (λ closed. Races r closed from to start mid)
+    → IfErr raced (λ fault. NotDone (RacesPartly r from to start mid) fault unfailed failed start mid)
+    → IfErr raced (λ fault. IfSome from (λ bytes. HasScriptFault bytes fault))
     → TellsReads raced old new → Keeps mid after → OnErr flushed (told ≡ Err (stop.Replay Write))
     → OnOk flushed (IfErr raced (λ fault. told ≡ Err (stop.Replay fault))) → OnOk flushed (raced ≡ Ok true → told ≡ Ok tt)
     → OnOk flushed (raced ≡ Ok false → told ≡ Err stop.Unfinished) → AnsweredRace r told from to old new before (Some after)
-answered_race r from to old new start before mid after raced flushed told same done bad reads kept failed fault closed unfinished =
-    answered_runs (λ ended out. Races r ended from to before out) (λ f. IfSome from (λ bytes. HasScriptFault bytes f)) old new after
-    raced flushed told
+answered_race r from to old new unfailed failed start before mid after raced flushed told same done short bad reads kept wrong fault all some =
+    answered_runs (λ ended out. Races r ended from to before out) (RacesPartly r from to before)
+    (λ f. IfSome from (λ bytes. HasScriptFault bytes f)) old new unfailed failed before after raced flushed told
     (reached (λ ended. Races r ended from to start mid) (λ ended. Races r ended from to before after) raced
     (λ ended h. races_kept r ended from to start before mid after same kept h) done)
-    bad (no_script_fault from Write tt) reads failed fault closed unfinished
-
--- what is done where both are good
-pub done_by : {A B E F P Q : Type 0} (r : Result A E) (s : Result B F) → OnOk r P → (P → Q) → OnOk r (OnOk s Q)
-done_by (Ok x) (Ok y) p f = f p
-done_by (Ok x) (Err e) p f = tt
-done_by (Err e) s p f = tt
-
-pub done_flushed : {A B E F P Q : Type 0} (r : Result A E) (s : Result B F) (failed : Bool) (left : List ℕ) → OnOk r P
-    → OnOk r (failed ≡ false)
-    → OnOk s (failed ≡ false → left ≡ []) → (left ≡ [] → P → Q) → OnOk r (OnOk s Q)
-done_flushed (Ok x) (Ok y) failed left p good empty f = f (empty good) p
-done_flushed (Ok x) (Err e) failed left p good empty f = tt
-done_flushed (Err e) s failed left p good empty f = tt
-
-pub on_ok_then : {A E : Type 0} (r : Result A E) (a b c : Bool) → OnOk r (a ≡ b) → b ≡ c → OnOk r (a ≡ c)
-on_ok_then (Ok x) a b c same is = same ∙ is
-on_ok_then (Err e) a b c same is = tt
+    (λ ended h. record { script = h.script; reads = h.reads; wrote = wrote_some r h.script ended before after h.wrote })
+    (part_reached (RacesPartly r from to start mid) (RacesPartly r from to before) raced unfailed failed start before mid after
+    same kept (λ h. record {
+      script = h.script;
+      reads = h.reads;
+      wrote = some_kept r h.script start before mid after same kept h.wrote;
+    }) short)
+    bad (no_script_fault from Write tt) reads wrong fault all some
 
 -- a script was read, and its lines written
-pub explores : (e : Exploration) (from to before after : Option (List ℕ)) (script : Script) (explored : Result Bool ReplayFault)
-    → ReadsTrace from to (sizes script.config) (map begin_of script.calls.items)
-    → IfOk explored (λ finished. WroteRuns script e finished before after)
-    → IfOk explored (λ finished. Explores e finished from to before after)
-explores e from to before after script (Ok finished) reads runs = record { script = script; reads = reads; runs = runs }
-explores e from to before after script (Err fault) reads runs = tt
+module _ (e : Exploration) (from to before after : Option (List ℕ)) (script : Script)
+    (reads : ReadsTrace from to (sizes script.config) (map begin_of script.calls.items)) where
+  pub explores : (explored : Result Bool ReplayFault) → IfOk explored (λ finished. WroteRuns script e finished before after)
+      → IfOk explored (λ finished. Explores e finished from to before after)
+  explores (Ok finished) runs = record { script = script; reads = reads; runs = runs }
+  explores (Err fault) runs = tt
+
+  pub explores_short : (explored : Result Bool ReplayFault) (old new : Bool)
+      → IfErr explored (λ fault. IsWriteFault fault × WroteSomeRuns script e before after) → TellsWrites explored old new
+      → IfErr explored (λ fault. NotDone (ExploresPartly e from to before after) fault old new before after)
+  explores_short (Ok finished) old new short told = tt
+  explores_short (Err fault) old new (is, runs) told = inr (is, record { script = script; reads = reads; runs = runs }, told)
 
 -- and what its races write
-pub races : (r : Racing) (from to before after : Option (List ℕ)) (script : Script) (raced : Result Bool ReplayFault)
-    → ReadsTrace from to (sizes script.config) (map begin_of script.calls.items)
-    → IfOk raced (λ closed. WroteRacing r script closed before after) → IfOk raced (λ closed. Races r closed from to before after)
-races r from to before after script (Ok closed) reads wrote = record { script = script; reads = reads; wrote = wrote }
-races r from to before after script (Err fault) reads wrote = tt
+module _ (r : Racing) (from to before after : Option (List ℕ)) (script : Script)
+    (reads : ReadsTrace from to (sizes script.config) (map begin_of script.calls.items)) where
+  pub races : (raced : Result Bool ReplayFault) → IfOk raced (λ closed. WroteRacing r script closed before after)
+      → IfOk raced (λ closed. Races r closed from to before after)
+  races (Ok closed) wrote = record { script = script; reads = reads; wrote = wrote }
+  races (Err fault) wrote = tt
 
--- or one of its runs
-pub schedules : {E : Type 0} (s : Scheduling) (from to before after : Option (List ℕ)) (script : Script) (events : List Event) (line : RunLine)
-    (z : Sizes) (written : Result (Unit {0}) E) → ReadsTrace from to (sizes script.config) (map begin_of script.calls.items)
-    → IsExplored script s.seed s.chances.deny s.chances.kill 0 events line → z ≡ sizes script.config
-    → OnOk written (Appends before after (trace_text z events)) → OnOk written (Schedules s from to before after)
-schedules s from to before after script events line z (Err e) reads explored same wrote = tt
-schedules s from to before after script events line z (Ok x) reads explored same wrote =
-    record {
-      script = script;
-      events = events;
-      line = line;
-      reads = reads;
-      explored = explored;
-      wrote = subst (λ (y : Sizes). Appends before after (trace_text y events)) same wrote;
-    }
+  pub races_short : (raced : Result Bool ReplayFault) (old new : Bool)
+      → IfErr raced (λ fault. IsWriteFault fault × WroteSomeRacing r script before after) → TellsWrites raced old new
+      → IfErr raced (λ fault. NotDone (RacesPartly r from to before after) fault old new before after)
+  races_short (Ok closed) old new short told = tt
+  races_short (Err fault) old new (is, wrote) told = inr (is, record { script = script; reads = reads; wrote = wrote }, told)

@@ -1,4 +1,5 @@
 mod Answering
 mod Buffered
 mod Reporting
+mod Scheduled
 mod Texts

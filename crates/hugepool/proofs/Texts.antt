@@ -1,5 +1,5 @@
 -- A text about a trace, an explanation or a picture, that is written to a buffered output.
-use Rattle.std.proofs.Common.{◌≡◌, ℕ, List, [], Option, Some, Bool, true, false, sym, subst, inl, inr}
+use Rattle.std.proofs.Common.{◌≡◌, ℕ, List, [], Option, Some, Bool, false, refl, sym, subst, inl, inr, ◌∙◌}
 use Rattle.std.specs.Prelude.{OnOk, OnErr, IfErr, IfSome, Result, Ok, Err, ◌⊎◌}
 use Rattle.std.specs.Io.KnownBytes.{Keeps, append_known}
 use Rattle.std.proofs.KnownBytes.{Appends-kept, Keeps-trans}
@@ -10,36 +10,32 @@ use Rattle.hp_explain.specs.Explaining.{Explained, ExplainedPartly, NotExplained
 use Rattle.hp_replay.specs.Collecting.{NotRead, ReadsTrace}
 use Rattle.hp_replay.specs.Streams.{sink_at, TellsReads, TellsWrites}
 use Rattle.hp_replay.specs.Traces.{HasFault}
-use Rattle.hp_replay.specs.Writing.{IsWriteFault, Wrote}
+use Rattle.hp_replay.specs.Writing.{IsWriteFault}
 use Rattle.hp_replay.specs.declared.fault.ReplayFault.{ReplayFault}
 use Rattle.hp_replay.specs.declared.fault.ReplayFault.TheVariants.{BadLine, BadHeader, Read, Write, Memory}
 use Rattle.hugepool.specs.Endings.{HoldsFront}
-use Rattle.hugepool.specs.Requests.{AnsweredDraw, AnsweredExplain, AnsweredText, IsExplaining, TextIn, TextShort}
+use Rattle.hugepool.specs.Requests.{AnsweredDraw, AnsweredExplain, AnsweredText, IsExplaining, NotDone, TextIn, TextShort}
 use Rattle.hugepool.specs.declared.program.Stop.{Stop}
 use Rattle.hugepool.specs.declared.program.Stop.TheVariants as stop
 use Rattle.hugepool.proofs.Answering.{no_trace_fault, reader_at}
 use Rattle.hugepool.proofs.Buffered.{all_of, holds, none_of, unbuffered}
 
 -- what a reader has left at first and in the end, and what a writer holds
-abbrev Between : Type 1
+abbrev pub Between : Type 1
 Between = Option (List ℕ) → Option (List ℕ) → Option (List ℕ) → Option (List ℕ) → Type 0
 
 -- the output holds nothing new, or a front of such a text
-abbrev HasFront : (Sizes → List Event → List ℕ → Type 0) → Between
+abbrev pub HasFront : (Sizes → List Event → List ℕ → Type 0) → Between
 HasFront IsFront from to before after = HoldsFront before after [] ⊎ TextShort IsFront from to before after
 
 -- How such a text passes through a buffer that may keep some of it, where `Done` says that it was written and `Partly` that
 -- a front of it was
-record Passes (Done Partly : Between) (IsFront : Sizes → List Event → List ℕ → Type 0) : Type 0 where
-  kept : (from to before mid after : Option (List ℕ)) → Keeps mid after → Done from to before mid → Done from to before after
-  whole : (from to before mid after : Option (List ℕ)) (left : List ℕ) → Keeps mid (append_known after left) → Done from to before mid
+pub record Passes (Done Partly : Between) (IsFront : Sizes → List Event → List ℕ → Type 0) : Type 0 where
+  pub kept : (from to before mid after : Option (List ℕ)) → Keeps mid after → Done from to before mid → Done from to before after
+  pub whole : (from to before mid after : Option (List ℕ)) (left : List ℕ) → Keeps mid (append_known after left) → Done from to before mid
       → HasFront IsFront from to before after
-  part : (from to before mid after : Option (List ℕ)) (left : List ℕ) → Keeps mid (append_known after left) → Partly from to before mid
+  pub part : (from to before mid after : Option (List ℕ)) (left : List ℕ) → Keeps mid (append_known after left) → Partly from to before mid
       → HasFront IsFront from to before after
-
--- nothing is written before the whole trace is read
-abbrev Stopped : Between → ReplayFault → Between
-Stopped Partly fault from to before after = (NotRead fault from to × Keeps before after) ⊎ (IsWriteFault fault × Partly from to before after)
 
 -- an empty buffer held nothing back
 all_kept : (mid after : Option (List ℕ)) (left : List ℕ) → left ≡ [] → Keeps mid (append_known after left) → Keeps mid after
@@ -48,79 +44,103 @@ all_kept mid after left empty kept =
     (subst (λ (x : List ℕ). Keeps mid (append_known after x)) empty kept)
 
 stopped_short : (Done Partly : Between) (IsFront : Sizes → List Event → List ℕ → Type 0) → Passes Done Partly IsFront
-    → (fault : ReplayFault) (from to before mid after : Option (List ℕ)) (left : List ℕ) → Stopped Partly fault from to before mid
-    → Keeps mid (append_known after left) → HasFront IsFront from to before after
-stopped_short Done Partly IsFront passes fault from to before mid after left (inl (not_read, none)) kept =
+    → (fault : ReplayFault) (first failed : Bool) (from to before mid after : Option (List ℕ)) (left : List ℕ)
+    → NotDone (Partly from to before mid) fault first failed before mid → Keeps mid (append_known after left)
+    → HasFront IsFront from to before after
+stopped_short Done Partly IsFront passes fault first failed from to before mid after left (inl (none, good)) kept =
     inl (holds before mid after left [] (none_of before mid none) kept)
-stopped_short Done Partly IsFront passes fault from to before mid after left (inr (is, partly)) kept =
+stopped_short Done Partly IsFront passes fault first failed from to before mid after left (inr (is, partly, told)) kept =
     passes.part from to before mid after left kept partly
 
 -- what was written where the fault is told; a sink that has not failed is flushed
 stopped_in : (Done Partly : Between) (IsFront : Sizes → List Event → List ℕ → Type 0) → Passes Done Partly IsFront
-    → (fault : ReplayFault) (from to before mid after : Option (List ℕ)) (failed : Bool) (left : List ℕ)
-    → Stopped Partly fault from to before mid → failed ≡ sink_at fault false → (failed ≡ false → left ≡ [])
+    → (fault : ReplayFault) (from to before mid after : Option (List ℕ)) (first failed : Bool) (left : List ℕ)
+    → NotDone (Partly from to before mid) fault first failed before mid → first ≡ false → (failed ≡ false → left ≡ [])
     → Keeps mid (append_known after left) → TextIn IsFront fault from to before after
-stopped_in Done Partly IsFront passes BadHeader from to before mid after failed left (inl (not_read, none)) told empty kept =
-    Keeps-trans before mid after none (all_kept mid after left (empty told) kept)
-stopped_in Done Partly IsFront passes BadHeader from to before mid after failed left (inr (is, partly)) told empty kept = absurd is
-stopped_in Done Partly IsFront passes (BadLine n) from to before mid after failed left (inl (not_read, none)) told empty kept =
-    Keeps-trans before mid after none (all_kept mid after left (empty told) kept)
-stopped_in Done Partly IsFront passes (BadLine n) from to before mid after failed left (inr (is, partly)) told empty kept = absurd is
-stopped_in Done Partly IsFront passes Read from to before mid after failed left (inl (not_read, none)) told empty kept =
-    Keeps-trans before mid after none (all_kept mid after left (empty told) kept)
-stopped_in Done Partly IsFront passes Read from to before mid after failed left (inr (is, partly)) told empty kept = absurd is
-stopped_in Done Partly IsFront passes Write from to before mid after failed left h told empty kept =
-    stopped_short Done Partly IsFront passes Write from to before mid after left h kept
-stopped_in Done Partly IsFront passes Memory from to before mid after failed left h told empty kept =
-    stopped_short Done Partly IsFront passes Memory from to before mid after left h kept
+stopped_in Done Partly IsFront passes BadHeader from to before mid after first failed left (inl (none, good)) clean empty kept =
+    Keeps-trans before mid after none (all_kept mid after left (empty (good ∙ clean)) kept)
+stopped_in Done Partly IsFront passes BadHeader from to before mid after first failed left (inr (is, partly, told)) clean empty kept = absurd is
+stopped_in Done Partly IsFront passes (BadLine n) from to before mid after first failed left (inl (none, good)) clean empty kept =
+    Keeps-trans before mid after none (all_kept mid after left (empty (good ∙ clean)) kept)
+stopped_in Done Partly IsFront passes (BadLine n) from to before mid after first failed left (inr (is, partly, told)) clean empty kept = absurd is
+stopped_in Done Partly IsFront passes Read from to before mid after first failed left (inl (none, good)) clean empty kept =
+    Keeps-trans before mid after none (all_kept mid after left (empty (good ∙ clean)) kept)
+stopped_in Done Partly IsFront passes Read from to before mid after first failed left (inr (is, partly, told)) clean empty kept = absurd is
+stopped_in Done Partly IsFront passes Write from to before mid after first failed left h clean empty kept =
+    stopped_short Done Partly IsFront passes Write first failed from to before mid after left h kept
+stopped_in Done Partly IsFront passes Memory from to before mid after first failed left h clean empty kept =
+    stopped_short Done Partly IsFront passes Memory first failed from to before mid after left h kept
 
 -- what is answered, through a buffer that may keep some of it
-answered_text : {E : Type 0} (Done Partly : Between) (IsFront : Sizes → List Event → List ℕ → Type 0) → Passes Done Partly IsFront
-    → (from to : Option (List ℕ)) (old new : Bool) (start before mid after : Option (List ℕ)) (failed : Bool) (left : List ℕ)
+pub answered_text : {E : Type 0} (Done Partly : Between) (IsFront : Sizes → List Event → List ℕ → Type 0)
+    (Bad : List ℕ → ReplayFault → Type 0) → Passes Done Partly IsFront
+    → (from to : Option (List ℕ)) (old new : Bool) (start before mid after : Option (List ℕ)) (first failed : Bool) (left : List ℕ)
     → (wrote answer : Result (Unit {0}) ReplayFault) (flushed : Result (Unit {0}) E) (told : Result (Unit {0}) Stop)
-    → start ≡ before → OnOk wrote (Done from to start mid)
-    → IfErr wrote (λ fault. Stopped Partly fault from to start mid)
-    → IfErr wrote (λ fault. IfSome from (λ bytes. HasFault bytes fault)) → TellsReads wrote old new
-    → TellsWrites wrote false failed → Keeps mid (append_known after left) → OnOk flushed (failed ≡ false → left ≡ [])
-    → OnOk flushed (answer ≡ wrote) → OnErr flushed (answer ≡ Err Write) → OnOk answer (told ≡ Ok tt)
-    → IfErr answer (λ fault. told ≡ Err (stop.Replay fault)) → AnsweredText Done IsFront told from to old new before (Some after)
-answered_text Done Partly IsFront passes from to old new start before mid after failed left (Ok x) answer (Ok y) told same done stopped bad reads
-    writes kept empty is not good wrong =
-    let ended : told ≡ Ok tt = subst (λ (r : Result (Unit {0}) ReplayFault). OnOk r (told ≡ Ok tt)) is good in
-    subst (λ (t : Result (Unit {0}) Stop). AnsweredText Done IsFront t from to old new before (Some after)) (sym ended) (
+    → start ≡ before → first ≡ false → OnOk wrote (Done from to start mid)
+    → IfErr wrote (λ fault. NotDone (Partly from to start mid) fault first failed start mid)
+    → IfErr wrote (λ fault. IfSome from (λ bytes. Bad bytes fault)) → IfSome from (λ bytes. Bad bytes Write)
+    → TellsReads wrote old new → OnOk wrote (failed ≡ first) → Keeps mid (append_known after left)
+    → OnOk flushed (failed ≡ false → left ≡ []) → OnOk flushed (answer ≡ wrote) → OnErr flushed (answer ≡ Err Write)
+    → OnOk answer (told ≡ Ok tt) → IfErr answer (λ fault. told ≡ Err (stop.Replay fault))
+    → AnsweredText Done IsFront Bad told from to old new before (Some after)
+answered_text Done Partly IsFront Bad passes from to old new start before mid after first failed left (Ok x) answer (Ok y) told same clean done stopped bad
+    unwritten reads good kept empty is not ok wrong =
+    let ended : told ≡ Ok tt = subst (λ (r : Result (Unit {0}) ReplayFault). OnOk r (told ≡ Ok tt)) is ok in
+    subst (λ (t : Result (Unit {0}) Stop). AnsweredText Done IsFront Bad t from to old new before (Some after)) (sym ended) (
       reads,
       subst (λ (b : Option (List ℕ)). Done from to b after) same
-          (passes.kept from to start mid after (all_kept mid after left (empty writes) kept) done),
+          (passes.kept from to start mid after (all_kept mid after left (empty (good ∙ clean)) kept) done),
     )
-answered_text Done Partly IsFront passes from to old new start before mid after failed left (Ok x) answer (Err e) told same done stopped bad reads
-    writes kept empty is not good wrong =
+answered_text Done Partly IsFront Bad passes from to old new start before mid after first failed left (Ok x) answer (Err e) told same clean done stopped bad
+    unwritten reads good kept empty is not ok wrong =
     let ended : told ≡ Err (stop.Replay Write) =
     subst (λ (r : Result (Unit {0}) ReplayFault). IfErr r (λ fault. told ≡ Err (stop.Replay fault))) not wrong in
-    subst (λ (t : Result (Unit {0}) Stop). AnsweredText Done IsFront t from to old new before (Some after)) (sym ended) (
+    subst (λ (t : Result (Unit {0}) Stop). AnsweredText Done IsFront Bad t from to old new before (Some after)) (sym ended) (
       tt,
-      no_trace_fault from Write tt,
+      unwritten,
       subst (λ (b : Option (List ℕ)). HasFront IsFront from to b after) same (passes.whole from to start mid after left kept done),
     )
-answered_text Done Partly IsFront passes from to old new start before mid after failed left (Err f) answer (Ok y) told same done stopped bad reads
-    writes kept empty is not good wrong =
+answered_text Done Partly IsFront Bad passes from to old new start before mid after first failed left (Err f) answer (Ok y) told same clean done stopped bad
+    unwritten reads good kept empty is not ok wrong =
     let ended : told ≡ Err (stop.Replay f) =
     subst (λ (r : Result (Unit {0}) ReplayFault). IfErr r (λ fault. told ≡ Err (stop.Replay fault))) is wrong in
-    subst (λ (t : Result (Unit {0}) Stop). AnsweredText Done IsFront t from to old new before (Some after)) (sym ended) (
+    subst (λ (t : Result (Unit {0}) Stop). AnsweredText Done IsFront Bad t from to old new before (Some after)) (sym ended) (
       reader_at f old new reads,
       bad,
       subst (λ (b : Option (List ℕ)). TextIn IsFront f from to b after) same
-          (stopped_in Done Partly IsFront passes f from to start mid after failed left stopped writes empty kept),
+          (stopped_in Done Partly IsFront passes f from to start mid after first failed left stopped clean empty kept),
     )
-answered_text Done Partly IsFront passes from to old new start before mid after failed left (Err f) answer (Err e) told same done stopped bad reads
-    writes kept empty is not good wrong =
+answered_text Done Partly IsFront Bad passes from to old new start before mid after first failed left (Err f) answer (Err e) told same clean done stopped bad
+    unwritten reads good kept empty is not ok wrong =
     let ended : told ≡ Err (stop.Replay Write) =
     subst (λ (r : Result (Unit {0}) ReplayFault). IfErr r (λ fault. told ≡ Err (stop.Replay fault))) not wrong in
-    subst (λ (t : Result (Unit {0}) Stop). AnsweredText Done IsFront t from to old new before (Some after)) (sym ended) (
+    subst (λ (t : Result (Unit {0}) Stop). AnsweredText Done IsFront Bad t from to old new before (Some after)) (sym ended) (
       tt,
-      no_trace_fault from Write tt,
+      unwritten,
       subst (λ (b : Option (List ℕ)). HasFront IsFront from to b after) same
-          (stopped_short Done Partly IsFront passes f from to start mid after left stopped kept),
+          (stopped_short Done Partly IsFront passes f first failed from to start mid after left stopped kept),
     )
+
+-- a trace that isn't read is no fault of writing
+not_done : (Partly : Between) (fault : ReplayFault) (failed : Bool) (from to before after : Option (List ℕ))
+    → (NotRead fault from to × Keeps before after) ⊎ (IsWriteFault fault × Partly from to before after) → failed ≡ sink_at fault false
+    → NotDone (Partly from to before after) fault false failed before after
+not_done Partly BadHeader failed from to before after (inl (not_read, none)) told = inl (none, told)
+not_done Partly (BadLine n) failed from to before after (inl (not_read, none)) told = inl (none, told)
+not_done Partly Read failed from to before after (inl (not_read, none)) told = inl (none, told)
+not_done Partly Write failed from to before after (inl (not_read, none)) told = absurd not_read
+not_done Partly Memory failed from to before after (inl (not_read, none)) told = inl (none, told)
+not_done Partly fault failed from to before after (inr (is, partly)) told = inr (is, partly, told)
+
+stopped_so : (Partly : Between) (wrote : Result (Unit {0}) ReplayFault) (failed : Bool) (from to before after : Option (List ℕ))
+    → IfErr wrote (λ fault. (NotRead fault from to × Keeps before after) ⊎ (IsWriteFault fault × Partly from to before after))
+    → TellsWrites wrote false failed → IfErr wrote (λ fault. NotDone (Partly from to before after) fault false failed before after)
+stopped_so Partly (Ok x) failed from to before after stopped told = tt
+stopped_so Partly (Err fault) failed from to before after stopped told = not_done Partly fault failed from to before after stopped told
+
+unfailed : (wrote : Result (Unit {0}) ReplayFault) (failed : Bool) → TellsWrites wrote false failed → OnOk wrote (failed ≡ false)
+unfailed (Ok x) failed told = told
+unfailed (Err fault) failed told = tt
 
 -- an explanation
 explains_part : (from to before mid after : Option (List ℕ)) (left : List ℕ) (s : Sizes) (events : List Event)
@@ -178,7 +198,10 @@ pub answered_explain : {E : Type 0} (from to : Option (List ℕ)) (old new : Boo
     → Keeps mid (append_known after left) → OnOk flushed (failed ≡ false → left ≡ []) → OnOk flushed (answer ≡ wrote)
     → OnErr flushed (answer ≡ Err Write) → OnOk answer (told ≡ Ok tt) → IfErr answer (λ fault. told ≡ Err (stop.Replay fault))
     → AnsweredExplain told from to old new before (Some after)
-answered_explain = answered_text Explained ExplainedPartly IsExplaining explanation_passes
+answered_explain from to old new start before mid after failed left wrote answer flushed told same done stopped bad reads writes =
+    answered_text Explained ExplainedPartly IsExplaining HasFault explanation_passes from to old new start before mid after false failed left wrote answer
+    flushed told same refl done (stopped_so ExplainedPartly wrote failed from to start mid stopped writes) bad (no_trace_fault from Write tt) reads
+    (unfailed wrote failed writes)
 
 -- a picture
 draws_part : (from to before mid after : Option (List ℕ)) (left : List ℕ) (s : Sizes) (events : List Event)
@@ -226,4 +249,7 @@ pub answered_draw : {E : Type 0} (from to : Option (List ℕ)) (old new : Bool) 
     → Keeps mid (append_known after left) → OnOk flushed (failed ≡ false → left ≡ []) → OnOk flushed (answer ≡ wrote)
     → OnErr flushed (answer ≡ Err Write) → OnOk answer (told ≡ Ok tt) → IfErr answer (λ fault. told ≡ Err (stop.Replay fault))
     → AnsweredDraw told from to old new before (Some after)
-answered_draw = answered_text IsDrawing IsPartOfDrawing PictureOf picture_passes
+answered_draw from to old new start before mid after failed left wrote answer flushed told same done stopped bad reads writes =
+    answered_text IsDrawing IsPartOfDrawing PictureOf HasFault picture_passes from to old new start before mid after false failed left wrote answer
+    flushed told same refl done (stopped_so IsPartOfDrawing wrote failed from to start mid stopped writes) bad (no_trace_fault from Write tt) reads
+    (unfailed wrote failed writes)

@@ -4,7 +4,7 @@ use Rattle.std.specs.Int.NonZero.{non_zero_u32_get}
 use Rattle.std.specs.Option.{option_map}
 use Rattle.hp_base.specs.Text.{sizes}
 use Rattle.hp_explore.specs.declared.script.Script.{Script}
-use Rattle.hp_race.specs.Writing.{WroteRaces, WroteTrace}
+use Rattle.hp_race.specs.Writing.{WroteRaces, WroteSomeRaces, WroteSomeTrace, WroteTrace}
 use Rattle.hp_replay.specs.Collecting.{ReadsTrace}
 use Rattle.hp_replay.specs.Scripts.{begin_of}
 use Rattle.hugepool.specs.declared.racing.Racing.{Racing}
@@ -15,9 +15,20 @@ abbrev pub WroteRacing : Racing → Script → (closed : Bool) → (before after
 WroteRacing (Times times cut) script closed before after = WroteRaces script (option_map non_zero_u32_get cut) times closed before after
 WroteRacing Trace script closed before after = WroteTrace script closed before after
 
+-- what they have written where not all of it was
+abbrev pub WroteSomeRacing : Racing → Script → (before after : Option (List ℕ)) → Type 0
+WroteSomeRacing (Times times cut) script before after = WroteSomeRaces script (option_map non_zero_u32_get cut) times before after
+WroteSomeRacing Trace script before after = WroteSomeTrace script before after
+
 -- A script was read, and a line written for each race of it, or the trace of one. A reader had the bytes `from` left, and now
 -- has `to`; an output held `before`, and now holds `after`
 pub record Races (r : Racing) (closed : Bool) (from to before after : Option (List ℕ)) : Type 0 where
   pub script : Script
   pub reads : ReadsTrace from to (sizes script.config) (map begin_of script.calls.items)
   pub wrote : WroteRacing r script closed before after
+
+-- a script was read, and a front of that written
+pub record RacesPartly (r : Racing) (from to before after : Option (List ℕ)) : Type 0 where
+  pub script : Script
+  pub reads : ReadsTrace from to (sizes script.config) (map begin_of script.calls.items)
+  pub wrote : WroteSomeRacing r script before after

@@ -1,5 +1,5 @@
 -- What the program does at each request.
-use Rattle.std.specs.Prelude.{◌≡◌, ℕ, List, [], Option, Some, None, ◌⊎◌, Bool, true, false, IfSome, Result, Ok, Err, map}
+use Rattle.std.specs.Prelude.{◌≡◌, ℕ, List, [], length, Option, Some, None, ◌⊎◌, Bool, true, false, IfSome, Result, Ok, Err, map}
 use Rattle.std.specs.Io.KnownBytes.{Appends, Keeps}
 use Rattle.hp_base.specs.Text.{Sizes, sizes}
 use Rattle.hp_base.specs.declared.event.Event.{Event}
@@ -12,12 +12,14 @@ use Rattle.hp_replay.specs.declared.fault.ReplayFault.{ReplayFault}
 use Rattle.hp_replay.specs.declared.fault.ReplayFault.TheVariants.{BadLine, BadHeader, Read, Write, Memory}
 use Rattle.hp_replay.specs.Checking.{ReadsEvents, count_line}
 use Rattle.hp_replay.specs.Collecting.{ReadsTrace}
-use Rattle.hp_replay.specs.RunLines.{WroteRuns}
+use Rattle.hp_replay.specs.RunLines.{WroteRuns, WroteSomeRuns}
 use Rattle.hp_replay.specs.Scripts.{begin_of, HasScriptFault}
+use Rattle.hp_replay.specs.Streams.{sink_at}
 use Rattle.hp_replay.specs.Traces.{HasFault, trace_text}
+use Rattle.hp_replay.specs.Writing.{IsWriteFault, Wrote}
 use Rattle.hp_replay.specs.declared.exploring.Exploration.{Exploration}
 use Rattle.hugepool.specs.Endings.{AnsweredElse, AnsweredReplay, HoldsFront, ReaderAt}
-use Rattle.hugepool.specs.Racing.{Races}
+use Rattle.hugepool.specs.Racing.{Races, RacesPartly}
 use Rattle.hugepool.specs.Status.{status_at}
 use Rattle.hugepool.specs.Working.{AnsweredWork}
 use Rattle.hugepool.specs.declared.command.Request.{Request}
@@ -35,11 +37,23 @@ pub record Explores (e : Exploration) (finished : Bool) (from to before after : 
   pub reads : ReadsTrace from to (sizes script.config) (map begin_of script.calls.items)
   pub runs : WroteRuns script e finished before after
 
+-- a script was read, and a front of the lines of some of its runs written
+pub record ExploresPartly (e : Exploration) (from to before after : Option (List ℕ)) : Type 0 where
+  pub script : Script
+  pub reads : ReadsTrace from to (sizes script.config) (map begin_of script.calls.items)
+  pub runs : WroteSomeRuns script e before after
+
 -- a trace was read, and its number of events written
 pub record Checks (from to before after : Option (List ℕ)) : Type 0 where
   pub events : ℕ
   pub reads : ReadsEvents events from to
   pub wrote : Appends before after (count_line events)
+
+-- a trace was read, and a front of that line written
+pub record ChecksPartly (from to before after : Option (List ℕ)) : Type 0 where
+  pub events : ℕ
+  pub reads : ReadsEvents events from to
+  pub wrote : Wrote before after (count_line events)
 
 -- a script was read, and the trace of its run 0 written
 pub record Schedules (s : Scheduling) (from to before after : Option (List ℕ)) : Type 0 where
@@ -50,49 +64,59 @@ pub record Schedules (s : Scheduling) (from to before after : Option (List ℕ))
   pub explored : IsExplored script s.seed s.chances.deny s.chances.kill 0 events line
   pub wrote : Appends before after (trace_text (sizes script.config) events)
 
+-- a script was read, and a front of that trace written
+pub record SchedulesPartly (s : Scheduling) (from to before after : Option (List ℕ)) : Type 0 where
+  pub script : Script
+  pub events : List Event
+  pub line : RunLine
+  pub reads : ReadsTrace from to (sizes script.config) (map begin_of script.calls.items)
+  pub explored : IsExplored script s.seed s.chances.deny s.chances.kill 0 events line
+  pub wrote : Wrote before after (trace_text (sizes script.config) events)
+
+-- What was done where a request was not: nothing is written before all is read, so nothing was written and no write failed, or
+-- there was a fault of writing and `Partly` says how far it went; whether the sink had failed, and whether it has now
+abbrev pub NotDone : (Partly : Type 0) → ReplayFault → (old new : Bool) → (before after : Option (List ℕ)) → Type 0
+NotDone Partly fault old new before after =
+    (Keeps before after × (new ≡ old)) ⊎ (IsWriteFault fault × Partly × (new ≡ sink_at fault old))
+
 -- where the output is there
 abbrev pub IfThere : Option (Option (List ℕ)) → (Option (List ℕ) → Type 0) → Type 0
 IfThere None P = ⊥
 IfThere (Some after) P = P after
 
+-- what was written where a request ended with this fault: nothing where the script was not read, else nothing or a part
+abbrev pub PartAt : (Option (List ℕ) → Type 0) → ReplayFault → Option (List ℕ) → Option (List ℕ) → Type 0
+PartAt Partly BadHeader before after = Keeps before after
+PartAt Partly (BadLine n) before after = Keeps before after
+PartAt Partly Read before after = Keeps before after
+PartAt Partly Write before after = Keeps before after ⊎ Partly after
+PartAt Partly Memory before after = Keeps before after ⊎ Partly after
+
 -- What is answered where these are done, and all runs came to their ends or some didn't; a fault of reading is told where the
 -- reader failed, and a bad line where it is
-abbrev pub AnsweredRuns : (Bool → Option (List ℕ) → Type 0) → (ReplayFault → Type 0) → Result (Unit {0}) Stop → Bool → Bool
-    → Option (Option (List ℕ)) → Type 0
-AnsweredRuns Done Bad (Ok x) old new after = (new ≡ old) × IfThere after (Done true)
-AnsweredRuns Done Bad (Err stop.Unfinished) old new after = (new ≡ old) × IfThere after (Done false)
-AnsweredRuns Done Bad (Err (stop.Replay fault)) old new after = ReaderAt fault old new × Bad fault
-AnsweredRuns Done Bad (Err (stop.Usage error)) old new after = ⊥
-AnsweredRuns Done Bad (Err (stop.Work fault)) old new after = ⊥
+abbrev pub AnsweredRuns : (Bool → Option (List ℕ) → Type 0) → (Option (List ℕ) → Type 0) → (ReplayFault → Type 0)
+    → Result (Unit {0}) Stop → Bool → Bool → Option (List ℕ) → Option (Option (List ℕ)) → Type 0
+AnsweredRuns Done Partly Bad (Ok x) old new before after = (new ≡ old) × IfThere after (Done true)
+AnsweredRuns Done Partly Bad (Err stop.Unfinished) old new before after = (new ≡ old) × IfThere after (Done false)
+AnsweredRuns Done Partly Bad (Err (stop.Replay fault)) old new before after =
+    ReaderAt fault old new × Bad fault × IfThere after (PartAt Partly fault before)
+AnsweredRuns Done Partly Bad (Err (stop.Usage error)) old new before after = ⊥
+AnsweredRuns Done Partly Bad (Err (stop.Work fault)) old new before after = ⊥
 
 abbrev pub AnsweredExplore : Exploration → Result (Unit {0}) Stop → Option (List ℕ) → Option (List ℕ) → Bool → Bool
     → Option (List ℕ) → Option (Option (List ℕ)) → Type 0
 AnsweredExplore e answer from to old new before after =
-    AnsweredRuns (λ finished after. Explores e finished from to before after) (λ fault. IfSome from (λ bytes. HasScriptFault bytes fault))
-    answer old new after
+    AnsweredRuns (λ finished after. Explores e finished from to before after) (ExploresPartly e from to before)
+    (λ fault. IfSome from (λ bytes. HasScriptFault bytes fault)) answer old new before after
 
 abbrev pub AnsweredRace : Racing → Result (Unit {0}) Stop → Option (List ℕ) → Option (List ℕ) → Bool → Bool
     → Option (List ℕ) → Option (Option (List ℕ)) → Type 0
 AnsweredRace r answer from to old new before after =
-    AnsweredRuns (λ closed after. Races r closed from to before after) (λ fault. IfSome from (λ bytes. HasScriptFault bytes fault))
-    answer old new after
+    AnsweredRuns (λ closed after. Races r closed from to before after) (RacesPartly r from to before)
+    (λ fault. IfSome from (λ bytes. HasScriptFault bytes fault)) answer old new before after
 
--- the same where no run can be left unfinished
-abbrev pub AnsweredBy : (Option (List ℕ) → Type 0) → (ReplayFault → Type 0) → Result (Unit {0}) Stop → Bool → Bool
-    → Option (Option (List ℕ)) → Type 0
-AnsweredBy Done Bad (Ok x) old new after = (new ≡ old) × IfThere after Done
-AnsweredBy Done Bad (Err stop.Unfinished) old new after = ⊥
-AnsweredBy Done Bad (Err (stop.Replay fault)) old new after = ReaderAt fault old new × Bad fault
-AnsweredBy Done Bad (Err (stop.Usage error)) old new after = ⊥
-AnsweredBy Done Bad (Err (stop.Work fault)) old new after = ⊥
-
-abbrev pub AnsweredCheck : Result (Unit {0}) Stop → Option (List ℕ) → Option (List ℕ) → Bool → Bool
-    → Option (List ℕ) → Option (Option (List ℕ)) → Type 0
-AnsweredCheck answer from to old new before after =
-    AnsweredBy (Checks from to before) (λ fault. IfSome from (λ bytes. HasFault bytes fault)) answer old new after
-
--- A text about the trace that was read, which is read whole before anything is written: `Done` says of the streams that it was
--- written, `IsFront` of a text that such a one begins with it.
+-- A text about the trace or the script that was read, which is read whole before anything is written: `Done` says of the streams that
+-- it was written, `IsFront` of a text that such a one begins with it, `Bad` of the bytes that this is their fault.
 
 -- what the output holds is a front of what it held, and of such a text
 pub record TextShort (IsFront : Sizes → List Event → List ℕ → Type 0) (from to before after : Option (List ℕ)) : Type 0 where
@@ -119,14 +143,22 @@ TextAt IsFront fault from to before None = (fault ≡ Memory) × Keeps from to
 TextAt IsFront fault from to before (Some after) = TextIn IsFront fault from to before after
 
 abbrev pub AnsweredText : (Option (List ℕ) → Option (List ℕ) → Option (List ℕ) → Option (List ℕ) → Type 0)
-    → (Sizes → List Event → List ℕ → Type 0) → Result (Unit {0}) Stop → Option (List ℕ) → Option (List ℕ) → Bool → Bool
+    → (Sizes → List Event → List ℕ → Type 0) → (List ℕ → ReplayFault → Type 0) → Result (Unit {0}) Stop → Option (List ℕ)
+    → Option (List ℕ) → Bool → Bool → Option (List ℕ) → Option (Option (List ℕ)) → Type 0
+AnsweredText Done IsFront Bad (Ok x) from to old new before after = (new ≡ old) × IfThere after (Done from to before)
+AnsweredText Done IsFront Bad (Err (stop.Replay fault)) from to old new before after =
+    ReaderAt fault old new × IfSome from (λ bytes. Bad bytes fault) × TextAt IsFront fault from to before after
+AnsweredText Done IsFront Bad (Err stop.Unfinished) from to old new before after = ⊥
+AnsweredText Done IsFront Bad (Err (stop.Usage error)) from to old new before after = ⊥
+AnsweredText Done IsFront Bad (Err (stop.Work fault)) from to old new before after = ⊥
+
+-- how many events there are, told in a line
+abbrev pub IsCount : Sizes → List Event → List ℕ → Type 0
+IsCount s events text = text ≡ count_line (length events)
+
+abbrev pub AnsweredCheck : Result (Unit {0}) Stop → Option (List ℕ) → Option (List ℕ) → Bool → Bool
     → Option (List ℕ) → Option (Option (List ℕ)) → Type 0
-AnsweredText Done IsFront (Ok x) from to old new before after = (new ≡ old) × IfThere after (Done from to before)
-AnsweredText Done IsFront (Err (stop.Replay fault)) from to old new before after =
-    ReaderAt fault old new × IfSome from (λ bytes. HasFault bytes fault) × TextAt IsFront fault from to before after
-AnsweredText Done IsFront (Err stop.Unfinished) from to old new before after = ⊥
-AnsweredText Done IsFront (Err (stop.Usage error)) from to old new before after = ⊥
-AnsweredText Done IsFront (Err (stop.Work fault)) from to old new before after = ⊥
+AnsweredCheck answer from to old new before after = AnsweredText Checks IsCount HasFault answer from to old new before after
 
 -- the beginning of an explanation, or a whole one
 abbrev pub IsExplaining : Sizes → List Event → List ℕ → Type 0
@@ -134,16 +166,26 @@ IsExplaining s events text = Beginning s events text ⊎ Explanation s events te
 
 abbrev pub AnsweredExplain : Result (Unit {0}) Stop → Option (List ℕ) → Option (List ℕ) → Bool → Bool
     → Option (List ℕ) → Option (Option (List ℕ)) → Type 0
-AnsweredExplain answer from to old new before after = AnsweredText Explained IsExplaining answer from to old new before after
+AnsweredExplain answer from to old new before after = AnsweredText Explained IsExplaining HasFault answer from to old new before after
 
 abbrev pub AnsweredDraw : Result (Unit {0}) Stop → Option (List ℕ) → Option (List ℕ) → Bool → Bool
     → Option (List ℕ) → Option (Option (List ℕ)) → Type 0
-AnsweredDraw answer from to old new before after = AnsweredText IsDrawing PictureOf answer from to old new before after
+AnsweredDraw answer from to old new before after = AnsweredText IsDrawing PictureOf HasFault answer from to old new before after
+
+-- the trace of run 0 of the script that is spelt so
+pub record IsScheduled (s : Scheduling) (z : Sizes) (begins : List Event) (text : List ℕ) : Type 0 where
+  pub script : Script
+  pub events : List Event
+  pub line : RunLine
+  pub sized : z ≡ sizes script.config
+  pub called : begins ≡ map begin_of script.calls.items
+  pub explored : IsExplored script s.seed s.chances.deny s.chances.kill 0 events line
+  pub spelt : text ≡ trace_text (sizes script.config) events
 
 abbrev pub AnsweredSchedule : Scheduling → Result (Unit {0}) Stop → Option (List ℕ) → Option (List ℕ) → Bool → Bool
     → Option (List ℕ) → Option (Option (List ℕ)) → Type 0
 AnsweredSchedule s answer from to old new before after =
-    AnsweredBy (Schedules s from to before) (λ fault. IfSome from (λ bytes. HasScriptFault bytes fault)) answer old new after
+    AnsweredText (Schedules s) (IsScheduled s) HasScriptFault answer from to old new before after
 
 -- what is answered at each request
 abbrev pub Answered : Request → Result (Unit {0}) Stop → Option (List ℕ) → Option (List ℕ) → Bool → Bool

@@ -3,7 +3,7 @@ ghost use Rattle.std.specs.Prelude.{◌≡◌, Ok, Err, IfOk, IfErr, OnErr, OnOk
 ghost use Rattle.std.specs.Option.{option_map};
 ghost use Rattle.hp_replay.specs.Traces.{HasFault};
 ghost use Rattle.hp_replay.specs.Streams.{TellsReads};
-ghost use Rattle.hugepool.specs.Requests.{AnsweredCheck, Checks};
+ghost use Rattle.hugepool.specs.Requests.{AnsweredCheck, Checks, ChecksPartly, NotDone};
 
 use crate::program::{Stop, flush_out, flushed_answer, stopped};
 use hp_replay::{ReplayFault, Sink, Source, Watched, check_trace, write_count};
@@ -17,8 +17,12 @@ fn count_events<R: Source, W: Sink>(
     writer: &mut W,
 ) -> Result<(), ReplayFault>
     ensures ok { OnOk result (Checks (R.remaining reader.old) (R.remaining reader.new) (W.contents writer.old) (W.contents writer.new)) }
+    ensures err { IfErr result (λ fault. NotDone
+        (ChecksPartly (R.remaining reader.old) (R.remaining reader.new) (W.contents writer.old) (W.contents writer.new)) fault
+        (W.failed writer.old) (W.failed writer.new) (W.contents writer.old) (W.contents writer.new)) }
     ensures bad { IfErr result (λ fault. IfSome (R.remaining reader.old) (λ bytes. HasFault bytes fault)) }
     ensures reads { TellsReads result (R.failed reader.old) (R.failed reader.new) }
+    ensures writes { OnOk result (W.failed writer.new ≡ W.failed writer.old) }
 {
     let events = check_trace(reader)?;
     write_count(alloc, events, writer)

@@ -4,7 +4,7 @@ ghost use Rattle.std.specs.Io.KnownBytes.{Keeps};
 ghost use Rattle.std.specs.Option.{option_map};
 ghost use Rattle.hp_replay.specs.Scripts.{HasScriptFault};
 ghost use Rattle.hp_replay.specs.Streams.{TellsReads};
-ghost use Rattle.hugepool.specs.Requests.{AnsweredExplore, Explores};
+ghost use Rattle.hugepool.specs.Requests.{AnsweredExplore, Explores, ExploresPartly, NotDone};
 
 use crate::program::{Stop, flush_out};
 use hp_replay::{Exploration, ReplayFault, Sink, Source, Watched, read_script, write_explored};
@@ -23,6 +23,9 @@ fn explore_script<R: Source, W: Sink>(
 ) -> Result<bool, ReplayFault>
     ensures ok { IfOk result (λ finished. Explores exploration finished (R.remaining reader.old) (R.remaining reader.new)
         (W.contents writer.old) (W.contents writer.new)) }
+    ensures err { IfErr result (λ fault. NotDone (ExploresPartly exploration (R.remaining reader.old) (R.remaining reader.new)
+        (W.contents writer.old) (W.contents writer.new)) fault
+        (W.failed writer.old) (W.failed writer.new) (W.contents writer.old) (W.contents writer.new)) }
     ensures bad { IfErr result (λ fault. IfSome (R.remaining reader.old) (λ bytes. HasScriptFault bytes fault)) }
     ensures reads { TellsReads result (R.failed reader.old) (R.failed reader.new) }
 {

@@ -4,8 +4,8 @@ ghost use Rattle.std.specs.Option.{option_map};
 ghost use Rattle.hp_replay.specs.Scripts.{HasScriptFault};
 ghost use Rattle.hp_replay.specs.Streams.{TellsReads, TellsWrites};
 ghost use Rattle.hp_replay.specs.Writing.{IsWriteFault};
-ghost use Rattle.hugepool.specs.Racing.{Races, WroteRacing};
-ghost use Rattle.hugepool.specs.Requests.{AnsweredRace};
+ghost use Rattle.hugepool.specs.Racing.{Races, RacesPartly, WroteRacing, WroteSomeRacing};
+ghost use Rattle.hugepool.specs.Requests.{AnsweredRace, NotDone};
 
 use crate::exploring::explored_answer;
 use crate::program::{Stop, flush_out};
@@ -101,7 +101,8 @@ fn write_racing<W: Sink>(
     writer: &mut W,
 ) -> Result<bool, ReplayFault>
     ensures ok { IfOk result (λ closed. WroteRacing racing script.now closed (W.contents writer.old) (W.contents writer.new)) }
-    ensures err { IfErr result (λ fault. IsWriteFault fault) }
+    ensures err { IfErr result (λ fault. IsWriteFault fault
+        × WroteSomeRacing racing script.now (W.contents writer.old) (W.contents writer.new)) }
     ensures writes { TellsWrites result (W.failed writer.old) (W.failed writer.new) }
 {
     match racing {
@@ -120,6 +121,9 @@ fn race_script<R: Source, W: Sink>(
 ) -> Result<bool, ReplayFault>
     ensures ok { IfOk result (λ closed. Races racing closed (R.remaining reader.old) (R.remaining reader.new)
         (W.contents writer.old) (W.contents writer.new)) }
+    ensures err { IfErr result (λ fault. NotDone (RacesPartly racing (R.remaining reader.old) (R.remaining reader.new)
+        (W.contents writer.old) (W.contents writer.new)) fault
+        (W.failed writer.old) (W.failed writer.new) (W.contents writer.old) (W.contents writer.new)) }
     ensures bad { IfErr result (λ fault. IfSome (R.remaining reader.old) (λ bytes. HasScriptFault bytes fault)) }
     ensures reads { TellsReads result (R.failed reader.old) (R.failed reader.new) }
 {

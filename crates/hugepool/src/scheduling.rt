@@ -2,8 +2,8 @@
 ghost use Rattle.std.specs.Prelude.{◌≡◌, Ok, Err, OnOk, IfOk, Some, IfErr, IfSome};
 ghost use Rattle.std.specs.Option.{option_map};
 ghost use Rattle.hp_replay.specs.Scripts.{HasScriptFault};
-ghost use Rattle.hp_replay.specs.Streams.{TellsReads, TellsWrites};
-ghost use Rattle.hugepool.specs.Requests.{AnsweredSchedule, Schedules};
+ghost use Rattle.hp_replay.specs.Streams.{TellsReads};
+ghost use Rattle.hugepool.specs.Requests.{AnsweredSchedule, NotDone, Schedules, SchedulesPartly};
 
 use crate::command::Scheduling;
 use crate::program::{Stop, flush_unless, flushed_answer, stopped};
@@ -20,6 +20,9 @@ fn schedule_script<R: Source, W: Sink>(
 ) -> Result<(), ReplayFault>
     ensures ok { OnOk result (Schedules scheduling (R.remaining reader.old) (R.remaining reader.new)
         (W.contents writer.old) (W.contents writer.new)) }
+    ensures err { IfErr result (λ fault. NotDone (SchedulesPartly scheduling (R.remaining reader.old) (R.remaining reader.new)
+        (W.contents writer.old) (W.contents writer.new)) fault
+        (W.failed writer.old) (W.failed writer.new) (W.contents writer.old) (W.contents writer.new)) }
     ensures bad { IfErr result (λ fault. IfSome (R.remaining reader.old) (λ bytes. HasScriptFault bytes fault)) }
     ensures reads { TellsReads result (R.failed reader.old) (R.failed reader.new) }
     ensures writes { OnOk result (W.failed writer.new ≡ W.failed writer.old) }
