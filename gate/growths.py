@@ -25,6 +25,8 @@ from scratch import TOP
 
 # no line of words has so many growths
 MOST = 20_000
+# the status of a run that does not end
+HANGS = -1
 SECONDS = 60
 REFUSED = (1, "hugepool: out of memory\n")
 WORKLOADS = [
@@ -190,6 +192,9 @@ class Program:
             os.set_blocking(read, False)
             refused = said(read)
             return Told(ran.returncode, ran.stdout, ran.stderr, refused)
+        except subprocess.TimeoutExpired:
+            os.set_blocking(read, False)
+            return Told(HANGS, "", f"it hasn't ended after {SECONDS} seconds", said(read))
         finally:
             os.close(write)
             os.close(read)
