@@ -26,7 +26,7 @@ KINDS = [
     ("refused-maps", (512, 2048), "maps refused over so many regions"),
     ("regions", (512, 2048), "so many regions made in any order"),
 ]
-ROUNDS = 7
+ROUNDS = 15
 
 
 def make(kind, size, folder):
