@@ -1,0 +1,70 @@
+"""The libraries that `rt ci` proved and left, for checks in a copy of the repository.
+
+A check builds each library below its crate that has no stamp, by which the toolchain knows what a library was built of. `rt ci` leaves
+its own without one, since they fit none but one another. In a copy that takes all of them they fit, so there they get the stamp that
+the toolchain itself computes, and nothing is proved a second time. Where it computes none, as another version of it may, and where
+any of the libraries isn't one that `rt ci` left, nothing is taken: then they are built as ever.
+"""
+from __future__ import annotations
+
+import functools
+import importlib.util
+import os
+import shutil
+import sys
+from pathlib import Path
+from types import ModuleType
+from typing import Iterable
+
+from edit import PARTS
+from scratch import link_or_copy
+from seen import files_of
+
+
+def toolchain_of(command: str) -> ModuleType:
+    """The toolchain's own module, which knows the crates of a repository and their stamps."""
+    beside = Path(os.path.realpath(shutil.which(command) or command)).with_name("rtlib.py")
+    spec = importlib.util.spec_from_file_location("rtlib", beside)
+    module = importlib.util.module_from_spec(spec)
+    is_writing, sys.dont_write_bytecode = sys.dont_write_bytecode, True
+    try:
+        spec.loader.exec_module(module)
+    finally:
+        sys.dont_write_bytecode = is_writing
+    # it computes a crate's stamp anew for each crate above it
+    module.Crate.stamp = functools.cache(module.Crate.stamp)
+    return module
+
+
+def stamps_of(top: Path, command: str = "rt") -> dict[str, str]:
+    """The stamp of each crate, as the toolchain computes it of the texts that are there, or of none where it doesn't."""
+    try:
+        return {it.name: it.stamp() for it in toolchain_of(command).crates_below(str(top))}
+    except (Exception, SystemExit):
+        return {}
+
+
+def same_texts(one: Path, other: Path) -> bool:
+    """Whether both crates have the same files, with the same texts."""
+    first, second = ({it.relative_to(crate): it.read_bytes() for it in files_of(crate, PARTS)} for crate in (one, other))
+    return first == second
+
+
+def is_left_by_ci(top: Path, name: str) -> bool:
+    """Whether the library is there, and no other command of the toolchain built it."""
+    folder = top / "crates" / name / "out" / "rlib"
+    return (folder / f"{name}.rlib").exists() and not (folder / "stamp").exists()
+
+
+def take(top: Path, copy: Path, names: Iterable[str], command: str = "rt") -> bool:
+    """Brings into the copy the libraries of these crates that `rt ci` left in the repository, all or none, and tells which it was."""
+    names, stamps = sorted(names), stamps_of(copy, command)
+    crates = [(top / "crates" / it, copy / "crates" / it) for it in names]
+    if not all(it in stamps and is_left_by_ci(top, it) for it in names) or not all(same_texts(*it) for it in crates):
+        return False
+    for name, (source, to) in zip(names, crates):
+        kept = to / "out" / "rlib"
+        shutil.rmtree(kept, ignore_errors=True)
+        shutil.copytree(source / "out" / "rlib", kept, copy_function=link_or_copy)
+        (kept / "stamp").write_text(stamps[name], encoding="utf-8")
+    return True
