@@ -8,7 +8,8 @@ usage: ./check [STEP] [..]
   ./check edits [CRATE ..] [--all] [--due] [--each]
                      the must-fail edits, many at once: with no crate named, those of which anything changed that their checks
                      read since they were refused; where few are, those of some other crates (--all: all); then edits of
-                     which each has to be told apart, what makes edits due, and whether docs/INDEX.md is what the sources say.
+                     which each has to be told apart, what makes edits due, when libraries are taken over, and whether
+                     docs/INDEX.md is what the sources say.
                      Of crates that are named all, or with --due those that are due
   ./check examples   what the traces of examples/ print; a long race, and its trace; when ./hugepool builds; that what documents name
                      is there; where there is cargo, a few seconds of random and damaged traces beside a plain program
@@ -24,7 +25,6 @@ from __future__ import annotations
 import os
 import re
 import shutil
-import signal
 import subprocess
 import sys
 import tempfile
@@ -81,28 +81,6 @@ def python(script: str, *words: str) -> list[str]:
     return [sys.executable, str(GATE / script), *words]
 
 
-class Beside:
-    """A script of the gate that works in a copy of the repository, while something else works in the repository and goes first."""
-
-    def __init__(self, room: Path, script: str, *words: str) -> None:
-        self.said = (room / script).with_suffix(".said").open("w+", encoding="utf-8", errors="replace")
-        own = {"cwd": TOP, "env": {**os.environ, "TMPDIR": str(room)}, "start_new_session": True}
-        self.ran = subprocess.Popen(["nice", *python(script, *words)], stdin=subprocess.PIPE, stdout=self.said, **own, **TOLD)
-
-    def finish(self, step: Step) -> None:
-        """Tells it by the end of its input that it may have all processors, and passes on what it tells."""
-        self.ran.stdin.close()
-        self.ran.wait()
-        self.said.seek(0)
-        step.follow(self.said, self.ran)
-
-    def stop(self) -> None:
-        """Ends it where it still runs."""
-        if self.ran.poll() is None:
-            os.killpg(self.ran.pid, signal.SIGKILL)
-            self.ran.wait()
-
-
 def ci(step: Step, _: list[str]) -> None:
     """Where it ends well, the other steps run the programs that were proved and built by it."""
     with tempfile.NamedTemporaryFile(prefix="check-began-") as began:
@@ -116,12 +94,13 @@ def edits(step: Step, words: list[str]) -> None:
     step.run(python("try_edits.py", *words))
     if not crates_of(TOP).keys() & set(words):
         step.run(python("test_edits.py"))
-        step.run(python("test_tried.py"))
-        index(step)
+        gate_itself(step)
 
 
-def index(step: Step) -> None:
-    step.run(python("index.py"))
+def gate_itself(step: Step) -> None:
+    """What the trial of edits rests on, tried by itself."""
+    for script in ("test_tried.py", "test_libraries.py", "index.py"):
+        step.run(python(script))
 
 
 def examples(step: Step, _: list[str]) -> None:
@@ -176,28 +155,21 @@ def run_tests(name: str) -> bool:
 
 
 def whole(is_all: bool) -> list[Step]:
-    """All that has to pass. The edits are tried beside the proofs from nothing, which leave processors idle where crate waits for crate."""
+    """All that has to pass. The edits are tried in a copy, over the libraries that the proofs from nothing left."""
     steps = [Step(name) for name in ("ci", "edits", "examples", "refusals", "linux")]
     first, second, *others = steps
-    with tempfile.TemporaryDirectory(prefix="check-") as name:
-        room = Path(name)
-        copy = str(shutil.copytree(TOP, room / "all", ignore=shutil.ignore_patterns(".git")))
-        every = ["--all"] if is_all else []
-        beside = [Beside(room, "try_edits.py", "--beside", copy, *every), Beside(room, "test_edits.py", copy)]
-        try:
-            ci(first, [])
-            first.end()
-            if first.failed:
-                print("check: the other steps rest on what is proved, so they were left out")
-                return [first]
-            for it in beside:
-                it.finish(second)
-            tried.record(TOP, tried.recorded(Path(copy)))
-        finally:
-            for it in beside:
-                it.stop()
-    second.run(python("test_tried.py"))
-    index(second)
+    with tempfile.TemporaryDirectory(prefix="check-") as room:
+        copy = shutil.copytree(TOP, Path(room) / "all", ignore=shutil.ignore_patterns(".git"))
+        ci(first, [])
+        first.end()
+        if first.failed:
+            print("check: the other steps rest on what is proved, so they were left out")
+            return [first]
+        second.begin()
+        second.run(python("try_edits.py", "--copy", str(copy), *(["--all"] if is_all else [])))
+        second.run(python("test_edits.py", str(copy)))
+        tried.record(TOP, tried.recorded(copy))
+    gate_itself(second)
     second.end()
     for step in others:
         step.begin()

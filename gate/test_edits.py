@@ -53,7 +53,7 @@ def main(words: list[str]) -> int:
         return 1
     with tempfile.TemporaryDirectory(prefix="edits-of-edits-") as name:
         room = Path(name)
-        told = {it.name: it.why for _, results, _ in try_crates(repository(top, room), [CRATE], Lanes(1, 1)) for it in results}
+        told = {it.name: it.why for _, results, _ in try_crates(repository(top, room), [CRATE], Lanes(1)) for it in results}
     wrong = [name for name in sorted({*told, *EXPECTED}) if not told.get(name, "").startswith(EXPECTED.get(name, "?"))]
     for name in wrong:
         print(f"  {name}: said {told.get(name)!r}, to be said {EXPECTED.get(name)!r}")

@@ -32,6 +32,7 @@ from pathlib import Path
 from typing import Container, Iterable, Iterator
 
 import edit as edits
+import libraries
 import tried as record
 from edit import BadEdit, Edit, Texts
 from scratch import TOP, Scratch, below, crates_of
@@ -233,15 +234,10 @@ def try_share(top: Path, share: Share, rooms: Path) -> Tried:
 
 
 class Lanes:
-    """How many checks may run side by side: few while something else needs the processors, and all from `widen` on."""
+    """So many checks may run side by side."""
 
-    def __init__(self, few: int, most: int) -> None:
-        self.most, self.more, self.free = most, most - few, threading.Semaphore(few)
-
-    def widen(self) -> None:
-        for _ in range(self.more):
-            self.free.release()
-        self.more = 0
+    def __init__(self, number: int) -> None:
+        self.number, self.free = number, threading.Semaphore(number)
 
 
 def try_crates(
@@ -254,7 +250,7 @@ def try_crates(
             return try_share(top, share, Path(rooms))
 
     trials, left, ended = {}, Counter(), {}
-    with tempfile.TemporaryDirectory(prefix="edits-") as rooms, ThreadPoolExecutor(lanes.most) as pool:
+    with tempfile.TemporaryDirectory(prefix="edits-") as rooms, ThreadPoolExecutor(lanes.number) as pool:
         for name in proved:
             candidates, bad = read_all(top / "crates" / name)
             candidates = [it for it in candidates if picked is None or it.edit.name in picked.get(name, ())]
@@ -312,6 +308,29 @@ def proved_in_order(top: Path) -> Iterator[str]:
         raise NotProved("".join(said))
 
 
+def prove_apart(top: Path, name: str, rooms: Path, lanes: Lanes) -> None:
+    """Proves a crate in a scratch copy, over the libraries that are there, and keeps the work for the copies in which its edits are tried."""
+    with lanes.free:
+        room = Path(tempfile.mkdtemp(prefix=f"{name}-", dir=rooms))
+        check = Scratch(top, name, room).check(Texts(top / "crates" / name))
+        if not check.is_proved:
+            raise NotProved(check.output)
+        kept = Path("crates") / name / "out" / "incremental"
+        shutil.rmtree(top / kept, ignore_errors=True)
+        (top / kept).parent.mkdir(parents=True, exist_ok=True)
+        shutil.move(room / kept, top / kept)
+        shutil.rmtree(room)
+
+
+def proved_apart(top: Path, names: Iterable[str], lanes: Lanes) -> Iterator[str]:
+    """Proves these crates side by side, over the libraries that are there, and gives each as it is proved."""
+    with tempfile.TemporaryDirectory(prefix="proofs-") as rooms, ThreadPoolExecutor(lanes.number) as pool:
+        begun = {pool.submit(prove_apart, top, name, Path(rooms), lanes): name for name in names}
+        for proof in as_completed(begun):
+            proof.result()
+            yield begun[proof]
+
+
 def chosen(top: Path, marks: dict[str, record.Mark], is_all: bool) -> dict[str, set[str]]:
     """The edits that are to be tried, by their crates. How many are left out is told."""
     every = {name: set(mark.edits) for name, mark in marks.items() if mark.edits}
@@ -354,25 +373,25 @@ def try_all(
     return refused, faults
 
 
-def widen_when_input_ends(lanes: Lanes) -> None:
-    sys.stdin.read()
-    lanes.widen()
-
-
-def try_beside(top: Path, marks: dict[str, record.Mark], picked: dict[str, set[str]], most: int, is_each_told: bool) -> tuple[int, int]:
-    """Tries these edits in a copy of the repository, with half the lanes until the input ends. No other crate is proved in the copy
-    than theirs, what these stand on, and what is needed to try the gate itself."""
+def keep_only(top: Path, names: Container[str]) -> None:
+    """Takes all crates but these out of a copy of the repository."""
     crates = crates_of(top)
-    needed = {it for name in {*picked, ALWAYS} for it in {name, *below(name, crates)}}
-    kept = top / "crates.txt.new"
-    kept.write_text("".join(f"{it}: {' '.join(crates[it])}\n" for it in crates if it in needed), encoding="utf-8")
-    # (at once, since another script reads it beside this one)
-    kept.replace(top / "crates.txt")
-    for it in crates.keys() - needed:
-        shutil.rmtree(top / "crates" / it)
-    lanes = Lanes(max(1, most // 2), most)
-    threading.Thread(target=widen_when_input_ends, args=(lanes,), daemon=True).start()
-    return try_all(top, marks, picked, only(proved_in_order(top), picked), lanes, is_each_told)
+    (top / "crates.txt").write_text("".join(f"{it}: {' '.join(crates[it])}\n" for it in crates if it in names), encoding="utf-8")
+    for it in crates:
+        if it not in names:
+            shutil.rmtree(top / "crates" / it)
+
+
+def proved_in(copy: Path, names: Iterable[str], lanes: Lanes) -> Iterator[str]:
+    """Proves these crates in a copy of the repository, and gives each as it is proved: over the libraries that `rt ci` left in the repository,
+    or, where these can't be had, with what they stand on and what is needed to try the gate itself, and nothing else."""
+    crates = crates_of(copy)
+    low = {it for name in [*names, ALWAYS] for it in below(name, crates)}
+    if libraries.take(TOP, copy, low):
+        return proved_apart(copy, names, lanes)
+    print("the libraries that rt ci left can't be had, so they are proved once more", flush=True)
+    keep_only(copy, {*low, *names, ALWAYS})
+    return only(proved_in_order(copy), names)
 
 
 def only(proved: Iterable[str], names: Container[str]) -> Iterator[str]:
@@ -386,21 +405,20 @@ def main() -> int:
     words.add_argument("--due", action="store_true", help="try those edits of the named crates alone that are due")
     words.add_argument("--each", action="store_true", help="tell of each edit, not of the faults alone")
     words.add_argument("--lanes", type=int, default=os.cpu_count() or 1, metavar="N", help="how many checks side by side")
-    words.add_argument("--beside", type=Path, help=argparse.SUPPRESS)
+    words.add_argument("--copy", type=Path, help=argparse.SUPPRESS)
     given = words.parse_args()
     unknown = [it for it in given.crates if it not in crates_of(TOP)]
     if unknown:
         words.error(f"crates.txt has no crate {unknown[0]}")
-    most = max(1, given.lanes)
+    lanes, top = Lanes(max(1, given.lanes)), given.copy or TOP
     try:
-        top = given.beside or TOP
         marks = record.marks_of(top, FOLDERS, record.toolchain())
         picked = named(top, marks, given.crates, given.due) if given.crates else chosen(top, marks, given.all)
-        if given.beside:
-            refused, faults = try_beside(top, marks, picked, most, given.each)
+        if given.copy:
+            proved = proved_in(top, list(picked), lanes)
         else:
             proved = proved_one_by_one(top, list(picked)) if given.crates else only(proved_in_order(top), picked)
-            refused, faults = try_all(top, marks, picked, proved, Lanes(most, most), given.each)
+        refused, faults = try_all(top, marks, picked, proved, lanes, given.each)
     except NotProved as error:
         print(f"{error}check: the crates aren't proved, so not all edits were tried")
         return 1
