@@ -1,7 +1,9 @@
 #!/usr/bin/env python3
 """What no one output shows: that lines come as they are told, that races differ, and that a picture holds all that is drawn.
 
-A socket that keeps messages apart stands for the output, so that each write of the program is seen by itself.
+A socket that keeps messages apart stands for the output, so that each write of the program is seen by itself. The most runs and
+races that may be asked for are made. Each command's help is held to what is told of the command elsewhere, and each wrong field of a
+line to what is to be said of it (reasons.py).
 """
 from __future__ import annotations
 
@@ -12,13 +14,24 @@ import sys
 from itertools import pairwise
 from typing import Iterator
 
+import reasons
+from programs import built
 from scratch import TOP
 
 BOX = re.compile(r"<rect class='([^']*)' x='(\d+)' y='(\d+)' width='(\d+)' height='(\d+)'/>")
 STAY = re.compile(r"at \w+[^<]*</title><rect class='stay \w+' x='\d+' y='(\d+)' width='\d+' height='(\d+)'/>")
 TASK = re.compile(r"<title>line \d+: [^<]* of task (\d+) at ")
 NAME = re.compile(r"<text class='name' x='8' y='\d+'>(?:task (\d+)|pool)</text>")
+NUMBER = re.compile(r"<text class='at' x='(\d+)' y='\d+'>(\d+)</text>")
+# how wide a letter is
+LETTER = 6
+# a picture of few events is no wider than this, and one of very many has two places for each
+WIDE = 28_000
+# what stands beside the events, and behind them
+BESIDE = 112
 EMPTY = "pool 1 1 1 1\n"
+# a run of it has so many turns that the next part has no more runs: each call has two
+LONG = EMPTY + "begin 1 load 0\n" * 3_907
 
 
 def example(name: str) -> str:
@@ -44,10 +57,27 @@ def kinds_of_races(script: str) -> int:
     return len({line.split(" ", 2)[2] for line in output("race --times 50", script).splitlines()})
 
 
-def picture_fault(picture: str) -> str | None:
-    """What is wrong with where things stand in a picture, if anything is."""
+def layout_fault(picture: str, wide: int, lanes: list[int], events: int) -> str | None:
+    """What is wrong with how wide the events of a picture are and with the numbers of their lines, if anything is."""
+    if wide > max(WIDE, 2 * events) + BESIDE:
+        return f"it is {wide} wide"
+    step = min(lanes) / events
+    if set(lanes) != {step * events} or not (14 if events <= 2_000 else 2) <= step <= 60:
+        return f"an event is {step} wide"
+    numbers = [(int(x), len(number)) for x, number in NUMBER.findall(picture)]
+    if len(numbers) * 50 < events:
+        return f"{len(numbers)} lines have their numbers"
+    if any(after - before < LETTER * (one + other) / 2 for (before, one), (after, other) in pairwise(numbers)):
+        return "two numbers touch"
+    return None
+
+
+def picture_fault(picture: str, events: int) -> str | None:
+    """What is wrong with where things stand in a picture of so many events, if anything is."""
     (_, *ground), *rest = [(kind, *map(int, at)) for kind, *at in BOX.findall(picture)]
     wide, high = ground[2:]
+    if fault := layout_fault(picture, wide, [w for kind, _, _, w, _ in rest if kind == "lane"], events):
+        return fault
     if any(x + w > wide or y + h > high for _, x, y, w, h in rest):
         return "a box lies outside"
     if any(int(x) > wide for x in re.findall(r" (?:c?x='|d='M)(\d+)", picture)):
@@ -56,25 +86,55 @@ def picture_fault(picture: str) -> str | None:
     if any(y + h > below for (y, h), (below, _) in pairwise(lanes)):
         return "two lanes touch"
     lane_of = dict(zip([int(it or 0) for it in NAME.findall(picture)], lanes))
-    stays = zip(TASK.findall(picture), STAY.findall(picture))
+    tasks, places = TASK.findall(picture), STAY.findall(picture)
+    if len(tasks) != len(places) or len(tasks) != len(re.findall(r"<rect class='stay ", picture)):
+        return "a stay isn't told of"
+    stays = zip(tasks, places)
     if any(lane_of.get(int(task)) != (int(y), int(h)) for task, (y, h) in stays):
         return "a stay isn't in the lane of its task"
     return None
 
 
+def helps() -> Iterator[tuple[str, bool]]:
+    """What is tried of the help of each command, beside what the program's own help, replay's and explore's tell."""
+    whole = output("--help", "")
+    told = dict(re.findall(r"^  ([a-z]+) +([A-Z].*)$", whole.split("Commands:\n")[1].split("\n\n")[0], re.M))
+    help_of = {command: output(f"{command} --help", "") for command in told if command != "help"}
+    below = {command: text.partition("Print help\n")[2] for command, text in help_of.items()}
+    lines_of = lambda command: set(re.findall(r"^ +--\w+.*$", help_of[command], re.M))
+    for command, text in help_of.items():
+        about, _, usage = text.split("\n")[:3]
+        yield f"{command} --help begins with what --help tells of it", about == told[command]
+        options = " [OPTIONS]" if command in ("explore", "schedule", "race", "work") else ""
+        wanted = " <NAME>" if command == "work" else " < FILE"
+        yield f"{command} --help tells how it is called ({usage})", usage == f"Usage: hugepool {command}{options}{wanted}"
+    for command in ("explain", "draw", "check"):
+        yield f"{command} --help tells of traces as replay's does", len(below["replay"]) > 1000 and below[command] == below["replay"]
+    yield "schedule --help tells of scripts as explore's does", len(below["explore"]) > 500 and below["schedule"] == below["explore"]
+    runs = {line for line in lines_of("explore") if re.match(r" +--(?:runs|audit)", line)}
+    yield "and of its options", len(runs) == 2 and lines_of("schedule") == lines_of("explore") - runs != set()
+
+
 def tries() -> Iterator[tuple[str, bool]]:
     """What is tried, and whether it went as it should."""
     yield "runs are written a part at a time, of 512 first", writes("explore --runs 513", EMPTY) == [512, 1]
+    yield "the next part has four times as many", writes("explore --runs 2561", EMPTY) == [512, 2048, 1]
+    yield "but where runs are long as many", writes("explore --runs 1025", LONG) == [512, 512, 1]
+    yield "65,536 runs may be asked for", output("explore --runs 65536", EMPTY).count("\n") == 65_536
+    yield "and as many races", output("race --times 65536", EMPTY).count("\n") == 65_536
+    yield from helps()
+    yield from reasons.tries(built("hugepool"))
     yield "a race is written before the next begins", writes("race --times 3", EMPTY) == [1, 1, 1]
     yield "races of one script differ", kinds_of_races(example("truncate-against-store.script")) > 1
     pictures = {
         "of 300 events": EMPTY + "step 1\n" * 300,
         "of 3,000 events": "pool 4 1 4 2\nbegin 2 map 0 0 4\n" + "step 1\nstep 2\n" * 1500,
+        "of 20,000 events": EMPTY + "begin 1 map 0 0 1\n" + "step 1\n" * 20_000,
         "of 64 tasks": "pool 1 1 1 64\n" + "".join(f"begin {task} exit\n" for task in range(1, 65)),
         "of calls in flight": example("calls-in-flight.trace"),
     }
     for name, trace in pictures.items():
-        fault = picture_fault(output("draw", trace))
+        fault = picture_fault(output("draw", trace), trace.count("\n") - 1)
         yield f"a picture {name} holds all of it ({fault})", fault is None
 
 
