@@ -1,17 +1,22 @@
 #!/usr/bin/env python3
 """What no one output shows: that lines come as they are told, that races differ, and that a picture holds all that is drawn.
 
-A socket that keeps messages apart stands for the output, so that each write of the program is seen by itself. The most runs and
-races that may be asked for are made. Each command's help is held to what is told of the command elsewhere, and each wrong field of a
+A socket that keeps messages apart stands for the output, so that each write of the program is seen by itself. A replay tells what came
+of the lines that it has, while more may come. The most runs and races that may be asked for are made, and runs in shards
+(bench/explore-many.sh, with a stand-in for GNU parallel) are those of one exploration. Each command's help is held to what is told of the command elsewhere, and each wrong field of a
 line to what is to be said of it (reasons.py).
 """
 from __future__ import annotations
 
+import os
 import re
+import select
 import socket
 import subprocess
 import sys
+import tempfile
 from itertools import pairwise
+from pathlib import Path
 from typing import Iterator
 
 import reasons
@@ -50,6 +55,47 @@ def writes(words: str, read: str) -> list[int]:
         ran.stdin.write(read.encode())
         ran.stdin.close()
         return [piece.count(b"\n") for piece in iter(lambda: ours.recv(1 << 20), b"")]
+
+
+def told_so_far(read: str, enough: int) -> int:
+    """How many bytes a replay writes of these lines, while more may come; `enough` of them end the wait, or a minute without any."""
+    with subprocess.Popen([TOP / "hugepool", "replay"], stdin=subprocess.PIPE, stdout=subprocess.PIPE) as ran:
+        told, left = 0, read.encode()
+        os.set_blocking(ran.stdin.fileno(), False)
+        while told < enough:
+            readable, writable, _ = select.select([ran.stdout], [ran.stdin] if left else [], [], 60)
+            if not readable and not writable:
+                break
+            if writable:
+                left = left[os.write(ran.stdin.fileno(), left[:65_536]) :]
+            if readable:
+                told += len(os.read(ran.stdout.fileno(), 65_536))
+        ran.stdin.close()
+        ran.stdout.read()
+    return told
+
+
+# does one after the other what GNU parallel does at once
+PARALLEL = """#!/bin/bash
+[ "$1,$2,$3" = "--keep-order,--colsep, " ] || exit 9
+shift 3
+while read -r one two; do
+    line=${*//'{1}'/$one}
+    bash -c "${line//'{2}'/$two}" < /dev/null || exit 8
+done
+"""
+
+
+def in_shards(script: str, seed: int, runs: int, shards: int, *options: str) -> str:
+    """What bench/explore-many.sh writes."""
+    with tempfile.TemporaryDirectory(prefix="parallel-") as name:
+        stand_in = Path(name) / "parallel"
+        stand_in.write_text(PARALLEL, encoding="utf-8")
+        stand_in.chmod(0o755)
+        own = {"env": {**os.environ, "PATH": f"{name}:{os.environ['PATH']}"}, "stdin": subprocess.DEVNULL, "check": True}
+        words = [TOP / "examples" / script, seed, runs, shards, *options]
+        ran = subprocess.run([TOP / "bench" / "explore-many.sh", *map(str, words)], capture_output=True, text=True, **own)
+        return ran.stdout
 
 
 def kinds_of_races(script: str) -> int:
@@ -120,6 +166,14 @@ def tries() -> Iterator[tuple[str, bool]]:
     yield "runs are written a part at a time, of 512 first", writes("explore --runs 513", EMPTY) == [512, 1]
     yield "the next part has four times as many", writes("explore --runs 2561", EMPTY) == [512, 2048, 1]
     yield "but where runs are long as many", writes("explore --runs 1025", LONG) == [512, 512, 1]
+    # (what the program's buffer holds, and the lines of a piece that is read, may be to come)
+    some = EMPTY + "step 1\n" * 50_000
+    enough = len("refused idle\n") * 50_000 - 32_768
+    yield "a replay doesn't wait for the end of its trace", told_so_far(some, enough) >= enough
+    name, options = "truncate-against-store.script", ("--deny", "100", "--kill", "20")
+    for runs, shards in ((10, 3), (2, 5), (600, 1)):
+        at_once = output(f"explore --seed 7 --runs {runs} {' '.join(options)}", example(name))
+        yield f"{runs} runs in {shards} shards are those of one exploration", in_shards(name, 7, runs, shards, *options) == at_once
     yield "65,536 runs may be asked for", output("explore --runs 65536", EMPTY).count("\n") == 65_536
     yield "and as many races", output("race --times 65536", EMPTY).count("\n") == 65_536
     yield from helps()
