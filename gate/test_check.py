@@ -1,8 +1,9 @@
-"""What ./check counts, which scripts it runs, and with which status it ends; gate/test_launcher.py tries it."""
+"""What ./check counts, which scripts it runs, on how many records, and with which status it ends; gate/test_launcher.py tries it."""
 from __future__ import annotations
 
 import contextlib
 import io
+import re
 from pathlib import Path
 from typing import Iterator
 
@@ -72,6 +73,14 @@ def status(words: list[str], passed: int, failed: int) -> int:
         check.STEPS["linux"] = kept
 
 
+def records() -> set[int]:
+    """How many recorded scripts begin, how many end, which alone are compared, and how many there are by what is told of them."""
+    folder = TOP / "conformance"
+    text = "".join(it.read_text(encoding="utf-8") for it in sorted(folder.glob("calls-*.txt")))
+    told = re.search(r"of the (\d+) at the touch", (folder / "README.md").read_text(encoding="utf-8"))
+    return {len(re.findall(r"^script ", text, re.M)), len(re.findall(r"^end ", text, re.M)), int(told[1]) if told else 0}
+
+
 def tries() -> Iterator[tuple[str, bool]]:
     """What is tried, and whether it went as it should."""
     for command, wanted in COMMANDS:
@@ -79,6 +88,7 @@ def tries() -> Iterator[tuple[str, bool]]:
     yield "a step that passes ends with 0", status(["linux"], 3, 0) == 0
     yield "one that fails doesn't", status(["linux"], 3, 1) == 1
     yield "a word that is no step is refused", status(["linus"], 3, 0) == 2 and status(["linux", "more"], 3, 0) == 2
+    yield "all recorded scripts are there", len(records()) == 1 and 0 not in records()
     scripts = scripts_run()
     tests = {it.name for it in (TOP / "conformance").glob("test_*.py")} | {"compare.py", "races.py"}
     own = {it.name for it in (TOP / "gate").glob("*.py") if IS_RUN in it.read_text(encoding="utf-8")}
