@@ -35,6 +35,16 @@ WIDE = 28_000
 # what stands beside the events, and behind them
 BESIDE = 112
 EMPTY = "pool 1 1 1 1\n"
+# in the columns of task 2, of task 3 and of the pool what came of an event is wider than all else
+WORD = 2**64 - 1
+OUTCOMES = "".join(
+    f"{line}\n" * times
+    for line, times in (
+        *(("pool 4 1 4 3", 1), ("begin 1 map 0 0 1", 1), ("step 1", 8), (f"begin 1 store 0 {WORD}", 1), ("step 1", 12)),
+        *(("begin 2 map 0 0 1", 1), ("step 2", 8), ("begin 2 load 0", 1), ("step 2", 8)),
+        *(("kill 3", 1), ("step 3", 1), ("resize 0", 1), ("step 9", 1)),
+    )
+)
 # a run of it has so many turns that the next part has no more runs: each call has two
 LONG = EMPTY + "begin 1 load 0\n" * 3_907
 
@@ -101,6 +111,13 @@ def in_shards(script: str, seed: int, runs: int, shards: int, *options: str) -> 
 def kinds_of_races(script: str) -> int:
     """How many different ends 50 races of a script have."""
     return len({line.split(" ", 2)[2] for line in output("race --times 50", script).splitlines()})
+
+
+def rows_fault(told: str, events: int) -> str | None:
+    """What is wrong with the columns of an explanation of so many events, if anything is: its rows are as long as its head."""
+    head, *rows = told.split("\n")[: events + 1]
+    at = next((k for k, row in enumerate(rows, 2) if len(row) != len(head)), None)
+    return f"row {at} isn't as long as the head" if at else None
 
 
 def layout_fault(picture: str, wide: int, lanes: list[int], events: int) -> str | None:
@@ -180,6 +197,10 @@ def tries() -> Iterator[tuple[str, bool]]:
     yield from reasons.tries(built("hugepool"))
     yield "a race is written before the next begins", writes("race --times 3", EMPTY) == [1, 1, 1]
     yield "races of one script differ", kinds_of_races(example("truncate-against-store.script")) > 1
+    for trace, has in ((OUTCOMES, f"step 2: ended word {WORD}"), (example("calls-in-flight.trace"), "blocked by")):
+        told = output("explain", trace)
+        fault = rows_fault(told, trace.count("\n") - 1)
+        yield f"an explanation has its columns below each other ({fault})", fault is None and has in told
     pictures = {
         "of 300 events": EMPTY + "step 1\n" * 300,
         "of 3,000 events": "pool 4 1 4 2\nbegin 2 map 0 0 4\n" + "step 1\nstep 2\n" * 1500,
