@@ -7,18 +7,21 @@ What is complained is compared with NAME.err, and the status with NAME.status; w
 Each script is explored by the words behind each `#` of the file NAME.lines beside it, and its lines are compared with those
 below the words; and the schedule of each first run is replayed, and ends with the counts of that run's line. Each script is
 raced some times in threads, too, whole and in parts: every race has to be closed. At last each `$` line of docs/TRACES.md is run
-by a shell, and what it tells is compared with the lines below it.
+by a shell, and what it tells is compared with the lines below it. Wrong programs, which look up what is right and change it, have to
+be noticed.
 """
 from __future__ import annotations
 
 import re
 import subprocess
 import sys
+import tempfile
 from pathlib import Path
-from typing import Callable
+from typing import Callable, Iterator
 
 from scratch import TOP
 
+PROGRAM = TOP / "hugepool"
 FOLDER = TOP / "examples"
 PICTURES = TOP / "docs" / "pictures"
 # the documents whose commands are run
@@ -50,7 +53,7 @@ def wanted(name: str, ending: str, otherwise: str) -> str:
 def difference(name: str) -> str | None:
     """How the run of a trace differs from what stands beside it, if it does."""
     trace = (FOLDER / f"{name}.trace").read_bytes()
-    ran = subprocess.run([TOP / "hugepool", "replay"], input=trace, capture_output=True, check=False)
+    ran = subprocess.run([PROGRAM, "replay"], input=trace, capture_output=True, check=False)
     printed, complained = ran.stdout.decode(), ran.stderr.decode()
     if ran.returncode != int(wanted(name, "status", "0")):
         return f"status {ran.returncode}: {complained.strip()}"
@@ -96,7 +99,7 @@ def blocks(text: str) -> list[tuple[list[str], list[str]]]:
 
 def output(words: list[str], read: bytes) -> str:
     """What the program writes by these words."""
-    return subprocess.run([TOP / "hugepool", *words], input=read, capture_output=True, check=True).stdout.decode()
+    return subprocess.run([PROGRAM, *words], input=read, capture_output=True, check=True).stdout.decode()
 
 
 def script_difference(name: str) -> str | None:
@@ -118,7 +121,7 @@ def script_difference(name: str) -> str | None:
 def race_difference(script: bytes, cut: list[str]) -> str | None:
     """The first line of a script's races that isn't one of a closed race with its number, if there is one."""
     words = ["race", "--times", str(RACES), *cut]
-    ran = subprocess.run([TOP / "hugepool", *words], input=script, capture_output=True, check=False)
+    ran = subprocess.run([PROGRAM, *words], input=script, capture_output=True, check=False)
     lines, told = ran.stdout.decode().splitlines(), " ".join(words)
     for k, line in enumerate(lines):
         if not (RACED.fullmatch(line) and line.startswith(f"run {k} ")):
@@ -167,6 +170,81 @@ def shown() -> tuple[int, list[str]]:
     return len(tried) - len(faults), faults
 
 
+# a program that looks up what is right, and changes it
+WRONG = """#!/usr/bin/env python3
+import sys
+from pathlib import Path
+
+def text(file, otherwise):
+    return file.read_text(encoding="utf-8") if file.is_file() else otherwise
+
+folder, read, err, status = Path({folder!r}), sys.stdin.buffer.read(), "", 0
+if sys.argv[1] == "race":
+    out = "".join(f"run {{k}} closed entries 1 free 1 resv 0\\n" for k in range(int(sys.argv[3])))
+else:
+    trace = next(it for it in sorted(folder.rglob("*.trace")) if it.read_bytes() == read)
+    if sys.argv[1] == "draw":
+        out = text(folder.parent / "docs" / "pictures" / f"{{trace.stem}}.svg", "")
+    elif sys.argv[1] == "explain":
+        out = text(trace.with_suffix(".explained"), "")
+    else:
+        out, err, status = (text(trace.with_suffix(it), otherwise) for it, otherwise in ((".out", ""), (".err", ""), (".status", "0")))
+{change}
+sys.stdout.write(out)
+sys.stderr.write(err)
+sys.exit(int(status))
+"""
+# what each does, and to which commands: others don't look at it
+CHANGES = {
+    "loses its last line": ('out = out[:out.rstrip("\\n").rfind("\\n") + 1]', ("replay", "explain", "draw", "race")),
+    "writes one line more": ('out += "\\n"', ("replay", "explain", "draw", "race")),
+    "complains": ('err += "hugepool: stuck\\n"', ("replay",)),
+    "ends with another status": ("status = 1 - int(status)", ("replay", "race")),
+    "tells a race as astray": ('out = out.replace("run 7 closed", "run 7 astray")', ("race",)),
+    "numbers a race wrongly": ('out = out.replace("run 7 ", "run 8 ")', ("race",)),
+    "does all that is right": ("", ()),
+}
+# what a document may say of a command, and whether that is so
+TOLD = [
+    ("echo a; echo b >&2", ["a", "b"], True),
+    ("echo a", ["a", ""], False),
+    ("echo a", [], False),
+    ("echo a", ["b"], False),
+    ("false; echo $?", ["1"], True),
+]
+
+
+def notices(differs: Callable[[], str | None]) -> bool:
+    """Whether a difference is told, or a command fails that should not."""
+    try:
+        return differs() is not None
+    except subprocess.CalledProcessError:
+        return True
+
+
+def unnoticed(name: str) -> Iterator[tuple[str, bool]]:
+    """What is tried with wrong programs, of the example of this name and of one that ends with a fault, and whether it went as it should."""
+    global PROGRAM
+    right = PROGRAM
+    looks = {
+        "replay": lambda: all(notices(lambda: difference(it)) for it in (name, "a-bad-line")),
+        "explain": lambda: notices(lambda: explained_difference(name)),
+        "draw": lambda: notices(lambda: picture_difference(PICTURES / f"{name}.svg")),
+        "race": lambda: notices(lambda: race_difference(b"", [])),
+    }
+    with tempfile.TemporaryDirectory(prefix="examples-") as folder:
+        PROGRAM = Path(folder) / "wrong"
+        for what, (change, commands) in CHANGES.items():
+            PROGRAM.write_text(WRONG.format(folder=str(FOLDER), change=change), encoding="utf-8")
+            PROGRAM.chmod(0o755)
+            for command, is_noticed in looks.items():
+                if command in commands or not commands:
+                    yield f"a {command} that {what} is {'noticed' if commands else 'passed'}", is_noticed() == bool(commands)
+    PROGRAM = right
+    for command, lines, is_so in TOLD:
+        yield f"{command!r} telling {lines}", (session_difference(command, lines) is None) == is_so
+
+
 def main() -> int:
     # (the first call builds the program, which proves it)
     subprocess.run([TOP / "hugepool", "--help"], stdout=subprocess.DEVNULL, check=True)
@@ -179,8 +257,13 @@ def main() -> int:
     faults += more
     commands, more = shown()
     faults += more
+    tried = list(unnoticed("truncate-overtakes-a-store"))
+    faults += [f"not so: {what}" for what, is_so in tried if not is_so]
+    found = {"traces": traces, "scripts": scripts, "explanations": explained, "pictures": pictures, "commands": commands}
+    faults += [f"there are no {what}" for what, many in found.items() if not many]
     print("".join(f"  {it}\n" for it in faults), end="")
-    print(f"examples: {traces + scripts + explained + pictures + commands} passed, {len(faults)} failed")
+    passed = sum(found.values()) + sum(is_so for _, is_so in tried)
+    print(f"examples: {passed} passed, {len(faults)} failed")
     return 1 if faults else 0
 
 

@@ -6,7 +6,8 @@ The library that refuses (refusing.c) is built by the C compiler, and loaded bef
 it wrote before has to be a front of what is right; where a thread is refused, or nothing is, all has to be right. hp_refusals tells
 stories, in which what was refused is told and tried again: all else has to be as it is in plenty, to the end. In two of them threads
 meet at a gate, and where the second thread is refused, it has to be told that they don't. Wrong programs, and a library that refuses
-nothing, have to be noticed.
+nothing, have to be noticed. At last it is counted how many threads a command starts: each racing task and each call of a round on a
+running pool has one, anew behind each cut of a journal, and nothing else starts any.
 """
 from __future__ import annotations
 
@@ -18,13 +19,15 @@ import sys
 import tempfile
 from concurrent.futures import ThreadPoolExecutor
 from pathlib import Path
-from typing import Callable, NamedTuple
+from typing import Callable, Iterator, NamedTuple
 
 from programs import built
 from scratch import TOP
 
 # no line of words has so many growths
 MOST = 20_000
+# the number by which the library tells of each thread, and refuses nothing
+TELL_THREADS = -1
 # the status of a run that does not end
 HANGS = -1
 SECONDS = 60
@@ -203,7 +206,7 @@ class Program:
 def said(read: int) -> str:
     """What was written to a pipe so far."""
     try:
-        return os.read(read, 100).decode()
+        return os.read(read, 1 << 16).decode()
     except BlockingIOError:
         return ""
 
@@ -321,6 +324,38 @@ class Room:
         return [f"around {program.name} one that {name} isn't noticed" for name in let]
 
 
+def even(tasks: int, calls: int) -> str:
+    """A script in which each task makes so many calls, none of which waits for another."""
+    return f"pool 1 1 1 {tasks}\n" + "".join(f"begin {task} load 0\n" for task in range(1, tasks + 1)) * calls
+
+
+def threads(program: Program, words: str, read: str) -> int:
+    """How many threads a run starts, which has to end well."""
+    told = program.told(plain_words(words, read), TELL_THREADS)
+    if told.status or told.err or told.refused.strip("s"):
+        raise SystemExit(f"growths: {words}: status {told.status}, told is {told.err!r}, and of threads {told.refused!r}")
+    return len(told.refused)
+
+
+def threads_tried(program: Program) -> Iterator[tuple[str, bool]]:
+    """What is tried of threads, and whether it went as it should."""
+    tasks, calls = 12, 6
+    race = lambda words: threads(program, f"race {words}", even(tasks, calls))
+    once = race("--times 1")
+    # (the first thread races, too)
+    yield f"each of {tasks} tasks races in a thread of its own ({once} are started)", once in (tasks - 1, tasks)
+    yield "so it does in each race, and where it is traced", race("--times 3") == 3 * once and race("--trace") == once
+    for cut in (1, 2, 4, calls - 1, calls, 65_536):
+        parts, started = -(-calls // cut), race(f"--times 1 --cut {cut}")
+        yield f"by --cut {cut} each makes its {calls} calls in {parts} parts ({started} are started)", started == parts * once
+    for name, several in (("readback", 3), ("shared", 6), ("alloc-instantiate-race", 4), ("counters", 6)):
+        own, on_core, on_pool = (threads(program, f"work {name}{more}", "") for more in ("", " --on core", " --on pool"))
+        yield f"work {name} starts no thread, unless it is told to", own == on_core == 0
+        yield f"work {name} --on pool makes each of {several} calls in a thread of its own ({on_pool} are started)", on_pool == several
+    trace = example("calls-in-flight.trace")
+    yield "a trace starts none", not any(threads(program, words, trace) for words in ("replay", "explain", "draw", "check"))
+
+
 class Tried:
     """What came of the runs so far."""
 
@@ -354,6 +389,8 @@ def main() -> int:
         without = audit._replace(words="explore --runs 2")
         is_audited = faults(right, audit, pool)[0] > 2 * faults(right, without, pool)[0]
         tried.add_wrong(1, [] if is_audited else ["explore --audit takes no more memory than without it: nothing is audited"])
+        started = list(threads_tried(right))
+        tried.add_wrong(len(started), [f"not so: {what}" for what, is_so in started if not is_so])
         tried.add_wrong(len(WRONG) + 1, room.unnoticed(program, replay, fault, WRONG, pool))
         for read, wrong in (("c", WRONG_STORIES), ("g", WRONG_STORES)):
             tried.add_wrong(len(wrong) + 1, room.unnoticed(teller, told[read], story_fault, wrong, pool))

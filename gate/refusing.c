@@ -2,7 +2,8 @@
  *
  * A growth is a call by which the program takes memory from the C library, or starts a thread, which takes memory for its
  * stack; what the C library itself takes while it starts one counts with it. REFUSE_GROWTH has the number; to the file
- * descriptor REFUSE_TOLD goes one byte where the growth is refused: 'm' for memory, 't' for a thread.
+ * descriptor REFUSE_TOLD goes one byte where the growth is refused: 'm' for memory, 't' for a thread. Where the number is -1
+ * nothing is refused, and a byte 's' goes there for each thread that is to be started.
  */
 #define _GNU_SOURCE
 #include <dlfcn.h>
@@ -12,6 +13,9 @@
 #include <stddef.h>
 #include <stdlib.h>
 #include <unistd.h>
+
+/* The number that refuses nothing, by which threads are told. */
+#define TELL_THREADS (-1)
 
 typedef int make_thread(pthread_t *, const pthread_attr_t *, void *(*)(void *), void *);
 
@@ -39,14 +43,18 @@ __attribute__((constructor)) static void begin(void) {
     refused = number("REFUSE_GROWTH", 0);
 }
 
+static void tell(char kind) {
+    if (told >= 0 && write(told, &kind, 1) != 1) {
+        abort();
+    }
+}
+
 /* Whether this growth is the one to be refused. */
 static int is_refused(char kind) {
     if (refused == 0 || is_inside || atomic_fetch_add(&growths, 1) + 1 != refused) {
         return 0;
     }
-    if (told >= 0 && write(told, &kind, 1) != 1) {
-        abort();
-    }
+    tell(kind);
     return 1;
 }
 
@@ -90,6 +98,9 @@ int posix_memalign(void **block, size_t alignment, size_t size) {
 int pthread_create(pthread_t *thread, const pthread_attr_t *how, void *(*run)(void *), void *with) {
     if (is_refused('t')) {
         return EAGAIN;
+    }
+    if (refused == TELL_THREADS) {
+        tell('s');
     }
     is_inside = 1;
     int answer = thread_of_the_system(thread, how, run, with);

@@ -1,24 +1,52 @@
 #!/usr/bin/env python3
 """What no one output shows: that lines come as they are told, that races differ, and that a picture holds all that is drawn.
 
-A socket that keeps messages apart stands for the output, so that each write of the program is seen by itself.
+A socket that keeps messages apart stands for the output, so that each write of the program is seen by itself. A replay tells what came
+of the lines that it has, while more may come. The most runs and races that may be asked for are made, and runs in shards
+(bench/explore-many.sh, with a stand-in for GNU parallel) are those of one exploration. Each command's help is held to what is told of the command elsewhere, and each wrong field of a
+line to what is to be said of it (reasons.py).
 """
 from __future__ import annotations
 
+import os
 import re
+import select
 import socket
 import subprocess
 import sys
+import tempfile
 from itertools import pairwise
+from pathlib import Path
 from typing import Iterator
 
+import reasons
+from programs import built
 from scratch import TOP
 
 BOX = re.compile(r"<rect class='([^']*)' x='(\d+)' y='(\d+)' width='(\d+)' height='(\d+)'/>")
 STAY = re.compile(r"at \w+[^<]*</title><rect class='stay \w+' x='\d+' y='(\d+)' width='\d+' height='(\d+)'/>")
 TASK = re.compile(r"<title>line \d+: [^<]* of task (\d+) at ")
 NAME = re.compile(r"<text class='name' x='8' y='\d+'>(?:task (\d+)|pool)</text>")
+NUMBER = re.compile(r"<text class='at' x='(\d+)' y='\d+'>(\d+)</text>")
+# how wide a letter is
+LETTER = 6
+# a picture of few events is no wider than this, and one of very many has two places for each
+WIDE = 28_000
+# what stands beside the events, and behind them
+BESIDE = 112
 EMPTY = "pool 1 1 1 1\n"
+# in the columns of task 2, of task 3 and of the pool what came of an event is wider than all else
+WORD = 2**64 - 1
+OUTCOMES = "".join(
+    f"{line}\n" * times
+    for line, times in (
+        *(("pool 4 1 4 3", 1), ("begin 1 map 0 0 1", 1), ("step 1", 8), (f"begin 1 store 0 {WORD}", 1), ("step 1", 12)),
+        *(("begin 2 map 0 0 1", 1), ("step 2", 8), ("begin 2 load 0", 1), ("step 2", 8)),
+        *(("kill 3", 1), ("step 3", 1), ("resize 0", 1), ("step 9", 1)),
+    )
+)
+# a run of it has so many turns that the next part has no more runs: each call has two
+LONG = EMPTY + "begin 1 load 0\n" * 3_907
 
 
 def example(name: str) -> str:
@@ -39,15 +67,80 @@ def writes(words: str, read: str) -> list[int]:
         return [piece.count(b"\n") for piece in iter(lambda: ours.recv(1 << 20), b"")]
 
 
+def told_so_far(read: str, enough: int) -> int:
+    """How many bytes a replay writes of these lines, while more may come; `enough` of them end the wait, or a minute without any."""
+    with subprocess.Popen([TOP / "hugepool", "replay"], stdin=subprocess.PIPE, stdout=subprocess.PIPE) as ran:
+        told, left = 0, read.encode()
+        os.set_blocking(ran.stdin.fileno(), False)
+        while told < enough:
+            readable, writable, _ = select.select([ran.stdout], [ran.stdin] if left else [], [], 60)
+            if not readable and not writable:
+                break
+            if writable:
+                left = left[os.write(ran.stdin.fileno(), left[:65_536]) :]
+            if readable:
+                told += len(os.read(ran.stdout.fileno(), 65_536))
+        ran.stdin.close()
+        ran.stdout.read()
+    return told
+
+
+# does one after the other what GNU parallel does at once
+PARALLEL = """#!/bin/bash
+[ "$1,$2,$3" = "--keep-order,--colsep, " ] || exit 9
+shift 3
+while read -r one two; do
+    line=${*//'{1}'/$one}
+    bash -c "${line//'{2}'/$two}" < /dev/null || exit 8
+done
+"""
+
+
+def in_shards(script: str, seed: int, runs: int, shards: int, *options: str) -> str:
+    """What bench/explore-many.sh writes."""
+    with tempfile.TemporaryDirectory(prefix="parallel-") as name:
+        stand_in = Path(name) / "parallel"
+        stand_in.write_text(PARALLEL, encoding="utf-8")
+        stand_in.chmod(0o755)
+        own = {"env": {**os.environ, "PATH": f"{name}:{os.environ['PATH']}"}, "stdin": subprocess.DEVNULL, "check": True}
+        words = [TOP / "examples" / script, seed, runs, shards, *options]
+        ran = subprocess.run([TOP / "bench" / "explore-many.sh", *map(str, words)], capture_output=True, text=True, **own)
+        return ran.stdout
+
+
 def kinds_of_races(script: str) -> int:
     """How many different ends 50 races of a script have."""
     return len({line.split(" ", 2)[2] for line in output("race --times 50", script).splitlines()})
 
 
-def picture_fault(picture: str) -> str | None:
-    """What is wrong with where things stand in a picture, if anything is."""
+def rows_fault(told: str, events: int) -> str | None:
+    """What is wrong with the columns of an explanation of so many events, if anything is: its rows are as long as its head."""
+    head, *rows = told.split("\n")[: events + 1]
+    at = next((k for k, row in enumerate(rows, 2) if len(row) != len(head)), None)
+    return f"row {at} isn't as long as the head" if at else None
+
+
+def layout_fault(picture: str, wide: int, lanes: list[int], events: int) -> str | None:
+    """What is wrong with how wide the events of a picture are and with the numbers of their lines, if anything is."""
+    if wide > max(WIDE, 2 * events) + BESIDE:
+        return f"it is {wide} wide"
+    step = min(lanes) / events
+    if set(lanes) != {step * events} or not (14 if events <= 2_000 else 2) <= step <= 60:
+        return f"an event is {step} wide"
+    numbers = [(int(x), len(number)) for x, number in NUMBER.findall(picture)]
+    if len(numbers) * 50 < events:
+        return f"{len(numbers)} lines have their numbers"
+    if any(after - before < LETTER * (one + other) / 2 for (before, one), (after, other) in pairwise(numbers)):
+        return "two numbers touch"
+    return None
+
+
+def picture_fault(picture: str, events: int) -> str | None:
+    """What is wrong with where things stand in a picture of so many events, if anything is."""
     (_, *ground), *rest = [(kind, *map(int, at)) for kind, *at in BOX.findall(picture)]
     wide, high = ground[2:]
+    if fault := layout_fault(picture, wide, [w for kind, _, _, w, _ in rest if kind == "lane"], events):
+        return fault
     if any(x + w > wide or y + h > high for _, x, y, w, h in rest):
         return "a box lies outside"
     if any(int(x) > wide for x in re.findall(r" (?:c?x='|d='M)(\d+)", picture)):
@@ -56,25 +149,67 @@ def picture_fault(picture: str) -> str | None:
     if any(y + h > below for (y, h), (below, _) in pairwise(lanes)):
         return "two lanes touch"
     lane_of = dict(zip([int(it or 0) for it in NAME.findall(picture)], lanes))
-    stays = zip(TASK.findall(picture), STAY.findall(picture))
+    tasks, places = TASK.findall(picture), STAY.findall(picture)
+    if len(tasks) != len(places) or len(tasks) != len(re.findall(r"<rect class='stay ", picture)):
+        return "a stay isn't told of"
+    stays = zip(tasks, places)
     if any(lane_of.get(int(task)) != (int(y), int(h)) for task, (y, h) in stays):
         return "a stay isn't in the lane of its task"
     return None
 
 
+def helps() -> Iterator[tuple[str, bool]]:
+    """What is tried of the help of each command, beside what the program's own help, replay's and explore's tell."""
+    whole = output("--help", "")
+    told = dict(re.findall(r"^  ([a-z]+) +([A-Z].*)$", whole.split("Commands:\n")[1].split("\n\n")[0], re.M))
+    help_of = {command: output(f"{command} --help", "") for command in told if command != "help"}
+    below = {command: text.partition("Print help\n")[2] for command, text in help_of.items()}
+    lines_of = lambda command: set(re.findall(r"^ +--\w+.*$", help_of[command], re.M))
+    for command, text in help_of.items():
+        about, _, usage = text.split("\n")[:3]
+        yield f"{command} --help begins with what --help tells of it", about == told[command]
+        options = " [OPTIONS]" if command in ("explore", "schedule", "race", "work") else ""
+        wanted = " <NAME>" if command == "work" else " < FILE"
+        yield f"{command} --help tells how it is called ({usage})", usage == f"Usage: hugepool {command}{options}{wanted}"
+    for command in ("explain", "draw", "check"):
+        yield f"{command} --help tells of traces as replay's does", len(below["replay"]) > 1000 and below[command] == below["replay"]
+    yield "schedule --help tells of scripts as explore's does", len(below["explore"]) > 500 and below["schedule"] == below["explore"]
+    runs = {line for line in lines_of("explore") if re.match(r" +--(?:runs|audit)", line)}
+    yield "and of its options", len(runs) == 2 and lines_of("schedule") == lines_of("explore") - runs != set()
+
+
 def tries() -> Iterator[tuple[str, bool]]:
     """What is tried, and whether it went as it should."""
     yield "runs are written a part at a time, of 512 first", writes("explore --runs 513", EMPTY) == [512, 1]
+    yield "the next part has four times as many", writes("explore --runs 2561", EMPTY) == [512, 2048, 1]
+    yield "but where runs are long as many", writes("explore --runs 1025", LONG) == [512, 512, 1]
+    # (what the program's buffer holds, and the lines of a piece that is read, may be to come)
+    some = EMPTY + "step 1\n" * 50_000
+    enough = len("refused idle\n") * 50_000 - 32_768
+    yield "a replay doesn't wait for the end of its trace", told_so_far(some, enough) >= enough
+    name, options = "truncate-against-store.script", ("--deny", "100", "--kill", "20")
+    for runs, shards in ((10, 3), (2, 5), (600, 1)):
+        at_once = output(f"explore --seed 7 --runs {runs} {' '.join(options)}", example(name))
+        yield f"{runs} runs in {shards} shards are those of one exploration", in_shards(name, 7, runs, shards, *options) == at_once
+    yield "65,536 runs may be asked for", output("explore --runs 65536", EMPTY).count("\n") == 65_536
+    yield "and as many races", output("race --times 65536", EMPTY).count("\n") == 65_536
+    yield from helps()
+    yield from reasons.tries(built("hugepool"))
     yield "a race is written before the next begins", writes("race --times 3", EMPTY) == [1, 1, 1]
     yield "races of one script differ", kinds_of_races(example("truncate-against-store.script")) > 1
+    for trace, has in ((OUTCOMES, f"step 2: ended word {WORD}"), (example("calls-in-flight.trace"), "blocked by")):
+        told = output("explain", trace)
+        fault = rows_fault(told, trace.count("\n") - 1)
+        yield f"an explanation has its columns below each other ({fault})", fault is None and has in told
     pictures = {
         "of 300 events": EMPTY + "step 1\n" * 300,
         "of 3,000 events": "pool 4 1 4 2\nbegin 2 map 0 0 4\n" + "step 1\nstep 2\n" * 1500,
+        "of 20,000 events": EMPTY + "begin 1 map 0 0 1\n" + "step 1\n" * 20_000,
         "of 64 tasks": "pool 1 1 1 64\n" + "".join(f"begin {task} exit\n" for task in range(1, 65)),
         "of calls in flight": example("calls-in-flight.trace"),
     }
     for name, trace in pictures.items():
-        fault = picture_fault(output("draw", trace))
+        fault = picture_fault(output("draw", trace), trace.count("\n") - 1)
         yield f"a picture {name} holds all of it ({fault})", fault is None
 
 

@@ -1,5 +1,10 @@
 #!/usr/bin/env python3
-"""Tests when ./hugepool builds the program, in a small repository with an `rt` that counts its calls; and when `rt ci` has built one."""
+"""Tests when ./hugepool builds the program, in a small repository with an `rt` that counts its calls; and when `rt ci` has built one.
+
+Of the repository itself it is asked for which crates ./hugepool builds: for those that the program stands on, and for no other. And
+./check and .ci/run have to end with the status of what they call, and to pass it their words; what ./check itself counts is tried by
+test_check.py.
+"""
 from __future__ import annotations
 
 import os
@@ -10,17 +15,21 @@ import tempfile
 import time
 from concurrent.futures import ThreadPoolExecutor
 from pathlib import Path
-from typing import Iterator
+from typing import Iterable, Iterator
 
 import programs
-from scratch import TOP
+import test_check
+from scratch import TOP, below, crates_of
 
-# builds a program that tells its words and how often it was built, unless there is a file `broken`
+# builds a program that tells its words, how often it was built, and what it reads, unless there is a file `broken`; what there is to be
+# read it would take itself, and it says more than anyone asked for
 RT = """#!/bin/sh
+cat > /dev/null
+echo "rt: some words"
 [ ! -e ../../broken ] || { echo "rt: it is broken" >&2; exit 1; }
 echo x >> ../../builds
 mkdir -p out
-printf '#!/bin/sh\\necho "$@" of %s\\n' "$(wc -l < ../../builds)" > out/hugepool
+printf '#!/bin/sh\\necho "$@" of %s\\ncat\\n' "$(wc -l < ../../builds)" > out/hugepool
 chmod +x out/hugepool
 [ ! -e ../../slow ] || { sleep 0.02; echo changed >> ../a/src/main.rt; }
 [ ! -e ../../long ] || sleep 0.5
@@ -30,9 +39,9 @@ chmod +x out/hugepool
 class Room:
     """The small repository, and what its launcher answers."""
 
-    def __init__(self, top: Path) -> None:
+    def __init__(self, top: Path, crates: Iterable[str] = ("a", "a_tests", "hugepool")) -> None:
         self.top = top
-        sources = [f"crates/{name}/{part}/main.rt" for name in ("a", "a_tests", "hugepool") for part in ("src", "specs")]
+        sources = [f"crates/{name}/{part}/main.rt" for name in crates for part in ("src", "specs", "proofs")]
         for path in ("crates.txt", "HANDLES", *sources):
             self.write(path, "")
         self.write("bin/rt", RT)
@@ -43,22 +52,25 @@ class Room:
         (self.top / path).parent.mkdir(parents=True, exist_ok=True)
         (self.top / path).write_text(text)
 
-    def said(self, launcher: str = "hugepool", path: str = "bin", **more: str) -> tuple[int, str, str]:
+    def said(
+        self, launcher: str = "hugepool", path: str = "bin", read: str = "", words: tuple[str, ...] = ("a", "b"), **more: str
+    ) -> tuple[int, str, str]:
         """The launcher's status, and what it wrote to both streams."""
         own = {"env": {**os.environ, "PATH": f"{self.top / path}:/usr/bin:/bin", **more}, "cwd": "/"}
-        ran = subprocess.run([self.top / launcher, "a", "b"], capture_output=True, text=True, check=False, **own)
+        ran = subprocess.run([self.top / launcher, *words], input=read, capture_output=True, text=True, check=False, **own)
         return ran.returncode, ran.stdout, ran.stderr
 
-    def runs_build(self, number: int, launcher: str = "hugepool") -> bool:
-        """Whether it runs the program with its words, as it was built that time."""
-        return self.said(launcher)[:2] == (0, f"a b of {number}\n")
+    def runs_build(self, number: int, launcher: str = "hugepool", read: str = "") -> bool:
+        """Whether it runs the program with its words and what is to be read, as it was built that time."""
+        return self.said(launcher, read=read)[:2] == (0, f"a b of {number}\n{read}")
 
 
 def tries(room: Room) -> Iterator[tuple[str, bool]]:
     """What is tried, one after another, and whether it went as it should."""
     yield "without rt there is nothing to run", room.said(path="none")[0] == 127
-    yield "the first call builds", room.runs_build(1)
-    yield "the second doesn't", room.said() == (0, "a b of 1\n", "")
+    yield "the first call builds, and leaves the program what there is to be read", room.runs_build(1, read="a line\n")
+    yield "the second doesn't build", room.said() == (0, "a b of 1\n", "")
+    yield "a word is passed as it is", room.said(words=("a  *", "", "b")) == (0, "a  *  b of 1\n", "")
     (room.top / "other").mkdir()
     (room.top / "other/link").symlink_to("../hugepool")
     (room.top / "link").symlink_to("other/link")
@@ -94,7 +106,8 @@ def tries(room: Room) -> Iterator[tuple[str, bool]]:
     time.sleep(0.02)
     room.write("since", "")
     time.sleep(0.02)
-    subprocess.run(["../../bin/rt"], cwd=room.top / "crates/hugepool", check=True)
+    silent = {"stdin": subprocess.DEVNULL, "stdout": subprocess.DEVNULL}
+    subprocess.run(["../../bin/rt"], cwd=room.top / "crates/hugepool", check=True, **silent)
     since = {"HUGEPOOL_BUILT_SINCE": str(room.top / "since")}
     yield "what another command built is taken over", room.said(**since)[:2] == (0, "a b of 11\n") and room.runs_build(11)
     room.write("crates/a/src/main.rt", "newest")
@@ -103,6 +116,39 @@ def tries(room: Room) -> Iterator[tuple[str, bool]]:
     room.write("crates/a/src/main.rt", "newer")
     with ThreadPoolExecutor(3) as pool:
         yield "of three calls at once one builds", all(pool.map(room.runs_build, [13, 13, 13]))
+    (room.top / "long").unlink()
+    for number, path in enumerate(("crates.txt", "crates/hugepool/proofs/main.rt", "crates/hugepool/specs/more.antt"), 14):
+        room.write(path, "new")
+        yield f"{path} is looked at", room.runs_build(number) and room.runs_build(number)
+
+
+def stands_on(room: Room, needed: set[str]) -> Iterator[tuple[str, bool]]:
+    """What the program is built of: the crates that it stands on, and no others."""
+    yield "the program of this repository is built", room.runs_build(1)
+    for name in sorted(crates_of(TOP).keys() - needed):
+        room.write(f"crates/{name}/src/main.rt", "new")
+        yield f"it doesn't stand on {name}", room.runs_build(1)
+    for number, name in enumerate(sorted(needed), 2):
+        room.write(f"crates/{name}/src/main.rt", "new")
+        yield f"it stands on {name}", room.runs_build(number)
+
+
+# tells its words, one a line, and ends with another status than 0 or 1
+CHECK = """import sys
+print("".join(f"{it}\\n" for it in sys.argv[1:]), end="")
+sys.exit(3)
+"""
+
+
+def passes_on(room: Room) -> Iterator[tuple[str, bool]]:
+    """What ./check and .ci/run make of the words and of the status."""
+    room.write("gate/check.py", CHECK)
+    (room.top / ".ci").mkdir()
+    for path in ("check", ".ci/run"):
+        shutil.copy(TOP / path, room.top / path)
+    yield "./check passes words and status", room.said("check", words=("a  *", "", "b"))[:2] == (3, "a  *\n\nb\n")
+    yield "without rt it says so", room.said("check", path="none")[0] == 127
+    yield ".ci/run asks for all of it, and ends as that does", room.said(".ci/run", words=())[:2] == (3, "")
 
 
 def takes_over(top: Path) -> Iterator[tuple[str, bool]]:
@@ -130,8 +176,13 @@ def takes_over(top: Path) -> Iterator[tuple[str, bool]]:
 def main() -> int:
     with tempfile.TemporaryDirectory(prefix="launcher-") as name:
         tried = list(tries(Room(Path(name))))
+    with tempfile.TemporaryDirectory(prefix="launcher-") as name:
+        tried += stands_on(Room(Path(name), crates_of(TOP)), {"hugepool", *below("hugepool", crates_of(TOP))})
+    with tempfile.TemporaryDirectory(prefix="launcher-") as name:
+        tried += passes_on(Room(Path(name)))
     with tempfile.TemporaryDirectory(prefix="programs-") as name:
         tried += takes_over(Path(name))
+    tried += test_check.tries()
     print("".join(f"  not so: {what}\n" for what, is_so in tried if not is_so), end="")
     failed = sum(not is_so for _, is_so in tried)
     print(f"launcher: {len(tried) - failed} passed, {failed} failed")
