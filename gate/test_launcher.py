@@ -120,6 +120,16 @@ def tries(room: Room) -> Iterator[tuple[str, bool]]:
     for number, path in enumerate(("crates.txt", "crates/hugepool/proofs/main.rt", "crates/hugepool/specs/more.antt"), 14):
         room.write(path, "new")
         yield f"{path} is looked at", room.runs_build(number) and room.runs_build(number)
+    room.write("bin/find", f'#!/bin/sh\n[ ! -e {room.top}/blind ] || exit 1\nexec {shutil.which("find")} "$@"\n')
+    (room.top / "bin/find").chmod(0o755)
+    room.write("blind", "")
+    yield "where it can't compare it builds", room.runs_build(17)
+    (room.top / "blind").unlink()
+    yield "and where it can again, no more", room.runs_build(17)
+    room.write("crates/a/src/main.rt", "newest of all")
+    time.sleep(0.02)
+    room.write("since", "")
+    yield "what was built before another command began isn't taken over", room.said(**since)[:2] == (0, "a b of 18\n")
 
 
 def stands_on(room: Room, needed: set[str]) -> Iterator[tuple[str, bool]]:
