@@ -2,6 +2,7 @@
 use Rattle.std.proofs.Common.{◌≡◌, zero, suc, arith, List, [], ◌∷◌, Result, Ok, Err, IfOk, map, subst, sym}
 use Rattle.std.specs.Prelude.{MatchResult}
 use Rattle.std.specs.List.{All, AllZip}
+use Rattle.rayon.proofs.ListFacts.{AllZip-weaken}
 
 -- where each item that is there meets R, the items that are all there meet it
 pub AllZip_of_oks : {X Y : Type 0} (E : Type 0) (R : X → Y → Type 0) (xs : List X) (ys : List Y)
@@ -50,3 +51,11 @@ pub if_ok_right : {X Y V E : Type 0} (shows : V → List Y) (P : X → Y → Typ
     → IfOk r (λ v. AllZip (λ x y. P x y × Q y) xs (shows v)) → IfOk r (λ v. All Q (shows v))
 if_ok_right shows P Q xs (Ok v) h = zip_right P Q xs (shows v) h
 if_ok_right shows P Q xs (Err e) h = tt
+
+-- what each item meets whatever it stands beside
+pub if_ok_all : {X Y V E : Type 0} (shows : V → List Y) (Q : Y → Type 0) (xs : List X) (r : Result V E)
+    → IfOk r (λ v. AllZip (λ x y. Q y) xs (shows v)) → IfOk r (λ v. All Q (shows v))
+if_ok_all shows Q xs (Ok v) h =
+    let both = AllZip-weaken (λ x y. Q y) (λ x y. Unit {0} × Q y) (λ x y q. (tt, q)) xs (shows v) h in
+    zip_right (λ x y. Unit {0}) Q xs (shows v) both
+if_ok_all shows Q xs (Err e) h = tt

@@ -4,6 +4,7 @@ pub mod Inverse
 pub mod OneLine
 pub mod Others
 pub mod Phases
+pub mod Pieces
 pub mod Quiet
 pub mod Retained
 pub mod Runnable

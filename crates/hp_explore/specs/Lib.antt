@@ -1,3 +1,4 @@
+pub mod Blocks
 pub mod Explored
 pub mod Inverses
 pub mod Leaving

@@ -5,6 +5,7 @@ ghost use Rattle.hp_explore.specs.Schedule.{plan_of};
 ghost use Rattle.hp_explore.specs.Explored.{EndsWell, IsExplored, IsLine};
 ghost use Rattle.hp_explore.specs.declared.line.RunLine.{RunLine};
 
+use crate::blocks::{Runs, lines_of};
 use crate::line::{Finish, RunLine};
 use crate::plan::{Chances, Plan};
 use crate::runnable_tasks::RunnableTasks;
@@ -12,7 +13,6 @@ use crate::script::Script;
 use crate::walk::Walk;
 use hp_audit::Finding;
 use hp_base::{Event, Op};
-use rayon::prelude::*;
 use std::alloc::{AllocError, Global};
 use std::thread::Threads;
 
@@ -27,7 +27,7 @@ fn found_where(alloc: Global, walk: &Walk, audited: bool) -> Result<Option<Findi
 }
 
 /// One run, to its line.
-fn explore_one(
+pub(crate) fn explore_one(
     alloc: Global,
     script: &Script,
     plan: &Plan,
@@ -113,17 +113,15 @@ fn all_lines(
     ensures ends { IfOk result (λ lines. All (λ line. EndsWell line.finish) lines.items) }
 {
     let plan = &Plan::new(alloc, script, chances)?;
-    let lines: Result<Vec<RunLine>, AllocError> = (first..first + runs)
-        .into_par_iter()
-        .with_min_len(1)
-        .map(
-            |run: u32| -> Result<RunLine, AllocError>
-                requires { plan.now ≡ plan_of script.now plan.now.deny plan.now.kill }
-                ensures { IfOk result (λ line. IsLine script.entry.now seed plan.entry.now.deny plan.entry.now.kill run line × EndsWell line.finish) }
-            { explore_one(alloc, script, plan, seed, run, audited) },
-        )
-        .collect(rt, alloc)?;
-    lines
+    let runs = Runs {
+        script,
+        plan,
+        seed,
+        first,
+        count: runs,
+        audited,
+    };
+    lines_of(rt, alloc, runs)
 }
 
 /// The events of the run that is seeded so, to its end.

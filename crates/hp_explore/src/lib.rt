@@ -7,6 +7,7 @@
 //! are read from and written to is hp_replay's.
 #![tactic(auto)]
 
+mod blocks;
 mod exploring;
 mod laws;
 mod line;
