@@ -52,10 +52,14 @@ pub if_ok_right : {X Y V E : Type 0} (shows : V → List Y) (P : X → Y → Typ
 if_ok_right shows P Q xs (Ok v) h = zip_right P Q xs (shows v) h
 if_ok_right shows P Q xs (Err e) h = tt
 
+-- what is less of each pair
+pub if_ok_weaken : {X Y V E : Type 0} (shows : V → List Y) (P Q : X → Y → Type 0) (xs : List X) (r : Result V E)
+    → ((x : X) → (y : Y) → P x y → Q x y) → IfOk r (λ v. AllZip P xs (shows v)) → IfOk r (λ v. AllZip Q xs (shows v))
+if_ok_weaken shows P Q xs (Ok v) less h = AllZip-weaken P Q less xs (shows v) h
+if_ok_weaken shows P Q xs (Err e) less h = tt
+
 -- what each item meets whatever it stands beside
 pub if_ok_all : {X Y V E : Type 0} (shows : V → List Y) (Q : Y → Type 0) (xs : List X) (r : Result V E)
     → IfOk r (λ v. AllZip (λ x y. Q y) xs (shows v)) → IfOk r (λ v. All Q (shows v))
-if_ok_all shows Q xs (Ok v) h =
-    let both = AllZip-weaken (λ x y. Q y) (λ x y. Unit {0} × Q y) (λ x y q. (tt, q)) xs (shows v) h in
-    zip_right (λ x y. Unit {0}) Q xs (shows v) both
-if_ok_all shows Q xs (Err e) h = tt
+if_ok_all shows Q xs r h =
+    if_ok_right shows (λ x y. Unit {0}) Q xs r (if_ok_weaken shows (λ x y. Q y) (λ x y. Unit {0} × Q y) xs r (λ x y q. (tt, q)) h)

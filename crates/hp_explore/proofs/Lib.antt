@@ -1,3 +1,4 @@
+pub mod Claimed
 pub mod Collected
 pub mod Growing
 pub mod Inverse

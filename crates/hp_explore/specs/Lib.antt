@@ -1,4 +1,4 @@
-pub mod Blocks
+pub mod Claims
 pub mod Explored
 pub mod Inverses
 pub mod Leaving

@@ -5,7 +5,7 @@ ghost use Rattle.hp_explore.specs.Schedule.{plan_of};
 ghost use Rattle.hp_explore.specs.Explored.{EndsWell, IsExplored, IsLine};
 ghost use Rattle.hp_explore.specs.declared.line.RunLine.{RunLine};
 
-use crate::blocks::{Runs, lines_of};
+use crate::claims::{Runs, lines_of};
 use crate::line::{Finish, RunLine};
 use crate::plan::{Chances, Plan};
 use crate::runnable_tasks::RunnableTasks;

@@ -7,7 +7,7 @@
 //! are read from and written to is hp_replay's.
 #![tactic(auto)]
 
-mod blocks;
+mod claims;
 mod exploring;
 mod laws;
 mod line;

@@ -1,12 +1,12 @@
 -- The slots stay right with what the workers that are left claimed, down to none.
 use Rattle.std.proofs.Common.{All}
-use Rattle.hp_explore.specs.Blocks.{AreBlocks, AreSlots}
-use Rattle.hp_explore.proofs.blocks.lines_of.Given as goal
+use Rattle.hp_explore.specs.Claims.{AreClaimed, AreSlots}
+use Rattle.hp_explore.proofs.claims.lines_of.Given as goal
 
 abbrev pub invariant-loop-claimed : goal.invariant-loop-claimed
 invariant-loop-claimed g l = record {
   slots : AreSlots l.runs l.slots.items;
-  found : All (λ claimed. AreBlocks l.runs claimed.items) l.found.items;
+  found : All (λ claimed. AreClaimed l.runs claimed.items) l.found.items;
 }
 
 abbrev pub decreases-loop-claimed : goal.decreases-loop-claimed
