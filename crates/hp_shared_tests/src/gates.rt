@@ -1,10 +1,10 @@
-//! Gates by which threads meet, one that refuses, and holds by which it is told who waits.
+//! Gates by which threads meet, one that looks what it is asked, and holds by which it is told who waits.
 ghost use Rattle.std.specs.Prelude.{◌≡◌};
 
 use hp_base::{Event, Task};
 use hp_core::Outcome;
 use hp_machine::Phase;
-use hp_shared::{CallFault, Gate, Hold, Seat, Shared};
+use hp_shared::{CallFault, Gate, Hold, Seat};
 use std::sync::Wait;
 use std::sync::atomic::{AtomicBool, AtomicUsize, Ordering};
 use std::sync::ledger::Ledger;
@@ -164,17 +164,65 @@ impl Gate for Crossing {
     }
 }
 
-/// Refuses the growth that a step wants in a phase.
+/// Looks whether one call asks it, and tells it, as it should: it is asked in each of the phases once, in their order, where it
+/// was told last that the call stands there, and for the call's task. It refuses growth in one of them.
 #[derive(Drop)]
-pub struct Denying {
-    pub phase: Phase,
+pub struct Asked<'a> {
+    task: Task,
+    phases: &'a [Phase],
+    denied: Option<Phase>,
+    moves: AtomicUsize,
+    asked: AtomicUsize,
+    astray: AtomicBool,
 }
 
-impl Gate for Denying {
-    fn between(&self, _task: Task, _phase: Phase) {}
+impl<'a> Asked<'a> {
+    /// For a call of this task that stands in these phases, one after the other.
+    pub fn new(task: Task, phases: &'a [Phase], denied: Option<Phase>) -> Asked<'a> {
+        Asked {
+            task,
+            phases,
+            denied,
+            moves: AtomicUsize::new(0),
+            asked: AtomicUsize::new(0),
+            astray: AtomicBool::new(false),
+        }
+    }
 
-    fn grant(&self, _task: Task, phase: Phase) -> bool {
-        phase != self.phase
+    /// Whether it was asked in all phases, and nowhere else.
+    pub fn is_through(&self) -> bool {
+        let asked = self.asked.load(Ordering::SeqCst);
+        asked == self.phases.len() && !self.astray.load(Ordering::SeqCst)
+    }
+
+    // Whether the call stands there, after so many moves.
+    fn stands(&self, moves: usize, task: Task, phase: Phase) -> bool {
+        match self.phases.get(moves) {
+            Some(there) => task == self.task && phase == *there,
+            None => false,
+        }
+    }
+
+    fn look(&self, is_right: bool) {
+        if !is_right {
+            self.astray.store(true, Ordering::SeqCst);
+        }
+    }
+}
+
+impl<'a> Gate for Asked<'a> {
+    fn between(&self, task: Task, phase: Phase) {
+        self.moves.fetch_add(1, Ordering::SeqCst);
+        let moves = self.moves.load(Ordering::SeqCst);
+        self.look(self.stands(moves, task, phase));
+    }
+
+    fn grant(&self, task: Task, phase: Phase) -> bool {
+        let moves = self.moves.load(Ordering::SeqCst);
+        let asked = self.asked.fetch_add(1, Ordering::SeqCst);
+        self.look(asked == moves);
+        self.look(self.stands(moves, task, phase));
+        self.denied != Some(phase)
     }
 }
 
@@ -233,16 +281,16 @@ impl Gate for BetweenSlots {
 
 /// The holds of a pool, by which it is told that somebody waits, and counted how often one was blocked.
 #[derive(Drop)]
-pub struct Telling<'a, L: Ledger> {
-    shared: &'a Shared<L>,
+pub struct Telling<'a, H> {
+    hold: &'a H,
     waiting: &'a Signal,
     blocked: AtomicUsize,
 }
 
-impl<'a, L: Ledger> Telling<'a, L> {
-    pub fn new(shared: &'a Shared<L>, waiting: &'a Signal) -> Telling<'a, L> {
+impl<'a, H> Telling<'a, H> {
+    pub fn new(hold: &'a H, waiting: &'a Signal) -> Telling<'a, H> {
         Telling {
-            shared,
+            hold,
             waiting,
             blocked: AtomicUsize::new(0),
         }
@@ -253,14 +301,14 @@ impl<'a, L: Ledger> Telling<'a, L> {
     }
 }
 
-impl<'a, L: Ledger> Hold<L> for Telling<'a, L> {
+impl<'a, L: Ledger, H: Hold<L>> Hold<L> for Telling<'a, H> {
     fn attempt<R: Wait>(
         &self,
         rt: &R,
         seat: &mut Seat<L>,
         event: Event,
     ) -> Result<Outcome, CallFault> {
-        let told = self.shared.attempt(rt, seat, event);
+        let told = self.hold.attempt(rt, seat, event);
         if matches!(told, Ok(Outcome::Blocked(_))) {
             self.blocked.fetch_add(1, Ordering::SeqCst);
         }
@@ -269,6 +317,6 @@ impl<'a, L: Ledger> Hold<L> for Telling<'a, L> {
 
     fn pause<R: Wait>(&self, rt: &R, seat: &Seat<L>) {
         self.waiting.give();
-        self.shared.pause(rt, seat);
+        self.hold.pause(rt, seat);
     }
 }

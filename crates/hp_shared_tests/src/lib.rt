@@ -5,6 +5,8 @@
 #![tactic(auto)]
 
 #[cfg(test)]
+mod asking;
+#[cfg(test)]
 mod crossings;
 #[cfg(test)]
 mod cuts;
@@ -19,5 +21,7 @@ pub mod numbers;
 mod races;
 #[cfg(test)]
 mod rounds;
+#[cfg(test)]
+mod scenes;
 #[cfg(test)]
 mod waiting;

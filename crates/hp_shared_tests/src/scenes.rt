@@ -1,0 +1,226 @@
+//! Calls as the tables of docs/MACHINE.md tell them: the phases in which each stands, and what comes of it, where growth is
+//! granted and where it is refused.
+use Ask::{Alloc, Map, Punch, Store};
+use Phase::{
+    Accounted, Changed, Committed, Delete, Enter, Evict, Extend, Found, Free, Head, Leave, Locked,
+    Look, Missing, Restore, Room, Start, Taken, Unmap, Unslot, Want,
+};
+use Wanted::{Done, Mapped, NoMemory};
+use hp_base::{Answer, File, Index, Op, Vpn};
+use hp_core::Phase;
+
+/// A map of so many pages from the file's begin on, a store to that virtual page, or an allocation or a punch of that index alone.
+#[derive(Clone, Copy, Debug)]
+pub enum Ask {
+    Map(u32),
+    Store(u32),
+    Alloc(u32),
+    Punch(u32),
+}
+
+/// What a call has to end with. A map begins at virtual page 0.
+#[derive(Clone, Copy, Debug)]
+pub enum Wanted {
+    Mapped,
+    Done,
+    NoMemory,
+}
+
+/// A call by the task of the first seat or of the second: the phases in which it stands, one after the other; that in which it is
+/// refused growth; what it ends with; and the pool's numbers behind it: free frames, the reserve count, reserved indices and pages.
+#[derive(Clone, Copy, Debug)]
+pub struct Scene {
+    pub seat: usize,
+    pub ask: Ask,
+    pub phases: &'static [Phase],
+    pub denied: Option<Phase>,
+    pub wanted: Wanted,
+    pub numbers: (u32, u32, u32, u32),
+}
+
+impl Ask {
+    pub fn op(self) -> Op {
+        let file = File::new(0);
+        match self {
+            Ask::Map(len) => Op::Map {
+                file,
+                from: Index::new(0),
+                len,
+            },
+            Ask::Store(vpn) => Op::Store {
+                vpn: Vpn::new(vpn),
+                word: 7,
+            },
+            Ask::Alloc(index) => Op::Alloc {
+                file,
+                from: Index::new(index),
+                len: 1,
+                keep: false,
+            },
+            Ask::Punch(index) => Op::Punch {
+                file,
+                from: Index::new(index),
+                len: 1,
+            },
+        }
+    }
+}
+
+impl Wanted {
+    pub fn answer(self) -> Answer {
+        match self {
+            Wanted::Mapped => Answer::Mapped(Vpn::new(0)),
+            Wanted::Done => Answer::Done,
+            Wanted::NoMemory => Answer::NoMemory,
+        }
+    }
+}
+
+pub const MAPPING: [Phase; 7] = [Start, Room, Missing, Changed, Accounted, Enter, Leave];
+
+const STORING: [Phase; 9] = [
+    Look, Want, Locked, Missing, Changed, Taken, Committed, Found, Leave,
+];
+
+/// Of a page, in a pool of two tasks: its translations go, one task a step.
+const PUNCHING: [Phase; 10] = [
+    Start, Want, Locked, Unmap, Unmap, Evict, Delete, Free, Unslot, Leave,
+];
+
+/// In a pool of four frames, all growth is granted.
+pub const GRANTED: [Scene; 5] = [
+    Scene {
+        seat: 0,
+        ask: Map(2),
+        phases: &MAPPING,
+        denied: None,
+        wanted: Mapped,
+        numbers: (4, 2, 2, 0),
+    },
+    Scene {
+        seat: 1,
+        ask: Map(2),
+        phases: &MAPPING,
+        denied: None,
+        wanted: Mapped,
+        numbers: (4, 2, 2, 0),
+    },
+    Scene {
+        seat: 0,
+        ask: Store(1),
+        phases: &STORING,
+        denied: None,
+        wanted: Done,
+        numbers: (3, 1, 2, 1),
+    },
+    Scene {
+        seat: 1,
+        ask: Alloc(0),
+        phases: &[
+            Start, Head, Want, Locked, Missing, Changed, Taken, Committed, Unslot, Extend, Leave,
+        ],
+        denied: None,
+        wanted: Done,
+        numbers: (2, 0, 2, 2),
+    },
+    Scene {
+        seat: 1,
+        ask: Punch(1),
+        phases: &PUNCHING,
+        denied: None,
+        wanted: Done,
+        numbers: (3, 0, 1, 1),
+    },
+];
+
+/// In such a pool, some growth is refused. A map wants room for a mapping, and a descriptor for its change. So does a store where
+/// no descriptor is spare; then it wants a place for its page, without which the frame goes back, and one for the translation,
+/// without which the page stays. An allocation of an index that nobody reserved leaves it reserved, without its page; its change
+/// has used up the spare descriptor, so the next one wants one. So does the punch of an index between two reserved ones: it ends
+/// without, and that index stays reserved. A store behind all that is granted what it wants.
+pub const DENIED: [Scene; 10] = [
+    Scene {
+        seat: 0,
+        ask: Map(3),
+        phases: &[Start, Room, Leave],
+        denied: Some(Room),
+        wanted: NoMemory,
+        numbers: (4, 0, 0, 0),
+    },
+    Scene {
+        seat: 0,
+        ask: Map(3),
+        phases: &[Start, Room, Missing, Leave],
+        denied: Some(Missing),
+        wanted: NoMemory,
+        numbers: (4, 0, 0, 0),
+    },
+    Scene {
+        seat: 0,
+        ask: Map(3),
+        phases: &MAPPING,
+        denied: None,
+        wanted: Mapped,
+        numbers: (4, 3, 3, 0),
+    },
+    Scene {
+        seat: 0,
+        ask: Store(1),
+        phases: &[Look, Want, Locked, Missing, Leave],
+        denied: Some(Missing),
+        wanted: NoMemory,
+        numbers: (4, 3, 3, 0),
+    },
+    Scene {
+        seat: 0,
+        ask: Store(1),
+        phases: &[
+            Look, Want, Locked, Missing, Changed, Taken, Committed, Restore, Leave,
+        ],
+        denied: Some(Committed),
+        wanted: NoMemory,
+        numbers: (4, 3, 3, 0),
+    },
+    Scene {
+        seat: 0,
+        ask: Store(1),
+        phases: &STORING,
+        denied: Some(Found),
+        wanted: NoMemory,
+        numbers: (3, 2, 3, 1),
+    },
+    Scene {
+        seat: 1,
+        ask: Alloc(5),
+        phases: &[
+            Start, Head, Want, Locked, Missing, Changed, Taken, Committed, Restore, Unslot, Leave,
+        ],
+        denied: Some(Committed),
+        wanted: NoMemory,
+        numbers: (3, 3, 4, 1),
+    },
+    Scene {
+        seat: 1,
+        ask: Alloc(5),
+        phases: &[Start, Head, Want, Locked, Missing, Unslot, Leave],
+        denied: Some(Missing),
+        wanted: NoMemory,
+        numbers: (3, 3, 4, 1),
+    },
+    Scene {
+        seat: 1,
+        ask: Punch(1),
+        phases: &PUNCHING,
+        denied: Some(Delete),
+        wanted: Done,
+        numbers: (4, 4, 4, 0),
+    },
+    Scene {
+        seat: 0,
+        ask: Store(1),
+        phases: &STORING,
+        denied: None,
+        wanted: Done,
+        numbers: (3, 3, 4, 1),
+    },
+];
