@@ -11,9 +11,12 @@ usage: ./check [STEP] [..]
                      which each has to be told apart, what makes edits due, when libraries are taken over, and whether
                      docs/INDEX.md is what the sources say.
                      Of crates that are named all, or with --due those that are due
-  ./check examples   what the traces of examples/ print; a long race, and its trace; when ./hugepool builds; that what documents name
-                     is there; where there is cargo, a few seconds of random and damaged traces beside a plain program
-  ./check refusals   that programs and drivers tell it where memory is refused to them, at each growth, one a run (it needs cc)
+  ./check examples   what the traces of examples/ print; what no one output shows, what each command's help tells, and what is said of
+                     each wrong field of a line; a long race, and its trace; when ./hugepool builds, and what ./check itself counts;
+                     that what documents name is there; where there is cargo, a few seconds of random and damaged traces beside a
+                     plain program
+  ./check refusals   that programs and drivers tell it where memory is refused to them, at each growth, one a run; how many threads the
+                     commands start (it needs cc)
   ./check linux      what a Linux kernel answered (conformance/), and what records that, as far as it needs no kernel (it needs cc)
   ./check quick      before a commit: that texts are formatted; proofs and tests of what changed since the last time, over kept
                      work; that each edit applies
