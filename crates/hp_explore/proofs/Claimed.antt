@@ -4,19 +4,19 @@ use Rattle.std.proofs.Common.{◌≡◌, ℕ, ◌+◌, ◌<◌, ◌++◌, [], �
 use Rattle.std.proofs.lemmas.List.{get_or_append_left, get_or-set_same, get_or-set_other, length-append, length-set}
 use Rattle.std.proofs.Math.Seq.{get_or-append_seam}
 use Rattle.hp_base.proofs.Puts.{same_or_other}
-use Rattle.hp_explore.specs.declared.claims.Runs.{Runs}
+use Rattle.hp_explore.specs.declared.claims.RunRange.{RunRange}
 use Rattle.hp_explore.specs.declared.line.RunLine.{RunLine}
 use Rattle.hp_explore.specs.Explored.{EndsWell, IsLine}
 use Rattle.hp_explore.specs.Claims.{AreSlots, IsLineOf}
 
-pub line_of_both : {E : Type 0} (runs : Runs) (run : ℕ) (r : Result RunLine E)
+pub line_of_both : {E : Type 0} (runs : RunRange) (run : ℕ) (r : Result RunLine E)
     → IfOk r (λ line. IsLine runs.script.now runs.seed runs.plan.now.deny runs.plan.now.kill run line)
     → IfOk r (λ line. EndsWell line.finish) → IfOk r (λ line. IsLineOf runs run line)
 unfolding IsLineOf
 line_of_both runs run (Ok line) is ends = (is, ends)
 line_of_both runs run (Err e) is ends = tt
 
-pub both_of_line : (runs : Runs) (run : ℕ) (line : RunLine) → IsLineOf runs run line
+pub both_of_line : (runs : RunRange) (run : ℕ) (line : RunLine) → IsLineOf runs run line
     → IsLine runs.script.now runs.seed runs.plan.now.deny runs.plan.now.kill run line × EndsWell line.finish
 unfolding IsLineOf
 both_of_line runs run line h = h
@@ -28,7 +28,7 @@ all_before P xs ys both is h k d within =
     subst P (ap (λ l. get_or l k d) is ∙ get_or_append_left xs ys d k within) (h k d whole)
 
 -- the slots stay right where a line gets into the slot of its run
-pub slot_filled : (runs : Runs) (slots : List (Option RunLine)) (at : ℕ) (line : RunLine) → AreSlots runs slots → at < runs.count
+pub slot_filled : (runs : RunRange) (slots : List (Option RunLine)) (at : ℕ) (line : RunLine) → AreSlots runs slots → at < runs.count
     → IsLineOf runs (runs.first + at) line → AreSlots runs (set slots at (Some line))
 slot_filled runs slots at line h there is = record {
   all = length-set slots at (Some line) ∙ h.all;

@@ -3,7 +3,7 @@
 //!
 //! What nobody has claimed yet is told by a counter that all workers share. It is a mere hint: no clause knows what it tells.
 //! The lines are right since each claimed run has its own, and the line of a run that nobody claimed is made at the end.
-ghost use Rattle.std.specs.Prelude.{◌≡◌, ◌+◌, ◌<◌, None, IfOk, IfSome, All, replicate};
+ghost use Rattle.std.specs.Prelude.{◌≡◌, ◌+◌, ◌<◌, None, Ok, IfOk, IfSome, All, replicate};
 ghost use Rattle.hp_explore.specs.Claims.{AreClaimed, AreLinesOf, AreRuns, AreSlots, IsLineOf};
 
 use crate::exploring::explore_one;
@@ -18,7 +18,7 @@ use std::thread::Threads;
 
 /// Which runs are explored, and what each goes by.
 #[derive(Clone, Copy, Drop)]
-pub(crate) struct Runs<'a> {
+pub(crate) struct RunRange<'a> {
     pub(crate) script: &'a Script,
     pub(crate) plan: &'a Plan,
     pub(crate) seed: u64,
@@ -35,7 +35,7 @@ struct Claimed {
 }
 
 /// The line of the run at this place.
-fn explore_at(alloc: Global, runs: Runs, place: u32) -> Result<RunLine, AllocError>
+fn explore_at(alloc: Global, runs: RunRange, place: u32) -> Result<RunLine, AllocError>
     requires runs { AreRuns runs }
     requires there { place < runs.count }
     ensures { IfOk result (λ line. IsLineOf runs.entry (runs.entry.first + place) line) }
@@ -51,7 +51,7 @@ fn explore_at(alloc: Global, runs: Runs, place: u32) -> Result<RunLine, AllocErr
 }
 
 /// The runs that one worker claims, one after the other, with their lines.
-fn claim_runs(alloc: Global, runs: Runs, next: &AtomicU32) -> Result<Vec<Claimed>, AllocError>
+fn claim_runs(alloc: Global, runs: RunRange, next: &AtomicU32) -> Result<Vec<Claimed>, AllocError>
     requires { AreRuns runs }
     ensures { IfOk result (λ claimed. AreClaimed runs.entry claimed.items) }
 {
@@ -71,7 +71,7 @@ fn claim_runs(alloc: Global, runs: Runs, next: &AtomicU32) -> Result<Vec<Claimed
 fn claim_all(
     rt: &(impl Threads + Sync),
     alloc: Global,
-    runs: Runs,
+    runs: RunRange,
 ) -> Result<Vec<Vec<Claimed>>, AllocError>
     requires { AreRuns runs }
     ensures { IfOk result (λ found. All (λ claimed. AreClaimed runs.entry claimed.items) found.items) }
@@ -103,7 +103,7 @@ fn empty_slots(alloc: Global, count: u32) -> Result<Vec<Option<RunLine>>, AllocE
 }
 
 /// Puts each line into the slot of its run.
-fn fill_slots(runs: Runs, slots: &mut Vec<Option<RunLine>>, mut claimed: Vec<Claimed>)
+fn fill_slots(runs: RunRange, slots: &mut Vec<Option<RunLine>>, mut claimed: Vec<Claimed>)
     requires slots { AreSlots runs slots.old.items }
     requires claimed { AreClaimed runs claimed.items }
     ensures { AreSlots runs.entry slots.new.items }
@@ -116,14 +116,15 @@ fn fill_slots(runs: Runs, slots: &mut Vec<Option<RunLine>>, mut claimed: Vec<Cla
 /// The line of the run at this place, as it was found, or else made here.
 fn found_or_made(
     alloc: Global,
-    runs: Runs,
+    runs: RunRange,
     place: u32,
     found: Option<RunLine>,
 ) -> Result<RunLine, AllocError>
     requires runs { AreRuns runs }
     requires there { place < runs.count }
     requires found { IfSome found (λ line. IsLineOf runs (runs.first + place) line) }
-    ensures { IfOk result (λ line. IsLineOf runs.entry (runs.entry.first + place) line) }
+    ensures line { IfOk result (λ line. IsLineOf runs.entry (runs.entry.first + place) line) }
+    ensures taken { IfSome found (λ line. result ≡ Ok line) }
 {
     match found {
         Some(line) => Ok(line),
@@ -134,7 +135,7 @@ fn found_or_made(
 /// The lines of all runs, in order.
 fn in_order(
     alloc: Global,
-    runs: Runs,
+    runs: RunRange,
     slots: &[Option<RunLine>],
 ) -> Result<Vec<RunLine>, AllocError>
     requires runs { AreRuns runs }
@@ -153,7 +154,7 @@ fn in_order(
 pub(crate) fn lines_of(
     rt: &(impl Threads + Sync),
     alloc: Global,
-    runs: Runs,
+    runs: RunRange,
 ) -> Result<Vec<RunLine>, AllocError>
     requires { AreRuns runs }
     ensures { IfOk result (λ lines. AreLinesOf runs.entry lines.items) }

@@ -5,7 +5,7 @@ ghost use Rattle.hp_explore.specs.Schedule.{plan_of};
 ghost use Rattle.hp_explore.specs.Explored.{EndsWell, IsExplored, IsLine};
 ghost use Rattle.hp_explore.specs.declared.line.RunLine.{RunLine};
 
-use crate::claims::{Runs, lines_of};
+use crate::claims::{RunRange, lines_of};
 use crate::line::{Finish, RunLine};
 use crate::plan::{Chances, Plan};
 use crate::runnable_tasks::RunnableTasks;
@@ -113,7 +113,7 @@ fn all_lines(
     ensures ends { IfOk result (λ lines. All (λ line. EndsWell line.finish) lines.items) }
 {
     let plan = &Plan::new(alloc, script, chances)?;
-    let runs = Runs {
+    let runs = RunRange {
         script,
         plan,
         seed,

@@ -11,4 +11,4 @@ loop-place-preserved c =
     let line = c.in_ok-line.line in
     pieces_joined (IsLineOf runs) runs.first place (runs.first + place) 1 (place + 1) c.loop-place.lines.items (line ∷ [])
     c.push.new.self.items (omega arith) (omega arith) c.in_ok-push.ensures.items c.loop-place.invariant
-    (c.in_ok-line.ensures, tt)
+    (c.in_ok-line.ensures.line, tt)
