@@ -1,7 +1,7 @@
 #!/usr/bin/env bash
 # Explores 20,000 runs of some 245 turns, on one processor, beside a plain Rust explorer that does the same with nothing
-# proved; then on all processors; then with the audit of every turn, fewer runs; and a script of 64 tasks in a pool of 4,096
-# frames beside one of 4 tasks, a turn each. Says whether both wrote the same lines. Needs cargo, python3 and taskset.
+# proved; then 65,536 on all processors; then with the audit of every turn, fewer runs; and a script of 64 tasks in a pool of
+# 4,096 frames beside one of 4 tasks, a turn each. Says whether both wrote the same lines. Needs cargo, python3 and taskset.
 # How much faster all processors are is told by the clock, so it needs a machine with nothing else to do: where others had
 # work when it began, it says so. Beside it stands what the machine gives: how much more as many explorations do at once, each
 # on a processor of its own, than one does alone (processors that share a core, or that other guests share, do less than so many).
@@ -71,7 +71,7 @@ def print_all_processors(words, path):
     kinds = [[[*ONE, *words]], [words], [[*alone_on(it), *words] for it in PROCESSORS]]
     seen = [[clock(programs, path) for programs in kinds] for _ in range(ROUNDS)]
     one, on_all, at_once = (statistics.median(times) for times in zip(*seen))
-    print(f"by the clock, median of {ROUNDS} rounds in turn: {one:.3f} s on one processor, {on_all:.3f} s on {cores}:"
+    print(f"65,536 runs by the clock, median of {ROUNDS} rounds in turn: {one:.3f} s on one processor, {on_all:.3f} s on {cores}:"
         f" {one / on_all:.2f} times as fast")
     print(f"  {cores} of them at once, each on a processor of its own, do {cores * one / at_once:.2f} times as much as one alone:"
         f" it has {at_once / cores / on_all:.2f} of that")
@@ -105,7 +105,7 @@ with tempfile.TemporaryDirectory() as folder:
     print(f"20,000 runs of {turns_of(text) / 20_000:.0f} turns each, both wrote the same lines")
     in_turn("on one processor", small, {"hugepool": [*ONE, *OURS, *options], "plain": [*ONE, *THEIRS, *options]}, 7)
     others = busy_processors()
-    print_all_processors([*OURS, *options], small)
+    print_all_processors([*OURS, "--runs", "65536", *options[2:]], small)
     if others > 0.1:
         print(f"  (others kept {others:.1f} processors busy before that: it says nothing of {len(PROCESSORS)} free ones)")
     few = ["--runs", "2000", "--deny", "50", "--kill", "1"]
