@@ -2,8 +2,9 @@
 
 A check builds each library below its crate that has no stamp, by which the toolchain knows what a library was built of. `rt ci` leaves
 its own without one, since they fit none but one another. In a copy that takes all of them they fit, so there they get the stamp that
-the toolchain itself computes, and nothing is proved a second time. Where it computes none, as another version of it may, and where
-any of the libraries isn't one that `rt ci` left, nothing is taken: then they are built as ever.
+the toolchain itself computes, and nothing is proved a second time. Where all have just that stamp already, they fit anyhow. Where the
+toolchain computes none, as another version of it may, and where some have a stamp and others not, or another one, nothing is taken:
+then they are built as ever.
 """
 from __future__ import annotations
 
@@ -50,21 +51,23 @@ def same_texts(one: Path, other: Path) -> bool:
     return first == second
 
 
-def is_left_by_ci(top: Path, name: str) -> bool:
-    """Whether the library is there, and no other command of the toolchain built it."""
+def stamp_at(top: Path, name: str) -> str | None:
+    """The stamp of a crate's library, or an empty one where it has none; or nothing where there is no library."""
     folder = top / "crates" / name / "out" / "rlib"
-    return (folder / f"{name}.rlib").exists() and not (folder / "stamp").exists()
+    if not (folder / f"{name}.rlib").exists():
+        return None
+    return (folder / "stamp").read_text(encoding="utf-8") if (folder / "stamp").exists() else ""
 
 
 def take(top: Path, copy: Path, names: Iterable[str], command: str = "rt") -> bool:
     """Brings into the copy the libraries of these crates that `rt ci` left in the repository, all or none, and tells which it was."""
-    names, stamps = sorted(names), stamps_of(copy, command)
-    crates = [(top / "crates" / it, copy / "crates" / it) for it in names]
-    if not all(it in stamps and is_left_by_ci(top, it) for it in names) or not all(same_texts(*it) for it in crates):
+    names, told = sorted(names), stamps_of(copy, command)
+    crates, stamps = [(top / "crates" / it, copy / "crates" / it) for it in names], [told.get(it) for it in names]
+    if not all(stamps) or [stamp_at(top, it) for it in names] not in ([""] * len(names), stamps) or not all(same_texts(*it) for it in crates):
         return False
-    for name, (source, to) in zip(names, crates):
+    for stamp, (source, to) in zip(stamps, crates):
         kept = to / "out" / "rlib"
         shutil.rmtree(kept, ignore_errors=True)
         shutil.copytree(source / "out" / "rlib", kept, copy_function=link_or_copy)
-        (kept / "stamp").write_text(stamps[name], encoding="utf-8")
+        (kept / "stamp").write_text(stamp, encoding="utf-8")
     return True

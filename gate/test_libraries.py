@@ -83,6 +83,16 @@ def a_library_of_another_command(top: Path, copy: Path, command: Path) -> None:
     write(stamp(top, "low"), "stamp of low\n")
 
 
+def libraries_of_another_command(top: Path, copy: Path, command: Path) -> None:
+    for name in NAMES:
+        write(stamp(top, name), f"stamp of {name}\n")
+
+
+def libraries_of_other_texts(top: Path, copy: Path, command: Path) -> None:
+    libraries_of_another_command(top, copy, command)
+    write(stamp(top, "low"), "stamp of another\n")
+
+
 def no_module(top: Path, copy: Path, command: Path) -> None:
     command.with_name("rtlib.py").unlink()
 
@@ -107,6 +117,8 @@ CASES: tuple[tuple[Callable[[Path, Path, Path], None], bool], ...] = (
     (a_text_more, False),
     (no_library, False),
     (a_library_of_another_command, False),
+    (libraries_of_another_command, True),
+    (libraries_of_other_texts, False),
     (no_module, False),
     (a_module_that_stops, False),
     (a_module_without_stamps, False),
