@@ -160,6 +160,8 @@ def cases() -> list[Case]:
         plain("replay", example("a-bad-line.trace")),
         explored("explore --seed 7 --runs 3 --deny 100 --kill 10", script),
         explored("explore --runs 2 --audit", crowd(6)),
+        # (the lines of the first part are written while the second is explored)
+        explored("explore --runs 513", "pool 1 1 1 1\n")._replace(lines=513),
         plain("schedule --seed 7", script),
         raced("race --times 2", script)._replace(lines=2),
         raced("race --times 1 --cut 2", script),

@@ -1,7 +1,7 @@
 -- Lines of runs that are laid out one by one, and written a part at a time.
 use Rattle.std.proofs.Common.{◌≡◌, ℕ, zero, suc, ◌+◌, ◌<◌, ◌≤◌, List, [], ◌∷◌, ◌++◌, length}
 use Rattle.std.proofs.Common.{take, get_or, Option, refl, sym, ap, subst, ◌∙◌, arith}
-use Rattle.std.specs.Prelude.{Bool, ◌&&◌, true}
+use Rattle.std.specs.Prelude.{Bool, ◌&&◌}
 use Rattle.std.specs.List.{AllZip, list_all, range_with_len}
 use Rattle.std.specs.Io.KnownBytes.{Appends}
 use Rattle.std.proofs.KnownBytes.{Appends-nil, Appends-trans}
@@ -35,16 +35,13 @@ pub all_laid : (lines items : List RunLine) (n : ℕ) (text : List ℕ) → item
 all_laid lines items n text same le is =
     is ∙ ap lines_text (take_all n lines (subst (λ (x : List RunLine). length x ≤ n) same le))
 
--- the lines of the first runs are written
-pub record SoFar (script : Script) (e : Exploration) (first : ℕ) (finished : Bool) (before now : Option (List ℕ)) : Type 0 where
+-- the lines of the first runs are written, but for those of the last of them, which are kept
+pub record AllButKept (script : Script) (e : Exploration) (first : ℕ) (finished : Bool) (before now : Option (List ℕ)) (kept : List RunLine) : Type 0 where
   pub few : first ≤ e.runs
   pub lines : List RunLine
-  pub are : AreLinesOf script e first lines
+  pub are : AreLinesOf script e first (lines ++ kept)
   pub wrote : Appends before now (lines_text lines)
-  pub ends : finished ≡ list_all is_finished lines
-
-pub nothing_yet : (script : Script) (e : Exploration) (o : Option (List ℕ)) → SoFar script e 0 true o o
-nothing_yet script e o = record { few = omega arith; lines = []; are = tt; wrote = Appends-nil o; ends = refl }
+  pub ends : finished ≡ list_all is_finished (lines ++ kept)
 
 range_more : (from m n : ℕ) → range_with_len from (m + n) ≡ range_with_len from m ++ range_with_len (from + m) n
 range_more from zero n =
@@ -75,65 +72,67 @@ more_lines script e first runs lines next a b =
     (sym (range_more 0 first runs ∙ ap (λ (k : ℕ). range_with_len 0 first ++ range_with_len k runs) here))
     (both R (range_with_len 0 first) (range_with_len first runs) lines next a b)
 
--- and those of some more
-pub part_written : (script : Script) (e : Exploration) (first runs : ℕ) (finished : Bool) (before now then : Option (List ℕ)) (next : List RunLine)
-    → SoFar script e first finished before now → first + runs ≤ e.runs
+behind_lines : (before now then : Option (List ℕ)) (lines kept slice : List RunLine) → Appends before now (lines_text lines) → slice ≡ kept
+    → Appends now then (lines_text slice) → Appends before then (lines_text (lines ++ kept))
+behind_lines before now then lines kept slice wrote same more =
+    subst (λ (x : List ℕ). Appends before then x) (sym (flat_map-append run_line lines kept))
+    (Appends-trans before now then (lines_text lines) (lines_text kept) wrote
+    (subst (λ (ls : List RunLine). Appends now then (lines_text ls)) same more))
+
+-- nothing is written yet
+pub first_kept : (script : Script) (e : Exploration) (runs : ℕ) (finished : Bool) (now : Option (List ℕ)) (kept slice : List RunLine)
+    → runs ≤ e.runs → AreLinesOf script e runs kept → finished ≡ list_all is_finished slice → slice ≡ kept
+    → AllButKept script e runs finished now now kept
+first_kept script e runs finished now kept slice few are ends same =
+    record { few = few; lines = []; are = are; wrote = Appends-nil now; ends = ends ∙ ap (list_all is_finished) same }
+
+-- the lines that were kept are written, and those of more runs are kept
+pub part_kept : (script : Script) (e : Exploration) (first runs : ℕ) (finished ended done : Bool) (before now then : Option (List ℕ))
+    (kept slice next other : List RunLine) → AllButKept script e first finished before now kept → first + runs ≤ e.runs
+    → slice ≡ kept → Appends now then (lines_text slice)
     → AllZip (IsLine script e.seed e.chances.deny e.chances.kill) (range_with_len first runs) next
-    → Appends now then (lines_text next) → SoFar script e (first + runs) (finished && list_all is_finished next) before then
-part_written script e first runs finished before now then next s few are wrote =
+    → done ≡ (finished && ended) → ended ≡ list_all is_finished other → other ≡ next
+    → AllButKept script e (first + runs) done before then next
+part_kept script e first runs finished ended done before now then kept slice next other s few sliced wrote are is all same =
     record {
       few = few;
-      lines = s.lines ++ next;
-      are = more_lines script e first runs s.lines next s.are are;
-      wrote =
-          subst (λ (x : List ℕ). Appends before then x) (sym (flat_map-append run_line s.lines next))
-          (Appends-trans before now then (lines_text s.lines) (lines_text next) s.wrote wrote);
-      ends = ap (λ (b : Bool). b && list_all is_finished next) s.ends ∙ sym (list_all-append is_finished s.lines next);
+      lines = s.lines ++ kept;
+      are = more_lines script e first runs (s.lines ++ kept) next s.are are;
+      wrote = behind_lines before now then s.lines kept slice s.wrote sliced wrote;
+      ends =
+          is ∙ ap (λ (b : Bool). finished && b) (all ∙ ap (list_all is_finished) same)
+          ∙ ap (λ (b : Bool). b && list_all is_finished next) s.ends ∙ sym (list_all-append is_finished (s.lines ++ kept) next);
     }
 
--- the same, as the loop has it
-pub part_done : (script : Script) (e : Exploration) (first runs : ℕ) (finished ended done : Bool) (before now then : Option (List ℕ))
-    (next slice other : List RunLine) → SoFar script e first finished before now → first + runs ≤ e.runs
-    → AllZip (IsLine script e.seed e.chances.deny e.chances.kill) (range_with_len first runs) next → slice ≡ next
-    → Appends now then (lines_text slice) → done ≡ (finished && ended) → ended ≡ list_all is_finished other
-    → other ≡ next
-    → SoFar script e (first + runs) done before then
-part_done script e first runs finished ended done before now then next slice other s few are sliced wrote is all same =
-    let wrote_next = subst (λ (ls : List RunLine). Appends now then (lines_text ls)) sliced wrote in
-    let ends : done ≡ (finished && list_all is_finished next) =
-    is ∙ ap (λ (b : Bool). finished && b) (all ∙ ap (λ (ls : List RunLine). list_all is_finished ls) same) in
-    subst (λ (b : Bool). SoFar script e (first + runs) b before then) (sym ends)
-    (part_written script e first runs finished before now then next s few are wrote_next)
-
-pub part_stopped : (script : Script) (e : Exploration) (first runs : ℕ) (finished : Bool) (before now then : Option (List ℕ)) (next slice : List RunLine)
-    → SoFar script e first finished before now → first + runs ≤ e.runs
-    → AllZip (IsLine script e.seed e.chances.deny e.chances.kill) (range_with_len first runs) next → slice ≡ next
-    → Wrote now then (lines_text slice) → WroteSomeRuns script e before then
-part_stopped script e first runs finished before now then next slice s few are sliced wrote_slice =
+-- a front of the lines that were kept is written
+pub part_stopped : (script : Script) (e : Exploration) (first : ℕ) (finished : Bool) (before now then : Option (List ℕ)) (kept slice : List RunLine)
+    → AllButKept script e first finished before now kept → slice ≡ kept → Wrote now then (lines_text slice)
+    → WroteSomeRuns script e before then
+part_stopped script e first finished before now then kept slice s sliced wrote_slice =
     let wrote = subst (λ (ls : List RunLine). Wrote now then (lines_text ls)) sliced wrote_slice in
-    record {
-      runs = first + runs;
-      few = few;
-      lines = s.lines ++ next;
-      are = more_lines script e first runs s.lines next s.are are;
-      wrote =
-          subst (λ (x : List ℕ). Wrote before then x) (sym (flat_map-append run_line s.lines next))
-          (Wrote-behind before now then (lines_text s.lines) (lines_text next) s.wrote wrote);
-    }
-
-pub stopped_before : (script : Script) (e : Exploration) (first : ℕ) (finished : Bool) (before now : Option (List ℕ))
-    → SoFar script e first finished before now → WroteSomeRuns script e before now
-stopped_before script e first finished before now s =
     record {
       runs = first;
       few = s.few;
-      lines = s.lines;
+      lines = s.lines ++ kept;
       are = s.are;
-      wrote = record { front = lines_text s.lines; back = []; parts = sym (append-nil (lines_text s.lines)); appends = s.wrote };
+      wrote =
+          subst (λ (x : List ℕ). Wrote before then x) (sym (flat_map-append run_line s.lines kept))
+          (Wrote-behind before now then (lines_text s.lines) (lines_text kept) s.wrote wrote);
     }
 
-pub all_explored : (script : Script) (e : Exploration) (first : ℕ) (finished : Bool) (before now : Option (List ℕ))
-    → SoFar script e first finished before now → e.runs ≤ first → WroteRuns script e finished before now
-all_explored script e first finished before now s past =
+pub none_written : (script : Script) (e : Exploration) (now : Option (List ℕ)) → WroteSomeRuns script e now now
+none_written script e now =
+    record { runs = 0; few = omega arith; lines = []; are = tt; wrote = record { front = []; back = []; parts = refl; appends = Appends-nil now } }
+
+-- the lines that were kept are written, and there are no more runs
+pub all_written : (script : Script) (e : Exploration) (first : ℕ) (finished : Bool) (before now then : Option (List ℕ)) (kept slice : List RunLine)
+    → AllButKept script e first finished before now kept → e.runs ≤ first → slice ≡ kept → Appends now then (lines_text slice)
+    → WroteRuns script e finished before then
+all_written script e first finished before now then kept slice s past sliced wrote =
     let same : first ≡ e.runs = omega (arith, past, s.few) in
-    record { lines = s.lines; are = subst (λ (n : ℕ). AreLinesOf script e n s.lines) same s.are; wrote = s.wrote; ends = s.ends }
+    record {
+      lines = s.lines ++ kept;
+      are = subst (λ (n : ℕ). AreLinesOf script e n (s.lines ++ kept)) same s.are;
+      wrote = behind_lines before now then s.lines kept slice s.wrote sliced wrote;
+      ends = s.ends;
+    }

@@ -1,12 +1,13 @@
 //! The lines of a script's explored runs, and one of them as a trace.
-ghost use Rattle.std.specs.Prelude.{◌≡◌, ◌≤◌, ◌<◌, ◌+◌, ◌*◌, ◌/◌, ◌^◌, ◌&&◌, if◌then◌else◌, min, nat_lt, IfOk, IfErr, All, length};
+ghost use Rattle.std.specs.Prelude.{◌≡◌, ◌≤◌, ◌<◌, ◌+◌, ◌*◌, ◌/◌, ◌^◌, ◌&&◌, if◌then◌else◌, min, nat_lt, IfOk, IfErr, OnOk, All, length};
+ghost use Rattle.std.specs.Io.KnownBytes.{Appends};
 ghost use Rattle.std.specs.List.{AllZip, list_all, range_with_len};
 ghost use Rattle.hp_base.specs.Text.{sizes};
 ghost use Rattle.hp_explore.specs.Explored.{EndsWell, IsExplored, IsLine};
 ghost use Rattle.hp_explore.specs.declared.line.RunLine.{RunLine};
-ghost use Rattle.hp_replay.specs.RunLines.{is_finished, WroteRuns, WroteSomeRuns};
+ghost use Rattle.hp_replay.specs.RunLines.{is_finished, lines_text, WroteRuns, WroteSomeRuns};
 ghost use Rattle.hp_replay.specs.Streams.{TellsWrites};
-ghost use Rattle.hp_replay.specs.Writing.{IsWriteFault};
+ghost use Rattle.hp_replay.specs.Writing.{IsWriteFault, Wrote};
 
 use crate::fault::ReplayFault;
 use crate::run_lines::write_lines;
@@ -14,7 +15,7 @@ use crate::streams::Sink;
 use crate::trace::{MOST_EVENTS, Trace};
 use hp_explore::{Chances, Finish, RunLine, Script, explore_audited, explore_runs};
 use std::alloc::{AllocError, Global};
-use std::thread::Threads;
+use std::thread::{Threads, join_mut};
 
 /// Which runs of a script are explored, and how.
 #[derive(Clone, Copy, Debug, PartialEq, Eq)]
@@ -136,9 +137,39 @@ fn next_part(part: u32, lines: &[RunLine]) -> u32
     }
 }
 
-/// Explores some hundreds of runs at a time, some thousands where they are short, in order, and writes their lines before it goes
-/// on: so whoever reads them sees how far it is, and memory is taken for one part alone. Tells whether all runs came to their
-/// ends.
+/// Explores more runs, and writes the lines of those before meanwhile: so no processor waits until lines are written.
+fn explore_beside<W: Sink>(
+    rt: &(impl Threads + Sync),
+    alloc: Global,
+    script: &Script,
+    exploration: Exploration,
+    first: u32,
+    runs: u32,
+    before: &[RunLine],
+    writer: &mut W,
+) -> Result<Vec<RunLine>, ReplayFault>
+    requires { first + runs < 2 ^ 32 }
+    ensures lines { IfOk result (λ lines. AllZip (IsLine script.now exploration.seed exploration.chances.deny exploration.chances.kill)
+        (range_with_len first runs) lines.items) }
+    ensures ok { OnOk result (Appends (W.contents writer.old) (W.contents writer.new) (lines_text before.now)) }
+    ensures err { IfErr result (λ fault. IsWriteFault fault
+        × Wrote (W.contents writer.old) (W.contents writer.new) (lines_text before.now)) }
+    ensures writes { TellsWrites result (W.failed writer.old) (W.failed writer.new) }
+{
+    let (explored, written) = join_mut(
+        rt,
+        &mut || -> Result<Vec<RunLine>, AllocError>
+            requires { first + runs < 2 ^ 32 }
+        { explore_part(rt, alloc, script, exploration, first, runs) },
+        &mut || write_lines(alloc, before, writer),
+    );
+    written?;
+    Ok(explored?)
+}
+
+/// Explores some hundreds of runs at a time, some thousands where they are short, in order, and writes the lines of each part
+/// while it explores the next: so whoever reads them sees how far it is, and memory is taken for two parts alone. Tells whether
+/// all runs came to their ends.
 pub fn write_explored<W: Sink>(
     rt: &(impl Threads + Sync),
     alloc: Global,
@@ -151,17 +182,28 @@ pub fn write_explored<W: Sink>(
         × WroteSomeRuns script.now exploration (W.contents writer.old) (W.contents writer.new)) }
     ensures writes { TellsWrites result (W.failed writer.old) (W.failed writer.new) }
 {
-    let mut first = 0;
     let mut part = FIRST_PART;
-    let mut finished = true;
-    while first < exploration.runs {
-        let runs = (exploration.runs - first).min(part);
-        let lines = explore_part(rt, alloc, script, exploration, first, runs)?;
-        write_lines(alloc, lines.as_slice(), writer)?;
-        finished = both(finished, are_finished(lines.as_slice()));
+    let mut explored = exploration.runs.min(part);
+    let mut lines = explore_part(rt, alloc, script, exploration, 0, explored)?;
+    let mut finished = are_finished(lines.as_slice());
+    while explored < exploration.runs {
         part = next_part(part, lines.as_slice());
-        first += runs;
+        let runs = (exploration.runs - explored).min(part);
+        let before = lines.as_slice();
+        lines = explore_beside(
+            rt,
+            alloc,
+            script,
+            exploration,
+            explored,
+            runs,
+            before,
+            writer,
+        )?;
+        finished = both(finished, are_finished(lines.as_slice()));
+        explored += runs;
     }
+    write_lines(alloc, lines.as_slice(), writer)?;
     Ok(finished)
 }
 
