@@ -33,16 +33,19 @@ import sys
 import tempfile
 import time
 from concurrent.futures import ThreadPoolExecutor
+from itertools import groupby
 from pathlib import Path
-from typing import Iterable
+from typing import Callable, Iterable
 
+import libraries
 import programs
-import tests
 import tried
 import try_edits
-from scratch import TOP, crates_of
+from marks import PROOFS, TESTS, Marks
+from scratch import GATE, RT, TOP, below, crates_of
 
-GATE = Path(__file__).resolve().parent
+# of more crates than these all are proved at once; of fewer so many at a time, each of which takes up to a quarter of a machine
+MANY, AT_A_TIME = 12, 2
 TOLD = {"stderr": subprocess.STDOUT, "text": True, "errors": "replace"}
 COUNTS = re.compile(r"^(?:[\w ]+: )?(\d+) passed, (\d+) failed$")
 
@@ -85,12 +88,17 @@ def python(script: str, *words: str) -> list[str]:
 
 
 def ci(step: Step, _: list[str]) -> None:
-    """Where it ends well, the other steps run the programs that were proved and built by it."""
+    """Where it ends well, the other steps run the programs that were proved and built by it, and what comes later proves what changes."""
+    seen, stamps = Marks(), libraries.stamps_of(TOP)
     with tempfile.NamedTemporaryFile(prefix="check-began-") as began:
         if step.run(["rt", "ci"]):
             os.environ[programs.BEGAN] = str(os.stat(began.name).st_mtime)
             own = {**os.environ, "HUGEPOOL_BUILT_SINCE": began.name}
             subprocess.run([TOP / "hugepool", "--help"], env=own, stdout=subprocess.DEVNULL, check=True)
+            libraries.stamp(TOP, stamps)
+            for name in seen.known:
+                seen.note(name, PROOFS)
+                seen.note(name, TESTS)
 
 
 def edits(step: Step, words: list[str]) -> None:
@@ -134,26 +142,53 @@ def linux(step: Step, _: list[str]) -> None:
 
 
 def quick(step: Step, _: list[str]) -> None:
-    if not (step.run(python("formatted.py")) and step.run(["rt", "all", "check", "--jobs", str(os.cpu_count() or 1)])):
+    seen = Marks()
+    if not step.run(python("formatted.py")) or not prove_due(step, seen):
         return
-    step.passed += len(crates_of(TOP))
-    with ThreadPoolExecutor(os.cpu_count() or 1) as pool:
-        for has_passed in pool.map(run_tests, [name for name in crates_of(TOP) if tests.is_due(name)]):
-            step.passed += has_passed
-            step.failed += not has_passed
-    for name in crates_of(TOP):
+    due = [name for name in seen.known if seen.is_due(name, TESTS)]
+    count(step, at_once(os.cpu_count() or 1, due, lambda name: run_rt("test", name, seen, TESTS)))
+    for name in seen.known:
         for it in try_edits.read_all(TOP / "crates" / name)[1]:
             print(f"  {name}/{it.name}: {it.why}")
             step.failed += 1
     step.run(python("documents.py"))
 
 
-def run_tests(name: str) -> bool:
-    """Runs a crate's tests, and tells whether they passed."""
-    ran = subprocess.run(["rt", "test"], cwd=TOP / "crates" / name, stdin=subprocess.DEVNULL, stdout=subprocess.PIPE, **TOLD)
-    print(f"== tests of {name}\n{ran.stdout}", end="", flush=True)
+def prove_due(step: Step, seen: Marks) -> bool:
+    """Proves the crates of which anything changed since they were proved, those before that others stand on. Where most have to be
+    proved, the toolchain proves all: it knows how many have room at a time."""
+    due = {name for name in seen.known if seen.is_due(name, PROOFS)}
+    print(f"{len(due)} of {len(seen.known)} crates are to be proved{': ' if due else ''}{' '.join(sorted(due))}", flush=True)
+    if len(due) > MANY:
+        have_passed = step.run(["rt", "all", "check", "--jobs", str(os.cpu_count() or 1)])
+        for name in due if have_passed else ():
+            seen.note(name, PROOFS)
+            step.passed += 1
+        return have_passed
+    height = {name: len(due & below(name, seen.known)) for name in due}
+    levels = groupby(sorted(due, key=height.get), height.get)
+    return all(count(step, at_once(AT_A_TIME, level, lambda name: run_rt("check", name, seen, PROOFS))) for _, level in levels)
+
+
+def at_once(most: int, names: Iterable[str], does: Callable[[str], bool]) -> list[bool]:
+    """What it answers of each, so many at a time."""
+    with ThreadPoolExecutor(most) as pool:
+        return list(pool.map(does, names))
+
+
+def count(step: Step, have_passed: list[bool]) -> bool:
+    """Counts what passed, and tells whether all did."""
+    step.passed += sum(have_passed)
+    step.failed += have_passed.count(False)
+    return all(have_passed)
+
+
+def run_rt(command: str, name: str, seen: Marks, what: str) -> bool:
+    """Has the toolchain check a crate, or run its tests, and tells whether that passed."""
+    ran = subprocess.run([*RT, command], cwd=TOP / "crates" / name, stdin=subprocess.DEVNULL, stdout=subprocess.PIPE, **TOLD)
+    print(f"== {name}: {what}\n{ran.stdout}", end="", flush=True)
     if ran.returncode == 0:
-        tests.note(name)
+        seen.note(name, what)
     return ran.returncode == 0
 
 

@@ -1,8 +1,8 @@
 """The libraries that `rt ci` proved and left, for checks in a copy of the repository.
 
 A check builds each library below its crate that has no stamp, by which the toolchain knows what a library was built of. `rt ci` leaves
-its own without one, since they fit none but one another. In a copy that takes all of them they fit, so there they get the stamp that
-the toolchain itself computes, and nothing is proved a second time. Where all have just that stamp already, they fit anyhow. Where the
+its own without one, since they fit none but one another. In a copy that takes all of them they fit, and so they do in the repository
+itself until a text changes: there they get the stamp that the toolchain itself computes, and nothing is proved a second time. Where all have just that stamp already, they fit anyhow. Where the
 toolchain computes none, as another version of it may, and where some have a stamp and others not, or another one, nothing is taken:
 then they are built as ever.
 """
@@ -18,7 +18,7 @@ from types import ModuleType
 from typing import Iterable
 
 from edit import PARTS
-from scratch import link_or_copy
+from scratch import crates_of, link_or_copy
 from seen import files_of
 
 
@@ -70,4 +70,15 @@ def take(top: Path, copy: Path, names: Iterable[str], command: str = "rt") -> bo
         shutil.rmtree(kept, ignore_errors=True)
         shutil.copytree(source / "out" / "rlib", kept, copy_function=link_or_copy)
         (kept / "stamp").write_text(stamp, encoding="utf-8")
+    return True
+
+
+def stamp(top: Path, before: dict[str, str], command: str = "rt") -> bool:
+    """Gives the libraries that `rt ci` left in the repository their stamps, so that later checks build on them, and tells whether it did:
+    it does where they have none, and no text changed since the stamps were computed that are given."""
+    kept = [it for it in crates_of(top) if stamp_at(top, it) is not None]
+    if stamps_of(top, command) != before or any(stamp_at(top, it) or it not in before for it in kept):
+        return False
+    for name in kept:
+        (top / "crates" / name / "out" / "rlib" / "stamp").write_text(before[name], encoding="utf-8")
     return True

@@ -4,10 +4,12 @@ from __future__ import annotations
 import contextlib
 import io
 import re
+import tempfile
 from pathlib import Path
 from typing import Iterator
 
 import check
+from marks import PROOFS, TESTS, Marks
 from scratch import TOP
 
 # a script of the gate that is run, and doesn't only lend what it has
@@ -81,6 +83,37 @@ def records() -> set[int]:
     return {len(re.findall(r"^script ", text, re.M)), len(re.findall(r"^end ", text, re.M)), int(told[1]) if told else 0}
 
 
+def dues() -> Iterator[tuple[str, bool]]:
+    """Which of two crates, of which one stands on the other, `./check quick` takes to be due."""
+    with tempfile.TemporaryDirectory() as room:
+        top = Path(room)
+        (top / "crates.txt").write_text("high: low\nlow:\n", encoding="utf-8")
+        texts = {it: top / "crates" / it for it in ("low/src/lib.rt", "low/proofs/Lib.antt", "low/edits/one.edit", "high/src/lib.rt")}
+        for path in texts.values():
+            path.parent.mkdir(parents=True)
+            path.write_text("#[test]\n", encoding="utf-8")
+
+        def due() -> set[str]:
+            seen = Marks(top)
+            found = {it for it in seen.known if seen.is_due(it, PROOFS)}
+            for it in seen.known:
+                seen.note(it, PROOFS)
+            return found
+
+        yield "crates that were never proved are due", due() == {"low", "high"}
+        yield "those of which nothing changed aren't", due() == set()
+        for path, wanted in zip(texts.values(), ({"low", "high"}, {"low", "high"}, set(), {"high"})):
+            path.write_text("#[test]\n\n", encoding="utf-8")
+            yield f"where {path.relative_to(top)} changed, due are: {' '.join(sorted(wanted)) or 'none'}", due() == wanted
+        seen = Marks(top)
+        texts["low/src/lib.rt"].write_text("", encoding="utf-8")
+        seen.note("low", PROOFS)
+        yield "what changes while a crate is proved is due", due() == {"low", "high"}
+        yield "where crates were proved their tests are due", all(Marks(top).is_due(it, TESTS) == (it == "high") for it in ("low", "high"))
+        (top / "crates.txt").write_text("high:\nlow:\n", encoding="utf-8")
+        yield "a crate that stands on others is due", due() == {"high"}
+
+
 def tries() -> Iterator[tuple[str, bool]]:
     """What is tried, and whether it went as it should."""
     for command, wanted in COMMANDS:
@@ -88,9 +121,10 @@ def tries() -> Iterator[tuple[str, bool]]:
     yield "a step that passes ends with 0", status(["linux"], 3, 0) == 0
     yield "one that fails doesn't", status(["linux"], 3, 1) == 1
     yield "a word that is no step is refused", status(["linus"], 3, 0) == 2 and status(["linux", "more"], 3, 0) == 2
+    yield from dues()
     yield "all recorded scripts are there", len(records()) == 1 and 0 not in records()
     scripts = scripts_run()
     tests = {it.name for it in (TOP / "conformance").glob("test_*.py")} | {"compare.py", "races.py"}
     own = {it.name for it in (TOP / "gate").glob("*.py") if IS_RUN in it.read_text(encoding="utf-8")}
-    for name in sorted({*own, *tests} - {"check.py"}):
+    for name in sorted({*own, *tests} - {"check.py", "rt_once.py"}):
         yield f"{name} is run by a step", name in scripts

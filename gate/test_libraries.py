@@ -1,5 +1,5 @@
 #!/usr/bin/env python3
-"""Tells when the libraries that `rt ci` left are taken over into a copy, and when not: on two small repositories, with a toolchain that
+"""Tells when the libraries that `rt ci` left are taken over into a copy, and when they get their stamps where they are: on two small repositories, with a toolchain that
 computes a crate's stamp from its texts."""
 from __future__ import annotations
 
@@ -50,6 +50,7 @@ def made(room: Path) -> tuple[Path, Path, Path]:
     top, copy, command = room / "top", room / "copy", room / "kit" / "rt"
     write(command, "")
     write(command.with_name("rtlib.py"), TOOLCHAIN)
+    write(top / "crates.txt", "high: low\nlow:\nprogram: low\n")
     for name in NAMES:
         write(top / "crates" / name / "src" / "lib.rt", f"{name}\n")
         write(copy / "crates" / name / "src" / "lib.rt", f"{name}\n")
@@ -148,10 +149,38 @@ def fault_of(prepare: Callable[[Path, Path, Path], None], is_to_be_taken: bool) 
         return None if files(top) == source else "the repository is changed"
 
 
+# what is done since `rt ci` began, and whether the libraries are to get their stamps then
+STAMPED: tuple[tuple[Callable[[Path, Path, Path], None], bool], ...] = (
+    (nothing, True),
+    (a_changed_text, False),
+    (a_library_of_another_command, False),
+    (libraries_of_another_command, False),
+    (no_module, False),
+    (a_module_that_stops, False),
+    (a_module_without_stamps, False),
+    (a_module_of_one_crate, False),
+)
+
+
+def fault_of_stamps(prepare: Callable[[Path, Path, Path], None], are_to_be_given: bool) -> str | None:
+    """What is wrong with the stamps then, if anything is."""
+    with tempfile.TemporaryDirectory(prefix="libraries-") as name:
+        top, copy, command = made(Path(name))
+        before = libraries.stamps_of(top, str(command))
+        prepare(top, copy, command)
+        source = files(top)
+        are_given = libraries.stamp(top, before, str(command))
+        stamps = {f"crates/{it}/out/rlib/stamp": f"stamp of {it}\n" for it in NAMES}
+        if are_given != are_to_be_given:
+            return f"the stamps are {'' if are_given else 'not '}given"
+        return None if files(top) == ({**source, **stamps} if are_to_be_given else source) else "something else is in the repository"
+
+
 def main() -> int:
     faults = [f"{prepare.__name__}: {fault}" for prepare, is_taken in CASES if (fault := fault_of(prepare, is_taken))]
+    faults += [f"{prepare.__name__}, stamps: {fault}" for prepare, are_given in STAMPED if (fault := fault_of_stamps(prepare, are_given))]
     print("".join(f"  {it}\n" for it in faults), end="")
-    print(f"libraries that are taken over: {len(CASES) - len(faults)} passed, {len(faults)} failed")
+    print(f"libraries that are taken over: {len(CASES) + len(STAMPED) - len(faults)} passed, {len(faults)} failed")
     return 1 if faults else 0
 
 
