@@ -42,8 +42,9 @@ import programs
 import tried
 import try_edits
 from marks import PROOFS, TESTS, Marks
-from scratch import GATE, RT, TOP, below, crates_of
+from scratch import TOP, below, crates_of
 
+GATE = Path(__file__).resolve().parent
 # of more crates than these all are proved at once; of fewer so many at a time, each of which takes up to a quarter of a machine
 MANY, AT_A_TIME = 12, 2
 TOLD = {"stderr": subprocess.STDOUT, "text": True, "errors": "replace"}
@@ -185,7 +186,7 @@ def count(step: Step, have_passed: list[bool]) -> bool:
 
 def run_rt(command: str, name: str, seen: Marks, what: str) -> bool:
     """Has the toolchain check a crate, or run its tests, and tells whether that passed."""
-    ran = subprocess.run([*RT, command], cwd=TOP / "crates" / name, stdin=subprocess.DEVNULL, stdout=subprocess.PIPE, **TOLD)
+    ran = subprocess.run(["rt", command], cwd=TOP / "crates" / name, stdin=subprocess.DEVNULL, stdout=subprocess.PIPE, **TOLD)
     print(f"== {name}: {what}\n{ran.stdout}", end="", flush=True)
     if ran.returncode == 0:
         seen.note(name, what)

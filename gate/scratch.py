@@ -4,17 +4,13 @@ from __future__ import annotations
 import os
 import shutil
 import subprocess
-import sys
 import tempfile
 from pathlib import Path
 
 import verdicts
 from edit import PARTS, Texts
 
-GATE = Path(__file__).resolve().parent
-TOP = GATE.parent
-# the toolchain's command, for one crate
-RT = [sys.executable, str(GATE / "rt_once.py")]
+TOP = Path(__file__).resolve().parent.parent
 
 
 def crates_of(top: Path) -> dict[str, list[str]]:
@@ -72,7 +68,7 @@ class Scratch:
     def check(self, texts: Texts, is_to_prove: bool = True) -> verdicts.Check:
         """Checks the copy with these texts, or only compiles it."""
         self.write(texts)
-        words = [*RT, "check", "--jobs", "1", *([] if is_to_prove else ["--only", ""])]
+        words = ["rt", "check", "--jobs", "1", *([] if is_to_prove else ["--only", ""])]
         with tempfile.TemporaryFile("w+", encoding="utf-8", errors="replace") as said:
             ran = subprocess.Popen(words, cwd=self.folder, stdin=subprocess.DEVNULL, stdout=said, stderr=subprocess.STDOUT)
             _, _, used = os.wait4(ran.pid, 0)

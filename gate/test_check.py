@@ -126,5 +126,5 @@ def tries() -> Iterator[tuple[str, bool]]:
     scripts = scripts_run()
     tests = {it.name for it in (TOP / "conformance").glob("test_*.py")} | {"compare.py", "races.py"}
     own = {it.name for it in (TOP / "gate").glob("*.py") if IS_RUN in it.read_text(encoding="utf-8")}
-    for name in sorted({*own, *tests} - {"check.py", "rt_once.py"}):
+    for name in sorted({*own, *tests} - {"check.py"}):
         yield f"{name} is run by a step", name in scripts
