@@ -45,7 +45,7 @@ from marks import PROOFS, TESTS, Marks
 from scratch import TOP, below, crates_of
 
 GATE = Path(__file__).resolve().parent
-# of more crates than these all are proved at once; of fewer so many at a time, each of which takes up to a quarter of a machine
+# of more crates than these the toolchain proves all; of fewer so many are begun at a time, since one may take several processors
 MANY, AT_A_TIME = 12, 2
 TOLD = {"stderr": subprocess.STDOUT, "text": True, "errors": "replace"}
 COUNTS = re.compile(r"^(?:[\w ]+: )?(\d+) passed, (\d+) failed$")

@@ -1,10 +1,10 @@
-"""The libraries that `rt ci` proved and left, for checks in a copy of the repository.
+"""The libraries that `rt ci` proved and left, for checks in a copy of the repository, and for later ones in itself.
 
 A check builds each library below its crate that has no stamp, by which the toolchain knows what a library was built of. `rt ci` leaves
 its own without one, since they fit none but one another. In a copy that takes all of them they fit, and so they do in the repository
-itself until a text changes: there they get the stamp that the toolchain itself computes, and nothing is proved a second time. Where all have just that stamp already, they fit anyhow. Where the
-toolchain computes none, as another version of it may, and where some have a stamp and others not, or another one, nothing is taken:
-then they are built as ever.
+itself until a text changes: there they get the stamp that the toolchain itself computes, and nothing is proved a second time. Where all
+have just that stamp already, they fit anyhow. Where the toolchain computes none, as another version of it may, and where some have a
+stamp and others not, or another one, nothing is taken: then they are built as ever.
 """
 from __future__ import annotations
 

@@ -5,7 +5,6 @@ from __future__ import annotations
 import functools
 import hashlib
 import subprocess
-
 from pathlib import Path
 
 from scratch import TOP, below, crates_of
