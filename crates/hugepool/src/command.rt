@@ -3,7 +3,7 @@ use crate::racing::{Racing, race_command, race_words};
 use crate::working::{WorkWords, work_command, work_words};
 use clap::{Arg, ArgAction, ArgMatches, Command, Error};
 use hp_replay::{Chances, Exploration};
-use std::alloc::Global;
+use std::alloc::{AllocError, Global};
 use std::convert::AsStr;
 
 /// Which run of a script is written as a trace.
@@ -37,19 +37,27 @@ pub(crate) enum Request {
 /// Reads the words of a command line.
 pub(crate) fn read_words<S: AsStr>(alloc: Global, words: &[S]) -> Result<Request, Error> {
     let matches = command(alloc)?.try_get_matches_from(words)?;
+    Ok(read_request(alloc, &matches)?)
+}
+
+fn read_request(alloc: Global, matches: &ArgMatches) -> Result<Request, AllocError> {
     Ok(match matches.subcommand() {
         Some(("explore", given)) => Request::Explore(exploration(given)),
         Some(("check", _)) => Request::Check,
         Some(("explain", _)) => Request::Explain,
         Some(("draw", _)) => Request::Draw,
-        Some(("schedule", given)) => Request::Schedule(Scheduling {
-            seed: seed(given),
-            chances: chances(given),
-        }),
+        Some(("schedule", given)) => Request::Schedule(read_scheduling(given)),
         Some(("race", given)) => Request::Race(race_words(given)),
         Some(("work", given)) => Request::Work(work_words(alloc, given)?),
         _ => Request::Replay,
     })
+}
+
+fn read_scheduling(given: &ArgMatches) -> Scheduling {
+    Scheduling {
+        seed: seed(given),
+        chances: chances(given),
+    }
 }
 
 fn exploration(given: &ArgMatches) -> Exploration {
@@ -105,7 +113,7 @@ docs/TRACES.md and hugepool replay --help tell the form of a trace. Some scripts
   hugepool explore --seed 7 --runs 3 < examples/truncate-against-store.script
   hugepool schedule --seed 7 < examples/truncate-against-store.script | hugepool replay";
 
-fn command<'a>(alloc: Global) -> Result<Command<'a>, Error> {
+fn command<'a>(alloc: Global) -> Result<Command<'a>, AllocError> {
     Ok(
         Command::new(alloc, "hugepool")
             .about("A pool of huge pages: Linux's hugetlbfs reservations, step by step")
@@ -157,45 +165,53 @@ fn draw<'a>(alloc: Global) -> Command<'a> {
         .after_help(TRACES)
 }
 
-fn explore<'a>(alloc: Global) -> Result<Command<'a>, Error> {
-    let runs = number(alloc, "runs", "10")
-        .value_parser(clap::value_parser!(u32).range(1..=65_536))
-        .help("How many runs");
-    let audit = Arg::new(alloc, "audit")
-        .long("audit")
-        .action(ArgAction::SetTrue)
-        .help(
-            "Audits the pool after each turn; the audit is proved to pass, so it changes nothing but the time",
-        );
-    Ok(
-        Command::new(alloc, "explore")
-            .about("Reads a script from standard input, and writes a line for each of its runs")
-            .override_usage("hugepool explore [OPTIONS] < FILE")
-            .after_help(SCRIPTS)
-            .arg(seed_option(alloc))?
-            .arg(runs)?
-            .arg(deny_option(alloc))?
-            .arg(kill_option(alloc))?
-            .arg(audit)?,
-    )
+fn explore<'a>(alloc: Global) -> Result<Command<'a>, AllocError> {
+    let command = Command::new(alloc, "explore")
+        .about("Reads a script from standard input, and writes a line for each of its runs")
+        .override_usage("hugepool explore [OPTIONS] < FILE")
+        .after_help(SCRIPTS);
+    let command = with_runs(alloc, command)?;
+    with_chances(alloc, command)?.arg(audit_option(alloc))
 }
 
-fn schedule<'a>(alloc: Global) -> Result<Command<'a>, Error> {
-    Ok(
-        Command::new(alloc, "schedule")
-            .about("Reads a script from standard input, and writes its run 0 as a trace")
-            .override_usage("hugepool schedule [OPTIONS] < FILE")
-            .after_help(SCRIPTS)
-            .arg(seed_option(alloc))?
-            .arg(deny_option(alloc))?
-            .arg(kill_option(alloc))?,
-    )
+fn schedule<'a>(alloc: Global) -> Result<Command<'a>, AllocError> {
+    let command = Command::new(alloc, "schedule")
+        .about("Reads a script from standard input, and writes its run 0 as a trace")
+        .override_usage("hugepool schedule [OPTIONS] < FILE")
+        .after_help(SCRIPTS)
+        .arg(seed_option(alloc))?;
+    with_chances(alloc, command)
+}
+
+// The options that say which runs.
+fn with_runs<'a>(alloc: Global, command: Command<'a>) -> Result<Command<'a>, AllocError> {
+    command.arg(seed_option(alloc))?.arg(runs_option(alloc))
+}
+
+// The options that say what happens by chance.
+fn with_chances<'a>(alloc: Global, command: Command<'a>) -> Result<Command<'a>, AllocError> {
+    command.arg(deny_option(alloc))?.arg(kill_option(alloc))
 }
 
 fn seed_option<'a>(alloc: Global) -> Arg<'a> {
     number(alloc, "seed", "1")
         .value_parser(clap::value_parser!(u64))
         .help("The seed of run 0, of 64 bits")
+}
+
+fn runs_option<'a>(alloc: Global) -> Arg<'a> {
+    number(alloc, "runs", "10")
+        .value_parser(clap::value_parser!(u32).range(1..=65_536))
+        .help("How many runs")
+}
+
+fn audit_option<'a>(alloc: Global) -> Arg<'a> {
+    Arg::new(alloc, "audit")
+        .long("audit")
+        .action(ArgAction::SetTrue)
+        .help(
+            "Audits the pool after each turn; the audit is proved to pass, so it changes nothing but the time",
+        )
 }
 
 fn deny_option<'a>(alloc: Global) -> Arg<'a> {

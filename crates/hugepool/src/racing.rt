@@ -9,11 +9,11 @@ ghost use Rattle.hugepool.specs.Requests.{AnsweredRace, NotDone};
 
 use crate::exploring::explored_answer;
 use crate::program::{Stop, flush_out};
-use clap::{Arg, ArgAction, ArgMatches, Command, Error};
+use clap::{Arg, ArgAction, ArgMatches, Command};
 use hp_explore::Script;
 use hp_race::{write_race_trace, write_races};
 use hp_replay::{ReplayFault, Sink, Source, Watched, read_script};
-use std::alloc::Global;
+use std::alloc::{AllocError, Global};
 use std::io::Write;
 use std::num::NonZeroU32;
 use std::sync::Wait;
@@ -46,38 +46,45 @@ docs/TRACES.md and hugepool replay --help tell the form of a trace. Some scripts
   hugepool race --cut 2 < examples/truncate-against-store.script
   hugepool race --trace < examples/truncate-against-store.script | hugepool replay";
 
-/// The words of the command.
-pub(crate) fn race_command<'a>(alloc: Global) -> Result<Command<'a>, Error> {
-    let times = Arg::new(alloc, "times")
+fn times_option<'a>(alloc: Global) -> Arg<'a> {
+    Arg::new(alloc, "times")
         .long("times")
         .value_name("N")
         .action(ArgAction::Set)
         .default_value("10")
         .value_parser(clap::value_parser!(u32).range(1..=65_536))
-        .help("How many races");
-    let cut = Arg::new(alloc, "cut")
+        .help("How many races")
+}
+
+fn cut_option<'a>(alloc: Global) -> Arg<'a> {
+    Arg::new(alloc, "cut")
         .long("cut")
         .value_name("N")
         .action(ArgAction::Set)
         .value_parser(clap::value_parser!(u32).range(1..=65_536))
-        .help("Cuts the journal behind each N calls of each task");
+        .help("Cuts the journal behind each N calls of each task")
+}
+
+fn trace_option<'a>(alloc: Global) -> Result<Arg<'a>, AllocError> {
     let trace = Arg::new(alloc, "trace")
         .long("trace")
         .action(ArgAction::SetTrue)
         .conflicts_with("times")?
-        .conflicts_with("cut")?
-        .help("Races once, and writes what happened to the pool as a trace");
-    Ok(
-        Command::new(alloc, "race")
-            .about(
-                "Reads a script from standard input, races its tasks in threads, and writes a line for each race",
-            )
-            .override_usage("hugepool race [OPTIONS] < FILE")
-            .after_help(RACES)
-            .arg(times)?
-            .arg(cut)?
-            .arg(trace)?,
-    )
+        .conflicts_with("cut")?;
+    Ok(trace.help("Races once, and writes what happened to the pool as a trace"))
+}
+
+/// The words of the command.
+pub(crate) fn race_command<'a>(alloc: Global) -> Result<Command<'a>, AllocError> {
+    let command = Command::new(alloc, "race")
+        .about(
+            "Reads a script from standard input, races its tasks in threads, and writes a line for each race",
+        )
+        .override_usage("hugepool race [OPTIONS] < FILE")
+        .after_help(RACES)
+        .arg(times_option(alloc))?
+        .arg(cut_option(alloc))?;
+    command.arg(trace_option(alloc)?)
 }
 
 /// What the words of the command ask for.

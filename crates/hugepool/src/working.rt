@@ -70,22 +70,27 @@ The workloads, after tests of libhugetlbfs:
   fallocate_align              an allocation rounds its range of bytes outward to pages, a punch inward
   counters                     the counts follow a map, a store, a punch, a truncation and an unmap";
 
-/// The command, for clap.
-pub(crate) fn work_command<'a>(alloc: Global) -> Result<Command<'a>, clap::Error> {
-    let name = Arg::new(alloc, "NAME").help("The workload").required(true);
-    let driver = Arg::new(alloc, "on")
+fn name_argument<'a>(alloc: Global) -> Arg<'a> {
+    Arg::new(alloc, "NAME").help("The workload").required(true)
+}
+
+fn driver_option<'a>(alloc: Global) -> Arg<'a> {
+    Arg::new(alloc, "on")
         .long("on")
         .value_name("DRIVER")
         .help("What carries its calls: core or pool")
-        .default_value("core");
-    let work = Command::new(alloc, "work")
+        .default_value("core")
+}
+
+/// The command, for clap.
+pub(crate) fn work_command<'a>(alloc: Global) -> Result<Command<'a>, AllocError> {
+    Command::new(alloc, "work")
         .about(
             "Runs a workload, and tells whether each answer and the numbers at the end are those of its table",
         )
         .after_help(WORKLOADS)
-        .arg(name)?
-        .arg(driver)?;
-    Ok(work)
+        .arg(name_argument(alloc))?
+        .arg(driver_option(alloc))
 }
 
 /// What was read of it.
