@@ -104,6 +104,24 @@ fn next_of(at: usize, has_ended: bool) -> usize {
     if has_ended { at.saturating_add(1) } else { at }
 }
 
+// A thread's calls up to the next cut. Whether memory was wanted is told to all.
+fn run_thread<L: Ledger, R: Wait>(
+    rt: &R,
+    shared: &Shared<L>,
+    seats: &mut [Seat<L>],
+    dice: Dice,
+    course: &Course,
+) {
+    if make_calls(rt, shared, seats, dice, course).is_err() {
+        course.lacked.store(true, Ordering::SeqCst);
+    }
+}
+
+// What a thread's calls up to the next cut are drawn by.
+fn dice_of(part: u64, thread: usize) -> Dice {
+    Dice::new(part.wrapping_mul(64).wrapping_add(thread as u64))
+}
+
 // All threads' calls up to the next cut.
 fn run_part<L: Ledger + Send + Sync, R: Threads + Wait + Sync>(
     rt: &R,
@@ -112,16 +130,12 @@ fn run_part<L: Ledger + Send + Sync, R: Threads + Wait + Sync>(
     course: &Course,
     part: u64,
 ) {
-    course.entries.store(0, Ordering::SeqCst);
     for_each_chunk_mut(
         rt,
         seats,
         TASKS_OF_A_THREAD,
         &|thread: usize, seats: &mut [Seat<L>]| {
-            let dice = Dice::new(part.wrapping_mul(64).wrapping_add(thread as u64));
-            if make_calls(rt, shared, seats, dice, course).is_err() {
-                course.lacked.store(true, Ordering::SeqCst);
-            }
+            run_thread(rt, shared, seats, dice_of(part, thread), course)
         },
     );
 }
@@ -203,6 +217,7 @@ fn run_parts<L: Ledger + Send + Sync, R: Threads + Wait + Sync>(
     core: &mut Core,
 ) -> Result<u64, Fail> {
     for part in 0..CUTS {
+        course.entries.store(0, Ordering::SeqCst);
         run_part(rt, shared, seats, course, part);
         if course.lacked.load(Ordering::SeqCst) {
             return Err("out of memory".into());
