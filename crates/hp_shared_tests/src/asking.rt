@@ -38,13 +38,7 @@ fn comes_to<L: Ledger, R: Wait>(
     })
 }
 
-fn plays<L: Ledger, R: Abort + Wait>(
-    rt: &R,
-    shared: &Shared<L>,
-    seat: &mut Seat<L>,
-    scene: &Scene,
-) -> Result<(), Fail> {
-    let told = comes_to(rt, shared, seat, scene)?;
+fn is_wanted(rt: &impl Abort, scene: &Scene, told: &Told) {
     assert!(rt; told.asked, "asked elsewhere: {scene:?}");
     assert_eq!(rt;
         told.reply,
@@ -53,7 +47,6 @@ fn plays<L: Ledger, R: Abort + Wait>(
     );
     let (free, resv, reserved, pages) = scene.numbers;
     assert_eq!(rt; told.tally, tally(free, resv, reserved, pages), "{scene:?}");
-    Ok(())
 }
 
 fn plays_all<L: Ledger, R: Abort + Wait>(
@@ -64,7 +57,8 @@ fn plays_all<L: Ledger, R: Abort + Wait>(
 ) -> Result<(), Fail> {
     for scene in scenes {
         let seat = seats.get_mut(scene.seat).ok_or("a seat")?;
-        plays(rt, shared, seat, scene)?;
+        let told = comes_to(rt, shared, seat, scene)?;
+        is_wanted(rt, scene, &told);
     }
     Ok(())
 }

@@ -2,12 +2,14 @@
 ghost use Rattle.std.specs.Prelude.{◌≡◌};
 
 use crate::gates::Crossing;
+use crate::numbers::tally;
 use hp_base::{Answer, Config, File, Index, Op, Task, Vpn};
 use hp_client::{ClientFault, Crew, Driver, PoolDriver};
 use hp_core::Tally;
 use hp_shared::{Open, Reply, Seat, Shared, call};
 use std::alloc::Global;
 use std::marker::Brand;
+use std::process::Abort;
 use std::sync::Wait;
 use std::sync::ledger::{Blank, Ledger};
 use std::test::Fail;
@@ -92,10 +94,7 @@ fn in_threads<L: Ledger + Send + Sync, R: Threads + Wait + Sync>(
     })
 }
 
-#[test]
-fn calls_of_a_round_overlap(rt: HostRuntime) -> Result<(), Fail> {
-    let config = Config::new(4, 1, 4, 2)?;
-    let told = in_threads::<Brand, _>(&rt, rt.alloc(), Blank::new(2), config)?;
+fn answers_are_right(rt: &impl Abort, told: &Rounds) {
     assert_eq!(rt; told.mapped.0, Answer::Mapped(Vpn::new(0)));
     assert_eq!(rt; told.mapped.1, Answer::Mapped(Vpn::new(0)));
     assert_eq!(rt;
@@ -103,13 +102,14 @@ fn calls_of_a_round_overlap(rt: HostRuntime) -> Result<(), Fail> {
         [Answer::Done, Answer::Done].as_slice()
     );
     assert_eq!(rt; told.loaded, Answer::Word(41));
-    let Tally {
-        free,
-        resv,
-        reserved,
-        pages,
-    } = told.tally;
-    assert_eq!(rt; (free, resv, reserved, pages), (2, 0, 2, 2));
+}
+
+#[test]
+fn calls_of_a_round_overlap(rt: HostRuntime) -> Result<(), Fail> {
+    let config = Config::new(4, 1, 4, 2)?;
+    let told = in_threads::<Brand, _>(&rt, rt.alloc(), Blank::new(2), config)?;
+    answers_are_right(&rt, &told);
+    assert_eq!(rt; told.tally, tally(2, 0, 2, 2));
     assert!(rt; told.came);
     Ok(())
 }

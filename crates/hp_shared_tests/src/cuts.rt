@@ -6,6 +6,7 @@ use hp_core::Outcome;
 use hp_shared::{CutFault, Hold, Open, Reply, Seat, Shared, call, interleaved_from, resume};
 use std::alloc::Global;
 use std::marker::Brand;
+use std::process::Abort;
 use std::sync::Wait;
 use std::sync::ledger::{Blank, Ledger};
 use std::test::Fail;
@@ -109,14 +110,18 @@ fn cut_and_ended<L: Ledger + Send + Sync, R: Wait>(
     }
 }
 
-#[test]
-fn a_journal_is_cut(rt: HostRuntime) -> Result<(), Fail> {
-    let config = Config::new(4, 1, 4, 2)?;
-    let (told, end) = cut_and_ended::<Brand, _>(&rt, rt.alloc(), Blank::new(2), config)?;
+fn cuts_are_right(rt: &impl Abort, told: &Cuts) {
     assert_eq!(rt; told.parts, [(0, 16), (16, 10)]);
     assert_eq!(rt; told.stored, Reply::Ended(Answer::Done));
     assert_eq!(rt; told.from_its_place, Ok(()));
     assert_eq!(rt; told.from_0, Err(0));
+}
+
+#[test]
+fn a_journal_is_cut(rt: HostRuntime) -> Result<(), Fail> {
+    let config = Config::new(4, 1, 4, 2)?;
+    let (told, end) = cut_and_ended::<Brand, _>(&rt, rt.alloc(), Blank::new(2), config)?;
+    cuts_are_right(&rt, &told);
     assert_eq!(rt; end.loaded, Reply::Ended(Answer::Word(41)));
     assert_eq!(rt; end.entries, 32);
     assert_eq!(rt; (end.free, end.resv), (3, 1));

@@ -4,7 +4,7 @@ ghost use Rattle.std.specs.Prelude.{◌≡◌};
 use crate::gates::{HeldAt, SeenAt};
 use hp_base::{Answer, Config, File, Index, Op, Task, Vpn};
 use hp_core::{Outcome, Phase};
-use hp_shared::{Open, Reply, Seat, Shared, call};
+use hp_shared::{CallFault, Gate, Open, Reply, Seat, Shared, call};
 use std::alloc::Global;
 use std::marker::Brand;
 use std::sync::Wait;
@@ -31,6 +31,34 @@ fn load(vpn: u32) -> Op {
     Op::Load { vpn: Vpn::new(vpn) }
 }
 
+// Both tasks map the same pages.
+fn both_map<L: Ledger, R: Wait>(
+    rt: &R,
+    shared: &Shared<L>,
+    first: &mut Seat<L>,
+    second: &mut Seat<L>,
+    len: u32,
+) -> Result<(), CallFault> {
+    call(shared, rt, first, map(len), &Open)?;
+    call(shared, rt, second, map(len), &Open)?;
+    Ok(())
+}
+
+// A store that is begun once another is held, which goes on when this one has ended.
+fn store_meanwhile<L: Ledger, G: Gate, R: Wait>(
+    rt: &R,
+    shared: &Shared<L>,
+    seat: &mut Seat<L>,
+    store: Op,
+    held: &HeldAt,
+    gate: &G,
+) -> Result<Reply, CallFault> {
+    held.there.wait();
+    let reply = call(shared, rt, seat, store, gate);
+    held.released.give();
+    reply
+}
+
 // What came of two stores and of a load after them; and whether nobody waited in vain.
 #[derive(Drop)]
 struct Stores {
@@ -48,19 +76,13 @@ fn two_stores<L: Ledger + Send + Sync, R: Threads + Wait + Sync>(
 ) -> Result<Stores, Fail> {
     let (first, rest) = seats.split_first_mut().ok_or("a seat")?;
     let second = rest.first_mut().ok_or("a seat")?;
-    call(shared, rt, first, map(2), &Open)?;
-    call(shared, rt, second, map(2), &Open)?;
+    both_map(rt, shared, first, second, 2)?;
     let gate = HeldAt::new(Phase::Changed);
     let held = &gate;
     let (one, two) = join(
         rt,
         || call(shared, rt, first, store(0, 41), held),
-        || {
-            held.there.wait();
-            let reply = call(shared, rt, second, store(1, 42), &Open);
-            held.released.give();
-            reply
-        },
+        || store_meanwhile(rt, shared, second, store(1, 42), held, &Open),
     );
     let came = gate.there.came() && gate.released.came();
     Ok(Stores {
@@ -110,6 +132,25 @@ struct Killing {
     came: bool,
 }
 
+// The second task's store waits, and is killed by the third.
+fn wait_and_kill<L: Ledger + Send + Sync, R: Threads + Wait + Sync>(
+    rt: &R,
+    shared: &Shared<L>,
+    second: &mut Seat<L>,
+    third: &mut Seat<L>,
+    held: &HeldAt,
+    seen: &SeenAt,
+) -> (Result<Reply, CallFault>, Result<Outcome, CallFault>) {
+    join(
+        rt,
+        || store_meanwhile(rt, shared, second, store(0, 2), held, seen),
+        || {
+            seen.there.wait();
+            shared.kill(rt, third, Task::new(2))
+        },
+    )
+}
+
 // The first task's store is held where it has the slot, until the second's store has ended, which waits for that slot and
 // is killed by the third.
 fn a_waiter_killed<L: Ledger + Send + Sync, R: Threads + Wait + Sync>(
@@ -120,29 +161,14 @@ fn a_waiter_killed<L: Ledger + Send + Sync, R: Threads + Wait + Sync>(
     let (first, rest) = seats.split_first_mut().ok_or("a seat")?;
     let (second, rest) = rest.split_first_mut().ok_or("a seat")?;
     let third = rest.first_mut().ok_or("a seat")?;
-    call(shared, rt, first, map(1), &Open)?;
-    call(shared, rt, second, map(1), &Open)?;
+    both_map(rt, shared, first, second, 1)?;
     let holding = HeldAt::new(Phase::Locked);
     let wanting = SeenAt::new(Phase::Want);
     let (held, seen) = (&holding, &wanting);
     let (one, (two, kill)) = join(
         rt,
         || call(shared, rt, first, store(0, 1), held),
-        || {
-            join(
-                rt,
-                || {
-                    held.there.wait();
-                    let reply = call(shared, rt, second, store(0, 2), seen);
-                    held.released.give();
-                    reply
-                },
-                || {
-                    seen.there.wait();
-                    shared.kill(rt, third, Task::new(2))
-                },
-            )
-        },
+        || wait_and_kill(rt, shared, second, third, held, seen),
     );
     let came = holding.there.came() && holding.released.came() && wanting.there.came();
     Ok(Killing {
