@@ -35,15 +35,20 @@ fn map_no_reserve(len: u32) -> Op {
     }
 }
 
+/// Asserts that the workload has so many calls, each of which is answered as it has to be.
+fn is_ok(rt: &impl Abort, alloc: Global, workload: Workload, calls: u32) -> Result<(), Fail> {
+    let mut driver = CoreDriver::open(alloc, config_of(workload))?;
+    let report = run_workload(alloc, workload, &mut driver)?;
+    assert_eq!(rt; (report.bad, report.calls), (None, calls));
+    assert_eq!(rt; report.tally, driver.tally());
+    Ok(())
+}
+
 #[test]
 fn each_workload_is_ok(rt: HostRuntime) -> Result<(), Fail> {
-    let alloc = rt.alloc();
     for (name, calls) in CALLS {
         let workload = workload_named(name).ok_or("a workload of that name")?;
-        let mut driver = CoreDriver::open(alloc, config_of(workload))?;
-        let report = run_workload(alloc, workload, &mut driver)?;
-        assert_eq!(rt; (report.bad, report.calls), (None, calls));
-        assert_eq!(rt; report.tally, driver.tally());
+        is_ok(&rt, rt.alloc(), workload, calls)?;
     }
     assert_eq!(rt; workload_named("nothing"), None);
     assert_eq!(rt; Workload::ALL.len(), CALLS.len());
@@ -77,6 +82,19 @@ fn a_workload_without_its_second_task_is_refused(rt: HostRuntime) -> Result<(), 
     Ok(())
 }
 
+/// Makes a call, which has to be told in these words.
+fn make(
+    rt: &impl Abort,
+    alloc: Global,
+    driver: &mut CoreDriver,
+    call: &ByteCall,
+    wanted: &str,
+) -> Result<(), Fail> {
+    let told = call.told(driver, alloc)?;
+    assert_eq!(rt; told.as_str(), wanted, "{call:?}");
+    Ok(())
+}
+
 /// Makes the calls, each of which has to be told in the words beside it.
 fn make_all(
     rt: &impl Abort,
@@ -85,8 +103,7 @@ fn make_all(
     calls: &[(ByteCall, &str)],
 ) -> Result<(), Fail> {
     for (call, wanted) in calls {
-        let told = call.told(driver, alloc)?;
-        assert_eq!(rt; told.as_str(), *wanted, "{call:?}");
+        make(rt, alloc, driver, call, wanted)?;
     }
     Ok(())
 }
@@ -149,16 +166,21 @@ fn ends_of_the_space_and_of_numbers(rt: HostRuntime) -> Result<(), Fail> {
     Ok(())
 }
 
+/// Both tasks map a page in one round, the second first.
+fn both_map(alloc: Global, driver: &mut CoreDriver) -> Result<Vec<Answer>, ClientFault> {
+    let maps = [
+        (Task::new(2), map_no_reserve(1)),
+        (Task::new(1), map_no_reserve(1)),
+    ];
+    driver.round(alloc, &maps)
+}
+
 /// The answers come in the order of the calls, and no call at all is a round too.
 #[test]
 fn calls_of_a_round_take_turns(rt: HostRuntime) -> Result<(), Fail> {
     let alloc = rt.alloc();
     let mut driver = CoreDriver::open(alloc, Config::new(1, 1, 4, 2)?)?;
-    let maps = [
-        (Task::new(2), map_no_reserve(1)),
-        (Task::new(1), map_no_reserve(1)),
-    ];
-    let told = driver.round(alloc, &maps)?;
+    let told = both_map(alloc, &mut driver)?;
     assert_eq!(rt;
         told.as_slice(),
         [Answer::Mapped(Vpn::new(0)); 2].as_slice()

@@ -4,17 +4,22 @@ use hp_client::{ClientFault, CoreDriver, Driver};
 use std::alloc::Global;
 use std::io;
 
+/// A driver of a new pool for which there was no memory at first.
+fn open_again(rt: &impl Print, alloc: Global, config: Config) -> io::Result<CoreDriver> {
+    println!(rt; "open: {}", ClientFault::Memory)?;
+    Ok(CoreDriver::open(alloc, config)?)
+}
+
 /// A driver of a new pool of two frames, one file and two tasks.
 fn open(rt: &impl Print, alloc: Global) -> io::Result<CoreDriver> {
     let config = match Config::new(2, 1, 4, 2) {
         Ok(config) => config,
         Err(_) => unreachable!(),
     };
-    if let Ok(driver) = CoreDriver::open(alloc, config) {
-        return Ok(driver);
+    match CoreDriver::open(alloc, config) {
+        Ok(driver) => Ok(driver),
+        Err(_) => open_again(rt, alloc, config),
     }
-    println!(rt; "open: {}", ClientFault::Memory)?;
-    Ok(CoreDriver::open(alloc, config)?)
 }
 
 /// Tells what a call came to.

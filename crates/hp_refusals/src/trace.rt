@@ -14,13 +14,18 @@ fn step(rt: &impl Print, core: &mut Core, event: Event) -> io::Result<Outcome> {
     Ok(core.step(event)?)
 }
 
-/// Opens a pool.
-fn open(rt: &impl Print, alloc: Global, config: Config) -> io::Result<Core> {
-    if let Ok(core) = Core::new(alloc, config) {
-        return Ok(core);
-    }
+/// Opens a pool for which there was no memory at first.
+fn open_again(rt: &impl Print, alloc: Global, config: Config) -> io::Result<Core> {
     println!(rt; "open: out of memory")?;
     Ok(Core::new(alloc, config)?)
+}
+
+/// Opens a pool.
+fn open(rt: &impl Print, alloc: Global, config: Config) -> io::Result<Core> {
+    match Core::new(alloc, config) {
+        Ok(core) => Ok(core),
+        Err(_) => open_again(rt, alloc, config),
+    }
 }
 
 /// Runs a line, and tells what came of it.
