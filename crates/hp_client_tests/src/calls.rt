@@ -166,21 +166,16 @@ fn ends_of_the_space_and_of_numbers(rt: HostRuntime) -> Result<(), Fail> {
     Ok(())
 }
 
-/// Both tasks map a page in one round, the second first.
-fn both_map(alloc: Global, driver: &mut CoreDriver) -> Result<Vec<Answer>, ClientFault> {
-    let maps = [
-        (Task::new(2), map_no_reserve(1)),
-        (Task::new(1), map_no_reserve(1)),
-    ];
-    driver.round(alloc, &maps)
-}
-
 /// The answers come in the order of the calls, and no call at all is a round too.
 #[test]
 fn calls_of_a_round_take_turns(rt: HostRuntime) -> Result<(), Fail> {
     let alloc = rt.alloc();
     let mut driver = CoreDriver::open(alloc, Config::new(1, 1, 4, 2)?)?;
-    let told = both_map(alloc, &mut driver)?;
+    let maps = [
+        (Task::new(2), map_no_reserve(1)),
+        (Task::new(1), map_no_reserve(1)),
+    ];
+    let told = driver.round(alloc, &maps)?;
     assert_eq!(rt;
         told.as_slice(),
         [Answer::Mapped(Vpn::new(0)); 2].as_slice()

@@ -4,7 +4,9 @@ ghost use Rattle.std.specs.Prelude.{◌≡◌};
 use crate::dice::{Dice, FILES, TASKS};
 use hp_base::{Answer, Config, Op};
 use hp_core::{Core, Outcome, Refusal};
-use hp_shared::{CallFault, Entry, Open, Part, Reply, Seat, Shared, call, interleaved_from};
+use hp_shared::{
+    CallFault, Closed, Entry, Open, Part, Reply, Seat, Shared, call, interleaved_from,
+};
 use std::alloc::{AllocError, Global};
 use std::marker::Brand;
 use std::sync::Wait;
@@ -230,6 +232,29 @@ fn run_parts<L: Ledger + Send + Sync, R: Threads + Wait + Sync>(
     Err("not so many cuts".into())
 }
 
+// The end of a pool whose histories agree.
+fn end_of<L: Ledger + Send + Sync>(
+    alloc: Global,
+    shared: Shared<L>,
+    seats: Vec<Seat<L>>,
+) -> Result<Closed, Fail> {
+    match shared.close(alloc, seats) {
+        Ok(closed) => Ok(closed),
+        Err(_) => Err("the histories agree".into()),
+    }
+}
+
+fn are_alike(alloc: Global, one: &Core, other: &Core) -> Result<bool, AllocError> {
+    Ok(one.picture(alloc)? == other.picture(alloc)?)
+}
+
+// Whether the core of one thread, which has gone through all that was cut, comes to the pool's state with what is left.
+fn is_same(alloc: Global, core: Core, closed: &Closed) -> Result<bool, Fail> {
+    let mut core = core;
+    replay(&mut core, closed.last.entries.as_slice())?;
+    Ok(are_alike(alloc, &core, &closed.core)?)
+}
+
 // What a soak came to: how many cuts and kills there were, and whether the pool's state is that of the replay.
 #[derive(Drop)]
 struct Soaked {
@@ -251,15 +276,11 @@ fn soak<L: Ledger + Send + Sync, R: Threads + Wait + Sync>(
     let mut core = Core::new(alloc, config)?;
     let course = Course::new();
     let cuts = run_parts(rt, alloc, &shared, &mut seats, &course, &mut core)?;
-    let closed = shared
-        .close(alloc, seats)
-        .ok()
-        .ok_or("the histories agree")?;
-    replay(&mut core, closed.last.entries.as_slice())?;
+    let closed = end_of(alloc, shared, seats)?;
     Ok(Soaked {
         cuts,
         kills: course.kills.load(Ordering::SeqCst),
-        is_same: core.picture(alloc)? == closed.core.picture(alloc)?,
+        is_same: is_same(alloc, core, &closed)?,
     })
 }
 

@@ -6,21 +6,19 @@ use std::alloc::{AllocError, Global};
 use std::process::Abort;
 use std::test::Fail;
 
-// Of six frames two are retired, a task has stored to one of two pages that it has mapped, another has none left for its
-// own map and is dead.
-fn some_calls(alloc: Global) -> Result<Core, Fail> {
-    let mut core = Core::new(alloc, Config::new(6, 2, 4, 2)?.with_quota(3)?)?;
+// Two of the frames go, a task stores to one of two pages that it maps, another has none left for its own map and exits.
+fn make_calls(core: &mut Core) -> Result<(), AllocError> {
     let (one, two) = (Task::new(1), Task::new(2));
     // The checker of borrows asks for a mention of the type that an outcome may hold.
     let _none: Option<Answer> = None;
-    happens(&mut core, Event::Resize(4))?;
+    happens(core, Event::Resize(4))?;
     let (file, other) = (File::new(0), File::new(1));
     let from = Index::new(1);
     let vpn = Vpn::new(1);
-    call(&mut core, one, Op::Map { file, from, len: 2 })?;
-    call(&mut core, one, Op::Store { vpn, word: 41 })?;
+    call(core, one, Op::Map { file, from, len: 2 })?;
+    call(core, one, Op::Store { vpn, word: 41 })?;
     call(
-        &mut core,
+        core,
         two,
         Op::Map {
             file: other,
@@ -28,7 +26,14 @@ fn some_calls(alloc: Global) -> Result<Core, Fail> {
             len: 2,
         },
     )?;
-    call(&mut core, two, Op::Exit)?;
+    call(core, two, Op::Exit)?;
+    Ok(())
+}
+
+// Of six frames two are retired, a task has stored to one of two pages that it has mapped, another is dead.
+fn some_calls(alloc: Global) -> Result<Core, Fail> {
+    let mut core = Core::new(alloc, Config::new(6, 2, 4, 2)?.with_quota(3)?)?;
+    make_calls(&mut core)?;
     Ok(core)
 }
 
@@ -75,12 +80,20 @@ fn compare_pictures(rt: &impl Abort, here: &Picture, there: &Picture) {
     assert!(rt; *here == *there);
 }
 
+// The pictures of both.
+fn both_pictured(
+    alloc: Global,
+    copy: &Core,
+    source: &Core,
+) -> Result<(Picture, Picture), AllocError> {
+    Ok((pictured(copy, alloc)?, pictured(source, alloc)?))
+}
+
 #[test]
 fn a_copys_picture_is_compared_with_its_sources(rt: HostRuntime) -> Result<(), Fail> {
     let source = some_calls(rt.alloc())?;
     let copy = copied(&rt, rt.alloc(), &source)?;
-    let here = pictured(&copy, rt.alloc())?;
-    let there = pictured(&source, rt.alloc())?;
+    let (here, there) = both_pictured(rt.alloc(), &copy, &source)?;
     compare_pictures(&rt, &here, &there);
     Ok(())
 }
@@ -116,14 +129,19 @@ fn load(core: &mut Core) -> Result<Option<Answer>, AllocError> {
     call(core, Task::new(1), Op::Load { vpn })
 }
 
+// What a store to the source is answered, and what is loaded then of the copy and of the source.
+fn store_and_load(copy: &mut Core, source: &mut Core) -> Result<[Option<Answer>; 3], AllocError> {
+    let vpn = Vpn::new(1);
+    let stored = call(source, Task::new(1), Op::Store { vpn, word: 42 })?;
+    Ok([stored, load(copy)?, load(source)?])
+}
+
 #[test]
 fn a_copy_goes_on_apart(rt: HostRuntime) -> Result<(), Fail> {
     let mut source = some_calls(rt.alloc())?;
     let mut copy = copied(&rt, rt.alloc(), &source)?;
-    let vpn = Vpn::new(1);
-    let stored = call(&mut source, Task::new(1), Op::Store { vpn, word: 42 })?;
-    assert_eq!(rt; stored, Some(Answer::Done));
-    assert_eq!(rt; load(&mut copy)?, Some(Answer::Word(41)));
-    assert_eq!(rt; load(&mut source)?, Some(Answer::Word(42)));
+    let told = store_and_load(&mut copy, &mut source)?;
+    let wanted = [Answer::Done, Answer::Word(41), Answer::Word(42)];
+    assert_eq!(rt; told, wanted.map(Some));
     Ok(())
 }
