@@ -144,10 +144,10 @@ def linux(step: Step, _: list[str]) -> None:
 
 def quick(step: Step, _: list[str]) -> None:
     seen = Marks()
-    if not step.run(python("formatted.py")) or not prove_due(step, seen):
+    proofs, tests = due(seen)
+    if not step.run(python("formatted.py")) or not prove(step, seen, proofs):
         return
-    due = [name for name in seen.known if seen.is_due(name, TESTS)]
-    count(step, at_once(os.cpu_count() or 1, due, lambda name: run_rt("test", name, seen, TESTS)))
+    count(step, at_once(os.cpu_count() or 1, sorted(tests), lambda name: run_rt("test", name, seen, [PROOFS, TESTS])))
     for name in seen.known:
         for it in try_edits.read_all(TOP / "crates" / name)[1]:
             print(f"  {name}/{it.name}: {it.why}")
@@ -155,20 +155,27 @@ def quick(step: Step, _: list[str]) -> None:
     step.run(python("documents.py"))
 
 
-def prove_due(step: Step, seen: Marks) -> bool:
-    """Proves the crates of which anything changed since they were proved, those before that others stand on. Where most have to be
-    proved, the toolchain proves all: it knows how many have room at a time."""
-    due = {name for name in seen.known if seen.is_due(name, PROOFS)}
-    print(f"{len(due)} of {len(seen.known)} crates are to be proved{': ' if due else ''}{' '.join(sorted(due))}", flush=True)
-    if len(due) > MANY:
+def due(seen: Marks) -> tuple[set[str], set[str]]:
+    """The crates to prove, and those whose tests are to run. A check with tests proves the crate as well, so it does for one on which no
+    other stands, which needs no library of it."""
+    tests = {name for name in seen.known if seen.is_due(name, TESTS)}
+    libraries_of = {low for lows in seen.known.values() for low in lows}
+    return {name for name in seen.known if seen.is_due(name, PROOFS)} - (tests - libraries_of), tests
+
+
+def prove(step: Step, seen: Marks, names: set[str]) -> bool:
+    """Proves crates, those before that others stand on. Where most have to be proved, the toolchain proves all: it knows how many have
+    room at a time."""
+    print(f"{len(names)} of {len(seen.known)} crates are to be proved{': ' if names else ''}{' '.join(sorted(names))}", flush=True)
+    if len(names) > MANY:
         have_passed = step.run(["rt", "all", "check", "--jobs", str(os.cpu_count() or 1)])
-        for name in due if have_passed else ():
+        for name in names if have_passed else ():
             seen.note(name, PROOFS)
             step.passed += 1
         return have_passed
-    height = {name: len(due & below(name, seen.known)) for name in due}
-    levels = groupby(sorted(due, key=height.get), height.get)
-    return all(count(step, at_once(AT_A_TIME, level, lambda name: run_rt("check", name, seen, PROOFS))) for _, level in levels)
+    height = {name: len(names & below(name, seen.known)) for name in names}
+    levels = groupby(sorted(names, key=height.get), height.get)
+    return all(count(step, at_once(AT_A_TIME, level, lambda name: run_rt("check", name, seen, [PROOFS]))) for _, level in levels)
 
 
 def at_once(most: int, names: Iterable[str], does: Callable[[str], bool]) -> list[bool]:
@@ -184,11 +191,11 @@ def count(step: Step, have_passed: list[bool]) -> bool:
     return all(have_passed)
 
 
-def run_rt(command: str, name: str, seen: Marks, what: str) -> bool:
-    """Has the toolchain check a crate, or run its tests, and tells whether that passed."""
+def run_rt(command: str, name: str, seen: Marks, shown: list[str]) -> bool:
+    """Has the toolchain check a crate, or run its tests, and tells whether that passed. Then it has shown this of the crate."""
     ran = subprocess.run(["rt", command], cwd=TOP / "crates" / name, stdin=subprocess.DEVNULL, stdout=subprocess.PIPE, **TOLD)
-    print(f"== {name}: {what}\n{ran.stdout}", end="", flush=True)
-    if ran.returncode == 0:
+    print(f"== {name}: {' and '.join(shown)}\n{ran.stdout}", end="", flush=True)
+    for what in shown if ran.returncode == 0 else ():
         seen.note(name, what)
     return ran.returncode == 0
 

@@ -84,7 +84,7 @@ def records() -> set[int]:
 
 
 def dues() -> Iterator[tuple[str, bool]]:
-    """Which of two crates, of which one stands on the other, `./check quick` takes to be due."""
+    """Which of two crates, of which one stands on the other, `./check quick` takes to be due, and what it has checked."""
     with tempfile.TemporaryDirectory() as room:
         top = Path(room)
         (top / "crates.txt").write_text("high: low\nlow:\n", encoding="utf-8")
@@ -100,6 +100,7 @@ def dues() -> Iterator[tuple[str, bool]]:
                 seen.note(it, PROOFS)
             return found
 
+        yield "a library with tests is proved, a crate that is none by its tests alone", check.due(Marks(top)) == ({"low"}, {"low", "high"})
         yield "crates that were never proved are due", due() == {"low", "high"}
         yield "those of which nothing changed aren't", due() == set()
         for path, wanted in zip(texts.values(), ({"low", "high"}, {"low", "high"}, set(), {"high"})):
@@ -112,6 +113,8 @@ def dues() -> Iterator[tuple[str, bool]]:
         yield "where crates were proved their tests are due", all(Marks(top).is_due(it, TESTS) == (it == "high") for it in ("low", "high"))
         (top / "crates.txt").write_text("high:\nlow:\n", encoding="utf-8")
         yield "a crate that stands on others is due", due() == {"high"}
+        texts["high/src/lib.rt"].write_text("", encoding="utf-8")
+        yield "a crate without tests is proved", check.due(Marks(top)) == ({"high"}, set())
 
 
 def tries() -> Iterator[tuple[str, bool]]:
