@@ -21,13 +21,13 @@ SCRIPTS_OF_RESIZES = SCRIPTS.with_name("calls-resize.txt")
 # they come to a touch of a page that is cached at or above the size
 PAST_THE_END = {"d:smallest", "d:touch-of-a-cached-page-past-the-end", "d:translation-past-the-end"}
 # a task touches a page below the size that is cached, and that it hasn't touched before
-SHARED = {"w:shared", "w:alloc-instantiate-race", "row7"}
+SHARED = {"w:shared", "w:alloc-instantiate-race", "truncate-of-two-mapped-pages"}
 # too few frames are free, and the pool has no quota
-SHORT = {"w:chunk-overcommit", "w:noresv-preserve-resv-page", "row2", "row9", "row13"}
+SHORT = {"w:chunk-overcommit", "w:noresv-preserve-resv-page", "map-five-of-four", "unreserved-touch-leaves-the-reservation", "alloc-beyond-the-pool"}
 # the quota is used up
-USED_UP = {"q:row35", "q:row37", "q:zero"}
+USED_UP = {"q:map-over-the-quota", "q:alloc-punch-and-store", "q:zero"}
 # a resize leaves a surplus
-SURPLUS = {"z:row38", "z:in-use", "z:grow-takes-surplus-first"}
+SURPLUS = {"z:keeps-reserved-frames", "z:in-use", "z:grow-takes-surplus-first"}
 # touches of cached pages above the size, before or after a resize
 PAST_THE_END_RESIZED = {"resize4.2", "resize4.8"}
 

@@ -14,7 +14,7 @@ pool 4 1 4 1\n\
 begin 1 xfallocate 0 0 1 2097152 = done | 2 0 | 1+1 2 | 0\n\
 begin 1 xfallocate 0 3 1 4194303 = done | 3 0 | 1+1 1 | 0\n\
 begin 1 xfallocate 0 3 1 2097151 = done | 3 0 | 1+1 1 | 0\n\
-script b:row22\n\
+script b:sizes-and-modes\n\
 pool 4 1 4 1\n\
 begin 1 xmap 0 0 2097152 = mapped 0 | 4 1 | 1 0 | 0\n\
 begin 1 xftruncate 0 2097153 = errno EINVAL | 4 1 | 1 0 | 0\n\

@@ -31,6 +31,21 @@ fn load(vpn: u32) -> Op {
     Op::Load { vpn: Vpn::new(vpn) }
 }
 
+// A task maps the first pages of the file, and has them from its page 0 on.
+fn maps<L: Ledger, R: Wait>(
+    rt: &R,
+    shared: &Shared<L>,
+    seat: &mut Seat<L>,
+    len: u32,
+) -> Result<(), Fail> {
+    let reply = call(shared, rt, seat, map(len), &Open)?;
+    if reply == Reply::Ended(Answer::Mapped(Vpn::new(0))) {
+        Ok(())
+    } else {
+        Err("a map from page 0 on".into())
+    }
+}
+
 // Both tasks map the same pages.
 fn both_map<L: Ledger, R: Wait>(
     rt: &R,
@@ -38,10 +53,9 @@ fn both_map<L: Ledger, R: Wait>(
     first: &mut Seat<L>,
     second: &mut Seat<L>,
     len: u32,
-) -> Result<(), CallFault> {
-    call(shared, rt, first, map(len), &Open)?;
-    call(shared, rt, second, map(len), &Open)?;
-    Ok(())
+) -> Result<(), Fail> {
+    maps(rt, shared, first, len)?;
+    maps(rt, shared, second, len)
 }
 
 // A store that is begun once another is held, which goes on when this one has ended.
