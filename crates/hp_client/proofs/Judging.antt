@@ -1,19 +1,15 @@
 -- Answers beside those allowed, one after the other.
-use Rattle.std.proofs.Common.{◌≡◌, ℕ, zero, suc, ◌+◌, ◌<◌, ◌≤◌, Option, Some, None, is_some, Bool, true, false, Result}
-use Rattle.std.proofs.Common.{Ok, Err}
-use Rattle.std.proofs.Common.{List, [], ◌∷◌, ◌++◌, All, length, take, get_or, refl, sym, ap, subst, ◌∙◌, arith}
+use Rattle.std.proofs.Common.{◌≡◌, ℕ, zero, suc, ◌+◌, ◌<◌, ◌≤◌, Option, Some, None, is_some, Bool, true, false}
+use Rattle.std.proofs.Common.{List, [], ◌∷◌, ◌++◌, All, length, take, drop, get_or, refl, sym, ap, subst, ◌∙◌, arith}
 use Rattle.std.proofs.Common.{append_assoc, append-nil}
-use Rattle.std.proofs.lemmas.List.{take_more, take_all, length-append}
+use Rattle.std.proofs.lemmas.List.{take_more, drop_more, take_all, take-append-drop, length-append}
 use Rattle.std.proofs.lemmas.List.Elements.{All-append}
 use Rattle.std.proofs.lemmas.List.Sums.{sum_by_more, sum_by_more_le}
 use Rattle.hp_base.specs.declared.answer.Answer.{Answer}
-use Rattle.hp_base.specs.declared.event.Op.{Op}
-use Rattle.hp_client.specs.Bytes.{IsPerformed, fallocate_plan}
-use Rattle.hp_client.specs.Heard.{heard_of}
+use Rattle.hp_client.specs.Bytes.{IsAnswered, fallocate_plan}
+use Rattle.hp_client.specs.Driving.{Rounds, Stops}
 use Rattle.hp_client.specs.Judging.{Judges}
-use Rattle.hp_client.specs.Tables.{Tried, Heard, IsRight, IsFirstWrong, LineRuns, LinesRun, answer_of, calls_in, calls_of, op_of}
-use Rattle.hp_client.specs.declared.bytes.Plan.{Plan}
-use Rattle.hp_client.specs.declared.bytes.Plan.TheVariants.{Replies, Calls}
+use Rattle.hp_client.specs.Tables.{Tried, IsRight, IsFirstWrong, LineRuns, LinesRun, LineStops, FrontRuns, answer_of, calls_in, calls_of, op_of}
 use Rattle.hp_client.specs.declared.fault.ClientFault.{ClientFault}
 use Rattle.hp_client.specs.declared.table.Line.{Line}
 use Rattle.hp_client.specs.declared.table.Line.TheVariants.{Call, Race, Fallocate}
@@ -75,80 +71,90 @@ judges_wrong tried t old new more found none wrong judges = record {
       (tried, t, [], refl, subst (λ (o : Option ℕ). IsFirstWrong tried o) none judges.bad, wrong, refl);
 }
 
--- what a byte call does to what is heard is what it does to the driver
-pub performed : {D : Type 0} (heard : D → Heard) (plan : Result Plan ClientFault) (task : ℕ) (old new : D) (given : Answer)
-    → IsPerformed heard plan task old new (Ok given)
-    → IsPerformed (λ (xs : Heard). xs) plan task (heard old) (heard new) (Ok given)
-performed heard (Err fault) task old new given h = (h.0, ap heard h.1)
-performed heard (Ok (Replies answer)) task old new given h = (h.0, ap heard h.1)
-performed heard (Ok (Calls op)) task old new given h = h
+-- the one answer of a round of one, and the two of a round of two
+pub one_answer : (answers : List Answer) (a d : Answer) → length answers ≡ 1 → a ≡ get_or answers 0 d → answers ≡ a ∷ []
+one_answer [] a d long first = absurd (omega (arith, long))
+one_answer (x ∷ []) a d long first = rw (first) refl
+one_answer (x ∷ y ∷ more) a d long first = absurd (omega (arith, long))
 
--- two answers of a round of two
-two_heard : (one other : ℕ × Op) (answers : List Answer) (a b d : Answer) → length answers ≡ 2 → a ≡ get_or answers 0 d
-    → b ≡ get_or answers 1 d → heard_of (one ∷ other ∷ []) answers ≡ (one.0, one.1, a) ∷ (other.0, other.1, b) ∷ []
-two_heard one other [] a b d long first second = absurd (omega (arith, long))
-two_heard one other (x ∷ []) a b d long first second = absurd (omega (arith, long))
-two_heard one other (x ∷ y ∷ []) a b d long first second = rw (first, second) refl
-two_heard one other (x ∷ y ∷ z ∷ more) a b d long first second = absurd (omega (arith, long))
+pub two_answers : (answers : List Answer) (a b d : Answer) → length answers ≡ 2 → a ≡ get_or answers 0 d
+    → b ≡ get_or answers 1 d → answers ≡ a ∷ b ∷ []
+two_answers [] a b d long first second = absurd (omega (arith, long))
+two_answers (x ∷ []) a b d long first second = absurd (omega (arith, long))
+two_answers (x ∷ y ∷ []) a b d long first second = rw (first, second) refl
+two_answers (x ∷ y ∷ z ∷ more) a b d long first second = absurd (omega (arith, long))
 
-pub two_answers : (t u v w : ℕ) (o p q r : Op) (answers : List Answer) (a b d : Answer) → t ≡ u → o ≡ p → v ≡ w → q ≡ r
-    → length answers ≡ 2 → a ≡ get_or answers 0 d → b ≡ get_or answers 1 d
-    → heard_of ((t, o) ∷ (v, q) ∷ []) answers ≡ (u, p, a) ∷ (w, r, b) ∷ []
-two_answers t u v w o p q r answers a b d e f g h long first second =
-    two_heard (t, o) (v, q) answers a b d long first second ∙ (λ i. (e i, f i, a) ∷ (g i, h i, b) ∷ [])
+-- the lines, over whatever they are run
+module _ {D : Type 0} (makes : Rounds D) where
+  run_more : (lines : List Line) (line : Line) (old mid new : D) (tried more : Tried) → LinesRun makes lines old tried mid
+      → LineRuns makes line mid more new → LinesRun makes (lines ++ line ∷ []) old (tried ++ more) new
+  run_more [] line old mid new tried more run one = (
+    new,
+    more,
+    [],
+    subst (λ (x : D). LineRuns makes line x more new) run.1 one,
+    (refl, refl),
+    ap (λ (xs : Tried). xs ++ more) run.0 ∙ sym (append-nil more),
+  )
+  run_more (first ∷ lines) line old mid new tried more run one = (
+    run.0,
+    run.1,
+    run.2 ++ more,
+    run.3,
+    run_more lines line run.0 mid new run.2 more run.4 one,
+    ap (λ (xs : Tried). xs ++ more) run.5 ∙ append_assoc run.1 run.2 more,
+  )
 
-run_more : (lines : List Line) (line : Line) (old mid new : Heard) (tried more : Tried) → LinesRun lines old tried mid
-    → LineRuns line mid more new → LinesRun (lines ++ line ∷ []) old (tried ++ more) new
-run_more [] line old mid new tried more run one = (
-  new,
-  more,
-  [],
-  subst (λ (x : Heard). LineRuns line x more new) run.1 one,
-  (refl, refl),
-  ap (λ (xs : Tried). xs ++ more) run.0 ∙ sym (append-nil more),
-)
-run_more (first ∷ lines) line old mid new tried more run one = (
-  run.0,
-  run.1,
-  run.2 ++ more,
-  run.3,
-  run_more lines line run.0 mid new run.2 more run.4 one,
-  ap (λ (xs : Tried). xs ++ more) run.5 ∙ append_assoc run.1 run.2 more,
-)
+  -- one more line ran
+  pub run_next : (i : ℕ) (lines : List Line) (d : Line) (old mid new : D) (tried more : Tried) → i < length lines
+      → LinesRun makes (take i lines) old tried mid → LineRuns makes (get_or lines i d) mid more new
+      → LinesRun makes (take (i + 1) lines) old (tried ++ more) new
+  run_next i lines d old mid new tried more within run one =
+      subst (λ (xs : List Line). LinesRun makes xs old (tried ++ more) new) (sym (take_more lines i d within))
+      (run_more (take i lines) (get_or lines i d) old mid new tried more run one)
 
--- one more line ran
-pub run_next : (i : ℕ) (lines : List Line) (d : Line) (old mid new : Heard) (tried more : Tried) → i < length lines
-    → LinesRun (take i lines) old tried mid → LineRuns (get_or lines i d) mid more new
-    → LinesRun (take (i + 1) lines) old (tried ++ more) new
-run_next i lines d old mid new tried more within run one =
-    subst (λ (xs : List Line). LinesRun xs old (tried ++ more) new) (sym (take_more lines i d within))
-    (run_more (take i lines) (get_or lines i d) old mid new tried more run one)
+  -- all of them did
+  pub run_all : (i : ℕ) (lines : List Line) (old new : D) (tried : Tried) → length lines ≤ i
+      → LinesRun makes (take i lines) old tried new
+      → LinesRun makes lines old tried new
+  run_all i lines old new tried past run =
+      subst (λ (xs : List Line). LinesRun makes xs old tried new) (take_all i lines past) run
 
--- all of them did
-pub run_all : (i : ℕ) (lines : List Line) (old new : Heard) (tried : Tried) → length lines ≤ i
-    → LinesRun (take i lines) old tried new
-    → LinesRun lines old tried new
-run_all i lines old new tried past run = subst (λ (xs : List Line). LinesRun xs old tried new) (take_all i lines past) run
+  -- what each kind of line does
+  pub call_runs : (line : Line) (row : Row) (old new : D) (given : Answer) → line ≡ Call row
+      → makes old ((row.0, op_of row.1) ∷ []) (given ∷ []) new → LineRuns makes line old ((given, answer_of row.2) ∷ []) new
+  call_runs line row old new given is made =
+      subst (λ (l : Line). LineRuns makes l old ((given, answer_of row.2) ∷ []) new) (sym is) (given, refl, made)
 
--- what each kind of line does
-pub call_runs : (line : Line) (row : Row) (old new : Heard) (given : Answer) → line ≡ Call row
-    → new ≡ old ++ (row.0, op_of row.1, given) ∷ [] → LineRuns line old ((given, answer_of row.2) ∷ []) new
-call_runs line row old new given is heard =
-    subst (λ (l : Line). LineRuns l old ((given, answer_of row.2) ∷ []) new) (sym is) (given, refl, heard)
+  pub race_runs : (line : Line) (first second : Row) (old new : D) (one two : Answer) → line ≡ Race first second
+      → makes old ((first.0, op_of first.1) ∷ (second.0, op_of second.1) ∷ []) (one ∷ two ∷ []) new
+      → LineRuns makes line old ((one, answer_of first.2) ∷ (two, answer_of second.2) ∷ []) new
+  race_runs line first second old new one two is made =
+      subst (λ (l : Line). LineRuns makes l old ((one, answer_of first.2) ∷ (two, answer_of second.2) ∷ []) new) (sym is)
+      (one, two, refl, made)
 
-pub race_runs : (line : Line) (first second : Row) (old new : Heard) (one two : Answer) → line ≡ Race first second
-    → new ≡ old ++ (first.0, op_of first.1, one) ∷ (second.0, op_of second.1, two) ∷ []
-    → LineRuns line old ((one, answer_of first.2) ∷ (two, answer_of second.2) ∷ []) new
-race_runs line first second old new one two is heard =
-    subst (λ (l : Line). LineRuns l old ((one, answer_of first.2) ∷ (two, answer_of second.2) ∷ []) new) (sym is)
-    (one, two, refl, heard)
+  pub fallocate_runs : (line : Line) (task file bits offset len : ℕ) (wanted : Wanted) (old new : D) (given : Answer)
+      → line ≡ Fallocate task file bits offset len wanted
+      → IsAnswered makes (fallocate_plan bits file offset len) task old given new
+      → LineRuns makes line old ((given, answer_of wanted) ∷ []) new
+  fallocate_runs line task file bits offset len wanted old new given is done =
+      subst (λ (l : Line). LineRuns makes l old ((given, answer_of wanted) ∷ []) new) (sym is) (given, refl, done)
 
-pub fallocate_runs : (line : Line) (task file bits offset len : ℕ) (wanted : Wanted) (old new : Heard) (given : Answer)
-    → line ≡ Fallocate task file bits offset len wanted
-    → IsPerformed (λ (xs : Heard). xs) (fallocate_plan bits file offset len) task old new (Ok given)
-    → LineRuns line old ((given, answer_of wanted) ∷ []) new
-fallocate_runs line task file bits offset len wanted old new given is done =
-    subst (λ (l : Line). LineRuns l old ((given, answer_of wanted) ∷ []) new) (sym is) (given, refl, done)
+  -- a front of the lines ran, and the next one stopped
+  pub front_runs : (stops : Stops D) (fault : ClientFault) (i : ℕ) (lines : List Line) (d : Line) (old mid new : D) (tried : Tried)
+      → i < length lines → LinesRun makes (take i lines) old tried mid → LineStops stops fault (get_or lines i d) mid new
+      → FrontRuns makes stops fault lines old new
+  front_runs stops fault i lines d old mid new tried within run stop = record {
+    front = take i lines;
+    line = get_or lines i d;
+    back = drop (i + 1) lines;
+    tried = tried;
+    mid = mid;
+    parts =
+        sym (ap (λ (ys : List Line). take i lines ++ ys) (sym (drop_more lines i d within)) ∙ take-append-drop i lines);
+    runs = run;
+    stopped = stop;
+  }
 
 -- before the first answer
 pub judges_none : (judged : Judged) → judged.calls ≡ 0 → judged.bad ≡ None → Judges [] judged

@@ -1,11 +1,12 @@
 -- Which operation of the core a call with byte offsets is, over numbers that don't wrap.
-use Rattle.std.specs.Prelude.{◌≡◌, ℕ, ◌+◌, ◌-◌, ◌*◌, ◌/◌, ◌%◌, ◌==◌, ◌||◌, ◌&&◌, ◌++◌, ◌∷◌, not, [], List, Result, Ok, Err}
+use Rattle.std.specs.Prelude.{◌≡◌, ℕ, ◌+◌, ◌-◌, ◌*◌, ◌/◌, ◌%◌, ◌==◌, ◌||◌, ◌&&◌, ◌∷◌, not, [], Result, Ok, Err}
 use Rattle.std.specs.Prelude.{nat_lt, nat_le, if◌then◌else◌, Bool, true, false}
 use Rattle.std.specs.Int.RustNames.{bit_and}
 use Rattle.hp_base.specs.declared.answer.Answer.{Answer}
 use Rattle.hp_base.specs.declared.answer.Answer.TheVariants.{Done, BadRange, Segv, NotMapped}
 use Rattle.hp_base.specs.declared.event.Op.{Op}
 use Rattle.hp_base.specs.declared.event.Op.TheVariants as op
+use Rattle.hp_client.specs.Driving.{Rounds, Stops}
 use Rattle.hp_client.specs.declared.fault.ClientFault.{ClientFault}
 use Rattle.hp_client.specs.declared.fault.ClientFault.TheVariants.{Unaligned, NotSupported}
 use Rattle.hp_client.specs.declared.bytes.Plan.{Plan}
@@ -89,11 +90,14 @@ fallocate_plan bits file offset len =
 abbrev pub touch_plan : (address : ℕ) → (ℕ → Op) → Result Plan ClientFault
 touch_plan address touch = Ok (if nat_le most_addresses address then Replies Segv else Calls (touch (address / page)))
 
--- The call is answered as planned: by a refusal or by itself, and the driver is as it was; or by the one operation, of which
--- the driver has heard where it was answered.
-abbrev pub IsPerformed : {D : Type 0} → (heard : D → List (ℕ × Op × Answer)) → Result Plan ClientFault → (task : ℕ)
-    → (old new : D) → Result Answer ClientFault → Type 0
-IsPerformed heard (Err fault) task old new result = (result ≡ Err fault) × (new ≡ old)
-IsPerformed heard (Ok (Replies answer)) task old new result = (result ≡ Ok answer) × (new ≡ old)
-IsPerformed heard (Ok (Calls op)) task old new (Ok answer) = heard new ≡ heard old ++ (task, op, answer) ∷ []
-IsPerformed heard (Ok (Calls op)) task old new (Err fault) = heard new ≡ heard old
+-- the call is answered as planned: by itself, and the driver is as it was, or by a round of the one operation
+abbrev pub IsAnswered : {D : Type 0} → Rounds D → Result Plan ClientFault → (task : ℕ) → (old : D) → Answer → (new : D) → Type 0
+IsAnswered makes (Err fault) task old answer new = ⊥
+IsAnswered makes (Ok (Replies reply)) task old answer new = (answer ≡ reply) × (new ≡ old)
+IsAnswered makes (Ok (Calls op)) task old answer new = makes old ((task, op) ∷ []) (answer ∷ []) new
+
+-- it isn't, as planned: it is refused, and the driver is as it was, or the round of the one operation stopped
+abbrev pub IsUnanswered : {D : Type 0} → Stops D → Result Plan ClientFault → (task : ℕ) → (old : D) → ClientFault → (new : D) → Type 0
+IsUnanswered stops (Err why) task old fault new = (fault ≡ why) × (new ≡ old)
+IsUnanswered stops (Ok (Replies reply)) task old fault new = ⊥
+IsUnanswered stops (Ok (Calls op)) task old fault new = stops fault old ((task, op) ∷ []) new

@@ -1,5 +1,6 @@
 pub mod Bytes
 pub mod Crew
+pub mod Driving
 pub mod Heard
 pub mod Judging
 pub mod PoolRounds

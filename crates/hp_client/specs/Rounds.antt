@@ -104,12 +104,13 @@ pub record TurnsStop (s : CoreState) (asked : List Asked) (new : CoreState) : Ty
   pub made : Turns turns s asked mid next
   pub stops : TurnStops mid next new
 
--- turns were made, and then one in which every call that hadn't ended was blocked
+-- turns were made, and not all calls had ended; then one in which every call that hadn't was blocked
 pub record TurnsBlocked (s : CoreState) (asked : List Asked) (new : CoreState) : Type 0 where
   pub turns : ℕ
   pub mid : CoreState
   pub next : List Asked
   pub made : Turns turns s asked mid next
+  pub waits : ¬ (All (λ call. IsSome call.answer) next)
   pub blocked : AreBlocked mid next new
 
 -- turns have no other fault than these

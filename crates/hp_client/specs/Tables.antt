@@ -1,13 +1,15 @@
 -- The eleven workloads, and what a run of one is.
-use Rattle.std.specs.Prelude.{◌≡◌, ◌≢◌, ◌<◌, ℕ, ◌+◌, ◌++◌, ◌⊎◌, true, false, List, [], ◌∷◌, Option, Some, None}
-use Rattle.std.specs.Prelude.{Ok, All, length, take, sum_by, codes}
+use Rattle.std.specs.Prelude.{◌≡◌, ◌≢◌, ℕ, ◌+◌, ◌++◌, ◌⊎◌, true, false, List, [], ◌∷◌, Option, Some, None}
+use Rattle.std.specs.Prelude.{All, length, sum_by, codes}
 use Rattle.hp_base.specs.declared.answer.Answer.{Answer}
 use Rattle.hp_base.specs.declared.answer.Answer.TheVariants as answer
 use Rattle.hp_base.specs.declared.event.Op.{Op}
 use Rattle.hp_base.specs.declared.event.Op.TheVariants as op
 use Rattle.hp_base.specs.Text.{Sizes}
 use Rattle.hp_core.specs.declared.readers.Tally.{Tally}
-use Rattle.hp_client.specs.Bytes.{fallocate_plan, IsPerformed}
+use Rattle.hp_client.specs.Bytes.{fallocate_plan, IsAnswered, IsUnanswered}
+use Rattle.hp_client.specs.Driving.{Rounds, Stops}
+use Rattle.hp_client.specs.declared.fault.ClientFault.{ClientFault}
 use Rattle.hp_client.specs.declared.table.Ask.{Ask}
 use Rattle.hp_client.specs.declared.table.Ask.TheVariants.{Map, MapNoReserve, Unmap, Load, Store, Alloc, Punch, Truncate}
 use Rattle.hp_client.specs.declared.table.Wanted.{Wanted}
@@ -215,36 +217,48 @@ calls_of (Fallocate task file bits offset len wanted) = 1
 abbrev pub calls_in : List Line → ℕ
 calls_in lines = sum_by calls_of lines
 
--- what was heard
-abbrev pub Heard : Type 0
-Heard = List (ℕ × Op × Answer)
-
 -- answers, each beside the one that is allowed
 abbrev pub Tried : Type 0
 Tried = List (Answer × Answer)
 
--- What a line does to what is heard, and its answers, each beside the one that is allowed: its calls are heard with
--- the answers given; a `fallocate` is heard as its plan says
-abbrev pub LineRuns : Line → (old : Heard) → Tried → (new : Heard) → Type 0
-LineRuns (Call row) old tried new =
-    (given : Answer) × (tried ≡ (given, answer_of row.2) ∷ []) × (new ≡ old ++ (row.0, op_of row.1, given) ∷ [])
-LineRuns (Race first second) old tried new =
+-- a line was run by rounds, with its answers, each beside the one that is allowed: a call is a round of one, a race one of
+-- two, and a `fallocate` what its plan says
+abbrev pub LineRuns : {D : Type 0} → Rounds D → Line → (old : D) → Tried → (new : D) → Type 0
+LineRuns makes (Call row) old tried new =
+    (given : Answer) × (tried ≡ (given, answer_of row.2) ∷ []) × makes old ((row.0, op_of row.1) ∷ []) (given ∷ []) new
+LineRuns makes (Race first second) old tried new =
     (one : Answer) × (two : Answer) × (tried ≡ (one, answer_of first.2) ∷ (two, answer_of second.2) ∷ [])
-    × (new ≡ old ++ (first.0, op_of first.1, one) ∷ (second.0, op_of second.1, two) ∷ [])
-LineRuns (Fallocate task file bits offset len wanted) old tried new =
+    × makes old ((first.0, op_of first.1) ∷ (second.0, op_of second.1) ∷ []) (one ∷ two ∷ []) new
+LineRuns makes (Fallocate task file bits offset len wanted) old tried new =
     (given : Answer) × (tried ≡ (given, answer_of wanted) ∷ [])
-    × IsPerformed (λ heard. heard) (fallocate_plan bits file offset len) task old new (Ok given)
+    × IsAnswered makes (fallocate_plan bits file offset len) task old given new
 
 -- line after line
-abbrev pub LinesRun : List Line → (old : Heard) → Tried → (new : Heard) → Type 0
-LinesRun [] old tried new = (tried ≡ []) × (new ≡ old)
-LinesRun (line ∷ lines) old tried new =
-    (mid : Heard) × (first : Tried) × (others : Tried)
-    × LineRuns line old first mid × LinesRun lines mid others new × (tried ≡ first ++ others)
+abbrev pub LinesRun : {D : Type 0} → Rounds D → List Line → (old : D) → Tried → (new : D) → Type 0
+LinesRun makes [] old tried new = (tried ≡ []) × (new ≡ old)
+LinesRun {D} makes (line ∷ lines) old tried new =
+    (mid : D) × (first : Tried) × (others : Tried)
+    × LineRuns makes line old first mid × LinesRun makes lines mid others new × (tried ≡ first ++ others)
 
--- a front of the lines ran, and not all of them
-abbrev pub FrontRuns : List Line → (old new : Heard) → Type 0
-FrontRuns lines old new = (k : ℕ) × (k < length lines) × (tried : Tried) × LinesRun (take k lines) old tried new
+-- a line's round stopped with this fault
+abbrev pub LineStops : {D : Type 0} → Stops D → ClientFault → Line → (old new : D) → Type 0
+LineStops stops fault (Call row) old new = stops fault old ((row.0, op_of row.1) ∷ []) new
+LineStops stops fault (Race first second) old new =
+    stops fault old ((first.0, op_of first.1) ∷ (second.0, op_of second.1) ∷ []) new
+LineStops stops fault (Fallocate task file bits offset len wanted) old new =
+    IsUnanswered stops (fallocate_plan bits file offset len) task old fault new
+
+-- a front of the lines ran, and the next one stopped with this fault
+pub record FrontRuns {D : Type 0} (makes : Rounds D) (stops : Stops D) (fault : ClientFault) (lines : List Line) (old new : D)
+    : Type 0 where
+  pub front : List Line
+  pub line : Line
+  pub back : List Line
+  pub tried : Tried
+  pub mid : D
+  pub parts : lines ≡ front ++ line ∷ back
+  pub runs : LinesRun makes front old tried mid
+  pub stopped : LineStops stops fault line mid new
 
 abbrev pub IsRight : Answer × Answer → Type 0
 IsRight tried = tried.0 ≡ tried.1
@@ -264,9 +278,9 @@ IsBad tried told wanted (Some k) =
     IsFirstWrong tried (Some k) ⊎ (All IsRight tried × (told ≢ wanted) × (k ≡ length tried + 1))
 
 -- what came of a workload: its lines ran, all its calls are counted, and `bad` is what these answers make it
-pub record IsReport (lines : List Line) (wanted : Tally) (old new : Heard) (report : Report) : Type 0 where
+pub record IsReport {D : Type 0} (makes : Rounds D) (lines : List Line) (wanted : Tally) (old new : D) (report : Report) : Type 0 where
   pub tried : Tried
-  pub runs : LinesRun lines old tried new
+  pub runs : LinesRun makes lines old tried new
   pub each : length tried ≡ calls_in lines
   pub calls : report.calls ≡ calls_in lines
   pub bad : IsBad tried report.tally wanted report.bad

@@ -1,9 +1,10 @@
 //! Calls with byte offsets over a driver, after those of libhugetlbfs and of the system whose names they bear. Each is
 //! planned first, and is then one operation of the pool or none.
-ghost use Rattle.std.specs.Prelude.{◌≡◌, ◌%◌, ◌==◌};
+ghost use Rattle.std.specs.Prelude.{◌≡◌, ◌%◌, ◌==◌, IfOk, IfErr};
 ghost use Rattle.hp_base.specs.declared.event.Op.TheVariants.{Load, Store};
 ghost use Rattle.hp_client.specs.Bytes.{page, is_whole, punch_pages, map_plan, unmap_plan, truncate_plan, fallocate_plan};
-ghost use Rattle.hp_client.specs.Bytes.{touch_plan, IsPerformed};
+ghost use Rattle.hp_client.specs.Bytes.{touch_plan, IsAnswered, IsUnanswered};
+ghost use Rattle.hp_client.specs.Driving.{IsHeard, IsUnheard};
 
 use crate::driver::Driver;
 use crate::fault::ClientFault;
@@ -154,7 +155,8 @@ fn perform<D: Driver>(
     plan: Result<Plan, ClientFault>,
 ) -> Result<Answer, ClientFault>
     requires rests { D.rests_on }
-    ensures { IsPerformed D.heard_by plan task driver.old driver.new result }
+    ensures answered { IfOk result (λ answer. IsAnswered (IsHeard D.heard_by D.makes) plan task driver.old answer driver.new) }
+    ensures unanswered { IfErr result (λ fault. IsUnanswered (IsUnheard D.heard_by D.stops) plan task driver.old fault driver.new) }
 {
     match plan {
         Ok(Plan::Replies(answer)) => Ok(answer),
@@ -182,7 +184,8 @@ pub fn get_huge_pages<D: Driver>(
     reserve: bool,
 ) -> Result<Answer, ClientFault>
     requires rests { D.rests_on }
-    ensures { IsPerformed D.heard_by (map_plan file offset len reserve) task driver.old driver.new result }
+    ensures answered { IfOk result (λ answer. IsAnswered (IsHeard D.heard_by D.makes) (map_plan file offset len reserve) task driver.old answer driver.new) }
+    ensures unanswered { IfErr result (λ fault. IsUnanswered (IsUnheard D.heard_by D.stops) (map_plan file offset len reserve) task driver.old fault driver.new) }
 {
     perform(driver, alloc, task, map_plan(file, offset, len, reserve))
 }
@@ -195,7 +198,8 @@ pub fn free_huge_pages<D: Driver>(
     address: u64,
 ) -> Result<Answer, ClientFault>
     requires rests { D.rests_on }
-    ensures { IsPerformed D.heard_by (unmap_plan address) task driver.old driver.new result }
+    ensures answered { IfOk result (λ answer. IsAnswered (IsHeard D.heard_by D.makes) (unmap_plan address) task driver.old answer driver.new) }
+    ensures unanswered { IfErr result (λ fault. IsUnanswered (IsUnheard D.heard_by D.stops) (unmap_plan address) task driver.old fault driver.new) }
 {
     perform(driver, alloc, task, unmap_plan(address))
 }
@@ -209,7 +213,8 @@ pub fn ftruncate<D: Driver>(
     length: u64,
 ) -> Result<Answer, ClientFault>
     requires rests { D.rests_on }
-    ensures { IsPerformed D.heard_by (truncate_plan file length) task driver.old driver.new result }
+    ensures answered { IfOk result (λ answer. IsAnswered (IsHeard D.heard_by D.makes) (truncate_plan file length) task driver.old answer driver.new) }
+    ensures unanswered { IfErr result (λ fault. IsUnanswered (IsUnheard D.heard_by D.stops) (truncate_plan file length) task driver.old fault driver.new) }
 {
     perform(driver, alloc, task, truncate_plan(file, length))
 }
@@ -226,7 +231,8 @@ pub fn fallocate<D: Driver>(
     len: u64,
 ) -> Result<Answer, ClientFault>
     requires rests { D.rests_on }
-    ensures { IsPerformed D.heard_by (fallocate_plan bits file offset len) task driver.old driver.new result }
+    ensures answered { IfOk result (λ answer. IsAnswered (IsHeard D.heard_by D.makes) (fallocate_plan bits file offset len) task driver.old answer driver.new) }
+    ensures unanswered { IfErr result (λ fault. IsUnanswered (IsUnheard D.heard_by D.stops) (fallocate_plan bits file offset len) task driver.old fault driver.new) }
 {
     perform(driver, alloc, task, fallocate_plan(bits, file, offset, len))
 }
@@ -239,7 +245,8 @@ pub fn load<D: Driver>(
     address: u64,
 ) -> Result<Answer, ClientFault>
     requires rests { D.rests_on }
-    ensures { IsPerformed D.heard_by (touch_plan address (λ vpn. Load vpn)) task driver.old driver.new result }
+    ensures answered { IfOk result (λ answer. IsAnswered (IsHeard D.heard_by D.makes) (touch_plan address (λ vpn. Load vpn)) task driver.old answer driver.new) }
+    ensures unanswered { IfErr result (λ fault. IsUnanswered (IsUnheard D.heard_by D.stops) (touch_plan address (λ vpn. Load vpn)) task driver.old fault driver.new) }
 {
     perform(driver, alloc, task, load_plan(address))
 }
@@ -253,7 +260,8 @@ pub fn store<D: Driver>(
     word: u64,
 ) -> Result<Answer, ClientFault>
     requires rests { D.rests_on }
-    ensures { IsPerformed D.heard_by (touch_plan address (λ vpn. Store vpn word)) task driver.old driver.new result }
+    ensures answered { IfOk result (λ answer. IsAnswered (IsHeard D.heard_by D.makes) (touch_plan address (λ vpn. Store vpn word)) task driver.old answer driver.new) }
+    ensures unanswered { IfErr result (λ fault. IsUnanswered (IsUnheard D.heard_by D.stops) (touch_plan address (λ vpn. Store vpn word)) task driver.old fault driver.new) }
 {
     perform(driver, alloc, task, store_plan(address, word))
 }

@@ -65,6 +65,10 @@ impl CoreDriver {
 impl Driver for CoreDriver {
     ghost heard_by = { λ driver. driver.heard };
 
+    ghost makes = { λ old calls answers new. Round old.core calls answers new.core };
+
+    ghost stops = { λ fault old calls new. RoundStops fault old.core calls new.core };
+
     ghost can_tell = { λ driver tally. tally ≡ tally_of driver.core };
 
     fn round(&mut self, alloc: Global, calls: &[(Task, Op)]) -> Result<Vec<Answer>, ClientFault>

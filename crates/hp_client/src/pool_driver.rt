@@ -77,6 +77,10 @@ impl<'a, C, R, F: Drop> PoolDriver<'a, C, R, F> {
 impl<'a, C: Team, R: Wait, F: Fn(&mut C, &R)> Driver for PoolDriver<'a, C, R, F> {
     ghost heard_by = { λ driver. driver.heard.items };
 
+    ghost makes = { λ old calls answers new. PoolRound (C.desks old.crew) calls answers (C.desks new.crew) };
+
+    ghost stops = { λ fault old calls new. PoolRoundStops fault (C.desks old.crew) calls (C.desks new.crew) };
+
     ghost can_tell = { λ driver tally. (core : CoreState) × IsCameTo core × (tally ≡ tally_of core) };
 
     ghost rests_on = { AllRun F.Fn C.desks };

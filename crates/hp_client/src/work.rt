@@ -1,8 +1,9 @@
 //! Runs a workload over any driver.
-ghost use Rattle.std.specs.Prelude.{◌≡◌, ◌≤◌, ◌<◌, ◌+◌, ◌++◌, ◌∷◌, [], OnOk, IfOk, OnErr, IfSome, IfNone, All, Some, None};
+ghost use Rattle.std.specs.Prelude.{◌≡◌, ◌≤◌, ◌<◌, ◌+◌, ◌++◌, ◌∷◌, [], OnOk, IfOk, IfErr, IfSome, IfNone, All, Some, None};
 ghost use Rattle.hp_base.specs.Text.{sizes};
 ghost use Rattle.hp_client.specs.Tables.{Tried, table_of, name_of, sizes_of, IsApart, calls_of, calls_in, op_of, answer_of};
-ghost use Rattle.hp_client.specs.Tables.{LineRuns, LinesRun, FrontRuns, IsFirstWrong, IsBad, IsReport};
+ghost use Rattle.hp_client.specs.Tables.{LineRuns, LinesRun, LineStops, FrontRuns, IsFirstWrong, IsBad, IsReport};
+ghost use Rattle.hp_client.specs.Driving.{IsHeard, IsUnheard};
 ghost use Rattle.hp_client.specs.Judging.{Judges};
 
 use crate::bytes::fallocate;
@@ -111,10 +112,10 @@ fn run_line<D: Driver>(
     requires rests { D.rests_on }
     requires apart { IsApart line }
     requires few { judged.old.calls + calls_of line ≤ 100 }
-    ensures run { OnOk result ((more : Tried) × LineRuns line (D.heard_by driver.old) more (D.heard_by driver.new)
+    ensures run { OnOk result ((more : Tried) × LineRuns (IsHeard D.heard_by D.makes) line driver.old more driver.new
         × ((tried : Tried) → Judges tried judged.old → Judges (tried ++ more) judged.new)) }
     ensures calls { OnOk result (judged.new.calls ≡ judged.old.calls + calls_of line) }
-    ensures err { OnErr result (D.heard_by driver.new ≡ D.heard_by driver.old) }
+    ensures stopped { IfErr result (λ fault. LineStops (IsUnheard D.heard_by D.stops) fault line driver.old driver.new) }
 {
     match line {
         Line::Call(row) => {
@@ -149,9 +150,10 @@ fn run_lines<D: Driver>(
     requires apart { All IsApart lines.now }
     requires few { calls_in lines.now ≤ 100 }
     ensures run { IfOk result (λ judged. (tried : Tried)
-        × LinesRun lines.now (D.heard_by driver.old) tried (D.heard_by driver.new) × Judges tried judged) }
+        × LinesRun (IsHeard D.heard_by D.makes) lines.now driver.old tried driver.new × Judges tried judged) }
     ensures calls { IfOk result (λ judged. judged.calls ≡ calls_in lines.now) }
-    ensures err { OnErr result (FrontRuns lines.now (D.heard_by driver.old) (D.heard_by driver.new)) }
+    ensures stopped { IfErr result (λ fault. FrontRuns (IsHeard D.heard_by D.makes) (IsUnheard D.heard_by D.stops) fault
+        lines.now driver.old driver.new) }
 {
     let mut judged = Judged {
         calls: 0,
@@ -176,17 +178,18 @@ fn first_bad(judged: Judged, told: Tally, wanted: Tally) -> Option<u32>
 }
 
 /// Makes all calls of a workload, and judges what came of them. A fault of the driver ends it: then a front of the lines
-/// was heard.
+/// ran, and the next one stopped with that fault.
 pub fn run_workload<D: Driver>(
     alloc: Global,
     workload: Workload,
     driver: &mut D,
 ) -> Result<Report, ClientFault>
     requires rests { D.rests_on }
-    ensures report { IfOk result (λ report. IsReport (table_of workload).lines (table_of workload).tally
-        (D.heard_by driver.old) (D.heard_by driver.new) report) }
+    ensures report { IfOk result (λ report. IsReport (IsHeard D.heard_by D.makes) (table_of workload).lines
+        (table_of workload).tally driver.old driver.new report) }
     ensures tally { IfOk result (λ report. D.can_tell driver.new report.tally) }
-    ensures err { OnErr result (FrontRuns (table_of workload).lines (D.heard_by driver.old) (D.heard_by driver.new)) }
+    ensures stopped { IfErr result (λ fault. FrontRuns (IsHeard D.heard_by D.makes) (IsUnheard D.heard_by D.stops) fault
+        (table_of workload).lines driver.old driver.new) }
 {
     let table = workload.table();
     let judged = run_lines(driver, alloc, table.lines)?;
