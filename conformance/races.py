@@ -6,7 +6,8 @@ usage: races.py [FILE ..]
 Each script is of a pool in which tasks race: a line `race SEED CALLS SPAN [KINDS] = rest | FREE RESV | ..` tells the numbers when
 all were done, and at the end the file is truncated to nothing, which gives every reservation back. Where no kind is a truncation
 (`t`) the count has to be one that the free frames can meet, and 0 at the end. Of the other scripts it is told in how many it is
-wrong; in the records of this folder, which are read where no file is named, that has to be as many as docs/NEEDED.md says.
+wrong; in the records of this folder, which are read where no file is named, that has to be as many as RECORDS says, of which
+docs/NEEDED.md tells.
 """
 from __future__ import annotations
 
