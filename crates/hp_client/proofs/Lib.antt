@@ -4,5 +4,6 @@ pub mod Crewing
 pub mod Hearing
 pub mod Judging
 pub mod Naming
+pub mod Retelling
 pub mod Running
 pub mod Standing

@@ -1,6 +1,8 @@
 //! A workload over what carries its calls.
-ghost use Rattle.std.specs.Prelude.{◌≡◌, IfOk};
-ghost use Rattle.hugepool.specs.Working.{IsRun};
+ghost use Rattle.std.specs.Prelude.{◌≡◌, IfOk, IfErr};
+ghost use Rattle.hp_base.specs.Text.{sizes};
+ghost use Rattle.hp_client.specs.Tables.{sizes_of};
+ghost use Rattle.hugepool.specs.Working.{IsRun, IsStopped};
 
 use hp_base::Config;
 use hp_client::{
@@ -23,7 +25,8 @@ pub(crate) enum Carrier {
 }
 
 fn run_on_core(alloc: Global, workload: Workload) -> Result<Report, ClientFault>
-    ensures { IfOk result (λ report. IsRun workload report) }
+    ensures ok { IfOk result (λ report. IsRun Carrier.Core workload report) }
+    ensures err { IfErr result (λ fault. IsStopped Carrier.Core workload fault) }
 {
     let mut driver = CoreDriver::open(alloc, config_of(workload))?;
     run_workload(alloc, workload, &mut driver)
@@ -38,7 +41,9 @@ fn run_on_pool<L: Ledger + Send + Sync, H: Threads + Wait + Sync>(
 ) -> Result<Report, ClientFault>
     requires name { blank.name ≡ L.name }
     requires parts { (blank.parts ≡ L.parts) × (blank.parts ≡ config.tasks) }
-    ensures { IfOk result (λ report. IsRun workload report) }
+    requires config { sizes config ≡ sizes_of workload }
+    ensures ok { IfOk result (λ report. IsRun Carrier.Pool workload report) }
+    ensures err { IfErr result (λ fault. IsStopped Carrier.Pool workload fault) }
 {
     let crew = Crew::<L, Open>::open(alloc, blank, config, Open)?;
     let mut driver = PoolDriver::new(
@@ -57,7 +62,8 @@ pub(crate) fn run_on<H: Threads + Wait + Sync>(
     carrier: Carrier,
     workload: Workload,
 ) -> Result<Report, ClientFault>
-    ensures { IfOk result (λ report. IsRun workload report) }
+    ensures ok { IfOk result (λ report. IsRun carrier workload report) }
+    ensures err { IfErr result (λ fault. IsStopped carrier workload fault) }
 {
     match carrier {
         Carrier::Core => run_on_core(alloc, workload),
