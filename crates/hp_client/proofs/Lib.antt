@@ -1,4 +1,5 @@
 pub mod Beginning
+pub mod Carrying
 pub mod Crewed
 pub mod Crewing
 pub mod Hearing

@@ -18,6 +18,7 @@ module _ {D E : Type 0} (seen : D → E) (makes : Rounds D) (made : Rounds E)
     → made (seen old) calls answers (seen new)) where
   answered_as : (plan : Result Plan ClientFault) (task : ℕ) (old new : D) (answer : Answer)
       → IsAnswered makes plan task old answer new → IsAnswered made plan task (seen old) answer (seen new)
+  answered_as (Err why) task old new answer h = elim h [ ]
   answered_as (Ok (Replies reply)) task old new answer h = (h.0, ap seen h.1)
   answered_as (Ok (Calls op)) task old new answer h = makes_as old ((task, op) ∷ []) (answer ∷ []) new h
 
@@ -51,6 +52,7 @@ module _ {D E : Type 0} (seen : D → E) (makes : Rounds D) (made : Rounds E)
     unanswered_as : (plan : Result Plan ClientFault) (task : ℕ) (old new : D) (fault : ClientFault)
         → IsUnanswered stops plan task old fault new → IsUnanswered stopped plan task (seen old) fault (seen new)
     unanswered_as (Err why) task old new fault h = (h.0, ap seen h.1)
+    unanswered_as (Ok (Replies reply)) task old new fault h = elim h [ ]
     unanswered_as (Ok (Calls op)) task old new fault h = stops_as fault old ((task, op) ∷ []) new h
 
     stop_as : (fault : ClientFault) (line : Line) (old new : D) → LineStops stops fault line old new

@@ -1,4 +1,5 @@
 pub mod Bytes
+pub mod Carrying
 pub mod Crew
 pub mod Driving
 pub mod Heard

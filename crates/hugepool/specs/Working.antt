@@ -2,20 +2,8 @@
 use Rattle.std.specs.Prelude.{◌≡◌, ◌≢◌, ◌⊎◌, ℕ, List, [], ◌∷◌, ◌++◌, Option, Some, None, IsSome, Result, Ok, Err, codes, string_bytes}
 use Rattle.std.specs.Fmt.{decimal}
 use Rattle.std.specs.Io.KnownBytes.{Appends, Keeps}
-use Rattle.hp_base.specs.Text.{sizes}
-use Rattle.hp_base.specs.declared.answer.Answer.{Answer}
-use Rattle.hp_base.specs.declared.config.Config.{Config}
-use Rattle.hp_base.specs.declared.event.Op.{Op}
-use Rattle.hp_core.specs.Runs.{IsOpening}
-use Rattle.hp_core.specs.State.{CoreState}
-use Rattle.hp_shared.specs.Journal.{IsCameTo}
-use Rattle.hp_shared.specs.States.{tally_of as shared_tally}
-use Rattle.hp_client.specs.Crew.{DeskState, desks_of, new_seats}
-use Rattle.hp_client.specs.Driving.{Rounds, Stops, IsHeard, IsUnheard}
-use Rattle.hp_client.specs.Heard.{DriverState, tally_of}
-use Rattle.hp_client.specs.PoolRounds.{PoolRound, PoolRoundStops}
-use Rattle.hp_client.specs.Rounds.{Round, RoundStops}
-use Rattle.hp_client.specs.Tables.{table_of, name_of, sizes_of, FrontRuns, IsReport}
+use Rattle.hp_client.specs.Carrying.{RunOverCore, RunOverPool, StoppedOverCore, StoppedOverPool}
+use Rattle.hp_client.specs.Tables.{name_of}
 use Rattle.hp_client.specs.declared.fault.ClientFault.{ClientFault}
 use Rattle.hp_client.specs.declared.fault.ClientFault.TheVariants.{Memory}
 use Rattle.hp_client.specs.declared.table.Workload.{Workload}
@@ -55,55 +43,15 @@ IsUnknown words (NoDriver name) =
 IsUnknown words (Client fault) = ⊥
 IsUnknown words Bad = ⊥
 
--- a new driver of a core of the workload's sizes, and the rounds that it makes
-abbrev pub IsNewCore : Workload → DriverState → Type 0
-IsNewCore workload driver =
-    ((config : Config) × (sizes config ≡ sizes_of workload) × IsOpening config driver.core) × (driver.heard ≡ [])
-
-abbrev pub core_rounds : Rounds DriverState
-core_rounds = IsHeard (λ (d : DriverState). d.heard) (λ old calls answers new. Round old.core calls answers new.core)
-
-abbrev pub core_stops : Stops DriverState
-core_stops = IsUnheard (λ (d : DriverState). d.heard) (λ fault old calls new. RoundStops fault old.core calls new.core)
-
--- what is seen of a driver of a running pool: the desks of its crew, and what it has heard
-pub record CrewState : Type 0 where
-  pub desks : List DeskState
-  pub heard : List (ℕ × Op × Answer)
-
--- a new one, with a seat for each of the workload's tasks, and the rounds that it makes
-abbrev pub IsNewCrew : Workload → CrewState → Type 0
-IsNewCrew workload driver = (driver.desks ≡ desks_of (new_seats (sizes_of workload).tasks)) × (driver.heard ≡ [])
-
-abbrev pub crew_rounds : Rounds CrewState
-crew_rounds = IsHeard (λ (d : CrewState). d.heard) (λ old calls answers new. PoolRound old.desks calls answers new.desks)
-
-abbrev pub crew_stops : Stops CrewState
-crew_stops = IsUnheard (λ (d : CrewState). d.heard) (λ fault old calls new. PoolRoundStops fault old.desks calls new.desks)
-
--- The workload's lines ran over a new driver of this kind, this is what came of it, and its tally is that of the driver's core
--- at the end, or of one that the running pool came to.
+-- the workload's lines ran over a new driver of this kind, and this is what came of it
 abbrev pub IsRun : Carrier → Workload → Report → Type 0
-IsRun Core workload report =
-    (old : DriverState) × (new : DriverState) × IsNewCore workload old
-    × IsReport core_rounds (table_of workload).lines (table_of workload).tally old new report
-    × (report.tally ≡ tally_of new.core)
-IsRun Pool workload report =
-    (old : CrewState) × (new : CrewState) × IsNewCrew workload old
-    × IsReport crew_rounds (table_of workload).lines (table_of workload).tally old new report
-    × ((core : CoreState) × IsCameTo core × (report.tally ≡ shared_tally core))
+IsRun Core workload report = RunOverCore workload report
+IsRun Pool workload report = RunOverPool workload report
 
--- memory was refused for the driver or the line, or the workload's lines ran over a new one up to a line that stopped with
--- this fault
+-- memory was refused, or the workload's lines ran over a new driver of this kind up to one that stopped with this fault
 abbrev pub IsStopped : Carrier → Workload → ClientFault → Type 0
-IsStopped Core workload fault =
-    (fault ≡ Memory)
-    ⊎ ((old : DriverState) × (new : DriverState) × IsNewCore workload old
-    × FrontRuns core_rounds core_stops fault (table_of workload).lines old new)
-IsStopped Pool workload fault =
-    (fault ≡ Memory)
-    ⊎ ((old : CrewState) × (new : CrewState) × IsNewCrew workload old
-    × FrontRuns crew_rounds crew_stops fault (table_of workload).lines old new)
+IsStopped Core workload fault = (fault ≡ Memory) ⊎ StoppedOverCore workload fault
+IsStopped Pool workload fault = (fault ≡ Memory) ⊎ StoppedOverPool workload fault
 
 -- `ok calls N`, or `bad call K`
 abbrev pub outcome : (calls : ℕ) → (bad : Option ℕ) → List ℕ
