@@ -11,8 +11,7 @@ returns-clause-ok g c = over_pool c.new-driver.result c.run_workload.new.driver
     (λ d. record { desks = d.crew.desks.items; heard = d.heard.items })
     (IsHeard (λ d. d.heard.items) (λ old calls answers new. PoolRound old.crew.desks.items calls answers new.crew.desks.items))
     (λ old calls answers new made. made)
-    c.args.workload
-    (
+    c.args.workload (
       ap (λ crew. crew.desks.items) c.new-driver.ensures.crew ∙ c.in_ok-crew.ensures.desks
           ∙ ap (λ (s : Sizes). desks_of (new_seats s.tasks)) c.requires.config,
       c.new-driver.ensures.heard,
@@ -24,8 +23,7 @@ returns-clause-err g c = stopped_over_pool c.new-driver.result c.run_workload.ne
     (λ d. record { desks = d.crew.desks.items; heard = d.heard.items })
     (IsHeard (λ d. d.heard.items) (λ old calls answers new. PoolRound old.crew.desks.items calls answers new.crew.desks.items))
     (λ old calls answers new made. made)
-    c.args.workload
-    (
+    c.args.workload (
       ap (λ crew. crew.desks.items) c.new-driver.ensures.crew ∙ c.in_ok-crew.ensures.desks
           ∙ ap (λ (s : Sizes). desks_of (new_seats s.tasks)) c.requires.config,
       c.new-driver.ensures.heard,
