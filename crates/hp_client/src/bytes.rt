@@ -156,7 +156,8 @@ fn perform<D: Driver>(
 ) -> Result<Answer, ClientFault>
     requires rests { D.rests_on }
     ensures answered { IfOk result (λ answer. IsAnswered (IsHeard D.heard_by D.makes) plan task driver.old answer driver.new) }
-    ensures unanswered { IfErr result (λ fault. IsUnanswered (IsUnheard D.heard_by D.stops) plan task driver.old fault driver.new) }
+    ensures unanswered { IfErr result (λ fault. IsUnanswered (IsUnheard D.heard_by D.stops)
+        plan task driver.old fault driver.new) }
 {
     match plan {
         Ok(Plan::Replies(answer)) => Ok(answer),
@@ -184,8 +185,10 @@ pub fn get_huge_pages<D: Driver>(
     reserve: bool,
 ) -> Result<Answer, ClientFault>
     requires rests { D.rests_on }
-    ensures answered { IfOk result (λ answer. IsAnswered (IsHeard D.heard_by D.makes) (map_plan file offset len reserve) task driver.old answer driver.new) }
-    ensures unanswered { IfErr result (λ fault. IsUnanswered (IsUnheard D.heard_by D.stops) (map_plan file offset len reserve) task driver.old fault driver.new) }
+    ensures answered { IfOk result (λ answer. IsAnswered (IsHeard D.heard_by D.makes)
+        (map_plan file offset len reserve) task driver.old answer driver.new) }
+    ensures unanswered { IfErr result (λ fault. IsUnanswered (IsUnheard D.heard_by D.stops)
+        (map_plan file offset len reserve) task driver.old fault driver.new) }
 {
     perform(driver, alloc, task, map_plan(file, offset, len, reserve))
 }
@@ -198,8 +201,10 @@ pub fn free_huge_pages<D: Driver>(
     address: u64,
 ) -> Result<Answer, ClientFault>
     requires rests { D.rests_on }
-    ensures answered { IfOk result (λ answer. IsAnswered (IsHeard D.heard_by D.makes) (unmap_plan address) task driver.old answer driver.new) }
-    ensures unanswered { IfErr result (λ fault. IsUnanswered (IsUnheard D.heard_by D.stops) (unmap_plan address) task driver.old fault driver.new) }
+    ensures answered { IfOk result (λ answer. IsAnswered (IsHeard D.heard_by D.makes)
+        (unmap_plan address) task driver.old answer driver.new) }
+    ensures unanswered { IfErr result (λ fault. IsUnanswered (IsUnheard D.heard_by D.stops)
+        (unmap_plan address) task driver.old fault driver.new) }
 {
     perform(driver, alloc, task, unmap_plan(address))
 }
@@ -213,8 +218,10 @@ pub fn ftruncate<D: Driver>(
     length: u64,
 ) -> Result<Answer, ClientFault>
     requires rests { D.rests_on }
-    ensures answered { IfOk result (λ answer. IsAnswered (IsHeard D.heard_by D.makes) (truncate_plan file length) task driver.old answer driver.new) }
-    ensures unanswered { IfErr result (λ fault. IsUnanswered (IsUnheard D.heard_by D.stops) (truncate_plan file length) task driver.old fault driver.new) }
+    ensures answered { IfOk result (λ answer. IsAnswered (IsHeard D.heard_by D.makes)
+        (truncate_plan file length) task driver.old answer driver.new) }
+    ensures unanswered { IfErr result (λ fault. IsUnanswered (IsUnheard D.heard_by D.stops)
+        (truncate_plan file length) task driver.old fault driver.new) }
 {
     perform(driver, alloc, task, truncate_plan(file, length))
 }
@@ -231,8 +238,10 @@ pub fn fallocate<D: Driver>(
     len: u64,
 ) -> Result<Answer, ClientFault>
     requires rests { D.rests_on }
-    ensures answered { IfOk result (λ answer. IsAnswered (IsHeard D.heard_by D.makes) (fallocate_plan bits file offset len) task driver.old answer driver.new) }
-    ensures unanswered { IfErr result (λ fault. IsUnanswered (IsUnheard D.heard_by D.stops) (fallocate_plan bits file offset len) task driver.old fault driver.new) }
+    ensures answered { IfOk result (λ answer. IsAnswered (IsHeard D.heard_by D.makes)
+        (fallocate_plan bits file offset len) task driver.old answer driver.new) }
+    ensures unanswered { IfErr result (λ fault. IsUnanswered (IsUnheard D.heard_by D.stops)
+        (fallocate_plan bits file offset len) task driver.old fault driver.new) }
 {
     perform(driver, alloc, task, fallocate_plan(bits, file, offset, len))
 }
@@ -245,8 +254,10 @@ pub fn load<D: Driver>(
     address: u64,
 ) -> Result<Answer, ClientFault>
     requires rests { D.rests_on }
-    ensures answered { IfOk result (λ answer. IsAnswered (IsHeard D.heard_by D.makes) (touch_plan address (λ vpn. Load vpn)) task driver.old answer driver.new) }
-    ensures unanswered { IfErr result (λ fault. IsUnanswered (IsUnheard D.heard_by D.stops) (touch_plan address (λ vpn. Load vpn)) task driver.old fault driver.new) }
+    ensures answered { IfOk result (λ answer. IsAnswered (IsHeard D.heard_by D.makes)
+        (touch_plan address (λ vpn. Load vpn)) task driver.old answer driver.new) }
+    ensures unanswered { IfErr result (λ fault. IsUnanswered (IsUnheard D.heard_by D.stops)
+        (touch_plan address (λ vpn. Load vpn)) task driver.old fault driver.new) }
 {
     perform(driver, alloc, task, load_plan(address))
 }
@@ -260,8 +271,10 @@ pub fn store<D: Driver>(
     word: u64,
 ) -> Result<Answer, ClientFault>
     requires rests { D.rests_on }
-    ensures answered { IfOk result (λ answer. IsAnswered (IsHeard D.heard_by D.makes) (touch_plan address (λ vpn. Store vpn word)) task driver.old answer driver.new) }
-    ensures unanswered { IfErr result (λ fault. IsUnanswered (IsUnheard D.heard_by D.stops) (touch_plan address (λ vpn. Store vpn word)) task driver.old fault driver.new) }
+    ensures answered { IfOk result (λ answer. IsAnswered (IsHeard D.heard_by D.makes)
+        (touch_plan address (λ vpn. Store vpn word)) task driver.old answer driver.new) }
+    ensures unanswered { IfErr result (λ fault. IsUnanswered (IsUnheard D.heard_by D.stops)
+        (touch_plan address (λ vpn. Store vpn word)) task driver.old fault driver.new) }
 {
     perform(driver, alloc, task, store_plan(address, word))
 }
