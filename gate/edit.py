@@ -1,7 +1,7 @@
-"""A must-fail edit: lines `file: PATH`, and pairs of lines `old: TEXT` and `new: TEXT`.
+"""A mutant: a wrong body, spelled as an edit file with lines `file: PATH` and pairs of lines `old: TEXT` and `new: TEXT`.
 
 Each old text stands once in its file, as the pairs before it have left that file. The format is that of the toolchain's own gate.
-An edit that must not even compile has a line `error: CODE` before these, the compiler's code of the error that it has to meet.
+A mutant that must not even compile begins with a line `error: CODE`, the compiler's code of the error that it must cause.
 """
 from __future__ import annotations
 
@@ -11,6 +11,8 @@ from pathlib import Path
 import source
 
 PARTS = ("src", "specs", "proofs")
+NOT_COMPILED = "must-not-compile"
+FOLDERS = ("must-fail", "edits", NOT_COMPILED)
 
 
 class BadEdit(Exception):
@@ -19,7 +21,7 @@ class BadEdit(Exception):
 
 @dataclass(frozen=True)
 class Pair:
-    """One text and what stands in its place."""
+    """One text and its replacement."""
 
     path: str
     old: str
@@ -28,11 +30,29 @@ class Pair:
 
 @dataclass(frozen=True)
 class Edit:
-    """An edit of a crate: its name, its pairs in their order, and the error that the compiler has to answer, if it is to come then."""
+    """A mutant's name, its pairs in their order, and the compiler's error that it must cause, if any."""
 
     name: str
     pairs: tuple[Pair, ...]
     error: str | None = None
+
+
+@dataclass(frozen=True)
+class Mutant:
+    """An edit, the functions that it changes, and whether it changes bodies alone, so that no other function can fail because of it."""
+
+    edit: Edit
+    functions: frozenset[source.Function]
+    is_in_bodies: bool
+
+
+@dataclass(frozen=True)
+class Result:
+    """The result of a mutant: refused for its own sake, or a fault and its reason."""
+
+    name: str
+    is_refused: bool
+    why: str
 
 
 def read(file: Path) -> Edit:
@@ -86,16 +106,8 @@ class Texts:
         return after
 
 
-@dataclass(frozen=True)
-class Reach:
-    """What an edit changes: in which functions, and whether in their bodies alone, so that nothing else can fail by it."""
-
-    functions: frozenset[source.Function]
-    is_in_bodies: bool
-
-
-def reach_of(edit: Edit, crate: Path) -> Reach:
-    """What an edit of a crate changes. A text of specs/ or proofs/ is in no function."""
+def mutant_of(edit: Edit, crate: Path) -> Mutant:
+    """The functions that an edit of a crate changes. A text of specs/ or proofs/ belongs to no function."""
     texts, found, is_in_bodies = Texts(crate), set(), True
     for pair in edit.pairs:
         before = texts.get(pair.path)
@@ -105,4 +117,23 @@ def reach_of(edit: Edit, crate: Path) -> Reach:
         is_source = pair.path.endswith(".rt")
         found |= source.functions_in(*part) if is_source else set()
         is_in_bodies = is_in_bodies and is_source and source.is_in_bodies(*part)
-    return Reach(frozenset(found), is_in_bodies)
+    return Mutant(edit, frozenset(found), is_in_bodies)
+
+
+def mutants_of(crate: Path) -> tuple[list[Mutant], list[Result]]:
+    """The crate's mutants, and the files that spell none or no longer apply."""
+    found, bad, names = [], [], set()
+    for file in sorted(it for folder in FOLDERS for it in (crate / folder).glob("*") if it.suffix != ".md"):
+        try:
+            if file.suffix != ".edit":
+                raise BadEdit("its name ends neither in .edit nor, if it is only to be read, in .md")
+            if file.stem in names:
+                raise BadEdit("an edit of the same name stands in another folder")
+            edit = read(file)
+            if bool(edit.error) != (file.parent.name == NOT_COMPILED):
+                raise BadEdit(f"a line 'error: CODE' stands in the edits of {NOT_COMPILED}/, and only there")
+            names.add(file.stem)
+            found.append(mutant_of(edit, crate))
+        except (BadEdit, UnicodeDecodeError) as error:
+            bad.append(Result(file.stem, False, f"BAD EDIT: {error}"))
+    return found, bad

@@ -11,7 +11,7 @@ import sys
 
 import source
 from scratch import TOP
-from try_edits import read_all
+from edit import mutants_of
 
 INDEX = TOP / "docs" / "INDEX.md"
 CRATES = TOP / "crates"
@@ -71,7 +71,7 @@ def lemma_of(operation: str, phase: str) -> str:
 def edits_of(crate: str) -> dict[source.Function, list[str]]:
     """The names of a crate's edits, by the function that they change."""
     found: dict[source.Function, list[str]] = {}
-    for it in read_all(CRATES / crate)[0]:
+    for it in mutants_of(CRATES / crate)[0]:
         for function in it.functions:
             found.setdefault(function, []).append(it.edit.name)
     return found

@@ -1,4 +1,4 @@
-"""A copy of a crate and of the libraries below it, in which edits are tried, so that the repository stays as it is."""
+"""A copy of a crate and of the libraries below it, in which mutants are tried, so that the repository stays as it is."""
 from __future__ import annotations
 
 import os
@@ -6,6 +6,7 @@ import shutil
 import subprocess
 import tempfile
 from pathlib import Path
+from typing import Callable
 
 import verdicts
 from edit import PARTS, Texts
@@ -14,7 +15,7 @@ TOP = Path(__file__).resolve().parent.parent
 
 
 def crates_of(top: Path) -> dict[str, list[str]]:
-    """What crates.txt says: each crate, and what it stands on."""
+    """The crates of crates.txt, each with the libraries on which it stands."""
     lines = (line.partition("#")[0].strip() for line in (top / "crates.txt").read_text(encoding="utf-8").splitlines())
     heads = (line.partition(":") for line in lines if line)
     return {head.split()[0]: below.split() for head, _, below in heads}
@@ -35,40 +36,42 @@ def link_or_copy(source: str, to: str) -> None:
 
 
 class Scratch:
-    """The copy. `seconds` is the processor time that its checks took."""
+    """The copy. `seconds` is the processor time of its checks, `checks` their number."""
 
-    def __init__(self, top: Path, name: str, room: Path) -> None:
-        self.name, self.folder, self.seconds, self.checks = name, room / "crates" / name, 0.0, 0
+    def __init__(self, top: Path, name: str, room: Path, kept: Path | None = None) -> None:
+        """`kept` is the folder of kept work to begin with; without it, the crate's own."""
+        self.name, self.crate, self.folder = name, top / "crates" / name, room / "crates" / name
+        self.changed, self.seconds, self.checks = {}, 0.0, 0
         crates = crates_of(top)
         low = below(name, crates)
         lines = [f"{it}: {' '.join(crates[it])}\n" for it in sorted({*low, name})]
         (room / "crates.txt").write_text("".join(lines), encoding="utf-8")
         shutil.copyfile(top / "HANDLES", room / "HANDLES")
         for it in [*low, name]:
-            self.bring(top / "crates" / it, room / "crates" / it, is_library=it != name)
-        self.texts = {}
+            bring_texts(top / "crates" / it, room / "crates" / it)
+        for it in low:
+            bring(top / "crates" / it / "out" / "rlib", room / "crates" / it / "out" / "rlib", link_or_copy)
+        bring(kept or self.crate / "out" / "incremental", self.kept, shutil.copy2)
 
-    def bring(self, source: Path, to: Path, is_library: bool) -> None:
-        for part in PARTS:
-            if (source / part).is_dir():
-                shutil.copytree(source / part, to / part)
-        if is_library:
-            shutil.copytree(source / "out" / "rlib", to / "out" / "rlib", copy_function=link_or_copy)
-        elif (source / "out" / "incremental").is_dir():
-            shutil.copytree(source / "out" / "incremental", to / "out" / "incremental")
+    @property
+    def kept(self) -> Path:
+        return self.folder / "out" / "incremental"
 
     def write(self, texts: Texts) -> None:
-        """Has the copy's files say this, and all others what the crate's own say."""
-        for path in {*self.texts, *texts.changed}:
-            now = texts.get(path)
-            if self.texts.get(path) != now:
-                (self.folder / path).write_text(now, encoding="utf-8")
-        self.texts = {path: texts.get(path) for path in {*self.texts, *texts.changed}}
+        """Writes these texts into the copy, and the crate's own into all other files."""
+        for path in {*self.changed, *texts.changed}:
+            own, file = self.crate / path, self.folder / path
+            file.parent.mkdir(parents=True, exist_ok=True)
+            if path in texts.changed or own.is_file():
+                file.write_text(texts.get(path), encoding="utf-8")
+            else:
+                file.unlink()
+        self.changed = dict(texts.changed)
 
-    def check(self, texts: Texts, is_to_prove: bool = True) -> verdicts.Check:
+    def check(self, texts: Texts, jobs: int = 1, is_to_prove: bool = True) -> verdicts.Check:
         """Checks the copy with these texts, or only compiles it."""
         self.write(texts)
-        words = ["rt", "check", "--jobs", "1", *([] if is_to_prove else ["--only", ""])]
+        words = ["rt", "check", "--jobs", str(jobs), *([] if is_to_prove else ["--only", ""])]
         with tempfile.TemporaryFile("w+", encoding="utf-8", errors="replace") as said:
             ran = subprocess.Popen(words, cwd=self.folder, stdin=subprocess.DEVNULL, stdout=said, stderr=subprocess.STDOUT)
             _, _, used = os.wait4(ran.pid, 0)
@@ -76,3 +79,14 @@ class Scratch:
             self.checks += is_to_prove
             said.seek(0)
             return verdicts.read(self.name, said.read())
+
+
+def bring_texts(source: Path, to: Path) -> None:
+    for part in PARTS:
+        if (source / part).is_dir():
+            shutil.copytree(source / part, to / part)
+
+
+def bring(source: Path, to: Path, copy: Callable[[str, str], object]) -> None:
+    if source.is_dir():
+        shutil.copytree(source, to, copy_function=copy)
