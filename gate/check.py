@@ -3,235 +3,222 @@
 usage: ./check [STEP] [..]
 
   ./check            all steps but quick: what has to pass before a change lands
-  ./check all        the same, with every edit, whether or not anything changed that its check reads
-  ./check ci         every proof from nothing, the edits for the known wrong bodies, all tests and programs (rt ci)
+  ./check all        the same, with every mutant, whether or not its crate changed
+  ./check ci         every proof from nothing, all tests and programs, and the mutants of must-fail/ (rt ci)
   ./check edits [CRATE ..] [--all] [--due] [--each]
-                     the must-fail edits, many at once: with no crate named, those of which anything changed that their checks
-                     read since they were refused; where few are, those of some other crates (--all: all); then edits of
-                     which each has to be told apart, what makes edits due, when libraries are taken over, and whether
-                     docs/INDEX.md is what the sources say.
-                     Of crates that are named all, or with --due those that are due
-  ./check examples   what the traces of examples/ print; what no one output shows, what each command's help tells, and what is said of
-                     each wrong field of a line; a long race, and its trace; when ./hugepool builds, and what ./check itself counts;
-                     that what documents name is there; where there is cargo, a few seconds of random and damaged traces beside a
-                     plain program
-  ./check refusals   that programs and drivers tell it where memory is refused to them, at each growth, one a run; how many threads the
-                     commands start (it needs cc)
-  ./check linux      what a Linux kernel answered (conformance/), and what records that, as far as it needs no kernel (it needs cc)
-  ./check quick      before a commit: that texts are formatted; proofs and tests of what changed since the last time, over kept
-                     work; that each edit applies
+                     the mutants: wrong bodies that the prover must refuse. With no crate named, those of each crate that changed, or
+                     that stands on one that did, since they were refused; where few are due, those of some other crates, too
+                     (--all: all); then faulty mutants that must be reported, and docs/INDEX.md.
+                     Of crates that are named all mutants, or with --due those that are due
+  ./check examples   the output of the traces of examples/, which no single output shows, of each command's help, and of each wrong
+                     field of a line; a long race, and its trace; when ./hugepool builds; what ./check itself counts; the names in
+                     documents; with cargo, some seconds of random and damaged traces beside a plain program
+  ./check refusals   a failed allocation, read or write at each place where programs and drivers make one, one a run, and how many
+                     threads the commands start (needs cc)
+  ./check linux      what a Linux kernel answered (conformance/), and the recorder, as far as it needs no kernel (needs cc)
+  ./check quick      before a commit: the format of changed texts; proofs and tests of what changed; whether each mutant applies
 
+First it lists the commands that are missing. At the end it prints what each step took, and what was left out.
 The last line is 'N passed, M failed'.
 """
 from __future__ import annotations
 
 import os
 import re
-import shutil
 import subprocess
 import sys
 import tempfile
-import time
+import threading
 from concurrent.futures import ThreadPoolExecutor
 from itertools import groupby
 from pathlib import Path
 from typing import Callable, Iterable
 
 import libraries
+import needs
 import programs
-import tried
-import try_edits
+from edit import mutants_of
 from marks import PROOFS, TESTS, Marks
+from progress import Progress
 from scratch import TOP, below, crates_of
 
-GATE = Path(__file__).resolve().parent
+# the scripts of each step, with their words; ci and quick run more than scripts
+SCRIPTS = {
+    "ci": ("rt ci",),
+    "edits": ("gate/try_edits.py", "gate/test_edits.py", "gate/index.py"),
+    "examples": (
+        "gate/examples.py",
+        "gate/showing.py",
+        "gate/soak.py",
+        "gate/test_launcher.py",
+        "gate/test_check.py",
+        "gate/documents.py",
+        "bench/fuzz.sh 10 1",
+    ),
+    "refusals": ("gate/growths.py", "gate/refusals.py", "gate/failing.py"),
+    "linux": ("conformance/compare.py", "conformance/races.py", "conformance/test_compare.py", "conformance/test_record.py"),
+    "quick": ("rt check and test", "gate/documents.py"),
+}
+WHOLE = ("ci", "edits", "examples", "refusals", "linux")
 # of more crates than these the toolchain proves all; of fewer so many are begun at a time, since one may take several processors
 MANY, AT_A_TIME = 12, 2
-TOLD = {"stderr": subprocess.STDOUT, "text": True, "errors": "replace"}
+PIPED = {"stdin": subprocess.DEVNULL, "stdout": subprocess.PIPE, "stderr": subprocess.STDOUT, "text": True, "errors": "replace"}
 COUNTS = re.compile(r"^(?:[\w ]+: )?(\d+) passed, (\d+) failed$")
 
 
-class Step:
-    """Commands whose output goes on, and whose lines 'N passed, M failed' are added up."""
+class Gate:
+    """The steps of this call: what passed and failed so far, and what was left out."""
 
-    def __init__(self, name: str) -> None:
-        self.name, self.passed, self.failed = name, 0, 0
-        self.begin()
+    def __init__(self, steps: Iterable[str], lacking: Iterable[needs.Need] = ()) -> None:
+        self.steps, self.lacking = list(steps), list(lacking)
+        self.passed, self.failed, self.left_out = 0, 0, []
+        self.progress = Progress((step, script) for step in self.steps for script in SCRIPTS[step])
 
-    def begin(self) -> None:
-        self.began = self.ended = time.monotonic()
+    def script(self, step: str, script: str, *more: str) -> bool:
+        """Runs a script of the repository, unless a command that it needs is missing, and returns whether it ended well."""
+        path, *words = script.split(" ")
+        if lacking := needs.left_out(path, self.lacking):
+            self.left_out.append(f"check: {step}: {path} is left out, since '{lacking}' is missing")
+            self.progress.line(f"{self.left_out[-1]}\n")
+            return True
+        first = [sys.executable] if path.endswith(".py") else []
+        return self.run(step, script, [*first, str(TOP / path), *words, *more])
 
-    def end(self) -> None:
-        self.ended = time.monotonic()
+    def run(self, step: str, script: str, words: list[str]) -> bool:
+        """Runs a command as this script, and passes its lines on."""
+        return self.timed(step, script, lambda: self.follow(words))
 
-    def run(self, words: list[str], folder: Path = TOP) -> bool:
-        """Runs a command, and returns whether it ended well."""
-        with subprocess.Popen(words, cwd=folder, stdin=subprocess.DEVNULL, stdout=subprocess.PIPE, **TOLD) as ran:
-            return self.follow(ran.stdout, ran)
+    def timed(self, step: str, script: str, does: Callable[[], bool]) -> bool:
+        ended = threading.Event()
+        self.progress.begin(step, script)
+        watching = threading.Thread(target=self.progress.watch, args=(ended,), daemon=True)
+        watching.start()
+        try:
+            return does()
+        finally:
+            ended.set()
+            watching.join()
+            self.progress.end(step, script)
 
-    def follow(self, lines: Iterable[str], ran: subprocess.Popen) -> bool:
-        """Passes a command's lines on, and returns whether it ended well. One that fails and counts nothing is one failure."""
-        counted = 0
-        for line in lines:
-            print(line, end="", flush=True)
-            if made := COUNTS.match(line.rstrip("\n")):
-                self.passed, self.failed, counted = self.passed + int(made[1]), self.failed + int(made[2]), counted + int(made[2])
-        if ran.wait() and not counted:
-            self.failed += 1
+    def follow(self, words: list[str]) -> bool:
+        """Passes a command's lines on, and adds up its lines 'N passed, M failed'. A command that counts nothing is one that passed or
+        failed; one that fails and counts no failure has one."""
+        counts = []
+        with subprocess.Popen(words, cwd=TOP, **PIPED) as ran:
+            for line in ran.stdout:
+                self.progress.line(line)
+                if made := COUNTS.match(line.rstrip("\n")):
+                    counts.append((int(made[1]), int(made[2])))
+        failed = sum(it for _, it in counts)
+        self.passed += sum(it for it, _ in counts) + (not counts and not ran.returncode)
+        self.failed += failed or int(ran.returncode != 0)
         return ran.returncode == 0
 
-    def told(self) -> str:
-        return f"check: {self.name}: {self.passed} passed, {self.failed} failed, in {self.ended - self.began:.0f} s"
+    def count(self, have_passed: list[bool]) -> bool:
+        """Counts what passed, and returns whether all did."""
+        self.passed += sum(have_passed)
+        self.failed += have_passed.count(False)
+        return all(have_passed)
+
+    def tell(self) -> int:
+        """Prints what the steps took, what was left out, and the counts, and returns the status."""
+        self.progress.line("".join(f"{it}\n" for it in [*self.progress.table(), *self.left_out, f"{self.passed} passed, {self.failed} failed"]))
+        return 1 if self.failed else 0
 
 
-def python(script: str, *words: str) -> list[str]:
-    return [sys.executable, str(GATE / script), *words]
-
-
-def ci(step: Step, _: list[str]) -> None:
-    """Where it ends well, the other steps run the programs that were proved and built by it, and what comes later proves what changes."""
+def ci(gate: Gate, _: list[str]) -> bool:
+    """Where it ends well, the other steps run the programs that were proved and built by it, and later checks prove only what changes."""
     seen, stamps = Marks(), libraries.stamps_of(TOP)
     with tempfile.NamedTemporaryFile(prefix="check-began-") as began:
-        if step.run(["rt", "ci"]):
-            os.environ[programs.BEGAN] = str(os.stat(began.name).st_mtime)
-            own = {**os.environ, "HUGEPOOL_BUILT_SINCE": began.name}
-            subprocess.run([TOP / "hugepool", "--help"], env=own, stdout=subprocess.DEVNULL, check=True)
-            libraries.stamp(TOP, stamps)
-            for name in seen.known:
-                seen.note(name, PROOFS)
-                seen.note(name, TESTS)
+        if not gate.run("ci", "rt ci", ["rt", "ci"]):
+            return False
+        os.environ[programs.BEGAN] = str(os.stat(began.name).st_mtime)
+        own = {**os.environ, "HUGEPOOL_BUILT_SINCE": began.name}
+        subprocess.run([TOP / "hugepool", "--help"], env=own, stdout=subprocess.DEVNULL, check=True)
+    libraries.stamp(TOP, stamps)
+    for name in seen.known:
+        seen.note(name, PROOFS)
+        seen.note(name, TESTS)
+    return True
 
 
-def edits(step: Step, words: list[str]) -> None:
-    step.run(python("try_edits.py", *words))
-    if not crates_of(TOP).keys() & set(words):
-        step.run(python("test_edits.py"))
-        gate_itself(step)
+def edits(gate: Gate, words: list[str]) -> bool:
+    first, *others = SCRIPTS["edits"]
+    if crates_of(TOP).keys() & set(words):
+        return gate.script("edits", first, *words)
+    return all([gate.script("edits", first, *words), *(gate.script("edits", it) for it in others)])
 
 
-def gate_itself(step: Step) -> None:
-    """What the trial of edits rests on, tried by itself."""
-    for script in ("test_tried.py", "test_libraries.py", "index.py"):
-        step.run(python(script))
+def quick(gate: Gate, _: list[str]) -> bool:
+    first, documents = SCRIPTS["quick"]
+    return gate.timed("quick", first, lambda: proofs_and_tests(gate)) and gate.script("quick", documents)
 
 
-def examples(step: Step, _: list[str]) -> None:
-    step.run(python("examples.py"))
-    step.run(python("showing.py"))
-    step.run(python("soak.py"))
-    step.run(python("test_launcher.py"))
-    step.run(python("documents.py"))
-    fuzz(step)
-
-
-def fuzz(step: Step) -> None:
-    if shutil.which("cargo") is None:
-        print("bench/fuzz.sh is left out: 'cargo', which builds the plain program, is not on the PATH")
-        return
-    step.passed += step.run([str(TOP / "bench" / "fuzz.sh"), "10", "1"])
-
-
-def refusals(step: Step, _: list[str]) -> None:
-    step.run(python("refusals.py"))
-    step.run(python("growths.py"))
-    step.run(python("failing.py"))
-
-
-def linux(step: Step, _: list[str]) -> None:
-    for script in ("compare.py", "races.py", "test_compare.py", "test_record.py"):
-        step.run([sys.executable, str(TOP / "conformance" / script)])
-
-
-def quick(step: Step, _: list[str]) -> None:
+def proofs_and_tests(gate: Gate) -> bool:
+    """Checks the format, the proofs and the tests of what changed, and whether each mutant still applies."""
     seen = Marks()
     proofs, tests = due(seen)
-    if not step.run(python("formatted.py")) or not prove(step, seen, proofs):
-        return
-    count(step, at_once(os.cpu_count() or 1, sorted(tests), lambda name: run_rt("test", name, seen, [PROOFS, TESTS])))
-    for name in seen.known:
-        for it in try_edits.read_all(TOP / "crates" / name)[1]:
-            print(f"  {name}/{it.name}: {it.why}")
-            step.failed += 1
-    step.run(python("documents.py"))
+    changed = sorted(proofs | tests)
+    if changed and not gate.follow([sys.executable, str(TOP / "gate" / "formatted.py"), *changed]) or not prove(gate, seen, proofs):
+        return False
+    have_passed = gate.count(at_once(os.cpu_count() or 1, sorted(tests), lambda name: run_rt(gate, "test", name, seen, [PROOFS, TESTS])))
+    bad = [f"  {name}/{it.name}: {it.why}\n" for name in seen.known for it in mutants_of(TOP / "crates" / name)[1]]
+    gate.progress.line("".join(bad))
+    gate.failed += len(bad)
+    return have_passed and not bad
 
 
 def due(seen: Marks) -> tuple[set[str], set[str]]:
-    """The crates to prove, and those whose tests are to run. A check with tests proves the crate as well, so it does for one on which no
-    other stands, which needs no library of it."""
+    """The crates to prove, and those to test. A check with tests proves the crate as well, so a crate on which no other stands, and
+    which needs no library of its own, is only tested."""
     tests = {name for name in seen.known if seen.is_due(name, TESTS)}
     libraries_of = {low for lows in seen.known.values() for low in lows}
     return {name for name in seen.known if seen.is_due(name, PROOFS)} - (tests - libraries_of), tests
 
 
-def prove(step: Step, seen: Marks, names: set[str]) -> bool:
-    """Proves crates, those before that others stand on. Where most have to be proved, the toolchain proves all: it knows how many have
-    room at a time."""
-    print(f"{len(names)} of {len(seen.known)} crates are to be proved{': ' if names else ''}{' '.join(sorted(names))}", flush=True)
+def prove(gate: Gate, seen: Marks, names: set[str]) -> bool:
+    """Proves crates, low ones first. Where most have to be proved, the toolchain proves all: it knows how many fit into memory."""
+    gate.progress.line(f"{len(names)} of {len(seen.known)} crates are to be proved{': ' if names else ''}{' '.join(sorted(names))}\n")
     if len(names) > MANY:
-        have_passed = step.run(["rt", "all", "check", "--jobs", str(os.cpu_count() or 1)])
+        have_passed = gate.follow(["rt", "all", "check", "--jobs", str(os.cpu_count() or 1)])
         for name in names if have_passed else ():
             seen.note(name, PROOFS)
-            step.passed += 1
         return have_passed
     height = {name: len(names & below(name, seen.known)) for name in names}
     levels = groupby(sorted(names, key=height.get), height.get)
-    return all(count(step, at_once(AT_A_TIME, level, lambda name: run_rt("check", name, seen, [PROOFS]))) for _, level in levels)
+    return all(gate.count(at_once(AT_A_TIME, level, lambda name: run_rt(gate, "check", name, seen, [PROOFS]))) for _, level in levels)
 
 
 def at_once(most: int, names: Iterable[str], does: Callable[[str], bool]) -> list[bool]:
-    """What it answers of each, so many at a time."""
+    """Does this for each name, so many at a time."""
     with ThreadPoolExecutor(most) as pool:
         return list(pool.map(does, names))
 
 
-def count(step: Step, have_passed: list[bool]) -> bool:
-    """Counts what passed, and tells whether all did."""
-    step.passed += sum(have_passed)
-    step.failed += have_passed.count(False)
-    return all(have_passed)
-
-
-def run_rt(command: str, name: str, seen: Marks, shown: list[str]) -> bool:
-    """Has the toolchain check a crate, or run its tests, and tells whether that passed. Then it has shown this of the crate."""
-    ran = subprocess.run(["rt", command], cwd=TOP / "crates" / name, stdin=subprocess.DEVNULL, stdout=subprocess.PIPE, **TOLD)
-    print(f"== {name}: {' and '.join(shown)}\n{ran.stdout}", end="", flush=True)
+def run_rt(gate: Gate, command: str, name: str, seen: Marks, shown: list[str]) -> bool:
+    """Has the toolchain check a crate, or run its tests, and returns whether that passed. Then it has shown this of the crate."""
+    ran = subprocess.run(["rt", command], cwd=TOP / "crates" / name, **PIPED)
+    gate.progress.line(f"== {name}: {' and '.join(shown)}\n{ran.stdout}")
     for what in shown if ran.returncode == 0 else ():
         seen.note(name, what)
     return ran.returncode == 0
 
 
-def whole(is_all: bool) -> list[Step]:
-    """All that has to pass. The edits are tried in a copy, over the libraries that the proofs from nothing left."""
-    steps = [Step(name) for name in ("ci", "edits", "examples", "refusals", "linux")]
-    first, second, *others = steps
-    with tempfile.TemporaryDirectory(prefix="check-") as room:
-        copy = shutil.copytree(TOP, Path(room) / "all", ignore=shutil.ignore_patterns(".git"))
-        ci(first, [])
-        first.end()
-        if first.failed:
-            print("check: the other steps rest on what is proved, so they were left out")
-            return [first]
-        second.begin()
-        second.run(python("try_edits.py", "--copy", str(copy), *(["--all"] if is_all else [])))
-        second.run(python("test_edits.py", str(copy)))
-        tried.record(TOP, tried.recorded(copy))
-    gate_itself(second)
-    second.end()
-    for step in others:
-        step.begin()
-        STEPS[step.name](step, [])
-        step.end()
-    return steps
+def scripts(name: str) -> Callable[[Gate, list[str]], bool]:
+    """A step that runs its scripts, one after the other."""
+    return lambda gate, _: all([gate.script(name, it) for it in SCRIPTS[name]])
 
 
-def one(name: str, words: list[str]) -> list[Step]:
-    step = Step(name)
-    STEPS[name](step, words)
-    step.end()
-    return [step]
+STEPS = {"ci": ci, "edits": edits, **{it: scripts(it) for it in ("examples", "refusals", "linux")}, "quick": quick}
 
 
-STEPS = {"ci": ci, "edits": edits, "examples": examples, "refusals": refusals, "linux": linux, "quick": quick}
+def run_steps(gate: Gate, words: list[str]) -> None:
+    """Runs the steps in their order. All others rest on what `rt ci` proves, so they are left out where that fails."""
+    for step in gate.steps:
+        has_passed = STEPS[step](gate, words if step == "edits" else [])
+        if step == "ci" and not has_passed and len(gate.steps) > 1:
+            gate.left_out.append("check: the other steps are left out, since they rest on what is proved")
+            return
 
 
 def main(words: list[str]) -> int:
@@ -241,12 +228,14 @@ def main(words: list[str]) -> int:
     if words and words[0] not in [*STEPS, "all"] or words[1:] and words[0] != "edits":
         print(__doc__.split("\n\n", 1)[1], end="", file=sys.stderr)
         return 2
-    is_all = words == ["all"]
-    done = whole(is_all) if is_all or not words else one(words[0], words[1:])
-    print("\n".join(it.told() for it in done))
-    passed, failed = sum(it.passed for it in done), sum(it.failed for it in done)
-    print(f"{passed} passed, {failed} failed")
-    return 1 if failed else 0
+    lacking = needs.missing()
+    print("".join(f"{it}\n" for it in needs.listed(lacking)), end="", flush=True)
+    if any(it.is_required for it in lacking):
+        return 127
+    is_whole = words[:1] in ([], ["all"])
+    gate = Gate(WHOLE if is_whole else words[:1], lacking)
+    run_steps(gate, ["--all"] if words == ["all"] else words[1:])
+    return gate.tell()
 
 
 if __name__ == "__main__":

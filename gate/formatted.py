@@ -1,5 +1,5 @@
 #!/usr/bin/env python3
-"""Says which files `rt fmt` would write otherwise. `rt ci` refuses a crate that has one, and no other check tells of it."""
+"""Lists the files of these crates, or of all, that `rt fmt` would change. `rt ci` refuses a crate that has one; no other check does."""
 from __future__ import annotations
 
 import os
@@ -15,7 +15,7 @@ from scratch import TOP, crates_of
 
 
 def unformatted(room: Path, name: str) -> list[str]:
-    """The files of a crate that are written otherwise in a copy, or why they couldn't be."""
+    """The files of a crate that `rt fmt` changes in a copy, or why it failed."""
     source, copy = TOP / "crates" / name, room / "crates" / name
     for part in PARTS:
         if (source / part).is_dir():
@@ -28,13 +28,13 @@ def unformatted(room: Path, name: str) -> list[str]:
     return [f"crates/{name}/{it} isn't as rt fmt writes it" for it in written if (source / it).read_bytes() != (copy / it).read_bytes()]
 
 
-def main() -> int:
+def main(names: list[str]) -> int:
     with tempfile.TemporaryDirectory(prefix="format-") as folder:
         room = Path(folder)
         for name in ("crates.txt", "HANDLES"):
             shutil.copyfile(TOP / name, room / name)
         with ThreadPoolExecutor(os.cpu_count() or 1) as pool:
-            found = list(pool.map(lambda name: unformatted(room, name), crates_of(TOP)))
+            found = list(pool.map(lambda name: unformatted(room, name), names or crates_of(TOP)))
     print("".join(f"  {it}\n" for several in found for it in several), end="")
     failed = sum(bool(several) for several in found)
     print(f"formatted: {len(found) - failed} passed, {failed} failed")
@@ -42,4 +42,4 @@ def main() -> int:
 
 
 if __name__ == "__main__":
-    sys.exit(main())
+    sys.exit(main(sys.argv[1:]))

@@ -1,26 +1,25 @@
 #!/usr/bin/env python3
-"""Refuses each growth of memory of the built programs, one a run, and compares what they tell with what is right.
+"""Refuses each growth of memory of the built programs, one a run, and compares the output with the right one.
 
-The library that refuses (refusing.c) is built by the C compiler, and loaded before a program. Of each line of words below the
-1st, 2nd, .. growth is refused, up to runs that meet none. Where one is, hugepool has to say so and end with status 1, and what
-it wrote before has to be a front of what is right; where a thread is refused, or nothing is, all has to be right. hp_refusals tells
-stories, in which what was refused is told and tried again: all else has to be as it is in plenty, to the end. In two of them threads
-meet at a gate, and where the second thread is refused, it has to be told that they don't. Wrong programs, and a library that refuses
-nothing, have to be noticed. At last it is counted how many threads a command starts: each racing task and each call of a round on a
-running pool has one, anew behind each cut of a journal, and nothing else starts any.
+A library that is loaded before the program refuses the growth (faults.c). For each line of words below it refuses the 1st, 2nd, ..
+growth, up to a run that meets none. Where memory is refused, hugepool must say so and end with status 1, and its output must be a front
+of the right one; where a thread is refused, or nothing is, the output must be right. hp_refusals runs stories, which print each refusal
+and try again: everything else must be as with ample memory, to the end. In two of them threads meet at a gate, and where the second
+thread is refused, the story must say that they don't. Wrong programs, and a library that refuses nothing, have to be noticed. At last
+it counts the threads that a command starts: one for each racing task and each call of a round on a running pool, anew behind each cut of
+a journal, and no other.
 """
 from __future__ import annotations
 
 import os
 import re
-import shlex
-import subprocess
 import sys
 import tempfile
 from concurrent.futures import ThreadPoolExecutor
 from pathlib import Path
 from typing import Callable, Iterator, NamedTuple
 
+from faults import WRONG, Program, Room, Told
 from programs import built
 from scratch import TOP
 
@@ -28,9 +27,6 @@ from scratch import TOP
 MOST = 20_000
 # the number by which the library tells of each thread, and refuses nothing
 TELL_THREADS = -1
-# the status of a run that does not end
-HANGS = -1
-SECONDS = 60
 REFUSED = (1, "hugepool: out of memory\n")
 WORKLOADS = [
     *("readback", "shared", "truncate", "alloc-instantiate-race", "chunk-overcommit", "noresv-preserve-resv-page"),
@@ -80,15 +76,6 @@ BROUGHT = {
     **{it: ["store of 1: out of memory\n", "store of 2: out of memory\n", "gate: no second thread\n"] for it in "gw"},
 }
 RACED = re.compile(r"run \d+ closed entries \d+ free \d+ resv \d+")
-
-
-class Told(NamedTuple):
-    """What came of a run: its status, both streams, and what was refused ('m' for memory, 't' for a thread, '' for nothing)."""
-
-    status: int
-    out: str
-    err: str
-    refused: str
 
 
 class Case(NamedTuple):
@@ -177,42 +164,6 @@ def stories() -> list[Case]:
     return [Case("", it, is_same, is_front, right, APART.get(it), tuple(BROUGHT.get(it, ()))) for it, right in every.items()]
 
 
-class Program:
-    """A program, and the library that is loaded before it."""
-
-    def __init__(self, path: Path, library: Path | None) -> None:
-        self.path, self.library = path, library
-
-    def told(self, case: Case, growth: int) -> Told:
-        """What comes of a run whose growth of this number is refused; of number 0 there is none."""
-        read, write = os.pipe()
-        own = {"REFUSE_GROWTH": str(growth), "REFUSE_TOLD": str(write)}
-        if self.library:
-            own["LD_PRELOAD"] = str(self.library)
-        how = {"env": {"PATH": os.environ["PATH"], **own}, "pass_fds": [write], "capture_output": True, "check": False}
-        try:
-            ran = subprocess.run(
-                [self.path, *shlex.split(case.words)], input=case.read, text=True, errors="replace", timeout=SECONDS, **how
-            )
-            os.set_blocking(read, False)
-            refused = said(read)
-            return Told(ran.returncode, ran.stdout, ran.stderr, refused)
-        except subprocess.TimeoutExpired:
-            os.set_blocking(read, False)
-            return Told(HANGS, "", f"it hasn't ended after {SECONDS} seconds", said(read))
-        finally:
-            os.close(write)
-            os.close(read)
-
-
-def said(read: int) -> str:
-    """What was written to a pipe so far."""
-    try:
-        return os.read(read, 1 << 16).decode()
-    except BlockingIOError:
-        return ""
-
-
 def is_whole(case: Case, right: Told, told: Told) -> bool:
     """Whether a run is right to its end. One may be that was refused memory: a list that is collected is begun anew with less room."""
     return (told.status, told.err) == (right.status, right.err) and case.is_right(told.out, right.out)
@@ -220,9 +171,9 @@ def is_whole(case: Case, right: Told, told: Told) -> bool:
 
 def fault(case: Case, right: Told, told: Told) -> str | None:
     """What is wrong with a run beside the right one, if anything is."""
-    if told.refused not in ("", "m", "t"):
-        return f"more than one growth was refused: {told.refused}"
-    if told.refused == "m" and not is_whole(case, right, told):
+    if told.faults not in ("", "m", "t"):
+        return f"more than one growth was refused: {told.faults}"
+    if told.faults == "m" and not is_whole(case, right, told):
         if (told.status, told.err) != REFUSED:
             return f"status {told.status}, and on standard error {told.err!r}"
         return None if case.is_front(told.out, right.out) else f"its output is no front of the right one: {told.out[-100:]!r}"
@@ -233,15 +184,15 @@ def fault(case: Case, right: Told, told: Told) -> str | None:
 
 def story_fault(case: Case, right: Told, told: Told) -> str | None:
     """The same of a story."""
-    if told.refused not in ("", "m", "t"):
-        return f"more than one growth was refused: {told.refused}"
+    if told.faults not in ("", "m", "t"):
+        return f"more than one growth was refused: {told.faults}"
     if (told.status, told.err) != (0, ""):
         return f"status {told.status}, and on standard error {told.err!r}"
     kept, retried = RETRIED.subn("", told.out)
-    if retried > (told.refused == "m"):
+    if retried > (told.faults == "m"):
         return f"it tells of what wasn't refused: {told.out[-100:]!r}"
     # (before a thread is started memory is taken for it too)
-    allowed = {"t": [case.apart], "m": [right.out] if retried else [right.out, case.apart]}.get(told.refused, [right.out])
+    allowed = {"t": [case.apart], "m": [right.out] if retried else [right.out, case.apart]}.get(told.faults, [right.out])
     return None if kept in allowed else f"its output isn't right: {told.out[-100:]!r}"
 
 
@@ -251,49 +202,39 @@ Judge = Callable[[Case, Told, Told], "str | None"]
 def faults(program: Program, case: Case, pool: ThreadPoolExecutor, judge: Judge = fault) -> tuple[int, list[str]]:
     """How many growths were refused, and what was wrong with the runs."""
     name = f"{program.path.name} {case.words}".strip() or case.read[:20]
-    right = program.told(case, 0)
-    if right.refused or judge(case, right, right) or judge is story_fault and right.out != case.right:
+    right = program.told(case.words, case.read)
+    if right.faults or judge(case, right, right) or judge is story_fault and right.out != case.right:
         return 0, [f"{name}: with all memory it tells {right.out[-100:]!r}"]
     found, step, whole = [], os.cpu_count() or 1, 0
     brought, has_started, has_shown = set(case.brought), False, False
     for first in range(1, MOST, step):
         numbers = range(first, first + step)
-        for number, told in zip(numbers, pool.map(lambda n: program.told(case, n), numbers)):
+        for number, told in zip(numbers, pool.map(lambda n: program.told(case.words, case.read, GROWTH=n), numbers)):
             if wrong := judge(case, right, told):
                 found.append(f"{name}: growth {number}: {wrong}")
             brought = {it for it in brought if it not in told.out}
-            has_started = has_started or told.refused == "t"
+            has_started = has_started or told.faults == "t"
             has_shown = has_shown or (told.status, told.err) == REFUSED and 0 < told.out.count("\n") < case.lines
-            if not told.refused:
+            if not told.faults:
                 found += [f"{name}: in no run is told {it!r}" for it in sorted(brought)]
                 found += [f"{name}: it starts no thread"] if case.starts and not has_started else []
                 found += [f"{name}: where it lacks memory it never shows what came before"] if case.lines and not has_shown else []
                 many = judge is fault and whole * 3 > number - 1
                 return number - 1, [*found, *([f"{name}: of {number - 1} refused growths {whole} are not told"] if many else [])]
-            whole += told.refused == "m" and is_whole(case, right, told)
+            whole += told.faults == "m" and is_whole(case, right, told)
     return MOST, [*found, f"{name}: it has {MOST} growths or more"]
 
 
-# Wrong programs, by what they do around the right one, which they run by $program.
-WRONG = {
-    "says nothing of it": '$program "$@" 2> /dev/null',
-    "ends well": '$program "$@" || true',
-    "goes on": '$program "$@" || { echo more; exit 1; }',
-    "tries again": '$program "$@" 2> /dev/null || REFUSE_GROWTH=0 $program "$@"',
-    "is ended by a signal": '$program "$@" || kill -ABRT $$',
-}
-
-
-# The same around hp_refusals, which tells of a journal that is cut, ..
+# Wrong programs around hp_refusals (faults.py has those around hugepool), which tells of a journal that is cut, ..
 WRONG_STORIES = {
     "loses its last line": '$program | head -n -1',
-    "begins again": '$program; [ "$REFUSE_GROWTH" = 0 ] || REFUSE_GROWTH=0 $program < /dev/null',
+    "begins again": '$program; [ "$FAULT_GROWTH" = 0 ] || FAULT_GROWTH=0 $program < /dev/null',
     "never refuses to cut": '$program | grep -v "has a call in flight"',
     "cuts beside another call": '$program | sed "s/task 1 has/task 2 has/"',
 }
 # .. and of two stores in threads, right where nothing is refused.
 WRONG_STORES = {
-    name: f'[ "$REFUSE_GROWTH" = 0 ] && exec $program; $program | {text}'
+    name: f'[ "$FAULT_GROWTH" = 0 ] && exec $program; $program | {text}'
     for name, text in {
         "answers the second store wrongly": 'sed "s/^store of 2: done/store of 2: killed/"',
         "leaves an entry out": 'sed "s/entries 42/entries 41/"',
@@ -304,26 +245,11 @@ WRONG_STORES = {
 }
 
 
-class Room:
-    """The library, and where wrong programs are written."""
-
-    def __init__(self, folder: Path) -> None:
-        self.folder, self.library = folder, folder / "refusing.so"
-        words = ["cc", "-O2", "-Wall", "-Wextra", "-Werror", "-shared", "-fPIC"]
-        subprocess.run([*words, "-o", self.library, TOP / "gate" / "refusing.c"], check=True)
-
-    def around(self, program: Path, text: str) -> Program:
-        """A program that does this around another."""
-        path = self.folder / "wrong"
-        path.write_text(f'#!/bin/bash\nprogram="env LD_PRELOAD={self.library} {program}"\n{text}\n', encoding="utf-8")
-        path.chmod(0o755)
-        return Program(path, None)
-
-    def unnoticed(self, program: Path, case: Case, judge: Judge, wrong: dict[str, str], pool: ThreadPoolExecutor) -> list[str]:
-        """The wrong programs in whose runs no fault was found."""
-        let = [name for name, text in wrong.items() if not faults(self.around(program, text), case, pool, judge)[1]]
-        let += ["refuses nothing"] if faults(Program(program, None), case, pool, judge)[0] else []
-        return [f"around {program.name} one that {name} isn't noticed" for name in let]
+def unnoticed(room: Room, program: Path, case: Case, judge: Judge, wrong: dict[str, str], pool: ThreadPoolExecutor) -> list[str]:
+    """The wrong programs in whose runs no fault was found."""
+    let = [name for name, text in wrong.items() if not faults(room.around(program, text), case, pool, judge)[1]]
+    let += ["refuses nothing"] if faults(Program(program, None), case, pool, judge)[0] else []
+    return [f"around {program.name} one that {name} isn't noticed" for name in let]
 
 
 def even(tasks: int, calls: int) -> str:
@@ -333,10 +259,10 @@ def even(tasks: int, calls: int) -> str:
 
 def threads(program: Program, words: str, read: str) -> int:
     """How many threads a run starts, which has to end well."""
-    told = program.told(plain_words(words, read), TELL_THREADS)
-    if told.status or told.err or told.refused.strip("s"):
-        raise SystemExit(f"growths: {words}: status {told.status}, told is {told.err!r}, and of threads {told.refused!r}")
-    return len(told.refused)
+    told = program.told(words, read, GROWTH=TELL_THREADS)
+    if told.status or told.err or told.faults.strip("s"):
+        raise SystemExit(f"growths: {words}: status {told.status}, told is {told.err!r}, and of threads {told.faults!r}")
+    return len(told.faults)
 
 
 def threads_tried(program: Program) -> Iterator[tuple[str, bool]]:
@@ -393,9 +319,9 @@ def main() -> int:
         tried.add_wrong(1, [] if is_audited else ["explore --audit takes no more memory than without it: nothing is audited"])
         started = list(threads_tried(right))
         tried.add_wrong(len(started), [f"not so: {what}" for what, is_so in started if not is_so])
-        tried.add_wrong(len(WRONG) + 1, room.unnoticed(program, replay, fault, WRONG, pool))
+        tried.add_wrong(len(WRONG) + 1, unnoticed(room, program, replay, fault, WRONG, pool))
         for read, wrong in (("c", WRONG_STORIES), ("g", WRONG_STORES)):
-            tried.add_wrong(len(wrong) + 1, room.unnoticed(teller, told[read], story_fault, wrong, pool))
+            tried.add_wrong(len(wrong) + 1, unnoticed(room, teller, told[read], story_fault, wrong, pool))
     print("".join(f"  {it}\n" for it in tried.faults), end="")
     print(f"growths: {tried.refused} were refused, one a run")
     print(f"growths: {tried.passed} passed, {len(tried.faults)} failed")

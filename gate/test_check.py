@@ -1,20 +1,24 @@
-"""What ./check counts, which scripts it runs, on how many records, and with which status it ends; gate/test_launcher.py tries it."""
+#!/usr/bin/env python3
+"""Tests ./check itself: what it counts, which scripts it runs, what is due, what it leaves out, and its statuses."""
 from __future__ import annotations
 
 import contextlib
 import io
 import re
+import sys
 import tempfile
 from pathlib import Path
 from typing import Iterator
 
 import check
-from marks import PROOFS, TESTS, Marks
+import libraries
+import needs
+from marks import PROOFS, TESTS, Marks, MutantMarks
+from progress import Progress
 from scratch import TOP
 
-# a script of the gate that is run, and doesn't only lend what it has
 IS_RUN = '\nif __name__ == "__main__":\n'
-# what a command does; how many passed and failed then, and whether it ended well
+# a command; how many passed and failed by it, and whether it ended well
 COMMANDS = [
     ("echo 'it: 3 passed, 0 failed'; echo 'more of it: 1 passed, 0 failed'", (4, 0, True)),
     ("echo '12 passed, 0 failed'", (12, 0, True)),
@@ -24,97 +28,158 @@ COMMANDS = [
     ("echo 'it: 3 passed, 0 failed'; kill -KILL $$", (3, 1, False)),
     ("echo nothing; exit 1", (0, 1, False)),
     ("echo 'it: 3 passed, 2 failed' >&2; exit 1", (3, 2, False)),
-    ("echo 'of these 3 passed, 2 failed or so'", (0, 0, True)),
+    ("echo 'of these 3 passed, 2 failed or so'", (1, 0, True)),
 ]
+# the toolchain's module, as far as libraries.py uses it
+TOOLCHAIN = '''
+import os
+
+class Crate:
+    def __init__(self, folder):
+        self.name, self.folder = os.path.basename(folder), folder
+
+    def stamp(self):
+        return "stamp of " + open(f"{self.folder}/src/lib.rt").read()
+
+def crates_below(top):
+    return [Crate(f"{top}/crates/{it}") for it in sorted(os.listdir(f"{top}/crates"))]
+'''
 
 
 def silently(do, *given):
-    """What it answers; what it writes goes nowhere."""
     with contextlib.redirect_stdout(io.StringIO()), contextlib.redirect_stderr(io.StringIO()):
         return do(*given)
 
 
+def write(file: Path, text: str) -> None:
+    file.parent.mkdir(parents=True, exist_ok=True)
+    file.write_text(text, encoding="utf-8")
+
+
 def counted(command: str) -> tuple[int, int, bool]:
-    """How many passed and failed by a step of this command, and whether it ended well."""
-    step = check.Step("test")
-    ended_well = silently(step.run, ["bash", "-c", command])
-    return step.passed, step.failed, ended_well
-
-
-class Recorder(check.Step):
-    """A step that runs nothing, and knows what it was to run."""
-
-    def __init__(self) -> None:
-        super().__init__("test")
-        self.scripts: set[str] = set()
-
-    def run(self, words: list[str], folder: Path = TOP) -> bool:
-        self.scripts |= {Path(word).name for word in words if word.endswith((".py", ".sh"))}
-        return False
-
-
-def scripts_run() -> set[str]:
-    """The scripts that the steps run, all together."""
-    step = Recorder()
-    for does in check.STEPS.values():
-        silently(does, step, [])
-    return step.scripts
+    gate = check.Gate([])
+    ended_well = silently(gate.follow, ["bash", "-c", command])
+    return gate.passed, gate.failed, ended_well
 
 
 def status(words: list[str], passed: int, failed: int) -> int:
-    """The status of ./check where the step `linux` comes to this."""
+    """The status of ./check where the step `linux` has these counts."""
 
-    def does(step: check.Step, _: list[str]) -> None:
-        step.passed, step.failed = passed, failed
+    def does(gate: check.Gate, _: list[str]) -> bool:
+        gate.passed, gate.failed = passed, failed
+        return not failed
 
-    kept = check.STEPS["linux"]
-    check.STEPS["linux"] = does
+    kept, check.STEPS["linux"] = check.STEPS["linux"], does
     try:
         return silently(check.main, words)
     finally:
         check.STEPS["linux"] = kept
 
 
+def repository(top: Path) -> dict[str, Path]:
+    """Two crates, of which one stands on the other, and their files."""
+    write(top / "crates.txt", "high: low\nlow:\n")
+    (top / "gate").mkdir()
+    own = ("src/lib.rt", "specs/Lib.antt", "proofs/Lib.antt", "edits/one.edit")
+    files = {it: top / "crates" / it for it in (*(f"low/{it}" for it in own), "high/src/lib.rt", "high/edits/one.edit")}
+    for file in files.values():
+        write(file, "#[test]\n")
+    return files
+
+
+def noted(top: Path) -> tuple[set[str], set[str]]:
+    """The crates whose proofs, and those whose mutants are due; then neither is."""
+    seen, mutants = Marks(top), MutantMarks(top, "kit-1 logic 0a")
+    found = {it for it in seen.known if seen.is_due(it, PROOFS)}, mutants.due()
+    for it in seen.known:
+        seen.note(it, PROOFS)
+        mutants.record(it)
+    return found
+
+
+# what changes, and the crates whose proofs and whose mutants are due then
+BOTH = {"low", "high"}
+CHANGES = {
+    "low/src/lib.rt": (BOTH, BOTH),
+    "low/specs/Lib.antt": (BOTH, BOTH),
+    "low/proofs/Lib.antt": (BOTH, {"low"}),
+    "low/edits/one.edit": (set(), {"low"}),
+    "high/src/lib.rt": ({"high"}, {"high"}),
+    "high/edits/one.edit": (set(), {"high"}),
+}
+
+
+def dues(top: Path) -> Iterator[tuple[str, bool]]:
+    files = repository(top)
+    yield "a library with tests is proved and tested, a crate that is none only tested", check.due(Marks(top)) == ({"low"}, BOTH)
+    yield "all is due at first", noted(top) == (BOTH, BOTH)
+    yield "and nothing where nothing changed", noted(top) == (set(), set())
+    for name, wanted in CHANGES.items():
+        write(files[name], "#[test]\n\n")
+        yield f"where {name} changed, its crate and those above are due as far as they read it", noted(top) == wanted
+    seen = Marks(top)
+    write(files["low/src/lib.rt"], "")
+    seen.note("low", PROOFS)
+    yield "what changes while a crate is proved is due", noted(top)[0] == BOTH
+    yield "proofs are no tests, and a crate without tests has none due", [Marks(top).is_due(it, TESTS) for it in ("low", "high")] == [False, True]
+    yield "with another logic all mutants are due, with another version none", [
+        MutantMarks(top, it).due() for it in ("kit-2 logic 0b", "kit-2 logic 0a", "kit-2")
+    ] == [BOTH, set(), BOTH]
+    yield "others are tried where few are due", MutantMarks(top, "kit-1 logic 0a").sample(set()) == BOTH
+    write(top / "gate/tried.txt", "no record\n")
+    yield "a damaged record makes all due", noted(top)[1] == BOTH
+
+
+def stamps(room: Path) -> Iterator[tuple[str, bool]]:
+    """The libraries of `rt ci` get their stamps only where nothing is in doubt."""
+    write(room / "kit/rtlib.py", TOOLCHAIN)
+    for case in ("nothing changed", "a text changed", "one has a stamp", "the toolchain computes none"):
+        top = room / case
+        for name in ("high", "low"):
+            write(top / f"crates/{name}/src/lib.rt", name)
+            write(top / f"crates/{name}/out/rlib/{name}.rlib/part", "")
+        before = libraries.stamps_of(top, str(room / "kit/rt"))
+        if case == "a text changed":
+            write(top / "crates/low/src/lib.rt", "another")
+        if case == "one has a stamp":
+            write(top / "crates/low/out/rlib/stamp", "stamp of low")
+        if case == "the toolchain computes none":
+            write(room / "kit/rtlib.py", TOOLCHAIN.replace("def stamp(", "def other("))
+        is_stamped = libraries.stamp(top, before, str(room / "kit/rt"))
+        files = {it.read_text(encoding="utf-8") for it in top.rglob("high/out/rlib/stamp")}
+        yield f"stamps: {case}", (is_stamped, files) == ((True, {"stamp of high"}) if case == "nothing changed" else (False, set()))
+
+
+def commands(room: Path) -> Iterator[tuple[str, bool]]:
+    """What is missing, and what is left out because of it."""
+    lacking = needs.missing(str(room))
+    yield "all commands are missing from an empty folder", [it.command for it in lacking] == [it.command for it in needs.NEEDS]
+    yield "the required ones are listed first", "required" in needs.listed(lacking)[0] and "required" not in needs.listed(lacking)[-1]
+    known = {it.split(" ")[0] for several in check.SCRIPTS.values() for it in several}
+    yield "only scripts of ./check are left out", all(set(it.left_out) <= known for it in needs.NEEDS)
+    gate = check.Gate(["refusals"], [it for it in needs.NEEDS if it.command == "cc"])
+    silently(check.STEPS["refusals"], gate, [])
+    yield "without cc the refusals are left out and listed", (gate.passed, gate.failed, len(gate.left_out)) == (0, 0, len(check.SCRIPTS["refusals"]))
+
+
+def progress(room: Path) -> Iterator[tuple[str, bool]]:
+    file = room / "times.json"
+    write(file, '{"one": 600, "two": 1200}')
+    it = Progress([("a", "one"), ("b", "two")], file)
+    yield "the time left is that of all scripts at first", it.minutes_left() == "30 min"
+    silently(it.begin, "a", "one")
+    silently(it.line, "hp_low: 3 of 3 mutants refused, 1 controls proved, in 2 checks and 42 s of processor time\n")
+    it.end("a", "one")
+    yield "then that of the others", it.minutes_left() == "20 min"
+    yield "the dearest crates are listed", it.table()[-1] == "dearest mutants: hp_low 42 s"
+
+
 def records() -> set[int]:
-    """How many recorded scripts begin, how many end, which alone are compared, and how many there are by what is told of them."""
+    """The number of recorded scripts of a kernel that begin, that end, and that the documents name."""
     folder = TOP / "conformance"
     text = "".join(it.read_text(encoding="utf-8") for it in sorted(folder.glob("calls-*.txt")))
     told = re.search(r"of the (\d+) at the touch", (folder / "README.md").read_text(encoding="utf-8"))
     return {len(re.findall(r"^script ", text, re.M)), len(re.findall(r"^end ", text, re.M)), int(told[1]) if told else 0}
-
-
-def dues() -> Iterator[tuple[str, bool]]:
-    """Which of two crates, of which one stands on the other, `./check quick` takes to be due, and what it has checked."""
-    with tempfile.TemporaryDirectory() as room:
-        top = Path(room)
-        (top / "crates.txt").write_text("high: low\nlow:\n", encoding="utf-8")
-        texts = {it: top / "crates" / it for it in ("low/src/lib.rt", "low/proofs/Lib.antt", "low/edits/one.edit", "high/src/lib.rt")}
-        for path in texts.values():
-            path.parent.mkdir(parents=True)
-            path.write_text("#[test]\n", encoding="utf-8")
-
-        def due() -> set[str]:
-            seen = Marks(top)
-            found = {it for it in seen.known if seen.is_due(it, PROOFS)}
-            for it in seen.known:
-                seen.note(it, PROOFS)
-            return found
-
-        yield "a library with tests is proved, a crate that is none by its tests alone", check.due(Marks(top)) == ({"low"}, {"low", "high"})
-        yield "crates that were never proved are due", due() == {"low", "high"}
-        yield "those of which nothing changed aren't", due() == set()
-        for path, wanted in zip(texts.values(), ({"low", "high"}, {"low", "high"}, set(), {"high"})):
-            path.write_text("#[test]\n\n", encoding="utf-8")
-            yield f"where {path.relative_to(top)} changed, due are: {' '.join(sorted(wanted)) or 'none'}", due() == wanted
-        seen = Marks(top)
-        texts["low/src/lib.rt"].write_text("", encoding="utf-8")
-        seen.note("low", PROOFS)
-        yield "what changes while a crate is proved is due", due() == {"low", "high"}
-        yield "where crates were proved their tests are due", all(Marks(top).is_due(it, TESTS) == (it == "high") for it in ("low", "high"))
-        (top / "crates.txt").write_text("high:\nlow:\n", encoding="utf-8")
-        yield "a crate that stands on others is due", due() == {"high"}
-        texts["high/src/lib.rt"].write_text("", encoding="utf-8")
-        yield "a crate without tests is proved", check.due(Marks(top)) == ({"high"}, set())
 
 
 def tries() -> Iterator[tuple[str, bool]]:
@@ -124,10 +189,24 @@ def tries() -> Iterator[tuple[str, bool]]:
     yield "a step that passes ends with 0", status(["linux"], 3, 0) == 0
     yield "one that fails doesn't", status(["linux"], 3, 1) == 1
     yield "a word that is no step is refused", status(["linus"], 3, 0) == 2 and status(["linux", "more"], 3, 0) == 2
-    yield from dues()
+    for part in (dues, stamps, commands, progress):
+        with tempfile.TemporaryDirectory(prefix="check-") as room:
+            yield from part(Path(room))
     yield "all recorded scripts are there", len(records()) == 1 and 0 not in records()
-    scripts = scripts_run()
-    tests = {it.name for it in (TOP / "conformance").glob("test_*.py")} | {"compare.py", "races.py"}
+    listed = {Path(it.split(" ")[0]).name for several in check.SCRIPTS.values() for it in several} | {"formatted.py"}
     own = {it.name for it in (TOP / "gate").glob("*.py") if IS_RUN in it.read_text(encoding="utf-8")}
-    for name in sorted({*own, *tests} - {"check.py"}):
-        yield f"{name} is run by a step", name in scripts
+    tests = {it.name for it in (TOP / "conformance").glob("test_*.py")} | {"compare.py", "races.py"}
+    for name in sorted({*own, *tests} - {"check.py", "needs.py"}):
+        yield f"{name} is run by a step", name in listed
+
+
+def main() -> int:
+    tried = list(tries())
+    print("".join(f"  not so: {what}\n" for what, is_so in tried if not is_so), end="")
+    failed = sum(not is_so for _, is_so in tried)
+    print(f"check: {len(tried) - failed} passed, {failed} failed")
+    return 1 if failed else 0
+
+
+if __name__ == "__main__":
+    sys.exit(main())

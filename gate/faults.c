@@ -1,0 +1,118 @@
+/* Injects one fault into the program that this library is loaded before: the Nth call of one kind fails, counted from 1.
+ *
+ * FAULT_GROWTH: the Nth growth of memory is refused. A growth is a call that takes memory from the C library, or one that starts a
+ * thread, which takes memory for its stack; what the C library itself takes while it starts one counts with it. -1 refuses none.
+ * FAULT_READ, FAULT_WRITE: the Nth read of standard input or write to standard output fails; all others are made.
+ * FAULT_TOLD: a file descriptor that gets one byte for the fault: 'm' for memory, 't' for a thread, 'r' for a read, 'w' for a write.
+ * Where FAULT_GROWTH is -1 it gets 's' for each thread that is started.
+ */
+#define _GNU_SOURCE
+#include <dlfcn.h>
+#include <errno.h>
+#include <pthread.h>
+#include <stdatomic.h>
+#include <stddef.h>
+#include <stdlib.h>
+#include <unistd.h>
+
+typedef int make_thread(pthread_t *, const pthread_attr_t *, void *(*)(void *), void *);
+typedef ssize_t read_bytes(int, void *, size_t);
+typedef ssize_t write_bytes(int, const void *, size_t);
+
+extern void *__libc_malloc(size_t);
+extern void *__libc_calloc(size_t, size_t);
+extern void *__libc_realloc(void *, size_t);
+extern void *__libc_memalign(size_t, size_t);
+
+enum kind { GROWTH, READ, WRITE, KINDS };
+
+static make_thread *thread_of_the_system;
+static read_bytes *read_of_the_system;
+static write_bytes *write_of_the_system;
+static atomic_long calls[KINDS];
+static long failing[KINDS];
+static int told = -1;
+static _Thread_local int is_inside;
+
+static long number(const char *name, long otherwise) {
+    const char *text = getenv(name);
+    return text == NULL ? otherwise : strtol(text, NULL, 10);
+}
+
+/* The program begins after this: what its loader took isn't counted. */
+__attribute__((constructor)) static void begin(void) {
+    thread_of_the_system = (make_thread *)dlsym(RTLD_NEXT, "pthread_create");
+    read_of_the_system = (read_bytes *)dlsym(RTLD_NEXT, "read");
+    write_of_the_system = (write_bytes *)dlsym(RTLD_NEXT, "write");
+    told = (int)number("FAULT_TOLD", -1);
+    atomic_store(&calls[GROWTH], 0);
+    failing[READ] = number("FAULT_READ", 0);
+    failing[WRITE] = number("FAULT_WRITE", 0);
+    failing[GROWTH] = number("FAULT_GROWTH", 0);
+}
+
+static void tell(char letter) {
+    if (told >= 0 && write_of_the_system(told, &letter, 1) != 1) {
+        abort();
+    }
+}
+
+/* Whether this call is the one that fails. */
+static int fails(enum kind kind, char letter, int error) {
+    if (failing[kind] == 0 || is_inside || atomic_fetch_add(&calls[kind], 1) + 1 != failing[kind]) {
+        return 0;
+    }
+    tell(letter);
+    errno = error;
+    return 1;
+}
+
+void *malloc(size_t size) {
+    return fails(GROWTH, 'm', ENOMEM) ? NULL : __libc_malloc(size);
+}
+
+void *calloc(size_t count, size_t size) {
+    return fails(GROWTH, 'm', ENOMEM) ? NULL : __libc_calloc(count, size);
+}
+
+void *realloc(void *block, size_t size) {
+    return fails(GROWTH, 'm', ENOMEM) ? NULL : __libc_realloc(block, size);
+}
+
+void *memalign(size_t alignment, size_t size) {
+    return fails(GROWTH, 'm', ENOMEM) ? NULL : __libc_memalign(alignment, size);
+}
+
+void *aligned_alloc(size_t alignment, size_t size) {
+    return memalign(alignment, size);
+}
+
+int posix_memalign(void **block, size_t alignment, size_t size) {
+    void *taken = memalign(alignment, size);
+    if (taken == NULL) {
+        return ENOMEM;
+    }
+    *block = taken;
+    return 0;
+}
+
+ssize_t read(int file, void *bytes, size_t count) {
+    return file == STDIN_FILENO && fails(READ, 'r', EIO) ? -1 : read_of_the_system(file, bytes, count);
+}
+
+ssize_t write(int file, const void *bytes, size_t count) {
+    return file == STDOUT_FILENO && fails(WRITE, 'w', ENOSPC) ? -1 : write_of_the_system(file, bytes, count);
+}
+
+int pthread_create(pthread_t *thread, const pthread_attr_t *how, void *(*run)(void *), void *with) {
+    if (fails(GROWTH, 't', EAGAIN)) {
+        return EAGAIN;
+    }
+    if (failing[GROWTH] == -1) {
+        tell('s');
+    }
+    is_inside = 1;
+    int answer = thread_of_the_system(thread, how, run, with);
+    is_inside = 0;
+    return answer;
+}
