@@ -25,6 +25,7 @@ from __future__ import annotations
 
 import os
 import re
+import shutil
 import subprocess
 import sys
 import tempfile
@@ -37,7 +38,7 @@ from typing import Callable, Iterable
 import libraries
 import needs
 import programs
-from edit import mutants_of
+from edit import PARTS, mutants_of
 from marks import PROOFS, TESTS, Marks
 from progress import Progress
 from scratch import TOP, below, crates_of
@@ -158,14 +159,20 @@ def proofs_and_tests(gate: Gate) -> bool:
     """Checks the format, the proofs and the tests of what changed, and whether each mutant still applies."""
     seen = Marks()
     proofs, tests = due(seen)
-    changed = sorted(proofs | tests)
-    if changed and not gate.follow([sys.executable, str(TOP / "gate" / "formatted.py"), *changed]) or not prove(gate, seen, proofs):
+    if not gate.follow(format_check(TOP)) or not prove(gate, seen, proofs):
         return False
     have_passed = gate.count(at_once(os.cpu_count() or 1, sorted(tests), lambda name: run_rt(gate, "test", name, seen, [PROOFS, TESTS])))
     bad = [f"  {name}/{it.name}: {it.why}\n" for name in seen.known for it in mutants_of(TOP / "crates" / name)[1]]
     gate.progress.line("".join(bad))
     gate.failed += len(bad)
     return have_passed and not bad
+
+
+def format_check(top: Path) -> list[str]:
+    """The command by which `rt ci` refuses files that `rt fmt` would change, for all files at once."""
+    files = [it for part in PARTS for it in sorted(top.glob(f"crates/*/{part}/**/*")) if it.suffix in (".rt", ".antt")]
+    formatter = Path(shutil.which("rt") or "rt").resolve().with_name("rattle")
+    return [str(formatter), "fmt", "--check", *map(str, files)]
 
 
 def due(seen: Marks) -> tuple[set[str], set[str]]:

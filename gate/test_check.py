@@ -157,6 +157,8 @@ def commands(room: Path) -> Iterator[tuple[str, bool]]:
     yield "the required ones are listed first", "required" in needs.listed(lacking)[0] and "required" not in needs.listed(lacking)[-1]
     known = {it.split(" ")[0] for several in check.SCRIPTS.values() for it in several}
     yield "only scripts of ./check are left out", all(set(it.left_out) <= known for it in needs.NEEDS)
+    write(room / "crates/low/src/lib.rt", "fn  low( ) {}\n")
+    yield "a file in another format is refused", not silently(check.Gate([]).follow, check.format_check(room))
     gate = check.Gate(["refusals"], [it for it in needs.NEEDS if it.command == "cc"])
     silently(check.STEPS["refusals"], gate, [])
     yield "without cc the refusals are left out and listed", (gate.passed, gate.failed, len(gate.left_out)) == (0, 0, len(check.SCRIPTS["refusals"]))
@@ -193,7 +195,7 @@ def tries() -> Iterator[tuple[str, bool]]:
         with tempfile.TemporaryDirectory(prefix="check-") as room:
             yield from part(Path(room))
     yield "all recorded scripts are there", len(records()) == 1 and 0 not in records()
-    listed = {Path(it.split(" ")[0]).name for several in check.SCRIPTS.values() for it in several} | {"formatted.py"}
+    listed = {Path(it.split(" ")[0]).name for several in check.SCRIPTS.values() for it in several}
     own = {it.name for it in (TOP / "gate").glob("*.py") if IS_RUN in it.read_text(encoding="utf-8")}
     tests = {it.name for it in (TOP / "conformance").glob("test_*.py")} | {"compare.py", "races.py"}
     for name in sorted({*own, *tests} - {"check.py", "needs.py"}):

@@ -40,7 +40,8 @@ from verdicts import Check, Verdict
 UNPROVED = "(none)"
 # one check uses at most so many processors
 MOST_JOBS = 4
-QUIET = re.compile(r"(?:fn|struct|enum|impl|trait) \S+: proved$")
+# lines of a build that say nothing of its progress
+QUIET = re.compile(r"(?:fn|struct|enum|impl|trait) \S+: proved$|(?:statements|library|logic|by-macro|crate|only=)")
 FAULTS = {
     Verdict.PROVED: "NOT REFUSED: the function is still proved with this edit",
     Verdict.BY_A_CALLEE: "NOT REFUSED FOR ITSELF: only a function that it calls is refused",
