@@ -29,7 +29,7 @@ EXPECTED = {
     "another_error_than_it_names": "NOT REFUSED BY error[borrow-e0382]: ",
 }
 # where the proof of a function isn't copied with it; its own mutant is tried in its place then
-WITHOUT_PROOFS = {"frames": "CONTROL REFUSED: ", "frames_forget_the_retired": "refused"}
+WITHOUT_PROOFS = {"Bank::frames": "CONTROL REFUSED: ", "frames_without_the_free_ones": "refused"}
 
 
 def repository(room: Path, fixtures: Path) -> Path:

@@ -162,7 +162,7 @@ class Trial:
         faulty = {it.place.function for it in wrong}
         found = {it.mutant for it, verdict in verdicts.items() if it.mutant and verdict is Verdict.REFUSED and it.place.function not in faulty}
         why = "CONTROL REFUSED: the right body isn't proved as a sibling: "
-        self.tried.results += [Result(f"{it.function}", False, f"{why}{verdicts[it].value}") for it in wrong]
+        self.tried.results += [Result(f"{it.place.function}", False, f"{why}{verdicts[it].value}") for it in wrong]
         self.tried.results += [Result(it.edit.name, True, "refused") for it in found]
         self.tried.controls += sum(it.mutant is None for it in verdicts) - len(wrong)
         return found
