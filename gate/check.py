@@ -67,17 +67,22 @@ PIPED = {"stdin": subprocess.DEVNULL, "stdout": subprocess.PIPE, "stderr": subpr
 COUNTS = re.compile(r"^(?:[\w ]+: )?(\d+) passed, (\d+) failed$")
 
 
+def path_of(script: str) -> str:
+    return script.split(" ")[0]
+
+
 class Gate:
     """The steps of this call: what passed and failed so far, and what was left out."""
 
     def __init__(self, steps: Iterable[str], lacking: Iterable[needs.Need] = ()) -> None:
         self.steps, self.lacking = list(steps), list(lacking)
         self.passed, self.failed, self.left_out = 0, 0, []
-        self.progress = Progress((step, script) for step in self.steps for script in SCRIPTS[step])
+        each = ((step, script) for step in self.steps for script in SCRIPTS[step])
+        self.progress = Progress(it for it in each if not needs.left_out(path_of(it[1]), self.lacking))
 
     def script(self, step: str, script: str, *more: str) -> bool:
         """Runs a script of the repository, unless a command that it needs is missing, and returns whether it ended well."""
-        path, *words = script.split(" ")
+        path, words = path_of(script), script.split(" ")[1:]
         if lacking := needs.left_out(path, self.lacking):
             self.left_out.append(f"check: {step}: {path} is left out, since '{lacking}' is missing")
             self.progress.line(f"{self.left_out[-1]}\n")

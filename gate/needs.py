@@ -2,6 +2,7 @@
 from __future__ import annotations
 
 import os
+import shlex
 import shutil
 from dataclasses import dataclass
 
@@ -34,13 +35,13 @@ NEEDS = (
 
 def missing(path: str | None = None) -> list[Need]:
     """The commands that aren't there; CC may name another C compiler."""
-    command = lambda it: os.environ.get("CC", it.command) if it.command == "cc" else it.command
+    command = lambda it: shlex.split(os.environ.get("CC", it.command))[0] if it.command == "cc" else it.command
     return [it for it in NEEDS if not shutil.which(command(it), path=path)]
 
 
 def listed(lacking: list[Need]) -> list[str]:
     """One line for each missing command, the required ones first."""
-    effect = lambda it: "required" if it.is_required else f"without it {', '.join(it.left_out)} are left out"
+    effect = lambda it: "required" if it.is_required else f"left out without it: {', '.join(it.left_out)}"
     ordered = sorted(lacking, key=lambda it: not it.is_required)
     return [f"check: '{it.command}' is missing (package: {it.package}): {effect(it)}" for it in ordered]
 

@@ -1,8 +1,11 @@
 """Wrong bodies as siblings: one check tries all mutants of a crate that change the body of a plain function.
 
 Beside each mutated function stands, at the end of its file, each of its wrong bodies: a function NAME_sibling_N with the contract, the
-attributes and a copy of the proof folder of NAME. Nobody calls a sibling, so one that is refused has no other function refused. As a
-control the right body stands there too, as NAME_sibling_0, and has to be proved: then it isn't the copying that has a body refused.
+attributes and a copy of the proof folder of NAME. Nobody calls a sibling, so one that is refused has no other function refused.
+
+As a control the right body stands there too, as NAME_sibling_0, and has to be proved: then it isn't the copying that has a body refused.
+A function with neither proofs nor attributes has a control only where each function is to have one: its copy is the same text with
+nothing beside it, and the search proves it as it proves the original.
 
 A sibling that calls NAME calls the original. So a recursive wrong body rests on the right one's contract, as it does where the
 prover checks one call of a recursive function. A mutant that is wrong only in how its recursion ends isn't refused as a sibling; it is
@@ -109,14 +112,16 @@ def sibling_of(place: Place, text: str, number: int, mutant: Mutant | None) -> S
     return Sibling(name, place, mutant, "\n".join([*above, first, *lines[place.first + 1:place.last + 1]]))
 
 
-def siblings_of(crate: Path, function: Function, mutants: list[Mutant]) -> list[Sibling]:
+def siblings_of(crate: Path, function: Function, mutants: list[Mutant], is_controlled: bool) -> list[Sibling]:
     """The control and the wrong bodies of a function, or nothing where it can't have siblings."""
     path, own = mutants[0].edit.pairs[0].path, Texts(crate)
     place = place_of(function, path, own.get(path))
     if place is None:
         return []
     wrong = [sibling_of(place, own.with_edit(it.edit).get(path), n, it) for n, it in enumerate(mutants, 1)]
-    return [sibling_of(place, own.get(path), 0, None), *wrong]
+    control = sibling_of(place, own.get(path), 0, None)
+    has_more = control.text.lstrip().startswith("#[") or proofs_of(crate, function) is not None
+    return [control, *wrong] if is_controlled or has_more else wrong
 
 
 def is_plain(mutant: Mutant) -> bool:
@@ -167,12 +172,13 @@ def family_of_siblings(crate: Path, siblings: Iterable[Sibling]) -> Family:
     return Family(siblings, texts)
 
 
-def family_of(crate: Path, mutants: list[Mutant]) -> Family:
-    """The siblings of all mutants that can have one."""
+def family_of(crate: Path, mutants: list[Mutant], is_each_controlled: bool) -> Family:
+    """The siblings of all mutants that can have one, with a control of each function or only where copying adds something."""
     by_function: dict[Function, list[Mutant]] = {}
     for it in filter(is_plain, mutants):
         by_function.setdefault(next(iter(it.functions)), []).append(it)
-    return family_of_siblings(crate, [it for function, several in by_function.items() for it in siblings_of(crate, function, several)])
+    families = (siblings_of(crate, function, several, is_each_controlled) for function, several in by_function.items())
+    return family_of_siblings(crate, [it for family in families for it in family])
 
 
 def culprits(family: Family, check: Check) -> set[Mutant]:

@@ -4,8 +4,8 @@
 usage: ./check edits [CRATE ..] [--all] [--due] [--each]
 
 Without a word it tries the mutants of each crate that changed, or that stands on one that did, since all its mutants were refused
-(gate/tried.txt has the marks), and a rotating sample of other crates where few are due; --all tries all. Of crates that are named it
-tries all mutants, with --due only where they are due.
+(gate/tried.txt has the marks), and a rotating sample of other crates where few are due. --all tries all, with the right body of each
+function as a control. Of crates that are named it tries all mutants, with --due only where they are due.
 
 The mutants of a crate stand in its folders must-fail/ (those that the toolchain's gate tries too), edits/ and must-not-compile/
 (those that the compiler refuses, with the error that they name). One check tries all wrong bodies of plain functions, as siblings of
@@ -119,8 +119,9 @@ class Tried:
 class Trial:
     """The trial of one crate's mutants. `room` is where copies are made, `jobs` how many processors it may use."""
 
-    def __init__(self, top: Path, name: str, room: Path, jobs: int) -> None:
+    def __init__(self, top: Path, name: str, room: Path, jobs: int, is_each_controlled: bool = False) -> None:
         self.top, self.crate, self.room, self.jobs = top, top / "crates" / name, room, jobs
+        self.is_each_controlled = is_each_controlled
         self.tried = Tried(name, [])
 
     def copy(self, kept: Path | None = None) -> Scratch:
@@ -129,7 +130,7 @@ class Trial:
     def run(self) -> Tried:
         mutants, self.tried.results = mutants_of(self.crate)
         scratch, to_prove = self.copy(), [it for it in mutants if not it.edit.error]
-        refused = self.try_siblings(scratch, family_of(self.crate, to_prove))
+        refused = self.try_siblings(scratch, family_of(self.crate, to_prove, self.is_each_controlled))
         left = [it for it in to_prove if it not in refused]
         parts = [part for k in range(self.jobs) if (part := left[k::self.jobs])]
         copies = [scratch, *(self.copy(scratch.kept) for _ in parts[1:])]
@@ -168,13 +169,13 @@ class Trial:
         return found
 
 
-def try_crates(top: Path, names: Iterable[str], lanes: int) -> Iterator[Tried]:
+def try_crates(top: Path, names: Iterable[str], lanes: int, is_each_controlled: bool) -> Iterator[Tried]:
     """Tries the mutants of these crates side by side, those with the most first, and gives each crate's results as it ends."""
     numbers = {it: len(mutants_of(top / "crates" / it)[0]) for it in names}
     jobs = max(1, min(MOST_JOBS, lanes // max(1, len(numbers))))
     with tempfile.TemporaryDirectory(prefix="edits-") as name, ThreadPoolExecutor(max(1, lanes // jobs)) as pool:
         longest_first = sorted(numbers, key=numbers.get, reverse=True)
-        begun = [pool.submit(Trial(top, it, Path(name), jobs).run) for it in longest_first]
+        begun = [pool.submit(Trial(top, it, Path(name), jobs, is_each_controlled).run) for it in longest_first]
         for it in as_completed(begun):
             yield it.result()
 
@@ -231,7 +232,7 @@ def main() -> int:
     except NotProved as error:
         print(f"check: the libraries below {error} aren't proved, so no mutant was tried")
         return 1
-    for tried in try_crates(TOP, picked, max(1, given.lanes)):
+    for tried in try_crates(TOP, picked, max(1, given.lanes), given.all):
         report(tried, given.each)
         wrong = sum(not it.is_refused for it in tried.results)
         refused, faults = refused + len(tried.results) - wrong, faults + wrong
