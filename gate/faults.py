@@ -17,7 +17,7 @@ WRONG = {
     "says nothing of it": '$program "$@" 2> /dev/null',
     "ends well": '$program "$@" || true',
     "goes on": '$program "$@" || { echo more; exit 1; }',
-    "tries again": 'tee "$0.in" | $program "$@" 2> /dev/null || FAULT_GROWTH=0 FAULT_READ=0 FAULT_WRITE=0 $program "$@" < "$0.in"',
+    "tries again": 'tee "$0.$$" | $program "$@" 2> /dev/null || FAULT_GROWTH=0 FAULT_READ=0 FAULT_WRITE=0 $program "$@" < "$0.$$"',
     "is ended by a signal": '$program "$@" || kill -ABRT $$',
 }
 

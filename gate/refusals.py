@@ -43,7 +43,7 @@ def runs(program: Program) -> list[list[str]]:
         if told.status or told.err:
             raise SystemExit(f"refusals: with growth {number} refused: status {told.status}, {told.err!r}")
         found.append(told.out.splitlines())
-        if not told.faults and program.library:
+        if not told.faults:
             return found
     return found
 
