@@ -16,19 +16,17 @@
 #include <unistd.h>
 
 typedef int make_thread(pthread_t *, const pthread_attr_t *, void *(*)(void *), void *);
-typedef ssize_t read_bytes(int, void *, size_t);
-typedef ssize_t write_bytes(int, const void *, size_t);
 
 extern void *__libc_malloc(size_t);
 extern void *__libc_calloc(size_t, size_t);
 extern void *__libc_realloc(void *, size_t);
 extern void *__libc_memalign(size_t, size_t);
+extern ssize_t __read(int, void *, size_t);
+extern ssize_t __write(int, const void *, size_t);
 
 enum kind { GROWTH, READ, WRITE, KINDS };
 
 static make_thread *thread_of_the_system;
-static read_bytes *read_of_the_system;
-static write_bytes *write_of_the_system;
 static atomic_long calls[KINDS];
 static long failing[KINDS];
 static int told = -1;
@@ -42,8 +40,6 @@ static long number(const char *name, long otherwise) {
 /* The program begins after this: what its loader took isn't counted. */
 __attribute__((constructor)) static void begin(void) {
     thread_of_the_system = (make_thread *)dlsym(RTLD_NEXT, "pthread_create");
-    read_of_the_system = (read_bytes *)dlsym(RTLD_NEXT, "read");
-    write_of_the_system = (write_bytes *)dlsym(RTLD_NEXT, "write");
     told = (int)number("FAULT_TOLD", -1);
     atomic_store(&calls[GROWTH], 0);
     failing[READ] = number("FAULT_READ", 0);
@@ -52,7 +48,7 @@ __attribute__((constructor)) static void begin(void) {
 }
 
 static void tell(char letter) {
-    if (told >= 0 && write_of_the_system(told, &letter, 1) != 1) {
+    if (told >= 0 && __write(told, &letter, 1) != 1) {
         abort();
     }
 }
@@ -97,11 +93,11 @@ int posix_memalign(void **block, size_t alignment, size_t size) {
 }
 
 ssize_t read(int file, void *bytes, size_t count) {
-    return file == STDIN_FILENO && fails(READ, 'r', EIO) ? -1 : read_of_the_system(file, bytes, count);
+    return file == STDIN_FILENO && fails(READ, 'r', EIO) ? -1 : __read(file, bytes, count);
 }
 
 ssize_t write(int file, const void *bytes, size_t count) {
-    return file == STDOUT_FILENO && fails(WRITE, 'w', ENOSPC) ? -1 : write_of_the_system(file, bytes, count);
+    return file == STDOUT_FILENO && fails(WRITE, 'w', ENOSPC) ? -1 : __write(file, bytes, count);
 }
 
 int pthread_create(pthread_t *thread, const pthread_attr_t *how, void *(*run)(void *), void *with) {
