@@ -12,8 +12,8 @@ usage: ./check [STEP] [..]
                      docs/INDEX.md is what the sources say.
                      Of crates that are named all, or with --due those that are due
   ./check examples   what the traces of examples/ print; what no one output shows, what each command's help tells, and what is said of
-                     each wrong field of a line; a long race, and its trace; when ./hugepool builds, and what ./check itself counts;
-                     that what documents name is there; where there is cargo, a few seconds of random and damaged traces beside a
+                     each wrong field of a line; a long race, and its trace; that the programs compiled without proof print the same;
+                     which program ./hugepool runs, and what ./check itself counts; that what documents name is there; where there is cargo, a few seconds of random and damaged traces beside a
                      plain program
   ./check refusals   that programs and drivers tell it where memory is refused to them, at each growth, one a run; how many threads the
                      commands start (it needs cc)
@@ -66,7 +66,8 @@ class Step:
 
     def run(self, words: list[str], folder: Path = TOP) -> bool:
         """Runs a command, and returns whether it ended well."""
-        with subprocess.Popen(words, cwd=folder, stdin=subprocess.DEVNULL, stdout=subprocess.PIPE, **TOLD) as ran:
+        own = {**os.environ, "HUGEPOOL": "proved"}
+        with subprocess.Popen(words, cwd=folder, env=own, stdin=subprocess.DEVNULL, stdout=subprocess.PIPE, **TOLD) as ran:
             return self.follow(ran.stdout, ran)
 
     def follow(self, lines: Iterable[str], ran: subprocess.Popen) -> bool:
@@ -119,6 +120,7 @@ def examples(step: Step, _: list[str]) -> None:
     step.run(python("examples.py"))
     step.run(python("showing.py"))
     step.run(python("soak.py"))
+    step.run(python("unproved.py"))
     step.run(python("test_launcher.py"))
     step.run(python("documents.py"))
     fuzz(step)
