@@ -22,7 +22,7 @@ from building import BuildFailed, TOP, say
 from progress import Line
 
 # processor seconds that each takes to compile, as measured
-SECONDS = {"replay": 26, "hugepool": 118}
+SECONDS = {"replay": 25, "hugepool": 60}
 # what the program reads while it is looked for: a trace that it works on for a moment
 TRACE = b"pool 1 1 1 1\n" + 10_000 * b"step 1\n"
 PAUSE = 0.02
@@ -45,7 +45,7 @@ def follow(ran: subprocess.Popen, room: Path, to: Path, seconds: int) -> bool:
     began, line, is_taken = time.monotonic(), Line(), False
     while ran.poll() is None:
         is_taken = is_taken or take(room, to)
-        line.show(f"compiling without proof, {time.monotonic() - began:.0f} s so far; an idle processor takes {seconds} s")
+        line.show(lambda: f"compiling without proof, {time.monotonic() - began:.0f} s so far; an idle processor takes {seconds} s")
         time.sleep(PAUSE)
     line.clear()
     return is_taken

@@ -1,7 +1,7 @@
 #!/usr/bin/env python3
 """Proves and builds one library, over libraries that are built: prove.py starts one such process for each.
 
-usage: prove_library.py CRATE-FOLDER JOBS NICENESS
+usage: prove_library.py CRATE-FOLDER JOBS
 
 It does what `rt lib` does, through the toolchain's own module, but takes no locks: `rt lib` locks all crates below its own, and all stand
 on one, so that two could never run side by side. prove.py holds these locks meanwhile.
@@ -14,9 +14,8 @@ import sys
 import toolchain
 
 
-def main(folder: str, jobs: str, niceness: str) -> int:
+def main(folder: str, jobs: str) -> int:
     os.chdir(folder)
-    os.nice(int(niceness))
     rt = toolchain.load()
     rt.share_work(True)
     crate = rt.rtlib.Crate(folder, rt.rtlib.root_above(folder), {})

@@ -1,8 +1,8 @@
 """Libraries that are proved side by side: which is begun when, with how many processors, and how far all are.
 
 A library can begin as soon as those below it are built. The longest chain of libraries decides how long it all takes, so the libraries that
-stand on it, the urgent ones, share all processors by the prover's own `--jobs`. The others run beside them, one job each and at a lower
-priority, so that they get what the urgent ones leave idle.
+stand on it, the urgent ones, share all processors by the prover's own `--jobs`. The others run beside them, one job each: the first and
+the last part of each check run on one processor, whatever its jobs.
 """
 from __future__ import annotations
 
@@ -18,8 +18,8 @@ from typing import IO, Iterable
 from progress import Line
 
 ONE = Path(__file__).with_name("prove_library.py")
-# the seconds by which an urgent library's chain may be shorter than the longest, and the priority of those that aren't urgent
-SLACK, NICENESS = 15.0, 10
+# the seconds by which an urgent library's chain may be shorter than the longest
+SLACK = 15.0
 # what another job adds to the memory of the first, since it is a copy that shares most of it, and how much faster it makes the first
 MORE_MEMORY, MORE_SPEED = 0.5, 0.5
 # how far a library is taken to be, at most, before it has ended
@@ -86,10 +86,10 @@ def with_chains(libraries: Iterable[Library]) -> list[Library]:
     return sorted(found, key=lambda it: -it.chain)
 
 
-def start(library: Library, jobs: int, niceness: int, folder: Path) -> Run:
+def start(library: Library, jobs: int, folder: Path) -> Run:
     """Begins to prove a library. What the prover prints goes to a file of the folder."""
     log = folder / f"{library.name}.log"
-    words = [sys.executable, str(ONE), library.folder, str(jobs), str(niceness)]
+    words = [sys.executable, str(ONE), library.folder, str(jobs)]
     return Run(library, jobs, begin(words, library.folder, log), log)
 
 
@@ -123,7 +123,7 @@ class Proving:
             jobs = self.jobs_that_fit(it, most)
             if len(self.runs) < self.processors and jobs:
                 self.left.remove(it)
-                self.follow(start(it, jobs, 0 if is_urgent[it.name] else NICENESS, self.logs))
+                self.follow(start(it, jobs, self.logs))
 
     def jobs_that_fit(self, library: Library, most: int) -> int:
         """So many jobs of a library fit into the memory that the others leave; one does where nothing else runs."""
@@ -152,7 +152,7 @@ class Proving:
         try:
             while self.left or self.runs:
                 self.begin_ready()
-                self.line.show(self.told())
+                self.line.show(self.told)
                 time.sleep(PAUSE)
                 self.reap()
         finally:
