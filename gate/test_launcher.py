@@ -24,7 +24,8 @@ from scratch import TOP, below, crates_of
 
 NOTICE = "hugepool: not proved yet: the same sources, compiled without proof; ./hugepool build proves them\n"
 # What it makes is a program that prints its words, by which command and at which call of that it was made, and what it reads. Files at the
-# top have it fail (`broken`), take long (`long`), not end (`stuck`), change a source meanwhile (`slow`), or run another file (`hidden`).
+# top have it fail (`broken`), take long (`long`), not end (`stuck`), change a source meanwhile (`slow`), or run another file than the one
+# that is looked for, which isn't there (`hidden`) or does nothing (`wrong`).
 RT = """#!/bin/sh
 verb=$1 top=$(cd ../.. && pwd) crate=${PWD##*/}
 [ ! -e $top/stuck ] || { echo $$ > $top/pid; exec sleep 60; }
@@ -47,6 +48,7 @@ shift
 room=$(mktemp -d) name=program status=0
 [ ! -e $top/hidden ] || name=other
 mkdir $room/native
+[ ! -e $top/wrong ] || { name=other; echo '#!/bin/sh' > $room/native/program; chmod +x $room/native/program; }
 write $room/native/$name
 sleep 0.1
 $room/native/$name "$@" || status=$?
@@ -144,6 +146,9 @@ def unproved(room: Room) -> Iterator[tuple[str, bool]]:
     yield "what can't be kept is tried", told[:2] == (0, "a b by hugepool try 6\na line\n") and told.err.count("not proved") == 1
     yield "each time", room.call().out == "a b by hugepool try 8\n" and room.calls("run") == 0
     room.remove("hidden")
+    room.write("wrong")
+    yield "what prints something else isn't kept", room.call().out == "a b by hugepool try 10\n"
+    room.remove("wrong")
 
 
 def proofs(room: Room) -> Iterator[tuple[str, bool]]:
@@ -195,15 +200,14 @@ def failures(room: Room) -> Iterator[tuple[str, bool]]:
 def interrupted(room: Room, number: signal.Signals) -> tuple[int, bool]:
     """The status of a build that gets a signal, and whether its `rt` is gone."""
     pid = room.top / "pid"
-    pid.unlink(missing_ok=True)
+    pid.write_text("", encoding="utf-8")
     ran = room.begin(("build",))
-    for _ in range(500):
-        if pid.exists() and pid.read_text(encoding="utf-8"):
-            break
+    while ran.poll() is None and not pid.read_text(encoding="utf-8").endswith("\n"):
         time.sleep(0.02)
     ran.send_signal(number)
     ran.communicate()
-    return ran.returncode, not Path("/proc", pid.read_text(encoding="utf-8").strip()).exists()
+    begun = pid.read_text(encoding="utf-8").strip()
+    return ran.returncode, bool(begun) and not Path("/proc", begun).exists()
 
 
 def staleness(room: Room) -> Iterator[tuple[str, bool]]:

@@ -21,6 +21,46 @@ class BuildFailed(Exception):
     """A build that failed. Its text says why."""
 
 
+class Interrupted(Exception):
+    """A signal asked the build to stop."""
+
+
+class Signals:
+    """The signals that ask a build to stop, SIGINT, SIGTERM and SIGHUP, also where the caller ignores them.
+
+    They are noted, and `look` raises them: it is called where every process that was begun is known to whoever has to end it. During a wait
+    in which there is no process, `raising` has them raised at once.
+    """
+
+    def __init__(self) -> None:
+        self.is_noted = self.is_raising = False
+
+    def catch(self) -> None:
+        for number in (signal.SIGINT, signal.SIGTERM, signal.SIGHUP):
+            signal.signal(number, self.note)
+
+    def note(self, _number: int, _frame: object) -> None:
+        self.is_noted = True
+        if self.is_raising:
+            raise Interrupted
+
+    def look(self) -> None:
+        if self.is_noted:
+            raise Interrupted
+
+    @contextmanager
+    def raising(self) -> Iterator[None]:
+        self.look()
+        self.is_raising = True
+        try:
+            yield
+        finally:
+            self.is_raising = False
+
+
+SIGNALS = Signals()
+
+
 def say(text: str) -> None:
     print(f"hugepool: {text}", file=sys.stderr, flush=True)
 
@@ -46,7 +86,8 @@ def alone(program: Path) -> Iterator[None]:
             fcntl.flock(lock, fcntl.LOCK_EX | fcntl.LOCK_NB)
         except BlockingIOError:
             say(f"another call is building {program.name}; waiting for it")
-            fcntl.flock(lock, fcntl.LOCK_EX)
+            with SIGNALS.raising():
+                fcntl.flock(lock, fcntl.LOCK_EX)
         yield
 
 
@@ -62,22 +103,6 @@ def marked(program: Path, sources: str) -> Iterator[None]:
         beginning.replace(marker)
     finally:
         beginning.unlink(missing_ok=True)
-
-
-def interrupt(_signal: int, _frame: object) -> None:
-    raise KeyboardInterrupt
-
-
-@contextmanager
-def interruptible() -> Iterator[None]:
-    """Lets SIGINT, SIGTERM and SIGHUP end the block by an exception, also where the caller ignored them."""
-    for number in (signal.SIGINT, signal.SIGTERM, signal.SIGHUP):
-        signal.signal(number, interrupt)
-    try:
-        yield
-    finally:
-        for number in (signal.SIGINT, signal.SIGTERM, signal.SIGHUP):
-            signal.signal(number, signal.SIG_DFL)
 
 
 def look_again(words: list[str]) -> None:

@@ -18,7 +18,7 @@ from pathlib import Path
 from typing import BinaryIO
 
 import building
-from building import BuildFailed, TOP, say
+from building import BuildFailed, Interrupted, SIGNALS, TOP
 from progress import Line
 
 # processor seconds that each takes to compile, as measured
@@ -29,7 +29,7 @@ PAUSE = 0.02
 
 
 def take(room: Path, to: Path) -> bool:
-    """Links or copies the program that runs in the room, if there is one, and returns whether there was."""
+    """Links the program that runs in the room, if there is one, and returns whether there was."""
     for file in room.glob("*/*/program"):
         to.unlink(missing_ok=True)
         try:
@@ -44,6 +44,7 @@ def follow(ran: subprocess.Popen, room: Path, to: Path, seconds: int) -> bool:
     """Waits until `rt try` ends, shows how far it is, and returns whether the program that it ran was kept."""
     began, line, is_taken = time.monotonic(), Line(), False
     while ran.poll() is None:
+        SIGNALS.look()
         is_taken = is_taken or take(room, to)
         line.show(lambda: f"compiling without proof, {time.monotonic() - began:.0f} s so far; an idle processor takes {seconds} s")
         time.sleep(PAUSE)
@@ -67,6 +68,8 @@ def try_once(crate: str, words: list[str], room: Path, printed: BinaryIO, to: Pa
             ran.wait()
         log.seek(0)
         said = log.read()
+    # (a signal may have ended it before this process)
+    SIGNALS.look()
     if ran.returncode:
         raise BuildFailed(f"{said}hugepool: the sources were refused")
     return is_taken
@@ -98,7 +101,7 @@ class NotKept(Exception):
 
 
 def build(crate: str, program: Path, moment: float, sources: str, words: list[str]) -> None:
-    with building.interruptible(), building.alone(program):
+    with building.alone(program):
         if building.is_built_since(program, moment):
             building.look_again(words)
         with building.marked(program, sources):
@@ -108,9 +111,10 @@ def build(crate: str, program: Path, moment: float, sources: str, words: list[st
 
 def main(crate: str, moment: str, sources: str, notice: str, *words: str) -> int:
     program = TOP / "crates" / crate / "out" / "unproved"
+    SIGNALS.catch()
     try:
         build(crate, program, float(moment), sources, list(words))
-    except KeyboardInterrupt:
+    except Interrupted:
         return building.INTERRUPTED
     except BuildFailed as why:
         print(why, file=sys.stderr)

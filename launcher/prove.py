@@ -19,8 +19,8 @@ from typing import Iterator
 
 import building
 import toolchain
-from building import BuildFailed, TOP, say
-from proving import Library, NotProved, Proving, Run, begin, with_chains
+from building import BuildFailed, Interrupted, SIGNALS, TOP, say
+from proving import PAUSE, Library, NotProved, Proving, Run, begin, with_chains
 
 CRATE = TOP / "crates" / "hugepool"
 PROGRAM = CRATE / "out" / "hugepool"
@@ -50,7 +50,8 @@ def libraries_of(crates: list) -> list[Library]:
 @contextmanager
 def locked(rt: ModuleType, crates: list) -> Iterator[None]:
     """Keeps other commands of the toolchain out of the crates, as the toolchain itself does."""
-    held = rt.rtlib.lock(crates)
+    with SIGNALS.raising():
+        held = rt.rtlib.lock(crates)
     try:
         yield
     finally:
@@ -92,7 +93,11 @@ def build_alone(logs: Path) -> None:
     log = logs / "hugepool.log"
     ran = begin(["rt", "run", "--", "--help"], str(CRATE), log)
     try:
-        if ran.wait():
+        while ran.poll() is None:
+            SIGNALS.look()
+            time.sleep(PAUSE)
+        if ran.returncode:
+            SIGNALS.look()
             raise NotProved("hugepool")
     finally:
         ran.terminate()
@@ -124,7 +129,7 @@ def build(logs: Path) -> None:
 def build_unless_built(moment: float, sources: str, words: list[str]) -> None:
     """Builds the program, unless another call did so since this one looked."""
     logs = CRATE / "out" / "proving"
-    with building.interruptible(), building.alone(PROGRAM):
+    with building.alone(PROGRAM):
         if building.is_built_since(PROGRAM, moment):
             building.look_again(words)
         with building.marked(PROGRAM, sources):
@@ -137,9 +142,10 @@ def build_unless_built(moment: float, sources: str, words: list[str]) -> None:
 
 def main(moment: str, sources: str, *words: str) -> int:
     began = time.monotonic()
+    SIGNALS.catch()
     try:
         build_unless_built(float(moment), sources, list(words))
-    except KeyboardInterrupt:
+    except Interrupted:
         say("the build was interrupted; what is proved is kept")
         return building.INTERRUPTED
     except BuildFailed as why:

@@ -13,8 +13,9 @@ import sys
 import time
 from dataclasses import dataclass, field
 from pathlib import Path
-from typing import IO, Iterable
+from typing import Iterable
 
+from building import SIGNALS
 from progress import Line
 
 ONE = Path(__file__).with_name("prove_library.py")
@@ -143,6 +144,8 @@ class Proving:
             del self.runs[pid]
             run.process.returncode = os.waitstatus_to_exitcode(status)
             if run.process.returncode:
+                # (a signal may have ended it before this process)
+                SIGNALS.look()
                 raise NotProved(run.library.name)
             self.built.add(run.library.name)
             self.took[run.library.name] = Took(used.ru_utime + used.ru_stime, used.ru_maxrss * 1024)
@@ -151,6 +154,7 @@ class Proving:
         """Proves all that is left. Whatever ends it, no process is left behind."""
         try:
             while self.left or self.runs:
+                SIGNALS.look()
                 self.begin_ready()
                 self.line.show(self.told)
                 time.sleep(PAUSE)
