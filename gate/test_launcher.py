@@ -2,8 +2,8 @@
 """Tests which program ./hugepool runs, and when it compiles or proves one, in a small repository with a stand-in for `rt`.
 
 The stand-in counts its calls, and builds programs that print how they were built. Of the repository itself it is tested from which crates
-./hugepool takes its programs to be built. Besides: that ./check and .ci/run pass on words and status, which programs of `rt ci` the gate
-takes over, and what ./check counts (test_check.py).
+./hugepool takes its programs to be built. Besides: how libraries are proved side by side (test_proving.py), that ./check and .ci/run pass
+on words and status, which programs of `rt ci` the gate takes over, and what ./check counts (test_check.py).
 """
 from __future__ import annotations
 
@@ -20,6 +20,7 @@ from typing import Iterable, Iterator, NamedTuple
 
 import programs
 import test_check
+import test_proving
 from scratch import TOP, below, crates_of
 
 NOTICE = "hugepool: not proved yet: the same sources, compiled without proof; ./hugepool build proves them\n"
@@ -313,6 +314,7 @@ def main() -> int:
     for tries in (unproved, proofs, staleness, stands_on, passes_on, takes_over):
         with tempfile.TemporaryDirectory(prefix="launcher-") as name:
             tried += tries(Room(Path(name), crates_of(TOP) if tries is stands_on else None))
+    tried += test_proving.tries()
     tried += test_check.tries()
     print("".join(f"  not so: {what}\n" for what, is_so in tried if not is_so), end="")
     failed = sum(not is_so for _, is_so in tried)
