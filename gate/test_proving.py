@@ -107,16 +107,18 @@ class Room:
         return any(self.top.glob("crates/*/out/*.begun"))
 
 
-def interrupted(room: Room) -> tuple[int, int]:
-    """The status of a build that is interrupted while two libraries are being proved, and how many processes it leaves."""
+def interrupted(room: Room) -> tuple[int, int, bool]:
+    """The status of a build that is interrupted while two libraries are being proved, how many processes it leaves, and whether it ended
+    before those would have ended by themselves."""
     (room.top / "stuck").touch()
     ran = room.begin("low")
     while ran.poll() is None and len(room.notes()) < 2:
         time.sleep(0.05)
     ran.send_signal(signal.SIGINT)
+    sent = time.monotonic()
     ran.communicate()
     (room.top / "stuck").unlink()
-    return ran.returncode, room.running()
+    return ran.returncode, room.running(), time.monotonic() - sent < 30
 
 
 def tries_in(room: Room) -> Iterator[tuple[str, bool]]:
@@ -136,7 +138,7 @@ def tries_in(room: Room) -> Iterator[tuple[str, bool]]:
     yield "one that isn't proved is named, with what the prover said", status == 126 and "right is not proved" in err and "this is why" in err
     yield "then nothing is current, and nothing runs", not room.is_current() and room.running() == 0
     (room.top / "broken").write_text("", encoding="utf-8")
-    yield "an interrupt ends all", interrupted(room) == (130, 0) and not room.is_current()
+    yield "an interrupt ends all", interrupted(room) == (130, 0, True) and not room.is_current()
     yield "afterwards all is proved", room.build()[0] == 0 and room.is_current()
 
 
