@@ -53,7 +53,7 @@ def closure(name, own):
 rtlib = SimpleNamespace(Crate=Crate, lock=lambda crates: [], root_above=lambda folder: str(Path(folder).parent.parent))
 share_work, processors = lambda is_alone: None, lambda: 3
 free = lambda: int(Path(__file__).with_name("free").read_text())
-if __name__ == "__main__":
+if __name__ == '__main__':
     program = Path("out/hugepool")
     program.write_text("#!/bin/sh\\\\necho proved")
     program.chmod(0o755)
