@@ -54,6 +54,8 @@ rtlib = SimpleNamespace(Crate=Crate, lock=lambda crates: [], root_above=lambda f
 share_work, processors = lambda is_alone: None, lambda: 3
 free = lambda: int(Path(__file__).with_name("free").read_text())
 if __name__ == '__main__':
+    if not all(low.is_built() for low in Crate(os.getcwd(), rtlib.root_above(os.getcwd()), {}).below()):
+        sys.exit(1)
     program = Path("out/hugepool")
     program.write_text("#!/bin/sh\\\\necho proved")
     program.chmod(0o755)
@@ -86,7 +88,7 @@ class Room:
     def forget(self) -> None:
         """Has nothing built."""
         (self.top / "notes").write_text("", encoding="utf-8")
-        for file in (*self.top.glob("crates/*/built"), *self.top.glob("crates/*/out/*.begun")):
+        for file in (*self.top.glob("crates/*/built"), *self.top.glob("crates/hugepool/out/hugepool*")):
             file.unlink()
 
     def build(self) -> tuple[int, str]:
@@ -104,7 +106,8 @@ class Room:
         return sum(Path("/proc", pid).exists() for pid in pids)
 
     def is_current(self) -> bool:
-        return any(self.top.glob("crates/*/out/*.begun"))
+        out = self.top / "crates" / "hugepool" / "out"
+        return (out / "hugepool").exists() and (out / "hugepool.begun").exists()
 
 
 def interrupted(room: Room) -> tuple[int, int, bool]:
