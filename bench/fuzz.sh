@@ -18,7 +18,7 @@ if ! command -v cargo > /dev/null; then
     echo "bench: 'cargo', which builds the plain programs, is not on the PATH" >&2
     exit 127
 fi
-./hugepool --help > /dev/null
+HUGEPOOL=proved ./hugepool --help > /dev/null
 cargo build --quiet --release --manifest-path bench/plain/Cargo.toml
 room=$(mktemp -d -t fuzz-XXXXXX)
 plain=bench/plain/target/release

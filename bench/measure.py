@@ -21,7 +21,7 @@ def prepare():
     """Builds what isn't built yet: our program by ./hugepool, the plain ones by cargo."""
     if shutil.which("cargo") is None:
         sys.exit("bench: 'cargo', which builds the plain programs, is not on the PATH")
-    built = subprocess.run(["./hugepool", "--help"], stdout=subprocess.DEVNULL)
+    built = subprocess.run(["./hugepool", "--help"], env={**os.environ, "HUGEPOOL": "proved"}, stdout=subprocess.DEVNULL)
     if built.returncode != 0:
         sys.exit("bench: ./hugepool was not built")
     if subprocess.run(["cargo", "build", "--quiet", "--release"], cwd="bench/plain").returncode != 0:

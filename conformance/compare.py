@@ -13,6 +13,7 @@ or through the first resize that leaves a surplus, of which this pool knows noth
 """
 from __future__ import annotations
 
+import os
 import re
 import subprocess
 import sys
@@ -199,7 +200,7 @@ def compare(program: Program, script: Script) -> tuple[int, str | None]:
 
 def build() -> None:
     """Builds the program, which proves it."""
-    subprocess.run([TOP / "hugepool", "--help"], stdout=subprocess.DEVNULL, check=True)
+    subprocess.run([TOP / "hugepool", "--help"], env={**os.environ, "HUGEPOOL": "proved"}, stdout=subprocess.DEVNULL, check=True)
 
 
 def main(paths: list[Path]) -> int:

@@ -11,8 +11,9 @@ usage: ./check [STEP] [..]
                      (--all: all); then faulty mutants that must be reported, and docs/INDEX.md.
                      Of crates that are named all mutants, or with --due those that are due
   ./check examples   the output of the traces of examples/, which no single output shows, of each command's help, and of each wrong
-                     field of a line; a long race, and its trace; when ./hugepool builds; what ./check itself counts; the names in
-                     documents; with cargo, some seconds of random and damaged traces beside a plain program
+                     field of a line; a long race, and its trace; that the programs compiled without proof print the same; when ./hugepool
+                     builds; what ./check itself counts; the names in documents; with cargo, some seconds of random and damaged
+                     traces beside a plain program
   ./check refusals   a failed allocation, read or write at each place where programs and drivers make one, one a run, and how many
                      threads the commands start (needs cc)
   ./check linux      what a Linux kernel answered (conformance/), and the recorder, as far as it needs no kernel (needs cc)
@@ -51,6 +52,7 @@ SCRIPTS = {
         "gate/examples.py",
         "gate/showing.py",
         "gate/soak.py",
+        "gate/unproved.py",
         "gate/test_launcher.py",
         "gate/test_check.py",
         "gate/documents.py",
@@ -244,6 +246,8 @@ def main(words: list[str]) -> int:
     print("".join(f"{it}\n" for it in needs.listed(lacking)), end="", flush=True)
     if any(it.is_required for it in lacking):
         return 127
+    # (no step may judge by a program that isn't proved)
+    os.environ["HUGEPOOL"] = "proved"
     is_whole = words[:1] in ([], ["all"])
     gate = Gate(WHOLE if is_whole else words[:1], lacking)
     run_steps(gate, ["--all"] if words == ["all"] else words[1:])

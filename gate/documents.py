@@ -86,7 +86,7 @@ def command_faults(line: str) -> Iterator[str]:
 
 def hugepool_faults(command: str, words: str) -> Iterator[str]:
     known = set(re.findall(r'Command::new\(alloc, "(\w+)"\)', source_of("hugepool")))
-    if command and re.fullmatch(r"[a-z]+", command) and command not in {*known, "help"}:
+    if command and re.fullmatch(r"[a-z]+", command) and command not in {*known, "help", "build"}:
         yield f"hugepool has no command {command}"
     for option in OPTION.findall(words):
         if option not in ("help", "version") and f'"{option}"' not in source_of("hugepool"):

@@ -19,6 +19,7 @@ import tempfile
 from pathlib import Path
 from typing import Callable, Iterator
 
+from programs import built
 from scratch import TOP
 
 PROGRAM = TOP / "hugepool"
@@ -246,8 +247,7 @@ def unnoticed(name: str) -> Iterator[tuple[str, bool]]:
 
 
 def main() -> int:
-    # (the first call builds the program, which proves it)
-    subprocess.run([TOP / "hugepool", "--help"], stdout=subprocess.DEVNULL, check=True)
+    built("hugepool")
     traces, faults = compared(".trace", ".out", difference)
     scripts, more = compared(".script", ".lines", script_difference)
     faults += more

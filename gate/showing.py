@@ -219,6 +219,7 @@ def tries() -> Iterator[tuple[str, bool]]:
 
 
 def main() -> int:
+    built("hugepool")
     tried = list(tries())
     print("".join(f"  not so: {what}\n" for what, is_so in tried if not is_so), end="")
     failed = sum(not is_so for _, is_so in tried)

@@ -13,6 +13,7 @@ import re
 import subprocess
 import sys
 
+from programs import built
 from scratch import TOP
 
 TASKS, FILES, PAGES, ADDRESSES = 8, 3, 12, 40
@@ -94,6 +95,7 @@ def damaged(trace: list[str]) -> list[list[str]]:
 
 
 def main() -> int:
+    built("hugepool")
     asked = script()
     faults = [fault for fault in [race_fault(asked, []), race_fault(asked, ["--cut", "1000"])] if fault]
     trace = run(["race", "--trace"], asked)

@@ -15,14 +15,14 @@ use Rattle.hp_replay.specs.Scripts.{begin_of, HasScriptFault}
 use Rattle.hp_replay.specs.Streams.{source_at, TellsReads, TellsWrites}
 use Rattle.hp_replay.specs.Traces.{HasFault, trace_text}
 use Rattle.hp_replay.specs.Writing.{IsWriteFault, Wrote}
-use Rattle.hugepool.specs.Endings.{ReaderAt}
+use Rattle.hp_program.specs.Endings.{ReaderAt}
 use Rattle.hugepool.specs.Racing.{Races, RacesPartly, WroteRacing, WroteSomeRacing}
 use Rattle.hugepool.specs.Requests.{Explores, ExploresPartly, NotDone, PartAt, AnsweredExplore, AnsweredRace, AnsweredRuns}
 use Rattle.hugepool.specs.declared.racing.Racing.{Racing}
 use Rattle.hugepool.specs.declared.racing.Racing.TheVariants.{Times, Trace}
 use Rattle.hugepool.specs.declared.program.Stop.{Stop}
 use Rattle.hugepool.specs.declared.program.Stop.TheVariants as stop
-use Rattle.hugepool.proofs.Buffered.{all_of}
+use Rattle.hp_program.proofs.Buffered.{all_of}
 
 -- a fault of writing tells nothing of the bytes that were read
 pub no_script_fault : (from : Option (List ℕ)) (fault : ReplayFault) → IsWriteFault fault

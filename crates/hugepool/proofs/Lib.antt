@@ -1,5 +1,4 @@
 mod Answering
-mod Buffered
 mod Reporting
 mod Scheduled
 mod Texts

@@ -6,7 +6,7 @@ use Rattle.std.proofs.KnownBytes.{Appends-kept}
 use Rattle.hp_replay.specs.Writing.{Wrote}
 use Rattle.hp_replay.specs.declared.fault.ReplayFault.{ReplayFault}
 use Rattle.hp_replay.specs.declared.fault.ReplayFault.TheVariants.{Write}
-use Rattle.hugepool.proofs.Buffered.{all_of}
+use Rattle.hp_program.proofs.Buffered.{all_of}
 
 -- a front that was written stays where the bytes are kept
 wrote_kept : (a b c : Option (List ℕ)) (text : List ℕ) → Wrote a b text → Keeps b c → Wrote a c text

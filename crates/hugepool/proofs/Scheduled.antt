@@ -21,7 +21,7 @@ use Rattle.hugepool.specs.declared.command.Scheduling.{Scheduling}
 use Rattle.hugepool.specs.declared.program.Stop.{Stop}
 use Rattle.hugepool.specs.declared.program.Stop.TheVariants as stop
 use Rattle.hugepool.proofs.Answering.{no_trace_fault}
-use Rattle.hugepool.proofs.Buffered.{all_of, holds, unbuffered}
+use Rattle.hp_program.proofs.Buffered.{all_of, holds, unbuffered}
 use Rattle.hugepool.proofs.Texts.{HasFront, Passes, answered_text}
 
 -- a front of the count

@@ -13,12 +13,12 @@ use Rattle.hp_replay.specs.Traces.{HasFault}
 use Rattle.hp_replay.specs.Writing.{IsWriteFault}
 use Rattle.hp_replay.specs.declared.fault.ReplayFault.{ReplayFault}
 use Rattle.hp_replay.specs.declared.fault.ReplayFault.TheVariants.{BadLine, BadHeader, Read, Write, Memory}
-use Rattle.hugepool.specs.Endings.{HoldsFront}
+use Rattle.hp_program.specs.Endings.{HoldsFront}
 use Rattle.hugepool.specs.Requests.{AnsweredDraw, AnsweredExplain, AnsweredText, IsExplaining, NotDone, TextIn, TextShort}
 use Rattle.hugepool.specs.declared.program.Stop.{Stop}
 use Rattle.hugepool.specs.declared.program.Stop.TheVariants as stop
 use Rattle.hugepool.proofs.Answering.{no_trace_fault, reader_at}
-use Rattle.hugepool.proofs.Buffered.{all_of, holds, none_of, unbuffered}
+use Rattle.hp_program.proofs.Buffered.{all_of, holds, none_of, unbuffered}
 
 -- what a reader has left at first and in the end, and what a writer holds
 abbrev pub Between : Type 1

@@ -8,6 +8,7 @@ use Rattle.hp_explain.specs.Explaining.{Beginning, Explained, Explanation}
 use Rattle.hp_explore.specs.Explored.{IsExplored}
 use Rattle.hp_explore.specs.declared.line.RunLine.{RunLine}
 use Rattle.hp_explore.specs.declared.script.Script.{Script}
+use Rattle.hp_program.specs.Endings.{HoldsFront, ReaderAt}
 use Rattle.hp_replay.specs.declared.fault.ReplayFault.{ReplayFault}
 use Rattle.hp_replay.specs.declared.fault.ReplayFault.TheVariants.{BadLine, BadHeader, Read, Write, Memory}
 use Rattle.hp_replay.specs.Checking.{ReadsEvents, count_line}
@@ -18,7 +19,7 @@ use Rattle.hp_replay.specs.Streams.{sink_at}
 use Rattle.hp_replay.specs.Traces.{HasFault, trace_text}
 use Rattle.hp_replay.specs.Writing.{IsWriteFault, Wrote}
 use Rattle.hp_replay.specs.declared.exploring.Exploration.{Exploration}
-use Rattle.hugepool.specs.Endings.{AnsweredElse, AnsweredReplay, HoldsFront, ReaderAt}
+use Rattle.hugepool.specs.Endings.{AnsweredElse, AnsweredReplay}
 use Rattle.hugepool.specs.Racing.{Races, RacesPartly}
 use Rattle.hugepool.specs.Status.{status_at}
 use Rattle.hugepool.specs.Working.{AnsweredWork}

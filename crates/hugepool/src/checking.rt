@@ -5,7 +5,8 @@ ghost use Rattle.hp_replay.specs.Traces.{HasFault};
 ghost use Rattle.hp_replay.specs.Streams.{TellsReads};
 ghost use Rattle.hugepool.specs.Requests.{AnsweredCheck, Checks, ChecksPartly, NotDone};
 
-use crate::program::{Stop, flush_out, flushed_answer, stopped};
+use crate::program::{Stop, flush_out, stopped};
+use hp_program::flushed_answer;
 use hp_replay::{ReplayFault, Sink, Source, Watched, check_trace, write_count};
 use std::alloc::Global;
 use std::io::Write;

@@ -3,8 +3,9 @@ ghost use Rattle.std.specs.Prelude.{◌≡◌, Ok, Err, OnOk, Some, IfErr, IfSom
 ghost use Rattle.std.specs.Option.{option_map};
 ghost use Rattle.hugepool.specs.Requests.{AnsweredExplain};
 
-use crate::program::{Stop, flush_unless, flushed_answer, stopped};
+use crate::program::{Stop, stopped};
 use hp_explain::explain;
+use hp_program::{flush_unless, flushed_answer};
 use hp_replay::{ReplayFault, Source, Watched};
 use std::alloc::Global;
 use std::io::{BufWriter, Write};

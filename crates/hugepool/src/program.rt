@@ -1,10 +1,9 @@
 //! What the program does, over any words and streams.
-ghost use Rattle.std.specs.Prelude.{◌≡◌, ◌≢◌, [], Some, Ok, Err, true, false, IsOk, OnOk, OnErr, IfOk, IfErr};
-ghost use Rattle.std.specs.Io.Buffered.{writer_buffer, writer_contents};
+ghost use Rattle.std.specs.Prelude.{◌≡◌, ◌≢◌, Some, Ok, Err, true, IsOk, OnOk, IfOk, IfErr};
 ghost use Rattle.std.specs.Io.KnownBytes.{Keeps};
 ghost use Rattle.std.specs.Option.{option_map};
 ghost use Rattle.clap.specs.Values.{kind_of};
-ghost use Rattle.hugepool.specs.Endings.{IsHelp, IsRefusal, DidReplay};
+ghost use Rattle.hugepool.specs.Endings.{IsHelp, IsRefusal};
 ghost use Rattle.hugepool.specs.Requests.{Answered, Did, EndsWith};
 ghost use Rattle.hugepool.specs.Status.{status_of, status_at};
 
@@ -17,12 +16,13 @@ use crate::racing::run_race;
 use crate::scheduling::run_schedule;
 use crate::working::{WorkFault, run_work};
 use clap::error::ErrorKind;
-use hp_reasons::{Recalls, line_told};
-use hp_replay::{ReplayFault, Source, Watched, replay};
+use hp_program::{run_replay, write_fault};
+use hp_reasons::Recalls;
+use hp_replay::{ReplayFault, Source};
 use std::alloc::Global;
 use std::convert::AsStr;
 use std::io;
-use std::io::{BufWriter, Write};
+use std::io::Write;
 use std::sync::Wait;
 use std::thread::Threads;
 use thiserror::Error;
@@ -32,7 +32,7 @@ use thiserror::Error;
 pub(crate) enum Stop {
     #[error("{0}")]
     Usage(clap::Error),
-    #[error("hugepool: {0}\n")]
+    #[error("{0}")]
     Replay(ReplayFault),
     /// A run didn't finish. Its line says so.
     #[error("")]
@@ -49,15 +49,6 @@ impl Stop {
             Stop::Usage(_) => 2,
             Stop::Replay(_) | Stop::Unfinished => 1,
             Stop::Work(fault) => fault.status(),
-        }
-    }
-
-    // The number of the line that isn't allowed, if it is one.
-    fn line(&self) -> Option<u64> {
-        match self {
-            Stop::Replay(ReplayFault::BadHeader) => Some(1),
-            Stop::Replay(ReplayFault::BadLine(number)) => Some(u64::from(*number)),
-            _ => None,
         }
     }
 }
@@ -94,15 +85,11 @@ fn end<R: Recalls>(answer: Result<(), Stop>, reader: &R, faults: &mut impl Write
     }
 }
 
-// Tells a fault, and what is wrong with the line that isn't allowed.
+// Writes the lines of a fault.
 fn tell<R: Recalls>(stop: &Stop, reader: &R, faults: &mut impl Write) -> io::Result<()> {
-    write!(faults, "{stop}")?;
-    let Some(number) = stop.line() else {
-        return Ok(());
-    };
-    match line_told(reader, number) {
-        Some(told) => writeln!(faults, "hugepool: {told}"),
-        None => Ok(()),
+    match stop {
+        Stop::Replay(fault) => write_fault(*fault, reader, faults),
+        _ => write!(faults, "{stop}"),
     }
 }
 
@@ -186,45 +173,7 @@ fn write_help(help: &clap::Error, out: &mut impl Write) -> Result<(), ReplayFaul
     out.flush().map_err(|_| ReplayFault::Write)
 }
 
-// Output is buffered. What was right before a fault is written still, but what a fault of writing leaves
-// in the buffer is let go.
-fn run_replay<R: Source, W: Write + Drop>(
-    alloc: Global,
-    reader: &mut R,
-    out: W,
-) -> (Result<(), ReplayFault>, Option<W>)
-    ensures { DidReplay result.0 (R.remaining reader.old) (R.remaining reader.new) (R.failed reader.old) (R.failed reader.new)
-        (W.contents out) (option_map W.contents result.1) }
-{
-    let Ok(buffered) = BufWriter::new(alloc, out) else {
-        return (Err(ReplayFault::Memory), None);
-    };
-    let mut sink = Watched::new(buffered);
-    let replayed = replay(alloc, reader, &mut sink);
-    let has_failed = sink.has_failed();
-    let mut buffered = sink.into_inner();
-    let flushed = flush_unless(has_failed, &mut buffered);
-    let (out, _left) = buffered.into_parts();
-    (flushed_answer(replayed, flushed), Some(out))
-}
-
-// After a failed write nothing more is written: what is left in the buffer could arrive behind a gap, or all of it
-// although a failure is told.
-pub(crate) fn flush_unless<W: Write + Drop>(
-    has_failed: bool,
-    buffered: &mut BufWriter<W>,
-) -> io::Result<()>
-    ensures bytes { Keeps (writer_contents W.contents buffered.old) (writer_contents W.contents buffered.new) }
-    ensures empty { OnOk result (has_failed ≡ false → writer_buffer buffered.new ≡ []) }
-    ensures untouched { has_failed ≡ true → IsOk result × (buffered.new ≡ buffered.old) }
-{
-    if has_failed {
-        return Ok(());
-    }
-    buffered.flush()
-}
-
-// The same of an output without a buffer.
+// After a failed write nothing more is written, to an output that has no buffer either.
 pub(crate) fn flush_out<W: Write>(failed: bool, out: &mut W) -> io::Result<()>
     ensures bytes { Keeps (W.contents out.old) (W.contents out.new) }
     ensures untouched { failed ≡ true → IsOk result × (out.new ≡ out.old) }
@@ -233,18 +182,4 @@ pub(crate) fn flush_out<W: Write>(failed: bool, out: &mut W) -> io::Result<()>
         return Ok(());
     }
     out.flush()
-}
-
-// A flush that fails is a failed write. It is told before any other fault, since that stands behind it.
-pub(crate) fn flushed_answer(
-    replayed: Result<(), ReplayFault>,
-    flushed: io::Result<()>,
-) -> Result<(), ReplayFault>
-    ensures ok { OnOk flushed (result ≡ replayed) }
-    ensures err { OnErr flushed (result ≡ Err ReplayFault.Write) }
-{
-    match flushed {
-        Ok(()) => replayed,
-        Err(_) => Err(ReplayFault::Write),
-    }
 }

@@ -6,7 +6,8 @@ ghost use Rattle.hp_replay.specs.Streams.{TellsReads};
 ghost use Rattle.hugepool.specs.Requests.{AnsweredSchedule, NotDone, Schedules, SchedulesPartly};
 
 use crate::command::Scheduling;
-use crate::program::{Stop, flush_unless, flushed_answer, stopped};
+use crate::program::{Stop, stopped};
+use hp_program::{flush_unless, flushed_answer};
 use hp_replay::{ReplayFault, Sink, Source, Watched, read_script, schedule, write_trace};
 use std::alloc::Global;
 use std::io::{BufWriter, Write};

@@ -10,9 +10,10 @@ ghost use Rattle.hugepool.specs.Working.{work_status, carrier_name, report_line,
 ghost use Rattle.hugepool.specs.Working.{Reports, Unreported, AnsweredWork};
 
 use crate::carrying::{Carrier, run_on};
-use crate::program::{Stop, flush_out, flushed_answer, stopped};
+use crate::program::{Stop, flush_out, stopped};
 use clap::{Arg, ArgMatches, Command};
 use hp_client::{ClientFault, Report, Workload, workload_named};
+use hp_program::flushed_answer;
 use hp_replay::{ReplayFault, Watched, write_text};
 use std::alloc::{AllocError, Global};
 use std::io::Write;

@@ -1,7 +1,7 @@
 use Rattle.std.proofs.Common.{Bool, subst}
 use Rattle.std.specs.Io.Buffered.{writer_buffer}
 use Rattle.hp_replay.specs.Streams.{TellsWrites, has_failed}
-use Rattle.hugepool.proofs.Buffered.{opens}
+use Rattle.hp_program.proofs.Buffered.{opens}
 use Rattle.hugepool.proofs.Texts.{answered_draw}
 use Rattle.hugepool.proofs.drawing.run_draw.Goals as goal
 

@@ -4,7 +4,7 @@ use Rattle.hp_replay.specs.Streams.{has_failed}
 use Rattle.hp_replay.specs.declared.fault.ReplayFault.TheVariants.{Write}
 use Rattle.hugepool.specs.Requests.{Schedules, SchedulesPartly, IsScheduled}
 use Rattle.hugepool.proofs.Answering.{no_script_fault}
-use Rattle.hugepool.proofs.Buffered.{opens}
+use Rattle.hp_program.proofs.Buffered.{opens}
 use Rattle.hugepool.proofs.Scheduled.{schedules_pass}
 use Rattle.hugepool.proofs.Texts.{answered_text}
 use Rattle.hugepool.proofs.scheduling.run_schedule.Goals as goal

@@ -14,7 +14,7 @@ use Rattle.hp_replay.specs.Replaying.{AllRunWrites, RunWrites, nothing, so_far, 
 use Rattle.hp_replay.specs.Streams.{TellsReads, TellsWrites}
 use Rattle.hp_replay.specs.Traces.{trace_text}
 use Rattle.hp_replay.specs.Writing.{Wrote}
-use Rattle.hugepool.specs.Endings.{HoldsFront, CutShort, DidReplay}
+use Rattle.hp_program.specs.Endings.{HoldsFront, CutShort, DidReplay}
 
 -- an empty buffer adds nothing
 pub unbuffered : (known : Option (List ℕ)) → append_known known [] ≡ known

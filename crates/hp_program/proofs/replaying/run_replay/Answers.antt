@@ -1,8 +1,8 @@
 use Rattle.std.proofs.Common.{Bool, subst}
 use Rattle.std.specs.Io.Buffered.{writer_buffer}
 use Rattle.hp_replay.specs.Streams.{TellsWrites, has_failed}
-use Rattle.hugepool.proofs.Buffered.{opens, did_replay}
-use Rattle.hugepool.proofs.program.run_replay.Goals as goal
+use Rattle.hp_program.proofs.Buffered.{opens, did_replay}
+use Rattle.hp_program.proofs.replaying.run_replay.Goals as goal
 
 pub returns : goal.returns
 returns g c =

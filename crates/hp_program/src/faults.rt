@@ -1,0 +1,30 @@
+//! The lines of a fault.
+use hp_reasons::{Recalls, line_told};
+use hp_replay::ReplayFault;
+use std::io;
+use std::io::Write;
+
+/// Writes a fault in one line, and in a second one what is wrong with the line that is not allowed, where the reader recalls it.
+pub fn write_fault<R: Recalls>(
+    fault: ReplayFault,
+    reader: &R,
+    faults: &mut impl Write,
+) -> io::Result<()> {
+    writeln!(faults, "hugepool: {fault}")?;
+    let Some(number) = bad_line(fault) else {
+        return Ok(());
+    };
+    match line_told(reader, number) {
+        Some(told) => writeln!(faults, "hugepool: {told}"),
+        None => Ok(()),
+    }
+}
+
+// The number of the line that is not allowed, if the fault is one of a line.
+fn bad_line(fault: ReplayFault) -> Option<u64> {
+    match fault {
+        ReplayFault::BadHeader => Some(1),
+        ReplayFault::BadLine(number) => Some(u64::from(number)),
+        _ => None,
+    }
+}

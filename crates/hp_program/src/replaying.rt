@@ -1,0 +1,31 @@
+//! A replay to an output that is buffered.
+ghost use Rattle.std.specs.Option.{option_map};
+ghost use Rattle.hp_program.specs.Endings.{DidReplay};
+
+use crate::flushing::{flush_unless, flushed_answer};
+use hp_replay::{ReplayFault, Source, Watched, replay};
+use std::alloc::Global;
+use std::io::{BufWriter, Write};
+
+/// Replays the trace that the reader gives, and hands the output back, unless it went with a buffer for which there was no memory.
+///
+/// What was right before a fault is still written, but what a failed write leaves in the buffer is dropped.
+pub fn run_replay<R: Source, W: Write + Drop>(
+    alloc: Global,
+    reader: &mut R,
+    out: W,
+) -> (Result<(), ReplayFault>, Option<W>)
+    ensures { DidReplay result.0 (R.remaining reader.old) (R.remaining reader.new) (R.failed reader.old) (R.failed reader.new)
+        (W.contents out) (option_map W.contents result.1) }
+{
+    let Ok(buffered) = BufWriter::new(alloc, out) else {
+        return (Err(ReplayFault::Memory), None);
+    };
+    let mut sink = Watched::new(buffered);
+    let replayed = replay(alloc, reader, &mut sink);
+    let has_failed = sink.has_failed();
+    let mut buffered = sink.into_inner();
+    let flushed = flush_unless(has_failed, &mut buffered);
+    let (out, _left) = buffered.into_parts();
+    (flushed_answer(replayed, flushed), Some(out))
+}

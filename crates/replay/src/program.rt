@@ -1,0 +1,38 @@
+//! What the program does, over any streams.
+ghost use Rattle.std.specs.Prelude.{◌≡◌};
+ghost use Rattle.std.specs.Option.{option_map};
+ghost use Rattle.replay.specs.Status.{EndsWith, status_at};
+
+use hp_program::{run_replay, write_fault};
+use hp_reasons::Recalls;
+use hp_replay::{ReplayFault, Source};
+use std::alloc::Global;
+use std::io::Write;
+
+/// Replays a trace, and returns the status: 0 where the replay came to its end, 1 after a fault, whose lines are written on
+/// `faults`. The output is handed back, unless it went with a buffer for which there was no memory.
+pub(crate) fn program<R: Source + Recalls, W: Write + Drop>(
+    alloc: Global,
+    reader: &mut R,
+    out: W,
+    faults: &mut impl Write,
+) -> (u8, Option<W>)
+    ensures { EndsWith result.0 (R.remaining reader.old) (R.remaining reader.new) (R.failed reader.old) (R.failed reader.new)
+        (W.contents out) (option_map W.contents result.1) }
+{
+    let (answer, out) = run_replay(alloc, reader, out);
+    (end(answer, &*reader, faults), out)
+}
+
+// The status of an answer, whose fault is written. A failure to write it changes nothing.
+fn end<R: Recalls>(answer: Result<(), ReplayFault>, reader: &R, faults: &mut impl Write) -> u8
+    ensures { result ≡ status_at answer }
+{
+    match answer {
+        Ok(()) => 0,
+        Err(fault) => {
+            let _ = write_fault(fault, reader, faults);
+            1
+        }
+    }
+}

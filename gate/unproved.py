@@ -1,0 +1,101 @@
+#!/usr/bin/env python3
+"""Compares the programs that ./hugepool compiles without proof with the proved one, on each trace of examples/ and of the folders in it.
+
+A copy of the repository in which nothing is built compiles both through its launcher: the one that only replays, and the whole one. Output,
+status and, behind the line that says that nothing is proved yet, standard error have to be the same. A program that changes its output has to
+be noticed. It takes some 150 seconds of a processor, since both are compiled from nothing.
+"""
+from __future__ import annotations
+
+import os
+import shutil
+import subprocess
+import sys
+import tempfile
+from pathlib import Path
+from typing import Iterable, NamedTuple
+
+from scratch import TOP
+
+NOTICE = "hugepool: not proved yet: the same sources, compiled without proof; ./hugepool build proves them\n"
+LEFT_OUT = shutil.ignore_patterns("out", ".git", "target", "__pycache__")
+# a program that answers as the one beside it, but one word
+WRONG = """#!/bin/sh
+"$0.right" "$@" | sed 's/begun/began/'
+"""
+
+
+class Answer(NamedTuple):
+    """What a call wrote to both streams, and its status."""
+
+    out: str
+    err: str
+    status: int
+
+
+def answer(launcher: Path, command: str, trace: Path, **more: str) -> Answer:
+    own = {it: value for it, value in os.environ.items() if it != "HUGEPOOL"}
+    with open(trace, "rb") as read:
+        ran = subprocess.run([launcher, command], stdin=read, capture_output=True, text=True, env={**own, **more}, check=False)
+    return Answer(ran.stdout, ran.stderr, ran.returncode)
+
+
+def traces() -> list[Path]:
+    return sorted((TOP / "examples").rglob("*.trace"))
+
+
+def differences(copy: Path, command: str, proved: dict[Path, Answer]) -> list[str]:
+    """The traces on which the copy's unproved program answers otherwise than the proved one."""
+    found = []
+    for trace, wanted in proved.items():
+        if answer(copy / "hugepool", command, trace) != wanted._replace(err=NOTICE + wanted.err):
+            found.append(f"{command} < {trace.relative_to(TOP)}")
+    return found
+
+
+def compiled(copy: Path) -> list[str]:
+    """The crates whose unproved program the copy has."""
+    return sorted(it.parent.parent.name for it in copy.glob("crates/*/out/unproved"))
+
+
+def notices_wrong(copy: Path, proved: dict[Path, Answer]) -> bool:
+    """Whether a program that changes a word of its output is noticed on each trace that has that word."""
+    program = copy / "crates" / "hugepool" / "out" / "unproved"
+    right = program.with_name("unproved.right")
+    program.rename(right)
+    program.write_text(WRONG, encoding="utf-8")
+    program.chmod(0o755)
+    wrong = differences(copy, "replay", proved)
+    right.replace(program)
+    return len(wrong) == sum("begun" in it.out for it in proved.values()) > 0
+
+
+def tries(copy: Path) -> Iterable[tuple[str, bool]]:
+    """What is tried, and whether it went as it should."""
+    proved = {command: {it: answer(TOP / "hugepool", command, it, HUGEPOOL="proved") for it in traces()} for command in ("replay", "explain")}
+    yield "there are traces", len(proved["replay"]) > 0
+    first = answer(copy / "hugepool", "replay", traces()[0])
+    yield "the program that only replays is compiled first", compiled(copy) == ["replay"] and first.err.count(NOTICE) == 1
+    for it in differences(copy, "replay", proved["replay"]):
+        yield f"the program that only replays answers otherwise: {it}", False
+    answer(copy / "hugepool", "explain", traces()[0])
+    yield "another command compiles the whole program", compiled(copy) == ["hugepool", "replay"]
+    for command, answers in proved.items():
+        for it in differences(copy, command, answers):
+            yield f"the whole program answers otherwise: {it}", False
+        yield f"{command} was compared", True
+    yield "a wrong program is noticed", notices_wrong(copy, proved["replay"])
+
+
+def main() -> int:
+    with tempfile.TemporaryDirectory(prefix="unproved-") as room:
+        copy = Path(shutil.copytree(TOP, Path(room) / "copy", ignore=LEFT_OUT))
+        tried = list(tries(copy))
+    print("".join(f"  not so: {what}\n" for what, is_so in tried if not is_so), end="")
+    failed = sum(not is_so for _, is_so in tried)
+    print(f"unproved: {len(tried) - failed} passed, {failed} failed")
+    return 1 if failed else 0
+
+
+if __name__ == "__main__":
+    sys.exit(main())

@@ -1,0 +1,110 @@
+"""The files beside a program that ./hugepool runs: what it was built from, and a lock while it is being built.
+
+`PROGRAM.begun` lists the folders of sources that there were when the build began, and is as old as that: ./hugepool compares it with
+the sources as they are. It is there only where a build ended well.
+"""
+from __future__ import annotations
+
+import fcntl
+import os
+import signal
+import sys
+from contextlib import contextmanager
+from pathlib import Path
+from typing import Iterator
+
+TOP = Path(__file__).resolve().parent.parent
+INTERRUPTED, FAILED = 130, 126
+
+
+class BuildFailed(Exception):
+    """A build that failed. Its text says why."""
+
+
+class Interrupted(Exception):
+    """A signal asked the build to stop."""
+
+
+class Signals:
+    """The signals that ask a build to stop, SIGINT, SIGTERM and SIGHUP, also where the caller ignores them.
+
+    They are noted, and `look` raises them: it is called where every process that was begun is known to whoever has to end it. During a wait
+    in which there is no process, `raising` has them raised at once.
+    """
+
+    def __init__(self) -> None:
+        self.is_noted = self.is_raising = False
+
+    def catch(self) -> None:
+        for number in (signal.SIGINT, signal.SIGTERM, signal.SIGHUP):
+            signal.signal(number, self.note)
+
+    def note(self, _number: int, _frame: object) -> None:
+        self.is_noted = True
+        if self.is_raising:
+            raise Interrupted
+
+    def look(self) -> None:
+        if self.is_noted:
+            raise Interrupted
+
+    @contextmanager
+    def raising(self) -> Iterator[None]:
+        self.look()
+        self.is_raising = True
+        try:
+            yield
+        finally:
+            self.is_raising = False
+
+
+SIGNALS = Signals()
+
+
+def say(text: str) -> None:
+    print(f"hugepool: {text}", file=sys.stderr, flush=True)
+
+
+def marker_of(program: Path) -> Path:
+    return program.with_name(f"{program.name}.begun")
+
+
+def is_built_since(program: Path, moment: float) -> bool:
+    """Whether a build of the program ended well after this moment, in seconds of the clock."""
+    try:
+        return marker_of(program).stat().st_ctime > moment
+    except FileNotFoundError:
+        return False
+
+
+@contextmanager
+def alone(program: Path) -> Iterator[None]:
+    """Waits until no other call builds the program, and keeps others waiting while the block runs."""
+    program.parent.mkdir(parents=True, exist_ok=True)
+    with open(program.with_name(f"{program.name}.lock"), "w", encoding="utf-8") as lock:
+        try:
+            fcntl.flock(lock, fcntl.LOCK_EX | fcntl.LOCK_NB)
+        except BlockingIOError:
+            say(f"another call is building {program.name}; waiting for it")
+            with SIGNALS.raising():
+                fcntl.flock(lock, fcntl.LOCK_EX)
+        yield
+
+
+@contextmanager
+def marked(program: Path, sources: str) -> Iterator[None]:
+    """Marks the program as built from these sources where the block ends well. What is written meanwhile is newer than the mark."""
+    marker = marker_of(program)
+    beginning = marker.with_suffix(".next")
+    marker.unlink(missing_ok=True)
+    beginning.write_text(f"{sources}\n", encoding="utf-8")
+    try:
+        yield
+        beginning.replace(marker)
+    finally:
+        beginning.unlink(missing_ok=True)
+
+
+def look_again(words: list[str]) -> None:
+    """Begins anew with the launcher, which finds out whether what another call has built is current."""
+    os.execv(TOP / "hugepool", [str(TOP / "hugepool"), *words])

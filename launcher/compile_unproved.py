@@ -1,0 +1,131 @@
+#!/usr/bin/env python3
+"""Compiles a program without proof, keeps it, and runs it: what ./hugepool does where nothing was proved yet.
+
+usage: compile_unproved.py CRATE MOMENT SOURCES NOTICE [WORD ..]
+
+`rt try` compiles a program without proof, with checks at run time, runs it once and removes it. While the program runs, it lies in a
+folder below TMPDIR. A hard link to it, taken then, keeps it as out/unproved, so that a later call doesn't compile. The name of that file
+is not documented: where no such file is found, or it doesn't print what `rt try` printed, `rt try` itself runs the words.
+"""
+from __future__ import annotations
+
+import os
+import subprocess
+import sys
+import tempfile
+import time
+from pathlib import Path
+from typing import BinaryIO
+
+import building
+from building import BuildFailed, Interrupted, SIGNALS, TOP
+from progress import Line
+
+# processor seconds that each takes to compile, as measured
+SECONDS = {"replay": 25, "hugepool": 60}
+# what the program reads while it is looked for: a trace that it works on for a moment
+TRACE = b"pool 1 1 1 1\n" + 10_000 * b"step 1\n"
+PAUSE = 0.02
+
+
+def take(room: Path, to: Path) -> bool:
+    """Links the program that runs in the room, if there is one, and returns whether there was."""
+    for file in room.glob("*/*/program"):
+        to.unlink(missing_ok=True)
+        try:
+            os.link(file, to)
+        except OSError:
+            return False
+        return True
+    return False
+
+
+def follow(ran: subprocess.Popen, room: Path, to: Path, seconds: int) -> bool:
+    """Waits until `rt try` ends, shows how far it is, and returns whether the program that it ran was kept."""
+    began, line, is_taken = time.monotonic(), Line(), False
+    while ran.poll() is None:
+        SIGNALS.look()
+        is_taken = is_taken or take(room, to)
+        line.show(lambda: f"compiling without proof, {time.monotonic() - began:.0f} s so far; an idle processor takes {seconds} s")
+        time.sleep(PAUSE)
+    line.clear()
+    return is_taken
+
+
+def try_once(crate: str, words: list[str], room: Path, printed: BinaryIO, to: Path) -> bool:
+    """Has `rt try` compile the program and run it on the trace, and returns whether it was kept.
+
+    Besides the compiled program `rt try` has an interpreter; one step of that is enough here.
+    """
+    (room / "trace").write_bytes(TRACE)
+    how = {"cwd": TOP / "crates" / crate, "env": {**os.environ, "TMPDIR": str(room)}, "stdout": printed}
+    with open(room / "trace", "rb") as trace, open(room / "log", "w+", encoding="utf-8", errors="replace") as log:
+        ran = subprocess.Popen(["rt", "try", "--steps", "1", "--", *words], stdin=trace, stderr=log, **how)
+        try:
+            is_taken = follow(ran, room, to, SECONDS.get(crate, 100))
+        finally:
+            ran.terminate()
+            ran.wait()
+        log.seek(0)
+        said = log.read()
+    # (a signal may have ended it before this process)
+    SIGNALS.look()
+    if ran.returncode:
+        raise BuildFailed(f"{said}hugepool: the sources were refused")
+    return is_taken
+
+
+def prints_the_same(program: Path, words: list[str], printed: bytes) -> bool:
+    """Whether the kept program does on the trace what `rt try` showed."""
+    ran = subprocess.run([program, *words], input=TRACE, capture_output=True, check=False)
+    return (ran.returncode, ran.stdout) == (0, printed)
+
+
+def keep(crate: str, program: Path) -> bool:
+    """Compiles the program, and returns whether it could be kept."""
+    # (a program that only replays reads no words)
+    words = [] if crate == "replay" else ["replay"]
+    with tempfile.TemporaryDirectory(prefix="unproved-", dir=program.parent) as name:
+        new = Path(name) / "new"
+        with open(Path(name) / "printed", "w+b") as printed:
+            is_taken = try_once(crate, words, Path(name), printed, new)
+            printed.seek(0)
+            is_kept = is_taken and prints_the_same(new, words, printed.read())
+        if is_kept:
+            new.replace(program)
+    return is_kept
+
+
+class NotKept(Exception):
+    """The program was compiled, but can't be kept."""
+
+
+def build(crate: str, program: Path, moment: float, sources: str, words: list[str]) -> None:
+    with building.alone(program):
+        if building.is_built_since(program, moment):
+            building.look_again(words)
+        with building.marked(program, sources):
+            if not keep(crate, program):
+                raise NotKept
+
+
+def main(crate: str, moment: str, sources: str, notice: str, *words: str) -> int:
+    program = TOP / "crates" / crate / "out" / "unproved"
+    SIGNALS.catch()
+    try:
+        build(crate, program, float(moment), sources, list(words))
+    except Interrupted:
+        return building.INTERRUPTED
+    except BuildFailed as why:
+        print(why, file=sys.stderr)
+        return building.FAILED
+    except NotKept:
+        print(notice, file=sys.stderr, flush=True)
+        os.chdir(TOP / "crates" / "hugepool")
+        os.execvp("rt", ["rt", "try", "--", *words])
+    print(notice, file=sys.stderr, flush=True)
+    os.execv(program, [str(program), *words])
+
+
+if __name__ == "__main__":
+    sys.exit(main(*sys.argv[1:]))

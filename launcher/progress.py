@@ -1,0 +1,32 @@
+"""A line that shows how far a long task is."""
+from __future__ import annotations
+
+import sys
+import time
+from typing import Callable, TextIO
+
+# seconds between two lines: a terminal shows one line that changes, a log gets few
+ON_A_TERMINAL, IN_A_LOG = 1.0, 15.0
+
+
+class Line:
+    """On a terminal one line that changes in place; elsewhere a line each 15 seconds."""
+
+    def __init__(self, out: TextIO | None = None) -> None:
+        self.out = out or sys.stderr
+        self.is_terminal = self.out.isatty()
+        self.next = time.monotonic()
+
+    def show(self, text: Callable[[], str]) -> None:
+        """Shows the text, which isn't made where the last one was shown a moment ago."""
+        now = time.monotonic()
+        if now < self.next:
+            return
+        self.next = now + (ON_A_TERMINAL if self.is_terminal else IN_A_LOG)
+        start, end = ("\r\033[K", "") if self.is_terminal else ("", "\n")
+        print(f"{start}hugepool: {text()}", end=end, file=self.out, flush=True)
+
+    def clear(self) -> None:
+        """Leaves an empty line on a terminal, for what is printed next."""
+        if self.is_terminal:
+            print("\r\033[K", end="", file=self.out, flush=True)
