@@ -1,7 +1,6 @@
 //! Which lines a source that keeps what it gave last recalls, however it is read.
 use hp_reasons::{Recalling, Recalls};
 use hp_replay::Source;
-use std::fmt::Write;
 use std::test::Fail;
 
 #[test]

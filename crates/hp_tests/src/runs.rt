@@ -159,9 +159,11 @@ fn resized(alloc: Global, sizes: &[u32]) -> Result<Core, Fail> {
 // How many frames the picture of such a pool shows as free and as retired, where it passes the audit.
 fn free_and_retired(alloc: Global, sizes: &[u32]) -> Result<Option<(usize, usize)>, Fail> {
     let picture = pictured(&resized(alloc, sizes)?, alloc)?;
-    Ok(audit(&picture)
-        .ok()
-        .map(|()| (picture.free.len(), picture.retired.len())))
+    Ok(
+        audit(&picture)
+            .ok()
+            .map(|()| (picture.free.len(), picture.retired.len())),
+    )
 }
 
 #[test]

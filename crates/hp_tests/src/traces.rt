@@ -100,7 +100,11 @@ fn a_trace_has_one_text(rt: HostRuntime) -> Result<(), Fail> {
     ];
     has_events(&rt, &trace, events.as_slice());
     is_written(&rt, rt.alloc(), &trace, TRACE);
-    is_one_text(&rt, rt.alloc(), b"pool 1 1 1 1\nbegin 1 exit\ndeny 1\ndeny 1\n")?;
+    is_one_text(
+        &rt,
+        rt.alloc(),
+        b"pool 1 1 1 1\nbegin 1 exit\ndeny 1\ndeny 1\n",
+    )?;
     Ok(())
 }
 
