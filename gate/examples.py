@@ -34,7 +34,7 @@ PICTURES = TOP / "docs" / "pictures"
 SHOWN = ("TRACES.md",)
 RACES = 20
 # how the journal of a race is cut, or that it isn't
-CUTS = ([], ["--cut", "1"], ["--cut", "3"])
+CUTS: tuple[list[str], ...] = ([], *(["--cut", str(calls)] for calls in range(1, 7)))
 RACED = re.compile(r"run \d+ closed entries \d+ free \d+ resv \d+")
 
 
