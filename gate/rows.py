@@ -193,7 +193,10 @@ CHANGES: dict[str, tuple[Callable[[Ran], Ran], Callable[[Row], bool]]] = {
         lambda row: bool(row.stdout_starts or row.stdout_lines) or not row.is_partly_said(),
     ),
     "nothing on standard error": (lambda ran: ran._replace(err=""), lambda _: True),
-    "a line more on standard error": (lambda ran: ran._replace(err=ran.err + "hugepool: stuck\n"), lambda row: not row.stderr_starts),
+    "a line more on standard error": (
+        lambda ran: ran._replace(err=ran.err + "hugepool: stuck\n"),
+        lambda row: not row.stderr_starts,
+    ),
 }
 
 

@@ -238,31 +238,19 @@ fn changes_overlap(rt: HostRuntime) -> Result<(), AllocError> {
             Row::Tells(3, 1, 1, 1),
             Row::Commit(1),
             Row::Tells(4, 1, 0, 1),
-            Row::Copy,
-            Row::Tells(4, 1, 0, 1),
             Row::Region(0, Some((0, 4))),
-            Row::Missing(0, 8, 4),
-            Row::Seek(4, false, 1, 1),
-        ],
-    )
-}
-
-#[test]
-fn a_change_keeps_its_room(rt: HostRuntime) -> Result<(), AllocError> {
-    hold(
-        &rt,
-        rt.alloc(),
-        &[
-            Row::Change(0, 2, 2),
-            Row::Change(1, 4, 3),
-            Row::Commit(3),
-            Row::Commit(1),
+            Row::Copy,
             Row::Kept(9, 10, Ok(1)),
             Row::Kept(11, 12, Err(ChangeFault::Denied)),
             Row::Remove(false, 2, Err(DelFault::Denied)),
             Row::Abort,
             Row::Remove(false, 2, Ok(1)),
             Row::Tells(3, 2, 0, 0),
+            Row::Region(0, Some((0, 2))),
+            Row::Region(1, Some((3, 4))),
+            Row::Remove(false, 1, Ok(1)),
+            Row::Tail(1, 1),
+            Row::Region(0, Some((0, 1))),
         ],
     )
 }
