@@ -163,13 +163,14 @@ def run(program: Path, words: str, row: Row, room: int | None) -> Ran:
 
 def rooms(row: Row, most: int) -> list[int]:
     """For how many bytes of an output of this length there is room; a negative number counts from the end."""
-    if isinstance(row.room, list):
-        return [it if it >= 0 else most + it for it in row.room]
-    return list(range(most))
+    if row.room == "every":
+        return list(range(most))
+    return [it if it >= 0 else most + it for it in row.room or []]
 
 
 def front_fault(program: Path, words: str, row: Row) -> str | None:
     """What is wrong where an output has room for a part of what is written: as much of it, and the fault, has to come."""
+    assert row.room == "every" or isinstance(row.room, list), f"{row.name}: no room is {row.room}"
     whole = (row.stdout if row.stdout is not None else run(program, words, row, None).out).encode()
     for room in rooms(row, len(whole)):
         front = replace(row, stdout=whole[:room].decode(errors="replace"))
