@@ -85,6 +85,13 @@ def picture_difference(picture: Path) -> str | None:
     return None if printed == told else first_difference(printed.split("\n"), told.split("\n"))
 
 
+def unlisted(text: str) -> list[str]:
+    """The traces and scripts whose names stand in no row of the tables of examples/README.md (those of needed/ have a page of their own)."""
+    listed = set(re.findall(r"^\| `([\w-]+)` \|", text, re.MULTILINE))
+    found = names("*.trace") | names("*.script")
+    return [f"examples/README.md doesn't list {it}" for it in sorted(found) if Path(it).name not in listed and not it.startswith("needed/")]
+
+
 def blocks(text: str) -> list[tuple[list[str], list[str]]]:
     """The words behind each `#`, and the lines below them."""
     found: list[tuple[list[str], list[str]]] = []
@@ -260,27 +267,35 @@ def golden_unnoticed() -> Iterator[tuple[str, bool]]:
     PROGRAM = right
 
 
+def unlisted_noticed(text: str) -> Iterator[tuple[str, bool]]:
+    """Whether a trace that no table lists is noticed."""
+    yield "a trace that no table lists is noticed", len(unlisted(text.replace("`place-denied`", ""))) == len(unlisted(text)) + 1
+
+
 def main() -> int:
     # (the first call builds the program, which proves it; an unproved one isn't asked)
     os.environ["HUGEPOOL"] = "proved"
     program = built("hugepool")
-    traces, faults = compared(".trace", ".out", difference)
-    scripts, more = compared(".script", ".lines", script_difference)
-    faults += more
-    explained, more = compared(".trace", ".explained", explained_difference, each=False)
-    faults += more
-    pictures, more = drawn()
-    faults += more
-    commands, more = shown()
-    faults += more
-    done, more = rows.compared(program, COMMANDS)
-    faults += more
-    tried = [*unnoticed("truncate-overtakes-a-store"), *golden_unnoticed(), *rows.noticed(program, COMMANDS)]
+    listing = (FOLDER / "README.md").read_text(encoding="utf-8")
+    looked = {
+        "traces": compared(".trace", ".out", difference),
+        "scripts": compared(".script", ".lines", script_difference),
+        "explanations": compared(".trace", ".explained", explained_difference, each=False),
+        "pictures": drawn(),
+        "commands": shown(),
+        "rows": rows.compared(program, COMMANDS),
+    }
+    tried = [
+        *unnoticed("truncate-overtakes-a-store"),
+        *golden_unnoticed(),
+        *unlisted_noticed(listing),
+        *rows.noticed(program, COMMANDS),
+    ]
+    faults = [it for _, found in looked.values() for it in found] + unlisted(listing)
     faults += [f"not so: {what}" for what, is_so in tried if not is_so]
-    found = {"traces": traces, "scripts": scripts, "explanations": explained, "pictures": pictures, "commands": commands, "rows": done}
-    faults += [f"there are no {what}" for what, many in found.items() if not many]
+    faults += [f"there are no {what}" for what, (many, _) in looked.items() if not many]
     print("".join(f"  {it}\n" for it in faults), end="")
-    passed = sum(found.values()) + sum(is_so for _, is_so in tried)
+    passed = sum(many for many, _ in looked.values()) + sum(is_so for _, is_so in tried)
     print(f"examples: {passed} passed, {len(faults)} failed")
     return 1 if faults else 0
 
