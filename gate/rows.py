@@ -19,7 +19,7 @@ from pathlib import Path
 from typing import IO, Callable, Iterator, NamedTuple
 
 # a run that takes longer hangs
-SECONDS = 120
+SECONDS = 600
 # `LINE x12` stands for twelve lines
 REPEATED = re.compile(r"^(.*) x(\d+)$", re.MULTILINE)
 
