@@ -3,7 +3,8 @@
 
 Where NAME.explained stands beside it too, it is what is written where the trace is explained. Each picture docs/pictures/NAME.svg
 is what is drawn of the trace NAME.
-What is complained is compared with NAME.err, and the status with NAME.status; without these files, with nothing and 0.
+What is complained is compared with NAME.err, and the status with NAME.status; without these files, with nothing and 0. Each row of
+examples/commands/ is run (rows.py), on streams that fail, too.
 Each script is explored by the words behind each `#` of the file NAME.lines beside it, and its lines are compared with those
 below the words; and the schedule of each first run is replayed, and ends with the counts of that run's line. Each script is
 raced some times in threads, too, whole and in parts: every race has to be closed. At last each `$` line of docs/TRACES.md is run
@@ -12,6 +13,7 @@ be noticed.
 """
 from __future__ import annotations
 
+import os
 import re
 import subprocess
 import sys
@@ -19,30 +21,26 @@ import tempfile
 from pathlib import Path
 from typing import Callable, Iterator
 
+import rows
 from programs import built
+from rows import first_difference
 from scratch import TOP
 
 PROGRAM = TOP / "hugepool"
 FOLDER = TOP / "examples"
+COMMANDS = FOLDER / "commands"
 PICTURES = TOP / "docs" / "pictures"
 # the documents whose commands are run
 SHOWN = ("TRACES.md",)
 RACES = 20
 # how the journal of a race is cut, or that it isn't
-CUTS = ([], ["--cut", "1"], ["--cut", "3"])
+CUTS: tuple[list[str], ...] = ([], *(["--cut", str(calls)] for calls in range(1, 7)))
 RACED = re.compile(r"run \d+ closed entries \d+ free \d+ resv \d+")
 
 
 def names(pattern: str) -> set[str]:
     """The files of this kind, without their endings."""
     return {str(file.relative_to(FOLDER).with_suffix("")) for file in FOLDER.rglob(pattern)}
-
-
-def first_difference(printed: list[str], wanted: list[str]) -> str:
-    """The first line that differs, and how."""
-    at = next((k for k, (a, b) in enumerate(zip(printed, wanted)) if a != b), min(len(printed), len(wanted)))
-    of = lambda lines: repr(lines[at]) if at < len(lines) else "nothing"
-    return f"line {at + 1}: {of(printed)}, and not {of(wanted)}"
 
 
 def wanted(name: str, ending: str, otherwise: str) -> str:
@@ -85,6 +83,13 @@ def picture_difference(picture: Path) -> str | None:
     printed = output(["draw"], (FOLDER / f"{picture.stem}.trace").read_bytes())
     told = picture.read_text(encoding="utf-8")
     return None if printed == told else first_difference(printed.split("\n"), told.split("\n"))
+
+
+def unlisted(text: str) -> list[str]:
+    """The traces and scripts whose names stand in no row of the tables of examples/README.md (those of needed/ have a page of their own)."""
+    listed = set(re.findall(r"^\| `([\w-]+)` \|", text, re.MULTILINE))
+    found = names("*.trace") | names("*.script")
+    return [f"examples/README.md doesn't list {it}" for it in sorted(found) if Path(it).name not in listed and not it.startswith("needed/")]
 
 
 def blocks(text: str) -> list[tuple[list[str], list[str]]]:
@@ -197,8 +202,10 @@ sys.exit(int(status))
 """
 # what each does, and to which commands: others don't look at it
 CHANGES = {
+    "loses its first line": ('out = out[out.find("\\n") + 1:]', ("replay", "explain", "draw", "race")),
     "loses its last line": ('out = out[:out.rstrip("\\n").rfind("\\n") + 1]', ("replay", "explain", "draw", "race")),
     "writes one line more": ('out += "\\n"', ("replay", "explain", "draw", "race")),
+    "writes one byte more": ('out += " "', ("replay", "explain", "draw", "race")),
     "complains": ('err += "hugepool: stuck\\n"', ("replay",)),
     "ends with another status": ("status = 1 - int(status)", ("replay", "race")),
     "tells a race as astray": ('out = out.replace("run 7 closed", "run 7 astray")', ("race",)),
@@ -246,23 +253,49 @@ def unnoticed(name: str) -> Iterator[tuple[str, bool]]:
         yield f"{command!r} telling {lines}", (session_difference(command, lines) is None) == is_so
 
 
+def golden_unnoticed() -> Iterator[tuple[str, bool]]:
+    """Whether a wrong program is noticed by each trace of scenarios/: one that loses the first line of what it prints."""
+    global PROGRAM
+    right = PROGRAM
+    with tempfile.TemporaryDirectory(prefix="examples-") as folder:
+        PROGRAM = Path(folder) / "wrong"
+        change, _ = CHANGES["loses its first line"]
+        PROGRAM.write_text(WRONG.format(folder=str(FOLDER), change=change), encoding="utf-8")
+        PROGRAM.chmod(0o755)
+        for name in sorted(it for it in names("*.trace") if it.startswith("scenarios/")):
+            yield f"a replay of {name} that loses its first line is noticed", notices(lambda: difference(name))
+    PROGRAM = right
+
+
+def unlisted_noticed(text: str) -> Iterator[tuple[str, bool]]:
+    """Whether a trace that no table lists is noticed."""
+    yield "a trace that no table lists is noticed", len(unlisted(text.replace("`place-denied`", ""))) == len(unlisted(text)) + 1
+
+
 def main() -> int:
-    built("hugepool")
-    traces, faults = compared(".trace", ".out", difference)
-    scripts, more = compared(".script", ".lines", script_difference)
-    faults += more
-    explained, more = compared(".trace", ".explained", explained_difference, each=False)
-    faults += more
-    pictures, more = drawn()
-    faults += more
-    commands, more = shown()
-    faults += more
-    tried = list(unnoticed("truncate-overtakes-a-store"))
+    # (the first call builds the program, which proves it; an unproved one isn't asked)
+    os.environ["HUGEPOOL"] = "proved"
+    program = built("hugepool")
+    listing = (FOLDER / "README.md").read_text(encoding="utf-8")
+    looked = {
+        "traces": compared(".trace", ".out", difference),
+        "scripts": compared(".script", ".lines", script_difference),
+        "explanations": compared(".trace", ".explained", explained_difference, each=False),
+        "pictures": drawn(),
+        "commands": shown(),
+        "rows": rows.compared(program, COMMANDS),
+    }
+    tried = [
+        *unnoticed("truncate-overtakes-a-store"),
+        *golden_unnoticed(),
+        *unlisted_noticed(listing),
+        *rows.noticed(program, COMMANDS),
+    ]
+    faults = [it for _, found in looked.values() for it in found] + unlisted(listing)
     faults += [f"not so: {what}" for what, is_so in tried if not is_so]
-    found = {"traces": traces, "scripts": scripts, "explanations": explained, "pictures": pictures, "commands": commands}
-    faults += [f"there are no {what}" for what, many in found.items() if not many]
+    faults += [f"there are no {what}" for what, (many, _) in looked.items() if not many]
     print("".join(f"  {it}\n" for it in faults), end="")
-    passed = sum(found.values()) + sum(is_so for _, is_so in tried)
+    passed = sum(many for many, _ in looked.values()) + sum(is_so for _, is_so in tried)
     print(f"examples: {passed} passed, {len(faults)} failed")
     return 1 if faults else 0
 

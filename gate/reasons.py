@@ -28,6 +28,49 @@ LINES = {
     "begin 1 exit": "an exit",
 }
 
+# lines behind a header, and headers, and what is to be said of each
+SAID = [
+    ("begin 1 map 0 0 4294967296", "4294967296 is above 4294967295"),
+    ("step 1\r", "a line ends with a carriage return"),
+    ("begin 1 alloc 0", "there are 4 words, an alloc has 6"),
+    ("begin 1 store 0 18446744073709551616", "18446744073709551616 is above 18446744073709551615"),
+    ("begin 1 store 0", "there are 4 words, a store has 5"),
+    ("begin 1", "there are 2 words, a begin has 3 or more"),
+    ("begin one exit", "one is no number"),
+    ("begin 1 exit 1", "there are 4 words, an exit has 3"),
+    ("begin 1 mmap 0 0 1", "no call is called mmap"),
+    ("stop 1", "no event is called stop"),
+    ("step 01", "01 begins with a zero"),
+    ("step -1", "-1 is no number"),
+    ("step  1", "one space parts two words, and none stands elsewhere"),
+    ("step 1 ", "one space parts two words, and none stands elsewhere"),
+    ("", "a line is empty"),
+    ("step\t1", "a byte 9 stands in no line"),
+    ("resize", "there are 1 words, a resize has 2"),
+    ("begin 1 map 0 0", "there are 5 words, a map has 6"),
+    ("begin 1 mapn 0 0", "there are 5 words, a mapn has 6"),
+    ("begin 1 alloc 0 0", "there are 5 words, an alloc has 6"),
+    ("begin 1 allock 0 0", "there are 5 words, an allock has 6"),
+    ("begin 1 punch 0 0", "there are 5 words, a punch has 6"),
+    ("begin 1 trunc 0", "there are 4 words, a trunc has 5"),
+    ("begin 1 trunc 0 01", "01 begins with a zero"),
+    ("begin 1 load", "there are 3 words, a load has 4"),
+    ("begin 1 unmap", "there are 3 words, an unmap has 4"),
+    ("step", "there are 1 words, a step has 2"),
+    ("deny", "there are 1 words, a deny has 2"),
+    ("kill", "there are 1 words, a kill has 2"),
+]
+SAID_OF_HEADERS = [
+    ("pool 0 1 1 1", "there are 0 frames, a pool has 1 to 4096"),
+    ("pool 4 17 1 1", "there are 17 files, a pool has 1 to 16"),
+    ("pool 4 1 65 1", "there are 65 slots, a pool has 1 to 64"),
+    ("pool 4 1 4 99", "there are 99 tasks, a pool has 1 to 64"),
+    ("pool 4 1 4 1 65537", "there are 65537 pages of a quota, a pool has 0 to 65536"),
+    ("pool 4 1 4", "there are 4 words, a header has 5, or 6 with a quota"),
+    ("step 1", "a header begins with pool, and not with step"),
+    ("pool 4 1 4 x", "x is no number"),
+]
+
 
 def wrong_fields(line: str, what: str) -> Iterator[tuple[str, str]]:
     """The line with one field wrong, or one too many or too few, and what is to be said of it."""
@@ -64,7 +107,15 @@ def told(program: Path, trace: bytes, command: str = "check") -> tuple[int, byte
 def said_of(number: int, line: str, why: str) -> tuple[int, bytes, bytes]:
     """What comes of a trace whose line of this number is wrong."""
     where = "line 1 is not a pool header" if number == 1 else f"line {number} is not allowed here"
-    return 1, b"", f'hugepool: {where}\nhugepool: {why}: "{line}"\n'.encode()
+    shown = line.replace("\t", "\\t").replace("\r", "\\r")
+    return 1, b"", f'hugepool: {where}\nhugepool: {why}{f": {chr(34)}{shown}{chr(34)}" if line else ""}\n'.encode()
+
+
+def long_lines(program: Path) -> Iterator[tuple[str, bool]]:
+    """Lines of more bytes than any event has: the first 56 of them are shown."""
+    for line in ("a" * 57, "begin 1 store 0 " + "0" * 42 + "1234", "begin 1 store 0 " + "0" * 41 + "1"):
+        front = f'hugepool: line 2 is not allowed here\nhugepool: a line has 56 bytes at most: "{line[:56]}"..\n'.encode()
+        yield f"{line!r} is too long", told(program, f"{HEADER}\n{line}\n".encode()) == (1, b"", front)
 
 
 def tries(program: Path) -> Iterator[tuple[str, bool]]:
@@ -73,12 +124,18 @@ def tries(program: Path) -> Iterator[tuple[str, bool]]:
         yield f"{line!r} is right", told(program, f"{HEADER}\n{line}\n".encode()) == (0, b"events 1\n", b"")
         for wrong, why in wrong_fields(line, what):
             yield f"of {wrong!r} it is said that {why}", told(program, f"{HEADER}\n{wrong}\n".encode()) == said_of(2, wrong, why)
-    for wrong, why in wrong_headers():
+    for wrong, why in SAID:
+        yield f"of {wrong!r} it is said that {why}", told(program, f"{HEADER}\n{wrong}\n".encode()) == said_of(2, wrong, why)
+    for wrong, why in [*wrong_headers(), *SAID_OF_HEADERS]:
         yield f"of {wrong!r} it is said that {why}", told(program, f"{wrong}\n".encode()) == said_of(1, wrong, why)
     for byte in (0, 9, 31, 127, 128, 255):
         shown = {9: "\\t"}.get(byte, f"\\x{byte:02x}")
         wrong = told(program, f"{HEADER}\n".encode() + b"step " + bytes([byte]) + b"\n")
         yield f"byte {byte} is shown", wrong == said_of(2, f"step {shown}", f"a byte {byte} stands in no line")
+    yield "an empty trace", told(program, b"") == said_of(1, "", "there is nothing to read")
+    cut = told(program, f"{HEADER}\nstep 1".encode())
+    yield "a line without its end", cut == said_of(2, "step 1", "the last line has no end")
+    yield from long_lines(program)
     for line, what in LINES.items():
         if not line.startswith("begin"):
             script = told(program, f"{HEADER}\n{line}\n".encode(), "schedule")

@@ -1,18 +1,32 @@
-//! Sound pictures, pictures with one thing wrong each, and the texts of the findings.
+//! Pictures, each by what is changed in a sound one, and what an audit of it answers; the texts of the findings.
 use crate::texts::each_reads;
 use hp_audit::{FilePicture, Finding, Picture, audit};
 use hp_base::{File, Frame, Index, Task};
 use std::alloc::{AllocError, Global};
 use std::process::Abort;
 
-// The range [from, to) of indices.
-fn range(from: u32, to: u32) -> (Index, Index) {
-    (Index::new(from), Index::new(to))
-}
-
-// An index, and the frame of its page.
-fn page(index: u32, frame: u32) -> (Index, Frame) {
-    (Index::new(index), Frame::new(frame))
+/// What is changed in a picture of one file.
+#[derive(Drop)]
+enum Change {
+    /// One more frame is free.
+    Free(u32),
+    /// One more frame is retired.
+    Retired(u32),
+    /// One more frame is in a hand.
+    Hand(u32),
+    /// The reserve count, and what calls in flight owe to it.
+    Resv(u32, i64),
+    /// The used count, and what calls in flight owe to it.
+    Used(u32, i64),
+    Quota(u32),
+    /// One more range of indices is reserved.
+    Region(u32, u32),
+    /// One more page: its index and its frame.
+    Page(u32, u32),
+    /// The file's size, and whether it is locked.
+    Size(u32, bool),
+    /// The one translation: its file, its index and its frame.
+    Translation(u32, u32, u32),
 }
 
 // A translation of task 1.
@@ -30,13 +44,13 @@ fn file_of_one(alloc: Global) -> Result<FilePicture, AllocError> {
     Ok(FilePicture {
         size: 1,
         locked: false,
-        regions: vec![in alloc; range(0, 1)]?,
-        pages: vec![in alloc; page(0, 1)]?,
+        regions: vec![in alloc; (Index::new(0), Index::new(1))]?,
+        pages: vec![in alloc; (Index::new(0), Frame::new(1))]?,
     })
 }
 
-// A picture with that file, whose page task 1 translates. Frame 0 is free, and no frame is retired.
-fn picture_of(alloc: Global, file: FilePicture) -> Result<Picture, AllocError> {
+// A picture of that file, whose page task 1 translates, with nothing wrong. Frame 0 is free, and no frame is retired.
+fn sound(alloc: Global) -> Result<Picture, AllocError> {
     Ok(Picture {
         free: vec![in alloc; Frame::new(0)]?,
         retired: Vec::new(alloc),
@@ -46,209 +60,208 @@ fn picture_of(alloc: Global, file: FilePicture) -> Result<Picture, AllocError> {
         used_owed: 0,
         quota: None,
         hands: Vec::new(alloc),
-        files: vec![in alloc; file]?,
+        files: vec![in alloc; file_of_one(alloc)?]?,
         tables: vec![in alloc; translation(0, 0, 1)]?,
     })
 }
 
-// A picture of the file of one page, with nothing wrong.
-fn sound(alloc: Global) -> Result<Picture, AllocError> {
-    picture_of(alloc, file_of_one(alloc)?)
+fn change_file(file: &mut FilePicture, change: &Change) -> Result<(), AllocError> {
+    match change {
+        Change::Region(from, to) => file.regions.push((Index::new(*from), Index::new(*to)))?,
+        Change::Page(index, frame) => file.pages.push((Index::new(*index), Frame::new(*frame)))?,
+        Change::Size(size, locked) => {
+            file.size = *size;
+            file.locked = *locked;
+        }
+        _ => {}
+    }
+    Ok(())
 }
 
-// The sound picture with another translation.
-fn translating(alloc: Global, file: u32, index: u32, frame: u32) -> Result<Picture, AllocError> {
+fn change_counts(picture: &mut Picture, change: &Change) {
+    match change {
+        Change::Resv(resv, owed) => {
+            picture.resv = *resv;
+            picture.owed = *owed;
+        }
+        Change::Used(used, owed) => {
+            picture.used = *used;
+            picture.used_owed = *owed;
+        }
+        Change::Quota(quota) => picture.quota = Some(*quota),
+        _ => {}
+    }
+}
+
+fn change_frames(picture: &mut Picture, change: &Change) -> Result<(), AllocError> {
+    match change {
+        Change::Free(frame) => picture.free.push(Frame::new(*frame))?,
+        Change::Retired(frame) => picture.retired.push(Frame::new(*frame))?,
+        Change::Hand(frame) => picture.hands.push(Frame::new(*frame))?,
+        Change::Translation(file, index, frame) => {
+            picture.tables.clear();
+            picture.tables.push(translation(*file, *index, *frame))?;
+        }
+        _ => {}
+    }
+    Ok(())
+}
+
+// The sound picture with these changes.
+fn changed(alloc: Global, changes: &[Change]) -> Result<Picture, AllocError> {
     let mut picture = sound(alloc)?;
-    picture.tables = vec![in alloc; translation(file, index, frame)]?;
-    Ok(picture)
-}
-
-// The sound picture with one range more.
-fn reserving(alloc: Global, from: u32, to: u32) -> Result<Picture, AllocError> {
-    let mut file = file_of_one(alloc)?;
-    file.regions.push(range(from, to))?;
-    picture_of(alloc, file)
-}
-
-// The sound picture with retired frames.
-fn retiring(alloc: Global, frames: &[u32]) -> Result<Picture, AllocError> {
-    let mut picture = sound(alloc)?;
-    for frame in frames {
-        picture.retired.push(Frame::new(*frame))?;
+    for change in changes {
+        for file in picture.files.iter_mut() {
+            change_file(file, change)?;
+        }
+        change_counts(&mut picture, change);
+        change_frames(&mut picture, change)?;
     }
     Ok(picture)
 }
 
-/// Asserts what an audit of a picture answers.
-fn answers(rt: &impl Abort, picture: &Picture, answer: Result<(), Finding>) {
+/// Asserts what an audit answers, and whether a picture is the sound one.
+fn answers(
+    rt: &impl Abort,
+    picture: &Picture,
+    sound: &Picture,
+    is_sound: bool,
+    answer: Result<(), Finding>,
+) {
     assert_eq!(rt; audit(picture), answer);
+    assert_eq!(rt; *picture == *sound, is_sound);
 }
 
-/// Asserts whether a picture is the sound one.
-fn is_sound(rt: &impl Abort, alloc: Global, other: &Picture, same: bool) -> Result<(), AllocError> {
-    let picture = sound(alloc)?;
-    assert_eq!(rt; picture == *other, same);
+/// Asserts what an audit of the sound picture with these changes answers.
+fn finds(
+    rt: &impl Abort,
+    alloc: Global,
+    changes: &[Change],
+    answer: Result<(), Finding>,
+) -> Result<(), AllocError> {
+    let picture = changed(alloc, changes)?;
+    let sound = sound(alloc)?;
+    answers(rt, &picture, &sound, changes.is_empty(), answer);
     Ok(())
 }
 
-#[test]
-fn a_sound_picture(rt: HostRuntime) -> Result<(), AllocError> {
-    let picture = sound(rt.alloc())?;
-    answers(&rt, &picture, Ok(()));
-    is_sound(&rt, rt.alloc(), &picture, true)
-}
-
-#[test]
-fn pictures_with_other_counts_differ(rt: HostRuntime) -> Result<(), AllocError> {
-    for (resv, used, used_owed, quota) in [
-        (1, 1, 0, None),
-        (0, 2, 0, None),
-        (0, 1, 1, None),
-        (0, 1, 0, Some(0)),
-    ] {
-        let mut other = sound(rt.alloc())?;
-        other.resv = resv;
-        other.used = used;
-        other.used_owed = used_owed;
-        other.quota = quota;
-        is_sound(&rt, rt.alloc(), &other, false)?;
+/// Asserts that an audit finds this in each picture.
+fn each_has(
+    rt: &impl Abort,
+    alloc: Global,
+    answer: Result<(), Finding>,
+    pictures: &[&[Change]],
+) -> Result<(), AllocError> {
+    for changes in pictures {
+        finds(rt, alloc, changes, answer)?;
     }
     Ok(())
 }
 
 #[test]
-fn a_picture_with_a_retired_frame_differs(rt: HostRuntime) -> Result<(), AllocError> {
-    is_sound(&rt, rt.alloc(), &retiring(rt.alloc(), &[2])?, false)
+fn sound_pictures(rt: HostRuntime) -> Result<(), AllocError> {
+    each_has(
+        &rt,
+        rt.alloc(),
+        Ok(()),
+        &[
+            &[],
+            &[Change::Retired(2)],
+            &[Change::Size(0, true)],
+            &[Change::Resv(1, 1)],
+            // The ranges reserve three indices, of which one has its page.
+            &[
+                Change::Region(0, 3),
+                Change::Resv(1, -1),
+                Change::Used(3, 0),
+            ],
+            &[Change::Used(2, 1)],
+            &[Change::Quota(1)],
+        ],
+    )
 }
 
 #[test]
-fn shapes_of_translations(rt: HostRuntime) -> Result<(), AllocError> {
-    let past_limit = translating(rt.alloc(), 0, 4096, 1)?;
-    answers(&rt, &past_limit, Err(Finding::Shape));
-    let no_file = translating(rt.alloc(), 1, 0, 1)?;
-    answers(&rt, &no_file, Err(Finding::Shape));
-    Ok(())
+fn numbers_out_of_bounds(rt: HostRuntime) -> Result<(), AllocError> {
+    each_has(
+        &rt,
+        rt.alloc(),
+        Err(Finding::Shape),
+        &[
+            &[Change::Translation(0, 4096, 1)],
+            &[Change::Translation(1, 0, 1)],
+            &[Change::Page(0, 2)],
+            &[Change::Region(1, 0)],
+            &[Change::Region(1, 4097)],
+        ],
+    )
 }
 
 #[test]
-fn shapes_of_pages(rt: HostRuntime) -> Result<(), AllocError> {
-    let mut file = file_of_one(rt.alloc())?;
-    file.pages.push(page(0, 2))?;
-    answers(&rt, &picture_of(rt.alloc(), file)?, Err(Finding::Shape));
-    Ok(())
+fn frames_at_two_places(rt: HostRuntime) -> Result<(), AllocError> {
+    each_has(
+        &rt,
+        rt.alloc(),
+        Err(Finding::Place),
+        &[
+            &[Change::Free(1)],
+            &[Change::Hand(0)],
+            // Frame 0 is free, frame 1 is a page, and frame 2 is in a hand.
+            &[Change::Retired(0), Change::Hand(2)],
+            &[Change::Retired(1), Change::Hand(2)],
+            &[Change::Retired(2), Change::Hand(2)],
+            &[Change::Retired(2), Change::Retired(2)],
+        ],
+    )
 }
 
 #[test]
-fn shapes_of_regions(rt: HostRuntime) -> Result<(), AllocError> {
-    answers(&rt, &reserving(rt.alloc(), 1, 0)?, Err(Finding::Shape));
-    answers(&rt, &reserving(rt.alloc(), 1, 4097)?, Err(Finding::Shape));
-    Ok(())
-}
-
-#[test]
-fn a_translation_to_another_frame(rt: HostRuntime) -> Result<(), AllocError> {
-    answers(&rt, &translating(rt.alloc(), 0, 0, 0)?, Err(Finding::Agree));
-    Ok(())
-}
-
-#[test]
-fn a_frame_at_two_places(rt: HostRuntime) -> Result<(), AllocError> {
-    let mut picture = sound(rt.alloc())?;
-    picture.free.push(Frame::new(1))?;
-    answers(&rt, &picture, Err(Finding::Place));
-    let mut picture = sound(rt.alloc())?;
-    picture.hands.push(Frame::new(0))?;
-    answers(&rt, &picture, Err(Finding::Place));
-    Ok(())
-}
-
-#[test]
-fn a_retired_frame_at_no_other_place(rt: HostRuntime) -> Result<(), AllocError> {
-    answers(&rt, &retiring(rt.alloc(), &[2])?, Ok(()));
-    Ok(())
-}
-
-#[test]
-fn a_retired_frame_at_two_places(rt: HostRuntime) -> Result<(), AllocError> {
-    // Frame 0 is free, frame 1 is a page, and frame 2 is in a hand.
-    for frame in 0..3 {
-        let mut picture = retiring(rt.alloc(), &[frame])?;
-        picture.hands.push(Frame::new(2))?;
-        answers(&rt, &picture, Err(Finding::Place));
-    }
-    Ok(())
-}
-
-#[test]
-fn a_retired_frame_listed_twice(rt: HostRuntime) -> Result<(), AllocError> {
-    answers(&rt, &retiring(rt.alloc(), &[2, 2])?, Err(Finding::Place));
-    Ok(())
-}
-
-#[test]
-fn a_translation_past_the_size(rt: HostRuntime) -> Result<(), AllocError> {
-    let mut file = file_of_one(rt.alloc())?;
-    file.size = 0;
-    let mut picture = picture_of(rt.alloc(), file)?;
-    answers(&rt, &picture, Err(Finding::Size));
-    let mut file = file_of_one(rt.alloc())?;
-    file.size = 0;
-    file.locked = true;
-    picture.files = vec![in rt.alloc(); file]?;
-    answers(&rt, &picture, Ok(()));
-    Ok(())
+fn translations_that_disagree(rt: HostRuntime) -> Result<(), AllocError> {
+    let alloc = rt.alloc();
+    finds(
+        &rt,
+        alloc,
+        &[Change::Translation(0, 0, 0)],
+        Err(Finding::Agree),
+    )?;
+    finds(&rt, alloc, &[Change::Size(0, false)], Err(Finding::Size))
 }
 
 #[test]
 fn reserve_counts(rt: HostRuntime) -> Result<(), AllocError> {
-    let mut picture = sound(rt.alloc())?;
-    picture.resv = 1;
-    answers(&rt, &picture, Err(Finding::Count));
-    picture.owed = 1;
-    answers(&rt, &picture, Ok(()));
-    Ok(())
-}
-
-#[test]
-fn reserve_counts_of_ranges_that_overlap(rt: HostRuntime) -> Result<(), AllocError> {
-    // They reserve three indices, of which one has its page.
-    let mut picture = reserving(rt.alloc(), 0, 3)?;
-    picture.resv = 1;
-    picture.owed = -1;
-    picture.used = 3;
-    answers(&rt, &picture, Ok(()));
-    // One frame is free, so that two can't be reserved.
-    picture.resv = 2;
-    picture.owed = 0;
-    answers(&rt, &picture, Err(Finding::Count));
-    // A retired frame isn't free.
-    picture.retired.push(Frame::new(2))?;
-    answers(&rt, &picture, Err(Finding::Count));
-    Ok(())
+    each_has(
+        &rt,
+        rt.alloc(),
+        Err(Finding::Count),
+        &[
+            &[Change::Resv(1, 0)],
+            // One frame is free, so that two can't be reserved.
+            &[Change::Region(0, 3), Change::Resv(2, 0), Change::Used(3, 0)],
+            // A retired frame isn't free.
+            &[
+                Change::Region(0, 3),
+                Change::Resv(2, 0),
+                Change::Used(3, 0),
+                Change::Retired(2),
+            ],
+            // Where both counts are wrong, the reserve count is told.
+            &[Change::Used(2, 0), Change::Resv(1, 0)],
+        ],
+    )
 }
 
 #[test]
 fn used_counts(rt: HostRuntime) -> Result<(), AllocError> {
-    let mut picture = sound(rt.alloc())?;
-    picture.used = 2;
-    answers(&rt, &picture, Err(Finding::Used));
-    picture.used_owed = 1;
-    answers(&rt, &picture, Ok(()));
-    // Where both counts are wrong, the reserve count is told.
-    picture.used_owed = 0;
-    picture.resv = 1;
-    answers(&rt, &picture, Err(Finding::Count));
-    Ok(())
-}
-
-#[test]
-fn quotas(rt: HostRuntime) -> Result<(), AllocError> {
-    let mut picture = sound(rt.alloc())?;
-    picture.quota = Some(0);
-    answers(&rt, &picture, Err(Finding::Used));
-    picture.quota = Some(1);
-    answers(&rt, &picture, Ok(()));
-    Ok(())
+    each_has(
+        &rt,
+        rt.alloc(),
+        Err(Finding::Used),
+        &[
+            &[Change::Used(2, 0)],
+            &[Change::Used(1, 1)],
+            &[Change::Quota(0)],
+        ],
+    )
 }
 
 #[test]

@@ -32,16 +32,6 @@ fn evict(rt: &impl Abort, cache: &mut PageCache, index: u32, frame: u32) {
     assert_eq!(rt; cache.evict(index), frame);
 }
 
-#[test]
-fn a_page_is_placed(rt: HostRuntime) -> Result<(), AllocError> {
-    let mut cache = PageCache::new(rt.alloc());
-    ends(&rt, &cache, 0, 0);
-    place(&rt, &mut cache, 3, 7)?;
-    has(&rt, &cache, 1, None);
-    ends(&rt, &cache, 4, 1);
-    Ok(())
-}
-
 // Index 3 has frame 7, and index 1, which came later, frame 9.
 fn two_pages(rt: &impl Abort, alloc: Global) -> Result<PageCache, AllocError> {
     let mut cache = PageCache::new(alloc);
@@ -64,8 +54,6 @@ fn tells(
 #[test]
 fn pages_are_told_in_order(rt: HostRuntime) -> Result<(), AllocError> {
     let cache = two_pages(&rt, rt.alloc())?;
-    has(&rt, &cache, 3, Some(7));
-    ends(&rt, &cache, 4, 2);
     let pages = [
         (Index::new(1), Frame::new(9)),
         (Index::new(3), Frame::new(7)),
@@ -73,28 +61,76 @@ fn pages_are_told_in_order(rt: HostRuntime) -> Result<(), AllocError> {
     tells(&rt, rt.alloc(), &cache, &pages)
 }
 
-#[test]
-fn pages_are_evicted(rt: HostRuntime) -> Result<(), AllocError> {
-    let mut cache = two_pages(&rt, rt.alloc())?;
-    evict(&rt, &mut cache, 3, 7);
-    has(&rt, &cache, 1, Some(9));
-    ends(&rt, &cache, 2, 1);
-    evict(&rt, &mut cache, 1, 9);
-    ends(&rt, &cache, 0, 0);
+/// A call of a cache, and what it has to answer.
+#[derive(Drop)]
+enum Row {
+    /// An index without a page gets one, in a frame.
+    Place(u32, u32),
+    /// The page of an index goes, whose frame is told.
+    Evict(u32, u32),
+    /// The frame of an index.
+    Has(u32, Option<u32>),
+    /// Where the pages end, and how many there are.
+    Ends(u32, u32),
+}
+
+// With `--fail-alloc N` one growth is refused: no page is there, and the next try succeeds.
+fn places(
+    rt: &impl Abort,
+    cache: &mut PageCache,
+    index: u32,
+    frame: u32,
+) -> Result<(), AllocError> {
+    assert!(rt; index < LIMIT);
+    let before = (cache.top(), cache.count());
+    if place(rt, cache, index, frame).is_err() {
+        has(rt, cache, index, None);
+        assert_eq!(rt; (cache.top(), cache.count()), before);
+        place(rt, cache, index, frame)?;
+    }
     Ok(())
 }
 
-// With `--fail-alloc 1` the first growth is refused: no page is there, and the next try succeeds.
-#[test]
-fn refused_growth_changes_nothing(rt: HostRuntime) -> Result<(), AllocError> {
-    let mut cache = PageCache::new(rt.alloc());
-    if place(&rt, &mut cache, 3, 7).is_err() {
-        has(&rt, &cache, 3, None);
-        assert_eq!(rt; cache.count(), 0);
-        place(&rt, &mut cache, 3, 7)?;
+fn holds(rt: &impl Abort, cache: &mut PageCache, row: &Row) -> Result<(), AllocError> {
+    match row {
+        Row::Place(index, frame) => places(rt, cache, *index, *frame)?,
+        Row::Evict(index, frame) => evict(rt, cache, *index, *frame),
+        Row::Has(index, frame) => has(rt, cache, *index, *frame),
+        Row::Ends(top, count) => ends(rt, cache, *top, *count),
     }
-    has(&rt, &cache, 3, Some(7));
     Ok(())
+}
+
+/// Asserts that the calls of a new cache answer what the rows say.
+fn hold(rt: &impl Abort, alloc: Global, rows: &[Row]) -> Result<(), AllocError> {
+    let mut cache = PageCache::new(alloc);
+    for row in rows {
+        holds(rt, &mut cache, row)?;
+    }
+    Ok(())
+}
+
+#[test]
+fn pages_come_and_go(rt: HostRuntime) -> Result<(), AllocError> {
+    hold(
+        &rt,
+        rt.alloc(),
+        &[
+            Row::Ends(0, 0),
+            Row::Place(3, 7),
+            Row::Has(3, Some(7)),
+            Row::Has(1, None),
+            Row::Ends(4, 1),
+            Row::Place(1, 9),
+            Row::Has(3, Some(7)),
+            Row::Ends(4, 2),
+            Row::Evict(3, 7),
+            Row::Has(1, Some(9)),
+            Row::Ends(2, 1),
+            Row::Evict(1, 9),
+            Row::Ends(0, 0),
+        ],
+    )
 }
 
 // Index i of a whole file has frame 4,096 - i.

@@ -1,4 +1,4 @@
-//! Frames that go from hand to hand, what they leave of a quota, and the texts of the faults.
+//! Frames that go from hand to hand and what they leave of a quota, as rows; the words of pages, copies, and the texts of the faults.
 ghost use Rattle.std.specs.Prelude.{◌≡◌, ℕ, IfOk};
 ghost use Rattle.hp_frames.specs.Bank.{HasWord, IsPlaced};
 
@@ -8,6 +8,31 @@ use hp_frames::{Bank, Fault};
 use std::alloc::{AllocError, Global};
 use std::process::Abort;
 use std::test::Fail;
+
+/// A call of a bank, and what it has to answer.
+#[derive(Drop)]
+enum Row {
+    /// So many pages more are reserved.
+    Account(u32, Result<(), Fault>),
+    /// No unreserved frame is to be had, and why.
+    NoFrame(Fault),
+    /// A reserved frame is taken and restored: what is free and reserved in between.
+    Restore(u32, u32),
+    /// An unreserved frame, the last of a quota, is taken and given: what is free and used in between.
+    Give(u32, u32),
+    /// So many reservations are given back.
+    Settle(u32),
+    /// So many pages are no longer used.
+    Drop(u32),
+    Retire(u32),
+    Grow(u32),
+    /// How many frames are free, and how many pages are reserved and used.
+    Counts(u32, u32, u32),
+    /// How many frames there are, how many are retired, and how many have numbers.
+    Frames(u32, usize, u32),
+    /// Whether a frame is free.
+    Free(u32, bool),
+}
 
 /// Asserts how many frames are free, and how many pages are reserved.
 fn free_and_reserved(rt: &impl Abort, bank: &Bank, free: u32, resv: u32) {
@@ -41,40 +66,12 @@ fn take_is_refused(rt: &impl Abort, bank: &mut Bank, fault: Fault)
     }
 }
 
-/// Gives n reservations back.
-fn settle(rt: &impl Abort, bank: &mut Bank, n: u32) {
-    assert!(rt; n <= bank.resv() && n <= bank.used());
-    bank.settle(n);
-}
-
-#[test]
-fn reservations_are_counted(rt: HostRuntime) -> Result<(), AllocError> {
-    let mut bank = Bank::new(rt.alloc(), 2, None)?;
-    account(&rt, &mut bank, 3, Err(Fault::Short));
-    account(&rt, &mut bank, 2, Ok(()));
-    reserved_and_used(&rt, &bank, 2, 2);
-    take_is_refused(&rt, &mut bank, Fault::NoFrame);
-    Ok(())
-}
-
 /// Asserts what is free and reserved while a reserved frame is in a hand.
 fn take_and_restore(rt: &impl Abort, bank: &mut Bank, free: u32, resv: u32) {
     assert!(rt; bank.resv() >= 1);
     let held = bank.take_reserved();
     free_and_reserved(rt, bank, free, resv);
     bank.restore(held);
-}
-
-#[test]
-fn a_reserved_frame_is_restored(rt: HostRuntime) -> Result<(), AllocError> {
-    let mut bank = Bank::new(rt.alloc(), 2, None)?;
-    account(&rt, &mut bank, 2, Ok(()));
-    take_and_restore(&rt, &mut bank, 1, 1);
-    free_and_reserved(&rt, &bank, 2, 2);
-    settle(&rt, &mut bank, 2);
-    free_and_reserved(&rt, &bank, 2, 0);
-    assert_eq!(rt; bank.used(), 0);
-    Ok(())
 }
 
 /// Asserts that no reservation of n pages more is to be had, and why.
@@ -89,46 +86,29 @@ fn account_is_refused(rt: &impl Abort, bank: &mut Bank, n: u32, fault: Fault)
 }
 
 /// Takes the one frame of a quota and gives it back. In between no other is to be had.
-fn use_up(rt: &impl Abort, bank: &mut Bank) -> Result<(), Fault> {
+fn take_and_give(rt: &impl Abort, bank: &mut Bank, free: u32, used: u32) {
     assert!(rt; bank.used() < u32::MAX);
-    let held = bank.take_unreserved()?;
-    free_and_used(rt, bank, 1, 1);
-    take_is_refused(rt, bank, Fault::Quota);
-    account_is_refused(rt, bank, 1, Fault::Quota);
-    bank.give(held);
-    Ok(())
+    match bank.take_unreserved() {
+        Ok(held) => {
+            free_and_used(rt, bank, free, used);
+            take_is_refused(rt, bank, Fault::Quota);
+            account_is_refused(rt, bank, 1, Fault::Quota);
+            bank.give(held);
+        }
+        Err(_) => panic!(rt; "no frame is to be had"),
+    }
 }
 
-/// One page is no longer used.
-fn drop_used(rt: &impl Abort, bank: &mut Bank) {
-    assert!(rt; bank.used() >= 1);
-    bank.drop_used(1);
+/// Gives n reservations back.
+fn settle(rt: &impl Abort, bank: &mut Bank, n: u32) {
+    assert!(rt; n <= bank.resv() && n <= bank.used());
+    bank.settle(n);
 }
 
-#[test]
-fn a_quota_limits_what_is_used(rt: HostRuntime) -> Result<(), Fail> {
-    let mut bank = Bank::new(rt.alloc(), 2, Some(1))?;
-    assert_eq!(rt; bank.quota(), Some(1));
-    use_up(&rt, &mut bank)?;
-    free_and_used(&rt, &bank, 2, 1);
-    drop_used(&rt, &mut bank);
-    assert_eq!(rt; bank.used(), 0);
-    account(&rt, &mut bank, 1, Ok(()));
-    reserved_and_used(&rt, &bank, 1, 1);
-    Ok(())
-}
-
-#[test]
-fn the_quota_is_asked_before_the_frames(rt: HostRuntime) -> Result<(), AllocError> {
-    let mut bank = Bank::new(rt.alloc(), 1, Some(1))?;
-    account(&rt, &mut bank, 2, Err(Fault::Quota));
-    account(&rt, &mut bank, 1, Ok(()));
-    take_is_refused(&rt, &mut bank, Fault::Quota);
-    let mut bank = Bank::new(rt.alloc(), 1, Some(2))?;
-    account(&rt, &mut bank, 2, Err(Fault::Short));
-    account(&rt, &mut bank, 1, Ok(()));
-    take_is_refused(&rt, &mut bank, Fault::NoFrame);
-    Ok(())
+/// So many pages are no longer used.
+fn drop_used(rt: &impl Abort, bank: &mut Bank, n: u32) {
+    assert!(rt; bank.used() >= n);
+    bank.drop_used(n);
 }
 
 /// Retires k frames.
@@ -151,29 +131,140 @@ fn frames_are(rt: &impl Abort, bank: &Bank, frames: u32, free: u32, retired: usi
     );
 }
 
-/// Asserts that the retired frames are told as retired, and not as free.
-fn retired_are_not_free(rt: &impl Abort, bank: &Bank) {
+/// Asserts how many frames there are, retired and numbered, and that the retired ones aren't told as free.
+fn numbers_are(rt: &impl Abort, bank: &Bank, frames: u32, retired: usize, numbers: u32) {
+    frames_are(rt, bank, frames, bank.free(), retired);
+    assert_eq!(rt; bank.numbers(), numbers);
     assert!(rt;
         bank.retired()
             .all(|frame| bank.is_retired(frame) && !bank.is_free(frame))
     );
 }
 
+/// Asserts how many frames are free, and how many pages are reserved and used.
+fn counts_are(rt: &impl Abort, bank: &Bank, free: u32, resv: u32, used: u32) {
+    free_and_reserved(rt, bank, free, resv);
+    assert_eq!(rt; bank.used(), used);
+}
+
+fn holds(rt: &impl Abort, bank: &mut Bank, row: &Row) -> Result<(), AllocError> {
+    match row {
+        Row::Account(n, answer) => account(rt, bank, *n, *answer),
+        Row::NoFrame(fault) => take_is_refused(rt, bank, *fault),
+        Row::Restore(free, resv) => take_and_restore(rt, bank, *free, *resv),
+        Row::Give(free, used) => take_and_give(rt, bank, *free, *used),
+        Row::Settle(n) => settle(rt, bank, *n),
+        Row::Drop(n) => drop_used(rt, bank, *n),
+        Row::Retire(k) => retire(rt, bank, *k),
+        Row::Grow(k) => grow(rt, bank, *k)?,
+        Row::Counts(free, resv, used) => counts_are(rt, bank, *free, *resv, *used),
+        Row::Frames(frames, retired, numbers) => {
+            numbers_are(rt, bank, *frames, *retired, *numbers)
+        }
+        Row::Free(number, is_free) => {
+            assert_eq!(rt; bank.is_free(Frame::new(*number)), *is_free)
+        }
+    }
+    Ok(())
+}
+
+/// Asserts that the calls of a new bank of so many frames answer what the rows say.
+fn hold(
+    rt: &impl Abort,
+    alloc: Global,
+    frames: u32,
+    quota: Option<u32>,
+    rows: &[Row],
+) -> Result<(), AllocError> {
+    let mut bank = Bank::new(alloc, frames, quota)?;
+    assert_eq!(rt; bank.quota(), quota);
+    for row in rows {
+        holds(rt, &mut bank, row)?;
+    }
+    Ok(())
+}
+
+#[test]
+fn reservations_are_counted(rt: HostRuntime) -> Result<(), AllocError> {
+    hold(
+        &rt,
+        rt.alloc(),
+        2,
+        None,
+        &[
+            Row::Account(3, Err(Fault::Short)),
+            Row::Account(2, Ok(())),
+            Row::Counts(2, 2, 2),
+            Row::NoFrame(Fault::NoFrame),
+            Row::Restore(1, 1),
+            Row::Counts(2, 2, 2),
+            Row::Settle(2),
+            Row::Counts(2, 0, 0),
+        ],
+    )
+}
+
+#[test]
+fn a_quota_limits_what_is_used(rt: HostRuntime) -> Result<(), AllocError> {
+    hold(
+        &rt,
+        rt.alloc(),
+        2,
+        Some(1),
+        &[
+            Row::Give(1, 1),
+            Row::Counts(2, 0, 1),
+            Row::Drop(1),
+            Row::Counts(2, 0, 0),
+            Row::Account(1, Ok(())),
+            Row::Counts(2, 1, 1),
+        ],
+    )
+}
+
+#[test]
+fn the_quota_is_asked_before_the_frames(rt: HostRuntime) -> Result<(), AllocError> {
+    for (quota, more, last) in [
+        (1, Fault::Quota, Fault::Quota),
+        (2, Fault::Short, Fault::NoFrame),
+    ] {
+        hold(
+            &rt,
+            rt.alloc(),
+            1,
+            Some(quota),
+            &[
+                Row::Account(2, Err(more)),
+                Row::Account(1, Ok(())),
+                Row::NoFrame(last),
+            ],
+        )?;
+    }
+    Ok(())
+}
+
 #[test]
 fn a_bank_shrinks_and_grows(rt: HostRuntime) -> Result<(), AllocError> {
-    let mut bank = Bank::new(rt.alloc(), 4, None)?;
-    account(&rt, &mut bank, 1, Ok(()));
-    retire(&rt, &mut bank, 3);
-    frames_are(&rt, &bank, 1, 1, 3);
-    assert_eq!(rt; (bank.numbers(), bank.resv()), (4, 1));
-    retired_are_not_free(&rt, &bank);
-    grow(&rt, &mut bank, 2)?;
-    frames_are(&rt, &bank, 3, 3, 1);
-    grow(&rt, &mut bank, 3)?;
-    frames_are(&rt, &bank, 6, 6, 0);
-    assert_eq!(rt; bank.numbers(), 6);
-    assert!(rt; bank.is_free(Frame::new(5)) && !bank.is_free(Frame::new(6)));
-    Ok(())
+    hold(
+        &rt,
+        rt.alloc(),
+        4,
+        None,
+        &[
+            Row::Account(1, Ok(())),
+            Row::Retire(3),
+            Row::Counts(1, 1, 1),
+            Row::Frames(1, 3, 4),
+            Row::Grow(2),
+            Row::Counts(3, 1, 1),
+            Row::Frames(3, 1, 4),
+            Row::Grow(3),
+            Row::Counts(6, 1, 1),
+            Row::Frames(6, 0, 6),
+            Row::Free(5, true),
+            Row::Free(6, false),
+        ],
+    )
 }
 
 // A page with that word, in a frame that nobody reserved.
@@ -276,7 +367,7 @@ fn once_used(rt: &impl Abort, alloc: Global) -> Result<Bank, Fail> {
     let mut bank = Bank::new(alloc, 2, None)?;
     let page = new_page(rt, &mut bank, 9)?;
     evict(&mut bank, page);
-    drop_used(rt, &mut bank);
+    drop_used(rt, &mut bank, 1);
     Ok(bank)
 }
 

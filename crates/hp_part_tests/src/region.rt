@@ -1,4 +1,4 @@
-//! Changes, removals and the numbers that the readers tell then; the texts of the faults.
+//! Calls of a map and what they answer, as rows: one loop makes and asserts them, so that a test is literals alone. The texts of the faults.
 ghost use Rattle.std.specs.Prelude.{◌<◌, ◌≤◌};
 
 use crate::texts::each_reads;
@@ -8,7 +8,33 @@ use std::alloc::{AllocError, Global};
 use std::process::Abort;
 use std::test::Fail;
 
-// Begins to add [from, to).
+/// A call of a map, and what it has to answer.
+#[derive(Drop)]
+enum Row {
+    /// A change of [from, to) that may take memory: how many indices are missing.
+    Change(u32, u32, u32),
+    /// A change of [from, to) that may take none: how many are missing, or that it is denied.
+    Kept(u32, u32, Result<u32, ChangeFault>),
+    /// The change that was begun last ends: how many indices are added.
+    Commit(u32),
+    /// The change that was begun last is given up.
+    Abort,
+    /// An index is removed, with memory or without.
+    Remove(bool, u32, Result<u32, DelFault>),
+    /// All indices from one on are removed: how many.
+    Tail(u32, u32),
+    /// How many indices, regions, changes in progress, and regions for which there is room.
+    Tells(u32, usize, usize, usize),
+    /// Where the region at a place begins and ends.
+    Region(usize, Option<(u32, u32)>),
+    /// How many of [from, to) are missing.
+    Missing(u32, u32, u32),
+    /// Whether an index is there, how many regions end at or below it, and how many looks that took.
+    Seek(u32, bool, usize, u32),
+    /// A copy takes its place.
+    Copy,
+}
+
 fn change(map: &mut RegionMap, grant: bool, from: u32, to: u32) -> Result<Pending, ChangeFault>
     requires some { from < to }
     requires in_limit { to ≤ LIMIT }
@@ -16,78 +42,106 @@ fn change(map: &mut RegionMap, grant: bool, from: u32, to: u32) -> Result<Pendin
     map.change(grant, Index::new(from), Index::new(to))
 }
 
-/// Asserts how many indices are added by a change that ends.
-fn commit(rt: &impl Abort, map: &mut RegionMap, change: Pending, added: u32) {
+// With `--fail-alloc N` one growth is refused: the map is as before, and the next try succeeds.
+fn begin(
+    rt: &impl Abort,
+    map: &mut RegionMap,
+    grant: bool,
+    from: u32,
+    to: u32,
+) -> Result<Pending, ChangeFault> {
+    assert!(rt; from < to);
+    assert!(rt; to <= LIMIT);
+    let before = (map.pending(), map.spare());
+    match change(map, grant, from, to) {
+        Err(ChangeFault::Memory) => {
+            assert_eq!(rt; (map.pending(), map.spare()), before);
+            change(map, grant, from, to)
+        }
+        answer => answer,
+    }
+}
+
+fn opens(
+    rt: &impl Abort,
+    map: &mut RegionMap,
+    open: &mut Vec<Pending>,
+    (grant, from, to): (bool, u32, u32),
+    answer: Result<u32, ChangeFault>,
+) -> Result<(), AllocError> {
+    match begin(rt, map, grant, from, to) {
+        Ok(change) => {
+            assert_eq!(rt; Ok(change.missing()), answer);
+            assert_eq!(rt; (change.from().number(), change.to().number()), (from, to));
+            open.push(change)?;
+        }
+        Err(fault) => {
+            assert_eq!(rt; Err(fault), answer);
+        }
+    }
+    Ok(())
+}
+
+fn commits(rt: &impl Abort, map: &mut RegionMap, open: &mut Vec<Pending>, added: u32) {
     assert!(rt; map.pending() > 0);
-    assert_eq!(rt; map.commit(change), added);
+    match open.pop() {
+        Some(change) => assert_eq!(rt; map.commit(change), added),
+        None => assert!(rt; false),
+    }
 }
 
-/// Asserts what it answers to remove an index.
-fn remove(rt: &impl Abort, map: &mut RegionMap, index: u32, answer: Result<u32, DelFault>) {
-    assert_eq!(rt; map.remove_one(false, Index::new(index)), answer);
+fn aborts(rt: &impl Abort, map: &mut RegionMap, open: &mut Vec<Pending>) {
+    assert!(rt; map.pending() > 0);
+    match open.pop() {
+        Some(change) => map.abort(change),
+        None => assert!(rt; false),
+    }
 }
 
-/// Asserts how many changes are in progress, and for how many regions there is room.
-fn is_promised(rt: &impl Abort, map: &RegionMap, pending: usize, spare: usize) {
+// Where the growth is refused, the map is as before, and the next try succeeds.
+fn removes(
+    rt: &impl Abort,
+    map: &mut RegionMap,
+    grant: bool,
+    index: u32,
+    answer: Result<u32, DelFault>,
+) {
+    let before = (map.count(), map.regions());
+    let told = map.remove_one(grant, Index::new(index));
+    if told != Err(DelFault::Memory) {
+        assert_eq!(rt; told, answer);
+    } else {
+        assert_eq!(rt; (map.count(), map.regions()), before);
+        assert_eq!(rt; map.remove_one(grant, Index::new(index)), answer);
+    }
+}
+
+fn tells(
+    rt: &impl Abort,
+    map: &RegionMap,
+    count: u32,
+    regions: usize,
+    pending: usize,
+    spare: usize,
+) {
+    assert_eq!(rt; (map.count(), map.regions()), (count, regions));
     assert_eq!(rt; (map.pending(), map.spare()), (pending, spare));
 }
 
-/// Asserts how many indices are reserved, and in how many regions.
-fn is_reserved(rt: &impl Abort, map: &RegionMap, count: u32, regions: usize) {
-    assert_eq!(rt; (map.count(), map.regions()), (count, regions));
+fn region_is(rt: &impl Abort, map: &RegionMap, place: usize, region: Option<(u32, u32)>) {
+    let told = map.region(place);
+    assert_eq!(rt; told.map(|(from, to)| (from.number(), to.number())), region);
 }
 
-/// Asserts where the region at a place begins and ends.
-fn region_is(rt: &impl Abort, map: &RegionMap, place: usize, from: u32, to: u32) {
-    assert_eq!(rt; map.region(place), Some((Index::new(from), Index::new(to))));
+fn misses(rt: &impl Abort, map: &RegionMap, from: u32, to: u32, missing: u32) {
+    assert!(rt; from <= to);
+    assert!(rt; to <= LIMIT);
+    assert_eq!(rt; map.missing(Index::new(from), Index::new(to)), missing);
 }
 
-// The indices 0 to 3 are reserved, by two changes that overlap: so there is one region, and a spare descriptor.
-fn four_reserved(alloc: Global) -> Result<RegionMap, ChangeFault> {
-    let mut map = RegionMap::new(alloc);
-    let first = map.change(true, Index::new(0), Index::new(2))?;
-    let second = map.change(true, Index::new(1), Index::new(4))?;
-    map.commit(second);
-    map.commit(first);
-    Ok(map)
-}
-
-// Of those indices 2 is removed: so there are two regions, and no spare descriptor.
-fn two_regions(alloc: Global) -> Result<RegionMap, Fail> {
-    let mut map = four_reserved(alloc)?;
-    map.remove_one(false, Index::new(2))?;
-    Ok(map)
-}
-
-/// Asserts the range of a change, and how many of its indices are missing.
-fn is_change(rt: &impl Abort, change: &Pending, from: u32, to: u32, missing: u32) {
-    assert_eq!(rt; change.missing(), missing);
-    assert_eq!(rt;
-        (change.from(), change.to()),
-        (Index::new(from), Index::new(to))
-    );
-}
-
-#[test]
-fn changes_tell_what_is_missing(rt: HostRuntime) -> Result<(), ChangeFault> {
-    let mut map = RegionMap::new(rt.alloc());
-    let first = change(&mut map, true, 0, 2)?;
-    is_change(&rt, &first, 0, 2, 2);
-    let second = change(&mut map, true, 1, 4)?;
-    is_change(&rt, &second, 1, 4, 3);
-    is_promised(&rt, &map, 2, 2);
-    Ok(())
-}
-
-#[test]
-fn the_later_change_commits_first(rt: HostRuntime) -> Result<(), ChangeFault> {
-    let mut map = RegionMap::new(rt.alloc());
-    let first = change(&mut map, true, 0, 2)?;
-    let second = change(&mut map, true, 1, 4)?;
-    commit(&rt, &mut map, second, 3);
-    assert_eq!(rt; map.spare(), 1);
-    commit(&rt, &mut map, first, 1);
-    Ok(())
+fn seeks(rt: &impl Abort, map: &RegionMap, index: u32, member: bool, place: usize, looks: u32) {
+    assert_eq!(rt; map.contains(Index::new(index)), member);
+    assert_eq!(rt; map.seek(Index::new(index)), (place, looks));
 }
 
 // A copy of a map with no change in progress.
@@ -98,8 +152,14 @@ fn copied(rt: &impl Abort, map: &RegionMap, alloc: Global) -> Result<RegionMap, 
 
 /// Asserts that a copy tells the same numbers.
 fn compare_counts(rt: &impl Abort, copy: &RegionMap, source: &RegionMap) {
-    is_reserved(rt, copy, source.count(), source.regions());
-    is_promised(rt, copy, source.pending(), source.spare());
+    tells(
+        rt,
+        copy,
+        source.count(),
+        source.regions(),
+        source.pending(),
+        source.spare(),
+    );
     let (from, to) = (Index::new(0), Index::new(8));
     assert_eq!(rt; copy.missing(from, to), source.missing(from, to));
 }
@@ -118,22 +178,118 @@ fn compare_regions(rt: &impl Abort, copy: &RegionMap, source: &RegionMap) {
     }
 }
 
-// What the readers of a map and of its copy tell.
-fn compare(rt: &impl Abort, alloc: Global, source: &RegionMap) -> Result<(), AllocError> {
-    let copy = copied(rt, source, alloc)?;
-    compare_counts(rt, &copy, source);
-    compare_regions(rt, &copy, source);
+// A copy that tells what its source does takes its place: it has to answer the calls that come next, too.
+fn copies(rt: &impl Abort, map: &mut RegionMap, alloc: Global) -> Result<(), AllocError> {
+    let copy = copied(rt, &*map, alloc)?;
+    compare_counts(rt, &copy, &*map);
+    compare_regions(rt, &copy, &*map);
     for index in 0..5 {
-        compare_index(rt, &copy, source, index);
+        compare_index(rt, &copy, &*map, index);
+    }
+    *map = copy;
+    Ok(())
+}
+
+fn holds(
+    rt: &impl Abort,
+    alloc: Global,
+    map: &mut RegionMap,
+    open: &mut Vec<Pending>,
+    row: &Row,
+) -> Result<(), AllocError> {
+    match row {
+        Row::Change(from, to, missing) => opens(rt, map, open, (true, *from, *to), Ok(*missing))?,
+        Row::Kept(from, to, answer) => opens(rt, map, open, (false, *from, *to), *answer)?,
+        Row::Commit(added) => commits(rt, map, open, *added),
+        Row::Abort => aborts(rt, map, open),
+        Row::Remove(grant, index, answer) => removes(rt, map, *grant, *index, *answer),
+        Row::Tail(index, count) => assert_eq!(rt; map.remove_tail(Index::new(*index)), *count),
+        Row::Tells(count, regions, pending, spare) => tells(
+            rt, map, *count, *regions, *pending, *spare,
+        ),
+        Row::Region(place, region) => region_is(rt, map, *place, *region),
+        Row::Missing(from, to, missing) => misses(rt, map, *from, *to, *missing),
+        Row::Seek(index, member, place, looks) => seeks(rt, map, *index, *member, *place, *looks),
+        Row::Copy => copies(rt, map, alloc)?,
+    }
+    Ok(())
+}
+
+/// Asserts that the calls of a new map answer what the rows say.
+fn hold(rt: &impl Abort, alloc: Global, rows: &[Row]) -> Result<(), AllocError> {
+    let mut map = RegionMap::new(alloc);
+    let mut open = Vec::new(alloc);
+    for row in rows {
+        holds(rt, alloc, &mut map, &mut open, row)?;
     }
     Ok(())
 }
 
 #[test]
-fn a_copy_is_compared_with_its_source(rt: HostRuntime) -> Result<(), Fail> {
-    compare(&rt, rt.alloc(), &four_reserved(rt.alloc())?)?;
-    compare(&rt, rt.alloc(), &two_regions(rt.alloc())?)?;
-    Ok(())
+fn changes_overlap(rt: HostRuntime) -> Result<(), AllocError> {
+    hold(
+        &rt,
+        rt.alloc(),
+        &[
+            Row::Change(0, 2, 2),
+            Row::Change(1, 4, 3),
+            Row::Tells(0, 0, 2, 2),
+            Row::Commit(3),
+            Row::Tells(3, 1, 1, 1),
+            Row::Commit(1),
+            Row::Tells(4, 1, 0, 1),
+            Row::Region(0, Some((0, 4))),
+            Row::Copy,
+            Row::Kept(9, 10, Ok(1)),
+            Row::Kept(11, 12, Err(ChangeFault::Denied)),
+            Row::Remove(false, 2, Err(DelFault::Denied)),
+            Row::Abort,
+            Row::Remove(false, 2, Ok(1)),
+            Row::Tells(3, 2, 0, 0),
+            Row::Region(0, Some((0, 2))),
+            Row::Region(1, Some((3, 4))),
+            Row::Remove(false, 1, Ok(1)),
+            Row::Tail(1, 1),
+            Row::Region(0, Some((0, 1))),
+        ],
+    )
+}
+
+#[test]
+fn a_region_is_split_and_loses_its_tail(rt: HostRuntime) -> Result<(), AllocError> {
+    hold(
+        &rt,
+        rt.alloc(),
+        &[
+            Row::Change(0, 4, 4),
+            Row::Commit(4),
+            Row::Tells(4, 1, 0, 0),
+            Row::Remove(true, 2, Ok(1)),
+            Row::Tells(3, 2, 0, 0),
+            Row::Region(0, Some((0, 2))),
+            Row::Region(1, Some((3, 4))),
+            Row::Region(2, None),
+            Row::Missing(0, 4, 1),
+            Row::Seek(2, false, 1, 2),
+            Row::Copy,
+            Row::Remove(false, 1, Ok(1)),
+            Row::Tail(1, 1),
+            Row::Region(0, Some((0, 1))),
+            Row::Tells(1, 1, 0, 0),
+            Row::Seek(0, true, 0, 1),
+            Row::Seek(1, false, 1, 1),
+        ],
+    )
+}
+
+// The indices 0 to 3 are reserved, by two changes that overlap: so there is one region, and a spare descriptor.
+fn four_reserved(alloc: Global) -> Result<RegionMap, ChangeFault> {
+    let mut map = RegionMap::new(alloc);
+    let first = map.change(true, Index::new(0), Index::new(2))?;
+    let second = map.change(true, Index::new(1), Index::new(4))?;
+    map.commit(second);
+    map.commit(first);
+    Ok(map)
 }
 
 #[test]
@@ -142,113 +298,8 @@ fn a_copy_goes_on_apart(rt: HostRuntime) -> Result<(), Fail> {
     let mut copy = copied(&rt, &source, rt.alloc())?;
     copy.remove_one(false, Index::new(2))?;
     source.remove_tail(Index::new(1));
-    is_reserved(&rt, &copy, 3, 2);
-    assert_eq!(rt; copy.spare(), 0);
-    is_reserved(&rt, &source, 1, 1);
-    assert_eq!(rt; source.spare(), 1);
-    Ok(())
-}
-
-#[test]
-fn regions_merge(rt: HostRuntime) -> Result<(), ChangeFault> {
-    let map = four_reserved(rt.alloc())?;
-    assert_eq!(rt; map.regions(), 1);
-    region_is(&rt, &map, 0, 0, 4);
-    is_promised(&rt, &map, 0, 1);
-    Ok(())
-}
-
-/// Asserts that a change gets no room.
-fn change_is_denied(rt: &impl Abort, map: &mut RegionMap, from: u32, to: u32)
-    requires some { from < to }
-    requires in_limit { to ≤ LIMIT }
-{
-    assert_eq!(rt;
-        change(map, false, from, to).err(),
-        Some(ChangeFault::Denied)
-    );
-}
-
-// A change that is in progress ends, and adds nothing.
-fn abort(rt: &impl Abort, map: &mut RegionMap, change: Pending) {
-    assert!(rt; map.pending() > 0);
-    map.abort(change);
-}
-
-#[test]
-fn a_change_keeps_its_room(rt: HostRuntime) -> Result<(), ChangeFault> {
-    let mut map = four_reserved(rt.alloc())?;
-    let kept = change(&mut map, false, 9, 10)?;
-    assert_eq!(rt; kept.missing(), 1);
-    change_is_denied(&rt, &mut map, 11, 12);
-    remove(&rt, &mut map, 2, Err(DelFault::Denied));
-    abort(&rt, &mut map, kept);
-    remove(&rt, &mut map, 2, Ok(1));
-    assert_eq!(rt; map.regions(), 2);
-    assert_eq!(rt; map.spare(), 0);
-    Ok(())
-}
-
-#[test]
-fn a_region_is_split(rt: HostRuntime) -> Result<(), Fail> {
-    let map = two_regions(rt.alloc())?;
-    region_is(&rt, &map, 0, 0, 2);
-    region_is(&rt, &map, 1, 3, 4);
-    assert_eq!(rt; map.region(2), None);
-    assert_eq!(rt; map.spare(), 0);
-    assert_eq!(rt; map.missing(Index::new(0), Index::new(4)), 1);
-    assert_eq!(rt; map.seek(Index::new(2)), (1, 2));
-    Ok(())
-}
-
-#[test]
-fn a_tail_is_removed(rt: HostRuntime) -> Result<(), Fail> {
-    let mut map = two_regions(rt.alloc())?;
-    remove(&rt, &mut map, 1, Ok(1));
-    assert_eq!(rt; map.remove_tail(Index::new(1)), 1);
-    region_is(&rt, &map, 0, 0, 1);
-    is_reserved(&rt, &map, 1, 1);
-    assert!(rt; map.contains(Index::new(0)));
-    assert!(rt; !map.contains(Index::new(1)));
-    Ok(())
-}
-
-// With `--fail-alloc N` one growth is refused: the map is as before, and the next try succeeds.
-#[test]
-fn a_refused_change_changes_nothing(rt: HostRuntime) -> Result<(), ChangeFault> {
-    let mut map = RegionMap::new(rt.alloc());
-    let whole = match change(&mut map, true, 0, 4) {
-        Ok(change) => change,
-        Err(fault) => {
-            assert_eq!(rt; fault, ChangeFault::Memory);
-            is_promised(&rt, &map, 0, 0);
-            change(&mut map, true, 0, 4)?
-        }
-    };
-    commit(&rt, &mut map, whole, 4);
-    Ok(())
-}
-
-// The indices 0 to 3 are reserved by one change, also where one growth is refused: so no descriptor is spare.
-fn four_at_once(alloc: Global) -> Result<RegionMap, ChangeFault> {
-    let mut map = RegionMap::new(alloc);
-    let whole = match map.change(true, Index::new(0), Index::new(4)) {
-        Ok(change) => change,
-        Err(_) => map.change(true, Index::new(0), Index::new(4))?,
-    };
-    map.commit(whole);
-    Ok(map)
-}
-
-#[test]
-fn a_refused_split_changes_nothing(rt: HostRuntime) -> Result<(), ChangeFault> {
-    let mut map = four_at_once(rt.alloc())?;
-    if let Err(fault) = map.remove_one(true, Index::new(2)) {
-        assert_eq!(rt; fault, DelFault::Memory);
-        is_reserved(&rt, &map, 4, 1);
-        assert_eq!(rt; map.remove_one(true, Index::new(2)), Ok(1));
-    }
-    is_reserved(&rt, &map, 3, 2);
+    tells(&rt, &copy, 3, 2, 0, 0);
+    tells(&rt, &source, 1, 1, 0, 1);
     Ok(())
 }
 

@@ -1,4 +1,4 @@
-//! Mappings and translations of a task, with ample memory and with a growth refused.
+//! Mappings and translations of a task, as rows: one loop makes and asserts them, so that a test is literals alone.
 ghost use Rattle.std.specs.Prelude.{◌≤◌};
 
 use hp_base::{File, Frame, Index, LIMIT, Vpn};
@@ -6,8 +6,50 @@ use hp_table::Space;
 use std::alloc::{AllocError, Global};
 use std::process::Abort;
 
+/// A call of a space, and what it has to answer. All mappings are of file 1, from its begin on.
+#[derive(Drop)]
+enum Row {
+    /// Room for one mapping more is prepared.
+    Prepare,
+    /// Whether such room is prepared.
+    Ready(bool),
+    /// So many pages are mapped: from which page on.
+    Map(u32, Option<u32>),
+    /// Where there is room for so many pages.
+    Room(u32, Option<u32>),
+    /// How many mappings and how many translations there are.
+    Counts(usize, usize),
+    /// The index of a page, if it is mapped.
+    Find(u32, Option<u32>),
+    /// Where the mapping begins that has a page.
+    Base(u32, Option<u32>),
+    /// Where the first mapping begins.
+    First(Option<u32>),
+    /// A page is translated to a frame, where it is mapped and not yet translated: whether it is.
+    Touch(u32, u32, bool),
+    /// The translations of an index of a file are cleared.
+    Clear(u32, u32),
+    /// The frames of the first six pages.
+    Frames([Option<u32>; 6]),
+    /// The mapping that begins at a page goes, with its translations.
+    Unmap(u32),
+    /// A copy takes its place.
+    Copy,
+}
+
+// Prepares room for one mapping more. With `--fail-alloc N` one growth is refused: nothing has changed, and the next try succeeds.
+fn prepare(rt: &impl Abort, space: &mut Space) -> Result<(), AllocError> {
+    let before = (space.ready(), space.mappings());
+    if space.prepare().is_err() {
+        assert_eq!(rt; (space.ready(), space.mappings()), before);
+        space.prepare()?;
+    }
+    assert!(rt; space.ready());
+    Ok(())
+}
+
 // Maps `len` pages of file 1 from its begin on, where they fit.
-fn map(space: &mut Space, len: u32) -> Result<Option<Vpn>, AllocError>
+fn enter(space: &mut Space, len: u32) -> Result<Option<u32>, AllocError>
     requires some { 1 ≤ len }
     requires in_file { len ≤ LIMIT }
 {
@@ -16,86 +58,14 @@ fn map(space: &mut Space, len: u32) -> Result<Option<Vpn>, AllocError>
     };
     space.prepare()?;
     space.enter(base, File::new(1), Index::new(0), len);
-    Ok(Some(base))
+    Ok(Some(base.number()))
 }
 
 /// Asserts where `len` pages are mapped.
-fn maps(rt: &impl Abort, space: &mut Space, len: u32, base: u32) -> Result<(), AllocError>
-    requires some { 1 ≤ len }
-    requires in_file { len ≤ LIMIT }
-{
-    assert_eq!(rt; map(space, len)?, Some(Vpn::new(base)));
-    Ok(())
-}
-
-// Prepares room for one mapping more.
-fn prepare(space: &mut Space) -> Result<(), AllocError> {
-    space.prepare()
-}
-
-/// Asserts whether room for one mapping more is prepared.
-fn is_ready(rt: &impl Abort, space: &Space, ready: bool) {
-    assert_eq!(rt; space.ready(), ready);
-}
-
-/// Asserts where there is room for `len` pages.
-fn room_is(rt: &impl Abort, space: &Space, len: u32, base: Option<u32>) {
-    assert_eq!(rt; space.room(len).map(Vpn::number), base);
-}
-
-/// Asserts how many mappings and how many translations there are.
-fn counts(rt: &impl Abort, space: &Space, mappings: usize, entries: usize) {
-    assert_eq!(rt; (space.mappings(), space.entries()), (mappings, entries));
-}
-
-/// Asserts which index of file 1 a page stands for, and where its mapping begins.
-fn is_found(rt: &impl Abort, space: &Space, vpn: u32, index: u32) {
-    let place = (File::new(1), Index::new(index));
-    assert_eq!(rt; space.find(Vpn::new(vpn)), Some(place));
-}
-
-/// Asserts where the mapping begins that has a page.
-fn base_is(rt: &impl Abort, space: &Space, vpn: u32, base: Option<u32>) {
-    assert_eq!(rt; space.base_of(Vpn::new(vpn)).map(Vpn::number), base);
-}
-
-#[test]
-fn room_for_a_mapping_is_prepared(rt: HostRuntime) -> Result<(), AllocError> {
-    let mut space = Space::new(rt.alloc());
-    room_is(&rt, &space, 4, Some(0));
-    assert_eq!(rt; space.first(), None);
-    prepare(&mut space)?;
-    is_ready(&rt, &space, true);
-
-    maps(&rt, &mut space, 4, 0)?;
-    is_ready(&rt, &space, false);
-    room_is(&rt, &space, 2, Some(4));
-    Ok(())
-}
-
-#[test]
-fn a_mapping_is_found(rt: HostRuntime) -> Result<(), AllocError> {
-    let mut space = Space::new(rt.alloc());
-    maps(&rt, &mut space, 4, 0)?;
-    is_found(&rt, &space, 2, 2);
-    assert_eq!(rt; space.find(Vpn::new(4)), None);
-    base_is(&rt, &space, 3, Some(0));
-    base_is(&rt, &space, 4, None);
-    assert_eq!(rt; space.first(), Some(Vpn::new(0)));
-    counts(&rt, &space, 1, 0);
-    Ok(())
-}
-
-#[test]
-fn no_address_is_left(rt: HostRuntime) -> Result<(), AllocError> {
-    let mut space = Space::new(rt.alloc());
-    for base in [0, 4096, 8192, 12_288] {
-        maps(&rt, &mut space, 4096, base)?;
-    }
-    room_is(&rt, &space, 4096, None);
-    room_is(&rt, &space, 1, None);
-    assert_eq!(rt; space.mappings(), 4);
-    is_found(&rt, &space, 16_383, 4095);
+fn maps(rt: &impl Abort, space: &mut Space, len: u32, base: Option<u32>) -> Result<(), AllocError> {
+    assert!(rt; 1 <= len);
+    assert!(rt; len <= LIMIT);
+    assert_eq!(rt; enter(space, len)?, base);
     Ok(())
 }
 
@@ -114,33 +84,24 @@ fn frames(space: &Space) -> [Option<u32>; 6] {
     [0, 1, 2, 3, 4, 5].map(|vpn| space.translate(Vpn::new(vpn)).map(Frame::number))
 }
 
-/// Asserts that pages are mapped and not yet translated, and translates each to its frame.
-fn touches(rt: &impl Abort, space: &mut Space, entries: &[(u32, u32)]) -> Result<(), AllocError> {
-    for (vpn, frame) in entries {
-        assert!(rt; touch(space, *vpn, *frame)?);
-    }
-    Ok(())
-}
-
-/// Asserts that a page isn't mapped, or is translated already.
-fn is_not_touched(
+/// Asserts whether a page is translated to a frame, also where a growth was refused before.
+fn touches(
     rt: &impl Abort,
     space: &mut Space,
     vpn: u32,
     frame: u32,
+    is_new: bool,
 ) -> Result<(), AllocError> {
-    assert!(rt; !touch(space, vpn, frame)?);
+    let before = (frames(space), space.entries());
+    let told = match touch(space, vpn, frame) {
+        Ok(told) => told,
+        Err(_) => {
+            assert_eq!(rt; (frames(space), space.entries()), before);
+            touch(space, vpn, frame)?
+        }
+    };
+    assert_eq!(rt; told, is_new);
     Ok(())
-}
-
-// Clears the entries of an index of a file.
-fn clear_index(space: &mut Space, file: u32, index: u32) {
-    space.clear_index(File::new(file), Index::new(index));
-}
-
-/// Asserts the frames of the first six pages.
-fn frames_are(rt: &impl Abort, space: &Space, told: [Option<u32>; 6]) {
-    assert_eq!(rt; frames(space), told);
 }
 
 // Clears the entries of a mapping, and then drops it.
@@ -149,126 +110,35 @@ fn unmap(space: &mut Space, base: u32) {
     space.drop_mapping(Vpn::new(base));
 }
 
-#[test]
-fn a_page_is_translated(rt: HostRuntime) -> Result<(), AllocError> {
-    let mut space = Space::new(rt.alloc());
-    maps(&rt, &mut space, 4, 0)?;
-    touches(&rt, &mut space, &[(2, 7), (0, 9), (3, 8)])?;
-    frames_are(&rt, &space, [Some(9), None, Some(7), Some(8), None, None]);
-    Ok(())
+/// Asserts where there is room for `len` pages.
+fn room_is(rt: &impl Abort, space: &Space, len: u32, base: Option<u32>) {
+    assert_eq!(rt; space.room(len).map(Vpn::number), base);
 }
 
-// A mapping of four pages, of which three are translated.
-fn three_entries(alloc: Global) -> Result<Space, AllocError> {
-    let mut space = Space::new(alloc);
-    map(&mut space, 4)?;
-    for (vpn, frame) in [(2, 7), (0, 9), (3, 8)] {
-        touch(&mut space, vpn, frame)?;
-    }
-    Ok(space)
+/// Asserts how many mappings and how many translations there are.
+fn counts(rt: &impl Abort, space: &Space, mappings: usize, entries: usize) {
+    assert_eq!(rt; (space.mappings(), space.entries()), (mappings, entries));
 }
 
-#[test]
-fn a_page_is_translated_once(rt: HostRuntime) -> Result<(), AllocError> {
-    let mut space = three_entries(rt.alloc())?;
-    is_not_touched(&rt, &mut space, 4, 1)?;
-    is_not_touched(&rt, &mut space, 2, 1)?;
-    counts(&rt, &space, 1, 3);
-    Ok(())
+/// Asserts which index of file 1 a page stands for.
+fn is_found(rt: &impl Abort, space: &Space, vpn: u32, index: Option<u32>) {
+    let place = index.map(|index| (File::new(1), Index::new(index)));
+    assert_eq!(rt; space.find(Vpn::new(vpn)), place);
 }
 
-#[test]
-fn translations_are_told_in_order(rt: HostRuntime) -> Result<(), AllocError> {
-    let space = three_entries(rt.alloc())?;
-    let translations = [
-        (Vpn::new(0), Frame::new(9)),
-        (Vpn::new(2), Frame::new(7)),
-        (Vpn::new(3), Frame::new(8)),
-    ];
-    assert!(rt; space.translations().eq(translations));
-    Ok(())
+/// Asserts where the mapping begins that has a page.
+fn base_is(rt: &impl Abort, space: &Space, vpn: u32, base: Option<u32>) {
+    assert_eq!(rt; space.base_of(Vpn::new(vpn)).map(Vpn::number), base);
 }
 
-// Two mappings of one file, from its begin on: pages 0, 1 and 2, 3, 4. Its index 1 is pages 1 and 3.
-#[test]
-fn an_index_is_cleared_in_each_mapping(rt: HostRuntime) -> Result<(), AllocError> {
-    let mut space = Space::new(rt.alloc());
-    maps(&rt, &mut space, 2, 0)?;
-    maps(&rt, &mut space, 3, 2)?;
-    touches(&rt, &mut space, &[(1, 7), (2, 6), (3, 7), (4, 5)])?;
-    clear_index(&mut space, 2, 1);
-    clear_index(&mut space, 1, 3);
-    assert_eq!(rt; space.entries(), 4);
-
-    clear_index(&mut space, 1, 1);
-    frames_are(&rt, &space, [None, None, Some(6), None, Some(5), None]);
-    counts(&rt, &space, 2, 2);
-    Ok(())
+/// Asserts where the first mapping begins.
+fn first_is(rt: &impl Abort, space: &Space, base: Option<u32>) {
+    assert_eq!(rt; space.first().map(Vpn::number), base);
 }
 
-#[test]
-fn mappings_stand_side_by_side(rt: HostRuntime) -> Result<(), AllocError> {
-    let mut space = Space::new(rt.alloc());
-    maps(&rt, &mut space, 2, 0)?;
-    maps(&rt, &mut space, 3, 2)?;
-    maps(&rt, &mut space, 1, 5)?;
-    touches(&rt, &mut space, &[(1, 7), (2, 6), (4, 5), (5, 4)])
-}
-
-// Three mappings, of two, three and one pages, and four of these pages are translated.
-fn three_mappings(alloc: Global) -> Result<Space, AllocError> {
-    let mut space = Space::new(alloc);
-    for len in [2, 3, 1] {
-        map(&mut space, len)?;
-    }
-    for (vpn, frame) in [(1, 7), (2, 6), (4, 5), (5, 4)] {
-        touch(&mut space, vpn, frame)?;
-    }
-    Ok(space)
-}
-
-#[test]
-fn a_mapping_goes_with_its_entries(rt: HostRuntime) -> Result<(), AllocError> {
-    let mut space = three_mappings(rt.alloc())?;
-    unmap(&mut space, 3);
-    counts(&rt, &space, 3, 4);
-
-    unmap(&mut space, 2);
-    frames_are(&rt, &space, [None, Some(7), None, None, None, Some(4)]);
-    counts(&rt, &space, 2, 2);
-    room_is(&rt, &space, 3, Some(2));
-    room_is(&rt, &space, 4, Some(6));
-    Ok(())
-}
-
-// With `--fail-alloc N` one growth is refused: nothing has changed, and the next try succeeds.
-#[test]
-fn refused_room_changes_nothing(rt: HostRuntime) -> Result<(), AllocError> {
-    let mut space = Space::new(rt.alloc());
-    if prepare(&mut space).is_err() {
-        is_ready(&rt, &space, false);
-        assert_eq!(rt; space.mappings(), 0);
-        prepare(&mut space)?;
-    }
-    is_ready(&rt, &space, true);
-    maps(&rt, &mut space, 4, 0)
-}
-
-// As above, where the growth that is refused is a translation's.
-#[test]
-fn a_refused_translation_changes_nothing(rt: HostRuntime) -> Result<(), AllocError> {
-    let mut space = Space::new(rt.alloc());
-    if prepare(&mut space).is_err() {
-        prepare(&mut space)?;
-    }
-    maps(&rt, &mut space, 4, 0)?;
-    if touch(&mut space, 2, 7).is_err() {
-        frames_are(&rt, &space, [None; 6]);
-        counts(&rt, &space, 1, 0);
-        touches(&rt, &mut space, &[(2, 7)])?;
-    }
-    frames_are(&rt, &space, [None, None, Some(7), None, None, None]);
-    Ok(())
+/// Asserts the frames of the first six pages.
+fn frames_are(rt: &impl Abort, space: &Space, told: [Option<u32>; 6]) {
+    assert_eq!(rt; frames(space), told);
 }
 
 /// Asserts that a copy tells the same of a page.
@@ -305,33 +175,210 @@ fn compare(rt: &impl Abort, copy: &Space, source: &Space) {
 // A copy, of which it asserts that it has no room prepared.
 fn copied(rt: &impl Abort, alloc: Global, source: &Space) -> Result<Space, AllocError> {
     let copy = source.copy(alloc)?;
-    is_ready(rt, &copy, false);
+    assert!(rt; !copy.ready());
     Ok(copy)
 }
 
-/// Asserts that a copy tells what its source does.
-fn compare_with_copy(rt: &impl Abort, alloc: Global, source: &Space) -> Result<(), AllocError> {
-    let copy = copied(rt, alloc, source)?;
-    compare(rt, &copy, source);
+// A copy that tells what its source does takes its place: it has to answer the calls that come next, too.
+fn copies(rt: &impl Abort, alloc: Global, space: &mut Space) -> Result<(), AllocError> {
+    let copy = copied(rt, alloc, &*space)?;
+    compare(rt, &copy, &*space);
+    *space = copy;
     Ok(())
 }
 
-#[test]
-fn a_copy_is_compared_with_its_source(rt: HostRuntime) -> Result<(), AllocError> {
-    compare_with_copy(&rt, rt.alloc(), &Space::new(rt.alloc()))?;
-    compare_with_copy(&rt, rt.alloc(), &three_entries(rt.alloc())?)?;
-    compare_with_copy(&rt, rt.alloc(), &three_mappings(rt.alloc())?)
+fn holds(rt: &impl Abort, alloc: Global, space: &mut Space, row: &Row) -> Result<(), AllocError> {
+    match row {
+        Row::Prepare => prepare(rt, space)?,
+        Row::Ready(ready) => assert_eq!(rt; space.ready(), *ready),
+        Row::Map(len, base) => maps(rt, space, *len, *base)?,
+        Row::Room(len, base) => room_is(rt, space, *len, *base),
+        Row::Counts(mappings, entries) => counts(rt, space, *mappings, *entries),
+        Row::Find(vpn, index) => is_found(rt, space, *vpn, *index),
+        Row::Base(vpn, base) => base_is(rt, space, *vpn, *base),
+        Row::First(base) => first_is(rt, space, *base),
+        Row::Touch(vpn, frame, is_new) => touches(rt, space, *vpn, *frame, *is_new)?,
+        Row::Clear(file, index) => space.clear_index(File::new(*file), Index::new(*index)),
+        Row::Frames(told) => frames_are(rt, space, *told),
+        Row::Unmap(base) => unmap(space, *base),
+        Row::Copy => copies(rt, alloc, space)?,
+    }
+    Ok(())
 }
 
+/// Asserts that the calls of a space answer what the rows say.
+fn hold(rt: &impl Abort, alloc: Global, space: &mut Space, rows: &[Row]) -> Result<(), AllocError> {
+    for row in rows {
+        holds(rt, alloc, space, row)?;
+    }
+    Ok(())
+}
+
+/// Asserts that of a new space.
+fn new_holds(rt: &impl Abort, alloc: Global, rows: &[Row]) -> Result<(), AllocError> {
+    hold(rt, alloc, &mut Space::new(alloc), rows)
+}
+
+#[test]
+fn a_mapping_is_found(rt: HostRuntime) -> Result<(), AllocError> {
+    new_holds(
+        &rt,
+        rt.alloc(),
+        &[
+            Row::Copy,
+            Row::Room(4, Some(0)),
+            Row::First(None),
+            Row::Ready(false),
+            Row::Prepare,
+            Row::Ready(true),
+            Row::Map(4, Some(0)),
+            Row::Ready(false),
+            Row::Room(2, Some(4)),
+            Row::Find(2, Some(2)),
+            Row::Find(4, None),
+            Row::Base(3, Some(0)),
+            Row::Base(4, None),
+            Row::First(Some(0)),
+            Row::Counts(1, 0),
+        ],
+    )
+}
+
+#[test]
+fn no_address_is_left(rt: HostRuntime) -> Result<(), AllocError> {
+    new_holds(
+        &rt,
+        rt.alloc(),
+        &[
+            Row::Map(4096, Some(0)),
+            Row::Map(4096, Some(4096)),
+            Row::Map(4096, Some(8192)),
+            Row::Map(4096, Some(12_288)),
+            Row::Room(4096, None),
+            Row::Room(1, None),
+            Row::Counts(4, 0),
+            Row::Find(16_383, Some(4095)),
+        ],
+    )
+}
+
+#[test]
+fn a_page_is_translated_once(rt: HostRuntime) -> Result<(), AllocError> {
+    new_holds(
+        &rt,
+        rt.alloc(),
+        &[
+            Row::Map(4, Some(0)),
+            Row::Touch(2, 7, true),
+            Row::Touch(0, 9, true),
+            Row::Touch(3, 8, true),
+            Row::Frames([Some(9), None, Some(7), Some(8), None, None]),
+            Row::Touch(4, 1, false),
+            Row::Touch(2, 1, false),
+            Row::Counts(1, 3),
+            Row::Copy,
+            Row::Frames([Some(9), None, Some(7), Some(8), None, None]),
+        ],
+    )
+}
+
+// Two mappings of one file, from its begin on: pages 0, 1 and 2, 3, 4. Its index 1 is pages 1 and 3.
+#[test]
+fn an_index_is_cleared_in_each_mapping(rt: HostRuntime) -> Result<(), AllocError> {
+    new_holds(
+        &rt,
+        rt.alloc(),
+        &[
+            Row::Map(2, Some(0)),
+            Row::Map(3, Some(2)),
+            Row::Touch(1, 7, true),
+            Row::Touch(2, 6, true),
+            Row::Touch(3, 7, true),
+            Row::Touch(4, 5, true),
+            Row::Clear(2, 1),
+            Row::Clear(1, 3),
+            Row::Counts(2, 4),
+            Row::Clear(1, 1),
+            Row::Frames([None, None, Some(6), None, Some(5), None]),
+            Row::Counts(2, 2),
+        ],
+    )
+}
+
+// Three mappings, of two, three and one pages, side by side, and four of these pages are translated.
+#[test]
+fn a_mapping_goes_with_its_entries(rt: HostRuntime) -> Result<(), AllocError> {
+    new_holds(
+        &rt,
+        rt.alloc(),
+        &[
+            Row::Map(2, Some(0)),
+            Row::Map(3, Some(2)),
+            Row::Map(1, Some(5)),
+            Row::Touch(1, 7, true),
+            Row::Touch(2, 6, true),
+            Row::Touch(4, 5, true),
+            Row::Touch(5, 4, true),
+            Row::Copy,
+            Row::Unmap(3),
+            Row::Counts(3, 4),
+            Row::Unmap(2),
+            Row::Frames([None, Some(7), None, None, None, Some(4)]),
+            Row::Counts(2, 2),
+            Row::Room(3, Some(2)),
+            Row::Room(4, Some(6)),
+        ],
+    )
+}
+
+// A mapping of four pages, of which three are translated.
+fn three_entries(alloc: Global) -> Result<Space, AllocError> {
+    let mut space = Space::new(alloc);
+    enter(&mut space, 4)?;
+    for (vpn, frame) in [(2, 7), (0, 9), (3, 8)] {
+        touch(&mut space, vpn, frame)?;
+    }
+    Ok(space)
+}
+
+#[test]
+fn translations_are_told_in_order(rt: HostRuntime) -> Result<(), AllocError> {
+    let space = three_entries(rt.alloc())?;
+    let translations = [
+        (Vpn::new(0), Frame::new(9)),
+        (Vpn::new(2), Frame::new(7)),
+        (Vpn::new(3), Frame::new(8)),
+    ];
+    assert!(rt; space.translations().eq(translations));
+    Ok(())
+}
+
+// Of what the source does next, nothing shows in the copy.
 #[test]
 fn a_copy_stays_as_it_was(rt: HostRuntime) -> Result<(), AllocError> {
-    let mut source = three_mappings(rt.alloc())?;
-    prepare(&mut source)?;
-    let copy = copied(&rt, rt.alloc(), &source)?;
-    is_ready(&rt, &source, true);
-
-    unmap(&mut source, 2);
-    counts(&rt, &source, 2, 2);
-    compare(&rt, &copy, &three_mappings(rt.alloc())?);
-    Ok(())
+    let mut source = three_entries(rt.alloc())?;
+    hold(
+        &rt,
+        rt.alloc(),
+        &mut source,
+        &[Row::Map(3, Some(4)), Row::Prepare],
+    )?;
+    let mut copy = copied(&rt, rt.alloc(), &source)?;
+    hold(
+        &rt,
+        rt.alloc(),
+        &mut source,
+        &[Row::Ready(true), Row::Unmap(0), Row::Counts(1, 0)],
+    )?;
+    hold(
+        &rt,
+        rt.alloc(),
+        &mut copy,
+        &[
+            Row::Frames([Some(9), None, Some(7), Some(8), None, None]),
+            Row::Counts(2, 3),
+            Row::Base(6, Some(4)),
+            Row::Room(1, Some(7)),
+        ],
+    )
 }

@@ -1,7 +1,7 @@
 //! Why a line isn't allowed in a trace, in words.
 //!
 //! It stands on hp_replay and hp_base. A `Recalling` source gives what its source gives, and keeps what it gave last; so that
-//! the line that a reader refused can be shown. What is said of a line is for people: tests show it, and nothing rests on it.
+//! the line that a reader refused can be shown. What is said of a line is for people: `gate/reasons.py` shows it, and nothing rests on it.
 #![tactic(auto)]
 
 mod reason;
@@ -11,6 +11,3 @@ mod told;
 pub use reason::{Reason, reason_of};
 pub use recalling::{Line, Recalling, Recalls};
 pub use told::{Told, line_told};
-
-#[cfg(test)]
-mod tests;

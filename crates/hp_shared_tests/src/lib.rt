@@ -20,8 +20,6 @@ pub mod numbers;
 #[cfg(test)]
 mod races;
 #[cfg(test)]
-mod rounds;
-#[cfg(test)]
 mod scenes;
 #[cfg(test)]
 mod waiting;

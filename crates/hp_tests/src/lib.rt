@@ -1,5 +1,6 @@
-//! Tests of the core and of traces: what a pool's readers tell after some steps, what a trace is read as and
-//! what a replay of it writes, which of the values that they tell are equal, and stories from end to end, line by line.
+//! Tests of the core and of traces: whole pictures of a pool, copies of it, what a trace is read as and what a replay of it
+//! writes, which of the values that they tell are equal, and worked rows from end to end, line by line. What a trace and its
+//! output can say stands in `examples/`.
 //!
 //! It stands on the crates that it tests, and makes their public calls. It stands apart because a crate with
 //! tests is proved twice, once for itself and once with its tests: here there is little to prove but the tests,
@@ -21,8 +22,8 @@ mod schedules;
 #[cfg(test)]
 mod sizes;
 #[cfg(test)]
-mod stories;
-#[cfg(test)]
 mod texts;
 #[cfg(test)]
 mod traces;
+#[cfg(test)]
+mod worked_rows;

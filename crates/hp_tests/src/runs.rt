@@ -1,8 +1,8 @@
-//! Runs that no clause says: that ample memory meets no want of it, and what the readers tell then.
+//! What no clause says and no trace shows: that ample memory meets no want of it, what is held back, and whole pictures.
 use crate::calls::{call, happens, pictured, told_of};
 use crate::pool::new_pool;
 use hp_base::{Answer, Config, Event, File, Frame, Index, Op, Task, Vpn};
-use hp_core::{Core, Life, Outcome, Phase, Picture, Refusal, RunFault, Tally, audit};
+use hp_core::{Core, FilePicture, Outcome, Picture, Refusal, RunFault, Tally, audit};
 use std::alloc::{AllocError, Global};
 use std::process::Abort;
 use std::test::Fail;
@@ -19,56 +19,6 @@ fn nothing_happens(rt: HostRuntime) -> Result<(), Fail> {
         pages: 0,
     };
     assert_eq!(rt; core.tally(), tally);
-    Ok(())
-}
-
-#[test]
-fn numbers_of_a_new_pool(rt: HostRuntime) -> Result<(), Fail> {
-    let core = new_pool(rt.alloc())?;
-    core.always();
-    assert_eq!(rt; core.config().frames, 4);
-    assert_eq!(rt; core.frames(), 4);
-    assert_eq!(rt; core.free(), 4);
-    assert_eq!(rt; core.resv(), 0);
-    assert_eq!(rt; core.calls(), 0);
-    Ok(())
-}
-
-#[test]
-fn numbers_of_a_new_file(rt: HostRuntime) -> Result<(), Fail> {
-    let core = new_pool(rt.alloc())?;
-    let file = File::new(0);
-    assert_eq!(rt; core.size(file), 0);
-    assert_eq!(rt; core.reserved(file), 0);
-    assert_eq!(rt; core.pages(file), 0);
-    Ok(())
-}
-
-#[test]
-fn reserve_map_of_a_new_file(rt: HostRuntime) -> Result<(), Fail> {
-    let core = new_pool(rt.alloc())?;
-    let file = File::new(0);
-    assert_eq!(rt; core.regions(file), 0);
-    assert_eq!(rt; core.changes(file), 0);
-    assert_eq!(rt; core.spare(file), 0);
-    Ok(())
-}
-
-#[test]
-fn numbers_of_a_new_task(rt: HostRuntime) -> Result<(), Fail> {
-    let core = new_pool(rt.alloc())?;
-    let task = Task::new(1);
-    assert_eq!(rt; core.mappings(task), 0);
-    assert_eq!(rt; core.entries(task), 0);
-    Ok(())
-}
-
-#[test]
-fn life_of_a_new_task(rt: HostRuntime) -> Result<(), Fail> {
-    let core = new_pool(rt.alloc())?;
-    let task = Task::new(1);
-    assert_eq!(rt; core.life(task), Life::Alive);
-    assert_eq!(rt; core.phase(task), None);
     Ok(())
 }
 
@@ -90,78 +40,38 @@ fn two_maps(alloc: Global) -> Result<Core, Fail> {
     Ok(core)
 }
 
-#[test]
-fn a_second_map_has_begun(rt: HostRuntime) -> Result<(), Fail> {
-    let core = two_maps(rt.alloc())?;
-    assert_eq!(rt; core.config().tasks, 2);
-    assert_eq!(rt; core.phase(Task::new(2)), Some(Phase::Start));
-    Ok(())
-}
-
-#[test]
-fn a_second_map_waits_for_the_first(rt: HostRuntime) -> Result<(), Fail> {
-    let core = two_maps(rt.alloc())?;
-    let (one, two) = (Task::new(1), Task::new(2));
-    assert_eq!(rt; core.config().tasks, 2);
-    assert_eq!(rt; core.waits_for(two), Some(one));
-    assert_eq!(rt; core.waits_for(one), None);
-    Ok(())
-}
-
-#[test]
-fn a_second_map_is_blocked_by_the_first(rt: HostRuntime) -> Result<(), Fail> {
-    // Names the type inside `Outcome`, which the borrow checker's part asks for.
-    let _none: Option<Answer> = None;
-    let mut core = two_maps(rt.alloc())?;
-    let (one, two) = (Task::new(1), Task::new(2));
-    let told = happens(&mut core, Event::Step(two, true))?;
-    assert_eq!(rt; told, Outcome::Blocked(one));
-    Ok(())
-}
-
 // What is told of an event that changes nothing. The tests ask for no row.
 fn held_back(core: &Core, event: Event) -> Option<Outcome> {
     core.held_back(event)
 }
 
+/// Asserts what is told of each event, if it changes nothing.
+fn are_held_back(rt: &impl Abort, core: &Core, rows: &[(Event, Option<Outcome>)]) {
+    for (event, told) in rows {
+        assert_eq!(rt; held_back(core, *event), *told);
+    }
+}
+
+// The second task waits for the first, there is no third, and no pool is without frames.
 #[test]
 fn events_that_change_nothing_are_held_back(rt: HostRuntime) -> Result<(), Fail> {
     let core = two_maps(rt.alloc())?;
     let (one, two, three) = (Task::new(1), Task::new(2), Task::new(3));
     let refused = |why| Some(Outcome::Refused(why));
-    assert_eq!(rt;
-        held_back(&core, Event::Step(two, true)),
-        Some(Outcome::Blocked(one))
+    are_held_back(
+        &rt,
+        &core,
+        &[
+            (Event::Step(two, true), Some(Outcome::Blocked(one))),
+            (Event::Begin(one, Op::Exit), refused(Refusal::InCall)),
+            (Event::Step(three, true), refused(Refusal::NotAlive)),
+            (Event::Kill(three), refused(Refusal::NotAlive)),
+            (Event::Resize(0), refused(Refusal::BadSize)),
+            (Event::Step(one, false), None),
+            (Event::Kill(two), None),
+            (Event::Resize(4), None),
+        ],
     );
-    assert_eq!(rt;
-        held_back(&core, Event::Begin(one, Op::Exit)),
-        refused(Refusal::InCall)
-    );
-    assert_eq!(rt;
-        held_back(&core, Event::Step(three, true)),
-        refused(Refusal::NotAlive)
-    );
-    assert_eq!(rt;
-        held_back(&core, Event::Kill(three)),
-        refused(Refusal::NotAlive)
-    );
-    assert_eq!(rt;
-        held_back(&core, Event::Resize(0)),
-        refused(Refusal::BadSize)
-    );
-    Ok(())
-}
-
-#[test]
-fn events_that_change_something_are_not(rt: HostRuntime) -> Result<(), Fail> {
-    let core = two_maps(rt.alloc())?;
-    for event in [
-        Event::Step(Task::new(1), false),
-        Event::Kill(Task::new(2)),
-        Event::Resize(4),
-    ] {
-        assert_eq!(rt; held_back(&core, event), None);
-    }
     Ok(())
 }
 
@@ -188,26 +98,6 @@ fn shared_page(alloc: Global) -> Result<Core, Fail> {
 }
 
 #[test]
-fn two_tasks_map_a_page(rt: HostRuntime) -> Result<(), Fail> {
-    let mut core = Core::new(rt.alloc(), Config::new(1, 1, 1, 2)?)?;
-    for task in [Task::new(1), Task::new(2)] {
-        let [mapped, _] = map_and_store(&mut core, task)?;
-        assert_eq!(rt; mapped, Some(Answer::Mapped(Vpn::new(0))));
-    }
-    Ok(())
-}
-
-#[test]
-fn two_tasks_store_to_a_page(rt: HostRuntime) -> Result<(), Fail> {
-    let mut core = Core::new(rt.alloc(), Config::new(1, 1, 1, 2)?)?;
-    for task in [Task::new(1), Task::new(2)] {
-        let [_, stored] = map_and_store(&mut core, task)?;
-        assert_eq!(rt; stored, Some(Answer::Done));
-    }
-    Ok(())
-}
-
-#[test]
 fn two_tasks_share_a_page(rt: HostRuntime) -> Result<(), Fail> {
     let core = shared_page(rt.alloc())?;
     assert_eq!(rt; core.config().tasks, 2);
@@ -217,51 +107,41 @@ fn two_tasks_share_a_page(rt: HostRuntime) -> Result<(), Fail> {
     Ok(())
 }
 
-// The picture of that pool.
-fn shared_picture(alloc: Global) -> Result<Picture, Fail> {
-    Ok(pictured(&shared_page(alloc)?, alloc)?)
-}
-
-#[test]
-fn a_picture_of_the_pool(rt: HostRuntime) -> Result<(), Fail> {
-    let picture = shared_picture(rt.alloc())?;
-    assert_eq!(rt; audit(&picture), Ok(()));
-    assert!(rt; picture.free.is_empty() && picture.hands.is_empty());
-    assert_eq!(rt; (picture.resv, picture.owed), (0, 0));
-    Ok(())
-}
-
-#[test]
-fn a_picture_of_the_file(rt: HostRuntime) -> Result<(), Fail> {
-    let picture = shared_picture(rt.alloc())?;
-    assert_eq!(rt; picture.files.len(), 1);
-    let told = &picture.files[0];
-    assert_eq!(rt; (told.size, told.locked), (1, false));
-    Ok(())
-}
-
-#[test]
-fn a_picture_of_the_files_indices(rt: HostRuntime) -> Result<(), Fail> {
-    let picture = shared_picture(rt.alloc())?;
-    let first = Index::new(0);
-    assert_eq!(rt; picture.files.len(), 1);
-    let told = &picture.files[0];
-    let ranges = [(first, Index::new(1))];
-    assert_eq!(rt; told.regions.as_slice(), ranges.as_slice());
-    let pages = [(first, Frame::new(0))];
-    assert_eq!(rt; told.pages.as_slice(), pages.as_slice());
-    Ok(())
-}
-
-#[test]
-fn a_picture_of_the_tables(rt: HostRuntime) -> Result<(), Fail> {
-    let picture = shared_picture(rt.alloc())?;
+// The picture of that pool, by the tables: its one frame is the page at index 0, which both tasks translate.
+fn page_of_two(alloc: Global) -> Result<Picture, AllocError> {
     let (file, first, frame) = (File::new(0), Index::new(0), Frame::new(0));
-    let entries = [
-        (Task::new(1), file, first, frame),
-        (Task::new(2), file, first, frame),
-    ];
-    assert_eq!(rt; picture.tables.as_slice(), entries.as_slice());
+    let shown = FilePicture {
+        size: 1,
+        locked: false,
+        regions: vec![in alloc; (first, Index::new(1))]?,
+        pages: vec![in alloc; (first, frame)]?,
+    };
+    let mut tables = vec![in alloc; (Task::new(1), file, first, frame)]?;
+    tables.push((Task::new(2), file, first, frame))?;
+    Ok(Picture {
+        free: Vec::new(alloc),
+        retired: Vec::new(alloc),
+        resv: 0,
+        owed: 0,
+        used: 1,
+        used_owed: 0,
+        quota: None,
+        hands: Vec::new(alloc),
+        files: vec![in alloc; shown]?,
+        tables,
+    })
+}
+
+/// Asserts that a picture passes the audit, and is this one.
+fn is_picture(rt: &impl Abort, picture: &Picture, wanted: &Picture) {
+    assert_eq!(rt; audit(picture), Ok(()));
+    assert!(rt; *picture == *wanted);
+}
+
+#[test]
+fn a_picture_of_two_tasks(rt: HostRuntime) -> Result<(), Fail> {
+    let picture = pictured(&shared_page(rt.alloc())?, rt.alloc())?;
+    is_picture(&rt, &picture, &page_of_two(rt.alloc())?);
     Ok(())
 }
 
@@ -276,40 +156,21 @@ fn resized(alloc: Global, sizes: &[u32]) -> Result<Core, Fail> {
     Ok(core)
 }
 
-#[test]
-fn a_pool_shrinks(rt: HostRuntime) -> Result<(), Fail> {
-    let core = resized(rt.alloc(), &[3])?;
-    assert_eq!(rt; (core.frames(), core.free()), (3, 3));
-    assert_eq!(rt; core.config().frames, 4);
-    Ok(())
+// How many frames the picture of such a pool shows as free and as retired, where it passes the audit.
+fn free_and_retired(alloc: Global, sizes: &[u32]) -> Result<Option<(usize, usize)>, Fail> {
+    let picture = pictured(&resized(alloc, sizes)?, alloc)?;
+    Ok(
+        audit(&picture)
+            .ok()
+            .map(|()| (picture.free.len(), picture.retired.len())),
+    )
 }
 
 #[test]
-fn a_pool_grows(rt: HostRuntime) -> Result<(), Fail> {
-    let core = resized(rt.alloc(), &[1, 6, 0, 4097])?;
-    assert_eq!(rt; (core.frames(), core.free()), (6, 6));
-    assert_eq!(rt; core.config().frames, 4);
-    Ok(())
-}
-
-// The picture of such a pool.
-fn resized_picture(alloc: Global, sizes: &[u32]) -> Result<Picture, Fail> {
-    Ok(pictured(&resized(alloc, sizes)?, alloc)?)
-}
-
-#[test]
-fn a_picture_of_a_smaller_pool(rt: HostRuntime) -> Result<(), Fail> {
-    let picture = resized_picture(rt.alloc(), &[3])?;
-    assert_eq!(rt; audit(&picture), Ok(()));
-    assert_eq!(rt; (picture.free.len(), picture.retired.len()), (3, 1));
-    Ok(())
-}
-
-#[test]
-fn a_picture_of_a_larger_pool(rt: HostRuntime) -> Result<(), Fail> {
-    let picture = resized_picture(rt.alloc(), &[1, 6])?;
-    assert_eq!(rt; audit(&picture), Ok(()));
-    assert_eq!(rt; (picture.free.len(), picture.retired.len()), (6, 0));
+fn pictures_of_resized_pools(rt: HostRuntime) -> Result<(), Fail> {
+    for (sizes, wanted) in [([4, 3], (3, 1)), ([1, 6], (6, 0))] {
+        assert_eq!(rt; free_and_retired(rt.alloc(), &sizes)?, Some(wanted));
+    }
     Ok(())
 }
 
@@ -317,6 +178,7 @@ fn a_picture_of_a_larger_pool(rt: HostRuntime) -> Result<(), Fail> {
 #[test]
 fn laws_of_frames_ask_for_nothing(rt: HostRuntime) -> Result<(), Fail> {
     let core = new_pool(rt.alloc())?;
+    core.always();
     core.is_reached();
     core.never_short();
     core.a_touch_that_misses_nothing_takes_a_frame();
@@ -346,8 +208,11 @@ fn has_text(rt: &impl Abort, alloc: Global, fault: RunFault, text: &str) -> Resu
 
 #[test]
 fn texts(rt: HostRuntime) -> Result<(), Fail> {
-    let (few, many) = (RunFault { done: 3 }, RunFault { done: 1_000_000 });
-    has_text(&rt, rt.alloc(), few, "out of memory after 3 events")?;
-    has_text(&rt, rt.alloc(), many, "out of memory after 1000000 events")?;
+    for (done, text) in [
+        (3, "out of memory after 3 events"),
+        (1_000_000, "out of memory after 1000000 events"),
+    ] {
+        has_text(&rt, rt.alloc(), RunFault { done }, text)?;
+    }
     Ok(())
 }

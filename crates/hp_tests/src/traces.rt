@@ -76,6 +76,13 @@ fn has_events(rt: &impl Abort, trace: &Trace, events: &[Event]) {
     assert_eq!(rt; trace.events.as_slice(), events);
 }
 
+/// Asserts that the trace that the bytes are is written as these bytes.
+fn is_one_text(rt: &impl Abort, alloc: Global, bytes: &[u8]) -> Result<(), ReplayFault> {
+    let trace = read(alloc, bytes)?;
+    is_written(rt, alloc, &trace, bytes);
+    Ok(())
+}
+
 #[test]
 fn a_trace_has_one_text(rt: HostRuntime) -> Result<(), Fail> {
     let trace = read(rt.alloc(), TRACE)?;
@@ -93,6 +100,11 @@ fn a_trace_has_one_text(rt: HostRuntime) -> Result<(), Fail> {
     ];
     has_events(&rt, &trace, events.as_slice());
     is_written(&rt, rt.alloc(), &trace, TRACE);
+    is_one_text(
+        &rt,
+        rt.alloc(),
+        b"pool 1 1 1 1\nbegin 1 exit\ndeny 1\ndeny 1\n",
+    )?;
     Ok(())
 }
 

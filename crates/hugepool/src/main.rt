@@ -2,7 +2,7 @@
 //!
 //! It stands on hp_replay and hp_client, and reads its words with clap. It promises of what is read and written what hp_replay's
 //! contracts say, and a status that tells which (`EndsWith`); which words ask for what, and the texts, are shown by
-//! tests. It knows nothing of pools.
+//! the rows of `examples/commands`. It knows nothing of pools.
 #![tactic(auto)]
 
 mod carrying;
@@ -39,14 +39,3 @@ fn main(rt: HostRuntime) -> io::Result<ExitCode> {
     );
     Ok(ExitCode::from(status))
 }
-
-#[cfg(test)]
-mod comparing;
-#[cfg(test)]
-mod drawing_tests;
-#[cfg(test)]
-mod explaining_tests;
-#[cfg(test)]
-mod race_tests;
-#[cfg(test)]
-mod tests;

@@ -1,0 +1,289 @@
+"""Runs the program by rows of data, and compares the status and both streams of each run with what its row says.
+
+A row is a table `[[row]]` of a file examples/commands/NAME.toml; examples/README.md lists its keys. A row may hand the program
+streams that fail: an input that breaks off, an output with room for some bytes, a full standard error. They are the system's
+own (a socket whose other end is reset, a limit on the size of files, /dev/full), so the whole program runs as it ships.
+"""
+from __future__ import annotations
+
+import re
+import resource
+import shlex
+import signal
+import socket
+import subprocess
+import tempfile
+import tomllib
+from dataclasses import dataclass, field, replace
+from pathlib import Path
+from typing import IO, Callable, Iterator, NamedTuple
+
+# a run that takes longer hangs
+SECONDS = 600
+# `LINE x12` stands for twelve lines
+REPEATED = re.compile(r"^(.*) x(\d+)$", re.MULTILINE)
+
+
+class Ran(NamedTuple):
+    """What a run came to."""
+
+    status: int
+    out: str
+    err: str
+
+
+@dataclass(frozen=True)
+class Row:
+    """Command lines that all do the same, their streams, and what has to come of each."""
+
+    name: str
+    words: list[str]
+    status: int = 0
+    # the input as it stands; or a trace with repeated lines, and behind it numbered rounds
+    stdin: str = ""
+    trace: str = ""
+    rounds: dict[str, int | str] = field(default_factory=dict)
+    # the streams that fail
+    breaks: bool = False
+    room: list[int] | str | None = None
+    stderr_is_full: bool = False
+    # what is written: a text, or names of the file's texts; or some of it
+    stdout: str | None = None
+    stdout_starts: str = ""
+    stdout_ends: str = ""
+    stdout_holds: list[str] = field(default_factory=list)
+    stdout_tail: list[str] = field(default_factory=list)
+    stdout_lines: int | None = None
+    stderr: str = ""
+    stderr_starts: str = ""
+
+    def is_partly_said(self) -> bool:
+        """Whether the row says something of its output, but not all of it."""
+        return bool(self.stdout_starts or self.stdout_ends or self.stdout_holds or self.stdout_tail or self.stdout_lines)
+
+    def read(self) -> bytes:
+        """The input."""
+        text = self.trace
+        if self.rounds:
+            lines = str(self.rounds["lines"])
+            text += "".join(lines.replace("{n}", str(n)) for n in range(0, int(self.rounds["below"]), int(self.rounds["by"])))
+        return (self.stdin + REPEATED.sub(lambda it: "\n".join([it[1]] * int(it[2])), text)).encode()
+
+
+def rows_of(file: Path) -> list[Row]:
+    """The rows of a file. A key that is none of a row's is an error."""
+    tables = tomllib.loads(file.read_text(encoding="utf-8"))
+    texts = tables.get("texts", {})
+    found = []
+    for table in tables["row"]:
+        if isinstance(table.get("stdout"), list):
+            table["stdout"] = "".join(texts[name] for name in table["stdout"])
+        found.append(Row(**table))
+    return found
+
+
+def first_difference(printed: list[str], wanted: list[str]) -> str:
+    """The first line that differs, and how."""
+    at = next((k for k, (a, b) in enumerate(zip(printed, wanted)) if a != b), min(len(printed), len(wanted)))
+    of = lambda lines: repr(lines[at]) if at < len(lines) else "nothing"
+    return f"line {at + 1}: {of(printed)}, and not {of(wanted)}"
+
+
+def tail_fault(out: str, fronts: list[str]) -> str | None:
+    """What is wrong with the last lines of an output, which begin with these, in their order."""
+    last = out.splitlines()[-len(fronts) :] if fronts else []
+    wrong = len(last) != len(fronts) or not all(line.startswith(front) for line, front in zip(last, fronts))
+    return f"its last lines are {last}" if wrong else None
+
+
+def output_fault(row: Row, out: str) -> str | None:
+    """What is wrong with the output of a run, if anything is."""
+    wanted = row.stdout if row.stdout is not None or row.is_partly_said() else ""
+    if wanted is not None and out != wanted:
+        return first_difference(out.split("\n"), wanted.split("\n"))
+    if not out.startswith(row.stdout_starts):
+        return f"it starts with {out[:200]!r}"
+    if not out.endswith(row.stdout_ends):
+        return f"it ends with {out[-200:]!r}"
+    if row.stdout_lines is not None and out.count("\n") != row.stdout_lines:
+        return f"it has {out.count(chr(10))} lines"
+    absent = [it for it in row.stdout_holds if out.count(it) != 1]
+    return f"{absent[0]!r} stands in it {out.count(absent[0])} times" if absent else tail_fault(out, row.stdout_tail)
+
+
+def fault(row: Row, ran: Ran) -> str | None:
+    """What is wrong with a run, if anything is."""
+    if ran.status != row.status:
+        return f"status {ran.status}: {ran.err.strip()}"
+    if wrong := output_fault(row, ran.out):
+        return wrong
+    is_right = ran.err.startswith(row.stderr_starts) if row.stderr_starts else ran.err == row.stderr
+    return None if is_right else f"on standard error {ran.err!r}"
+
+
+def broken(read: bytes) -> socket.socket:
+    """An input that gives these bytes, and then an error: its other end is closed with a byte unread, which resets it."""
+    ours, its = socket.socketpair()
+    its.sendall(b"?")
+    ours.sendall(read)
+    ours.close()
+    return its
+
+
+def limited(room: int) -> Callable[[], None]:
+    """Lets the files that a new process writes have so many bytes: a write beyond fails."""
+
+    def limit() -> None:
+        signal.signal(signal.SIGXFSZ, signal.SIG_IGN)
+        resource.setrlimit(resource.RLIMIT_FSIZE, (room, room))
+
+    return limit
+
+
+def run(program: Path, words: str, row: Row, room: int | None) -> Ran:
+    """Runs the program over the row's streams, with room for so many bytes of output where a number is given."""
+    with tempfile.TemporaryFile() as source, tempfile.TemporaryFile() as out, open("/dev/full", "wb") as full:
+        source.write(row.read())
+        source.seek(0)
+        stdin: IO[bytes] | socket.socket = broken(row.read()) if row.breaks else source
+        ran = subprocess.run(
+            [program, *shlex.split(words)],
+            stdin=stdin,
+            stdout=out,
+            stderr=full if row.stderr_is_full else subprocess.PIPE,
+            preexec_fn=None if room is None else limited(room),
+            timeout=SECONDS,
+            check=False,
+        )
+        if isinstance(stdin, socket.socket):
+            stdin.close()
+        out.seek(0)
+        return Ran(ran.returncode, out.read().decode(errors="replace"), (ran.stderr or b"").decode(errors="replace"))
+
+
+def rooms(row: Row, most: int) -> list[int]:
+    """For how many bytes of an output of this length there is room; a negative number counts from the end."""
+    if row.room == "every":
+        return list(range(most))
+    return [it if it >= 0 else most + it for it in row.room or []]
+
+
+def front_fault(program: Path, words: str, row: Row) -> str | None:
+    """What is wrong where an output has room for a part of what is written: as much of it, and the fault, has to come."""
+    assert row.room == "every" or isinstance(row.room, list), f"{row.name}: no room is {row.room}"
+    whole = (row.stdout if row.stdout is not None else run(program, words, row, None).out).encode()
+    for room in rooms(row, len(whole)):
+        front = replace(row, stdout=whole[:room].decode(errors="replace"))
+        if wrong := fault(front, run(program, words, row, room)):
+            return f"room for {room} bytes: {wrong}"
+    return None
+
+
+def has_end(row: Row) -> bool:
+    """Whether the row says how its output ends."""
+    return bool(row.stdout_ends or row.stdout_tail or row.stdout_lines is not None) or not row.is_partly_said()
+
+
+# what a run may come to instead, and which rows have to notice it
+CHANGES: dict[str, tuple[Callable[[Ran], Ran], Callable[[Row], bool]]] = {
+    "another status": (lambda ran: ran._replace(status=ran.status + 1), lambda _: True),
+    "a byte more": (lambda ran: ran._replace(out=ran.out + "\n"), has_end),
+    "its last line lost": (lambda ran: ran._replace(out="".join(ran.out.splitlines(True)[:-1])), has_end),
+    "its first line lost": (
+        lambda ran: ran._replace(out="".join(ran.out.splitlines(True)[1:])),
+        lambda row: bool(row.stdout_starts or row.stdout_lines) or not row.is_partly_said(),
+    ),
+    "nothing on standard error": (lambda ran: ran._replace(err=""), lambda _: True),
+    "a line more on standard error": (
+        lambda ran: ran._replace(err=ran.err + "hugepool: stuck\n"),
+        lambda row: not row.stderr_starts,
+    ),
+}
+
+
+def unnoticed_change(row: Row, ran: Ran) -> str | None:
+    """A change of a right run that the row doesn't notice and has to, if there is one."""
+    changed = {what: change(ran) for what, (change, concerns) in CHANGES.items() if concerns(row)}
+    return next((f"{what} isn't noticed" for what, it in changed.items() if it != ran and fault(row, it) is None), None)
+
+
+def row_fault(program: Path, words: str, row: Row) -> str | None:
+    """What is wrong with the runs of one command line of a row, or with the row itself, if anything is."""
+    try:
+        if row.room is not None:
+            return front_fault(program, words, row)
+        ran = run(program, words, row, None)
+        return fault(row, ran) or unnoticed_change(row, ran)
+    except subprocess.TimeoutExpired:
+        return "it does not end"
+
+
+def rows_below(folder: Path) -> list[tuple[str, Row]]:
+    """All rows of a folder, each with the name of its file and its own."""
+    return [(f"{file.name}: {row.name}", row) for file in sorted(folder.glob("*.toml")) for row in rows_of(file)]
+
+
+def compared(program: Path, folder: Path) -> tuple[int, list[str]]:
+    """How many command lines of a folder's rows do what these say, and what is wrong with the others."""
+    tried = [(name, row, words) for name, row in rows_below(folder) for words in row.words]
+    found = [(f"{name}: hugepool {words}", row_fault(program, words, row)) for name, row, words in tried]
+    faults = [f"{what}: {wrong}" for what, wrong in found if wrong]
+    return len(found) - len(faults), faults
+
+
+# a program that runs the right one and changes what comes of it: {change} has its output, its complaint and its status
+WRONG = """#!/usr/bin/env python3
+import os, subprocess, sys
+RIGHT = {right!r}
+
+def everything():
+    while True:
+        try:
+            piece = os.read(0, 65536)
+        except OSError:
+            return
+        if not piece:
+            return
+        yield piece
+
+def write(to, written):
+    while written:
+        written = written[os.write(to, written):]
+
+ran = subprocess.run([RIGHT, *sys.argv[1:]], input=b"".join(everything()), capture_output=True)
+status = ran.returncode
+{change}
+sys.exit(status)
+"""
+RELAY = """
+try:
+    write(1, ran.stdout)
+    write(2, ran.stderr)
+except OSError:
+    {otherwise}
+"""
+# what each wrong program does, how, and which rows have to notice it
+WRONGS: dict[str, tuple[str, Callable[[Row], bool]]] = {
+    "takes a broken input for its end": (RELAY.format(otherwise="status = 1"), lambda row: row.breaks),
+    "doesn't see that its output is full": (RELAY.format(otherwise="pass"), lambda row: "writing failed" in row.stderr),
+    "takes back what it wrote where its output is full": (
+        RELAY.format(otherwise='os.ftruncate(1, 0); status = 1; write(2, b"hugepool: writing failed\\n")'),
+        lambda row: "writing failed" in row.stderr,
+    ),
+    "has another status where its complaint isn't taken": (RELAY.format(otherwise="status = 3"), lambda row: row.stderr_is_full),
+}
+
+
+def wrongs_noticed(right: Path, wrong: Path, folder: Path) -> Iterator[tuple[str, bool]]:
+    """Whether each wrong program is noticed by each row that has to; a program is written to that file."""
+    for what, (change, concerns) in WRONGS.items():
+        wrong.write_text(WRONG.format(right=str(right), change=change), encoding="utf-8")
+        wrong.chmod(0o755)
+        for name, row in ((name, row) for name, row in rows_below(folder) if concerns(row)):
+            yield f"{name}: a program that {what} is noticed", row_fault(wrong, row.words[0], row) is not None
+
+
+def noticed(program: Path, folder: Path) -> Iterator[tuple[str, bool]]:
+    """What is tried with wrong programs, and whether it went as it should."""
+    with tempfile.TemporaryDirectory(prefix="rows-") as room:
+        yield from wrongs_noticed(program, Path(room) / "hugepool", folder)
