@@ -21,8 +21,8 @@ from typing import Iterator
 
 import verdict
 from accounts import account
+from events import Attempt, placed
 from linux_rows import RULES, machine_of
-from placing import Placement, placed
 from recordings import Recording, error_at_rest, recordings, workload_of
 
 TOP = Path(__file__).resolve().parents[2]
@@ -78,7 +78,7 @@ def check(job: Job) -> Checked:
     return done
 
 
-def summary(job: Job, placement: Placement) -> Checked:
+def summary(job: Job, placement: Attempt) -> Checked:
     return Checked(
         job.file, job.number, job.workload, len(job.run), sum(it.kind == "return" for it in job.run),
         placement.overlaps, placement.met, placement.visited, placement.notes, tuple(placement.defects),

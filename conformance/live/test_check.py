@@ -1,7 +1,7 @@
 #!/usr/bin/env python3
 """Checks the recordings of this folder, and that the comparison can fail.
 
-usage: test_check.py [--program P] [--jobs N]
+usage: test_check.py [--program P | --alone] [--jobs N]
 
 The recordings have to be whole in just the numbers that EXPECTED has. Then wrong machines, and recordings with two events swapped, have
 to be noticed, and none of them once the comparison is switched off: so it is the comparison that notices. The Python machine, by which
@@ -21,13 +21,13 @@ from typing import Callable, Iterator, NamedTuple
 
 import check
 import machine
-import placing
-from placing import Placement
+from events import Attempt
+from placing import Racer
 from recordings import Recording, recordings
 from wrong_machines import WRONG, Base
 
 FOLDER = Path(__file__).resolve().parent / "recordings"
-PROGRAM = Path(__file__).resolve().parents[2] / "hugepool"
+TOP = Path(__file__).resolve().parents[2]
 
 
 class Expected(NamedTuple):
@@ -57,13 +57,13 @@ TRIED, EVERY = ("a", "t", "settle", "settles"), 4
 SWAPPED = {"changes and commits of one map": ("change", "commit", "delete"), "takes and accounts": ("take", "account", "free")}
 
 
-class Blind(Placement):
+class Blind(Attempt):
     """A comparison that is switched off."""
 
     def same(self, kind: str, machine: object, linux: object) -> None:
         pass
 
-    def step(self, racer: placing.Racer, kind: str, *wanted: str, is_granted: bool = True) -> str:
+    def step(self, racer: Racer, kind: str, *wanted: str, is_granted: bool = True) -> str:
         return super().step(racer, kind, "*", is_granted=is_granted)
 
 
@@ -86,7 +86,7 @@ def replayed(it: Expected, program: Path | None, processes: int) -> tuple[bool, 
     return (len(done), whole, disagreements) == (it.number, it.whole, 0), said
 
 
-def is_noticed(given: tuple[Recording, int, type[Placement]]) -> bool:
+def is_noticed(given: tuple[Recording, int, type[Attempt]]) -> bool:
     """Whether a comparison notices a wrong machine, or (number -1) the right one."""
     run, number, comparison = given
     attempt = comparison(run, "middle", WRONG[number] if number >= 0 else Base)
@@ -94,11 +94,11 @@ def is_noticed(given: tuple[Recording, int, type[Placement]]) -> bool:
         attempt.place()
     except (ArithmeticError, AttributeError, LookupError, TypeError):
         # (a machine so wrong that it has no next state)
-        return comparison is Placement
-    return attempt.fault is not None and (comparison is Placement or attempt.fault.kind != "no row")
+        return comparison is Attempt
+    return attempt.fault is not None and (comparison is Attempt or attempt.fault.kind != "no row")
 
 
-def how_often(runs: list[Recording], numbers: range, comparison: type[Placement], processes: int) -> Counter[int]:
+def how_often(runs: list[Recording], numbers: range, comparison: type[Attempt], processes: int) -> Counter[int]:
     given = [(run, number, comparison) for number in numbers for run in runs]
     with Pool(processes) as pool:
         noticed = pool.map(is_noticed, given, chunksize=50)
@@ -133,13 +133,13 @@ def swaps(runs: list[Recording]) -> Iterator[tuple[bool, str]]:
     rng = random.Random(1)
     for what, kinds in SWAPPED.items():
         swapped = [it for it in (swap(run, rng, kinds) for run in runs) if it]
-        noticed = sum(is_noticed((it, -1, Placement)) for it in swapped)
+        noticed = sum(is_noticed((it, -1, Attempt)) for it in swapped)
         yield len(swapped) > 5 and noticed >= 0.8 * len(swapped), f"two events swapped, {what}: {noticed} of {len(swapped)} are noticed"
 
 
 def wrong_machines(runs: list[Recording], processes: int) -> Iterator[tuple[bool, str]]:
     numbers = range(len(WRONG))
-    noticed = how_often(runs, numbers, Placement, processes)
+    noticed = how_often(runs, numbers, Attempt, processes)
     for number, it in enumerate(WRONG):
         yield noticed[number] > 0, f"wrong machine noticed {noticed[number]} times in {len(runs)}: {it.__doc__}"
     blind = how_often(runs[::8], numbers, Blind, processes)
@@ -176,11 +176,17 @@ def same_answers(program: Path, traces: int) -> tuple[bool, str]:
     return True, f"{traces} random traces: the Python machine answers as the program does"
 
 
+def built() -> Path:
+    """The proved program, built where it isn't yet. It is called by itself, since the launcher takes longer than a replay."""
+    subprocess.run([TOP / "hugepool", "--help"], env={**os.environ, "HUGEPOOL": "proved"}, stdout=subprocess.DEVNULL, check=True)
+    return TOP / "crates" / "hugepool" / "out" / "hugepool"
+
+
 def results(program: Path | None, processes: int) -> Iterator[tuple[bool, str]]:
     for it in EXPECTED:
         yield replayed(it, program, processes)
     runs = [run for name in TRIED for run in list(recordings(file_of(name)))[::EVERY]]
-    right = how_often(runs, range(-1, 0), Placement, processes)
+    right = how_often(runs, range(-1, 0), Attempt, processes)
     yield not right, f"the right machine with Linux's rows: {len(runs) - right.total()} of {len(runs)} recordings are whole"
     yield from wrong_machines(runs, processes)
     yield from swaps(runs)
@@ -190,11 +196,13 @@ def results(program: Path | None, processes: int) -> Iterator[tuple[bool, str]]:
 
 def main() -> int:
     words = argparse.ArgumentParser(prog="test_check.py", description=__doc__.split("\n")[0])
-    words.add_argument("--program", type=Path, default=PROGRAM, help="the program that replays the traces (./hugepool)")
+    words.add_argument("--program", type=Path, help="the program that replays the traces (the one that ./hugepool builds)")
+    words.add_argument("--alone", action="store_true", help="ask the Python machine alone, and no program")
     words.add_argument("--jobs", type=int, default=os.cpu_count() or 1, metavar="N", help="processes side by side")
     given = words.parse_args()
     passed = failed = 0
-    for is_good, said in results(given.program, given.jobs):
+    program = None if given.alone else given.program or built()
+    for is_good, said in results(program, given.jobs):
         print(said if is_good else f"FAILED: {said}", flush=True)
         passed, failed = passed + is_good, failed + (not is_good)
     print(f"live: {passed} passed, {failed} failed")
