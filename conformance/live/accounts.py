@@ -39,7 +39,8 @@ WORDS: dict[str, Callable[[Event], str]] = {
     "delete_refused": lambda it: "region_del is refused memory",
     "account": lambda it: f"hugetlb_acct_memory {it.a:+d}{': refused' if it.b else ''}",
     "unused": lambda it: f"return_unused_surplus_pages {it.a}",
-    "take": lambda it: f"a page for index {it.a}: {'' if it.b == NONE else 'reserved, ' if it.c & 1 else 'not reserved, '}{page_of(it)}",
+    # (7.3 takes a page where its index isn't known)
+    "take": lambda it: f"a page{'' if it.a < 0 else f' for index {it.a}'}: {'' if it.b == NONE else 'reserved, ' if it.c & 1 else 'not reserved, '}{page_of(it)}",
     "free": lambda it: f"pfn {it.a} is free",
     "place": lambda it: f"pfn {it.b} is in the page cache at index {it.a}",
     "place_refused": lambda it: "adding to the page cache is refused memory",

@@ -17,14 +17,14 @@ import sys
 from collections import Counter
 from multiprocessing import Pool
 from pathlib import Path
-from typing import Callable, Iterator, NamedTuple
+from typing import Callable, Iterable, Iterator, NamedTuple
 
 import check
 import machine
 from events import Attempt
 from placing import Racer
 from recordings import Recording, recordings
-from wrong_machines import WRONG, Base
+from wrong_machines import WRONG, AllocationAlwaysExtends, Base, MapLeavesTheSize, NewPageKeepsItsWord, TouchCommitsEarly
 
 FOLDER = Path(__file__).resolve().parent / "recordings"
 TOP = Path(__file__).resolve().parents[2]
@@ -53,6 +53,8 @@ EXPECTED = (
 )
 # the recordings on which wrong machines are tried: every so many of these files
 TRIED, EVERY = ("a", "t", "settle", "settles"), 4
+# wrong machines that come to no dead end, so that nothing but the comparison can notice them
+BY_COMPARISON = tuple(map(WRONG.index, (AllocationAlwaysExtends, MapLeavesTheSize, NewPageKeepsItsWord, TouchCommitsEarly)))
 # events that may be swapped with a neighbour about the same thing, and what they are about
 SWAPPED = {"changes and commits of one map": ("change", "commit", "delete"), "takes and accounts": ("take", "account", "free")}
 
@@ -94,11 +96,11 @@ def is_noticed(given: tuple[Recording, int, type[Attempt]]) -> bool:
         attempt.place()
     except (ArithmeticError, AttributeError, LookupError, TypeError):
         # (a machine so wrong that it has no next state)
-        return comparison is Attempt
-    return attempt.fault is not None and (comparison is Attempt or attempt.fault.kind != "no row")
+        return True
+    return attempt.fault is not None
 
 
-def how_often(runs: list[Recording], numbers: range, comparison: type[Attempt], processes: int) -> Counter[int]:
+def how_often(runs: list[Recording], numbers: Iterable[int], comparison: type[Attempt], processes: int) -> Counter[int]:
     given = [(run, number, comparison) for number in numbers for run in runs]
     with Pool(processes) as pool:
         noticed = pool.map(is_noticed, given, chunksize=50)
@@ -142,8 +144,8 @@ def wrong_machines(runs: list[Recording], processes: int) -> Iterator[tuple[bool
     noticed = how_often(runs, numbers, Attempt, processes)
     for number, it in enumerate(WRONG):
         yield noticed[number] > 0, f"wrong machine noticed {noticed[number]} times in {len(runs)}: {it.__doc__}"
-    blind = how_often(runs[::8], numbers, Blind, processes)
-    yield not blind, f"with the comparison switched off {sum(blind.values())} are noticed"
+    blind = how_often(runs, BY_COMPARISON, Blind, processes)
+    yield not blind, f"with the comparison switched off {blind.total()} are noticed of {len(BY_COMPARISON)} that come to no dead end"
 
 
 def random_trace(rng: random.Random) -> list[str]:
@@ -185,11 +187,12 @@ def built() -> Path:
 def results(program: Path | None, processes: int) -> Iterator[tuple[bool, str]]:
     for it in EXPECTED:
         yield replayed(it, program, processes)
-    runs = [run for name in TRIED for run in list(recordings(file_of(name)))[::EVERY]]
+    every = [run for name in TRIED for run in recordings(file_of(name))]
+    runs = every[::EVERY]
     right = how_often(runs, range(-1, 0), Attempt, processes)
     yield not right, f"the right machine with Linux's rows: {len(runs) - right.total()} of {len(runs)} recordings are whole"
     yield from wrong_machines(runs, processes)
-    yield from swaps(runs)
+    yield from swaps(every)
     if program:
         yield same_answers(program, 300)
 
