@@ -4,7 +4,7 @@ from __future__ import annotations
 from machine import LIMIT, Call, Machine, Outcome, moved, require
 
 RULES = {
-    "B": "a punch looks the pages up, 15 at a time, and visits only these: it waits at no index without a page",
+    "B": "a punch looks the pages up, 15 or 31 at a time, and visits only these: it waits at no index without a page",
     "F": "an evicted frame is free at a moment of its own, after its slot was left",
     "P": "a touch looks for the page first, and at the size only where there is none",
     "S": "a touch looks at the size once: not where it places its page, nor where it translates it",
@@ -13,7 +13,7 @@ RULES = {
     "D": "a change may be refused memory although a spare descriptor is there for it",
     "U": "an unreserved page that is backed out takes its index out of the map again",
 }
-# so many pages Linux looks up at once
+# so many pages Linux 6.1 looks up at once; later versions log their number
 BATCH = 15
 
 
@@ -24,8 +24,9 @@ class LinuxRows(Machine):
 
     def __init__(self, *config: int) -> None:
         super().__init__(*config)
-        # frames that are evicted and not free yet
+        # frames that are evicted and not free yet, and how many pages are looked up at once
         self.limbo: set[int] = set()
+        self.batch = BATCH
 
     def has(self, rules: str) -> bool:
         return any(it in self.rules for it in rules)
@@ -108,8 +109,8 @@ class LinuxRows(Machine):
 
     def look_up(self, call: Call, end: int) -> Outcome:
         """Looks up the next pages; where there are fewer than a batch has, these are the last."""
-        call.batch = sorted(it for it in self.files[call.file].pages if call.index <= it < end)[:BATCH]
-        call.has_more = len(call.batch) == BATCH
+        call.batch = sorted(it for it in self.files[call.file].pages if call.index <= it < end)[: self.batch]
+        call.has_more = len(call.batch) == self.batch
         return self.next_page(call)
 
     def next_page(self, call: Call) -> Outcome:

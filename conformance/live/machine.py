@@ -172,6 +172,8 @@ class Machine:
         self.slots: list[int | None] = [None] * slots
         self.locks: list[int | None] = [None] * files
         self.tasks = {number: Task(number) for number in range(1, tasks + 1)}
+        # of Linux's rows
+        self.batch = 0
 
     # events
 

@@ -10,6 +10,7 @@ from collections import Counter
 from dataclasses import dataclass
 from typing import Callable
 
+from linux_rows import BATCH
 from machine import Call, Machine, NoSuchStep, Outcome
 from recordings import UNSIGNED, Event, Recording
 
@@ -127,12 +128,15 @@ class Placement:
         self.racers: dict[int, Racer] = {}
         self.files: dict[int, int] = {}
         self.maps: dict[int, int] = {}
+        # how many pages this kernel looks up at once
+        self.batch = BATCH
         for it in self.run:
             if it.kind == "task":
                 self.racers[it.thread] = Racer(it.a)
             elif it.kind == "file":
                 self.files[it.about] = it.a
                 self.maps[it.b & UNSIGNED] = it.a
+                self.batch = it.c or BATCH
             elif it.kind == "begin" and it.about == ord("!"):
                 config = it.a & 0xFFFF, it.a >> 16 & 0xFFFF, SLOTS, it.a >> 32
         for position, it in enumerate(self.run):
@@ -140,6 +144,7 @@ class Placement:
                 self.racers[it.thread].events.append(position)
         self.header = "pool {} {} {} {}".format(*config)
         self.machine = self.machine_type(*config)
+        self.machine.batch = self.batch
 
     # the machine's steps
 

@@ -84,7 +84,7 @@ class Removals(Placement):
         if call is None or call.phase != "want" or not racer.is_inside or call.batch is not None:
             return
         end = call.range[1] if racer.letter == "p" else LIMIT
-        if sorted(it for it in self.machine.files[call.file].pages if call.index <= it < end)[:15] == self.batch_of(racer):
+        if sorted(it for it in self.machine.files[call.file].pages if call.index <= it < end)[: self.batch] == self.batch_of(racer):
             racer.looked += 1
             self.step(racer, "lookup", "moved want", "moved leave", "moved tail")
 

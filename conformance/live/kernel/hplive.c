@@ -4,6 +4,11 @@
 #include <linux/fs.h>
 #include <linux/file.h>
 #include <linux/mm.h>
+#if __has_include(<linux/folio_batch.h>)
+#include <linux/folio_batch.h>
+#else
+#include <linux/pagevec.h>
+#endif
 #include <linux/hugetlb.h>
 #include <linux/io.h>
 #include <linux/proc_fs.h>
@@ -113,10 +118,10 @@ static long pages_of(struct inode *inode)
 #endif
 }
 
-/* Logs which inode and reserve map a file of the guest has. */
+/* Logs which inode and reserve map a file of the guest has, and how many pages a removal looks up at once. */
 static void log_file(struct inode *inode, u64 number)
 {
-	hp_log(HP_FILE, inode->i_ino, number, (long)map_of(inode), 0);
+	hp_log(HP_FILE, inode->i_ino, number, (long)map_of(inode), ARRAY_SIZE(((struct folio_batch *)NULL)->folios));
 }
 
 /* Logs a file's size, the indices and regions of its reserve map, and its pages. */
