@@ -2,9 +2,9 @@
 use Rattle.std.proofs.Common.{refl}
 use Rattle.hp_machine.specs.Events.{CallRow}
 use Rattle.hp_machine.specs.declared.call.Call.TheVariants as call
-use Rattle.std.specs.Prelude.{◌-◌, false, Some}
+use Rattle.std.specs.Prelude.{◌-◌, ◌&&◌, false, nat_lt, Some}
 use Rattle.hp_base.specs.Numbers.{put2}
-use Rattle.hp_machine.specs.State.{Pool}
+use Rattle.hp_machine.specs.State.{Pool, frees}
 use Rattle.hp_machine.specs.declared.call.Turn.{Turn}
 use Rattle.hp_machine.specs.declared.touch.TouchPhase.TheVariants as touch
 use Rattle.hp_machine.specs.declared.map.MapPhase.TheVariants as map
@@ -12,10 +12,11 @@ use Rattle.hp_machine.specs.declared.punch.PunchPhase.TheVariants as punch
 use Rattle.hp_machine.specs.declared.truncate.TruncatePhase.TheVariants as truncate
 use Rattle.hp_needed.specs.Counting.{Uncounted, Unused, MapKeepsExcess, TouchKeepsExcess}
 use Rattle.hp_needed.specs.Counting.{MapKeepsUsed, TouchKeepsUsed, RestoresUncounted}
-use Rattle.hp_needed.specs.Counting.{RestoresUnmarked, ForgetsDenial, UnusesDenied, GivesNothingBack}
+use Rattle.hp_needed.specs.Counting.{RestoresUnmarked, ForgetsDenial, UnusesDenied, IgnoresRefusal}
+use Rattle.hp_needed.specs.Counting.{GivesNothingBack}
 use Rattle.hp_needed.specs.Counting.{GivesBackEvicted, KeepsEvictedUsed}
 use Rattle.hp_needed.proofs.Searching.{bind}
-use Rattle.hp_needed.proofs.Steps.{Tried, by, try_call, try_map, try_punch, try_touch, try_truncate}
+use Rattle.hp_needed.proofs.Steps.{Tried, by, test, try_call, try_map, try_punch, try_touch, try_truncate}
 use Rattle.hp_needed.proofs.Running.{TriesCalls}
 
 abbrev pub uncounted : {P : Type 0} (s : Pool) {row : Turn P → Pool → Type 0} → Tried row → Tried (Uncounted s row)
@@ -73,6 +74,14 @@ try_UnusesDenied s t killed grant (call.Punch (punch.Free p)) h =
     by call.Punch _ (bind (try_punch s t killed grant (punch.Free p) h)
     (λ r. Some (r.0, record r.1 { used = s.used - 1 }, (r.1, r.2, refl), r.3)))
 try_UnusesDenied s t killed grant c h = try_call s t killed grant c h
+
+abbrev pub try_IgnoresRefusal : TriesCalls IgnoresRefusal
+unfolding IgnoresRefusal CallRow
+try_IgnoresRefusal s t killed grant (call.Punch (punch.Free p)) h =
+    by call.Punch _ (test (p.denied && nat_lt (frees s - s.resv) 1)
+    (λ _. uncounted s (try_punch s t killed grant (punch.Free p) h))
+    (λ _. try_punch s t killed grant (punch.Free p) h))
+try_IgnoresRefusal s t killed grant c h = try_call s t killed grant c h
 
 abbrev pub try_GivesNothingBack : TriesCalls GivesNothingBack
 unfolding GivesNothingBack CallRow

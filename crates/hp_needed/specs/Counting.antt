@@ -1,9 +1,9 @@
 -- Machines that count wrongly: each differs from the right one in one row.
-use Rattle.std.specs.Prelude.{◌≡◌, ◌-◌, true, false, List, []}
+use Rattle.std.specs.Prelude.{◌≡◌, ◌-◌, ◌&&◌, true, false, MatchBool, nat_lt, List, []}
 use Rattle.hp_base.specs.Numbers.{put2}
 use Rattle.hp_base.specs.declared.event.Op.TheVariants as op
 use Rattle.hp_base.specs.declared.event.Event.{Event}
-use Rattle.hp_machine.specs.State.{Pool}
+use Rattle.hp_machine.specs.State.{Pool, frees}
 use Rattle.hp_machine.specs.Events.{CallRow, CallRows, TurnRow}
 use Rattle.hp_machine.specs.TouchRows.{TouchSettleRow, TouchRestoreRow}
 use Rattle.hp_machine.specs.MapRows.{MapSettleRow}
@@ -105,6 +105,19 @@ UnusingFreeRow s p turn new = (right : Pool) × PunchFreeRow s p turn right × (
 unfoldable pub UnusesDenied : CallRows
 UnusesDenied s t killed grant (call.Punch (punch.Free p)) = TurnRow call.Punch (UnusingFreeRow s p)
 UnusesDenied s t killed grant other = CallRow s t killed grant other
+
+-- ---- a punch whose delete was denied asks for a frame that isn't reserved before it raises the reserve count, as Linux does
+-- (hugetlb_acct_memory); where there is none, the count isn't raised, and nobody notices
+-- (right: PunchFreeRow frees the frame first, so there is one)
+abbrev pub AskingFreeRow : Pool → Free → Turn PunchPhase → Pool → Type 0
+AskingFreeRow s p turn new =
+    MatchBool (p.denied && nat_lt (frees s - s.resv) 1)
+    (Uncounted s (λ turn new. PunchFreeRow s p turn new) turn new)
+    (PunchFreeRow s p turn new)
+
+unfoldable pub IgnoresRefusal : CallRows
+IgnoresRefusal s t killed grant (call.Punch (punch.Free p)) = TurnRow call.Punch (AskingFreeRow s p)
+IgnoresRefusal s t killed grant other = CallRow s t killed grant other
 
 -- a punch inside a region, where no descriptor is spare, is denied one
 abbrev pub denial_run : List Event

@@ -20,7 +20,8 @@ ghost use Rattle.hp_needed.specs.Runs.{bounded, small, with_calls, with_resizes,
 ghost use Rattle.hp_needed.specs.Runs.{FramesAreInOnePlace, FreeFramesSuffice, QuotaSuffices};
 ghost use Rattle.hp_needed.specs.Counting.{MapKeepsExcess, map_settles_run, TouchKeepsExcess, touch_settles_run};
 ghost use Rattle.hp_needed.specs.Counting.{MapKeepsUsed, TouchKeepsUsed, RestoresUncounted, restore_run};
-ghost use Rattle.hp_needed.specs.Counting.{RestoresUnmarked, ForgetsDenial, UnusesDenied, denial_run, GivesNothingBack};
+ghost use Rattle.hp_needed.specs.Counting.{RestoresUnmarked, ForgetsDenial, UnusesDenied, IgnoresRefusal, denial_run};
+ghost use Rattle.hp_needed.specs.Counting.{GivesNothingBack};
 ghost use Rattle.hp_needed.specs.Counting.{nothing_back_run, GivesBackEvicted, KeepsEvictedUsed, evicted_run, evicted_used_run};
 ghost use Rattle.hp_needed.specs.Promising.{TakesAnyFrame, any_frame_run, PromisesAnyFrame, any_promise_run};
 ghost use Rattle.hp_needed.specs.Promising.{AsksNoQuota, quota_run, RetiresReserved, resize_reserved_run, RetiresHands};
@@ -81,6 +82,11 @@ pub fn a_restored_index_stays_reserved()
 /// A punch whose delete was denied has to raise the count.
 pub fn a_denied_delete_is_counted()
     ensures { Miscounts (with_calls ForgetsDenial) (small 1 5) 4 denial_run 3 4 }
+{}
+
+/// A punch whose delete was denied has to free its frame before it raises the count: a raise that is refused is never made up for.
+pub fn a_raise_always_fits()
+    ensures { Miscounts (with_calls IgnoresRefusal) (small 1 5) 4 denial_run 3 4 }
 {}
 
 /// A punch whose delete was denied has to leave the used count.

@@ -1,0 +1,123 @@
+#!/usr/bin/env bash
+# Has a kernel of one's choice race, and compares what it did with the machine, row by row.
+set -euo pipefail
+
+usage="usage: race.sh VERSION [OPTION ..]
+
+Fetches Debian's source of Linux VERSION (6.1, 6.12, 7.3, ..), puts log lines into its hugetlbfs, builds it, has tasks race on it
+in an emulated machine, and compares each recording with the machine. At the end it prints, workload by workload, how many
+recordings are whole: by the machine alone, and with Linux's own rows (check.py --help lists these).
+
+  --workloads N ..  the workloads to run, of workloads/ (plain trunc bug)
+  --cpus N          processors of the emulated machine (4)
+  --jobs N          processes that build and check (all processors)
+  --program P       the program that replays the traces; without it the Python machine alone is asked, and this is said
+  --only STEP       fetch, build, record or check alone
+  --folder F        where source, kernel and recordings are kept (~/.cache/kirvessa/VERSION)
+The source and its build take 2 GB, the build 10 minutes of processor time, a recording about a second of it. What is there
+already is not made again. Nothing of the machine that it runs on is changed, and nobody has to be root; missing packages are
+named.
+Status: 0 all recordings are whole with Linux's own rows; 1 some aren't; 2 wrong words; 3 this kernel can't be instrumented or
+built; 127 something is missing."
+
+here=$(cd "$(dirname "$(readlink -f "${BASH_SOURCE[0]}")")" && pwd)
+version='' cpus=4 jobs=$(nproc) program='' only='' folder=''
+workloads=(plain trunc bug)
+# all of Linux's own rows that recordings without refused memory need, and those with
+rules=BFPSTN refused=BFPSTUDN
+
+say() { echo "race: $*" >&2; }
+
+misuse() {
+    say "$1"
+    echo "$usage" >&2
+    exit 2
+}
+
+read_words() {
+    while [ $# -gt 0 ]; do
+        case $1 in
+        --workloads)
+            workloads=()
+            while [ $# -gt 1 ] && [[ $2 != -* ]]; do workloads+=("$2"); shift; done
+            ;;
+        --cpus) cpus=${2-}; shift ;;
+        --jobs) jobs=${2-}; shift ;;
+        --program) program=${2-}; shift ;;
+        --only) only=${2-}; shift ;;
+        --folder) folder=${2-}; shift ;;
+        -h | --help) echo "$usage"; exit 0 ;;
+        -*) misuse "there is no option $1" ;;
+        *) version=$1 ;;
+        esac
+        shift
+    done
+    [[ $version =~ ^[0-9]+\.[0-9]+$ ]] || misuse "which version of Linux?"
+    [[ $only =~ ^(fetch|build|record|check)?$ ]] || misuse "there is no step $only"
+    [ ${#workloads[@]} -gt 0 ] || misuse "which workloads?"
+    for it in "${workloads[@]}"; do [ -r "$here/workloads/$it.in" ] || misuse "there is no workload $it; those there are: $(cd "$here/workloads" && echo *.in)"; done
+    folder=${folder:-${KIRVESSA_CACHE:-${XDG_CACHE_HOME:-$HOME/.cache}/kirvessa}/live-$version}
+    mkdir -p "$folder"
+}
+
+need_all() {
+    local pair missing=()
+    for pair in cc:build-essential make:build-essential flex:flex bison:bison bc:bc cpio:cpio xz:xz-utils qemu-system-x86_64:qemu-system-x86 python3:python3; do
+        command -v "${pair%%:*}" > /dev/null || missing+=("${pair#*:}")
+    done
+    [ -e /usr/include/libelf.h ] || missing+=(libelf-dev)
+    [ ${#missing[@]} = 0 ] || { say "missing are Debian's packages ${missing[*]}: 'apt-get install ${missing[*]}'"; exit 127; }
+}
+
+fetch() {
+    [ ! -d "$folder/linux-source-$version" ] || return 0
+    say "fetching linux-source-$version"
+    python3 "$here/../packages.py" "linux-source-$version" "$folder"
+    dpkg-deb --fsys-tarfile "$folder/linux-source-${version}"_*.deb | tar -xO "./usr/src/linux-source-$version.tar.xz" | tar -xJ -C "$folder"
+    rm "$folder/linux-source-${version}"_*.deb
+}
+
+build() {
+    local tree=$folder/linux-source-$version
+    [ ! -e "$folder/bzImage" ] || [ "$folder/bzImage" -ot "$here/kernel/instrument.py" ] || return 0
+    python3 "$here/kernel/instrument.py" "$tree" || exit 3
+    say "building the kernel; what make prints is in $folder/build.log"
+    make -s -C "$tree" tinyconfig > "$folder/build.log" 2>&1
+    cat "$here/kernel/config.fragment" >> "$tree/.config"
+    if ! { make -s -C "$tree" olddefconfig && make -s -C "$tree" -j"$jobs" bzImage; } >> "$folder/build.log" 2>&1; then
+        grep -m 5 -E 'error|Error' "$folder/build.log" >&2 || tail -n 5 "$folder/build.log" >&2
+        say "the kernel can't be built"
+        exit 3
+    fi
+    cp "$tree/arch/x86/boot/bzImage" "$folder/bzImage"
+}
+
+record() {
+    local it
+    for it in "${workloads[@]}"; do
+        [ ! -e "$folder/$it.bin" ] || continue
+        say "recording $it"
+        "$here/boot.sh" --kernel "$folder/bzImage" --cpus "$cpus" "$here/workloads/$it.in" "$folder/part"
+        mv "$folder/part" "$folder/$it.bin"
+        cp "$here/workloads/$it.in" "$folder/"
+    done
+}
+
+check() {
+    local recordings=("${workloads[@]/#/$folder/}") status=0 letters=$rules
+    recordings=("${recordings[@]/%/.bin}")
+    if [ -n "$program" ]; then program=(--program "$program"); else say "no --program: the Python machine alone is asked, which nothing proves"; program=(); fi
+    # (a workload whose recordings refuse memory needs two rules more)
+    for it in "${workloads[@]}"; do if grep -qE '^rec .* [1-9][0-9]*$|^script( [^ ]+){8} [1-9]' "$here/workloads/$it.in"; then letters=$refused; fi; done
+    echo "== Linux $version, by the machine alone, punches split"
+    python3 "$here/check.py" --jobs "$jobs" --split --list 1 "${program[@]}" "${recordings[@]}" || true
+    echo "== Linux $version, with Linux's own rows ($letters)"
+    python3 "$here/check.py" --jobs "$jobs" --rules "$letters" --causes --list 1 "${recordings[@]}" || status=1
+    return $status
+}
+
+read_words "$@"
+need_all
+for step in fetch build record check; do
+    [ -n "$only" ] && [ "$only" != "$step" ] || "$step"
+done
