@@ -197,7 +197,7 @@ def strays(crate: Path, family: Family, check: Check) -> list[str]:
     """The refusals of a check that concern no sibling. Without any the crate itself is proved."""
     own = {it.function for it in family.siblings}
     copies = {path for it in family.siblings for path, _ in copied_proofs(crate, it)}
-    refused = [path for path, told in check.functions.items() if told.line != "proved" and not any(is_of(it, path) for it in own)]
+    refused = [path for path, told in check.functions.items() if not told.is_proved and not any(is_of(it, path) for it in own)]
     errors = [f"{it.file}:{it.line}" for it in check.errors if it.file.startswith("proofs/") and it.file not in copies]
     return [*refused, *check.refused_items, *errors]
 

@@ -11,8 +11,10 @@ import tempfile
 from pathlib import Path
 
 import siblings
+import verdicts
 from scratch import TOP, below, crates_of
 from try_edits import NotProved, Trial, build_libraries
+from verdicts import Verdict
 
 CRATE = "hp_frames"
 FIXTURES = Path(__file__).resolve().parent / "fixtures"
@@ -30,6 +32,11 @@ EXPECTED = {
 }
 # where the proof of a function isn't copied with it; its own mutant is tried in its place then
 WITHOUT_PROOFS = {"Bank::frames": "CONTROL REFUSED: ", "frames_without_the_free_ones": "refused"}
+
+
+# the lines of functions, and what they mean
+PROVED = ("proved", "proved, may wait", "proved where its callers give what it asks", "proved where its callers give what it asks, may wait")
+UNPROVED = ("no proof: it calls `c::g`, which is not proved",)
 
 
 def repository(room: Path, fixtures: Path) -> Path:
@@ -54,6 +61,13 @@ def reported(fixtures: Path) -> dict[str, str]:
         return {it.name: it.why for it in Trial(repository(top, fixtures), CRATE, room, 1).run().results}
 
 
+def misread() -> list[str]:
+    """The lines of functions that are read wrongly."""
+    lines = {**dict.fromkeys(PROVED, Verdict.PROVED), **dict.fromkeys(UNPROVED, Verdict.BY_A_CALLEE)}
+    told = {line: verdicts.read("c", f"fn c::f: {line}\n").functions["f"].verdict() for line in lines}
+    return [f"'{line}' is read as: {told[line].value}" for line in lines if told[line] is not lines[line]]
+
+
 def differences(told: dict[str, str], expected: dict[str, str]) -> list[str]:
     wrong = [name for name in sorted({*told, *expected}) if not told.get(name, "").startswith(expected.get(name, "?"))]
     return [f"{name}: reported {told.get(name)!r}, expected {expected.get(name)!r}" for name in wrong]
@@ -65,11 +79,11 @@ def main() -> int:
     except NotProved:
         print(f"check: the libraries below {CRATE} aren't proved, so no mutant was tried")
         return 1
-    wrong = differences(reported(FIXTURES / "mutants"), EXPECTED)
+    wrong = misread() + differences(reported(FIXTURES / "mutants"), EXPECTED)
     siblings.copied_proofs = lambda *_: iter(())
     wrong += differences(reported(FIXTURES / "controls"), WITHOUT_PROOFS)
     print("".join(f"  {it}\n" for it in wrong), end="")
-    number = len(EXPECTED) + len(WITHOUT_PROOFS)
+    number = len(PROVED) + len(UNPROVED) + len(EXPECTED) + len(WITHOUT_PROOFS)
     print(f"mutants told apart: {number - len(wrong)} passed, {len(wrong)} failed")
     return 1 if wrong else 0
 

@@ -41,7 +41,7 @@ UNPROVED = "(none)"
 # one check uses at most so many processors
 MOST_JOBS = 4
 # lines of a build that say nothing of its progress
-QUIET = re.compile(r"(?:fn|struct|enum|impl|trait) \S+: proved$|(?:statements|library|logic|by-macro|crate|only=)")
+QUIET = re.compile(r"(?:fn|struct|enum|impl|trait) \S+: proved\b|(?:statements|library|logic|by-macro|crate|only=)")
 FAULTS = {
     Verdict.PROVED: "NOT REFUSED: the function is still proved with this edit",
     Verdict.BY_A_CALLEE: "NOT REFUSED FOR ITSELF: only a function that it calls is refused",

@@ -17,6 +17,8 @@ IN_PROOFS = re.compile(r"^(?:\./)?proofs/(\S+)/(?:Answers|Invariants|Proof)\.ant
 ERROR = re.compile(r"^(?:\./)?(\S+?):(\d+):\d+: error(?:\[[\w-]+\])?: (.*)$")
 # the errors of a proof that names what an edit removed: they say nothing about the contract
 ONLY_A_NAME = re.compile(r"has no field|is not in scope|has no `|was not admitted")
+# the line of a proved function, which may add a condition on its callers, or what it may do
+IS_PROVED = re.compile(r"proved(?: where its callers give what it asks)?(?:, may \w+)*$")
 CALLS = re.compile(r"it calls `|which is not proved")
 
 
@@ -42,8 +44,12 @@ class Told:
     goals: int
     errors: list[str] = field(default_factory=list)
 
+    @property
+    def is_proved(self) -> bool:
+        return bool(IS_PROVED.match(self.line))
+
     def verdict(self) -> Verdict:
-        if self.line == "proved":
+        if self.is_proved:
             return Verdict.PROVED
         if CALLS.search(self.line):
             return Verdict.BY_A_CALLEE
@@ -143,7 +149,7 @@ def read(crate: str, output: str) -> Check:
         elif made := FUNCTION.match(line):
             functions[made[1].removeprefix(f"{crate}::")] = Told(made[2], goals)
             goals = 0
-        elif (made := ITEM.match(line)) and made[2] != "proved":
+        elif (made := ITEM.match(line)) and not IS_PROVED.match(made[2]):
             items.append(line)
     for path, said in in_proofs.items():
         if path in functions:
