@@ -24,7 +24,7 @@ import machine
 from events import Attempt
 from placing import Racer
 from recordings import Recording, recordings
-from wrong_machines import WRONG, AllocationAlwaysExtends, Base, MapLeavesTheSize, NewPageKeepsItsWord, TouchCommitsEarly
+from wrong_machines import WRONG, Base, MapLeavesTheSize, NewPageKeepsItsWord, TouchCommitsEarly
 
 FOLDER = Path(__file__).resolve().parent / "recordings"
 TOP = Path(__file__).resolve().parents[2]
@@ -54,7 +54,7 @@ EXPECTED = (
 # the recordings on which wrong machines are tried: every so many of these files
 TRIED, EVERY = ("a", "t", "settle", "settles"), 4
 # wrong machines that are noticed by the comparison, or by a dead end of their own
-BY_COMPARISON = tuple(map(WRONG.index, (AllocationAlwaysExtends, MapLeavesTheSize, NewPageKeepsItsWord, TouchCommitsEarly)))
+BY_COMPARISON = tuple(map(WRONG.index, (MapLeavesTheSize, NewPageKeepsItsWord, TouchCommitsEarly)))
 # events that may be swapped with a neighbour about the same thing, and what they are about
 SWAPPED = {"changes and commits of one map": ("change", "commit", "delete"), "takes and accounts": ("take", "account", "free")}
 
