@@ -63,41 +63,36 @@ read_words() {
 # the packages that have what isn't on the PATH
 missing_packages() {
     local pair
-    for pair in cc:build-essential qemu-system-x86_64:qemu-system-x86 cpio:cpio timeout:coreutils; do
+    for pair in cc:build-essential qemu-system-x86_64:qemu-system-x86 cpio:cpio timeout:coreutils python3:python3; do
         command -v "${pair%%:*}" > /dev/null || echo "${pair#*:}"
     done
 }
 
-# The kernel of the package in the cache, if it is there.
-kept_kernel() { if [ -d "$cache/$package" ]; then find "$cache/$package" -name 'vmlinuz-*' | sort -V | tail -n 1; fi; }
-
-# What the package stands for: a package of Debian's that only names the newest kernel depends on that kernel's.
-real_package() {
-    local below
-    below=$(apt-cache depends "$package" | sed -n 's/^ *Depends: \(linux-image-[^ ]*\)$/\1/p' | head -n 1)
-    echo "${below:-$package}"
+# The kernel of the package in the cache, if it is there (packages.py names the folder so).
+kept_kernel() {
+    local folder=$cache/${package//[\/=]/@}
+    if [ -d "$folder" ]; then find "$folder" -name 'vmlinuz-*' | sort -V | tail -n 1; fi
 }
 
 # Fetches the kernel's package and keeps its kernel alone.
 fetch_kernel() {
-    local room=$work/fetched real
-    mkdir -p "$room" "$cache/$package"
-    real=$(real_package)
-    say "fetching $real"
-    (cd "$room" && apt-get -qq -o APT::Sandbox::User="$(id -un)" download "$real")
-    dpkg-deb --fsys-tarfile "$room"/*.deb | tar -x -C "$room" --wildcards './boot/vmlinuz-*'
-    mv "$room"/boot/vmlinuz-* "$cache/$package/"
+    say "fetching the kernel of $package"
+    kernel=$(python3 "$here/../packages.py" --kernel "$package" "$cache")
 }
 
 install_all() {
     local packages by=()
+    local installed=nothing
     mapfile -t packages < <(missing_packages)
     if [ ${#packages[@]} -gt 0 ]; then
         [ "$(id -u)" = 0 ] || by=(sudo)
         say "installing ${packages[*]}"
         "${by[@]}" apt-get install -y --no-install-recommends "${packages[@]}" >&2
+        installed=${packages[*]}
     fi
-    [ -n "$kernel" ] || [ -n "$(kept_kernel)" ] || fetch_kernel
+    [ -n "$kernel" ] || kernel=$(kept_kernel)
+    [ -n "$kernel" ] || fetch_kernel
+    say "installed $installed; the kernel is $kernel"
 }
 
 need_all() {
@@ -203,7 +198,7 @@ compare() {
         else
             failed=$((failed + 1))
             echo "$file: $(grep -c '^>' "$work/difference") lines differ; $(sed -n '1s/^# //p' "$work/again")"
-            head -n 20 "$work/difference"
+            python3 "$here/changed.py" "$file" "$work/again"
         fi
     done
     echo "recorded again: $passed passed, $failed failed"
