@@ -1,0 +1,187 @@
+"""Makes a script in which a kernel differs smaller, by asking the kernel many smaller scripts in one boot.
+
+A round tries scripts with calls left out and with smaller numbers. The smallest one that still differs in the same way is the next
+round's. It ends when nothing smaller differs so.
+"""
+from __future__ import annotations
+
+import re
+from dataclasses import dataclass
+from typing import Callable, Iterator
+
+from compare import Script
+from kernel.differences import Comparison, Difference
+from kernel.kernels import Kernel, say
+from kernel.known import Known
+from kernel.machine import Machine
+from kernel.problem import Problem
+from kernel.testing import compared, parsed
+from kernel.suites import text_of
+
+# a boot asks at most so many calls
+MOST_CALLS = 6000
+MOST_ROUNDS = 30
+
+
+@dataclass(frozen=True)
+class Way:
+    """In which way a call differs: its kind, the fields, and both answers without their numbers."""
+
+    kind: str
+    fields: tuple[str, ...]
+    kernel: str
+    machine: str
+
+
+def way_of(it: Difference) -> Way:
+    seen = it.seen
+    return Way(seen.kind, tuple(seen.fields()), seen.kernel.answer.split()[0], seen.own_answer.split()[0])
+
+
+def numbers_of(line: str) -> list[int]:
+    return [int(it) for it in re.findall(r"\d+", line)]
+
+
+def size(script: Script) -> tuple[int, int]:
+    """How large a script is: fewer calls first, then smaller numbers."""
+    return len(script.lines), sum(number for line in (script.header, *script.lines) for number in numbers_of(line))
+
+
+def with_lines(script: Script, lines: list[str]) -> Script:
+    return Script(script.name, script.header, lines)
+
+
+def cuts(script: Script) -> Iterator[Script]:
+    """The script without each run of calls, of half its length, a quarter and so on; the last call, which differs, stays."""
+    before, last = script.lines[:-1], script.lines[-1]
+    length = len(before)
+    while length:
+        for first in range(0, len(before), length):
+            yield with_lines(script, [*before[:first], *before[first + length :], last])
+        length //= 2
+
+
+def smaller(number: int, least: int) -> list[int]:
+    """Smaller numbers to try."""
+    return sorted({it for it in (least, number // 2, number - 1) if least <= it < number})
+
+
+def leasts(words: list[str]) -> list[int]:
+    """The least of each word's number; -1 where the word isn't a number."""
+    if words[0] == "pool":
+        return [-1, 1, 1, 1, 1, 0]
+    if words[0] == "resize":
+        return [-1, 1]
+    if words[2] in ("map", "mapn", "alloc", "allock", "punch"):
+        return [-1, 1, -1, 0, 0, 1]
+    return [-1, 1, -1, 0, 0]
+
+
+def with_smaller_numbers(line: str) -> Iterator[str]:
+    """The line with one number smaller."""
+    words = line.split()
+    for at, (word, least) in enumerate(zip(words, leasts(words))):
+        for number in smaller(int(word), least) if least >= 0 else ():
+            yield " ".join([*words[:at], str(number), *words[at + 1 :]])
+
+
+def shrunk(script: Script) -> Iterator[Script]:
+    """The script with one number smaller, or with all calls by the first task or on the first file."""
+    for header in with_smaller_numbers(script.header):
+        yield Script(script.name, header, script.lines)
+    for at, line in enumerate(script.lines):
+        for other in with_smaller_numbers(line):
+            yield with_lines(script, [*script.lines[:at], other, *script.lines[at + 1 :]])
+    by_one = [re.sub(r"^begin \d+", "begin 1", line) for line in script.lines]
+    yield with_lines(script, by_one)
+    yield with_lines(script, [re.sub(r" (map|mapn|alloc|allock|punch|trunc) \d+", r" \1 0", line) for line in by_one])
+    yield with_lines(script, [re.sub(r" (map|mapn|alloc|allock|punch) (\d+) \d+ \d+", r" \1 \2 0 1", line) for line in by_one])
+
+
+def is_readable(script: Script) -> bool:
+    """Whether the recorder takes a script: one with a task or file that the pool doesn't have would stop the whole boot."""
+    _, _, tasks = (int(it) for it in script.header.split()[2:5])
+    words = [line.split() for line in script.lines]
+    return all(int(it[1]) <= tasks for it in words if it[0] == "begin")
+
+
+def unions(script: Script, dispensable: list[int]) -> Iterator[Script]:
+    """The script without all calls that could be left out alone, and without halves of them."""
+    count = len(dispensable)
+    parts = [dispensable[first : first + length] for length in (count, count // 2, count // 4) if length > 1 for first in range(0, count, length)]
+    parts += [dispensable[step::2] for step in (0, 1)]
+    for part in parts:
+        yield with_lines(script, [line for at, line in enumerate(script.lines) if at not in part])
+
+
+def named(candidates: Iterator[Script], least: tuple[int, int]) -> list[Script]:
+    """Those that are smaller, each once, the smallest first, and as many as one boot takes."""
+    different = {(it.header, *it.lines): it for it in candidates if size(it) < least and is_readable(it)}
+    kept, calls = [], 0
+    for it in sorted(different.values(), key=size):
+        calls += len(it.lines)
+        if calls <= MOST_CALLS:
+            kept.append(Script(f"m.{len(kept)}", it.header, it.lines))
+    return kept
+
+
+@dataclass
+class Minimizer:
+    """Asks a kernel smaller and smaller scripts."""
+
+    kernel: Kernel
+    machine: Machine
+    known: list[Known]
+    boots: int = 0
+
+    def differences(self, some: list[Script]) -> list[Difference | None]:
+        """The first difference of each script, on the kernel itself."""
+        self.boots += 1
+        version, answered = parsed(self.kernel.record(text_of(some), sum(len(it.lines) for it in some)))
+        results = compared(Comparison(self.machine.program, version, self.known), answered)
+        return [it.difference for it in results]
+
+    def smallest(self, first: Difference) -> Difference:
+        """The smallest script found that differs in the same way, cut behind the call."""
+        best, way = first, way_of(first)
+        dispensable: list[int] = []
+        for number in range(1, MOST_ROUNDS + 1):
+            script = best.script
+            candidates = named((it for it in (*unions(script, dispensable), *cuts(script), *shrunk(script))), size(script))
+            if not candidates:
+                break
+            say(f"round {number}: {size(script)[0]} calls, {len(candidates)} smaller scripts to try")
+            alike = [it for it in self.differences(candidates) if it is not None and way_of(it) == way]
+            if not alike:
+                break
+            dispensable = left_out_alone(script, alike)
+            best = min(alike, key=lambda it: size(it.script))
+            dispensable = [] if size(best.script)[0] < len(script.lines) - len(dispensable) else moved(script, best.script, dispensable)
+        return best
+
+
+def left_out_alone(script: Script, alike: list[Difference]) -> list[int]:
+    """The calls without which, each alone, the script still differs in the same way."""
+    without = {tuple(it.script.lines) for it in alike if it.script.header == script.header}
+    return [at for at in range(len(script.lines) - 1) if (*script.lines[:at], *script.lines[at + 1 :]) in without]
+
+
+def moved(before: Script, after: Script, calls: list[int]) -> list[int]:
+    """Where these calls of one script are in a script that was cut from it."""
+    places, at = {}, 0
+    for old, line in enumerate(before.lines):
+        if at < len(after.lines) and after.lines[at] == line:
+            places[old] = at
+            at += 1
+    return [places[it] for it in calls if it in places and places[it] < len(after.lines) - 1]
+
+
+def minimized(minimizer: Minimizer, some: list[Script], choose: Callable[[Difference], bool]) -> Difference:
+    """The first difference of some scripts that is chosen, made as small as it gets."""
+    say(f"{len(some)} scripts on {minimizer.kernel.name}")
+    found = [it for it in minimizer.differences(some) if it is not None and choose(it)]
+    if not found:
+        raise Problem("no script of these shows a new difference on this kernel, so there is nothing to minimize")
+    first = min(found, key=lambda it: size(it.script))
+    say(f"{first.script.name} differs at call {first.number}: {first.seen.call}: {', '.join(first.seen.fields())}")
+    return minimizer.smallest(first)
