@@ -129,7 +129,7 @@ def scripts(path: Path) -> Iterator[Script]:
             name, header, lines = line[len("script "):], None, []
         elif line.startswith("pool "):
             header = line
-        elif line.startswith("end "):
+        elif line.split(" ")[0] == "end":
             yield Script(name, header, lines)
         elif not line.startswith("#"):
             lines.append(line)

@@ -1,0 +1,259 @@
+#!/usr/bin/env python3
+"""Tests ./kernel as far as that needs no boot: what a known issue explains, and above all what it doesn't.
+
+Each case is a recording as a kernel would write it, made up or shortened, and how its comparison has to end: `new`, `agrees`, or the
+name of a known issue. A case that a known issue explains has to be new once that issue's file is left out. The answers of the leaks
+are those of leak scripts on 6.12.117, 6.16.12 and 7.3.4. The minimizer is tested with a made-up kernel that leaks.
+"""
+from __future__ import annotations
+
+import subprocess
+import sys
+from dataclasses import dataclass, replace
+from pathlib import Path
+from typing import Iterator
+
+import compare
+import packages
+from compare import Script
+from kernel import kernels, machine, minimize, report, suites
+from kernel.differences import Comparison, Result
+from kernel.known import faults, known_issues, release
+from kernel.minimize import Minimizer, minimized
+from kernel.testing import Tested, parsed, version_of, wrong_counts
+
+TOP = Path(__file__).resolve().parent.parent
+NEW_KERNEL, OLD_KERNEL, MIDDLE_KERNEL = "7.3.4", "6.12.117", "6.16.12"
+LEAK, TOUCH, SURPLUS, RACE = "quota-leak", "cached-page-above-size", "surplus-at-shrink", "truncation-race"
+
+
+@dataclass(frozen=True)
+class Case:
+    """A recording of one script, and how its comparison has to end."""
+
+    what: str
+    version: str
+    lines: tuple[str, ...]
+    ends: str
+
+
+FULL = ("pool 1 2 4 1 8", "begin 1 alloc 0 0 1 = done | 0 0 | 1 1, 0 0 | 0 | used 1")
+MAPPED = (*FULL, "begin 1 mapn 1 0 1 = mapped 0 | 0 0 | 1 1, 1 0 | 0 | used 1")
+LEAKING = (*FULL, "begin 1 alloc 1 0 1 = noframe | 0 0 | 1 1, 0 0 | 0 | used 2")
+REFUSED_MAP = (*FULL, "begin 1 map 1 0 2 = noframe | 0 0 | 1 1, 0 0 | 0 | used 3")
+USED_UP = ("pool 4 1 4 1 1", "begin 1 alloc 0 0 1 = done | 3 0 | 1 1 | 0 | used 1")
+ABOVE = ("pool 1 1 1 1", "begin 1 mapn 0 0 1 = mapped 0 | 1 0 | 1 0 | 0", "begin 1 trunc 0 0 = done | 1 0 | 0 0 | 0",
+         "begin 1 allock 0 0 1 = done | 0 0 | 0 1 | 0")
+BELOW = ("pool 1 1 1 1", "begin 1 mapn 0 0 1 = mapped 0 | 1 0 | 1 0 | 0")
+IN_USE = ("pool 2 1 4 1", "begin 1 alloc 0 0 2 = done | 0 0 | 2 2 | 0")
+SHRUNK = (*IN_USE, "resize 1 = resized 2 | 0 0 | 2 2 | 0 | total 2 surplus 1")
+
+CASES = (
+    Case("a refused fallocate leaks", NEW_KERNEL, LEAKING, LEAK),
+    Case("a refused store leaks", MIDDLE_KERNEL, (*MAPPED, "begin 1 store 0 5 = noframe | 0 0 | 1 1, 1 0 | 0 | used 2"), LEAK),
+    Case("a refused map leaks in 6.16", MIDDLE_KERNEL, REFUSED_MAP, LEAK),
+    Case("nothing leaks", OLD_KERNEL, (*FULL, "begin 1 alloc 1 0 1 = noframe | 0 0 | 1 1, 0 0 | 0 | used 1"), "agrees"),
+    Case("a fallocate leaks in a kernel that had no leak", OLD_KERNEL, LEAKING, "new"),
+    Case("a fallocate leaks in a kernel without a version", "", LEAKING, "new"),
+    Case("a map leaks in a kernel that leaks at faults only", NEW_KERNEL, REFUSED_MAP, "new"),
+    Case("a map leaks more than its pages", MIDDLE_KERNEL, (*FULL, "begin 1 map 1 0 2 = noframe | 0 0 | 1 1, 0 0 | 0 | used 4"), "new"),
+    Case("two pages leak", NEW_KERNEL, (*FULL, "begin 1 alloc 1 0 1 = noframe | 0 0 | 1 1, 0 0 | 0 | used 3"), "new"),
+    Case("a used page is lost", NEW_KERNEL, (*FULL, "begin 1 alloc 1 0 1 = noframe | 0 0 | 1 1, 0 0 | 0 | used 0"), "new"),
+    Case("a free frame appears beside the leak", NEW_KERNEL, (*FULL, "begin 1 alloc 1 0 1 = noframe | 1 0 | 1 1, 0 0 | 0 | used 2"), "new"),
+    Case("a reservation is left beside the leak", NEW_KERNEL, (*FULL, "begin 1 alloc 1 0 1 = noframe | 0 1 | 1 1, 0 0 | 0 | used 2"), "new"),
+    Case("the size grows beside the leak", NEW_KERNEL, (*FULL, "begin 1 alloc 1 0 1 = noframe | 0 0 | 1 1, 1 0 | 0 | used 2"), "new"),
+    Case("the refused fallocate is done", NEW_KERNEL, (*FULL, "begin 1 alloc 1 0 1 = done | 0 0 | 1 1, 0 0 | 0 | used 2"), "new"),
+    Case("a fallocate that is done leaks", NEW_KERNEL, (FULL[0], "begin 1 alloc 0 0 1 = done | 0 0 | 1 1, 0 0 | 0 | used 2"), "new"),
+    Case("a punch leaks", NEW_KERNEL, (*FULL, "begin 1 punch 0 0 1 = done | 1 0 | 1 0, 0 0 | 0 | used 1"), "new"),
+    Case("a truncation leaks", NEW_KERNEL, (*FULL, "begin 1 trunc 0 0 = done | 1 0 | 0 0, 0 0 | 0 | used 1"), "new"),
+    Case("a fallocate above the quota leaks", NEW_KERNEL, (*USED_UP, "begin 1 alloc 0 1 1 = noframe | 3 0 | 1 1 | 0 | used 2"), "new"),
+    Case("want of quota is noframe", NEW_KERNEL, (*USED_UP, "begin 1 alloc 0 1 1 = noframe | 3 0 | 1 1 | 0 | used 1"), "agrees"),
+    Case("want of quota is done", NEW_KERNEL, (*USED_UP, "begin 1 alloc 0 1 1 = done | 3 0 | 1 1 | 0 | used 1"), "new"),
+    Case("a touch finds the page above the size", NEW_KERNEL, (*ABOVE, "begin 1 load 0 = word 0 | 0 0 | 0 1 | 1"), TOUCH),
+    Case("a touch above the size is beyond", NEW_KERNEL, (*ABOVE, "begin 1 load 0 = beyond | 0 0 | 0 1 | 0"), "agrees"),
+    Case("that touch reads another word", NEW_KERNEL, (*ABOVE, "begin 1 load 0 = word 7 | 0 0 | 0 1 | 1"), "new"),
+    Case("that touch translates nothing", NEW_KERNEL, (*ABOVE, "begin 1 load 0 = word 0 | 0 0 | 0 1 | 0"), "new"),
+    Case("that touch frees the page", NEW_KERNEL, (*ABOVE, "begin 1 load 0 = word 0 | 1 0 | 0 1 | 1"), "new"),
+    Case("that touch raises the size", NEW_KERNEL, (*ABOVE, "begin 1 load 0 = word 0 | 0 0 | 1 1 | 1"), "new"),
+    Case("a touch below the size is beyond", NEW_KERNEL, (*BELOW, "begin 1 load 0 = beyond | 1 0 | 1 0 | 0"), "new"),
+    Case("a touch above the size of no page is served", NEW_KERNEL, (*ABOVE[:3], "begin 1 load 0 = word 0 | 0 0 | 0 1 | 1"), "new"),
+    Case("a shrink leaves a surplus", NEW_KERNEL, (*SHRUNK, "begin 1 trunc 0 0 = done | 1 0 | 0 0 | 0 | total 1 surplus 0"), SURPLUS),
+    Case("that resize has another total", NEW_KERNEL, (*IN_USE, "resize 1 = resized 1 | 0 0 | 2 2 | 0 | total 1 surplus 1"), "new"),
+    Case("that resize has a free frame", NEW_KERNEL, (*IN_USE, "resize 1 = resized 2 | 1 0 | 2 2 | 0 | total 2 surplus 1"), "new"),
+    Case("a resize to nothing", NEW_KERNEL, ("pool 1 1 4 1", "resize 0 = resized 0 | 0 0 | 0 0 | 0 | total 0 surplus 0"), SURPLUS),
+    Case("a map takes a frame", NEW_KERNEL, ("pool 2 1 4 1", "begin 1 map 0 0 1 = mapped 0 | 1 1 | 1 0 | 0"), "new"),
+    Case("want of frames without a quota is done", NEW_KERNEL, ("pool 1 1 4 1", "begin 1 alloc 0 0 2 = done | 0 0 | 2 1 | 0"), "new"),
+)
+VERSIONS = {
+    "# 7.3-cloud-amd64 #1 SMP PREEMPT_DYNAMIC Debian 7.3~rc7-1~exp1 (2026-10-16)": "7.3~rc7",
+    "# 6.1.0-56-cloud-amd64 #1 SMP PREEMPT_DYNAMIC Debian 6.1.192-2 (2026-11-16)": "6.1.192",
+    "# 7.3.4+deb13-cloud-amd64 #1 SMP PREEMPT_DYNAMIC Debian 7.3.4-1~bpo13+1 (2026-11-15)": "7.3.4",
+    "# 6.18.15 #3 SMP me@home": "6.18.15",
+    "script a": "",
+}
+MEMBERS = {
+    "./boot/vmlinuz-6.1.0-56-cloud-amd64": "vmlinuz-6.1.0-56-cloud-amd64",
+    "./usr/lib/modules/7.3-cloud-amd64/vmlinuz": "vmlinuz-7.3-cloud-amd64",
+    "./boot/config-6.1.0-56-cloud-amd64": None,
+    "./usr/lib/modules/7.3-cloud-amd64/kernel/vmlinuz": None,
+}
+NAMES = {"linux-binary-7.3-amd64 (= 7.3~rc7-1~exp1)": "linux-binary-7.3-amd64=7.3~rc7-1~exp1", "dracut": "dracut", "kmod (>= 20)": "kmod"}
+RACES = (
+    ("a race of maps ends right", "mns", 0, "agrees"),
+    ("a race of maps loses a count", "mns", -1, "new"),
+    ("a race with truncations loses a count", "mst", -1, RACE),
+)
+KNOWN_TEXTS = {key: "" for key in ("title", "script", "kernel", "machine", "cause")} | {"versions": [], "functions": [], "links": []}
+BAD_FILES = (
+    ({}, "there is no rule"),
+    ({"race": [{"kind": "t"}], "odd": 1}, "odd is no key"),
+    ({"race": [{"kinds": "t"}]}, "kinds is no key of a rule 'race'"),
+    ({"difference": [{"calls": ["load"]}]}, "a rule 'difference' has no fields"),
+)
+MISUSES = (
+    (["test"], "one of the arguments --package --kernel --here is required"),
+    (["test", "--kernel", "/nonexistent"], "/nonexistent is no kernel that can be read"),
+    (["test", "--kernel", "/dev/null", "--suites", "odd"], "there is no suite odd"),
+    (["test", "--kernel", "/dev/null", "--without", "odd"], "there is no known issue odd"),
+    (["test", "--kernel", "/dev/null", "--program", "/bin/true"], "/bin/true doesn't replay a trace"),
+    (["minimize", "/nonexistent", "--kernel", "/dev/null"], "/nonexistent: No such file"),
+)
+REASONS = (
+    ("record: 1\nemulate: the machine wasn't done after 3 seconds\n", "emulate: the machine wasn't done after 3 seconds"),
+    ("emulate: its console's last lines:\nKernel panic\n", "emulate: its console's last lines: Kernel panic"),
+    ("cpio: write error: No space left on device\nemulate: odd\n", "cpio: write error: No space left on device"),
+    ("", "the recorder ended with status 9"),
+)
+
+
+def recording(case: Case) -> str:
+    first = f"# odd #1 SMP Debian {case.version}-1 (2026-11-15)\n" if case.version else ""
+    return first + "\n".join(["script made.up", *case.lines, "end total 1 free 1 resv 0 surp 0\n"])
+
+
+def end_of(result: Result) -> str:
+    """How a comparison ended, in one word."""
+    if result.difference is not None:
+        return str(result.difference.known or "new")
+    return str(result.ended or "agrees")
+
+
+def ending(case: Case, without: tuple[str, ...] = ()) -> str:
+    version, answered = parsed(recording(case))
+    return end_of(Comparison(PROGRAM, version, known_issues(without=without)).result(answered[0]))
+
+
+def race_ending(kinds: str, reserved: int) -> str:
+    text = f"# x\nscript r\npool 4 1 4 2\nrace 1 9 4 {kinds} = rest | 4 0 | 0 0 | 0 0\nbegin 1 trunc 0 0 = done | 4 {reserved} | 0 0 | 0 0\nend x\n"
+    wrong = wrong_counts(parsed(text)[1], known_issues())
+    return str(wrong[0].known or "new") if wrong else "agrees"
+
+
+class Leaking(kernels.Kernel):
+    """A made-up kernel: the machine, but a fallocate for which no frame is free raises the used pages that its line shows."""
+
+    def record(self, text: str, lines: int, has_races: bool = False) -> str:
+        del lines, has_races
+        return f"# odd Debian {NEW_KERNEL}-1 x\n" + "".join(leaking_script(it) for it in parsed(text)[1])
+
+
+def leaking_script(script: Script) -> str:
+    pool, lines = compare.opened(PROGRAM, script.header), []
+    for call in script.lines:
+        pool = pool.after(call)
+        told = pool.told()
+        used = int(told.used.split()[1]) + (pool.answer() == "noframe" and " alloc" in call)
+        lines.append(f"{call} = {told.answer} | {told.counts} | {told.files} | {told.entries} | used {used}")
+    return "\n".join([f"script {script.name}", script.header, *lines, "end x\n"])
+
+
+def generated(seed: int, count: int, kind: str) -> list[Script]:
+    text = subprocess.run([sys.executable, TOP / "conformance" / "generate.py", str(seed), str(count), kind], capture_output=True, text=True, check=True)
+    return parsed(text.stdout)[1]
+
+
+def minimum(without: tuple[str, ...]) -> tuple[int, str, int]:
+    """How many calls are left of random scripts on the leaking kernel, the last one's kind, and how many later calls it spoils."""
+    found = minimized(Minimizer(Leaking("made up", lambda *_: []), MACHINE, known_issues(without=without)), generated(11, 30, "quota"), lambda it: it.known is None)
+    return found.number, found.seen.kind, len(found.spoiled)
+
+
+def faults_of_known() -> Iterator[tuple[str, object]]:
+    """What is to be known, and what isn't."""
+    for case in CASES:
+        yield case.what, ending(case) == case.ends or ending(case)
+        if case.ends not in ("new", "agrees", SURPLUS):
+            yield f"{case.what}, with its file left out", ending(case, (case.ends,)) == "new" or ending(case, (case.ends,))
+    shrunk = next(it for it in CASES if it.ends == SURPLUS)
+    yield "a surplus, with its file left out", ending(shrunk, (SURPLUS,)) == "new"
+    quota = next(it for it in CASES if it.what == "want of quota is noframe")
+    yield "noquota, with its file left out", ending(quota, ("noquota-is-noframe",)) == "new"
+    for what, kinds, reserved, ends in RACES:
+        yield what, race_ending(kinds, reserved) == ends or race_ending(kinds, reserved)
+    for told, why in BAD_FILES:
+        found = faults({**KNOWN_TEXTS, **told})
+        yield why, found[:1] == [why] or found
+
+
+def faults_of_reading() -> Iterator[tuple[str, object]]:
+    """Versions, packages, and the reason of a failure."""
+    for line, version in VERSIONS.items():
+        yield line, version_of(line) == version or version_of(line)
+    yield "versions have an order", release("6.1.192") < release("6.16") < release("6.16.12") < release("7") < release("7.3~rc7") < release("7.3.4")
+    for name, kernel in MEMBERS.items():
+        yield name, packages.kernel_member(name) == kernel
+    for word, name in NAMES.items():
+        yield word, packages.named(word) == name or packages.named(word)
+    for said, why in REASONS:
+        yield said, kernels.reason(said, 9) == why or kernels.reason(said, 9)
+
+
+def faults_of_report() -> Iterator[tuple[str, object]]:
+    """That the counts and each form of the report have what was found."""
+    new = next(it for it in CASES if it.what == "two pages leak")
+    version, answered = parsed(recording(new) + recording(replace(new, version="", lines=LEAKING)) + recording(CASES[3]).split("\n", 1)[1])
+    found = Tested("made", version, [Comparison(PROGRAM, version, known_issues()).result(it) for it in answered])
+    yield "the table", report.table([found])[1].split()[:8] == ["made", "3", "6", "4", "2", "2", "1", "1"] or report.table([found])
+    text = report.text([found], "x")
+    yield "both answers", all(f"{it} | 0 0 | 1 1, 0 0 | 0 | used" in text for it in ("kernel:  noframe", "machine: noframe")) or text
+    yield "JSON", '"kernel": "noframe | 0 0 | 1 1, 0 0 | 0 | used 3"' in report.json_text([found], "x")
+    yield "JUnit", 'tests="3" failures="1"' in report.junit_text([found]) or report.junit_text([found])
+
+
+def faults_of_commands() -> Iterator[tuple[str, object]]:
+    """That each command that can't run says so in one line, and with status 2."""
+    for words, why in MISUSES:
+        ran = subprocess.run([TOP / "kernel", *words], stdin=subprocess.DEVNULL, capture_output=True, text=True, check=False)
+        yield str(words), (ran.returncode, ran.stdout, why in ran.stderr.splitlines()[-1]) == (2, "", True) or (ran.returncode, ran.stderr)
+
+
+def faults_of_minimizing() -> Iterator[tuple[str, object]]:
+    """That the made-up leak is minimized, and that there is nothing to minimize where it is known."""
+    kernels.say = minimize.say = lambda words: None
+    found = minimum((LEAK,))
+    yield "the leak is minimized to two calls at most", (found[0] <= 2 and found[1] in ("alloc", "allock")) or found
+    try:
+        yield "a known leak is not minimized", minimum(())
+    except minimize.Problem:
+        yield "a known leak is not minimized", True
+    line = "begin 1 alloc 0 2 3"
+    yield "smaller numbers", "begin 1 alloc 0 2 1" in set(minimize.with_smaller_numbers(line)) and line not in set(minimize.with_smaller_numbers(line))
+    yield "a suite has its scripts", len(suites.scripts_of(suites.SUITES["fixed"])) == 33
+
+
+def main() -> int:
+    parts = (faults_of_known, faults_of_reading, faults_of_report, faults_of_commands, faults_of_minimizing)
+    tried = [it for part in parts for it in part()]
+    wrong = [(what, found) for what, found in tried if found is not True]
+    print("".join(f"  {what}: {found}\n" for what, found in wrong), end="")
+    print(f"kernel: {len(tried) - len(wrong)} passed, {len(wrong)} failed")
+    return 1 if wrong else 0
+
+
+if __name__ == "__main__":
+    try:
+        MACHINE = machine.machine(None)
+    except machine.Problem as why:
+        sys.exit(f"  {why}\nkernel: 0 passed, 1 failed")
+    PROGRAM = MACHINE.program
+    sys.exit(main())
