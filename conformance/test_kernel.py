@@ -174,7 +174,7 @@ def generated(seed: int, count: int, kind: str) -> list[Script]:
 
 def minimum(without: tuple[str, ...]) -> tuple[int, str, int]:
     """How many calls are left of random scripts on the leaking kernel, the last one's kind, and how many later calls it spoils."""
-    found = minimized(Minimizer(Leaking("made up", lambda *_: []), MACHINE, known_issues(without=without)), generated(11, 30, "quota"), lambda it: it.known is None)
+    found = minimized(Minimizer(Leaking("made up", lambda *_: []), MACHINE, known_issues(without=without)), generated(11, 12, "quota"), lambda it: it.known is None)
     return found.number, found.seen.kind, len(found.spoiled)
 
 
@@ -193,6 +193,20 @@ def faults_of_known() -> Iterator[tuple[str, object]]:
     for told, why in BAD_FILES:
         found = faults({**KNOWN_TEXTS, **told})
         yield why, found[:1] == [why] or found
+
+
+def faults_of_files() -> Iterator[tuple[str, object]]:
+    """That each file's script shows what the file says: the machine's answer, and the difference from the kernel's."""
+    for it in known_issues():
+        header, *calls = it.script.splitlines()
+        if it.rules.get("race"):
+            continue
+        pool = compare.opened(PROGRAM, header)
+        for call in calls:
+            pool = pool.after(call)
+        answer = report.answer_text(pool.told()._replace(answer=pool.answer()))
+        yield f"{it.name}: the machine's answer", answer == it.machine or answer
+        yield f"{it.name}: the kernel's answer", it.kernel != it.machine
 
 
 def faults_of_reading() -> Iterator[tuple[str, object]]:
@@ -242,7 +256,7 @@ def faults_of_minimizing() -> Iterator[tuple[str, object]]:
 
 
 def main() -> int:
-    parts = (faults_of_known, faults_of_reading, faults_of_report, faults_of_commands, faults_of_minimizing)
+    parts = (faults_of_known, faults_of_files, faults_of_reading, faults_of_report, faults_of_commands, faults_of_minimizing)
     tried = [it for part in parts for it in part()]
     wrong = [(what, found) for what, found in tried if found is not True]
     print("".join(f"  {what}: {found}\n" for what, found in wrong), end="")

@@ -37,7 +37,7 @@ RAW = argparse.RawDescriptionHelpFormatter
 def add_kernel(to: argparse.ArgumentParser) -> None:
     """The options that say which kernel is asked, and what answers for the machine."""
     which = to.add_mutually_exclusive_group(required=True)
-    which.add_argument("--package", metavar="P", help="the kernel of this Debian package, in an emulated machine: NAME, NAME/SUITE or NAME=VERSION")
+    which.add_argument("--package", metavar="P", help="the kernel of this Debian package, emulated: NAME, NAME/SUITE or NAME=VERSION")
     which.add_argument("--kernel", metavar="VMLINUZ", help="this kernel image, in an emulated machine")
     which.add_argument("--here", action="store_true", help="this machine's own kernel, as root, where no huge page is in use")
     to.add_argument("--cpus", type=positive, default=2, metavar="N", help="processors of the emulated machine (2)")
@@ -62,21 +62,24 @@ def natural(word: str) -> int:
 def parser() -> argparse.ArgumentParser:
     top = argparse.ArgumentParser(prog="kernel", description=ABOUT, epilog=AFTER, formatter_class=RAW)
     commands = top.add_subparsers(dest="command", required=True, metavar="COMMAND")
-    test = commands.add_parser("test", help="tests a kernel", description="Tests a kernel, and prints each new difference.", epilog=AFTER, formatter_class=RAW)
+    about = "Tests a kernel, and prints each new difference."
+    test = commands.add_parser("test", help="tests a kernel", description=about, epilog=AFTER, formatter_class=RAW)
     add_kernel(test)
     names = f"of {', '.join(suites.SUITES)} ({' '.join(suites.SEQUENTIAL)} unless named; the races take minutes)"
     test.add_argument("--suites", nargs="+", default=None, metavar="NAME", help=names)
     test.add_argument("--scripts", nargs="+", type=Path, default=[], metavar="FILE", help="files of scripts, as a suite each")
     test.add_argument("--junit", metavar="FILE", help="writes the results as JUnit's XML, too")
     test.add_argument("--json", metavar="FILE", help="writes the results as JSON, too")
-    small = commands.add_parser("minimize", help="makes a difference smaller", description="Makes the first new difference of a file of scripts smaller on the kernel itself.")
+    about = "Makes a new difference smaller: leaves out calls and lowers numbers until nothing smaller differs in the same way."
+    small = commands.add_parser("minimize", help="makes a difference smaller", description=about)
     small.add_argument("script", type=Path, help="a file of scripts")
     small.add_argument("--name", metavar="NAME", help="the script to take (the shortest one that differs)")
     add_kernel(small)
     more = commands.add_parser("scripts", help="prints random scripts", description="Prints random scripts; the seed says which.")
     more.add_argument("--seed", type=natural, required=True, metavar="N")
     more.add_argument("--count", type=natural, default=100, metavar="N", help="how many (100)")
-    more.add_argument("--kind", choices=[*generate.KINDS, generate.RACE], default="plain", help="conformance/generate.py --help describes them (plain)")
+    kinds = [*generate.KINDS, generate.RACE]
+    more.add_argument("--kind", choices=kinds, default="plain", help="conformance/generate.py --help describes them (plain)")
     commands.add_parser("known", help="lists the known issues", description="Lists the known issues.")
     return top
 

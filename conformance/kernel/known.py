@@ -32,6 +32,10 @@ class Known:
     name: str
     title: str
     versions: list[str]
+    # the smallest script, and what kernel and machine answer to its last call
+    script: str
+    kernel: str
+    machine: str
     rules: dict[str, list[dict[str, Any]]] = field(default_factory=dict)
 
     def __str__(self) -> str:
@@ -160,7 +164,8 @@ def read_known(path: Path) -> Known:
         raise Problem(f"{path}: {why}") from why
     if wrong := faults(told):
         raise Problem(f"{path}: {'; '.join(wrong)}")
-    return Known(path.stem, told["title"], told["versions"], {kind: told[kind] for kind in RULES if kind in told})
+    texts = [told[key].strip() for key in ("script", "kernel", "machine")]
+    return Known(path.stem, told["title"], told["versions"], *texts, {kind: told[kind] for kind in RULES if kind in told})
 
 
 def known_issues(folder: Path = FOLDER, without: tuple[str, ...] = ()) -> list[Known]:

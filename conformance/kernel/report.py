@@ -13,6 +13,10 @@ from kernel.problem import Problem
 from kernel.testing import Tested, WrongCount
 
 HEADS = ("suite", "scripts", "calls", "agree", "not compared", "differ", "known rule", "new", "seconds")
+LEGEND = (
+    "not compared: calls from the first difference, byte call or end of a known rule on; differ: scripts, each known or new;",
+    "known rule: scripts that end at one, with a difference or without",
+)
 # so many new differences are printed in full, and so many spoiled calls of each
 MOST, SPOILED = 20, 5
 
@@ -92,7 +96,7 @@ def known_text(known: Known, count: int, version: str) -> str:
 def text(all_of_them: list[Tested], basis: str) -> str:
     """The whole report."""
     version, new = all_of_them[0].version, new_differences(all_of_them)
-    lines = [f"kernel {version}; the machine's answers: {basis}", "", *table(all_of_them), ""]
+    lines = [f"kernel {version}; the machine's answers: {basis}", "", *table(all_of_them), *LEGEND, ""]
     if known := known_of(all_of_them):
         lines += ["known:", *(known_text(it, count, version) for it, count in known), ""]
     lines += [f"{it.name}: wrong counts without truncations: {it.rests}" for it in new_wrong_counts(all_of_them)]
