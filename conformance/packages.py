@@ -113,8 +113,10 @@ def download(package: str, room: Path, environment: dict[str, str]) -> Path | st
 
 
 def last_line(text: str) -> str:
-    lines = [line for line in text.strip().split("\n") if line.startswith("E:")] or text.strip().split("\n")
-    return lines[-1]
+    """The line of apt's messages that says most: an address that couldn't be reached, or an error."""
+    lines = text.strip().split("\n")
+    named = [line for line in lines if "Failed to fetch" in line] + [line for line in lines if line.startswith("E:")]
+    return (named or lines[-1:])[0]
 
 
 def fetch_into(package: str, room: Path, is_kernel: bool) -> Path:
@@ -171,8 +173,11 @@ def moved(part: Path, to: Path) -> Path:
     try:
         shutil.copyfile(part, beside)
         beside.rename(to)
-    finally:
+    except OSError:
         beside.unlink(missing_ok=True)
+        if not any(to.parent.iterdir()):
+            to.parent.rmdir()
+        raise
     return to
 
 

@@ -119,8 +119,9 @@ MISUSES = (
     (["minimize", "/nonexistent", "--kernel", "/dev/null"], "/nonexistent: No such file"),
 )
 REASONS = (
-    ("record: 1\nemulate: the machine wasn't done after 3 seconds\n", "emulate: the machine wasn't done after 3 seconds"),
-    ("emulate: its console's last lines:\nKernel panic\n", "emulate: its console's last lines: Kernel panic"),
+    ("qemu-system-x86_64: ended\nemulate: the machine wasn't done after 3 seconds\n", "emulate: the machine wasn't done after 3 seconds"),
+    ("emulate: it ended; its console's last lines:\nKernel panic - no init\n---[ end\n", "emulate: it ended: Kernel panic - no init"),
+    ("qemu-system-x86_64: bad\nemulate: it ended; its console's last lines:\n", "emulate: it ended: qemu-system-x86_64: bad"),
     ("cpio: write error: No space left on device\nemulate: odd\n", "cpio: write error: No space left on device"),
     ("", "the recorder ended with status 9"),
 )

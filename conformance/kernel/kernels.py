@@ -54,14 +54,17 @@ class Kernel:
     def run(self, room: Path, lines: int, has_races: bool) -> str:
         command = self.command(room / "scripts", has_races)
         environment = {**os.environ, "TMPDIR": str(room)}
-        with (room / "recorded").open("wb") as out, (room / "said").open("wb") as said:
+        # (what is told is kept in memory: where the disk is full, that is just what has to be read)
+        with (room / "recorded").open("wb") as out, open(os.memfd_create("said"), "w+b") as said:
             ran = subprocess.Popen(command, stdin=subprocess.DEVNULL, stdout=out, stderr=said, env=environment)
             try:
                 wait(ran, room, lines)
             finally:
                 stop(ran)
+            said.seek(0)
+            told = said.read().decode(errors="replace")
         if ran.returncode:
-            raise Problem(reason((room / "said").read_text(encoding="utf-8", errors="replace"), ran.returncode))
+            raise Problem(reason(told, ran.returncode))
         return (room / "recorded").read_text(encoding="utf-8")
 
 
@@ -90,14 +93,18 @@ def answered(room: Path) -> int:
 
 
 def reason(said: str, status: int) -> str:
-    """The one line that says why a recorder failed: its own last word, and the last one of the kernel's console."""
+    """The one line that says why a recorder failed: a full disk, or the recorder's own last word and the line that explains it."""
     lines = [line.strip() for line in said.splitlines() if line.strip()]
-    own = [line for line in lines if line.startswith(("emulate: ", "record: ", "init: "))]
     full = next((line for line in lines if "No space left on device" in line), None)
+    own = [at for at, line in enumerate(lines) if line.startswith(("emulate: ", "record: ", "init: "))]
     if full or not own:
         return full or (lines[-1] if lines else f"the recorder ended with status {status}")
-    last = own[-1].rstrip(":")
-    return last if lines[-1] == own[-1] else f"{last}: {lines[-1]}"
+    last, console, behind = lines[own[-1]].partition("; its console's last lines:")[:2] + (lines[own[-1] + 1 :],)
+    if not console:
+        return last
+    qemu = [line for line in lines if line.startswith("qemu")]
+    panics = [line for line in behind if "Kernel panic" in line]
+    return ": ".join([last, *(panics or behind or qemu)[-1:]])
 
 
 def emulated(kernel: Path, name: str, cpus: int, seconds: int) -> Kernel:
@@ -118,7 +125,7 @@ def of_package(package: str, cpus: int, seconds: int) -> Kernel:
     try:
         kernel = packages.kernel(package, cache())
     except (packages.NotFound, OSError, packages.tarfile.TarError) as why:
-        raise Problem(f"the kernel of {package} can't be fetched: {why}") from why
+        raise Problem(f"the kernel of {package} can't be fetched: {getattr(why, 'strerror', None) or why}") from why
     return emulated(kernel, f"{package} ({kernel.name})", cpus, seconds)
 
 
