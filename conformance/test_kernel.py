@@ -18,7 +18,7 @@ import packages
 from compare import Script
 from kernel import kernels, machine, minimize, report, suites
 from kernel.differences import Comparison, Result
-from kernel.known import faults, known_issues, release
+from kernel.known import explains, faults, known_issues, release
 from kernel.minimize import Minimizer, minimized
 from kernel.testing import Tested, parsed, version_of, wrong_counts
 
@@ -56,6 +56,7 @@ CASES = (
     Case("a fallocate leaks in a kernel that had no leak", OLD_KERNEL, LEAKING, "new"),
     Case("a fallocate leaks in a kernel without a version", "", LEAKING, "new"),
     Case("a map leaks in a kernel that leaks at faults only", NEW_KERNEL, REFUSED_MAP, "new"),
+    Case("a map leaks one page there", NEW_KERNEL, (*FULL, "begin 1 map 1 0 1 = noframe | 0 0 | 1 1, 0 0 | 0 | used 2"), "new"),
     Case("a map leaks more than its pages", MIDDLE_KERNEL, (*FULL, "begin 1 map 1 0 2 = noframe | 0 0 | 1 1, 0 0 | 0 | used 4"), "new"),
     Case("two pages leak", NEW_KERNEL, (*FULL, "begin 1 alloc 1 0 1 = noframe | 0 0 | 1 1, 0 0 | 0 | used 3"), "new"),
     Case("a used page is lost", NEW_KERNEL, (*FULL, "begin 1 alloc 1 0 1 = noframe | 0 0 | 1 1, 0 0 | 0 | used 0"), "new"),
@@ -191,9 +192,23 @@ def faults_of_known() -> Iterator[tuple[str, object]]:
     yield "noquota, with its file left out", ending(quota, ("noquota-is-noframe",)) == "new"
     for what, kinds, reserved, ends in RACES:
         yield what, race_ending(kinds, reserved) == ends or race_ending(kinds, reserved)
+    yield from faults_of_rules()
     for told, why in BAD_FILES:
         found = faults({**KNOWN_TEXTS, **told})
         yield why, found[:1] == [why] or found
+
+
+def faults_of_rules() -> Iterator[tuple[str, object]]:
+    """That each key of a rule counts: a rule that explains a made-up difference doesn't with any one key changed."""
+    case = next(it for it in CASES if it.what == "want of quota is done")
+    version, answered = parsed(recording(case))
+    seen = Comparison(PROGRAM, version, known_issues()).result(answered[0]).difference.seen
+    rule = {"calls": ["alloc"], "fields": ["answer"], "kernel": "do.e", "machine": "noquota", "since": "7.3", "before": "7.4", "rise": {"used": [0, 0]}}
+    yield "a made-up rule explains it", explains(rule, seen)
+    others = {"calls": ["allock"], "fields": ["answer", "used"], "kernel": "don", "machine": "noframe", "since": "7.3.5", "before": "7.3.4",
+              "rise": {"used": [1, 1]}, "condition": "cached-page-above-size"}
+    for key, other in others.items():
+        yield f"a made-up rule with another {key} doesn't", not explains({**rule, key: other}, seen)
 
 
 def faults_of_files() -> Iterator[tuple[str, object]]:

@@ -101,15 +101,23 @@ def run_test(options: argparse.Namespace) -> int:
     work += [(path.name, suites.read_scripts(path), False) for path in options.scripts]
     answering, kernel = machine(options.program), kernel_of(options)
     found: list[Tested] = []
-    for number, (name, some, has_races) in enumerate(work, 1):
-        say(f"{number} of {len(work)}")
-        found.append(tested(kernel, answering, issues, name, some, has_races))
-    report.write(options.json, report.json_text(found, answering.basis))
+    try:
+        for number, (name, some, has_races) in enumerate(work, 1):
+            say(f"{number} of {len(work)}")
+            found.append(tested(kernel, answering, issues, name, some, has_races))
+    finally:
+        new = reported(options, found, answering.basis) if found else 0
+    return 1 if new else 0
+
+
+def reported(options: argparse.Namespace, found: list[Tested], basis: str) -> int:
+    """Prints what the suites showed that ran, even if a later one couldn't, and returns how many differences are new."""
+    report.write(options.json, report.json_text(found, basis))
     report.write(options.junit, report.junit_text(found))
     new = sum(it.new for it in found)
-    print(report.text(found, answering.basis))
-    print(f"kernel: {new} new difference{'' if new == 1 else 's'}")
-    return 1 if new else 0
+    print(report.text(found, basis))
+    print(f"kernel: {new} new difference{'' if new == 1 else 's'}", flush=True)
+    return new
 
 
 def run_minimize(options: argparse.Namespace) -> int:
