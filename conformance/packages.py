@@ -204,7 +204,7 @@ def main(words: list[str]) -> int:
         print(__doc__, end="")
         return 0
     is_kernel = words[:1] == ["--kernel"]
-    names = words[is_kernel:]
+    names = words[1:] if is_kernel else words
     if len(names) != 2 or names[0].startswith("-"):
         print("usage: packages.py [--kernel] PACKAGE FOLDER", file=sys.stderr)
         return 2

@@ -18,7 +18,7 @@ import packages
 from compare import Script
 from kernel import kernels, machine, minimize, report, suites
 from kernel.differences import Comparison, Result
-from kernel.known import explains, faults, known_issues, release
+from kernel.known import explains, faults, known_issues, release, translated
 from kernel.minimize import Minimizer, minimized
 from kernel.testing import Tested, parsed, version_of, wrong_counts
 
@@ -193,6 +193,7 @@ def faults_of_known() -> Iterator[tuple[str, object]]:
     for what, kinds, reserved, ends in RACES:
         yield what, race_ending(kinds, reserved) == ends or race_ending(kinds, reserved)
     yield from faults_of_rules()
+    yield from faults_of_translation()
     for told, why in BAD_FILES:
         found = faults({**KNOWN_TEXTS, **told})
         yield why, found[:1] == [why] or found
@@ -209,6 +210,12 @@ def faults_of_rules() -> Iterator[tuple[str, object]]:
               "rise": {"used": [1, 1]}, "condition": "cached-page-above-size"}
     for key, other in others.items():
         yield f"a made-up rule with another {key} doesn't", not explains({**rule, key: other}, seen)
+
+
+def faults_of_translation() -> Iterator[tuple[str, object]]:
+    """That an answer has another name only in the pools of its rule."""
+    for has_quota, answer in ((True, "noframe"), (False, "noquota")):
+        yield f"noquota, with a quota {has_quota}", translated(known_issues(), "noquota", has_quota) == answer
 
 
 def faults_of_files() -> Iterator[tuple[str, object]]:

@@ -137,5 +137,8 @@ def here() -> Kernel:
     built = subprocess.run([RECORD / "build.sh"], capture_output=True, text=True, check=False)
     if built.returncode:
         raise Problem(f"the recorder can't be compiled: {reason(built.stderr, built.returncode)}")
-    races = lambda is_racing: ["--race"] if is_racing else []
-    return Kernel(f"this machine's ({os.uname().release})", lambda scripts, is_racing: [RECORD / "out" / "record", *races(is_racing), scripts])
+
+    def command(scripts: Path, has_races: bool) -> list[str | Path]:
+        return [RECORD / "out" / "record", *(["--race"] if has_races else []), scripts]
+
+    return Kernel(f"this machine's ({os.uname().release})", command)

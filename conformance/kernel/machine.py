@@ -49,7 +49,8 @@ def plain_program() -> Path:
         if SIMULATE.is_file():
             return SIMULATE
         raise Problem("there is no proved program, and 'cargo' (package: cargo), which compiles the plain one, is not on the PATH")
-    built = subprocess.run(["cargo", "build", "--quiet", "--release", "--bin", "simulate"], cwd=PLAIN, capture_output=True, text=True, check=False)
+    command = ["cargo", "build", "--quiet", "--release", "--bin", "simulate"]
+    built = subprocess.run(command, cwd=PLAIN, capture_output=True, text=True, check=False)
     if built.returncode:
         raise Problem(f"cargo can't compile {PLAIN}: {first_error(built.stderr)}")
     return SIMULATE

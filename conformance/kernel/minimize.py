@@ -108,9 +108,9 @@ def is_readable(script: Script) -> bool:
 def unions(script: Script, dispensable: list[int]) -> Iterator[Script]:
     """The script without all calls that could be left out alone, and without halves of them."""
     count = len(dispensable)
-    parts = [dispensable[first : first + length] for length in (count, count // 2, count // 4) if length > 1 for first in range(0, count, length)]
-    parts += [dispensable[step::2] for step in (0, 1)]
-    for part in parts:
+    lengths = [length for length in (count, count // 2, count // 4) if length > 1]
+    parts = [dispensable[first : first + length] for length in lengths for first in range(0, count, length)]
+    for part in [*parts, dispensable[::2], dispensable[1::2]]:
         yield with_lines(script, [line for at, line in enumerate(script.lines) if at not in part])
 
 

@@ -133,8 +133,8 @@ def junit_text(all_of_them: list[Tested]) -> str:
     top = ElementTree.Element("testsuites")
     for suite in all_of_them:
         counts = {it.name: it for it in suite.wrong if it.known is None}
-        failures = str(suite.new)
-        node = ElementTree.SubElement(top, "testsuite", name=suite.name, tests=str(len(suite.results)), failures=failures, time=f"{suite.seconds:.1f}")
+        numbers = {"tests": str(len(suite.results)), "failures": str(suite.new), "time": f"{suite.seconds:.1f}"}
+        node = ElementTree.SubElement(top, "testsuite", {"name": suite.name, **numbers})
         for it in suite.results:
             case = ElementTree.SubElement(node, "testcase", classname=suite.name, name=it.name)
             if it.difference and it.difference.known is None:
