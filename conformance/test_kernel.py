@@ -57,7 +57,7 @@ CASES = (
     Case("a fallocate leaks in a kernel without a version", "", LEAKING, "new"),
     Case("a map leaks in a kernel that leaks at faults only", NEW_KERNEL, REFUSED_MAP, "new"),
     Case("a map leaks one page there", NEW_KERNEL, (*FULL, "begin 1 map 1 0 1 = noframe | 0 0 | 1 1, 0 0 | 0 | used 2"), "new"),
-    Case("a map leaks more than its pages", MIDDLE_KERNEL, (*FULL, "begin 1 map 1 0 2 = noframe | 0 0 | 1 1, 0 0 | 0 | used 4"), "new"),
+    Case("a map leaks more than its pages", MIDDLE_KERNEL, (*REFUSED_MAP[:2], REFUSED_MAP[2].replace("used 3", "used 4")), "new"),
     Case("two pages leak", NEW_KERNEL, (*FULL, "begin 1 alloc 1 0 1 = noframe | 0 0 | 1 1, 0 0 | 0 | used 3"), "new"),
     Case("a used page is lost", NEW_KERNEL, (*FULL, "begin 1 alloc 1 0 1 = noframe | 0 0 | 1 1, 0 0 | 0 | used 0"), "new"),
     Case("a free frame appears beside the leak", NEW_KERNEL, (*FULL, "begin 1 alloc 1 0 1 = noframe | 1 0 | 1 1, 0 0 | 0 | used 2"), "new"),
@@ -146,7 +146,8 @@ def ending(case: Case, without: tuple[str, ...] = ()) -> str:
 
 
 def race_ending(kinds: str, reserved: int) -> str:
-    text = f"# x\nscript r\npool 4 1 4 2\nrace 1 9 4 {kinds} = rest | 4 0 | 0 0 | 0 0\nbegin 1 trunc 0 0 = done | 4 {reserved} | 0 0 | 0 0\nend x\n"
+    lines = (f"race 1 9 4 {kinds} = rest | 4 0 | 0 0 | 0 0", f"begin 1 trunc 0 0 = done | 4 {reserved} | 0 0 | 0 0")
+    text = "\n".join(["# x", "script r", "pool 4 1 4 2", *lines, "end x\n"])
     wrong = wrong_counts(parsed(text)[1], known_issues())
     return str(wrong[0].known or "new") if wrong else "agrees"
 
@@ -164,20 +165,23 @@ def leaking_script(script: Script) -> str:
     for call in script.lines:
         pool = pool.after(call)
         told = pool.told()
-        used = int(told.used.split()[1]) + (pool.answer() == "noframe" and " alloc" in call)
+        # (want of quota leaks, too, where there is no quota at all: another way to differ, which a smaller script has)
+        is_leak = pool.answer() == "noframe" or (pool.answer() == "noquota" and script.header.endswith(" 0"))
+        used = int(told.used.split()[1]) + (is_leak and " alloc" in call)
         lines.append(f"{call} = {told.answer} | {told.counts} | {told.files} | {told.entries} | used {used}")
     return "\n".join([f"script {script.name}", script.header, *lines, "end x\n"])
 
 
 def generated(seed: int, count: int, kind: str) -> list[Script]:
-    text = subprocess.run([sys.executable, TOP / "conformance" / "generate.py", str(seed), str(count), kind], capture_output=True, text=True, check=True)
-    return parsed(text.stdout)[1]
+    words = [sys.executable, TOP / "conformance" / "generate.py", str(seed), str(count), kind]
+    return parsed(subprocess.run(words, capture_output=True, text=True, check=True).stdout)[1]
 
 
 def minimum(without: tuple[str, ...]) -> tuple[int, str, int]:
-    """How many calls are left of random scripts on the leaking kernel, the last one's kind, and how many later calls it spoils."""
-    found = minimized(Minimizer(Leaking("made up", lambda *_: []), MACHINE, known_issues(without=without)), generated(11, 12, "quota"), lambda it: it.known is None)
-    return found.number, found.seen.kind, len(found.spoiled)
+    """How many calls are left of random scripts on the leaking kernel, the machine's answer to the last one, and how many boots it took."""
+    minimizer = Minimizer(Leaking("made up", lambda *_: []), MACHINE, known_issues(without=without))
+    found = minimized(minimizer, generated(11, 12, "quota"), lambda it: it.known is None and it.seen.own_answer == "noframe")
+    return found.number, found.seen.own_answer, minimizer.boots
 
 
 def faults_of_known() -> Iterator[tuple[str, object]]:
@@ -204,7 +208,8 @@ def faults_of_rules() -> Iterator[tuple[str, object]]:
     case = next(it for it in CASES if it.what == "want of quota is done")
     version, answered = parsed(recording(case))
     seen = Comparison(PROGRAM, version, known_issues()).result(answered[0]).difference.seen
-    rule = {"calls": ["alloc"], "fields": ["answer"], "kernel": "do.e", "machine": "noquota", "since": "7.3", "before": "7.4", "rise": {"used": [0, 0]}}
+    rule = {"calls": ["alloc"], "fields": ["answer"], "kernel": "do.e", "machine": "noquota", "rise": {"used": [0, 0]}}
+    rule |= {"since": "7.3", "before": "7.4"}
     yield "a made-up rule explains it", explains(rule, seen)
     others = {"calls": ["allock"], "fields": ["answer", "used"], "kernel": "don", "machine": "noframe", "since": "7.3.5", "before": "7.3.4",
               "rise": {"used": [1, 1]}, "condition": "cached-page-above-size"}
@@ -248,11 +253,13 @@ def faults_of_reading() -> Iterator[tuple[str, object]]:
 def faults_of_report() -> Iterator[tuple[str, object]]:
     """That the counts and each form of the report have what was found."""
     new = next(it for it in CASES if it.what == "two pages leak")
-    version, answered = parsed(recording(new) + recording(replace(new, version="", lines=LEAKING)) + recording(CASES[3]).split("\n", 1)[1])
+    others = (replace(new, version="", lines=LEAKING), replace(CASES[3], version=""))
+    version, answered = parsed("".join(map(recording, (new, *others))))
     found = Tested("made", version, [Comparison(PROGRAM, version, known_issues()).result(it) for it in answered])
     yield "the table", report.table([found])[1].split()[:8] == ["made", "3", "6", "4", "2", "2", "1", "1"] or report.table([found])
     text = report.text([found], "x")
-    yield "both answers", all(f"{it} | 0 0 | 1 1, 0 0 | 0 | used" in text for it in ("kernel:  noframe", "machine: noframe")) or text
+    answers = ("kernel:  noframe | 0 0 | 1 1, 0 0 | 0 | used 3", "machine: noframe | 0 0 | 1 1, 0 0 | 0 | used 1")
+    yield "both answers of the new one alone", all(it in text for it in answers) and "used 2" not in text or text
     yield "JSON", '"kernel": "noframe | 0 0 | 1 1, 0 0 | 0 | used 3"' in report.json_text([found], "x")
     yield "JUnit", 'tests="3" failures="1"' in report.junit_text([found]) or report.junit_text([found])
 
@@ -268,13 +275,15 @@ def faults_of_minimizing() -> Iterator[tuple[str, object]]:
     """That the made-up leak is minimized, and that there is nothing to minimize where it is known."""
     kernels.say = minimize.say = lambda words: None
     found = minimum((LEAK,))
-    yield "the leak is minimized to two calls at most", (found[0] <= 2 and found[1] in ("alloc", "allock")) or found
+    yield "the leak is minimized to one call, in the same way", found[:2] == (1, "noframe") or found
+    yield "each round takes the smallest script", found[2] <= 9 or found
     try:
         yield "a known leak is not minimized", minimum(())
     except minimize.Problem:
         yield "a known leak is not minimized", True
     line = "begin 1 alloc 0 2 3"
-    yield "smaller numbers", "begin 1 alloc 0 2 1" in set(minimize.with_smaller_numbers(line)) and line not in set(minimize.with_smaller_numbers(line))
+    smaller = set(minimize.with_smaller_numbers(line))
+    yield "smaller numbers", "begin 1 alloc 0 2 1" in smaller and line not in smaller
     yield "a suite has its scripts", len(suites.scripts_of(suites.SUITES["fixed"])) == 33
 
 

@@ -3,6 +3,7 @@ from __future__ import annotations
 
 import argparse
 import signal
+import subprocess
 import sys
 import time
 from pathlib import Path
@@ -98,7 +99,8 @@ def run_test(options: argparse.Namespace) -> int:
     default = [] if options.scripts else list(suites.SEQUENTIAL)
     chosen = [suites.suite_of(name) for name in (default if options.suites is None else options.suites)]
     work = [(it.name, suites.scripts_of(it), it.has_races) for it in chosen]
-    work += [(path.name, suites.read_scripts(path), False) for path in options.scripts]
+    files = [(path.name, suites.read_scripts(path)) for path in options.scripts]
+    work += [(name, some, suites.has_races(some)) for name, some in files]
     answering, kernel = machine(options.program), kernel_of(options)
     found: list[Tested] = []
     try:
@@ -162,6 +164,8 @@ def main() -> int:
         return COMMANDS[options.command](options)
     except Problem as why:
         say(str(why))
+    except subprocess.CalledProcessError as why:
+        say(f"{why.cmd[0]} fails on a trace: {(why.stderr or b'').decode(errors='replace').strip()}")
     except OSError as why:
         say(f"{why.filename or 'the system'}: {why.strerror}")
     return 2

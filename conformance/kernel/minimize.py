@@ -15,8 +15,8 @@ from kernel.kernels import Kernel, say
 from kernel.known import Known
 from kernel.machine import Machine
 from kernel.problem import Problem
+from kernel.suites import has_races, text_of
 from kernel.testing import compared, parsed
-from kernel.suites import text_of
 
 # a boot asks at most so many calls
 MOST_CALLS = 6000
@@ -62,8 +62,9 @@ def cuts(script: Script) -> Iterator[Script]:
 
 
 def smaller(number: int, least: int) -> list[int]:
-    """Smaller numbers to try."""
-    return sorted({it for it in (least, number // 2, number - 1) if least <= it < number})
+    """Smaller numbers to try: the least, each that is a power of two above it, half, and one less."""
+    above = [least + 2**power for power in range(number.bit_length())]
+    return sorted({it for it in (least, *above, number // 2, number - 1) if least <= it < number})
 
 
 def leasts(words: list[str]) -> list[int]:
@@ -96,6 +97,25 @@ def shrunk(script: Script) -> Iterator[Script]:
     yield with_lines(script, by_one)
     yield with_lines(script, [re.sub(r" (map|mapn|alloc|allock|punch|trunc) \d+", r" \1 0", line) for line in by_one])
     yield with_lines(script, [re.sub(r" (map|mapn|alloc|allock|punch) (\d+) \d+ \d+", r" \1 \2 0 1", line) for line in by_one])
+
+
+def least_words(lines: list[str]) -> str:
+    """Lines of the same words as one that has the least number of each place."""
+    places = list(zip(*(line.split() for line in lines)))
+    return " ".join(min(words, key=int) if words[0].isdecimal() else words[0] for words in places)
+
+
+def merged(script: Script, alike: list[Script]) -> Script:
+    """The script with each of its numbers as small as any script has it that differs in the same way."""
+    shape = shape_of(script)
+    same = [it for it in alike if shape_of(it) == shape]
+    lines = [least_words(list(them)) for them in zip(*(it.lines for it in [script, *same]))]
+    return Script(script.name, least_words([it.header for it in [script, *same]]), lines)
+
+
+def shape_of(script: Script) -> list[str]:
+    """The script's words without its numbers."""
+    return [re.sub(r"\d+", "0", line) for line in (script.header, *script.lines)]
 
 
 def is_readable(script: Script) -> bool:
@@ -143,11 +163,12 @@ class Minimizer:
 
     def smallest(self, first: Difference) -> Difference:
         """The smallest script found that differs in the same way, cut behind the call."""
-        best, way = first, way_of(first)
+        best, way, alike = first, way_of(first), [first]
         dispensable: list[int] = []
         for number in range(1, MOST_ROUNDS + 1):
             script = best.script
-            candidates = named((it for it in (*unions(script, dispensable), *cuts(script), *shrunk(script))), size(script))
+            both = merged(script, [it.script for it in alike])
+            candidates = named(iter((both, *unions(script, dispensable), *cuts(script), *shrunk(script))), size(script))
             if not candidates:
                 break
             say(f"round {number}: {size(script)[0]} calls, {len(candidates)} smaller scripts to try")
@@ -178,6 +199,8 @@ def moved(before: Script, after: Script, calls: list[int]) -> list[int]:
 
 def minimized(minimizer: Minimizer, some: list[Script], choose: Callable[[Difference], bool]) -> Difference:
     """The first difference of some scripts that is chosen, made as small as it gets."""
+    if has_races(some):
+        raise Problem("how a race ends is by chance, so it can't be minimized")
     say(f"{len(some)} scripts on {minimizer.kernel.name}")
     found = [it for it in minimizer.differences(some) if it is not None and choose(it)]
     if not found:

@@ -54,6 +54,11 @@ def scripts_of(suite: Suite) -> list[Script]:
     return [script for name in suite.files for script in read_scripts(FOLDER / name)]
 
 
+def has_races(some: list[Script]) -> bool:
+    """Whether tasks race in some of the scripts, which then are judged by their counts at rest."""
+    return any(line.startswith("race ") for it in some for line in it.lines)
+
+
 def call_of(line: str) -> str:
     return line.split(" = ", 1)[0]
 
