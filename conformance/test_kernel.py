@@ -7,8 +7,10 @@ are those of leak scripts on 6.12.117, 6.16.12 and 7.3.4. The minimizer is teste
 """
 from __future__ import annotations
 
+import os
 import subprocess
 import sys
+import tempfile
 from dataclasses import dataclass, replace
 from pathlib import Path
 from typing import Iterator
@@ -271,6 +273,36 @@ def faults_of_commands() -> Iterator[tuple[str, object]]:
         yield str(words), (ran.returncode, ran.stdout, why in ran.stderr.splitlines()[-1]) == (2, "", True) or (ran.returncode, ran.stderr)
 
 
+def boots(room: Path, begins: int, works: int) -> tuple[int, int]:
+    """The status of emulate.sh with a made-up QEMU, and how often that ran: from boot `begins` on its kernel runs the recorder, and from
+    boot `works` on the recorder ends."""
+    qemu = f"""#!/bin/bash
+    echo boot >> {room}/boots
+    at=$(wc -l < {room}/boots)
+    for word in "$@"; do case $word in file:*/recorded) recorded=${{word#file:}} ;; file:*/told) told=${{word#file:}} ;; esac done
+    if [ "$at" -ge {begins} ]; then echo "record: this kernel has 0 huge pages" > "$told"; fi
+    if [ "$at" -ge {works} ]; then echo "script a" > "$recorded"; printf 'record: 1 scripts recorded, 1 lines\nstatus 0\n' >> "$told"; fi
+    """
+    room.mkdir()
+    for name, text in (("qemu-system-x86_64", qemu), ("cpio", "#!/bin/bash\ncat > /dev/null\n")):
+        (room / name).write_text(text, encoding="utf-8")
+        (room / name).chmod(0o755)
+    (room / "scripts").write_text("script a\npool 1 1 1 1\nend\n", encoding="utf-8")
+    words = [TOP / "conformance" / "record" / "emulate.sh", "--kernel", "/dev/null", room / "scripts"]
+    environment = {**os.environ, "PATH": f"{room}:{os.environ['PATH']}"}
+    ran = subprocess.run(words, env=environment, stdin=subprocess.DEVNULL, capture_output=True, check=False)
+    return ran.returncode, len((room / "boots").read_text(encoding="utf-8").splitlines())
+
+
+def faults_of_boots() -> Iterator[tuple[str, object]]:
+    """That a kernel which stops before the first call is booted again, three times in all, and one that stops later isn't."""
+    expected = {(1, 1): (0, 1), (2, 2): (0, 2), (3, 3): (0, 3), (4, 4): (1, 3), (1, 2): (1, 1), (2, 3): (1, 2)}
+    with tempfile.TemporaryDirectory(prefix="kernel-") as name:
+        for (begins, works), ends in expected.items():
+            found = boots(Path(name) / f"{begins}-{works}", begins, works)
+            yield f"a kernel that begins at boot {begins} and works at {works}", found == ends or found
+
+
 def faults_of_minimizing() -> Iterator[tuple[str, object]]:
     """That the made-up leak is minimized, and that there is nothing to minimize where it is known."""
     kernels.say = minimize.say = lambda words: None
@@ -288,7 +320,7 @@ def faults_of_minimizing() -> Iterator[tuple[str, object]]:
 
 
 def main() -> int:
-    parts = (faults_of_known, faults_of_files, faults_of_reading, faults_of_report, faults_of_commands, faults_of_minimizing)
+    parts = (faults_of_known, faults_of_files, faults_of_reading, faults_of_report, faults_of_commands, faults_of_boots, faults_of_minimizing)
     tried = [it for part in parts for it in part()]
     wrong = [(what, found) for what, found in tried if found is not True]
     print("".join(f"  {what}: {found}\n" for what, found in wrong), end="")

@@ -130,9 +130,24 @@ pack() {
         (cd "$root" && find . | cpio -o -H newc --quiet) > "$work/initramfs"
 }
 
-# Boots a machine in which the recorder runs with these words. What it recorded is in $work/recorded then, what it told in
-# $work/told, what the kernel told in $work/console.
+# Whether the kernel stopped before it ran the recorder, so that no call was made.
+is_unbegun() { [ "$ended" = 0 ] && ! grep -q '^record: ' "$work/told"; }
+
+# Boots a machine in which the recorder runs with these words. A kernel that stops before it runs the recorder is booted again, twice at
+# most: emulated, Linux 6.12 panics in one of four boots or so while it patches its own text (do_sync_core). Behind the first call
+# nothing is tried again.
 boot() {
+    local attempt
+    for attempt in 1 2; do
+        if boot_once "$@"; then return 0; fi
+        is_unbegun || return 1
+        say "the kernel stopped before it ran the recorder: booting it again, attempt $((attempt + 1)) of 3"
+    done
+    boot_once "$@"
+}
+
+# What is recorded is in $work/recorded then, what the recorder told in $work/told, what the kernel told in $work/console.
+boot_once() {
     local status=0
     rm -f "$work"/{recorded,told,console}
     touch "$work"/{recorded,told,console}
@@ -142,7 +157,7 @@ boot() {
         -serial file:"$work/console" -serial file:"$work/recorded" -serial file:"$work/told" < /dev/null >&2 &
     machine=$!
     wait "$machine" || status=$?
-    machine=''
+    machine='' ended=$status
     grep -v '^status ' "$work/told" >&2 || true
     if [ "$status" = 124 ]; then
         say "the machine wasn't done after $seconds seconds"
@@ -213,7 +228,7 @@ check_words() {
 
 read_words "$@"
 work=$(mktemp -d "${TMPDIR:-/tmp}/emulate-XXXXXX")
-machine=''
+machine='' ended=''
 clean() {
     [ -z "$machine" ] || kill "$machine" 2> /dev/null || true
     rm -rf "$work"
