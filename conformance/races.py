@@ -75,6 +75,9 @@ def main(paths: list[Path]) -> int:
 
 
 if __name__ == "__main__":
+    if sys.argv[1:] in (["-h"], ["--help"]):
+        print(__doc__, end="")
+        sys.exit(0)
     if any(word.startswith("-") for word in sys.argv[1:]):
         sys.exit(__doc__)
     try:
