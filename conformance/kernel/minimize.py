@@ -7,6 +7,7 @@ from __future__ import annotations
 
 import re
 from dataclasses import dataclass
+from itertools import combinations
 from typing import Callable, Iterator
 
 from compare import Script
@@ -21,6 +22,8 @@ from kernel.testing import compared, parsed
 # a boot asks at most so many calls
 MOST_CALLS = 6000
 MOST_ROUNDS = 30
+# of so many calls or scripts all pairs are tried
+FEW = 12
 
 
 @dataclass(frozen=True)
@@ -59,6 +62,13 @@ def cuts(script: Script) -> Iterator[Script]:
         for first in range(0, len(before), length):
             yield with_lines(script, [*before[:first], *before[first + length :], last])
         length //= 2
+
+
+def without_pairs(script: Script) -> Iterator[Script]:
+    """The script without any two calls before the last, if there are few."""
+    places = range(len(script.lines) - 1)
+    for pair in combinations(places, 2) if len(places) <= FEW else ():
+        yield with_lines(script, [line for at, line in enumerate(script.lines) if at not in pair])
 
 
 def smaller(number: int, least: int) -> list[int]:
@@ -111,6 +121,13 @@ def merged(script: Script, alike: list[Script]) -> Script:
     same = [it for it in alike if shape_of(it) == shape]
     lines = [least_words(list(them)) for them in zip(*(it.lines for it in [script, *same]))]
     return Script(script.name, least_words([it.header for it in [script, *same]]), lines)
+
+
+def merges(script: Script, alike: list[Script]) -> Iterator[Script]:
+    """The script with the smaller numbers of all scripts that differ in the same way, and of any two of the smallest."""
+    yield merged(script, alike)
+    for pair in combinations(sorted(alike, key=size)[:FEW], 2):
+        yield merged(script, list(pair))
 
 
 def shape_of(script: Script) -> list[str]:
@@ -167,8 +184,8 @@ class Minimizer:
         dispensable: list[int] = []
         for number in range(1, MOST_ROUNDS + 1):
             script = best.script
-            both = merged(script, [it.script for it in alike])
-            candidates = named(iter((both, *unions(script, dispensable), *cuts(script), *shrunk(script))), size(script))
+            wider = (*merges(script, [it.script for it in alike]), *unions(script, dispensable), *without_pairs(script))
+            candidates = named(iter((*wider, *cuts(script), *shrunk(script))), size(script))
             if not candidates:
                 break
             say(f"round {number}: {size(script)[0]} calls, {len(candidates)} smaller scripts to try")
