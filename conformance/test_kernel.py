@@ -266,6 +266,19 @@ def faults_of_report() -> Iterator[tuple[str, object]]:
     yield "JUnit", 'tests="3" failures="1"' in report.junit_text([found]) or report.junit_text([found])
 
 
+def faults_of_again() -> Iterator[tuple[str, object]]:
+    """That changed.py, which emulate.sh --again runs, names the script, the call and the fields."""
+    calls = (*LEAKING, "begin 1 trunc 0 0 = done | 1 0 | 0 0, 0 0 | 0 | used 1")
+    before = (*LEAKING[:2], LEAKING[2].replace("used 2", "used 1"), calls[3].replace("used 1", "used 0"))
+    with tempfile.TemporaryDirectory(prefix="kernel-") as name:
+        files = [Path(name) / "before", Path(name) / "after"]
+        for file, lines in zip(files, (before, calls)):
+            file.write_text(recording(Case("", NEW_KERNEL, lines, "")), encoding="utf-8")
+        words = [sys.executable, TOP / "conformance" / "record" / "changed.py", *files]
+        told = subprocess.run(words, capture_output=True, text=True, check=False).stdout
+    yield "again", told == "  made.up, call 2, begin 1 alloc 1 0 1: used pages 2, before 1; 1 later calls differ, too\n" or told
+
+
 def faults_of_commands() -> Iterator[tuple[str, object]]:
     """That each command that can't run says so in one line, and with status 2."""
     for words, why in MISUSES:
@@ -320,7 +333,8 @@ def faults_of_minimizing() -> Iterator[tuple[str, object]]:
 
 
 def main() -> int:
-    parts = (faults_of_known, faults_of_files, faults_of_reading, faults_of_report, faults_of_commands, faults_of_boots, faults_of_minimizing)
+    parts = (faults_of_known, faults_of_files, faults_of_reading, faults_of_report, faults_of_commands)
+    parts += (faults_of_again, faults_of_boots, faults_of_minimizing)
     tried = [it for part in parts for it in part()]
     wrong = [(what, found) for what, found in tried if found is not True]
     print("".join(f"  {what}: {found}\n" for what, found in wrong), end="")

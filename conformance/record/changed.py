@@ -3,7 +3,7 @@
 
 usage: changed.py BEFORE AFTER
 
-Prints one line per call that differs: the script, the call, and each field with its value before and after.
+Prints a line for each script that differs: its first such call, each field with its value then and before, and how many more there are.
 """
 from __future__ import annotations
 
@@ -13,7 +13,7 @@ from typing import Iterator
 
 sys.path.insert(0, str(Path(__file__).resolve().parent.parent))
 
-from compare import Line, read, scripts  # noqa: E402
+from compare import Line, Script, read, scripts  # noqa: E402
 
 NAMES = {"answer": "answer", "counts": "free and reserve count", "files": "sizes and pages", "entries": "translations", "used": "used pages",
          "total": "frames"}  # fmt: skip
@@ -22,17 +22,23 @@ NAMES = {"answer": "answer", "counts": "free and reserve count", "files": "sizes
 def fields(before: Line, after: Line) -> str:
     """The fields in which two answers to one call differ."""
     pairs = ((NAMES[name], getattr(before.linux, name), getattr(after.linux, name)) for name in before.linux._fields)
-    changed = [f"{name} {new}, before {old}" for name, old, new in pairs if old != new]
-    changed += [f"surplus {after.surplus}, before {before.surplus}"] if before.surplus != after.surplus else []
-    return "; ".join(changed)
+    found = [f"{name} {new.removeprefix('used ')}, before {old.removeprefix('used ')}" for name, old, new in pairs if old != new]
+    found += [f"surplus {after.surplus}, before {before.surplus}"] if before.surplus != after.surplus else []
+    return "; ".join(found)
+
+
+def changed(old: Script, new: Script) -> list[str]:
+    """The calls of a script that differ."""
+    pairs = enumerate(zip(old.lines, new.lines), 1)
+    both = [(number, read(first), read(second)) for number, (first, second) in pairs if first != second]
+    return [f"call {number}, {first.call}: {fields(first, second)}" for number, first, second in both]
 
 
 def changes(before: Path, after: Path) -> Iterator[str]:
-    """What differs, call by call."""
+    """The first call of each script that differs, and how many later ones do."""
     for old, new in zip(scripts(before), scripts(after)):
-        for number, (first, second) in enumerate(zip(old.lines, new.lines), 1):
-            if first != second:
-                yield f"{old.name}, call {number}, {read(first).call}: {fields(read(first), read(second))}"
+        if found := changed(old, new):
+            yield f"{old.name}, {found[0]}" + (f"; {len(found) - 1} later calls differ, too" if len(found) > 1 else "")
 
 
 if __name__ == "__main__":
