@@ -14,6 +14,7 @@ import tempfile
 from dataclasses import dataclass, replace
 from pathlib import Path
 from typing import Iterator
+from unittest.mock import patch
 
 import compare
 import packages
@@ -266,6 +267,25 @@ def faults_of_report() -> Iterator[tuple[str, object]]:
     yield "JUnit", 'tests="3" failures="1"' in report.junit_text([found]) or report.junit_text([found])
 
 
+def faults_of_basis() -> Iterator[tuple[str, object]]:
+    """That a proved program counts only while no source is newer than its build, and where rt is."""
+    with tempfile.TemporaryDirectory(prefix="kernel-") as name, patch.object(machine, "TOP", Path(name)):
+        source, program = Path(name) / "crates" / "a" / "src" / "a.rs", Path(name) / "hugepool"
+        source.parent.mkdir(parents=True)
+        files = [source, program, Path(name) / "hugepool.begun", Path(name) / "crates.txt", Path(name) / "HANDLES"]
+        for file in files:
+            file.touch(0o755)
+        for at, file in ((100, source), (100, source.parent), (100, files[3]), (100, files[4]), (200, files[2])):
+            os.utime(file, (at, at))
+        has_rt = lambda path: patch.object(machine.shutil, "which", lambda _: path)
+        with patch.object(machine, "PROGRAM", program), has_rt("/rt"):
+            yield "the proved program is current", machine.is_proved_current()
+            with has_rt(None):
+                yield "the proved program isn't used without rt", not machine.is_proved_current()
+            os.utime(source, (300, 300))
+            yield "the proved program is older than a source", not machine.is_proved_current()
+
+
 def faults_of_again() -> Iterator[tuple[str, object]]:
     """That changed.py, which emulate.sh --again runs, names the script, the call and the fields."""
     calls = (*LEAKING, "begin 1 trunc 0 0 = done | 1 0 | 0 0, 0 0 | 0 | used 1")
@@ -334,7 +354,7 @@ def faults_of_minimizing() -> Iterator[tuple[str, object]]:
 
 def main() -> int:
     parts = (faults_of_known, faults_of_files, faults_of_reading, faults_of_report, faults_of_commands)
-    parts += (faults_of_again, faults_of_boots, faults_of_minimizing)
+    parts += (faults_of_basis, faults_of_again, faults_of_boots, faults_of_minimizing)
     tried = [it for part in parts for it in part()]
     wrong = [(what, found) for what, found in tried if found is not True]
     print("".join(f"  {what}: {found}\n" for what, found in wrong), end="")

@@ -25,14 +25,15 @@ class Machine:
 def is_proved_current() -> bool:
     """Whether the proved program was built from the sources as they are; asking never starts a proof.
 
-    The launcher writes when its build began beside the program. A source that is newer, or no such note, means that it isn't current.
+    The launcher writes when its build began beside the program. A source that is newer, a folder in which one is gone, or no such note
+    means that it isn't current.
     """
     begun = PROGRAM.with_name(f"{PROGRAM.name}.begun")
     if shutil.which("rt") is None or not os.access(PROGRAM, os.X_OK) or not begun.is_file():
         return False
-    kinds = ("src", "specs", "proofs")
-    sources = [*(it for kind in kinds for it in TOP.glob(f"crates/*/{kind}/**/*")), *(TOP / it for it in ("crates.txt", "HANDLES"))]
-    return all(it.stat().st_mtime <= begun.stat().st_mtime for it in sources if it.is_file())
+    folders = [it for kind in ("src", "specs", "proofs") for it in TOP.glob(f"crates/*/{kind}")]
+    sources = [TOP / "crates.txt", TOP / "HANDLES", *folders, *(it for folder in folders for it in folder.rglob("*"))]
+    return all(it.stat().st_mtime <= begun.stat().st_mtime for it in sources)
 
 
 def answers_trace(program: Program) -> bool:
