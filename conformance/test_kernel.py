@@ -19,7 +19,7 @@ from unittest.mock import patch
 import compare
 import packages
 from compare import Script
-from kernel import kernels, machine, minimize, report, suites
+from kernel import kernels, machine, minimize, report, suites, testing
 from kernel.differences import Comparison, Result
 from kernel.known import explains, faults, known_issues, release, translated
 from kernel.minimize import Minimizer, minimized
@@ -299,6 +299,19 @@ def faults_of_again() -> Iterator[tuple[str, object]]:
     yield "again", told == "  made.up, call 2, begin 1 alloc 1 0 1: used pages 2, before 1; 1 later calls differ, too\n" or told
 
 
+def faults_of_whole() -> Iterator[tuple[str, object]]:
+    """That a recording without its last call or script is rejected."""
+    version, answered = parsed(recording(CASES[0]))
+    asked = [Script(it.name, it.header, [suites.call_of(line) for line in it.lines]) for it in answered]
+    yield "a whole recording", testing.check_whole("x", asked, answered) is None
+    for what, came in (("call", [Script("made.up", asked[0].header, answered[0].lines[:-1])]), ("script", [])):
+        try:
+            testing.check_whole("x", asked, came)
+            yield f"a recording without a {what}", version
+        except machine.Problem:
+            yield f"a recording without a {what}", True
+
+
 def faults_of_commands() -> Iterator[tuple[str, object]]:
     """That each command that can't run says so in one line, and with status 2."""
     for words, why in MISUSES:
@@ -354,7 +367,7 @@ def faults_of_minimizing() -> Iterator[tuple[str, object]]:
 
 def main() -> int:
     parts = (faults_of_known, faults_of_files, faults_of_reading, faults_of_report, faults_of_commands)
-    parts += (faults_of_basis, faults_of_again, faults_of_boots, faults_of_minimizing)
+    parts += (faults_of_whole, faults_of_basis, faults_of_again, faults_of_boots, faults_of_minimizing)
     tried = [it for part in parts for it in part()]
     wrong = [(what, found) for what, found in tried if found is not True]
     print("".join(f"  {what}: {found}\n" for what, found in wrong), end="")

@@ -17,7 +17,7 @@ from kernel.known import Known
 from kernel.machine import Machine
 from kernel.problem import Problem
 from kernel.suites import has_races, text_of
-from kernel.testing import compared, parsed
+from kernel.testing import check_whole, compared, parsed
 
 # a boot asks at most so many calls
 MOST_CALLS = 6000
@@ -175,6 +175,7 @@ class Minimizer:
         """The first difference of each script, on the kernel itself."""
         self.boots += 1
         version, answered = parsed(self.kernel.record(text_of(some), sum(len(it.lines) for it in some)))
+        check_whole("minimize", some, answered)
         results = compared(Comparison(self.machine.program, version, self.known), answered)
         return [it.difference for it in results]
 

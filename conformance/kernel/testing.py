@@ -15,7 +15,7 @@ from kernel.kernels import Kernel, say
 from kernel.known import Known, race_rule
 from kernel.machine import Machine
 from kernel.problem import Problem
-from kernel.suites import text_of
+from kernel.suites import call_of, text_of
 
 # so many scripts are compared at a time
 AT_A_TIME = 2
@@ -84,9 +84,17 @@ def recorded(kernel: Kernel, name: str, some: list[Script], has_races: bool) -> 
     lines = sum(len(it.lines) for it in some)
     say(f"suite {name}: {len(some)} scripts, {lines} calls on {kernel.name}")
     version, answered = parsed(kernel.record(text_of(some), lines, has_races))
-    if [it.name for it in answered] != [it.name for it in some]:
-        raise Problem(f"suite {name}: {len(some)} scripts were asked, and {len(answered)} came back")
+    check_whole(name, some, answered)
     return version, answered
+
+
+def check_whole(name: str, some: list[Script], answered: list[Script]) -> None:
+    """Rejects a recording that lacks scripts or calls, which would pass for agreement."""
+    asked = [(it.name, it.lines) for it in some]
+    came = [(it.name, [call_of(line) for line in it.lines]) for it in answered]
+    if asked != came:
+        first = next((one[0] for one, other in zip(asked, came) if one != other), "the end")
+        raise Problem(f"suite {name}: {len(asked)} scripts were asked, {len(came)} came back, and they differ from {first} on")
 
 
 def tested(kernel: Kernel, machine: Machine, known: list[Known], name: str, some: list[Script], has_races: bool) -> Tested:
