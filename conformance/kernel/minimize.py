@@ -1,7 +1,7 @@
 """Makes a script in which a kernel differs smaller, by asking the kernel many smaller scripts in one boot.
 
 A round tries scripts with calls left out and with smaller numbers. The smallest one that still differs in the same way is the next
-round's. It ends when nothing smaller differs so.
+round's. It ends when nothing that is one change away differs so, and of a short script nothing that is two away.
 """
 from __future__ import annotations
 
@@ -22,8 +22,8 @@ from kernel.testing import check_whole, compared, parsed
 # a boot asks at most so many calls
 MOST_CALLS = 6000
 MOST_ROUNDS = 30
-# of so many calls or scripts all pairs are tried
-FEW = 12
+# of so many calls or scripts all pairs are tried; of a script so short, all pairs of changes
+FEW, SHORT = 12, 6
 
 
 @dataclass(frozen=True)
@@ -135,6 +135,18 @@ def shape_of(script: Script) -> list[str]:
     return [re.sub(r"\d+", "0", line) for line in (script.header, *script.lines)]
 
 
+def neighbours(script: Script) -> Iterator[Script]:
+    """The scripts that are one change away."""
+    yield from cuts(script)
+    yield from shrunk(script)
+
+
+def farther(script: Script) -> Iterator[Script]:
+    """The scripts that are two changes away, of a short one: a call that is left out may need another number elsewhere."""
+    for one in neighbours(script) if len(script.lines) <= SHORT else ():
+        yield from neighbours(one)
+
+
 def is_readable(script: Script) -> bool:
     """Whether the recorder takes a script: one with a task or file that the pool doesn't have would stop the whole boot."""
     _, _, tasks = (int(it) for it in script.header.split()[2:5])
@@ -179,6 +191,13 @@ class Minimizer:
         results = compared(Comparison(self.machine.program, version, self.known), answered)
         return [it.difference for it in results]
 
+    def alike(self, number: int, candidates: list[Script], way: Way) -> list[Difference]:
+        """Those candidates that differ in this way."""
+        if not candidates:
+            return []
+        say(f"round {number}: {len(candidates)} smaller scripts to try, of {len(candidates[-1].lines)} calls at most")
+        return [it for it in self.differences(candidates) if it is not None and way_of(it) == way]
+
     def smallest(self, first: Difference) -> Difference:
         """The smallest script found that differs in the same way, cut behind the call."""
         best, way, alike = first, way_of(first), [first]
@@ -186,11 +205,8 @@ class Minimizer:
         for number in range(1, MOST_ROUNDS + 1):
             script = best.script
             wider = (*merges(script, [it.script for it in alike]), *unions(script, dispensable), *without_pairs(script))
-            candidates = named(iter((*wider, *cuts(script), *shrunk(script))), size(script))
-            if not candidates:
-                break
-            say(f"round {number}: {size(script)[0]} calls, {len(candidates)} smaller scripts to try")
-            alike = [it for it in self.differences(candidates) if it is not None and way_of(it) == way]
+            near = named(iter((*wider, *neighbours(script))), size(script))
+            alike = self.alike(number, near, way) or self.alike(number, named(farther(script), size(script)), way)
             if not alike:
                 break
             dispensable = left_out_alone(script, alike)
