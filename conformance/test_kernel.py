@@ -362,6 +362,10 @@ def faults_of_minimizing() -> Iterator[tuple[str, object]]:
     line = "begin 1 alloc 0 2 3"
     smaller = set(minimize.with_smaller_numbers(line))
     yield "smaller numbers", "begin 1 alloc 0 2 1" in smaller and line not in smaller
+    four = ["begin 1 mapn 0 0 1", "begin 1 mapn 0 1 2", "begin 1 map 0 0 2", "begin 1 load 2"]
+    script, three = Script("a", "pool 2 1 1 1 3", four), ("begin 1 mapn 0 1 2", "begin 1 map 0 0 2", "begin 1 load 1")
+    near, far = ({tuple(it.lines) for it in some(script)} for some in (minimize.neighbours, minimize.farther))
+    yield "two changes at once", three in far and three not in near
     yield "a suite has its scripts", len(suites.scripts_of(suites.SUITES["fixed"])) == 33
 
 
