@@ -340,6 +340,14 @@ def boots(room: Path, begins: int, works: int) -> tuple[int, int]:
     return ran.returncode, len((room / "boots").read_text(encoding="utf-8").splitlines())
 
 
+def faults_of_saying() -> Iterator[tuple[str, object]]:
+    """That a boot that was tried again is passed on."""
+    said: list[str] = []
+    with patch.object(kernels, "say", said.append):
+        kernels.say_boots("record: 1\nemulate: it stopped: booting it again, attempt 2 of 3\n")
+    yield "a boot that was tried again", said == ["emulate: it stopped: booting it again, attempt 2 of 3"] or said
+
+
 def faults_of_boots() -> Iterator[tuple[str, object]]:
     """That a kernel which stops before the first call is booted again, three times in all, and one that stops later isn't."""
     expected = {(1, 1): (0, 1), (2, 2): (0, 2), (3, 3): (0, 3), (4, 4): (1, 3), (1, 2): (1, 1), (2, 3): (1, 2)}
@@ -371,7 +379,7 @@ def faults_of_minimizing() -> Iterator[tuple[str, object]]:
 
 def main() -> int:
     parts = (faults_of_known, faults_of_files, faults_of_reading, faults_of_report, faults_of_commands)
-    parts += (faults_of_whole, faults_of_basis, faults_of_again, faults_of_boots, faults_of_minimizing)
+    parts += (faults_of_saying, faults_of_whole, faults_of_basis, faults_of_again, faults_of_boots, faults_of_minimizing)
     tried = [it for part in parts for it in part()]
     wrong = [(what, found) for what, found in tried if found is not True]
     print("".join(f"  {what}: {found}\n" for what, found in wrong), end="")

@@ -65,7 +65,15 @@ class Kernel:
             told = said.read().decode(errors="replace")
         if ran.returncode:
             raise Problem(reason(told, ran.returncode))
+        say_boots(told)
         return (room / "recorded").read_text(encoding="utf-8")
+
+
+def say_boots(told: str) -> None:
+    """Passes on that a kernel was booted again, which a run that ends well doesn't hide."""
+    for line in told.splitlines():
+        if "booting it again" in line:
+            say(line)
 
 
 def wait(ran: subprocess.Popen[bytes], room: Path, lines: int) -> None:
