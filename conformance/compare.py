@@ -86,23 +86,34 @@ class Pool:
         # (the steps that are left over were refused, which changes nothing)
         return replace(self, trace=[*self.trace, call, *steps[:end]], outcomes=outcomes[:end + 1], state=state, total=total)
 
+    def answer(self) -> str:
+        """The last call's answer, in the machine's own words."""
+        return self.outcomes[-1].removeprefix("ended ")
+
     def told(self) -> Told:
         """What is told of the last call."""
         free, resv, used = re.match(r"free (\d+) resv (\d+) calls \d+(?: (used \d+))?$", self.state[0]).groups("")
         sizes = [re.match(r"file \d+ size (\d+) .* pages (\d+) ", line).groups() for line in self.state[1:1 + self.files]]
         entries = [line.rsplit(" ", 1)[1] for line in self.state[1 + self.files:]]
-        answer = self.outcomes[-1].removeprefix("ended ")
         # Linux has one error for want of quota and of frames (`used` is told of a pool with a quota alone)
-        answer = "noframe" if answer == "noquota" and used else answer
+        answer = "noframe" if self.answer() == "noquota" and used else self.answer()
         files = ", ".join(" ".join(pair) for pair in sizes)
         return Told(answer, f"{free} {resv}", files, " ".join(entries), used, self.total)
 
 
-def replayed(trace: list[str]) -> list[str]:
-    """What the program of this repository writes of a trace."""
-    text = "".join(f"{line}\n" for line in trace)
-    done = subprocess.run([PROGRAM, "replay"], input=text.encode(), capture_output=True, check=True)
-    return done.stdout.decode().splitlines()
+def replaying(*command: str | Path) -> Program:
+    """What a command writes of a trace that it reads from standard input."""
+
+    def replays(trace: list[str]) -> list[str]:
+        text = "".join(f"{line}\n" for line in trace)
+        done = subprocess.run(command, input=text.encode(), capture_output=True, check=True)
+        return done.stdout.decode().splitlines()
+
+    return replays
+
+
+# what the program of this repository writes of a trace
+replayed = replaying(PROGRAM, "replay")
 
 
 def opened(program: Program, header: str) -> Pool:
@@ -118,7 +129,7 @@ def scripts(path: Path) -> Iterator[Script]:
             name, header, lines = line[len("script "):], None, []
         elif line.startswith("pool "):
             header = line
-        elif line.startswith("end "):
+        elif line.split(" ")[0] == "end":
             yield Script(name, header, lines)
         elif not line.startswith("#"):
             lines.append(line)
@@ -204,10 +215,12 @@ def build() -> None:
 
 
 def main(paths: list[Path]) -> int:
+    # (a file that can't be read is reported before the program is built, which may take long)
+    files = [list(scripts(path)) for path in paths or sorted(Path(__file__).parent.glob("calls-*.txt"))]
     build()
     total, asked, calls, known, surplus, different = 0, 0, 0, 0, 0, []
-    for path in paths or sorted(Path(__file__).parent.glob("calls-*.txt")):
-        for script in scripts(path):
+    for file in files:
+        for script in file:
             agreed, difference = compare(replayed, script)
             total, asked, calls = total + 1, asked + len(script.lines), calls + agreed
             known, surplus = known + (difference == KNOWN), surplus + (difference == SURPLUS)
@@ -221,6 +234,12 @@ def main(paths: list[Path]) -> int:
 
 
 if __name__ == "__main__":
+    if sys.argv[1:] in (["-h"], ["--help"]):
+        print(__doc__, end="")
+        sys.exit(0)
     if any(word.startswith("-") for word in sys.argv[1:]):
         sys.exit(__doc__)
-    sys.exit(main([Path(word) for word in sys.argv[1:]]))
+    try:
+        sys.exit(main([Path(word) for word in sys.argv[1:]]))
+    except OSError as why:
+        sys.exit(f"compare.py: {why.filename}: {why.strerror}")

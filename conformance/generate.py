@@ -20,6 +20,7 @@ Linux differ there (README.md).
 from __future__ import annotations
 
 import random
+import signal
 import sys
 from dataclasses import dataclass, field
 from typing import Callable, Iterator, Sequence, TypeVar
@@ -351,4 +352,5 @@ def main(words: list[str]) -> int:
 
 
 if __name__ == "__main__":
+    signal.signal(signal.SIGPIPE, signal.SIG_DFL)
     sys.exit(main(sys.argv[1:]))

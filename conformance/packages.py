@@ -1,17 +1,25 @@
 #!/usr/bin/env python3
-"""Fetches a Debian package into a folder, and installs nothing.
+"""Fetches a Debian package, or the kernel in one, into a folder, and installs nothing.
 
 usage: packages.py PACKAGE FOLDER
+       packages.py --kernel PACKAGE FOLDER
 
-Where the configured suites don't have it, the other suites of the same mirror are asked, by an apt configuration of its own: the
-machine's sources and lists stay as they are. The last line is the path of the package.
+PACKAGE may be NAME=VERSION or NAME/SUITE, as for apt. If the configured suites don't have it, the other suites of the same mirror
+are searched with a private apt configuration: the machine's sources and lists stay as they are, and no lock of dpkg is taken.
+The last line is the path of the package.
+
+With --kernel, the dependencies are followed from a metapackage (linux-image-amd64) to the package that has the kernel's image,
+which newer kernels keep in linux-binary-*. Only the image stays in FOLDER. The last line is its path.
+Status: 0 fetched; 1 not found, no network or no space; 2 usage.
 """
 from __future__ import annotations
 
 import os
 import re
+import shutil
 import subprocess
 import sys
+import tarfile
 import tempfile
 from pathlib import Path
 
@@ -52,40 +60,161 @@ def configuration(room: Path) -> dict[str, str]:
     return {**os.environ, "APT_CONFIG": str(room / "apt.conf")}
 
 
-def apt(words: list[str], folder: Path, environment: dict[str, str]) -> subprocess.CompletedProcess:
-    return subprocess.run(["apt-get", "-qq", *words], cwd=folder, env=environment, capture_output=True, text=True, check=False)
+def own_environment() -> dict[str, str]:
+    """The machine's own apt configuration."""
+    return dict(os.environ)
+
+
+def run_apt(words: list[str], folder: Path, environment: dict[str, str]) -> subprocess.CompletedProcess[str]:
+    return subprocess.run(words, cwd=folder, env=environment, capture_output=True, text=True, check=False)
+
+
+def apt(words: list[str], folder: Path, environment: dict[str, str]) -> subprocess.CompletedProcess[str]:
+    """Runs apt-get. It downloads as this user, since its own user may not write into a private folder."""
+    sandbox = f"APT::Sandbox::User={'root' if os.geteuid() == 0 else ''}"
+    return run_apt(["apt-get", "-qq", "-o", sandbox, *words], folder, environment)
+
+
+def dependencies(package: str, folder: Path, environment: dict[str, str]) -> list[str] | None:
+    """The dependencies of a package, each as NAME or NAME=VERSION; None if apt doesn't know the package."""
+    shown = run_apt(["apt-cache", "show", "--no-all-versions", package], folder, environment)
+    if shown.returncode or not shown.stdout.strip():
+        return None
+    field = re.search(r"(?m)^Depends: (.*)$", shown.stdout)
+    return [named(word) for word in re.split(r" *[,|] *", field[1])] if field else []
+
+
+def named(dependency: str) -> str:
+    """A dependency as apt-get takes it; an exact version is kept."""
+    name, _, version = re.match(r"([^ (]+)( *\(= *([^)]+)\))?", dependency).groups()
+    return f"{name}={version}" if version else name
+
+
+def image_package(package: str, folder: Path, environment: dict[str, str]) -> str | None:
+    """The package that has the kernel's image, found by following dependencies; None if apt doesn't know the package.
+
+    A metapackage depends on linux-image-VERSION, and since 6.19 that one depends on linux-binary-VERSION, which has the image.
+    """
+    found = dependencies(package, folder, environment)
+    if found is None:
+        return None
+    for kind in ("linux-binary-", "linux-image-"):
+        below = next((it for it in found if re.match(rf"{kind}\d", it)), None)
+        if below is not None and below != package:
+            return image_package(below, folder, environment)
+    return package
+
+
+def download(package: str, room: Path, environment: dict[str, str]) -> Path | str:
+    """The package's file in the room, or why apt failed."""
+    ran = apt(["download", package], room, environment)
+    found = next(room.glob("*.deb"), None)
+    return found if ran.returncode == 0 and found else last_line(ran.stderr) or "apt-get downloaded nothing"
+
+
+def last_line(text: str) -> str:
+    """The line of apt's messages that says most: an address that couldn't be reached, or an error."""
+    lines = text.strip().split("\n")
+    named = [line for line in lines if "Failed to fetch" in line] + [line for line in lines if line.startswith("E:")]
+    return (named or lines[-1:])[0]
+
+
+def fetch_into(package: str, room: Path, is_kernel: bool) -> Path:
+    """The package's file in the room, from a configured suite or from another one."""
+    own = room / "own"
+    own.mkdir()
+    real = image_package(package, own, own_environment()) if is_kernel else package
+    got = download(real, own, own_environment()) if real else ""
+    if isinstance(got, Path):
+        return got
+    environment = configuration(room)
+    updated = apt(["update"], own, environment)
+    real = image_package(package, own, environment) if is_kernel else package
+    got = download(real, own, environment) if real else f"no suite of the mirror has a package {package}"
+    if isinstance(got, Path):
+        return got
+    raise NotFound(last_line(updated.stderr) if updated.stderr.strip() else got)
 
 
 def fetch(package: str, folder: Path) -> Path:
     """The package's file, fetched from a configured suite or from another one."""
     folder.mkdir(parents=True, exist_ok=True)
     with tempfile.TemporaryDirectory(prefix="packages-") as room:
-        own = Path(room) / "own"
-        own.mkdir()
-        ran = apt(["-o", f"APT::Sandbox::User={'root' if os.geteuid() == 0 else ''}", "download", package], own, dict(os.environ))
-        if ran.returncode:
-            environment = configuration(Path(room))
-            updated = apt(["update"], own, environment)
-            ran = apt(["download", package], own, environment)
-            if ran.returncode:
-                raise NotFound((ran.stderr or updated.stderr).strip().split("\n")[-1])
-        fetched = next(own.glob("*.deb"))
-        to = folder / fetched.name
-        to.write_bytes(fetched.read_bytes())
-        return to
+        fetched = fetch_into(package, Path(room), False)
+        return Path(shutil.move(fetched, folder / fetched.name))
 
 
-def main() -> int:
-    if len(sys.argv) != 3:
-        print("usage: packages.py PACKAGE FOLDER", file=sys.stderr)
+def kernel_member(name: str) -> str | None:
+    """The name that a kernel's image gets in the cache, if a package's file is one."""
+    if found := re.match(r"(?:\./)?boot/(vmlinuz-[^/]+)$", name):
+        return found[1]
+    found = re.match(r"(?:\./)?usr/lib/modules/([^/]+)/vmlinuz$", name)
+    return f"vmlinuz-{found[1]}" if found else None
+
+
+def unpack_kernel(package: Path, folder: Path) -> Path:
+    """Writes the kernel's image of a package into the folder, whole or not at all."""
+    with subprocess.Popen(["dpkg-deb", "--fsys-tarfile", package], stdout=subprocess.PIPE) as unpacked:
+        with tarfile.open(fileobj=unpacked.stdout, mode="r|") as files:
+            for member in files:
+                if member.isfile() and (name := kernel_member(member.name)):
+                    folder.mkdir(parents=True, exist_ok=True)
+                    part = package.with_name(name)
+                    with part.open("wb") as to:
+                        shutil.copyfileobj(files.extractfile(member), to)
+                    unpacked.kill()
+                    return moved(part, folder / name)
+    raise NotFound(f"{package.name} has no kernel image in it")
+
+
+def moved(part: Path, to: Path) -> Path:
+    """Moves a file to its place in one step, so that a full disk leaves no half of it."""
+    beside = to.with_name(f".{to.name}.part")
+    try:
+        shutil.copyfile(part, beside)
+        beside.rename(to)
+    except OSError:
+        beside.unlink(missing_ok=True)
+        if not any(to.parent.iterdir()):
+            to.parent.rmdir()
+        raise
+    return to
+
+
+def kernels_folder(package: str, cache: Path) -> Path:
+    """Where the kernel of a package is kept."""
+    return cache / re.sub(r"[/=]", "@", package)
+
+
+def kept_kernel(package: str, cache: Path) -> Path | None:
+    """The kernel of a package that was fetched before."""
+    return max(kernels_folder(package, cache).glob("vmlinuz-*"), key=lambda it: it.stat().st_mtime, default=None)
+
+
+def kernel(package: str, cache: Path) -> Path:
+    """The kernel of a package, fetched unless it is in the cache."""
+    if kept := kept_kernel(package, cache):
+        return kept
+    with tempfile.TemporaryDirectory(prefix="packages-") as room:
+        return unpack_kernel(fetch_into(package, Path(room), True), kernels_folder(package, cache))
+
+
+def main(words: list[str]) -> int:
+    if words[:1] in (["-h"], ["--help"]):
+        print(__doc__, end="")
+        return 0
+    is_kernel = words[:1] == ["--kernel"]
+    names = words[1:] if is_kernel else words
+    if len(names) != 2 or names[0].startswith("-"):
+        print("usage: packages.py [--kernel] PACKAGE FOLDER", file=sys.stderr)
         return 2
     try:
-        print(fetch(sys.argv[1], Path(sys.argv[2])))
-    except NotFound as why:
-        print(f"packages.py: {sys.argv[1]} can't be fetched: {why}", file=sys.stderr)
+        print(kernel(names[0], Path(names[1])) if is_kernel else fetch(names[0], Path(names[1])))
+    except (NotFound, OSError, tarfile.TarError) as why:
+        print(f"packages.py: can't fetch {names[0]}: {why}", file=sys.stderr)
         return 1
     return 0
 
 
 if __name__ == "__main__":
-    sys.exit(main())
+    sys.exit(main(sys.argv[1:]))

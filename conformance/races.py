@@ -51,7 +51,7 @@ def has_truncations(script: Script) -> bool:
 
 def told(path: Path) -> tuple[list[str], int, int, int]:
     """The faults of a file, how many scripts have no truncations, how many have, and in how many of these the count is wrong."""
-    read = list(scripts(path))
+    read = [it for it in scripts(path) if any(line.startswith("race ") and " = " in line for line in it.lines)]
     without = [it for it in read if not has_truncations(it)]
     wrong = [it for it in read if has_truncations(it) and not is_right(it)]
     faults = [f"{path.name}: {it.name}: the counts are wrong: {rests(it)}" for it in without if not is_right(it)]
@@ -64,6 +64,8 @@ def main(paths: list[Path]) -> int:
         found, without, others, wrong = told(path)
         print(f"{path.name}: wrong in {len(found)} of {without} scripts without truncations, in {wrong} of {others} with them")
         passed, faults = passed + without - len(found), faults + found
+        if not without + others:
+            faults.append(f"{path.name}: no script of it has the counts after a race")
         if not paths:
             passed += wrong == RECORDS[path.name]
             faults += [] if wrong == RECORDS[path.name] else [f"{path.name}: the count is to be wrong in {RECORDS[path.name]}"]
@@ -73,4 +75,12 @@ def main(paths: list[Path]) -> int:
 
 
 if __name__ == "__main__":
-    sys.exit(main([Path(word) for word in sys.argv[1:]]))
+    if sys.argv[1:] in (["-h"], ["--help"]):
+        print(__doc__, end="")
+        sys.exit(0)
+    if any(word.startswith("-") for word in sys.argv[1:]):
+        sys.exit(__doc__)
+    try:
+        sys.exit(main([Path(word) for word in sys.argv[1:]]))
+    except OSError as why:
+        sys.exit(f"races.py: {why.filename}: {why.strerror}")

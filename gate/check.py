@@ -66,6 +66,7 @@ SCRIPTS = {
         "conformance/live/test_check.py",
         "conformance/test_compare.py",
         "conformance/test_record.py",
+        "conformance/test_kernel.py",
     ),
     "quick": ("rt check and test", "gate/documents.py"),
 }

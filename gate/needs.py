@@ -26,8 +26,12 @@ NEEDS = (
     Need("rt", PROVER),
     Need("python3", "python3"),
     Need("find", "findutils"),
-    Need("cc", "gcc", ("gate/growths.py", "gate/refusals.py", "gate/failing.py", "conformance/test_record.py")),
-    Need("cargo", "cargo", ("bench/fuzz.sh",)),
+    Need(
+        "cc",
+        "gcc",
+        ("gate/growths.py", "gate/refusals.py", "gate/failing.py", "conformance/test_record.py", "conformance/test_kernel.py"),
+    ),
+    Need("cargo", "cargo", ("bench/fuzz.sh", "conformance/test_kernel.py")),
     # without it two calls of ./hugepool at once may both build the program
     Need("flock", "util-linux", ("gate/test_launcher.py",)),
 )

@@ -63,41 +63,36 @@ read_words() {
 # the packages that have what isn't on the PATH
 missing_packages() {
     local pair
-    for pair in cc:build-essential qemu-system-x86_64:qemu-system-x86 cpio:cpio timeout:coreutils; do
+    for pair in cc:build-essential qemu-system-x86_64:qemu-system-x86 cpio:cpio timeout:coreutils python3:python3; do
         command -v "${pair%%:*}" > /dev/null || echo "${pair#*:}"
     done
 }
 
-# The kernel of the package in the cache, if it is there.
-kept_kernel() { if [ -d "$cache/$package" ]; then find "$cache/$package" -name 'vmlinuz-*' | sort -V | tail -n 1; fi; }
-
-# What the package stands for: a package of Debian's that only names the newest kernel depends on that kernel's.
-real_package() {
-    local below
-    below=$(apt-cache depends "$package" | sed -n 's/^ *Depends: \(linux-image-[^ ]*\)$/\1/p' | head -n 1)
-    echo "${below:-$package}"
+# The kernel of the package in the cache, if it is there (packages.py names the folder so).
+kept_kernel() {
+    local folder=$cache/${package//[\/=]/@}
+    if [ -d "$folder" ]; then find "$folder" -name 'vmlinuz-*' | sort -V | tail -n 1; fi
 }
 
 # Fetches the kernel's package and keeps its kernel alone.
 fetch_kernel() {
-    local room=$work/fetched real
-    mkdir -p "$room" "$cache/$package"
-    real=$(real_package)
-    say "fetching $real"
-    (cd "$room" && apt-get -qq -o APT::Sandbox::User="$(id -un)" download "$real")
-    dpkg-deb --fsys-tarfile "$room"/*.deb | tar -x -C "$room" --wildcards './boot/vmlinuz-*'
-    mv "$room"/boot/vmlinuz-* "$cache/$package/"
+    say "fetching the kernel of $package"
+    kernel=$(python3 "$here/../packages.py" --kernel "$package" "$cache")
 }
 
 install_all() {
     local packages by=()
+    local installed=nothing
     mapfile -t packages < <(missing_packages)
     if [ ${#packages[@]} -gt 0 ]; then
         [ "$(id -u)" = 0 ] || by=(sudo)
         say "installing ${packages[*]}"
         "${by[@]}" apt-get install -y --no-install-recommends "${packages[@]}" >&2
+        installed=${packages[*]}
     fi
-    [ -n "$kernel" ] || [ -n "$(kept_kernel)" ] || fetch_kernel
+    [ -n "$kernel" ] || kernel=$(kept_kernel)
+    [ -n "$kernel" ] || fetch_kernel
+    say "installed $installed; the kernel is $kernel"
 }
 
 need_all() {
@@ -135,9 +130,24 @@ pack() {
         (cd "$root" && find . | cpio -o -H newc --quiet) > "$work/initramfs"
 }
 
-# Boots a machine in which the recorder runs with these words. What it recorded is in $work/recorded then, what it told in
-# $work/told, what the kernel told in $work/console.
+# Whether the kernel stopped before it ran the recorder, so that no call was made.
+is_unbegun() { [ "$ended" = 0 ] && ! grep -q '^record: ' "$work/told"; }
+
+# Boots a machine in which the recorder runs with these words. A kernel that stops before it runs the recorder is booted again, twice at
+# most: emulated, Linux 6.12 panics in one of four boots or so while it patches its own text (do_sync_core). Behind the first call
+# nothing is tried again.
 boot() {
+    local attempt
+    for attempt in 1 2; do
+        if boot_once "$@"; then return 0; fi
+        is_unbegun || return 1
+        say "the kernel stopped before it ran the recorder: booting it again, attempt $((attempt + 1)) of 3"
+    done
+    boot_once "$@"
+}
+
+# What is recorded is in $work/recorded then, what the recorder told in $work/told, what the kernel told in $work/console.
+boot_once() {
     local status=0
     rm -f "$work"/{recorded,told,console}
     touch "$work"/{recorded,told,console}
@@ -147,7 +157,7 @@ boot() {
         -serial file:"$work/console" -serial file:"$work/recorded" -serial file:"$work/told" < /dev/null >&2 &
     machine=$!
     wait "$machine" || status=$?
-    machine=''
+    machine='' ended=$status
     grep -v '^status ' "$work/told" >&2 || true
     if [ "$status" = 124 ]; then
         say "the machine wasn't done after $seconds seconds"
@@ -203,7 +213,7 @@ compare() {
         else
             failed=$((failed + 1))
             echo "$file: $(grep -c '^>' "$work/difference") lines differ; $(sed -n '1s/^# //p' "$work/again")"
-            head -n 20 "$work/difference"
+            python3 "$here/changed.py" "$file" "$work/again"
         fi
     done
     echo "recorded again: $passed passed, $failed failed"
@@ -218,7 +228,7 @@ check_words() {
 
 read_words "$@"
 work=$(mktemp -d "${TMPDIR:-/tmp}/emulate-XXXXXX")
-machine=''
+machine='' ended=''
 clean() {
     [ -z "$machine" ] || kill "$machine" 2> /dev/null || true
     rm -rf "$work"

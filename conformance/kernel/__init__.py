@@ -1,0 +1,1 @@
+"""Finds the calls in which a Linux kernel differs from the machine."""

@@ -1,0 +1,175 @@
+"""The command line: ./kernel test, minimize, scripts and known."""
+from __future__ import annotations
+
+import argparse
+import signal
+import subprocess
+import sys
+import time
+from pathlib import Path
+from typing import NoReturn
+
+import generate
+from kernel import kernels, report, suites
+from kernel.kernels import Kernel, say
+from kernel.known import FOLDER, Known, known_issues
+from kernel.machine import machine
+from kernel.minimize import Minimizer, minimized
+from kernel.problem import Problem
+from kernel.testing import Tested, tested
+
+ABOUT = """Finds the calls in which a Linux kernel differs from the machine of this repository.
+
+  ./kernel test --package linux-image-cloud-amd64              boots Debian's kernel in an emulated machine, and tests it
+  ./kernel test --package linux-image-cloud-amd64/experimental a package of another suite, or NAME=VERSION
+  ./kernel test --kernel bzImage --suites quota                a kernel of your own, one suite
+  sudo ./kernel test --here                                    the kernel of this machine
+  ./kernel scripts --seed 5 --kind quota > new.txt             random scripts
+  ./kernel test --kernel bzImage --scripts new.txt             scripts of your own
+  ./kernel minimize new.txt --kernel bzImage                   the smallest script that still differs
+  ./kernel known                                               the known issues
+"""
+AFTER = """Status: 0 no new difference; 1 new differences; 2 could not run.
+Fetched kernels are kept in KIRVESSA_CACHE (~/.cache/kirvessa). Without /dev/kvm the processor is emulated, and a suite takes
+about a minute. conformance/README.md describes the suites, the scripts and the known issues."""
+RAW = argparse.RawDescriptionHelpFormatter
+
+
+def add_kernel(to: argparse.ArgumentParser) -> None:
+    """The options that say which kernel is asked, and what answers for the machine."""
+    which = to.add_mutually_exclusive_group(required=True)
+    which.add_argument("--package", metavar="P", help="the kernel of this Debian package, emulated: NAME, NAME/SUITE or NAME=VERSION")
+    which.add_argument("--kernel", metavar="VMLINUZ", help="this kernel image, in an emulated machine")
+    which.add_argument("--here", action="store_true", help="this machine's own kernel, as root, where no huge page is in use")
+    to.add_argument("--cpus", type=positive, default=2, metavar="N", help="processors of the emulated machine (2)")
+    to.add_argument("--seconds", type=positive, default=900, metavar="N", help="ends an emulated machine that isn't done by then (900)")
+    to.add_argument("--program", metavar="P", help="a program that answers for the machine: 'P replay' reads a trace")
+    to.add_argument("--without", action="append", default=[], metavar="NAME", help="treats this known issue as new; may be repeated")
+    to.add_argument("--known", type=Path, default=FOLDER, metavar="FOLDER", help="the known issues (conformance/known)")
+
+
+def positive(word: str) -> int:
+    if not word.isdecimal() or int(word) == 0:
+        raise argparse.ArgumentTypeError(f"{word!r} is not a positive number")
+    return int(word)
+
+
+def natural(word: str) -> int:
+    if not word.isdecimal():
+        raise argparse.ArgumentTypeError(f"{word!r} is not a number")
+    return int(word)
+
+
+def parser() -> argparse.ArgumentParser:
+    top = argparse.ArgumentParser(prog="kernel", description=ABOUT, epilog=AFTER, formatter_class=RAW)
+    commands = top.add_subparsers(dest="command", required=True, metavar="COMMAND")
+    about = "Tests a kernel, and prints each new difference."
+    test = commands.add_parser("test", help="tests a kernel", description=about, epilog=AFTER, formatter_class=RAW)
+    add_kernel(test)
+    names = f"of {', '.join(suites.SUITES)} ({' '.join(suites.SEQUENTIAL)} unless named; the races take minutes)"
+    test.add_argument("--suites", nargs="+", default=None, metavar="NAME", help=names)
+    test.add_argument("--scripts", nargs="+", type=Path, default=[], metavar="FILE", help="files of scripts, as a suite each")
+    test.add_argument("--junit", metavar="FILE", help="writes the results as JUnit's XML, too")
+    test.add_argument("--json", metavar="FILE", help="writes the results as JSON, too")
+    about = "Makes a new difference smaller: leaves out calls and lowers numbers until nothing smaller differs in the same way."
+    small = commands.add_parser("minimize", help="makes a difference smaller", description=about)
+    small.add_argument("script", type=Path, help="a file of scripts")
+    small.add_argument("--name", metavar="NAME", help="the script to take (the shortest one that differs)")
+    add_kernel(small)
+    more = commands.add_parser("scripts", help="prints random scripts", description="Prints random scripts; the seed says which.")
+    more.add_argument("--seed", type=natural, required=True, metavar="N")
+    more.add_argument("--count", type=natural, default=100, metavar="N", help="how many (100)")
+    kinds = [*generate.KINDS, generate.RACE]
+    more.add_argument("--kind", choices=kinds, default="plain", help="conformance/generate.py --help describes them (plain)")
+    commands.add_parser("known", help="lists the known issues", description="Lists the known issues.")
+    return top
+
+
+def kernel_of(options: argparse.Namespace) -> Kernel:
+    if options.here:
+        return kernels.here()
+    if options.package is not None:
+        return kernels.of_package(options.package, options.cpus, options.seconds)
+    return kernels.emulated(Path(options.kernel), options.kernel, options.cpus, options.seconds)
+
+
+def run_test(options: argparse.Namespace) -> int:
+    """Tests a kernel suite by suite; each is one boot, or more where races leave wrong counts."""
+    issues = known_issues(options.known, tuple(options.without))
+    default = [] if options.scripts else list(suites.SEQUENTIAL)
+    chosen = [suites.suite_of(name) for name in (default if options.suites is None else options.suites)]
+    work = [(it.name, suites.scripts_of(it), it.has_races) for it in chosen]
+    files = [(path.name, suites.read_scripts(path)) for path in options.scripts]
+    work += [(name, some, suites.has_races(some)) for name, some in files]
+    answering, kernel = machine(options.program), kernel_of(options)
+    found: list[Tested] = []
+    try:
+        for number, (name, some, has_races) in enumerate(work, 1):
+            say(f"{number} of {len(work)}")
+            found.append(tested(kernel, answering, issues, name, some, has_races))
+    finally:
+        new = reported(options, found, answering.basis) if found else 0
+    return 1 if new else 0
+
+
+def reported(options: argparse.Namespace, found: list[Tested], basis: str) -> int:
+    """Prints what the suites showed that ran, even if a later one couldn't, and returns how many differences are new."""
+    report.write(options.json, report.json_text(found, basis))
+    report.write(options.junit, report.junit_text(found))
+    new = sum(it.new for it in found)
+    print(report.text(found, basis))
+    print(f"kernel: {new} new difference{'' if new == 1 else 's'}", flush=True)
+    return new
+
+
+def run_minimize(options: argparse.Namespace) -> int:
+    """Minimizes the first new difference of a file."""
+    began = time.monotonic()
+    issues = known_issues(options.known, tuple(options.without))
+    some = [it for it in suites.read_scripts(options.script) if options.name in (None, it.name)]
+    if not some:
+        raise Problem(f"{options.script} has no script{f' {options.name}' if options.name else ''}")
+    minimizer = Minimizer(kernel_of(options), machine(options.program), issues)
+    found = minimized(minimizer, some, lambda it: it.known is None)
+    print("\n".join(report.difference_text(found)))
+    print(f"kernel: {found.number} calls, after {minimizer.boots} boots and {time.monotonic() - began:.0f} s")
+    return 1
+
+
+def run_known(_: argparse.Namespace) -> int:
+    for it in known_issues():
+        print(f"{it.name}: {it.title}\n  seen: {', '.join(it.versions)}")
+    return 0
+
+
+def run_scripts(options: argparse.Namespace) -> int:
+    return generate.main([str(options.seed), str(options.count), options.kind])
+
+
+COMMANDS = {"test": run_test, "minimize": run_minimize, "scripts": run_scripts, "known": run_known}
+
+
+def end_by_signal(number: int, _: object) -> NoReturn:
+    """Ends in order, so that an emulated machine ends too."""
+    sys.exit(128 + number)
+
+
+def main() -> int:
+    for number in (signal.SIGTERM, signal.SIGHUP, signal.SIGINT):
+        signal.signal(number, end_by_signal)
+    options = parser().parse_args()
+    if options.command in ("scripts", "known"):
+        signal.signal(signal.SIGPIPE, signal.SIG_DFL)
+    try:
+        return COMMANDS[options.command](options)
+    except Problem as why:
+        say(str(why))
+    except subprocess.CalledProcessError as why:
+        say(f"{why.cmd[0]} fails on a trace: {(why.stderr or b'').decode(errors='replace').strip()}")
+    except OSError as why:
+        say(f"{why.filename or 'the system'}: {why.strerror}")
+    return 2
+
+
+if __name__ == "__main__":
+    sys.exit(main())

@@ -1,0 +1,90 @@
+"""Compares what a kernel answered to a script with the machine, up to the first call that differs."""
+from __future__ import annotations
+
+import re
+from dataclasses import dataclass, field
+
+import compare
+from compare import Line, Pool, Program, Script, Told, read
+from kernel.known import Known, Seen, end_before, ends_behind, matching, translated
+
+# a byte call, which the machine doesn't have
+BYTES = re.compile(r"begin \d+ x")
+
+
+@dataclass(frozen=True)
+class Difference:
+    """The first call of a script in which kernel and machine differ."""
+
+    script: Script
+    seen: Seen
+    known: Known | None
+    # the later calls of the script that differ too, each with its number
+    spoiled: list[tuple[int, str]]
+
+    @property
+    def number(self) -> int:
+        """The number of the call in its script; the first is 1."""
+        return len(self.script.lines)
+
+
+@dataclass(frozen=True)
+class Result:
+    """How far a script agrees, and what ended the comparison if it isn't the end of the script."""
+
+    name: str
+    calls: int
+    agreed: int
+    difference: Difference | None = None
+    ended: Known | None = None
+
+
+@dataclass
+class Comparison:
+    """Compares scripts of one kernel with one program under some known issues."""
+
+    program: Program
+    version: str
+    known: list[Known] = field(default_factory=list)
+
+    def machine_told(self, pool: Pool) -> Told:
+        """The machine's answer, with its words replaced where a known issue says that Linux has another one."""
+        told = pool.told()._replace(answer=pool.answer())
+        return told._replace(answer=translated(self.known, told.answer, bool(told.used)))
+
+    def result(self, script: Script) -> Result:
+        """How far a recorded script agrees."""
+        pool = compare.opened(self.program, script.header)
+        for agreed, text in enumerate(script.lines):
+            line = read(text)
+            ended = end_before(self.known, line.call)
+            if BYTES.match(line.call) or ended:
+                return Result(script.name, len(script.lines), agreed, ended=ended)
+            new = pool.after(line.call)
+            if self.machine_told(new) != line.linux:
+                return Result(script.name, len(script.lines), agreed, self.difference(pool, new, script, agreed))
+            if ended := ends_behind(self.known, line.surplus):
+                return Result(script.name, len(script.lines), agreed + 1, ended=ended)
+            pool = new
+        return Result(script.name, len(script.lines), len(script.lines))
+
+    def difference(self, before: Pool, after: Pool, script: Script, agreed: int) -> Difference:
+        """What is to be said of the call in which the two differ."""
+        line = read(script.lines[agreed])
+        seen = Seen(line.call, line.linux, self.machine_told(after), after.answer(), self.version, script.lines[:agreed], before)
+        cut = Script(script.name, script.header, [read(text).call for text in script.lines[: agreed + 1]])
+        return Difference(cut, seen, matching(self.known, seen), self.spoiled(after, script, agreed + 1))
+
+    def spoiled(self, pool: Pool, script: Script, first: int) -> list[tuple[int, str]]:
+        """The calls from one on in which kernel and machine differ, when the machine goes on from where it is."""
+        found = []
+        for number, text in enumerate(script.lines[first:], first + 1):
+            line: Line = read(text)
+            if BYTES.match(line.call) or end_before(self.known, line.call):
+                break
+            pool = pool.after(line.call)
+            if self.machine_told(pool) != line.linux:
+                found.append((number, line.call))
+            if line.surplus:
+                break
+        return found

@@ -1,0 +1,158 @@
+"""What a test showed, as text, as JSON and as JUnit's XML."""
+from __future__ import annotations
+
+import json
+from collections import Counter
+from pathlib import Path
+from xml.etree import ElementTree
+
+from compare import Told
+from kernel.differences import Difference
+from kernel.known import Known
+from kernel.problem import Problem
+from kernel.testing import Tested, WrongCount
+
+HEADS = ("suite", "scripts", "calls", "agree", "not compared", "differ", "known rule", "new", "seconds")
+LEGEND = (
+    "not compared: calls from the first difference, byte call or end of a known rule on; differ: scripts, each known or new;",
+    "known rule: scripts that end at one, with a difference or without",
+)
+# so many new differences are printed in full, and so many spoiled calls of each
+MOST, SPOILED = 20, 5
+
+
+def row(it: Tested) -> tuple[str, ...]:
+    calls = (it.calls, it.agreed, it.calls - it.agreed)
+    return (it.name, *map(str, (len(it.results), *calls, it.differ, it.known, it.new)), f"{it.seconds:.0f}")
+
+
+def total(all_of_them: list[Tested]) -> Tested:
+    """All suites as one."""
+    results, wrong = [it for one in all_of_them for it in one.results], [it for one in all_of_them for it in one.wrong]
+    return Tested("all", all_of_them[0].version, results, wrong, sum(it.seconds for it in all_of_them))
+
+
+def table(all_of_them: list[Tested]) -> list[str]:
+    """A line for each suite, and one for all."""
+    rows = [HEADS, *map(row, all_of_them)] + ([row(total(all_of_them))] if len(all_of_them) > 1 else [])
+    widths = [max(len(cells[k]) for cells in rows) for k in range(len(HEADS))]
+    return ["  ".join([cells[0].ljust(widths[0]), *(it.rjust(width) for it, width in zip(cells[1:], widths[1:]))]) for cells in rows]
+
+
+def answer_text(told: Told) -> str:
+    """An answer as a script spells it."""
+    total = f"total {told.total}" if told.total else ""
+    return " | ".join(it for it in (told.answer, told.counts, told.files, told.entries, told.used, total) if it)
+
+
+def script_text(it: Difference) -> list[str]:
+    return [f"script {it.script.name}", it.script.header, *it.script.lines, "end"]
+
+
+def spoiled_text(it: Difference) -> str:
+    """The later calls that differ too."""
+    if not it.spoiled:
+        return "no later call of the script"
+    more = f", and {len(it.spoiled) - SPOILED} more" if len(it.spoiled) > SPOILED else ""
+    return ", ".join(f"{number} ({call.removeprefix('begin ')})" for number, call in it.spoiled[:SPOILED]) + more
+
+
+def difference_text(it: Difference) -> list[str]:
+    """A new difference: where, in which fields, both answers, what it spoils, and its script."""
+    seen = it.seen
+    return [
+        f"{it.script.name}, call {it.number}: {seen.call}: {', '.join(seen.fields())}",
+        f"  kernel:  {answer_text(seen.kernel)}",
+        f"  machine: {answer_text(seen.machine)}",
+        f"  spoils:  {spoiled_text(it)}",
+        *(f"    {line}" for line in script_text(it)),
+    ]
+
+
+def new_differences(all_of_them: list[Tested]) -> list[Difference]:
+    """The new differences, those with the fewest calls first."""
+    found = [it.difference for one in all_of_them for it in one.results if it.difference and it.difference.known is None]
+    return sorted(found, key=lambda it: (it.number, it.script.name))
+
+
+def new_wrong_counts(all_of_them: list[Tested]) -> list[WrongCount]:
+    return [it for one in all_of_them for it in one.wrong if it.known is None]
+
+
+def known_of(all_of_them: list[Tested]) -> list[tuple[Known, int]]:
+    """The known issues that were seen, each with the number of scripts."""
+    results = (it for one in all_of_them for it in one.results)
+    found = [it.ended or (it.difference and it.difference.known) for it in results] + [it.known for one in all_of_them for it in one.wrong]
+    counts = Counter(it.name for it in found if it)
+    return [(next(it for it in found if it and it.name == name), count) for name, count in sorted(counts.items())]
+
+
+def known_text(known: Known, count: int, version: str) -> str:
+    """A known issue that was seen, and whether it was seen on this version before."""
+    first = "" if version in known.versions or not version else f" (not yet listed for {version})"
+    return f"  {known.name}: {count} script{'s' if count > 1 else ''}: {known.title}{first}"
+
+
+def text(all_of_them: list[Tested], basis: str) -> str:
+    """The whole report."""
+    version, new = all_of_them[0].version, new_differences(all_of_them)
+    lines = [f"kernel {version}; the machine's answers: {basis}", "", *table(all_of_them), *LEGEND, ""]
+    if known := known_of(all_of_them):
+        lines += ["known:", *(known_text(it, count, version) for it, count in known), ""]
+    lines += [f"{it.name}: wrong counts without truncations: {it.rests}" for it in new_wrong_counts(all_of_them)]
+    for it in new[:MOST]:
+        lines += ["new:", *difference_text(it), ""]
+    lines += [f"{len(new) - MOST} more new differences: --json FILE has them all", ""] if len(new) > MOST else []
+    return "\n".join(lines)
+
+
+def difference_data(it: Difference) -> dict[str, object]:
+    return {
+        "script": "\n".join(script_text(it)), "call": it.seen.call, "number": it.number, "fields": it.seen.fields(),
+        "kernel": answer_text(it.seen.kernel), "machine": answer_text(it.seen.machine), "known": it.known and it.known.name,
+        "spoiled": [{"number": number, "call": call} for number, call in it.spoiled],
+    }  # fmt: skip
+
+
+def suite_data(it: Tested) -> dict[str, object]:
+    differences = [difference_data(one.difference) for one in it.results if one.difference]
+    counts = [{"script": one.name, "rests": one.rests, "known": one.known and one.known.name} for one in it.wrong]
+    return {
+        "suite": it.name, "scripts": len(it.results), "calls": it.calls, "agree": it.agreed, "differ": it.differ, "known": it.known,
+        "new": it.new, "seconds": round(it.seconds, 1), "differences": differences, "wrong_counts": counts,
+    }  # fmt: skip
+
+
+def json_text(all_of_them: list[Tested], basis: str) -> str:
+    told = {"kernel": all_of_them[0].version, "machine": basis, "suites": [suite_data(it) for it in all_of_them]}
+    return json.dumps(told, indent=2) + "\n"
+
+
+def junit_text(all_of_them: list[Tested]) -> str:
+    """A test case for each script; one with a new difference is a failure."""
+    top = ElementTree.Element("testsuites")
+    for suite in all_of_them:
+        counts = {it.name: it for it in suite.wrong if it.known is None}
+        numbers = {"tests": str(len(suite.results)), "failures": str(suite.new), "time": f"{suite.seconds:.1f}"}
+        node = ElementTree.SubElement(top, "testsuite", {"name": suite.name, **numbers})
+        for it in suite.results:
+            case = ElementTree.SubElement(node, "testcase", classname=suite.name, name=it.name)
+            if it.difference and it.difference.known is None:
+                ElementTree.SubElement(case, "failure", message=it.difference.seen.call).text = "\n".join(difference_text(it.difference))
+            elif it.name in counts:
+                ElementTree.SubElement(case, "failure", message="wrong counts at rest").text = counts[it.name].rests
+    return ElementTree.tostring(top, encoding="unicode", xml_declaration=True) + "\n"
+
+
+def write(path: str | None, content: str) -> None:
+    """Writes a file whole, or not at all."""
+    if path is None:
+        return
+    to = Path(path)
+    part = to.with_name(f".{to.name}.part")
+    try:
+        part.write_text(content, encoding="utf-8")
+        part.rename(to)
+    except OSError as why:
+        part.unlink(missing_ok=True)
+        raise Problem(f"{path}: {why.strerror}") from why

@@ -1,0 +1,127 @@
+"""Runs suites of scripts on a kernel, and compares what it answers."""
+from __future__ import annotations
+
+import re
+import time
+from concurrent.futures import ThreadPoolExecutor
+from dataclasses import dataclass, field
+from pathlib import Path
+from tempfile import TemporaryDirectory
+
+import races
+from compare import Script, scripts
+from kernel.differences import Comparison, Result
+from kernel.kernels import Kernel, say
+from kernel.known import Known, race_rule
+from kernel.machine import Machine
+from kernel.problem import Problem
+from kernel.suites import call_of, text_of
+
+# so many scripts are compared at a time
+AT_A_TIME = 2
+
+
+@dataclass(frozen=True)
+class WrongCount:
+    """A script of races at whose end the counts are wrong, and the known issue that it shows, if it does."""
+
+    name: str
+    rests: str
+    known: Known | None
+
+
+@dataclass
+class Tested:
+    """What a suite showed."""
+
+    name: str
+    version: str = ""
+    results: list[Result] = field(default_factory=list)
+    wrong: list[WrongCount] = field(default_factory=list)
+    seconds: float = 0.0
+
+    @property
+    def calls(self) -> int:
+        return sum(it.calls for it in self.results)
+
+    @property
+    def agreed(self) -> int:
+        return sum(it.agreed for it in self.results)
+
+    @property
+    def known(self) -> int:
+        """How many scripts end at a known issue or rule."""
+        ended = [it.ended or (it.difference and it.difference.known) for it in self.results]
+        return sum(it is not None for it in ended) + sum(it.known is not None for it in self.wrong)
+
+    @property
+    def new(self) -> int:
+        """How many scripts show something that no known issue explains."""
+        new = [it.difference for it in self.results if it.difference and it.difference.known is None]
+        return len(new) + sum(it.known is None for it in self.wrong)
+
+    @property
+    def differ(self) -> int:
+        return sum(it.difference is not None for it in self.results) + len(self.wrong)
+
+
+def parsed(text: str) -> tuple[str, list[Script]]:
+    """The kernel's version, and the scripts with its answers."""
+    with TemporaryDirectory(prefix="kernel-") as room:
+        file = Path(room) / "recorded"
+        file.write_text(text, encoding="utf-8")
+        return version_of(text.split("\n", 1)[0]), list(scripts(file))
+
+
+def version_of(first: str) -> str:
+    """The version in the first line of a recording: Debian's, if it is one of theirs, since their release names differ from it."""
+    found = re.search(r"Debian (\d\S*?)(?:-[^-\s]*)?(?:\s|$)", first) or re.match(r"# (\S+)", first)
+    return found[1] if found else ""
+
+
+def recorded(kernel: Kernel, name: str, some: list[Script], has_races: bool) -> tuple[str, list[Script]]:
+    """The scripts with the kernel's answers, which have to be all of them."""
+    lines = sum(len(it.lines) for it in some)
+    say(f"suite {name}: {len(some)} scripts, {lines} calls on {kernel.name}")
+    version, answered = parsed(kernel.record(text_of(some), lines, has_races))
+    check_whole(name, some, answered)
+    return version, answered
+
+
+def check_whole(name: str, some: list[Script], answered: list[Script]) -> None:
+    """Rejects a recording that lacks scripts or calls, which would pass for agreement."""
+    asked = [(it.name, it.lines) for it in some]
+    came = [(it.name, [call_of(line) for line in it.lines]) for it in answered]
+    if asked != came:
+        first = next((one[0] for one, other in zip(asked, came) if one != other), "the end")
+        raise Problem(f"suite {name}: {len(asked)} scripts were asked, {len(came)} came back, and they differ from {first} on")
+
+
+def tested(kernel: Kernel, machine: Machine, known: list[Known], name: str, some: list[Script], has_races: bool) -> Tested:
+    """What one suite shows."""
+    began = time.monotonic()
+    version, answered = recorded(kernel, name, some, has_races)
+    found = Tested(name, version)
+    if has_races:
+        found.wrong = wrong_counts(answered, known)
+        found.results = [Result(it.name, len(it.lines), len(it.lines)) for it in answered]
+    else:
+        found.results = compared(Comparison(machine.program, version, known), answered)
+    found.seconds = time.monotonic() - began
+    say(f"suite {name}: {found.seconds:.0f} s, {found.known} known, {found.new} new")
+    return found
+
+
+def compared(comparison: Comparison, answered: list[Script]) -> list[Result]:
+    """How far each script agrees."""
+    with ThreadPoolExecutor(AT_A_TIME) as at_once:
+        return list(at_once.map(comparison.result, answered))
+
+
+def wrong_counts(answered: list[Script], known: list[Known]) -> list[WrongCount]:
+    """The scripts of races at whose end the counts are wrong."""
+    return [WrongCount(it.name, str(races.rests(it)), rule_of(it, known)) for it in answered if not races.is_right(it)]
+
+
+def rule_of(script: Script, known: list[Known]) -> Known | None:
+    return race_rule(known, "t") if races.has_truncations(script) else None

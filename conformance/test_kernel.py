@@ -1,0 +1,396 @@
+#!/usr/bin/env python3
+"""Tests ./kernel as far as that needs no boot: what a known issue explains, and above all what it doesn't.
+
+Each case is a recording as a kernel would write it, made up or shortened, and how its comparison has to end: `new`, `agrees`, or the
+name of a known issue. A case that a known issue explains has to be new once that issue's file is left out. The answers of the leaks
+are those of leak scripts on 6.12.117, 6.16.12 and 7.3.4. The minimizer is tested with a made-up kernel that leaks.
+"""
+from __future__ import annotations
+
+import os
+import subprocess
+import sys
+import tempfile
+from dataclasses import dataclass, replace
+from pathlib import Path
+from typing import Iterator
+from unittest.mock import patch
+
+import compare
+import packages
+from compare import Script
+from kernel import kernels, machine, minimize, report, suites, testing
+from kernel.differences import Comparison, Result
+from kernel.known import explains, faults, known_issues, release, translated
+from kernel.minimize import Minimizer, minimized
+from kernel.testing import Tested, parsed, version_of, wrong_counts
+
+TOP = Path(__file__).resolve().parent.parent
+NEW_KERNEL, OLD_KERNEL, MIDDLE_KERNEL = "7.3.4", "6.12.117", "6.16.12"
+LEAK, TOUCH, SURPLUS, RACE = "quota-leak", "cached-page-above-size", "surplus-at-shrink", "truncation-race"
+
+
+@dataclass(frozen=True)
+class Case:
+    """A recording of one script, and how its comparison has to end."""
+
+    what: str
+    version: str
+    lines: tuple[str, ...]
+    ends: str
+
+
+FULL = ("pool 1 2 4 1 8", "begin 1 alloc 0 0 1 = done | 0 0 | 1 1, 0 0 | 0 | used 1")
+MAPPED = (*FULL, "begin 1 mapn 1 0 1 = mapped 0 | 0 0 | 1 1, 1 0 | 0 | used 1")
+LEAKING = (*FULL, "begin 1 alloc 1 0 1 = noframe | 0 0 | 1 1, 0 0 | 0 | used 2")
+REFUSED_MAP = (*FULL, "begin 1 map 1 0 2 = noframe | 0 0 | 1 1, 0 0 | 0 | used 3")
+USED_UP = ("pool 4 1 4 1 1", "begin 1 alloc 0 0 1 = done | 3 0 | 1 1 | 0 | used 1")
+ABOVE = ("pool 1 1 1 1", "begin 1 mapn 0 0 1 = mapped 0 | 1 0 | 1 0 | 0", "begin 1 trunc 0 0 = done | 1 0 | 0 0 | 0",
+         "begin 1 allock 0 0 1 = done | 0 0 | 0 1 | 0")
+BELOW = ("pool 1 1 1 1", "begin 1 mapn 0 0 1 = mapped 0 | 1 0 | 1 0 | 0")
+IN_USE = ("pool 2 1 4 1", "begin 1 alloc 0 0 2 = done | 0 0 | 2 2 | 0")
+SHRUNK = (*IN_USE, "resize 1 = resized 2 | 0 0 | 2 2 | 0 | total 2 surplus 1")
+
+CASES = (
+    Case("a refused fallocate leaks", NEW_KERNEL, LEAKING, LEAK),
+    Case("a refused store leaks", MIDDLE_KERNEL, (*MAPPED, "begin 1 store 0 5 = noframe | 0 0 | 1 1, 1 0 | 0 | used 2"), LEAK),
+    Case("a refused map leaks in 6.16", MIDDLE_KERNEL, REFUSED_MAP, LEAK),
+    Case("nothing leaks", OLD_KERNEL, (*FULL, "begin 1 alloc 1 0 1 = noframe | 0 0 | 1 1, 0 0 | 0 | used 1"), "agrees"),
+    Case("a fallocate leaks in a kernel that had no leak", OLD_KERNEL, LEAKING, "new"),
+    Case("a fallocate leaks in a kernel without a version", "", LEAKING, "new"),
+    Case("a map leaks in a kernel that leaks at faults only", NEW_KERNEL, REFUSED_MAP, "new"),
+    Case("a map leaks one page there", NEW_KERNEL, (*FULL, "begin 1 map 1 0 1 = noframe | 0 0 | 1 1, 0 0 | 0 | used 2"), "new"),
+    Case("a map leaks more than its pages", MIDDLE_KERNEL, (*REFUSED_MAP[:2], REFUSED_MAP[2].replace("used 3", "used 4")), "new"),
+    Case("two pages leak", NEW_KERNEL, (*FULL, "begin 1 alloc 1 0 1 = noframe | 0 0 | 1 1, 0 0 | 0 | used 3"), "new"),
+    Case("a used page is lost", NEW_KERNEL, (*FULL, "begin 1 alloc 1 0 1 = noframe | 0 0 | 1 1, 0 0 | 0 | used 0"), "new"),
+    Case("a free frame appears beside the leak", NEW_KERNEL, (*FULL, "begin 1 alloc 1 0 1 = noframe | 1 0 | 1 1, 0 0 | 0 | used 2"), "new"),
+    Case("a reservation is left beside the leak", NEW_KERNEL, (*FULL, "begin 1 alloc 1 0 1 = noframe | 0 1 | 1 1, 0 0 | 0 | used 2"), "new"),
+    Case("the size grows beside the leak", NEW_KERNEL, (*FULL, "begin 1 alloc 1 0 1 = noframe | 0 0 | 1 1, 1 0 | 0 | used 2"), "new"),
+    Case("the refused fallocate is done", NEW_KERNEL, (*FULL, "begin 1 alloc 1 0 1 = done | 0 0 | 1 1, 0 0 | 0 | used 2"), "new"),
+    Case("a fallocate that is done leaks", NEW_KERNEL, (FULL[0], "begin 1 alloc 0 0 1 = done | 0 0 | 1 1, 0 0 | 0 | used 2"), "new"),
+    Case("a punch leaks", NEW_KERNEL, (*FULL, "begin 1 punch 0 0 1 = done | 1 0 | 1 0, 0 0 | 0 | used 1"), "new"),
+    Case("a truncation leaks", NEW_KERNEL, (*FULL, "begin 1 trunc 0 0 = done | 1 0 | 0 0, 0 0 | 0 | used 1"), "new"),
+    Case("a fallocate above the quota leaks", NEW_KERNEL, (*USED_UP, "begin 1 alloc 0 1 1 = noframe | 3 0 | 1 1 | 0 | used 2"), "new"),
+    Case("want of quota is noframe", NEW_KERNEL, (*USED_UP, "begin 1 alloc 0 1 1 = noframe | 3 0 | 1 1 | 0 | used 1"), "agrees"),
+    Case("want of quota is done", NEW_KERNEL, (*USED_UP, "begin 1 alloc 0 1 1 = done | 3 0 | 1 1 | 0 | used 1"), "new"),
+    Case("a touch finds the page above the size", NEW_KERNEL, (*ABOVE, "begin 1 load 0 = word 0 | 0 0 | 0 1 | 1"), TOUCH),
+    Case("a touch above the size is beyond", NEW_KERNEL, (*ABOVE, "begin 1 load 0 = beyond | 0 0 | 0 1 | 0"), "agrees"),
+    Case("that touch reads another word", NEW_KERNEL, (*ABOVE, "begin 1 load 0 = word 7 | 0 0 | 0 1 | 1"), "new"),
+    Case("that touch translates nothing", NEW_KERNEL, (*ABOVE, "begin 1 load 0 = word 0 | 0 0 | 0 1 | 0"), "new"),
+    Case("that touch frees the page", NEW_KERNEL, (*ABOVE, "begin 1 load 0 = word 0 | 1 0 | 0 1 | 1"), "new"),
+    Case("that touch raises the size", NEW_KERNEL, (*ABOVE, "begin 1 load 0 = word 0 | 0 0 | 1 1 | 1"), "new"),
+    Case("a touch below the size is beyond", NEW_KERNEL, (*BELOW, "begin 1 load 0 = beyond | 1 0 | 1 0 | 0"), "new"),
+    Case("a touch above the size of no page is served", NEW_KERNEL, (*ABOVE[:3], "begin 1 load 0 = word 0 | 0 0 | 0 1 | 1"), "new"),
+    Case("a shrink leaves a surplus", NEW_KERNEL, (*SHRUNK, "begin 1 trunc 0 0 = done | 1 0 | 0 0 | 0 | total 1 surplus 0"), SURPLUS),
+    Case("that resize has another total", NEW_KERNEL, (*IN_USE, "resize 1 = resized 1 | 0 0 | 2 2 | 0 | total 1 surplus 1"), "new"),
+    Case("that resize has a free frame", NEW_KERNEL, (*IN_USE, "resize 1 = resized 2 | 1 0 | 2 2 | 0 | total 2 surplus 1"), "new"),
+    Case("a resize to nothing", NEW_KERNEL, ("pool 1 1 4 1", "resize 0 = resized 0 | 0 0 | 0 0 | 0 | total 0 surplus 0"), SURPLUS),
+    Case("a map takes a frame", NEW_KERNEL, ("pool 2 1 4 1", "begin 1 map 0 0 1 = mapped 0 | 1 1 | 1 0 | 0"), "new"),
+    Case("want of frames without a quota is done", NEW_KERNEL, ("pool 1 1 4 1", "begin 1 alloc 0 0 2 = done | 0 0 | 2 1 | 0"), "new"),
+)
+VERSIONS = {
+    "# 7.3-cloud-amd64 #1 SMP PREEMPT_DYNAMIC Debian 7.3~rc7-1~exp1 (2026-10-16)": "7.3~rc7",
+    "# 6.1.0-56-cloud-amd64 #1 SMP PREEMPT_DYNAMIC Debian 6.1.192-2 (2026-11-16)": "6.1.192",
+    "# 7.3.4+deb13-cloud-amd64 #1 SMP PREEMPT_DYNAMIC Debian 7.3.4-1~bpo13+1 (2026-11-15)": "7.3.4",
+    "# 6.18.15 #3 SMP me@home": "6.18.15",
+    "script a": "",
+}
+MEMBERS = {
+    "./boot/vmlinuz-6.1.0-56-cloud-amd64": "vmlinuz-6.1.0-56-cloud-amd64",
+    "./usr/lib/modules/7.3-cloud-amd64/vmlinuz": "vmlinuz-7.3-cloud-amd64",
+    "./boot/config-6.1.0-56-cloud-amd64": None,
+    "./usr/lib/modules/7.3-cloud-amd64/kernel/vmlinuz": None,
+}
+NAMES = {"linux-binary-7.3-amd64 (= 7.3~rc7-1~exp1)": "linux-binary-7.3-amd64=7.3~rc7-1~exp1", "dracut": "dracut", "kmod (>= 20)": "kmod"}
+RACES = (
+    ("a race of maps ends right", "mns", 0, "agrees"),
+    ("a race of maps loses a count", "mns", -1, "new"),
+    ("a race with truncations loses a count", "mst", -1, RACE),
+)
+KNOWN_TEXTS = {key: "" for key in ("title", "script", "kernel", "machine", "cause")} | {"versions": [], "functions": [], "links": []}
+BAD_FILES = (
+    ({}, "there is no rule"),
+    ({"race": [{"kind": "t"}], "odd": 1}, "odd is no key"),
+    ({"race": [{"kinds": "t"}]}, "kinds is no key of a rule 'race'"),
+    ({"difference": [{"calls": ["load"]}]}, "a rule 'difference' has no fields"),
+)
+MISUSES = (
+    (["test"], "one of the arguments --package --kernel --here is required"),
+    (["test", "--kernel", "/nonexistent"], "/nonexistent is no kernel that can be read"),
+    (["test", "--kernel", "/dev/null", "--suites", "odd"], "there is no suite odd"),
+    (["test", "--kernel", "/dev/null", "--without", "odd"], "there is no known issue odd"),
+    (["test", "--kernel", "/dev/null", "--program", "/bin/true"], "/bin/true doesn't replay a trace"),
+    (["minimize", "/nonexistent", "--kernel", "/dev/null"], "/nonexistent: No such file"),
+)
+REASONS = (
+    ("qemu-system-x86_64: ended\nemulate: the machine wasn't done after 3 seconds\n", "emulate: the machine wasn't done after 3 seconds"),
+    ("emulate: it ended; its console's last lines:\nKernel panic - no init\n---[ end\n", "emulate: it ended: Kernel panic - no init"),
+    ("qemu-system-x86_64: bad\nemulate: it ended; its console's last lines:\n", "emulate: it ended: qemu-system-x86_64: bad"),
+    ("cpio: write error: No space left on device\nemulate: odd\n", "cpio: write error: No space left on device"),
+    ("", "the recorder ended with status 9"),
+)
+
+
+def recording(case: Case) -> str:
+    first = f"# odd #1 SMP Debian {case.version}-1 (2026-11-15)\n" if case.version else ""
+    return first + "\n".join(["script made.up", *case.lines, "end total 1 free 1 resv 0 surp 0\n"])
+
+
+def end_of(result: Result) -> str:
+    """How a comparison ended, in one word."""
+    if result.difference is not None:
+        return str(result.difference.known or "new")
+    return str(result.ended or "agrees")
+
+
+def ending(case: Case, without: tuple[str, ...] = ()) -> str:
+    version, answered = parsed(recording(case))
+    return end_of(Comparison(PROGRAM, version, known_issues(without=without)).result(answered[0]))
+
+
+def race_ending(kinds: str, reserved: int) -> str:
+    lines = (f"race 1 9 4 {kinds} = rest | 4 0 | 0 0 | 0 0", f"begin 1 trunc 0 0 = done | 4 {reserved} | 0 0 | 0 0")
+    text = "\n".join(["# x", "script r", "pool 4 1 4 2", *lines, "end x\n"])
+    wrong = wrong_counts(parsed(text)[1], known_issues())
+    return str(wrong[0].known or "new") if wrong else "agrees"
+
+
+class Leaking(kernels.Kernel):
+    """A made-up kernel: the machine, but a fallocate for which no frame is free raises the used pages that its line shows."""
+
+    def record(self, text: str, lines: int, has_races: bool = False) -> str:
+        del lines, has_races
+        return f"# odd Debian {NEW_KERNEL}-1 x\n" + "".join(leaking_script(it) for it in parsed(text)[1])
+
+
+def leaking_script(script: Script) -> str:
+    pool, lines = compare.opened(PROGRAM, script.header), []
+    for call in script.lines:
+        pool = pool.after(call)
+        told = pool.told()
+        # (want of quota leaks, too, where there is no quota at all: another way to differ, which a smaller script has)
+        is_leak = pool.answer() == "noframe" or (pool.answer() == "noquota" and script.header.endswith(" 0"))
+        used = int(told.used.split()[1]) + (is_leak and " alloc" in call)
+        lines.append(f"{call} = {told.answer} | {told.counts} | {told.files} | {told.entries} | used {used}")
+    return "\n".join([f"script {script.name}", script.header, *lines, "end x\n"])
+
+
+def generated(seed: int, count: int, kind: str) -> list[Script]:
+    words = [sys.executable, TOP / "conformance" / "generate.py", str(seed), str(count), kind]
+    return parsed(subprocess.run(words, capture_output=True, text=True, check=True).stdout)[1]
+
+
+def minimum(without: tuple[str, ...]) -> tuple[int, str, int]:
+    """How many calls are left of random scripts on the leaking kernel, the machine's answer to the last one, and how many boots it took."""
+    minimizer = Minimizer(Leaking("made up", lambda *_: []), MACHINE, known_issues(without=without))
+    found = minimized(minimizer, generated(11, 12, "quota"), lambda it: it.known is None and it.seen.own_answer == "noframe")
+    return found.number, found.seen.own_answer, minimizer.boots
+
+
+def faults_of_known() -> Iterator[tuple[str, object]]:
+    """What is to be known, and what isn't."""
+    for case in CASES:
+        yield case.what, ending(case) == case.ends or ending(case)
+        if case.ends not in ("new", "agrees", SURPLUS):
+            yield f"{case.what}, with its file left out", ending(case, (case.ends,)) == "new" or ending(case, (case.ends,))
+    shrunk = next(it for it in CASES if it.ends == SURPLUS)
+    yield "a surplus, with its file left out", ending(shrunk, (SURPLUS,)) == "new"
+    quota = next(it for it in CASES if it.what == "want of quota is noframe")
+    yield "noquota, with its file left out", ending(quota, ("noquota-is-noframe",)) == "new"
+    for what, kinds, reserved, ends in RACES:
+        yield what, race_ending(kinds, reserved) == ends or race_ending(kinds, reserved)
+    yield from faults_of_rules()
+    yield from faults_of_translation()
+    for told, why in BAD_FILES:
+        found = faults({**KNOWN_TEXTS, **told})
+        yield why, found[:1] == [why] or found
+
+
+def faults_of_rules() -> Iterator[tuple[str, object]]:
+    """That each key of a rule counts: a rule that explains a made-up difference doesn't with any one key changed."""
+    case = next(it for it in CASES if it.what == "want of quota is done")
+    version, answered = parsed(recording(case))
+    seen = Comparison(PROGRAM, version, known_issues()).result(answered[0]).difference.seen
+    rule = {"calls": ["alloc"], "fields": ["answer"], "kernel": "do.e", "machine": "noquota", "rise": {"used": [0, 0]}}
+    rule |= {"since": "7.3", "before": "7.4"}
+    yield "a made-up rule explains it", explains(rule, seen)
+    others = {"calls": ["allock"], "fields": ["answer", "used"], "kernel": "don", "machine": "noframe", "since": "7.3.5", "before": "7.3.4",
+              "rise": {"used": [1, 1]}, "condition": "cached-page-above-size"}
+    for key, other in others.items():
+        yield f"a made-up rule with another {key} doesn't", not explains({**rule, key: other}, seen)
+
+
+def faults_of_translation() -> Iterator[tuple[str, object]]:
+    """That an answer has another name only in the pools of its rule."""
+    for has_quota, answer in ((True, "noframe"), (False, "noquota")):
+        yield f"noquota, with a quota {has_quota}", translated(known_issues(), "noquota", has_quota) == answer
+
+
+def faults_of_files() -> Iterator[tuple[str, object]]:
+    """That each file's script shows what the file says: the machine's answer, and the difference from the kernel's."""
+    for it in known_issues():
+        header, *calls = it.script.splitlines()
+        if it.rules.get("race"):
+            continue
+        pool = compare.opened(PROGRAM, header)
+        for call in calls:
+            pool = pool.after(call)
+        answer = report.answer_text(pool.told()._replace(answer=pool.answer()))
+        yield f"{it.name}: the machine's answer", answer == it.machine or answer
+        yield f"{it.name}: the kernel's answer", it.kernel != it.machine
+
+
+def faults_of_reading() -> Iterator[tuple[str, object]]:
+    """Versions, packages, and the reason of a failure."""
+    for line, version in VERSIONS.items():
+        yield line, version_of(line) == version or version_of(line)
+    yield "versions have an order", release("6.1.192") < release("6.16") < release("6.16.12") < release("7") < release("7.3~rc7") < release("7.3.4")
+    for name, kernel in MEMBERS.items():
+        yield name, packages.kernel_member(name) == kernel
+    for word, name in NAMES.items():
+        yield word, packages.named(word) == name or packages.named(word)
+    for said, why in REASONS:
+        yield said, kernels.reason(said, 9) == why or kernels.reason(said, 9)
+
+
+def faults_of_report() -> Iterator[tuple[str, object]]:
+    """That the counts and each form of the report have what was found."""
+    new = next(it for it in CASES if it.what == "two pages leak")
+    others = (replace(new, version="", lines=LEAKING), replace(CASES[3], version=""))
+    version, answered = parsed("".join(map(recording, (new, *others))))
+    found = Tested("made", version, [Comparison(PROGRAM, version, known_issues()).result(it) for it in answered])
+    yield "the table", report.table([found])[1].split()[:8] == ["made", "3", "6", "4", "2", "2", "1", "1"] or report.table([found])
+    text = report.text([found], "x")
+    answers = ("kernel:  noframe | 0 0 | 1 1, 0 0 | 0 | used 3", "machine: noframe | 0 0 | 1 1, 0 0 | 0 | used 1")
+    yield "both answers of the new one alone", all(it in text for it in answers) and "used 2" not in text or text
+    yield "JSON", '"kernel": "noframe | 0 0 | 1 1, 0 0 | 0 | used 3"' in report.json_text([found], "x")
+    yield "JUnit", 'tests="3" failures="1"' in report.junit_text([found]) or report.junit_text([found])
+
+
+def faults_of_basis() -> Iterator[tuple[str, object]]:
+    """That a proved program counts only while no source is newer than its build, and where rt is."""
+    with tempfile.TemporaryDirectory(prefix="kernel-") as name, patch.object(machine, "TOP", Path(name)):
+        source, program = Path(name) / "crates" / "a" / "src" / "a.rs", Path(name) / "hugepool"
+        source.parent.mkdir(parents=True)
+        files = [source, program, Path(name) / "hugepool.begun", Path(name) / "crates.txt", Path(name) / "HANDLES"]
+        for file in files:
+            file.touch(0o755)
+        for at, file in ((100, source), (100, source.parent), (100, files[3]), (100, files[4]), (200, files[2])):
+            os.utime(file, (at, at))
+        has_rt = lambda path: patch.object(machine.shutil, "which", lambda _: path)
+        with patch.object(machine, "PROGRAM", program), has_rt("/rt"):
+            yield "the proved program is current", machine.is_proved_current()
+            with has_rt(None):
+                yield "the proved program isn't used without rt", not machine.is_proved_current()
+            os.utime(source, (300, 300))
+            yield "the proved program is older than a source", not machine.is_proved_current()
+
+
+def faults_of_again() -> Iterator[tuple[str, object]]:
+    """That changed.py, which emulate.sh --again runs, names the script, the call and the fields."""
+    calls = (*LEAKING, "begin 1 trunc 0 0 = done | 1 0 | 0 0, 0 0 | 0 | used 1")
+    before = (*LEAKING[:2], LEAKING[2].replace("used 2", "used 1"), calls[3].replace("used 1", "used 0"))
+    with tempfile.TemporaryDirectory(prefix="kernel-") as name:
+        files = [Path(name) / "before", Path(name) / "after"]
+        for file, lines in zip(files, (before, calls)):
+            file.write_text(recording(Case("", NEW_KERNEL, lines, "")), encoding="utf-8")
+        words = [sys.executable, TOP / "conformance" / "record" / "changed.py", *files]
+        told = subprocess.run(words, capture_output=True, text=True, check=False).stdout
+    yield "again", told == "  made.up, call 2, begin 1 alloc 1 0 1: used pages 2, before 1; 1 later calls differ, too\n" or told
+
+
+def faults_of_whole() -> Iterator[tuple[str, object]]:
+    """That a recording without its last call or script is rejected."""
+    version, answered = parsed(recording(CASES[0]))
+    asked = [Script(it.name, it.header, [suites.call_of(line) for line in it.lines]) for it in answered]
+    yield "a whole recording", testing.check_whole("x", asked, answered) is None
+    for what, came in (("call", [Script("made.up", asked[0].header, answered[0].lines[:-1])]), ("script", [])):
+        try:
+            testing.check_whole("x", asked, came)
+            yield f"a recording without a {what}", version
+        except machine.Problem:
+            yield f"a recording without a {what}", True
+
+
+def faults_of_commands() -> Iterator[tuple[str, object]]:
+    """That each command that can't run says so in one line, and with status 2."""
+    for words, why in MISUSES:
+        ran = subprocess.run([TOP / "kernel", *words], stdin=subprocess.DEVNULL, capture_output=True, text=True, check=False)
+        yield str(words), (ran.returncode, ran.stdout, why in ran.stderr.splitlines()[-1]) == (2, "", True) or (ran.returncode, ran.stderr)
+
+
+def boots(room: Path, begins: int, works: int) -> tuple[int, int]:
+    """The status of emulate.sh with a made-up QEMU, and how often that ran: from boot `begins` on its kernel runs the recorder, and from
+    boot `works` on the recorder ends."""
+    qemu = f"""#!/bin/bash
+    echo boot >> {room}/boots
+    at=$(wc -l < {room}/boots)
+    for word in "$@"; do case $word in file:*/recorded) recorded=${{word#file:}} ;; file:*/told) told=${{word#file:}} ;; esac done
+    if [ "$at" -ge {begins} ]; then echo "record: this kernel has 0 huge pages" > "$told"; fi
+    if [ "$at" -ge {works} ]; then echo "script a" > "$recorded"; printf 'record: 1 scripts recorded, 1 lines\nstatus 0\n' >> "$told"; fi
+    """
+    room.mkdir()
+    for name, text in (("qemu-system-x86_64", qemu), ("cpio", "#!/bin/bash\ncat > /dev/null\n")):
+        (room / name).write_text(text, encoding="utf-8")
+        (room / name).chmod(0o755)
+    (room / "scripts").write_text("script a\npool 1 1 1 1\nend\n", encoding="utf-8")
+    words = [TOP / "conformance" / "record" / "emulate.sh", "--kernel", "/dev/null", room / "scripts"]
+    environment = {**os.environ, "PATH": f"{room}:{os.environ['PATH']}"}
+    ran = subprocess.run(words, env=environment, stdin=subprocess.DEVNULL, capture_output=True, check=False)
+    return ran.returncode, len((room / "boots").read_text(encoding="utf-8").splitlines())
+
+
+def faults_of_saying() -> Iterator[tuple[str, object]]:
+    """That a boot that was tried again is passed on."""
+    said: list[str] = []
+    with patch.object(kernels, "say", said.append):
+        kernels.say_boots("record: 1\nemulate: it stopped: booting it again, attempt 2 of 3\n")
+    yield "a boot that was tried again", said == ["emulate: it stopped: booting it again, attempt 2 of 3"] or said
+
+
+def faults_of_boots() -> Iterator[tuple[str, object]]:
+    """That a kernel which stops before the first call is booted again, three times in all, and one that stops later isn't."""
+    expected = {(1, 1): (0, 1), (2, 2): (0, 2), (3, 3): (0, 3), (4, 4): (1, 3), (1, 2): (1, 1), (2, 3): (1, 2)}
+    with tempfile.TemporaryDirectory(prefix="kernel-") as name:
+        for (begins, works), ends in expected.items():
+            found = boots(Path(name) / f"{begins}-{works}", begins, works)
+            yield f"a kernel that begins at boot {begins} and works at {works}", found == ends or found
+
+
+def faults_of_minimizing() -> Iterator[tuple[str, object]]:
+    """That the made-up leak is minimized, and that there is nothing to minimize where it is known."""
+    kernels.say = minimize.say = lambda words: None
+    found = minimum((LEAK,))
+    yield "the leak is minimized to one call, in the same way", found[:2] == (1, "noframe") or found
+    yield "each round takes the smallest script", found[2] <= 9 or found
+    try:
+        yield "a known leak is not minimized", minimum(())
+    except minimize.Problem:
+        yield "a known leak is not minimized", True
+    line = "begin 1 alloc 0 2 3"
+    smaller = set(minimize.with_smaller_numbers(line))
+    yield "smaller numbers", "begin 1 alloc 0 2 1" in smaller and line not in smaller
+    four = ["begin 1 mapn 0 0 1", "begin 1 mapn 0 1 2", "begin 1 map 0 0 2", "begin 1 load 2"]
+    script, three = Script("a", "pool 2 1 1 1 3", four), ("begin 1 mapn 0 1 2", "begin 1 map 0 0 2", "begin 1 load 1")
+    near, far = ({tuple(it.lines) for it in some(script)} for some in (minimize.neighbours, minimize.farther))
+    yield "two changes at once", three in far and three not in near
+    yield "a suite has its scripts", len(suites.scripts_of(suites.SUITES["fixed"])) == 33
+
+
+def main() -> int:
+    parts = (faults_of_known, faults_of_files, faults_of_reading, faults_of_report, faults_of_commands)
+    parts += (faults_of_saying, faults_of_whole, faults_of_basis, faults_of_again, faults_of_boots, faults_of_minimizing)
+    tried = [it for part in parts for it in part()]
+    wrong = [(what, found) for what, found in tried if found is not True]
+    print("".join(f"  {what}: {found}\n" for what, found in wrong), end="")
+    print(f"kernel: {len(tried) - len(wrong)} passed, {len(wrong)} failed")
+    return 1 if wrong else 0
+
+
+if __name__ == "__main__":
+    try:
+        MACHINE = machine.machine(None)
+    except machine.Problem as why:
+        sys.exit(f"  {why}\nkernel: 0 passed, 1 failed")
+    PROGRAM = MACHINE.program
+    sys.exit(main())
