@@ -16,6 +16,8 @@ from programs import built
 # no run has so many reads or writes
 MOST = 200
 SCRIPT = "pool 4 1 4 2\n" + "begin 1 map 0 0 1\nbegin 1 unmap 0\n" * 400
+# (a race writes each line by itself)
+RACED = "pool 4 1 4 2\n" + "begin 1 map 0 0 1\nbegin 1 unmap 0\n" * 10
 TRACE = "pool 4 1 4 2\n" + "step 1\n" * 2_000
 FAILED = {"READ": "hugepool: reading failed\n", "WRITE": "hugepool: writing failed\n"}
 
@@ -33,7 +35,7 @@ CASES = [
     *(Case(words, TRACE) for words in ("replay", "explain", "draw", "check")),
     *(Case(words, "", ("WRITE",)) for words in ("work readback", "--help")),
     *(Case(words, SCRIPT) for words in ("schedule", "explore --runs 600")),
-    *(Case(words, SCRIPT, is_same=False) for words in ("race --times 3", "race --trace")),
+    *(Case(words, RACED, is_same=False) for words in ("race --times 3", "race --trace")),
 ]
 
 
