@@ -14,8 +14,7 @@ recordings are whole: by the machine alone, and with Linux's own rows (check.py 
   --program P       the program that replays the traces; without it the Python machine alone is asked, and this is said
   --only STEP       fetch, build, record or check alone
   --folder F        where source, kernel and recordings are kept (~/.cache/kirvessa/live-VERSION)
-The source and its build take 2 GB, the build 10 minutes of processor time, a recording about a second of it. What is there
-already is not made again. Nothing of the machine that it runs on is changed, and nobody has to be root; missing packages are
+A recording takes about a quarter of a second of an idle machine. What is there already is not made again. Nothing of the machine that it runs on is changed, and nobody has to be root; missing packages are
 named.
 Status: 0 all recordings are whole with Linux's own rows; 1 some aren't; 2 wrong words; 3 this kernel can't be instrumented or
 built; 127 something is missing."
