@@ -3,16 +3,18 @@
 
 usage: compare.py [FILE ..]
 
-Reads the files, or all calls-*.txt beside this program.
+Reads the files, which may be packed (.xz), or all calls-*.txt beside this program.
 Each line of a script is one call that ran to its end, or a resize of the pool, with what the kernel said then:
 `begin T OP = ANSWER | FREE RESV | SIZE PAGES, .. | ENTRIES ..` (one `SIZE PAGES` a file, one number of
 translations a task), and behind it ` | used U` where the pool has a quota, or ` | total T surplus S` once it was
 resized. A script is compared up to the first touch of a page that is cached at or above the file's size, where
-this pool answers beyond and Linux the word; up to the first byte call (`x..`) or `resize 0`, which is refused here;
-or through the first resize that leaves a surplus, of which this pool knows nothing.
+this pool answers beyond and Linux the word; up to the first byte call (`x..`), the first call that is started beside
+others (`start`), or `resize 0`, which is refused here; or through the first resize that leaves a surplus, of which this
+pool knows nothing.
 """
 from __future__ import annotations
 
+import lzma
 import os
 import re
 import subprocess
@@ -29,6 +31,9 @@ LIMIT = 4096
 KNOWN = "known"
 # a resize that leaves more pages than were asked for, or asks for none
 SURPLUS = "surplus"
+
+# a byte call, which the machine doesn't have, and a call beside others, whose order isn't told
+NO_TRACE = re.compile(r"begin \d+ x|start ")
 
 # what a program writes of a trace, both line by line
 Program = Callable[[list[str]], list[str]]
@@ -122,9 +127,19 @@ def opened(program: Program, header: str) -> Pool:
     return Pool(program, [header], files=numbers[1], tasks=numbers[3])
 
 
+def contents(path: Path) -> str:
+    """The text of a file, which may be packed."""
+    if path.suffix != ".xz":
+        return path.read_text()
+    try:
+        return lzma.decompress(path.read_bytes()).decode()
+    except lzma.LZMAError as why:
+        raise OSError(None, f"it can't be unpacked: {why}", str(path)) from why
+
+
 def scripts(path: Path) -> Iterator[Script]:
     """The scripts of a file."""
-    for line in path.read_text().splitlines():
+    for line in contents(path).splitlines():
         if line.startswith("script "):
             name, header, lines = line[len("script "):], None, []
         elif line.startswith("pool "):
@@ -136,9 +151,11 @@ def scripts(path: Path) -> Iterator[Script]:
 
 
 def read(line: str) -> Line:
-    """A line of a script."""
+    """A line of a script; while a task is at work the kernel tells only the answer."""
     call, said = line.split(" = ", 1)
     parts = [part.strip() for part in said.split("|")]
+    if len(parts) == 1:
+        return Line(call, Told(said, "", "", ""), 0)
     resized = re.match(r"total (\d+) surplus (\d+)$", parts[-1])
     if resized is None:
         return Line(call, Told(*parts), 0)
@@ -195,7 +212,7 @@ def compare(program: Program, script: Script) -> tuple[int, str | None]:
     pool = opened(program, script.header)
     for agreed, line in enumerate(script.lines):
         call, linux, surplus = read(line)
-        if re.match(r"begin \d+ x", call):
+        if NO_TRACE.match(call):
             return agreed, None
         if call == "resize 0":
             return agreed, SURPLUS

@@ -7,26 +7,38 @@ are those of leak scripts on 6.12.117, 6.16.12 and 7.3.4. The minimizer is teste
 """
 from __future__ import annotations
 
+import errno
 import os
+import re
 import subprocess
 import sys
 import tempfile
 from dataclasses import dataclass, replace
 from pathlib import Path
-from typing import Iterator
+from typing import Callable, Iterator
 from unittest.mock import patch
 
 import compare
 import packages
 from compare import Script
-from kernel import kernels, machine, minimize, report, suites, testing
+from kernel import kernels, machine, minimize, report, reproduce, suites, testing
 from kernel.differences import Comparison, Result
 from kernel.known import explains, faults, known_issues, release, translated
 from kernel.minimize import Minimizer, minimized
+from kernel.reproduce import Shown
 from kernel.testing import Tested, parsed, version_of, wrong_counts
 
 TOP = Path(__file__).resolve().parent.parent
+SMALLEST = TOP / "conformance" / "live" / "smallest"
+sys.path.append(str(TOP / "conformance" / "live"))
+
+from events import placed  # noqa: E402
+from linux_rows import RULES, machine_of  # noqa: E402
+from recordings import recordings  # noqa: E402
+
 NEW_KERNEL, OLD_KERNEL, MIDDLE_KERNEL = "7.3.4", "6.12.117", "6.16.12"
+# an error of the kernel, and no rule of the machine
+NO_RULE = {"quota-leak.toml"}
 LEAK, TOUCH, SURPLUS, RACE = "quota-leak", "cached-page-above-size", "surplus-at-shrink", "truncation-race"
 
 
@@ -113,6 +125,7 @@ BAD_FILES = (
     ({"race": [{"kind": "t"}], "odd": 1}, "odd is no key"),
     ({"race": [{"kinds": "t"}]}, "kinds is no key of a rule 'race'"),
     ({"difference": [{"calls": ["load"]}]}, "a rule 'difference' has no fields"),
+    ({"recording": [{"rule": "B", "file": "x.bin"}]}, "a rule 'recording' has no letters"),
 )
 MISUSES = (
     (["test"], "one of the arguments --package --kernel --here is required"),
@@ -229,9 +242,9 @@ def faults_of_translation() -> Iterator[tuple[str, object]]:
 def faults_of_files() -> Iterator[tuple[str, object]]:
     """That each file's script shows what the file says: the machine's answer, and the difference from the kernel's."""
     for it in known_issues():
-        header, *calls = it.script.splitlines()
-        if it.rules.get("race"):
+        if it.rules.get("race") or not it.script:
             continue
+        header, *calls = it.script.splitlines()
         pool = compare.opened(PROGRAM, header)
         for call in calls:
             pool = pool.after(call)
@@ -377,8 +390,152 @@ def faults_of_minimizing() -> Iterator[tuple[str, object]]:
     yield "a suite has its scripts", len(suites.scripts_of(suites.SUITES["fixed"])) == 33
 
 
+def problem_of(call: Callable[[], object]) -> str:
+    """The line with which a call ends that can't run."""
+    try:
+        return f"no problem, but {call()}"
+    except machine.Problem as why:
+        return str(why)
+
+
+def unreachable(room: Path) -> dict[str, str]:
+    """An environment in which apt knows one mirror, where nobody listens."""
+    (room / "parts").mkdir(parents=True)
+    (room / "lists" / "partial").mkdir(parents=True)
+    stanza = "Types: deb\nURIs: http://127.0.0.1:9/debian\nSuites: stable\nComponents: main\n"
+    (room / "parts" / "only.sources").write_text(stanza, encoding="utf-8")
+    said = {"Dir::Etc::SourceList": "/dev/null", "Dir::Etc::SourceParts": room / "parts", "Dir::State::Lists": room / "lists",
+            "Dir::Cache": room / "cache", "APT::Sandbox::User": "root" if os.geteuid() == 0 else ""}  # fmt: skip
+    (room / "apt.conf").write_text("".join(f'{key} "{value}";\n' for key, value in said.items()), encoding="utf-8")
+    return {**os.environ, "APT_CONFIG": str(room / "apt.conf")}
+
+
+def full(source: Path, to: Path) -> None:
+    """Copies a file onto a disk that is full in the middle."""
+    del source
+    Path(to).write_text("half", encoding="utf-8")
+    raise OSError(errno.ENOSPC, os.strerror(errno.ENOSPC), str(to))
+
+
+def faults_of_lacks() -> Iterator[tuple[str, object]]:
+    """That what is missing is said in one line that names it, and that nothing is left behind."""
+    with tempfile.TemporaryDirectory(prefix="kernel-") as name:
+        room, image = Path(name), Path(name) / "vmlinuz-1"
+        image.touch()
+        with patch.object(kernels.shutil, "which", lambda command: None if command.startswith("qemu") else f"/bin/{command}"):
+            said = problem_of(lambda: kernels.emulated(image, "x", 1, 1))
+        yield "no QEMU", said.startswith("not on the PATH: 'qemu-system-x86_64' (package: qemu-system-x86);") or said
+        with patch.object(kernels.os, "geteuid", lambda: 1000):
+            said = problem_of(kernels.here)
+        yield "no root", said == "--here needs root, which alone can change the number of huge pages" or said
+        cache, apt = room / "cache", lambda part: unreachable(Path(tempfile.mkdtemp(dir=room)) / part)
+        with patch.object(kernels, "cache", lambda: cache), patch.object(kernels, "say", lambda _: None):
+            with patch.object(packages, "own_environment", lambda: apt("own")), patch.object(packages, "configuration", lambda _: apt("other")):
+                said = problem_of(lambda: kernels.image_of("linux-image-1"))
+        yield "no network", said.startswith("the kernel of linux-image-1 can't be fetched: ") and "Failed to fetch" in said or said
+        yield "no network: nothing is kept", not cache.exists()
+        cache.mkdir()
+        with patch.object(packages.shutil, "copyfile", full):
+            try:
+                packages.moved(image, cache / "vmlinuz-1")
+                yield "a full disk", False
+            except OSError as why:
+                yield "a full disk", why.strerror == "No space left on device"
+        yield "a full disk: nothing is kept", not cache.exists()
+    yield from faults_of_full_reports()
+
+
+def faults_of_full_reports() -> Iterator[tuple[str, object]]:
+    """That a report which can't be written is named, and that the file that was there stays."""
+    with tempfile.TemporaryDirectory(prefix="kernel-") as name:
+        old = Path(name) / "report.json"
+        old.write_text("old", encoding="utf-8")
+        with patch.object(Path, "write_text", side_effect=OSError(errno.ENOSPC, "No space left on device")):
+            said = problem_of(lambda: report.write(str(old), "new"))
+        yield "a report on a full disk", said == f"{old}: No space left on device" or said
+        yield "a report on a full disk: the old one stays", [it.name for it in Path(name).iterdir()] == ["report.json"] and old.read_text() == "old"
+    said = problem_of(lambda: report.write("/nonexistent/report.json", "new"))
+    yield "a report nowhere", said == "/nonexistent/report.json: No such file or directory" or said
+
+
+def shown(room: Path, status: int, told: str = "reproducer: x on Linux 6.99.1, #1 Debian 6.99-2 (2026)") -> Shown | str:
+    """What a reproducer shows that ends with this status, on a made-up QEMU; or why it couldn't run."""
+    qemu = f"""#!/bin/bash
+    for word in "$@"; do case $word in file:*/recorded) recorded=${{word#file:}} ;; file:*/told) told=${{word#file:}} ;; esac done
+    echo "$*" > {room}/words
+    echo "expected 0, seen 1" > "$recorded"; printf '%s\n' "{told}" "status {status}" > "$told"
+    """
+    for name, text in (("qemu-system-x86_64", qemu), ("cpio", "#!/bin/bash\ncat > /dev/null\n")):
+        (room / name).write_text(text, encoding="utf-8")
+        (room / name).chmod(0o755)
+    with patch.dict(os.environ, {"PATH": f"{room}:{os.environ['PATH']}"}):
+        try:
+            return reproduce.show(reproduce.FINDINGS[1], Path("/dev/null"), 7, 9, room)
+        except machine.Problem as why:
+            return str(why)
+
+
+def faults_of_reproducing() -> Iterator[tuple[str, object]]:
+    """That the reports' programs compile without a warning, and that what they show is passed on. None is run, since they change counts."""
+    with tempfile.TemporaryDirectory(prefix="kernel-") as name:
+        room = Path(name)
+        for it in reproduce.FINDINGS:
+            yield f"{it.name} compiles", problem_of(lambda it=it: reproduce.built(it, room).name) == f"no problem, but {it.source}"
+        misused = subprocess.run([room / "reserve-count-race", "odd"], capture_output=True, text=True, check=False)
+        yield "a wrong word", (misused.returncode, misused.stderr.startswith("usage: ")) == (2, True) or misused
+        wrong, right = shown(room, 1), shown(room, 0)
+        yield "an error that shows", (wrong.status, wrong.version, wrong.printed) == (1, "6.99", "expected 0, seen 1\n") or wrong
+        yield "its words", " -- commit 7 " in f"{(room / 'words').read_text(encoding='utf-8')} " or (room / "words").read_text(encoding="utf-8")
+        yield "the table", reproduce.table([wrong]) == ["kernel  reserve-count-race commit", "6.99    WRONG"] or reproduce.table([wrong])
+        yield "no error", right.status == 0 and reproduce.table([right])[1] == "6.99    right"
+        said = shown(room, 2, "reproducer: x on Linux 6.99.1, y\nreproducer: could not run: mount: x")
+        yield "one that could not run", said == "reserve-count-race commit on null: reproducer: could not run: mount: x" or said
+        said = shown(room, 1, "odd")
+        yield "one that told nothing", isinstance(said, str) or said
+
+
+def faults_of_recorded() -> Iterator[tuple[str, object]]:
+    """That each recording of a known rule is whole with its letters alone, and with those of another one only if they are among them."""
+    found = [(it, one) for it in known_issues() for one in it.recordings]
+    for known, one in found:
+        run = next(recordings(SMALLEST / one["file"]))
+        for letters in sorted({other["letters"] for _, other in found} | {""}):
+            is_whole = placed(run, machine_of(letters), False).fault is None
+            yield f"{known.name}: {one['file']} with {letters or 'no rule'}", is_whole == (set(one["letters"]) <= set(letters))
+        less = ["".join(sorted(set(one["letters"]) - {letter})) for letter in one["letters"]]
+        yield f"{known.name}: {one['file']} wants each letter", all(placed(run, machine_of(it), False).fault for it in less)
+        yield f"{known.name}: its own letter", one["rule"] in one["letters"]
+    yield "each recording is one of a known rule", {one["file"] for _, one in found} == {it.name for it in SMALLEST.glob("*.bin")}
+    yield "each rule has a recording", {one["rule"] for _, one in found} == set(RULES)
+
+
+def faults_of_document() -> Iterator[tuple[str, object]]:
+    """That docs/LINUX.md lists the known issues as they are, and each rule with its recordings."""
+    text = (TOP / "docs" / "LINUX.md").read_text(encoding="utf-8")
+    rows = [tuple(cell.strip() for cell in line.strip("|").split("|")) for line in text.splitlines() if line.startswith("| `")]
+    expected = {(f"`{it.name}.toml`", it.title, ", ".join(it.versions)) for it in known_issues()}
+    listed = {row for row in rows if row[0].endswith(".toml`")}
+    yield "the known issues", listed == expected or sorted(listed ^ expected)
+    rules = dict(re.findall(r"(?m)^\| ([A-Z]) \|.*\| (.*) \|$", text))
+    for it in known_issues():
+        for one in it.recordings:
+            yield f"rule {one['rule']}", f"`{one['file'].removesuffix('.bin')}`" in rules.get(one["rule"], "")
+    table = text.split("| Rule of `docs/DECISIONS.md` |")[1].split("\n\n")[0]
+    first = re.findall(r"(?m)^\| (.*?) \|", table)
+    yield "each rule of the decisions", first == decided() or sorted(set(first) ^ set(decided()))
+    yield "known issues of the decisions", set(re.findall(r"`([\w-]+\.toml)`", table)) == {f"{it.name}.toml" for it in known_issues()} - NO_RULE
+
+
+def decided() -> list[str]:
+    """The rules in which the machine differs from Linux, as docs/DECISIONS.md begins each of them."""
+    text = (TOP / "docs" / "DECISIONS.md").read_text(encoding="utf-8")
+    part = text.split("## Where this differs from Linux")[1].split("\n- **Known differences are data**")[0]
+    return [bold or plain for bold, plain in re.findall(r"(?m)^- (?:\*\*(.+?)\*\*|(.+)$)", part)]
+
+
 def main() -> int:
-    parts = (faults_of_known, faults_of_files, faults_of_reading, faults_of_report, faults_of_commands)
+    parts = (faults_of_known, faults_of_files, faults_of_reading, faults_of_report, faults_of_commands, faults_of_recorded, faults_of_document)
+    parts += (faults_of_lacks, faults_of_reproducing)
     parts += (faults_of_saying, faults_of_whole, faults_of_basis, faults_of_again, faults_of_boots, faults_of_minimizing)
     tried = [it for part in parts for it in part()]
     wrong = [(what, found) for what, found in tried if found is not True]

@@ -60,11 +60,22 @@ BAD = [
     (POOL + "race 1 2 3 mz\nend\n", 3, "'z' is no kind of call"),
     (POOL + "race 1 2\nend\n", 3, "a race is"),
     (POOL + "walk 1\nend\n", 3, "begins with 'walk'"),
+    (POOL + "start 1\nend\n", 3, "a call is 'start TASK CALL ..'"),
+    (POOL + "start 3 load 0\nwait 3\nend\n", 3, "3 is too large"),
+    (POOL + "start 1 exit\nwait 1\nend\n", 3, "an exit can be begun, and not started"),
+    (POOL + "start 1 load 0\nstart 1 load 0\nwait 1\nend\n", 4, "task 1 is at work: 'wait 1' has to come first"),
+    (POOL + "start 1 load 0\nbegin 1 exit\nwait 1\nend\n", 4, "task 1 is at work: 'wait 1' has to come first"),
+    (POOL + "start 1 load 0\nwait 2\nend\n", 4, "task 2 isn't at work"),
+    (POOL + "start 1 load 0\nwait 1\nwait 1\nend\n", 5, "task 1 isn't at work"),
+    (POOL + "start 1 load 0\nwait\nend\n", 4, "a wait is 'wait TASK'"),
+    (POOL + "start 2 load 0\nrace 1 2 3\nwait 2\nend\n", 4, "task 2 is at work still: 'wait 2' has to come first"),
+    (POOL + "start 2 load 0\nend\n", 4, "task 2 is at work still: 'wait 2' has to come first"),
 ]
 # a text that is scripts, and how many scripts and lines there are: with comments, answers, no last line feed
 GOOD = [
     (POOL + "end", (1, 0)),
     ("# a kernel\n" + POOL + "begin 1 exit = done | 4 0 | 0 0 | 0 0\nend total 4 free 4 resv 0 surp 0\n", (1, 1)),
+    (POOL + "start 2 load 0 = started\nbegin 1 exit\nresize 3\nstart 1 load 0 = refused notalive\nwait 2\nwait 1\nend\n", (1, 6)),
     (POOL + "resize 0\nend\n" + POOL + "race 1 2 3\nbegin 2 load 1048575\nbegin 1 store 0 18446744073709551615\nend\n", (2, 4)),
 ]
 # words, and the status and some words that they end with
@@ -115,9 +126,12 @@ def faults_of_reading(recorder: Recorder) -> Iterator[tuple[object, object]]:
     for words, status, why in MISUSES:
         ended, said = recorder.run(*words)
         yield words, (ended, why in said) == (status, True) or said
-    for file in sorted([*FOLDER.glob("calls-*.txt"), *FOLDER.glob("races*.txt")]):
+    recorder.text.write_text(POOL + "start 1 trunc 0 0\nwait 1\nend\n", encoding="utf-8")
+    ended, said = recorder.run(str(recorder.text))
+    yield "a started truncation", (ended, "which --race allows" in said) == (2, True) or said
+    for file in sorted([*FOLDER.glob("calls-*.txt"), *FOLDER.glob("races*.txt"), *FOLDER.glob("peers/*.txt")]):
         text = file.read_text()
-        scripts, lines = (len(re.findall(pattern, text, re.MULTILINE)) for pattern in (r"^script ", r"^(begin|resize|race) "))
+        scripts, lines = (len(re.findall(pattern, text, re.MULTILINE)) for pattern in (r"^script ", r"^(begin|start|wait|resize|race) "))
         yield file.name, recorder.run("--check", str(file)) == (0, f"{scripts} scripts, {lines} calls\n")
 
 

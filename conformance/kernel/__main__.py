@@ -1,4 +1,4 @@
-"""The command line: ./kernel test, minimize, scripts and known."""
+"""The command line: ./kernel test, minimize, reproduce, scripts and known."""
 from __future__ import annotations
 
 import argparse
@@ -10,13 +10,14 @@ from pathlib import Path
 from typing import NoReturn
 
 import generate
-from kernel import kernels, report, suites
+from kernel import kernels, report, reproduce, suites
 from kernel.kernels import Kernel, say
 from kernel.known import FOLDER, Known, known_issues
 from kernel.machine import machine
 from kernel.minimize import Minimizer, minimized
+from kernel.peers import peer_scripts
 from kernel.problem import Problem
-from kernel.testing import Tested, tested
+from kernel.testing import Tested, Work, tested
 
 ABOUT = """Finds the calls in which a Linux kernel differs from the machine of this repository.
 
@@ -27,6 +28,7 @@ ABOUT = """Finds the calls in which a Linux kernel differs from the machine of t
   ./kernel scripts --seed 5 --kind quota > new.txt             random scripts
   ./kernel test --kernel bzImage --scripts new.txt             scripts of your own
   ./kernel minimize new.txt --kernel bzImage                   the smallest script that still differs
+  ./kernel reproduce --package linux-image-cloud-amd64         the reports' reproducers, and whether their errors show
   ./kernel known                                               the known issues
 """
 AFTER = """Status: 0 no new difference; 1 new differences; 2 could not run.
@@ -76,6 +78,12 @@ def parser() -> argparse.ArgumentParser:
     small.add_argument("script", type=Path, help="a file of scripts")
     small.add_argument("--name", metavar="NAME", help="the script to take (the shortest one that differs)")
     add_kernel(small)
+    about = "Runs the reproducers of docs/reports on emulated kernels, and prints on which the errors show. Status: 0 it ran; 2 it could not."
+    shown = commands.add_parser("reproduce", help="runs the reproducers of the reports", description=about)
+    shown.add_argument("--package", nargs="+", default=[], metavar="P", help="the kernels of these Debian packages: NAME, NAME/SUITE or NAME=VERSION")
+    shown.add_argument("--kernel", nargs="+", type=Path, default=[], metavar="VMLINUZ", help="these kernel images")
+    shown.add_argument("--race-seconds", type=positive, default=60, metavar="N", help="how long a race is tried (60)")
+    shown.add_argument("--seconds", type=positive, default=900, metavar="N", help="ends an emulated machine that isn't done by then (900)")
     more = commands.add_parser("scripts", help="prints random scripts", description="Prints random scripts; the seed says which.")
     more.add_argument("--seed", type=natural, required=True, metavar="N")
     more.add_argument("--count", type=natural, default=100, metavar="N", help="how many (100)")
@@ -98,15 +106,15 @@ def run_test(options: argparse.Namespace) -> int:
     issues = known_issues(options.known, tuple(options.without))
     default = [] if options.scripts else list(suites.SEQUENTIAL)
     chosen = [suites.suite_of(name) for name in (default if options.suites is None else options.suites)]
-    work = [(it.name, suites.scripts_of(it), it.has_races) for it in chosen]
+    work = [Work(it.name, suites.scripts_of(it), it.has_races, peer_scripts() if it.name == suites.PEERS else []) for it in chosen]
     files = [(path.name, suites.read_scripts(path)) for path in options.scripts]
-    work += [(name, some, suites.has_races(some)) for name, some in files]
+    work += [Work(name, some, suites.has_races(some)) for name, some in files]
     answering, kernel = machine(options.program), kernel_of(options)
     found: list[Tested] = []
     try:
-        for number, (name, some, has_races) in enumerate(work, 1):
+        for number, it in enumerate(work, 1):
             say(f"{number} of {len(work)}")
-            found.append(tested(kernel, answering, issues, name, some, has_races))
+            found.append(tested(kernel, answering, issues, it))
     finally:
         new = reported(options, found, answering.basis) if found else 0
     return 1 if new else 0
@@ -136,9 +144,25 @@ def run_minimize(options: argparse.Namespace) -> int:
     return 1
 
 
+def run_reproduce(options: argparse.Namespace) -> int:
+    images = [kernels.image_of(it) for it in options.package] + [kernels.readable(it) for it in options.kernel]
+    if not images:
+        raise Problem("which kernel? --package P or --kernel VMLINUZ names some")
+    found: list[reproduce.Shown] = []
+    try:
+        for it in reproduce.show_all(images, options.race_seconds, options.seconds):
+            found.append(it)
+            print(reproduce.text(it), flush=True)
+    finally:
+        if found:
+            print("\n".join(["", *reproduce.table(found)]), flush=True)
+    return 0
+
+
 def run_known(_: argparse.Namespace) -> int:
     for it in known_issues():
-        print(f"{it.name}: {it.title}\n  seen: {', '.join(it.versions)}")
+        rules = sorted({one["rule"] for one in it.recordings})
+        print(f"{it.name}: {it.title}\n  seen: {', '.join(it.versions)}" + (f"; rule {' '.join(rules)} of races" if rules else ""))
     return 0
 
 
@@ -146,7 +170,7 @@ def run_scripts(options: argparse.Namespace) -> int:
     return generate.main([str(options.seed), str(options.count), options.kind])
 
 
-COMMANDS = {"test": run_test, "minimize": run_minimize, "scripts": run_scripts, "known": run_known}
+COMMANDS = {"test": run_test, "minimize": run_minimize, "reproduce": run_reproduce, "scripts": run_scripts, "known": run_known}
 
 
 def end_by_signal(number: int, _: object) -> NoReturn:

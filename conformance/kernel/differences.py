@@ -1,15 +1,12 @@
 """Compares what a kernel answered to a script with the machine, up to the first call that differs."""
 from __future__ import annotations
 
-import re
-from dataclasses import dataclass, field
+from dataclasses import dataclass, field, replace
 
 import compare
 from compare import Line, Pool, Program, Script, Told, read
 from kernel.known import Known, Seen, end_before, ends_behind, matching, translated
-
-# a byte call, which the machine doesn't have
-BYTES = re.compile(r"begin \d+ x")
+from kernel.peers import Broken
 
 
 @dataclass(frozen=True)
@@ -29,14 +26,39 @@ class Difference:
 
 
 @dataclass(frozen=True)
+class BrokenAssertion:
+    """An assertion of a peer that doesn't hold, and the known issue that its script came to before, if it did."""
+
+    broken: Broken
+    known: Known | None
+
+
+@dataclass(frozen=True)
 class Result:
-    """How far a script agrees, and what ended the comparison if it isn't the end of the script."""
+    """How far a script agrees, what ended the comparison if it isn't the end of the script, and which assertions of a peer don't hold."""
 
     name: str
     calls: int
     agreed: int
     difference: Difference | None = None
     ended: Known | None = None
+    broken: list[BrokenAssertion] = field(default_factory=list)
+
+    @property
+    def differs(self) -> bool:
+        return self.difference is not None or bool(self.broken)
+
+    @property
+    def is_new(self) -> bool:
+        """Whether it shows something that no known issue explains."""
+        return (self.difference is not None and self.difference.known is None) or any(it.known is None for it in self.broken)
+
+    def with_broken(self, broken: list[Broken]) -> Result:
+        """With assertions that don't hold; from a known difference on, another pool is asserted of, which explains it."""
+        first = self.difference.number if self.difference else 0
+        explained = self.difference and self.difference.known
+        found = [BrokenAssertion(it, explained if it.number >= first else None) for it in broken]
+        return replace(self, broken=found)
 
 
 @dataclass
@@ -58,7 +80,7 @@ class Comparison:
         for agreed, text in enumerate(script.lines):
             line = read(text)
             ended = end_before(self.known, line.call)
-            if BYTES.match(line.call) or ended:
+            if compare.NO_TRACE.match(line.call) or ended:
                 return Result(script.name, len(script.lines), agreed, ended=ended)
             new = pool.after(line.call)
             if self.machine_told(new) != line.linux:
@@ -80,7 +102,7 @@ class Comparison:
         found = []
         for number, text in enumerate(script.lines[first:], first + 1):
             line: Line = read(text)
-            if BYTES.match(line.call) or end_before(self.known, line.call):
+            if compare.NO_TRACE.match(line.call) or end_before(self.known, line.call):
                 break
             pool = pool.after(line.call)
             if self.machine_told(pool) != line.linux:

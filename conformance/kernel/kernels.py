@@ -118,22 +118,33 @@ def reason(said: str, status: int) -> str:
 def emulated(kernel: Path, name: str, cpus: int, seconds: int) -> Kernel:
     """A kernel in an emulated machine."""
     need("qemu-system-x86_64", "cpio", "cc")
-    if not os.access(kernel, os.R_OK) or not kernel.is_file():
-        raise Problem(f"{kernel} is no kernel that can be read")
+    readable(kernel)
     options = ["--kernel", kernel, "--cpus", str(cpus), "--seconds", str(seconds)]
     return Kernel(name, lambda scripts, _: [RECORD / "emulate.sh", *options, scripts])
 
 
-def of_package(package: str, cpus: int, seconds: int) -> Kernel:
-    """The kernel of a Debian package, fetched unless it is kept."""
-    need("qemu-system-x86_64", "cpio", "cc")
+def readable(kernel: Path) -> Path:
+    """A kernel's image, if it is a file that can be read."""
+    if not os.access(kernel, os.R_OK) or not kernel.is_file():
+        raise Problem(f"{kernel} is no kernel that can be read")
+    return kernel
+
+
+def image_of(package: str) -> Path:
+    """The image of the kernel of a Debian package, fetched unless it is kept."""
     kept = packages.kept_kernel(package, cache())
     if kept is None:
         say(f"fetching the kernel of {package}")
     try:
-        kernel = packages.kernel(package, cache())
+        return packages.kernel(package, cache())
     except (packages.NotFound, OSError, packages.tarfile.TarError) as why:
         raise Problem(f"the kernel of {package} can't be fetched: {getattr(why, 'strerror', None) or why}") from why
+
+
+def of_package(package: str, cpus: int, seconds: int) -> Kernel:
+    """The kernel of a Debian package, in an emulated machine."""
+    need("qemu-system-x86_64", "cpio", "cc")
+    kernel = image_of(package)
     return emulated(kernel, f"{package} ({kernel.name})", cpus, seconds)
 
 

@@ -15,13 +15,16 @@ from compare import Pool, Told
 from kernel.problem import Problem
 
 FOLDER = Path(__file__).resolve().parent.parent / "known"
-TEXTS = ("title", "script", "kernel", "machine", "cause")
+TEXTS = ("title", "cause")
+# what a file says of its smallest script, unless it has a recording instead
+SCRIPT = ("script", "kernel", "machine")
 LISTS = ("versions", "functions", "links")
 RULES = {
     "difference": {"calls", "fields", "kernel", "machine", "rise", "since", "before", "condition"},
     "end": {"call", "surplus"},
     "translation": {"machine", "kernel", "quota"},
     "race": {"kind"},
+    "recording": {"rule", "letters", "file"},
 }
 
 
@@ -32,7 +35,7 @@ class Known:
     name: str
     title: str
     versions: list[str]
-    # the smallest script, and what kernel and machine answer to its last call
+    # the smallest script, and what kernel and machine answer to its last call; empty where only a recording of a race shows it
     script: str
     kernel: str
     machine: str
@@ -40,6 +43,11 @@ class Known:
 
     def __str__(self) -> str:
         return self.name
+
+    @property
+    def recordings(self) -> list[dict[str, Any]]:
+        """The recordings of races that show it, each with the letters of the rules (live/check.py) that make it whole."""
+        return self.rules.get("recording", [])
 
 
 @dataclass(frozen=True)
@@ -147,13 +155,14 @@ def race_rule(known: list[Known], kinds: str) -> Known | None:
 
 def faults(told: dict[str, Any]) -> list[str]:
     """What a file of a known issue lacks or has too much of."""
-    found = [f"{key} has to be a text" for key in TEXTS if not isinstance(told.get(key), str)]
+    texts = TEXTS if told.get("recording") and not any(key in told for key in SCRIPT) else (*TEXTS, *SCRIPT)
+    found = [f"{key} has to be a text" for key in texts if not isinstance(told.get(key), str)]
     found += [f"{key} has to be a list" for key in LISTS if not isinstance(told.get(key), list)]
-    found += [f"{key} is no key" for key in told if key not in (*TEXTS, *LISTS, *RULES)]
+    found += [f"{key} is no key" for key in told if key not in (*TEXTS, *SCRIPT, *LISTS, *RULES)]
     kinds = [(kind, rule) for kind in RULES for rule in told.get(kind, [])]
     found += [] if kinds else ["there is no rule"]
     found += [f"{key} is no key of a rule '{kind}'" for kind, rule in kinds for key in rule if key not in RULES[kind]]
-    least = {"difference": {"calls", "fields", "kernel", "machine"}, "translation": RULES["translation"], "race": {"kind"}}
+    least = {"difference": {"calls", "fields", "kernel", "machine"}, "translation": RULES["translation"], "race": {"kind"}, "recording": RULES["recording"]}
     return found + [f"a rule '{kind}' has no {key}" for kind, rule in kinds for key in sorted(least.get(kind, set()) - set(rule))]
 
 
@@ -164,7 +173,7 @@ def read_known(path: Path) -> Known:
         raise Problem(f"{path}: {why}") from why
     if wrong := faults(told):
         raise Problem(f"{path}: {'; '.join(wrong)}")
-    texts = [told[key].strip() for key in ("script", "kernel", "machine")]
+    texts = [told.get(key, "").strip() for key in SCRIPT]
     return Known(path.stem, told["title"], told["versions"], *texts, {kind: told[kind] for kind in RULES if kind in told})
 
 

@@ -16,7 +16,7 @@ from kernel.kernels import Kernel, say
 from kernel.known import Known
 from kernel.machine import Machine
 from kernel.problem import Problem
-from kernel.suites import has_races, text_of
+from kernel.suites import has_overlaps, text_of
 from kernel.testing import check_whole, compared, parsed
 
 # a boot asks at most so many calls
@@ -233,8 +233,8 @@ def moved(before: Script, after: Script, calls: list[int]) -> list[int]:
 
 def minimized(minimizer: Minimizer, some: list[Script], choose: Callable[[Difference], bool]) -> Difference:
     """The first difference of some scripts that is chosen, made as small as it gets."""
-    if has_races(some):
-        raise Problem("how a race ends is by chance, so it can't be minimized")
+    if has_overlaps(some):
+        raise Problem("how calls end that overlap is by chance, so they can't be minimized")
     say(f"{len(some)} scripts on {minimizer.kernel.name}")
     found = [it for it in minimizer.differences(some) if it is not None and choose(it)]
     if not found:

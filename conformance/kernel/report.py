@@ -9,6 +9,7 @@ from xml.etree import ElementTree
 from compare import Told
 from kernel.differences import Difference
 from kernel.known import Known
+from kernel.peers import Broken
 from kernel.problem import Problem
 from kernel.testing import Tested, WrongCount
 
@@ -79,6 +80,11 @@ def new_wrong_counts(all_of_them: list[Tested]) -> list[WrongCount]:
     return [it for one in all_of_them for it in one.wrong if it.known is None]
 
 
+def new_broken(all_of_them: list[Tested]) -> list[Broken]:
+    """The assertions of peers that don't hold."""
+    return [it.broken for one in all_of_them for result in one.results for it in result.broken if it.known is None]
+
+
 def known_of(all_of_them: list[Tested]) -> list[tuple[Known, int]]:
     """The known issues that were seen, each with the number of scripts."""
     results = (it for one in all_of_them for it in one.results)
@@ -100,6 +106,7 @@ def text(all_of_them: list[Tested], basis: str) -> str:
     if known := known_of(all_of_them):
         lines += ["known:", *(known_text(it, count, version) for it, count in known), ""]
     lines += [f"{it.name}: wrong counts without truncations: {it.rests}" for it in new_wrong_counts(all_of_them)]
+    lines += [f"new: {it}" for it in new_broken(all_of_them)]
     for it in new[:MOST]:
         lines += ["new:", *difference_text(it), ""]
     lines += [f"{len(new) - MOST} more new differences: --json FILE has them all", ""] if len(new) > MOST else []
@@ -117,9 +124,11 @@ def difference_data(it: Difference) -> dict[str, object]:
 def suite_data(it: Tested) -> dict[str, object]:
     differences = [difference_data(one.difference) for one in it.results if one.difference]
     counts = [{"script": one.name, "rests": one.rests, "known": one.known and one.known.name} for one in it.wrong]
+    broken = [{"script": one.broken.script, "assertion": str(one.broken), "known": one.known and one.known.name} for result in it.results for one in result.broken]
     return {
         "suite": it.name, "scripts": len(it.results), "calls": it.calls, "agree": it.agreed, "differ": it.differ, "known": it.known,
         "new": it.new, "seconds": round(it.seconds, 1), "differences": differences, "wrong_counts": counts,
+        "broken_assertions": broken,
     }  # fmt: skip
 
 
@@ -133,6 +142,7 @@ def junit_text(all_of_them: list[Tested]) -> str:
     top = ElementTree.Element("testsuites")
     for suite in all_of_them:
         counts = {it.name: it for it in suite.wrong if it.known is None}
+        broken = {it.script: it for it in reversed(new_broken([suite]))}
         numbers = {"tests": str(len(suite.results)), "failures": str(suite.new), "time": f"{suite.seconds:.1f}"}
         node = ElementTree.SubElement(top, "testsuite", {"name": suite.name, **numbers})
         for it in suite.results:
@@ -141,6 +151,8 @@ def junit_text(all_of_them: list[Tested]) -> str:
                 ElementTree.SubElement(case, "failure", message=it.difference.seen.call).text = "\n".join(difference_text(it.difference))
             elif it.name in counts:
                 ElementTree.SubElement(case, "failure", message="wrong counts at rest").text = counts[it.name].rests
+            elif it.name in broken:
+                ElementTree.SubElement(case, "failure", message="an assertion of a peer doesn't hold").text = str(broken[it.name])
     return ElementTree.tostring(top, encoding="unicode", xml_declaration=True) + "\n"
 
 

@@ -8,6 +8,8 @@ from compare import Script, scripts
 from kernel.problem import Problem
 
 FOLDER = Path(__file__).resolve().parent.parent
+# the suite of peers' tests, and its folder
+PEERS = "peers"
 
 
 @dataclass(frozen=True)
@@ -26,12 +28,13 @@ SUITES = {
         Suite("random", ("calls-random.txt",)),
         Suite("quota", ("calls-quota.txt",)),
         Suite("resize", ("calls-resize.txt",)),
+        Suite(PEERS, tuple(f"{PEERS}/{path.name}" for path in sorted((FOLDER / PEERS).glob("*.txt")))),
         Suite("races", ("races.txt", "races-by-kind.txt"), True),
         Suite("races-by-chance", ("races-by-chance.txt",), True),
     )
 }
 # what runs unless suites are named: one boot each
-SEQUENTIAL = ("fixed", "random", "quota", "resize")
+SEQUENTIAL = ("fixed", "random", "quota", "resize", PEERS)
 
 
 def suite_of(name: str) -> Suite:
@@ -57,6 +60,11 @@ def scripts_of(suite: Suite) -> list[Script]:
 def has_races(some: list[Script]) -> bool:
     """Whether tasks race in some of the scripts, which then are judged by their counts at rest."""
     return any(line.startswith("race ") for it in some for line in it.lines)
+
+
+def has_overlaps(some: list[Script]) -> bool:
+    """Whether calls of some of the scripts overlap, so that the order in which they act is by chance."""
+    return any(line.startswith(("race ", "start ")) for it in some for line in it.lines)
 
 
 def call_of(line: str) -> str:

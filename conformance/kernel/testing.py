@@ -14,6 +14,7 @@ from kernel.differences import Comparison, Result
 from kernel.kernels import Kernel, say
 from kernel.known import Known, race_rule
 from kernel.machine import Machine
+from kernel.peers import broken_by
 from kernel.problem import Problem
 from kernel.suites import call_of, text_of
 
@@ -57,12 +58,11 @@ class Tested:
     @property
     def new(self) -> int:
         """How many scripts show something that no known issue explains."""
-        new = [it.difference for it in self.results if it.difference and it.difference.known is None]
-        return len(new) + sum(it.known is None for it in self.wrong)
+        return sum(it.is_new for it in self.results) + sum(it.known is None for it in self.wrong)
 
     @property
     def differ(self) -> int:
-        return sum(it.difference is not None for it in self.results) + len(self.wrong)
+        return sum(it.differs for it in self.results) + len(self.wrong)
 
 
 def parsed(text: str) -> tuple[str, list[Script]]:
@@ -97,18 +97,37 @@ def check_whole(name: str, some: list[Script], answered: list[Script]) -> None:
         raise Problem(f"suite {name}: {len(asked)} scripts were asked, {len(came)} came back, and they differ from {first} on")
 
 
-def tested(kernel: Kernel, machine: Machine, known: list[Known], name: str, some: list[Script], has_races: bool) -> Tested:
+@dataclass(frozen=True)
+class Work:
+    """What a suite asks of a kernel: its scripts, and those of them that say what a peer asserts."""
+
+    name: str
+    scripts: list[Script]
+    has_races: bool
+    asserted: list[Script] = field(default_factory=list)
+
+
+def tested(kernel: Kernel, machine: Machine, known: list[Known], work: Work) -> Tested:
     """What one suite shows."""
     began = time.monotonic()
-    version, answered = recorded(kernel, name, some, has_races)
-    found = Tested(name, version)
-    if has_races:
-        found.wrong = wrong_counts(answered, known)
-        found.results = [Result(it.name, len(it.lines), len(it.lines)) for it in answered]
-    else:
-        found.results = compared(Comparison(machine.program, version, known), answered)
+    version, answered = recorded(kernel, work.name, work.scripts, work.has_races)
+    found = judged(Comparison(machine.program, version, known), work, answered)
     found.seconds = time.monotonic() - began
+    name = work.name
     say(f"suite {name}: {found.seconds:.0f} s, {found.known} known, {found.new} new")
+    return found
+
+
+def judged(comparison: Comparison, work: Work, answered: list[Script]) -> Tested:
+    """What the answers to one suite show."""
+    found = Tested(work.name, comparison.version)
+    if work.has_races:
+        found.wrong = wrong_counts(answered, comparison.known)
+        found.results = [Result(it.name, len(it.lines), len(it.lines)) for it in answered]
+        return found
+    results = compared(comparison, answered)
+    asserted = {it.name: it for it in work.asserted}
+    found.results = [it.with_broken(broken_by(asserted.get(it.name), script)) for it, script in zip(results, answered)]
     return found
 
 

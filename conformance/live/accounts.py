@@ -7,6 +7,10 @@ from placing import Placement
 from recordings import CALLS, FAR, NONE, Event
 
 
+# events that are told of any thread
+OF_ANY_THREAD = ("free", "quota", "grow", "shrink", "surplus", "resized", "dead")
+
+
 def end_of(event: Event) -> str:
     return "end" if event.b > FAR else str(event.b)
 
@@ -59,6 +63,12 @@ WORDS: dict[str, Callable[[Event], str]] = {
     "evict": lambda it: f"index {it.a} leaves the page cache, pfn {it.b}",
     "batch": lambda it: f"looks up {it.a} pages, the first at {it.b}",
     "restore": lambda it: f"restore_reserve_on_error, restore {it.b}",
+    "quota": lambda it: f"used of the quota {it.a:+d}{': refused' if it.c else f', {it.b} now'}",
+    "grow": lambda it: f"the pool grows by pfn {it.a} to {it.b} pages",
+    "shrink": lambda it: f"a resize to {it.a} leaves {it.b} pages",
+    "surplus": lambda it: f"pfn {it.a} is free, and leaves the pool of {it.c}",
+    "resized": lambda it: f"of {it.b} pages {it.c} are over the size",
+    "dead": lambda it: f"task {it.about} has ended",
 }
 
 
@@ -72,7 +82,7 @@ def account(placement: Placement) -> Iterator[str]:
     for event in placement.run:
         racer = placement.racers.get(event.thread)
         is_over = placement.fault is not None and event.number > placement.event.number
-        if event.kind not in WORDS or is_over or racer is None and event.kind != "free":
+        if event.kind not in WORDS or is_over or racer is None and event.kind not in OF_ANY_THREAD:
             continue
         what = WORDS[event.kind](event)
         made = "; ".join(rows.get(event.number, []))

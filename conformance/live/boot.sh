@@ -42,7 +42,8 @@ for pair in cc:build-essential qemu-system-x86_64:qemu-system-x86 cpio:cpio time
     command -v "${pair%%:*}" > /dev/null || { say "missing is Debian's package ${pair#*:}"; exit 127; }
 done
 
-# (the guest's memory is a file, so that the log can be read out of it afterwards)
+# (the guest's memory is a file, so that the log can be read out of it afterwards. On a host under load its timer may seem dead to its
+# kernel, hence no_timer_check)
 work=$(mktemp -d "$([ -w /dev/shm ] && echo /dev/shm || echo "${TMPDIR:-/tmp}")/live-XXXXXX")
 machine=''
 clean() {
@@ -60,7 +61,7 @@ status=0
 timeout "$seconds" qemu-system-x86_64 -accel tcg,thread=multi -cpu max -smp "$cpus" -m 1024M \
     -object memory-backend-file,id=ram,size=1024M,mem-path="$work/ram",share=on -machine pc,memory-backend=ram \
     -nodefaults -no-user-config -display none -no-reboot -kernel "$kernel" -initrd "$work/initramfs" \
-    -append 'console=ttyS0 quiet loglevel=4 panic=-1 memmap=480M$512M hugepages=0' \
+    -append 'console=ttyS0 quiet loglevel=4 panic=-1 no_timer_check memmap=480M$512M hugepages=0' \
     -serial file:"${words[1]}.txt" < /dev/null >&2 &
 machine=$!
 wait "$machine" || status=$?

@@ -19,6 +19,7 @@ from multiprocessing import Pool
 from pathlib import Path
 from typing import Iterator
 
+import rows
 import verdict
 from accounts import account
 from events import Attempt, placed
@@ -26,6 +27,8 @@ from linux_rows import RULES, machine_of
 from recordings import Recording, error_at_rest, recordings, workload_of
 
 TOP = Path(__file__).resolve().parents[2]
+# so many pairs of phases are printed
+MEETINGS = 20
 
 
 @dataclass(frozen=True)
@@ -147,8 +150,9 @@ def show_causes(done: list[Checked]) -> None:
 
 
 def show_rows(done: list[Checked]) -> None:
-    for (where, outcome), number in sorted(sum((it.visited for it in done), Counter()).items()):
-        print(f"{number:8} {where}: {outcome}")
+    """How often each row of the machine was made, and which phases met: one call took a step while another stood at its phase."""
+    print("\n".join(rows.table_of(sum((it.visited for it in done), Counter()))))
+    print("\n".join(rows.meetings(sum((it.met for it in done), Counter()), MEETINGS)))
 
 
 def write_traces(done: list[Checked], folder: Path) -> None:
@@ -175,11 +179,18 @@ def read_words(given: list[str] | None = None) -> argparse.Namespace:
     words.add_argument("--account", action="store_true", help="print each recording beside the machine, event by event")
     words.add_argument("--only", type=int, metavar="N", help="check recording N of each file alone, counted from 0")
     words.add_argument("--list", type=int, default=3, metavar="N", help="print so many of each kind of divergence (%(default)s)")
-    words.add_argument("--rows", action="store_true", help="print how often each row was made")
+    words.add_argument("--rows", action="store_true", help="print how often each row of the machine was made, and which phases met most often")
     words.add_argument("--causes", action="store_true", help="print by which rows a count that is wrong at rest went wrong (needs --rules)")
     words.add_argument("--write", type=Path, metavar="FOLDER", help="write the traces there")
+    words.add_argument("--trace", type=Path, metavar="FILE", help="write the trace of one recording, which 'hugepool draw < FILE' draws")
     words.add_argument("--jobs", type=int, default=os.cpu_count() or 1, metavar="N", help="processes side by side (%(default)s)")
-    return words.parse_args(given)
+    return checked(words, words.parse_args(given))
+
+
+def checked(words: argparse.ArgumentParser, given: argparse.Namespace) -> argparse.Namespace:
+    if given.trace and given.rules:
+        words.error("--trace writes rows of the machine, and --rules has others: leave one out")
+    return given
 
 
 def main() -> int:
@@ -188,6 +199,9 @@ def main() -> int:
         done = list(check_all(list(jobs_of(given)), given.jobs))
     except OSError as error:
         print(f"check.py: {error}", file=sys.stderr)
+        return 2
+    if given.trace and len(done) != 1:
+        print(f"check.py: --trace writes the trace of one recording, and these are {len(done)}: choose one with --only N", file=sys.stderr)
         return 2
     if given.account:
         for it in done:
@@ -201,6 +215,8 @@ def main() -> int:
         show_rows(done)
     if given.write:
         write_traces(done, given.write)
+    if given.trace:
+        given.trace.write_text(done[0].trace, encoding="utf-8")
     whole = sum(it.kind is None for it in done)
     print(f"recordings {len(done)}, whole {whole}")
     return 2 if any(it.disagreement for it in done) else 0 if whole == len(done) else 1

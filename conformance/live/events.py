@@ -9,15 +9,17 @@ from typing import Callable
 
 from machine import Call, Machine
 from placing import ALLOCATIONS, MAPS, SLOTS, TOUCHES, Divergence, Due, NotUnderstood, Racer, name_of
+from pools import INTERRUPTED, Pools
 from recordings import CALLS, NONE, UNSIGNED, Event, Recording
-from removals import Removals
 
 POLICIES = ("middle", "late", "lazy", "eager")
 # the first events of a fault, up to the change of the reserve map
 BEGINNING = ("fault", "slot", "look", "size", "change", "change_pending")
+# events that any thread may have
+OF_THE_POOL = ("free", "quota", "grow", "shrink", "resized", "surplus")
 
 
-class Attempt(Removals):
+class Attempt(Pools):
     """One attempt at a recording, with one policy. Each kind of event has its method `on_KIND`."""
 
     def place(self) -> None:
@@ -32,11 +34,11 @@ class Attempt(Removals):
 
     def place_event(self, position: int, event: Event) -> None:
         racer = self.racers.get(event.thread)
-        if event.kind == "free":
-            self.on_free(racer, event)
+        if event.kind in OF_THE_POOL:
+            getattr(self, f"on_{event.kind}")(racer, event)
         elif racer is None:
-            if event.kind == "rest":
-                self.on_rest(event)
+            if event.kind in ("rest", "dead"):
+                getattr(self, f"on_{event.kind}")(event)
         else:
             while racer.at < len(racer.events) and racer.events[racer.at] < position:
                 racer.at += 1
@@ -79,12 +81,6 @@ class Attempt(Removals):
         if event.kind == "look" and event.b != NONE:
             self.catch_up(racer)
 
-    @staticmethod
-    def catch_up(racer: Racer) -> None:
-        due, racer.beginning = racer.beginning, []
-        for make in due:
-            make()
-
     def concerns(self, racer: Racer, event: Event) -> bool:
         """Whether an event changes what a touch that has begun looks at."""
         if event.kind == "set_size":
@@ -103,7 +99,7 @@ class Attempt(Removals):
     def on_begin(self, racer: Racer, event: Event) -> None:
         letter = chr(event.about)
         racer.letter, racer.numbers, racer.answer = letter, (event.a, event.b, event.c), ""
-        racer.fault, racer.is_inside, racer.is_freeing = None, False, False
+        racer.fault, racer.is_inside, racer.is_freeing, racer.charged = None, False, False, 0
         for it in self.racers.values():
             if it is not racer and it.letter:
                 first, second = sorted((CALLS[letter], CALLS[it.letter]))
@@ -163,6 +159,10 @@ class Attempt(Removals):
         outcomes = {"m": ("moved leave",), "n": ("moved leave",), "a": ("moved leave",), "t": ("moved want", "moved tail")}
         if racer.letter not in outcomes:
             return
+        if racer.letter == "a" and self.phase(racer) == "head":
+            self.interrupt(racer)
+            if "I" not in self.rules:
+                raise Divergence("interrupted and extended", f"task {racer.number} extends the file, though its allocation is interrupted")
         self.step(racer, "size", *outcomes[racer.letter])
         self.same("size", self.machine.files[racer.numbers[0]].size, event.a)
         if racer.letter == "t" and self.policy == "eager":
@@ -178,6 +178,8 @@ class Attempt(Removals):
             return
         if racer.letter == "p":
             self.end_punch(racer)
+        elif racer.letter in ALLOCATIONS and event.b == INTERRUPTED:
+            self.interrupt(racer)
         elif racer.letter == "a" and self.phase(racer) == "extend":
             self.step(racer, "extend", "moved leave")
         elif racer.letter == "t" and self.phase(racer) == "settle":
@@ -317,6 +319,7 @@ class Attempt(Removals):
             return
         if racer.letter == "m" and self.phase(racer) == "changed":
             raise NotUnderstood("an abort where nothing was accounted")
+        self.check_leak(racer)
         self.step(racer, "abort", "moved leave", "moved unslot")
 
     def on_delete(self, racer: Racer, event: Event) -> None:
@@ -335,6 +338,21 @@ class Attempt(Removals):
             self.same("removed", self.call(racer).removed, event.c)
         elif self.phase(racer) == "restore":
             self.back_out(racer, event)
+
+    def on_delete_refused(self, racer: Racer, event: Event) -> None:
+        if racer.letter != "p":
+            return
+        refused = lambda: self.delete_refused(racer)
+        if self.is_split:
+            self.later(racer, Due("delete", event.a, None, refused))
+            self.force(racer, lambda due: True)
+        else:
+            refused()
+
+    def delete_refused(self, racer: Racer) -> None:
+        call = self.call(racer)
+        self.step(racer, "denied delete", "moved unslot" if "F" in self.rules else "moved free", is_granted=False)
+        self.same("denied delete", call.is_denied, True)
 
     def delete(self, racer: Racer, event: Event) -> None:
         call = self.call(racer)
@@ -358,7 +376,7 @@ class Attempt(Removals):
         letter, phase, call, is_refused = racer.letter, self.phase(racer), self.call(racer), event.b != 0
         if letter == "m" and phase == "changed":
             self.same("accounted", call.missing, event.a)
-            self.step(racer, f"short{self.because()}", "moved abort" if is_refused else "moved accounted")
+            self.step(racer, self.short(racer), "moved abort" if is_refused else "moved accounted")
         elif letter == "m" and phase == "settle":
             self.same("accounted", call.added - call.missing, event.a)
             self.step(racer, "settle", "moved enter")
@@ -367,12 +385,22 @@ class Attempt(Removals):
             self.step(racer, "settle", "moved committed")
         elif letter == "t" and phase == "settle":
             self.settle_truncation(racer, call, event.a, is_refused)
-        elif letter == "p" and "N" in self.rules and call.removed == 0:
+        elif letter == "p" and "N" in self.rules and not call.removed:
             self.same("accounted", 1, event.a)
             self.machine.resv += not is_refused
+        elif letter == "p" and phase == "free" and call.is_denied:
+            self.raise_for_denied(racer, event.a, is_refused)
         else:
             raise Divergence("account", f"Linux accounts {event.a} at {phase}")
         self.same_counts(event)
+
+    def raise_for_denied(self, racer: Racer, delta: int, is_refused: bool) -> None:
+        """The machine raises the count in the step that frees the frame, and Linux before that."""
+        self.same("accounted", 1, delta)
+        if is_refused:
+            raise Divergence("raise refused", f"task {racer.number} was denied its deletion, and Linux can't raise the count for it")
+        self.step(racer, "punch free", "moved unslot")
+        self.free_here(racer.page)
 
     def settle_truncation(self, racer: Racer, call: Call, delta: int, is_refused: bool) -> None:
         self.same("accounted", call.evicted - call.removed, delta)
@@ -390,13 +418,20 @@ class Attempt(Removals):
     def on_take(self, racer: Racer, event: Event) -> None:
         call, resv = self.call(racer), self.machine.resv
         is_taken = event.b != NONE
-        self.step(racer, f"short{self.because()}", "moved taken" if is_taken else "moved abort")
+        self.step(racer, self.short(racer), "moved taken" if is_taken else "moved abort")
         if is_taken:
+            racer.charged = 0
             self.same("reserved take", self.machine.resv < resv, bool(event.c & 1))
             self.page_of[call.frame] = event.b
         self.same_counts(event)
 
     def on_free(self, racer: Racer | None, event: Event) -> None:
+        if not self.grows_by(racer, event):
+            self.make_free(racer, event)
+            self.same_counts(event)
+
+    def make_free(self, racer: Racer | None, event: Event) -> None:
+        self.check_quota(event)
         for it in self.racers.values():
             if it.is_freeing and it.page == event.a:
                 self.flush(it)
@@ -405,7 +440,6 @@ class Attempt(Removals):
             self.step(racer, "restore", "moved leave", "moved unslot")
         elif not self.free_from_limbo(event.a):
             self.free_there(event.a)
-        self.same_counts(event)
 
     def free_from_limbo(self, page: int) -> bool:
         """By the rule F a frame that was evicted is free now."""
@@ -415,6 +449,7 @@ class Attempt(Removals):
             return False
         limbo.discard(frame)
         self.machine.free.add(frame)
+        self.machine.give_up(1)
         return True
 
     # pages
@@ -481,6 +516,8 @@ class Attempt(Removals):
         self.same("regions at rest", file.regions(), event.b & 0xFFFF)
         self.same("pages at rest", len(file.pages), event.c)
         self.same_counts(event)
+        if self.machine.quota is not None:
+            self.same("used at rest", self.machine.used, self.used_there)
         if self.freed_here or self.freed_there:
             raise Divergence("free at rest", "frames aren't free at rest")
 
@@ -492,9 +529,10 @@ def answer_of(racer: Racer, kind: str, number: int) -> str:
     if kind == "w":
         return f"word {number & UNSIGNED}" if racer.letter == "l" else "done"
     if kind == "s":
-        return racer.answer if racer.answer in ("beyond", "noframe", "nomemory") else "SIGBUS"
+        return racer.answer if racer.answer in ("beyond", "noframe", "noquota", "nomemory") else "SIGBUS"
     if kind == "e":
-        return racer.answer if (racer.answer, number) in (("noframe", 12), ("noframe", 28), ("nomemory", 12)) else f"errno {number}"
+        known = (racer.answer, number) in (("nomemory", 12), *((answer, one) for answer in ("noframe", "noquota") for one in (12, 28)))
+        return racer.answer if known else f"errno {number}"
     return {"d": "done", "g": "segv"}.get(kind, f"?{kind}")
 
 

@@ -10,8 +10,11 @@ RULES = {
     "S": "a touch looks at the size once: not where it places its page, nor where it translates it",
     "T": "a truncation looks the pages up like a punch, upwards from the new size",
     "N": "counts are whole numbers, which may fall below zero, and the tests of them are Linux's",
-    "D": "a change may be refused memory although a spare descriptor is there for it",
+    "D": "a change, or a deletion that splits a region, may be refused memory although a spare descriptor is there for it",
     "U": "an unreserved page that is backed out takes its index out of the map again",
+    "Q": "the quota has a lock of its own: it is asked before the reserve count, and given back apart from it",
+    "I": "an allocation that is interrupted extends the file as one that was done",
+    "R": "pages over a pool's size stay until they become free, and a resize counts those first",
 }
 # so many pages Linux 6.1 looks up at once; later versions log their number
 BATCH = 15
@@ -27,9 +30,42 @@ class LinuxRows(Machine):
         # frames that are evicted and not free yet, and how many pages are looked up at once
         self.limbo: set[int] = set()
         self.batch = BATCH
+        # pages over the pool's size
+        self.surplus = 0
 
     def has(self, rules: str) -> bool:
         return any(it in self.rules for it in rules)
+
+    # Q: the quota, which changes at Linux's own events of it
+
+    def exceeds_quota(self, number: int) -> bool:
+        return not self.has("Q") and super().exceeds_quota(number)
+
+    def is_beyond_quota(self, number: int) -> bool:
+        return super().exceeds_quota(number)
+
+    def use(self, number: int) -> None:
+        if not self.has("Q"):
+            self.used += number
+
+    def give_up(self, number: int) -> None:
+        self.use(-number)
+
+    def is_refused(self, call: Call) -> bool:
+        return call.is_over_quota or self.exceeds_quota(call.missing)
+
+    # R: the size of the pool
+
+    def shrink(self, frames: int) -> Outcome:
+        """Has the free frames go that are neither reserved nor needed to keep so many frames beside those over the size."""
+        least = max(frames, self.resv + self.active - len(self.free))
+        while least < self.active - self.surplus and self.free:
+            self.retire()
+        return Outcome("resized", str(self.active))
+
+    def retire(self) -> None:
+        self.free.remove(max(self.free))
+        self.active -= 1
 
     # N: counts
 
@@ -52,12 +88,17 @@ class LinuxRows(Machine):
         if not self.has("N"):
             return super().make_changed(call)
         # (an unreserved take asks that free - resv isn't 0, and any that the list isn't empty)
+        if call.missing and self.is_refused(call):
+            return call.go("abort", "noquota")
         if not self.free or call.missing and len(self.free) == self.resv:
             return call.go("abort", "noframe")
         call.frame = self.take_unreserved() if call.missing else self.take_reserved()
+        self.use(call.missing)
         return moved("taken")
 
     def map_changed(self, call: Call) -> Outcome:
+        if self.is_refused(call):
+            return call.go("abort", "noquota")
         # (that no more are wanted than are free follows only where the count isn't negative)
         if self.has("N") and call.missing > len(self.free):
             return call.go("abort", "noframe")
@@ -74,6 +115,25 @@ class LinuxRows(Machine):
         if self.has("D") and not call.is_granted:
             return call.go("leave", "nomemory")
         return super().map_missing(call)
+
+    def delete(self, call: Call) -> int | None:
+        file = self.files[call.file]
+        if self.has("D") and not call.is_granted and {call.index - 1, call.index, call.index + 1} <= file.reserved:
+            return None
+        return file.delete(call.is_granted, call.index)
+
+    # I: interrupted allocations
+
+    def alloc_head(self, call: Call) -> Outcome:
+        if self.has("I") and call.task.is_killed and call.name == "alloc":
+            return call.go("extend", "interrupted")
+        return super().alloc_head(call)
+
+    def alloc_extend(self, call: Call) -> Outcome:
+        answer = call.answer
+        outcome = super().alloc_extend(call)
+        call.answer = answer or call.answer
+        return outcome
 
     # P, S: looks at the size
 
@@ -102,6 +162,7 @@ class LinuxRows(Machine):
         if self.has("U") and call.missing:
             self.free.add(call.frame)
             call.frame = None
+            self.give_up(1)
         else:
             super().restore(call)
 
@@ -135,12 +196,14 @@ class LinuxRows(Machine):
         return super().punch_locked(call)
 
     def punch_delete(self, call: Call) -> Outcome:
-        if not self.has("FN"):
+        if not self.has("FND"):
             return super().punch_delete(call)
-        removed = self.files[call.file].delete(call.is_granted, call.index)
+        removed = self.delete(call)
         call.is_denied, call.removed = removed is None, removed
         if not self.has("F"):
             return moved("free")
+        # (what is used falls where the frame becomes free; an index that stays is used)
+        self.use(call.is_denied)
         self.limbo.add(call.frame)
         call.frame = None
         return moved("unslot")
@@ -170,6 +233,11 @@ class LinuxRows(Machine):
 
     def truncate_unslot(self, call: Call) -> Outcome:
         return self.leave_page(call) if self.has("T") else super().truncate_unslot(call)
+
+    def truncate_settle(self, call: Call) -> Outcome:
+        if self.has("T"):
+            self.use(call.evicted)
+        return super().truncate_settle(call)
 
 
 def machine_of(rules: str) -> type[Machine]:

@@ -4,15 +4,15 @@
 The checker uses it to decide where a row of the machine belongs in a recording. It is no authority: what a trace does is what
 the program answers to it (verdict.py), and test_check.py compares both on random traces.
 
-As a program, `machine.py < TRACE` prints what `hugepool replay` prints of a well-formed trace without kills, quota or resizes.
+As a program, `machine.py < TRACE` prints what `hugepool replay` prints of a well-formed trace.
 """
 from __future__ import annotations
 
 import sys
 from dataclasses import dataclass, field
 
-# pages of a file, and pages of an address space
-LIMIT, ADDRESSES = 4096, 16384
+# pages of a file, pages of an address space, and frames of a pool
+LIMIT, ADDRESSES, MOST_FRAMES = 4096, 16384, 4096
 # the table to which a call belongs
 TABLES = {"load": "touch", "store": "touch", "map": "map", "mapn": "map", "alloc": "alloc", "allock": "alloc",
           "punch": "punch", "trunc": "truncate", "unmap": "unmap", "exit": "exit"}
@@ -149,6 +149,8 @@ class Call:
         self.answer = ""
         # the task whose translations a removal clears next, and whether its deletion was refused memory
         self.cleared, self.is_denied = 1, False
+        # of Linux's rows: whether the quota was refused
+        self.is_over_quota = False
         # of Linux's rows: the pages that were looked up, and whether there may be more
         self.batch: list[int] | None = None
         self.has_more = False
@@ -166,8 +168,10 @@ class Call:
 class Machine:
     """The pool, the files and the tasks. A row is the method `TABLE_PHASE`."""
 
-    def __init__(self, frames: int, files: int, slots: int, tasks: int) -> None:
+    def __init__(self, frames: int, files: int, slots: int, tasks: int, quota: int | None = None) -> None:
         self.frames, self.free, self.resv, self.words = frames, set(range(frames)), 0, {}
+        # the frames that aren't retired, and what the files have used of the quota
+        self.active, self.quota, self.used = frames, quota, 0
         self.files = [File() for _ in range(files)]
         self.slots: list[int | None] = [None] * slots
         self.locks: list[int | None] = [None] * files
@@ -183,6 +187,8 @@ class Machine:
             return Outcome("refused", "notalive")
         if task.call:
             return Outcome("refused", "incall")
+        if task.is_killed and words != "exit":
+            return Outcome("refused", "notalive")
         task.call = Call(task, words)
         return Outcome("begun")
 
@@ -200,6 +206,26 @@ class Machine:
         elif outcome.kind == "ended":
             task.call = None
         return outcome
+
+    def kill(self, number: int) -> Outcome:
+        task = self.tasks.get(number)
+        if task is None or task.is_dead or task.is_killed:
+            return Outcome("refused", "notalive")
+        task.is_killed = True
+        return Outcome("marked")
+
+    def resize(self, frames: int) -> Outcome:
+        """Which frames come and go doesn't show, so frames that come have new numbers."""
+        if not 1 <= frames <= MOST_FRAMES:
+            return Outcome("refused", "badsize")
+        while self.active < frames:
+            self.free.add(self.frames)
+            self.frames += 1
+            self.active += 1
+        for _ in range(min(self.active - frames, len(self.free) - self.resv)):
+            self.free.remove(max(self.free))
+            self.active -= 1
+        return Outcome("resized", str(self.active))
 
     # what rows share
 
@@ -236,10 +262,28 @@ class Machine:
             is_bad = call.numbers[2] == 0 or call.range[1] > LIMIT
         if is_bad:
             return ended("badrange")
+        if call.task.is_killed:
+            return ended(self.word_of_kill(call))
         if self.locks[call.file] is not None:
             return Outcome("blocked", str(self.locks[call.file]))
         self.locks[call.file] = call.task.number
         return moved(phase)
+
+    @staticmethod
+    def word_of_kill(call: Call) -> str:
+        return "interrupted" if call.table == "alloc" else "killed"
+
+    def exceeds_quota(self, number: int) -> bool:
+        return self.quota is not None and self.used + number > self.quota
+
+    def use(self, number: int) -> None:
+        """So many more pages are used."""
+        self.used += number
+
+    def give_up(self, number: int) -> None:
+        """So many pages are no longer used."""
+        require(0 <= number <= self.used, f"to use {number} pages less of {self.used}")
+        self.used -= number
 
     def take_free(self) -> int:
         frame = min(self.free)
@@ -283,12 +327,17 @@ class Machine:
         return moved("changed")
 
     def make_changed(self, call: Call) -> Outcome:
+        if call.task.is_killed:
+            return call.go("abort", self.word_of_kill(call))
         if call.missing == 0:
             call.frame = self.take_reserved()
+        elif self.exceeds_quota(1):
+            return call.go("abort", "noquota")
         elif len(self.free) == self.resv:
             return call.go("abort", "noframe")
         else:
             call.frame = self.take_unreserved()
+            self.use(1)
         return moved("taken")
 
     def make_taken(self, call: Call) -> Outcome:
@@ -297,6 +346,7 @@ class Machine:
 
     def make_settle(self, call: Call) -> Outcome:
         self.give_back(1)
+        self.give_up(1)
         return moved("committed")
 
     def make_abort(self, call: Call) -> Outcome:
@@ -339,7 +389,7 @@ class Machine:
         return moved("want")
 
     def touch_want(self, call: Call) -> Outcome:
-        return self.take_slot(call)
+        return ended("killed") if call.task.is_killed else self.take_slot(call)
 
     def touch_locked(self, call: Call) -> Outcome:
         file = self.files[call.file]
@@ -386,9 +436,14 @@ class Machine:
         return moved("changed")
 
     def map_changed(self, call: Call) -> Outcome:
+        if call.task.is_killed:
+            return call.go("abort", "killed")
+        if self.exceeds_quota(call.missing):
+            return call.go("abort", "noquota")
         if call.missing > len(self.free) - self.resv:
             return call.go("abort", "noframe")
         self.resv += call.missing
+        self.use(call.missing)
         return moved("accounted")
 
     def map_abort(self, call: Call) -> Outcome:
@@ -401,6 +456,7 @@ class Machine:
 
     def map_settle(self, call: Call) -> Outcome:
         self.give_back(call.missing - call.added)
+        self.give_up(call.missing - call.added)
         return moved("enter")
 
     def map_enter(self, call: Call) -> Outcome:
@@ -419,10 +475,10 @@ class Machine:
         return self.take_lock(call, "head")
 
     def alloc_head(self, call: Call) -> Outcome:
-        return moved("want")
+        return call.go("leave", "interrupted") if call.task.is_killed else moved("want")
 
     def alloc_want(self, call: Call) -> Outcome:
-        return self.take_slot(call)
+        return call.go("leave", "interrupted") if call.task.is_killed else self.take_slot(call)
 
     def alloc_locked(self, call: Call) -> Outcome:
         return moved("unslot" if call.index in self.files[call.file].pages else "missing")
@@ -484,7 +540,10 @@ class Machine:
     def punch_free(self, call: Call) -> Outcome:
         self.free.add(call.frame)
         call.frame = None
-        self.resv += call.is_denied
+        if call.is_denied:
+            self.resv += 1
+        else:
+            self.give_up(1)
         call.is_denied = False
         return moved("unslot")
 
@@ -544,6 +603,7 @@ class Machine:
 
     def truncate_settle(self, call: Call) -> Outcome:
         self.give_back(call.removed - call.evicted)
+        self.give_up(call.removed)
         return call.go("leave", "done")
 
     def truncate_leave(self, call: Call) -> Outcome:
@@ -589,7 +649,8 @@ class Machine:
 
     def state(self) -> list[str]:
         """The state's lines at the end of a replay."""
-        lines = [f"free {len(self.free)} resv {self.resv} calls {sum(it.call is not None for it in self.tasks.values())}"]
+        calls = sum(it.call is not None for it in self.tasks.values())
+        lines = [f"free {len(self.free)} resv {self.resv} calls {calls}{'' if self.quota is None else f' used {self.used}'}"]
         for number, it in enumerate(self.files):
             lines.append(f"file {number} size {it.size} reserved {len(it.reserved)} regions {it.regions()} pages {len(it.pages)} "
                          f"changes {it.pending} spare {it.spare}")
@@ -617,13 +678,18 @@ def owed_by(call: Call) -> int:
 
 def replay(lines: list[str]) -> list[str]:
     """What a replay of a trace prints."""
-    machine = Machine(*(int(it) for it in lines[0].split(" ")[1:5]))
-    printed = []
-    for line in lines[1:]:
-        word, number, *call = line.split(" ", 2)
-        outcome = machine.begin(int(number), call[0]) if word == "begin" else machine.step(int(number), word == "step")
-        printed.append(str(outcome))
-    return printed + machine.state()
+    machine = Machine(*(int(it) for it in lines[0].split(" ")[1:]))
+    return [str(event(machine, line)) for line in lines[1:]] + machine.state()
+
+
+def event(machine: Machine, line: str) -> Outcome:
+    """One line of a trace."""
+    word, number, *call = line.split(" ", 2)
+    if word == "begin":
+        return machine.begin(int(number), call[0])
+    if word in ("kill", "resize"):
+        return getattr(machine, word)(int(number))
+    return machine.step(int(number), word == "step")
 
 
 if __name__ == "__main__":

@@ -13,6 +13,7 @@ from typing import Callable
 from linux_rows import BATCH
 from machine import Call, Machine, NoSuchStep, Outcome
 from recordings import UNSIGNED, Event, Recording
+from rows import outcome_of
 
 SLOTS = 64
 TOUCHES, MAPS, ALLOCATIONS = "ls", "mn", "ak"
@@ -89,6 +90,8 @@ class Racer:
         self.file = self.index = 0
         # whether its count was lowered, and its page placed, before their events
         self.is_settled_early = self.is_placed_early = False
+        # pages that its call has taken of the quota and not given back
+        self.charged = 0
 
     @property
     def visits(self) -> list[int]:
@@ -113,6 +116,9 @@ class Placement:
         self.freed_here: set[int] = set()
         self.freed_there: set[int] = set()
         self.page_of: dict[int, int] = {}
+        # what the files have used of the quota in Linux, and how many pages a thread that frees one has given back to it
+        self.used_there = 0
+        self.put_by: Counter[int] = Counter()
         self.compared: Counter[str] = Counter()
         self.notes: Counter[str] = Counter()
         self.visited: Counter[tuple[str, str]] = Counter()
@@ -138,11 +144,12 @@ class Placement:
                 self.maps[it.b & UNSIGNED] = it.a
                 self.batch = it.c or BATCH
             elif it.kind == "begin" and it.about == ord("!"):
-                config = it.a & 0xFFFF, it.a >> 16 & 0xFFFF, SLOTS, it.a >> 32
+                quota = it.a >> 48 & 0xFFFF
+                config = (it.a & 0xFFFF, it.a >> 16 & 0xFFFF, SLOTS, it.a >> 32 & 0xFFFF, *([quota] if quota else []))
         for position, it in enumerate(self.run):
             if it.thread in self.racers:
                 self.racers[it.thread].events.append(position)
-        self.header = "pool {} {} {} {}".format(*config)
+        self.header = f"pool {' '.join(map(str, config))}"
         self.machine = self.machine_type(*config)
         self.machine.batch = self.batch
 
@@ -155,19 +162,20 @@ class Placement:
         call = self.call(racer)
         return call.phase if call else None
 
-    def make(self, racer: Racer, line: str, wanted: tuple[str, ...], act: Callable[[], Outcome]) -> str:
-        """Adds a row to the trace, and returns what the Python machine answers."""
-        call = self.call(racer)
-        where = name_of(call) if call else ""
+    def make(self, racer: Racer | None, line: str, wanted: tuple[str, ...], act: Callable[[], Outcome]) -> str:
+        """Adds a row to the trace, and returns what the Python machine answers. A resize is of no racer."""
+        call = self.call(racer) if racer else None
+        where, answer = (name_of(call), call.answer) if call else ("", "")
         try:
-            outcome = str(act())
+            made = act()
+            outcome = str(made)
         except NoSuchStep as why:
             raise Divergence("no row", f"{line}: the machine has no such step ({why})") from None
         self.rows.append(Row(line, outcome, wanted, self.event.number))
         if self.rules:
             self.note_defect(where, outcome)
-        if where:
-            self.visited[where, " ".join(outcome.split(" ")[:2])] += 1
+        if where and made.kind != "marked":
+            self.visited[where, outcome_of(where, call, answer, made)] += 1
         return outcome
 
     def note_defect(self, where: str, outcome: str) -> None:

@@ -5,25 +5,26 @@ set -euo pipefail
 usage="usage: race.sh VERSION [OPTION ..]
 
 Fetches Debian's source of Linux VERSION (6.1, 6.12, 7.3, ..), puts log lines into its hugetlbfs, builds it, has tasks race on it
-in an emulated machine, and compares each recording with the machine. At the end it prints, workload by workload, how many
-recordings are whole: by the machine alone, and with Linux's own rows (check.py --help lists these).
+in an emulated machine, and compares each recording with the machine. At the end it prints one table, which is kept as results.txt: of
+each workload how many recordings are whole, by the machine alone and with Linux's own rows (check.py --help lists these), and by what
+the others leave the machine.
 
-  --workloads N ..  the workloads to run, of workloads/ (plain trunc bug)
+  --workloads N ..  the workloads to run, of workloads/ (plain trunc bug quota kills resizes denied)
+  --share N         make one in N of each workload's recordings (1)
   --cpus N          processors of the emulated machine (4)
   --jobs N          processes that build and check (all processors)
-  --program P       the program that replays the traces; without it the Python machine alone is asked, and this is said
+  --program P       the program that replays the traces (crates/hugepool/out/hugepool, once ./hugepool build has made it); without it the
+                    Python machine alone is asked, and the table says so
   --only STEP       fetch, build, record or check alone
   --folder F        where source, kernel and recordings are kept (~/.cache/kirvessa/live-VERSION)
-A recording takes about a quarter of a second of an idle machine. What is there already is not made again. Nothing of the machine that it runs on is changed, and nobody has to be root; missing packages are
-named.
+A recording takes about a quarter of a second of an idle machine. What is there already is not made again. Nothing of the machine that it
+runs on is changed, and nobody has to be root; missing packages are named.
 Status: 0 all recordings are whole with Linux's own rows; 1 some aren't; 2 wrong words; 3 this kernel can't be instrumented or
 built; 127 something is missing."
 
 here=$(cd "$(dirname "$(readlink -f "${BASH_SOURCE[0]}")")" && pwd)
-version='' cpus=4 jobs=$(nproc) program='' only='' folder=''
-workloads=(plain trunc bug)
-# all of Linux's own rows that recordings without refused memory need, and those with
-rules=BFPSTN refused=BFPSTUDN
+version='' cpus=4 jobs=$(nproc) program='' only='' folder='' share=1
+workloads=(plain trunc bug quota kills resizes denied)
 
 say() { echo "race: $*" >&2; }
 
@@ -41,6 +42,7 @@ read_words() {
             while [ $# -gt 1 ] && [[ $2 != -* ]]; do workloads+=("$2"); shift; done
             ;;
         --cpus) cpus=${2-}; shift ;;
+        --share) share=${2-}; shift ;;
         --jobs) jobs=${2-}; shift ;;
         --program) program=${2-}; shift ;;
         --only) only=${2-}; shift ;;
@@ -53,6 +55,7 @@ read_words() {
     done
     [[ $version =~ ^[0-9]+\.[0-9]+$ ]] || misuse "which version of Linux?"
     [[ $only =~ ^(fetch|build|record|check)?$ ]] || misuse "there is no step $only"
+    [[ $share =~ ^[1-9][0-9]*$ ]] || misuse "--share is a number from 1 on"
     [ ${#workloads[@]} -gt 0 ] || misuse "which workloads?"
     for it in "${workloads[@]}"; do [ -r "$here/workloads/$it.in" ] || misuse "there is no workload $it; those there are: $(cd "$here/workloads" && echo *.in)"; done
     folder=${folder:-${KIRVESSA_CACHE:-${XDG_CACHE_HOME:-$HOME/.cache}/kirvessa}/live-$version}
@@ -95,28 +98,32 @@ record() {
     local it
     for it in "${workloads[@]}"; do
         [ ! -e "$folder/$it.bin" ] || continue
-        say "recording $it"
-        "$here/boot.sh" --kernel "$folder/bzImage" --cpus "$cpus" "$here/workloads/$it.in" "$folder/part"
+        awk -v share="$share" '/^(rec|script) / { $4 = int(($4 + share - 1) / share) } { print }' "$here/workloads/$it.in" > "$folder/$it.in"
+        say "recording $it, $(awk '/^(rec|script) / { n += $4 } END { print n + 0 }' "$folder/$it.in") times"
+        "$here/boot.sh" --kernel "$folder/bzImage" --cpus "$cpus" --seconds 36000 "$folder/$it.in" "$folder/part"
         mv "$folder/part" "$folder/$it.bin"
-        cp "$here/workloads/$it.in" "$folder/"
     done
 }
 
 check() {
-    local recordings=("${workloads[@]/#/$folder/}") status=0 letters=$rules
+    local recordings=("${workloads[@]/#/$folder/}") words=(--jobs "$jobs" --kernel "Linux $(release)")
     recordings=("${recordings[@]/%/.bin}")
-    if [ -n "$program" ]; then program=(--program "$program"); else say "no --program: the Python machine alone is asked, which nothing proves"; program=(); fi
-    # (a workload whose recordings refuse memory needs two rules more)
-    for it in "${workloads[@]}"; do if grep -qE '^rec .* [1-9][0-9]*$|^script( [^ ]+){8} [1-9]' "$here/workloads/$it.in"; then letters=$refused; fi; done
-    echo "== Linux $version, by the machine alone, punches split"
-    python3 "$here/check.py" --jobs "$jobs" --split --list 1 "${program[@]}" "${recordings[@]}" || true
-    echo "== Linux $version, with Linux's own rows ($letters)"
-    python3 "$here/check.py" --jobs "$jobs" --rules "$letters" --causes --list 1 "${recordings[@]}" || status=1
-    return $status
+    if [ -n "$program" ]; then words+=(--program "$program"); fi
+    python3 "$here/results.py" "${words[@]}" "${recordings[@]}" | tee "$folder/results.txt"
+}
+
+# The release whose source was built.
+release() {
+    local tree=$folder/linux-source-$version key value
+    for key in VERSION PATCHLEVEL SUBLEVEL; do
+        value=$(sed -n "s/^$key = //p" "$tree/Makefile")
+        printf '%s%s' "$([ $key = VERSION ] || echo .)" "$value"
+    done
+    sed -n 's/^EXTRAVERSION = //p' "$tree/Makefile" | tr -d '\n'
 }
 
 read_words "$@"
 need_all
 for step in fetch build record check; do
-    [ -n "$only" ] && [ "$only" != "$step" ] || "$step"
+    if [ -z "$only" ] || [ "$only" = "$step" ]; then "$step"; fi
 done

@@ -20,10 +20,12 @@ KINDS = {
     29: "place", 30: "place_refused", 31: "look", 32: "size", 33: "translate", 34: "backout", 35: "fault", 36: "slot", 37: "unslot",
     38: "present", 39: "unreserve", 40: "clear", 41: "lock", 42: "unlock", 43: "set_size", 44: "skip", 45: "evict", 46: "batch",
     47: "delete_refused", 48: "restore", 49: "enter", 50: "unused",
+    # the quota, the pool's size, and a task that is gone
+    51: "quota", 52: "grow", 53: "shrink", 54: "surplus", 55: "resized", 56: "dead",
 }
 CODES = {kind: code for code, kind in KINDS.items()}
 # the calls by their letters in a workload and in the log
-CALLS = {"m": "map", "n": "mapn", "u": "unmap", "l": "load", "s": "store", "a": "alloc", "k": "allock", "p": "punch", "t": "trunc"}
+CALLS = {"m": "map", "n": "mapn", "u": "unmap", "l": "load", "s": "store", "a": "alloc", "k": "allock", "p": "punch", "t": "trunc", "x": "exit"}
 # how the logs' numbers for "no page" and "to the end" are told apart from small ones
 NONE, FAR = -1, 2**40
 UNSIGNED = 2**64 - 1
@@ -72,10 +74,16 @@ def packed(run: Recording) -> bytes:
     return b"".join(FORM.pack(CODES[it.kind], *it[2:]) for it in run)
 
 
-def workload_of(file: Path) -> dict[int, str]:
-    """Of each seed the line of the workload that it belongs to, where the workload stands beside the recording or in ../workloads."""
+def workload_file(file: Path) -> Path | None:
+    """The workload of a recording, where it stands beside it or in the folder workloads of a folder around it."""
     name = f"{file.name.split('.')[0]}.in"
-    found = next((it for it in (file.parent / name, file.parent.parent / "workloads" / name) if it.is_file()), None)
+    around = [it / "workloads" / name for it in file.resolve().parents[1:3]]
+    return next((it for it in (file.parent / name, *around) if it.is_file()), None)
+
+
+def workload_of(file: Path) -> dict[int, str]:
+    """Of each seed the line of the workload that it belongs to."""
+    found = workload_file(file)
     lines = [it.split() for it in found.read_text(encoding="utf-8").splitlines()] if found else []
     return {int(it[2]) + k: it[1] for it in lines if it[:1] in (["rec"], ["script"]) for k in range(int(it[3]))}
 

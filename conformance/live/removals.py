@@ -46,8 +46,10 @@ class Removals(Placement):
         if not racer.is_freeing:
             return
         racer.is_freeing = False
-        self.step(racer, "punch free", "moved unslot")
-        self.free_here(racer.page)
+        # (a count that was raised for a deletion that was refused has had the frame be free already)
+        if self.phase(racer) == "free":
+            self.step(racer, "punch free", "moved unslot")
+            self.free_here(racer.page)
         self.step(racer, "punch unslot", "moved want", "moved leave")
 
     def looks_up(self, racer: Racer) -> bool:

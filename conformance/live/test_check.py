@@ -5,7 +5,8 @@ usage: test_check.py [--program P | --alone] [--jobs N]
 
 The recordings have to be whole in just the numbers that EXPECTED has. Then wrong machines, and recordings with two events swapped, have
 to be noticed, and none of them once the comparison is switched off: so it is the comparison that notices. The Python machine, by which
-rows are placed, has to answer random traces as the program does.
+rows are placed, has to answer random traces as the program does, and the traces of examples/ as it stands beside these. Together they reach
+each row that rows.py lists but one, and no other.
 """
 from __future__ import annotations
 
@@ -21,10 +22,11 @@ from typing import Callable, Iterable, Iterator, NamedTuple
 
 import check
 import machine
+import rows
 from events import Attempt
 from placing import Racer
 from recordings import Recording, recordings
-from wrong_machines import WRONG, Base, MapLeavesTheSize, NewPageKeepsItsWord
+from wrong_machines import WRONG, AsksNoQuota, Base, MapLeavesTheSize, NewPageKeepsItsWord, TouchAsksNoQuota
 
 FOLDER = Path(__file__).resolve().parent / "recordings"
 TOP = Path(__file__).resolve().parents[2]
@@ -39,22 +41,33 @@ class Expected(NamedTuple):
     is_split: bool
     number: int
     whole: int
-    # the workloads whose recordings count, or all
-    workloads: tuple[str, ...] = ()
+    # so many of them neither punch nor truncate, and all of these have to be whole; None: not counted
+    without_removals: int | None = None
 
 
 UNTRUNCATED = ("plain", "settle", "settles")
+UNTRUNCATED_612 = tuple(f"6.12/{it}" for it in UNTRUNCATED)
+WITHOUT_REMOVALS = ("p.touches2", "p.touches3", "p.touches4", "p.maps", "p.alloc3")
+OF_THE_POOL = ("6.12/quota", "6.12/kills", "6.12/resizes", "6.12/denied")
 EXPECTED = (
-    Expected("neither punch nor truncation", ("plain",), "", False, 950, 950, ("p.touches2", "p.touches3", "p.touches4", "p.maps", "p.alloc3")),
-    Expected("no truncation, punches split", UNTRUNCATED, "", True, 3300, 3273),
+    Expected("no truncation, punches split", UNTRUNCATED, "", True, 3300, 3273, 950),
     Expected("no truncation, Linux's rows", UNTRUNCATED, "BF", False, 3300, 3300),
     Expected("truncations, Linux's rows", ("trunc", "bug"), "BFPSTN", False, 1560, 1560),
     Expected("refused memory, Linux's rows", ("inject", "backed"), "BFUDN", False, 700, 700),
+    Expected("6.12: no truncation, punches split", UNTRUNCATED_612, "", True, 708, 708, 589),
+    Expected("6.12: no truncation, Linux's rows", UNTRUNCATED_612, "BF", False, 708, 708),
+    Expected("6.12: truncations, Linux's rows", ("6.12/trunc", "6.12/bug", "6.12/wide"), "BFPSTN", False, 106, 106),
+    Expected("6.12: refused memory, Linux's rows", ("6.12/inject", "6.12/backed"), "BFUDN", False, 36, 36),
+    Expected("6.12: quotas, kills, resizes, denied deletions; punches split", OF_THE_POOL, "", True, 333, 257),
+    Expected("6.12: quotas, Linux's rows", ("6.12/quota",), "BFPSTNQ", False, 114, 114),
+    Expected("6.12: kills and exits, Linux's rows", ("6.12/kills",), "BFPSTNI", False, 91, 91),
+    Expected("6.12: resizes, Linux's rows", ("6.12/resizes",), "BFPSTNR", False, 70, 70),
+    Expected("6.12: denied deletions, Linux's rows", ("6.12/denied",), "BFND", False, 58, 58),
 )
-# the recordings on which wrong machines are tried: every so many of these files
-TRIED, EVERY = ("a", "t", "settle", "settles"), 4
+# wrong machines are tried on every so many of the recordings that they name
+EVERY = 4
 # wrong machines that nothing but the comparison notices
-BY_COMPARISON = tuple(map(WRONG.index, (MapLeavesTheSize, NewPageKeepsItsWord)))
+BY_COMPARISON = tuple(map(WRONG.index, (MapLeavesTheSize, NewPageKeepsItsWord, AsksNoQuota, TouchAsksNoQuota)))
 # events that may be swapped with a neighbour about the same thing, and what they are about
 SWAPPED = {"changes and commits of one map": ("change", "commit", "delete"), "takes and accounts": ("take", "account", "free")}
 
@@ -70,22 +83,30 @@ class Blind(Attempt):
 
 
 def file_of(name: str) -> Path:
-    return next(it for it in (FOLDER / f"{name}.bin", FOLDER / f"{name}.bin.xz") if it.exists())
+    return FOLDER / f"{name}.bin.xz"
 
 
 def jobs_of(it: Expected, program: Path | None) -> Iterator[check.Job]:
     words = ["--rules", it.rules] if it.rules else []
     given = check.read_words([*words, *(["--split"] if it.is_split else []), *(str(file_of(name)) for name in it.files)])
     given.program = program
-    return (job for job in check.jobs_of(given) if not it.workloads or job.workload in it.workloads)
+    return check.jobs_of(given)
 
 
-def replayed(it: Expected, program: Path | None, processes: int) -> tuple[bool, str]:
+def replayed(it: Expected, program: Path | None, processes: int) -> Iterator[tuple[bool, str]]:
     """Whether so many recordings are whole as have to be, and the program and the Python machine agree."""
     done = list(check.check_all(list(jobs_of(it, program)), processes))
-    whole, disagreements = sum(one.kind is None for one in done), sum(bool(one.disagreement) for one in done)
+    whole, disagreements = are_whole(done), sum(bool(one.disagreement) for one in done)
     said = f"{it.what}: recordings {len(done)}, whole {whole}" + (f", {disagreements} of them otherwise by the program" if disagreements else "")
-    return (len(done), whole, disagreements) == (it.number, it.whole, 0), said
+    yield (len(done), whole, disagreements) == (it.number, it.whole, 0), said
+    if it.without_removals is not None:
+        few = [one for one in done if one.workload in WITHOUT_REMOVALS]
+        is_right = len(few) == are_whole(few) == it.without_removals
+        yield is_right, f"{it.what}: of these neither punch nor truncate {len(few)}, whole {are_whole(few)}"
+
+
+def are_whole(done: list[check.Checked]) -> int:
+    return sum(one.kind is None for one in done)
 
 
 def is_noticed(given: tuple[Recording, int, type[Attempt]]) -> bool:
@@ -140,43 +161,101 @@ def swaps(runs: list[Recording]) -> Iterator[tuple[bool, str]]:
         yield len(swapped) > 5 and noticed >= 0.8 * len(swapped), f"two events swapped, {what}: {noticed} of {len(swapped)} are noticed"
 
 
-def wrong_machines(runs: list[Recording], processes: int) -> Iterator[tuple[bool, str]]:
-    numbers = range(len(WRONG))
-    noticed = how_often(runs, numbers, Attempt, processes)
-    for number, it in enumerate(WRONG):
-        yield noticed[number] > 0, f"wrong machine noticed {noticed[number]} times in {len(runs)}: {it.__doc__}"
-    blind = how_often(runs, BY_COMPARISON, Blind, processes)
+def runs_of(files: tuple[str, ...]) -> list[Recording]:
+    return [run for name in files for run in recordings(file_of(name))]
+
+
+def wrong_machines(processes: int) -> Iterator[tuple[bool, str]]:
+    """Each wrong machine is noticed, and the right one isn't."""
+    blind: Counter[int] = Counter()
+    for files in dict.fromkeys(it.tried for it in WRONG):
+        runs, numbers = runs_of(files)[::EVERY], [number for number, it in enumerate(WRONG) if it.tried == files]
+        right = how_often(runs, range(-1, 0), Attempt, processes)
+        yield not right, f"the right machine with Linux's rows: {len(runs) - right.total()} of {len(runs)} recordings are whole ({', '.join(files)})"
+        noticed = how_often(runs, numbers, Attempt, processes)
+        for number in numbers:
+            yield noticed[number] > 0, f"wrong machine noticed {noticed[number]} times in {len(runs)}: {WRONG[number].__doc__}"
+        blind += how_often(runs, [it for it in numbers if it in BY_COMPARISON], Blind, processes)
     yield not blind, f"with the comparison switched off {blind.total()} are noticed of {len(BY_COMPARISON)} that nothing else notices"
 
 
 def random_trace(rng: random.Random) -> list[str]:
-    """Random events of two or three tasks on a small pool, most of them steps, some of them denied."""
+    """Random events of two or three tasks on a small pool, most of them steps, some of them denied; and some kills and resizes. In some
+    traces the files are large, few steps go between two begins, or many steps are denied."""
     tasks = rng.randint(2, 3)
-    lines = [f"pool {rng.randint(1, 6)} 2 {rng.randint(1, 8)} {tasks}"]
+    lines = [f"pool {rng.randint(1, 6)} 2 {rng.randint(1, 8)} {tasks}" + rng.choice(["", f" {rng.randint(1, 5)}"])]
+    most, begins, denials = rng.choice([1, 2, 4, 4, 4096]), rng.choice([0.12, 0.25]), rng.choice([0.05, 0.05, 0.4])
+
+    def ranged() -> str:
+        if rng.random() < 0.03:
+            return rng.choice(["2 0 1", "0 0 0", "1 4096 1"])
+        length = min(most, rng.choice([1, 2, 3, most]))
+        return f"{rng.choice([0, 0, 1])} {rng.randint(0, min(3, 4096 - length))} {length}"
+
     calls: dict[str, Callable[[], str]] = {
-        "map": lambda: f"{rng.randint(0, 1)} {rng.randint(0, 3)} {rng.randint(1, 3)}", "trunc": lambda: f"{rng.randint(0, 1)} {rng.randint(0, 3)}",
-        "load": lambda: f"{rng.randint(0, 5)}", "store": lambda: f"{rng.randint(0, 5)} {rng.randint(1, 99)}", "unmap": lambda: f"{rng.randint(0, 3)}",
+        "trunc": lambda: f"{rng.choice([0, 0, 1, 2])} {rng.choice([0, 1, 2, 3, 4097])}",
+        "load": lambda: f"{rng.randint(0, min(most, 5))}", "store": lambda: f"{rng.randint(0, min(most, 5))} {rng.randint(1, 99)}",
+        "unmap": lambda: f"{rng.randint(0, 3)}", **dict.fromkeys(("map", "mapn", "alloc", "allock", "punch"), ranged),
     }
-    calls |= {name: calls["map"] for name in ("mapn", "alloc", "allock", "punch")}
-    for _ in range(300):
-        task = rng.randint(1, tasks)
-        if rng.random() < 0.12:
-            name = rng.choice(list(calls))
+    weights = [4 if name in ("map", "mapn", "store", "punch") else 2 for name in calls]
+    for _ in range(400):
+        task, chance = rng.randint(1, tasks), rng.random()
+        if chance < begins:
+            name = rng.choices(list(calls), weights)[0]
             lines.append(f"begin {task} {name} {calls[name]()}")
+        elif chance > 0.995:
+            lines.append(rng.choice([f"kill {task}", f"begin {task} exit", f"resize {rng.randint(0, 7)}", f"resize {rng.randint(1, 7)}"]))
         else:
-            lines.append(f"{'deny' if rng.random() < 0.05 else 'step'} {task}")
+            lines.append(f"{'deny' if rng.random() < denials else 'step'} {task}")
     return lines
 
 
-def same_answers(program: Path, traces: int) -> tuple[bool, str]:
-    """Whether the Python machine prints what the program prints."""
-    rng = random.Random(7)
-    for number in range(traces):
-        lines = random_trace(rng)
-        ran = subprocess.run([program, "replay"], input="".join(f"{it}\n" for it in lines), capture_output=True, text=True, check=True)
-        if ran.stdout.splitlines() != machine.replay(lines):
-            return False, f"random trace {number}: the Python machine and the program differ"
-    return True, f"{traces} random traces: the Python machine answers as the program does"
+class Seeing(machine.Machine):
+    """The machine, which notes the rows that it makes."""
+
+    def __init__(self, *config: int) -> None:
+        super().__init__(*config)
+        self.seen: set[tuple[str, str]] = set()
+
+    def step(self, number: int, is_granted: bool = True) -> machine.Outcome:
+        task = self.tasks.get(number)
+        call = task.call if task else None
+        where, answer = (f"{call.table}.{call.phase}", call.answer) if call else ("", "")
+        outcome = super().step(number, is_granted)
+        if call:
+            self.seen.add((where, rows.outcome_of(where, call, answer, outcome)))
+        return outcome
+
+
+def replayed_here(lines: list[str], seen: set[tuple[str, str]]) -> list[str]:
+    """What the Python machine prints of a trace; the rows that it makes are added to those that are seen."""
+    it = Seeing(*(int(word) for word in lines[0].split(" ")[1:]))
+    printed = [str(machine.event(it, line)) for line in lines[1:]]
+    seen |= it.seen
+    return printed + it.state()
+
+
+# a row that random traces seldom make: an allocation that wants a slot notices a kill
+KILLED_AT_WANT = ["pool 1 1 1 1", "begin 1 alloc 0 0 1", "step 1", "step 1", "kill 1", "step 1", "step 1"]
+
+
+def same_answers(program: Path | None, traces: int) -> Iterator[tuple[bool, str]]:
+    """Whether the Python machine prints what the program prints, and what stands beside the examples; and whether the rows are those listed."""
+    rng, seen = random.Random(7), set()
+    differ = []
+    for number, lines in enumerate([KILLED_AT_WANT, *(random_trace(rng) for _ in range(traces))]):
+        printed = replayed_here(lines, seen)
+        if program:
+            ran = subprocess.run([program, "replay"], input="".join(f"{it}\n" for it in lines), capture_output=True, text=True, check=True)
+            differ += [number] if ran.stdout.splitlines() != printed else []
+    if program:
+        yield not differ, f"{traces + 1} traces: the Python machine answers {'all' if not differ else f'all but {differ}'} as the program does"
+    examples = [it for it in sorted((TOP / "examples").rglob("*.trace")) if not it.with_suffix(".err").exists()]
+    differ = [it.name for it in examples if replayed_here(it.read_text().splitlines(), seen) != it.with_suffix(".out").read_text().splitlines()]
+    yield not differ, f"{len(examples)} traces of examples/: the Python machine answers {'all' if not differ else f'all but {differ}'} as they say"
+    known = set(rows.ROWS) - set(rows.UNREACHABLE)
+    wrong = sorted(seen ^ known)
+    yield not wrong, f"the rows that these reach are the {len(known)} that are listed{f', but {wrong}' if wrong else ''}"
 
 
 def built() -> Path:
@@ -187,15 +266,10 @@ def built() -> Path:
 
 def results(program: Path | None, processes: int) -> Iterator[tuple[bool, str]]:
     for it in EXPECTED:
-        yield replayed(it, program, processes)
-    every = [run for name in TRIED for run in recordings(file_of(name))]
-    runs = every[::EVERY]
-    right = how_often(runs, range(-1, 0), Attempt, processes)
-    yield not right, f"the right machine with Linux's rows: {len(runs) - right.total()} of {len(runs)} recordings are whole"
-    yield from wrong_machines(runs, processes)
-    yield from swaps(every)
-    if program:
-        yield same_answers(program, 300)
+        yield from replayed(it, program, processes)
+    yield from wrong_machines(processes)
+    yield from swaps(runs_of(Base.tried))
+    yield from same_answers(program, 300)
 
 
 def main() -> int:

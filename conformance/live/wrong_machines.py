@@ -6,9 +6,11 @@ from machine import Call, Outcome, moved
 
 
 class Base(LinuxRows):
-    """The rows with which every recording of truncations is whole."""
+    """The rows with which every recording is whole in which no change and no placement is refused memory."""
 
-    rules = "BFPSTN"
+    rules = "BFPSTNDQIR"
+    # the recordings on which it is tried
+    tried: tuple[str, ...] = ("a", "t", "settle", "settles")
 
 
 class MapKeepsWhatItOverpaid(Base):
@@ -210,6 +212,80 @@ class NewPageKeepsItsWord(Base):
         super().take_unreserved()
         self.words[frame] = word
         return frame
+
+
+class AsksNoQuota(Base):
+    """touch, alloc, map: the quota isn't asked"""
+
+    tried = ("6.12/quota",)
+
+    def is_beyond_quota(self, number: int) -> bool:
+        return False
+
+
+class TouchAsksNoQuota(Base):
+    """touch, alloc: an index that nobody reserved isn't counted as used"""
+
+    tried = ("6.12/quota",)
+
+    def make_changed(self, call: Call) -> Outcome:
+        outcome = super().make_changed(call)
+        if outcome.value == "taken":
+            self.used -= call.missing
+        return outcome
+
+
+class DeniedDeletionIsDone(Base):
+    """punch: a deletion that is refused memory is made all the same"""
+
+    tried = ("6.12/denied",)
+
+    def delete(self, call: Call) -> int | None:
+        return self.files[call.file].delete(True, call.index)
+
+
+class ResizeRetiresReserved(Base):
+    """resize: frames that are reserved are retired"""
+
+    tried = ("6.12/resizes",)
+
+    def shrink(self, frames: int) -> Outcome:
+        resv, self.resv = self.resv, 0
+        outcome = super().shrink(frames)
+        self.resv = resv
+        return outcome
+
+
+class ResizeKeepsWhatIsFree(Base):
+    """resize: a frame that is free stays"""
+
+    tried = ("6.12/resizes",)
+
+    def shrink(self, frames: int) -> Outcome:
+        return super().shrink(frames + 1)
+
+
+class InterruptedAllocationLeavesTheSize(Base):
+    """alloc: one that is interrupted leaves the size"""
+
+    tried = ("6.12/kills",)
+
+    def alloc_extend(self, call: Call) -> Outcome:
+        file = self.files[call.file]
+        size = file.size
+        outcome = super().alloc_extend(call)
+        if call.answer == "interrupted":
+            file.size = size
+        return outcome
+
+
+class KillIsNotNoticed(Base):
+    """alloc: a kill is not noticed"""
+
+    tried = ("6.12/kills",)
+
+    def alloc_head(self, call: Call) -> Outcome:
+        return moved("want")
 
 
 WRONG: tuple[type[Base], ...] = tuple(Base.__subclasses__())

@@ -3,12 +3,15 @@
 set -euo pipefail
 
 usage="usage: emulate.sh [OPTION ..] SCRIPTS ..
+       emulate.sh [OPTION ..] --run PROGRAM [WORDS ..]
 
 Builds the recorder, runs it on the scripts in an emulated machine, and writes what its kernel answered to standard
 output. The kernel of the machine that it runs on is left alone, and nobody has to be root.
 
   --again       records the calls of recorded files again, each on a machine of its own, and compares:
                 the last line is 'N passed, M failed', of files
+  --run PROGRAM runs this statically linked program there, as root, instead of the recorder, and ends with its status;
+                it has to write a line that begins with 'reproducer: ' to standard error before it does anything
   --install     installs the packages that are missing (as root, or by sudo) and fetches the kernel's, which is
                 unpacked into a folder of its own and not installed
   --kernel FILE emulates with this kernel (vmlinuz)
@@ -26,7 +29,7 @@ Status: 0 all is recorded; 1 something failed, or differs; 2 a wrong word or scr
 here=$(cd "$(dirname "$(readlink -f "${BASH_SOURCE[0]}")")" && pwd)
 cache=${KIRVESSA_CACHE:-${XDG_CACHE_HOME:-$HOME/.cache}/kirvessa}
 package=linux-image-cloud-amd64
-kernel='' cpus=2 memory=768 seconds=900 accel='' is_again='' is_install=''
+kernel='' cpus=2 memory=768 seconds=900 accel='' is_again='' is_install='' program=''
 files=()
 
 say() { echo "emulate: $*" >&2; }
@@ -42,7 +45,7 @@ number() { [[ $2 =~ ^[1-9][0-9]*$ ]] || misuse "$1 wants a number, not '$2'"; }
 read_words() {
     while [ $# -gt 0 ]; do
         case $1 in
-        --kernel | --package | --cpus | --memory | --seconds | --accel) [ $# -gt 1 ] || misuse "$1 wants a word behind it" ;;&
+        --kernel | --package | --cpus | --memory | --seconds | --accel | --run) [ $# -gt 1 ] || misuse "$1 wants a word behind it" ;;&
         --cpus | --memory | --seconds) number "$1" "$2" ;;&
         --again) is_again=1 ;;
         --install) is_install=1 ;;
@@ -52,6 +55,7 @@ read_words() {
         --memory) memory=$2; shift ;;
         --seconds) seconds=$2; shift ;;
         --accel) accel=$2; shift ;;
+        --run) program=$2; shift ;;
         -h | --help) echo "$usage"; exit 0 ;;
         -*) misuse "there is no option $1" ;;
         *) files+=("$1") ;;
@@ -120,18 +124,20 @@ choose_accel() {
     if [ -r /dev/kvm ] && [ -w /dev/kvm ] && ! grep -qw hypervisor /proc/cpuinfo; then accel=kvm; fi
 }
 
-# Packs what the machine begins with: the recorder, its first process, and the scripts.
+# Packs what the machine begins with: its first process, the program that this one runs under the recorder's name, and the scripts.
 pack() {
-    local root=$work/root
+    local root=$work/root program=$1
+    shift
     rm -rf "$root" &&
         mkdir -p "$root"/{dev,proc,sys,tmp} &&
-        cp "$work/built/record" "$work/built/init" "$root/" &&
-        awk 1 "$@" > "$root/scripts" &&     # (a last line without its end gets one)
+        cp "$work/built/init" "$root/" &&
+        cp "$program" "$root/record" &&
+        awk 1 "$@" /dev/null > "$root/scripts" &&     # (a last line without its end gets one)
         (cd "$root" && find . | cpio -o -H newc --quiet) > "$work/initramfs"
 }
 
-# Whether the kernel stopped before it ran the recorder, so that no call was made.
-is_unbegun() { [ "$ended" = 0 ] && ! grep -q '^record: ' "$work/told"; }
+# Whether the kernel stopped before it ran the program, so that no call was made.
+is_unbegun() { [ "$ended" = 0 ] && ! grep -q '^record: \|^reproducer: ' "$work/told"; }
 
 # Boots a machine in which the recorder runs with these words. A kernel that stops before it runs the recorder is booted again, twice at
 # most: emulated, Linux 6.12 panics in one of four boots or so while it patches its own text (do_sync_core). Behind the first call
@@ -153,7 +159,7 @@ boot_once() {
     touch "$work"/{recorded,told,console}
     timeout "$seconds" qemu-system-x86_64 -machine pc -accel "$accel" -cpu max -m "$memory" -smp "$cpus" \
         -nodefaults -no-user-config -display none -no-reboot -kernel "$kernel" -initrd "$work/initramfs" \
-        -append "console=ttyS0 quiet panic=-1 -- $* /scripts" \
+        -append "console=ttyS0 quiet panic=-1 no_timer_check -- $*" \
         -serial file:"$work/console" -serial file:"$work/recorded" -serial file:"$work/told" < /dev/null >&2 &
     machine=$!
     wait "$machine" || status=$?
@@ -182,9 +188,9 @@ is_whole() {
 record() {
     local to=$1 from=0 status
     shift
-    pack "$@" && : > "$to" || return 1
+    pack "$work/built/record" "$@" && : > "$to" || return 1
     while true; do
-        boot --race --from "$from" || return 1
+        boot --race --from "$from" /scripts || return 1
         status=$(sed -n 's/^status //p' "$work/told")
         case $status in
         0 | 3) is_whole || return 1 ;;
@@ -220,6 +226,13 @@ compare() {
     [ "$failed" = 0 ]
 }
 
+# Runs the program with these words, writes what it wrote, and ends with its status.
+run_program() {
+    pack "$program" && boot "$@" || return 1
+    cat "$work/recorded"
+    return "$(sed -n 's/^status //p' "$work/told")"
+}
+
 check_words() {
     [ ${#files[@]} -gt 0 ] || { [ -n "$is_install" ] && exit 0; } || misuse "which scripts?"
     "$work/built/record" --check "${files[@]}" > "$work/checked" || exit $?
@@ -239,6 +252,10 @@ trap 'exit 130' INT TERM HUP
 need_all
 choose_accel
 "$here/build.sh" "$work/built"
+if [ -n "$program" ]; then
+    run_program "${files[@]}"
+    exit $?
+fi
 check_words
 if [ -n "$is_again" ]; then
     compare

@@ -23,7 +23,8 @@ static const char usage[] =
     "Root alone can do so. The number of huge pages is changed meanwhile, and put back at the end.\n"
     "\n"
     "  --check   only reads the scripts\n"
-    "  --race    lets tasks race, after which the kernel's reserve count may be wrong until the next boot\n"
+    "  --race    lets tasks race, and starts truncations beside other calls; after that the kernel's reserve count\n"
+    "            may be wrong until the next boot\n"
     "  --from N  leaves out the first N scripts\n"
     "\n"
     "A file that was recorded is one of scripts, too: the answers in it aren't read.\n"
@@ -85,11 +86,19 @@ static struct words read_words(int count, char **all)
     return words;
 }
 
-/* The first line of a script that is a race, or NULL. */
+/* Whether the kernel's reserve count may be wrong behind a line: tasks race, or a truncation runs beside other calls. */
+static bool may_lose_count(const struct line *line)
+{
+    enum operation operation = line->call.operation;
+
+    return line->kind == LINE_RACE || (line->kind == LINE_START && (operation == OP_TRUNC || operation == OP_X_FTRUNCATE));
+}
+
+/* The first line of a script behind which the count may be wrong, or NULL. */
 static const struct line *race_of(const struct script *script)
 {
     for (size_t k = 0; k < script->count; k++)
-        if (script->lines[k].kind == LINE_RACE)
+        if (may_lose_count(&script->lines[k]))
             return &script->lines[k];
     return NULL;
 }

@@ -251,6 +251,25 @@ static void run_begin(struct pool *pool, const struct line *line)
     printf("%s = %s", line->text, answer_of(&pool->tasks[line->task - 1], line));
 }
 
+/* Asks a task for its call, and goes on. */
+static void run_start(struct pool *pool, const struct line *line)
+{
+    struct task *task = &pool->tasks[line->task - 1];
+
+    if (task->is_alive)
+        ask(task, &line->call);
+    printf("%s = %s", line->text, task->is_alive ? "started" : "refused notalive");
+}
+
+static void run_wait(struct pool *pool, const struct line *line)
+{
+    struct task *task = &pool->tasks[line->task - 1];
+
+    if (task->is_alive)
+        wait_for(task, line->task);
+    printf("%s = %s", line->text, task->is_alive ? task->desk->answer : "refused notalive");
+}
+
 static void run_resize(struct pool *pool, const struct line *line)
 {
     long total;
@@ -292,11 +311,26 @@ static void run_race(struct pool *pool, const struct line *line)
     printf("%s = rest", line->text);
 }
 
+/* Whether no task is at work: while one is, the state is by chance, and isn't told. */
+static bool is_at_rest(const struct pool *pool)
+{
+    for (unsigned k = 0; k < pool->script->tasks; k++)
+        if (pool->tasks[k].is_at_work)
+            return false;
+    return true;
+}
+
 static void run_line(struct pool *pool, const struct line *line)
 {
     switch (line->kind) {
     case LINE_BEGIN:
         run_begin(pool, line);
+        break;
+    case LINE_START:
+        run_start(pool, line);
+        break;
+    case LINE_WAIT:
+        run_wait(pool, line);
         break;
     case LINE_RESIZE:
         run_resize(pool, line);
@@ -305,7 +339,10 @@ static void run_line(struct pool *pool, const struct line *line)
         run_race(pool, line);
         break;
     }
-    tell_state(pool);
+    if (is_at_rest(pool))
+        tell_state(pool);
+    else
+        end_line();
 }
 
 /* Runs a script, and returns whether the kernel's counts are right where nothing is left of it. */

@@ -63,6 +63,8 @@ struct reader {
     size_t line;
     struct scripts *into;
     struct script *open;
+    /* the tasks of the open script that were started, and not waited for yet; they are counted from 1 */
+    bool is_at_work[MOST_TASKS + 1];
 };
 
 /* A line's words. */
@@ -179,13 +181,49 @@ static struct call call_of(const struct reader *reader, char *const *words, size
     return call;
 }
 
-static void read_begin(const struct reader *reader, const struct words *words, struct line *line)
+/* Of a call that is begun, and runs to its end, or of one that is started. */
+static void read_call_of_task(const struct reader *reader, const struct words *words, struct line *line)
 {
     if (words->count < 3)
-        bad(reader, "a call is 'begin TASK CALL ..'");
-    line->kind = LINE_BEGIN;
+        bad(reader, "a call is '%s TASK CALL ..'", words->all[0]);
     line->task = number_from(reader, words->all[1], 1, reader->open->tasks);
+    if (reader->is_at_work[line->task])
+        bad(reader, "task %u is at work: 'wait %u' has to come first", line->task, line->task);
     line->call = call_of(reader, words->all + 2, words->count - 2);
+}
+
+static void read_begin(const struct reader *reader, const struct words *words, struct line *line)
+{
+    line->kind = LINE_BEGIN;
+    read_call_of_task(reader, words, line);
+}
+
+static void read_start(struct reader *reader, const struct words *words, struct line *line)
+{
+    line->kind = LINE_START;
+    read_call_of_task(reader, words, line);
+    if (line->call.operation == OP_EXIT)
+        bad(reader, "an exit can be begun, and not started");
+    reader->is_at_work[line->task] = true;
+}
+
+static void read_wait(struct reader *reader, const struct words *words, struct line *line)
+{
+    if (words->count != 2)
+        bad(reader, "a wait is 'wait TASK'");
+    line->kind = LINE_WAIT;
+    line->task = number_from(reader, words->all[1], 1, reader->open->tasks);
+    if (!reader->is_at_work[line->task])
+        bad(reader, "task %u isn't at work: 'start %u CALL ..' has to come first", line->task, line->task);
+    reader->is_at_work[line->task] = false;
+}
+
+/* Nobody may be at work at a race, or at the end of a script. */
+static void need_rest(const struct reader *reader)
+{
+    for (unsigned task = 1; task <= MOST_TASKS; task++)
+        if (reader->is_at_work[task])
+            bad(reader, "task %u is at work still: 'wait %u' has to come first", task, task);
 }
 
 static void read_resize(const struct reader *reader, const struct words *words, struct line *line)
@@ -216,6 +254,7 @@ static void read_race(const struct reader *reader, const struct words *words, st
 
     if (words->count != 4 && words->count != 5)
         bad(reader, "a race is 'race SEED CALLS SPAN [KINDS]'");
+    need_rest(reader);
     line->kind = LINE_RACE;
     line->call.operation = OP_RACE;
     line->call.numbers[RACE_SEED] = number(reader, words->all[1], UINT32_MAX);
@@ -261,10 +300,11 @@ static void read_end(struct reader *reader, const struct words *words)
         bad(reader, "a script ends with 'end'");
     if (!reader->open->header)
         bad(reader, "script %s has no pool", reader->open->name);
+    need_rest(reader);
     reader->open = NULL;
 }
 
-static void read_call(const struct reader *reader, const struct words *words, const char *text)
+static void read_call(struct reader *reader, const struct words *words, const char *text)
 {
     struct script *script = reader->open;
     struct line line = {.kind = LINE_BEGIN};
@@ -273,6 +313,10 @@ static void read_call(const struct reader *reader, const struct words *words, co
         bad(reader, "script %s has no pool yet", script->name);
     if (!strcmp(words->all[0], "begin"))
         read_begin(reader, words, &line);
+    else if (!strcmp(words->all[0], "start"))
+        read_start(reader, words, &line);
+    else if (!strcmp(words->all[0], "wait"))
+        read_wait(reader, words, &line);
     else if (!strcmp(words->all[0], "resize"))
         read_resize(reader, words, &line);
     else if (!strcmp(words->all[0], "race"))

@@ -49,15 +49,16 @@ struct call {
  * each operation that may be drawn. */
 enum { RACE_SEED, RACE_CALLS, RACE_SPAN, RACE_KINDS };
 
-enum line_kind { LINE_BEGIN, LINE_RESIZE, LINE_RACE };
+/* A call that is begun runs to its end. One that is started goes on beside the lines that follow, up to its task's wait. */
+enum line_kind { LINE_BEGIN, LINE_START, LINE_WAIT, LINE_RESIZE, LINE_RACE };
 
 struct line {
     enum line_kind kind;
     /* the line as it is told, without an answer that stood behind it */
     char *text;
-    /* of LINE_BEGIN, counted from 1 */
+    /* of LINE_BEGIN, LINE_START and LINE_WAIT, counted from 1 */
     unsigned task;
-    /* of LINE_BEGIN and LINE_RACE */
+    /* of LINE_BEGIN, LINE_START and LINE_RACE */
     struct call call;
     /* of LINE_RESIZE */
     unsigned frames;

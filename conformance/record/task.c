@@ -96,6 +96,7 @@ static void check_end(unsigned number, int ended)
 void ask(struct task *task, const struct call *call)
 {
     task->desk->call = *call;
+    task->is_at_work = true;
     /* (where nobody reads any more, the wait for the answer tells why) */
     if (send(task->line, "?", 1, MSG_NOSIGNAL) != 1)
         return;
@@ -105,6 +106,7 @@ void wait_for(struct task *task, unsigned number)
 {
     char byte;
 
+    task->is_at_work = false;
     if (read(task->line, &byte, 1) == 1)
         return;
     check_end(number, end_of(task));

@@ -44,6 +44,8 @@ struct task {
     /* the process's pages, as the kernel tells them */
     int pagemap;
     bool is_alive;
+    /* it was asked, and its answer wasn't waited for yet */
+    bool is_at_work;
     struct desk *desk;
 };
 

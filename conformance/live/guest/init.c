@@ -4,11 +4,16 @@
  * /workload has lines
  *   rec NAME SEED COUNT POOL FILES TASKS CALLS SPAN KINDS PROB MAXUS INJECT
  * for COUNT recordings with the seeds SEED, SEED + 1, ..: TASKS processes make CALLS random calls each at once, of the KINDS (m map,
- * n mapn, u unmap, l load, s store, a alloc, k allock, p punch, t trunc), on the first SPAN pages of FILES files of a pool of POOL pages.
- * Of the points at which the kernel may pause, PROB percent do, up to MAXUS microseconds. INJECT is a + 1024 b: of 1000 changes a are
- * refused memory, of 1000 pages b aren't placed for want of memory.
+ * n mapn, u unmap, l load, s store, a alloc, k allock, p punch, t trunc, x exit), on the first SPAN pages of FILES files of a pool of POOL
+ * pages. Of the points at which the kernel may pause, PROB percent do, up to MAXUS microseconds. INJECT is a + 1024 b + 1048576 c: of 1000
+ * changes a are refused memory, of 1000 pages b aren't placed for want of memory, and of 1000 deletions that split a region c are refused.
  *   script NAME SEED COUNT POOL FILES TASKS PROB MAXUS [INJECT]
  * then lines `T OP ARGS`, a call of task T each, up to `end`: the tasks make just these, at once.
+ * Either line may end with some of
+ *   quota N      the files may have N pages in all: a mount with size=
+ *   resizes N    meanwhile the pool is resized N times, to 1 to twice as many pages as it had
+ *   kills N      meanwhile N of the tasks are killed
+ * Any other line is passed over (`rules LETTERS` is for results.py).
  * What happens is in the kernel's log. The serial line gets a line a recording.
  */
 #define _GNU_SOURCE
@@ -56,11 +61,13 @@ struct workload {
 	char name[64], kinds[128];
 	unsigned long seed, count, inject;
 	int pool, files, tasks, calls, span, prob, most_us;
+	int quota, resizes, kills;
 };
 
-/* where the tasks meet: how many are ready, whether they may go, how many have done their calls, whether they may end */
+/* where the tasks meet: how many are ready, whether they may go, which have done their calls, whether they may end */
 struct barrier {
-	volatile int ready, go, done, leave;
+	volatile int ready, go, leave;
+	volatile char done[MOST_TASKS + 1];
 };
 
 static struct mapping mappings[MOST_MAPPINGS];
@@ -71,6 +78,7 @@ static struct barrier *barrier;
 static struct scripted script[MOST_CALLS];
 static int script_length;
 static sigjmp_buf back;
+static int pool_now = -1, quota_now = -1;
 
 static int tell(int what, uint64_t a, uint64_t b, uint64_t c, uint64_t d, uint64_t *out)
 {
@@ -197,6 +205,8 @@ static void call(int kind, uint64_t a, uint64_t b, uint64_t c)
 	case 't':
 		truncate_to(files[a], b);
 		break;
+	case 'x':
+		_exit(0);
 	}
 }
 
@@ -260,7 +270,7 @@ static void run_task(int task, uint64_t seed, const struct workload *load)
 		make_scripted_calls(task);
 	else
 		make_random_calls(task, seed, load);
-	__sync_fetch_and_add(&barrier->done, 1);
+	barrier->done[task] = 1;
 	while (!barrier->leave)
 		usleep(500);
 	_exit(0);
@@ -279,13 +289,26 @@ static void put(const char *path, long number)
 
 static void size_pool(int pages)
 {
-	static int now = -1;
-
-	if (now == pages)
+	if (pool_now == pages)
 		return;
 	put("/proc/sys/vm/nr_hugepages", 0);
 	put("/proc/sys/vm/nr_hugepages", pages);
-	now = pages;
+	pool_now = pages;
+}
+
+/* Mounts the files' place with this maximum (0: none). With one it is mounted anew each time: what a mount has used may be wrong for good. */
+static void set_quota(int pages)
+{
+	char options[64];
+
+	if (!pages && !quota_now)
+		return;
+	if (quota_now >= 0 && umount("/h"))
+		printf("HARNESS cannot unmount: %d\n", errno);
+	sprintf(options, pages ? "pagesize=2M,size=%dM" : "pagesize=2M", 2 * pages);
+	if (mount("none", "/h", "hugetlbfs", 0, options))
+		printf("HARNESS no hugetlbfs: %d\n", errno);
+	quota_now = pages;
 }
 
 static void path_of(char *path, int file)
@@ -317,21 +340,62 @@ static void close_files(int count)
 	}
 }
 
-/* Waits until all tasks have made their calls, at most some 20 seconds, and says whether they did. */
-static int await_tasks(int tasks, const pid_t *children)
+/* Reaps the tasks that have ended, and says so to the log. */
+static void reap(pid_t *children, int tasks)
 {
 	int status;
+	pid_t pid = waitpid(-1, &status, WNOHANG);
 
-	for (int turns = 0; barrier->done < tasks; turns++) {
-		usleep(300);
-		if (waitpid(-1, &status, WNOHANG) > 0) {
+	for (int task = 1; pid > 0 && task <= tasks; task++) {
+		if (children[task] != pid)
+			continue;
+		tell('X', task, 0, 0, 0, NULL);
+		children[task] = 0;
+		if (status && !(WIFSIGNALED(status) && WTERMSIG(status) == SIGKILL))
 			printf("HARNESS child died %x\n", status);
+	}
+}
+
+static int is_over(const pid_t *children, int tasks)
+{
+	for (int task = 1; task <= tasks; task++)
+		if (children[task] && !barrier->done[task])
 			return 0;
-		}
+	return 1;
+}
+
+/* One resize or one kill of those that are left to be made. */
+static void meddle(const struct workload *load, const pid_t *children, uint64_t *chance, int *resizes, int *kills)
+{
+	int which = next_random(chance) % (*resizes + *kills), task = 1 + next_random(chance) % load->tasks;
+
+	if (which < *resizes) {
+		--*resizes;
+		put("/proc/sys/vm/nr_hugepages", 1 + next_random(chance) % (2 * load->pool));
+		pool_now = -1;
+		return;
+	}
+	--*kills;
+	if (children[task])
+		kill(children[task], SIGKILL);
+}
+
+/* Waits until all tasks have made their calls or ended, at most some 20 seconds, and says whether they did. */
+static int await_tasks(const struct workload *load, uint64_t seed, pid_t *children)
+{
+	uint64_t chance = seed * 7919 + 13;
+	int resizes = load->resizes, kills = load->kills;
+
+	for (int turns = 0; !is_over(children, load->tasks); turns++) {
+		usleep(300 + (resizes + kills ? next_random(&chance) % 1500 : 0));
+		if (resizes + kills)
+			meddle(load, children, &chance, &resizes, &kills);
+		reap(children, load->tasks);
 		if (turns > 60000) {
 			printf("HARNESS hangs\n");
-			for (int task = 1; task <= tasks; task++)
-				kill(children[task], SIGKILL);
+			for (int task = 1; task <= load->tasks; task++)
+				if (children[task])
+					kill(children[task], SIGKILL);
 			return 0;
 		}
 	}
@@ -344,6 +408,7 @@ static void record(const struct workload *load, uint64_t seed)
 	uint64_t before = 0, at_rest = 0, after = 0;
 	int status, is_good;
 
+	set_quota(load->quota);
 	size_pool(load->pool);
 	tell('P', 0, 0, 0, 0, &before);
 	if (before != (uint64_t)load->pool << 32)
@@ -351,7 +416,8 @@ static void record(const struct workload *load, uint64_t seed)
 	memset(barrier, 0, sizeof *barrier);
 	tell('R', seed, load->prob, load->most_us, load->inject, NULL);
 	/* what the recording is of, in the log itself */
-	tell('B', '!', (uint64_t)load->pool | (uint64_t)load->files << 16 | (uint64_t)load->tasks << 32, load->calls, load->span, NULL);
+	tell('B', '!', (uint64_t)load->pool | (uint64_t)load->files << 16 | (uint64_t)load->tasks << 32 | (uint64_t)load->quota << 48,
+	     load->calls, load->span, NULL);
 	open_files(load->files);
 	for (int task = 1; task <= load->tasks; task++) {
 		children[task] = fork();
@@ -361,7 +427,7 @@ static void record(const struct workload *load, uint64_t seed)
 	while (barrier->ready < load->tasks)
 		usleep(200);
 	barrier->go = 1;
-	is_good = await_tasks(load->tasks, children);
+	is_good = await_tasks(load, seed, children);
 	usleep(1000); /* for what is freed late */
 	for (int k = 0; k < load->files; k++)
 		tell('Q', k, files[k], 0, 0, NULL);
@@ -369,7 +435,8 @@ static void record(const struct workload *load, uint64_t seed)
 	tell('S', seed, 0, 0, 0, NULL);
 	barrier->leave = 1;
 	for (int task = 1; task <= load->tasks; task++)
-		waitpid(children[task], &status, 0);
+		if (children[task])
+			waitpid(children[task], &status, 0);
 	close_files(load->files);
 	tell('P', 0, 0, 0, 0, &after);
 	printf("rec %s seed %lu free %d resv %d, emptied free %d resv %d%s\n", load->name, (unsigned long)seed, (int)(at_rest >> 32),
@@ -396,11 +463,22 @@ static void read_script(FILE *in)
 	}
 }
 
+/* The number behind a word at the line's end, or 0. */
+static int option(const char *line, const char *word)
+{
+	const char *found = strstr(line, word);
+
+	return found ? atoi(found + strlen(word)) : 0;
+}
+
 static void run_line(const char *line, FILE *in)
 {
 	struct workload it = { .span = 8, .kinds = "-" };
 
 	script_length = 0;
+	it.quota = option(line, " quota ");
+	it.resizes = option(line, " resizes ");
+	it.kills = option(line, " kills ");
 	if (sscanf(line, "rec %63s %lu %lu %d %d %d %d %d %127s %d %d %lu", it.name, &it.seed, &it.count, &it.pool, &it.files, &it.tasks,
 		   &it.calls, &it.span, it.kinds, &it.prob, &it.most_us, &it.inject) != 12) {
 		it.inject = 0;
@@ -432,8 +510,7 @@ static void set_up(void)
 	device = open("/proc/hplive", O_RDWR);
 	if (device < 0)
 		printf("HARNESS the kernel has no log: %d\n", errno);
-	if (mount("none", "/h", "hugetlbfs", 0, "pagesize=2M"))
-		printf("HARNESS no hugetlbfs: %d\n", errno);
+	set_quota(0);
 	put("/proc/sys/vm/nr_overcommit_hugepages", 0);
 	barrier = mmap(NULL, 4096, PROT_READ | PROT_WRITE, MAP_SHARED | MAP_ANONYMOUS, -1, 0);
 }

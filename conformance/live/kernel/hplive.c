@@ -191,6 +191,9 @@ static long hp_ioctl(struct file *file, unsigned int cmd, unsigned long arg)
 	case 'E':
 		hp_log(HP_RET, x.a, x.b, x.c, x.d);
 		break;
+	case 'X':
+		hp_log(HP_DEAD, x.a, 0, 0, 0);
+		break;
 	case 'Z':
 		spin_lock_irq(&hugetlb_lock);
 		x.out = default_hstate.resv_huge_pages;

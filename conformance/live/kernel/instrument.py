@@ -27,31 +27,38 @@ class Source:
         original = self.path.with_name(f"{self.path.name}.orig")
         if not original.exists():
             shutil.copy(self.path, original)
-        self.text = original.read_text(encoding="utf-8")
+        self.text = self.original = original.read_text(encoding="utf-8")
 
     def has(self, text: str) -> bool:
         return text in self.text
 
-    def span(self, function: str) -> tuple[int, int] | None:
+    @staticmethod
+    def span(function: str, text: str) -> tuple[int, int] | None:
         """Where the function is defined: its name at a line's start or behind its type, its parameters, and a brace that begins a line."""
-        for found in re.finditer(rf"(?m)^[^\n;#]*\b{function}\(", self.text):
+        for found in re.finditer(rf"(?m)^[^\n;#]*\b{function}\(", text):
             depth, at = 1, found.end()
-            while depth:
-                depth += {"(": 1, ")": -1}.get(self.text[at], 0)
+            while depth and at < len(text):
+                depth += {"(": 1, ")": -1}.get(text[at], 0)
                 at += 1
-            if re.match(r"(\s*__must_hold\([^)]*\))?\s*\n\{", self.text[at:]) and found[0][0] not in " \t":
-                return found.start(), self.text.index("\n}", at)
+            if re.match(r"(\s*__must_hold\([^)]*\))?\s*\n\{", text[at:]) and found[0][0] not in " \t":
+                return found.start(), text.index("\n}", at)
         return None
+
+    def line_of(self, function: str | None) -> int:
+        """The line of the file, as it came, at which the function begins."""
+        span = self.span(function, self.original) if function else None
+        return self.original.count("\n", 0, span[0]) + 1 if span else 1
 
     def edit(self, function: str | None, pattern: str, new: str, times: int = 1) -> None:
         """Replaces each match in the function by new text, in which `\\g<0>` is the match."""
-        span = self.span(function) if function else (0, len(self.text))
+        span = self.span(function, self.text) if function else (0, len(self.text))
         if span is None:
-            self.faults.append(f"{self.name}: there is no function {function}")
+            self.faults.append(f"{self.name}: there is no function {function}, for the line {new}")
             return
         part, number = re.subn(pattern, new, self.text[span[0] : span[1]])
         if number != times:
-            self.faults.append(f"{self.name}: in {function or 'the file'} {number} matches, and not {times}, of {pattern}")
+            where = f"{self.name}:{self.line_of(function)}: {function or 'the file'}"
+            self.faults.append(f"{where}: {number} matches, and not {times}, of {pattern}, for the line {new}")
         self.text = self.text[: span[0]] + part + self.text[span[1] :]
 
     def behind(self, function: str | None, pattern: str, line: str, times: int = 1) -> None:
@@ -71,8 +78,9 @@ def region_map(file: Source) -> None:
     file.behind("region_chg", r"spin_unlock\(&resv->lock\);(?=\s*return chg)", "hp_pause(2);")
     file.behind("region_abort", r"resv->adds_in_progress -= [^;]*;", "hp_log(HP_ABORT, (u64)resv, f, t, 0);")
     file.edit("region_del", r"spin_unlock\(&resv->lock\);(?=\s*kfree\(nrg\))", r"hp_log(HP_DEL, (u64)resv, f, t, del); \g<0> hp_pause(3);")
-    file.behind("region_del", r"nrg = kmalloc\w*\([^;]*;",
-                "if (hp_inject(3)) { kfree(nrg); nrg = NULL; hp_log(HP_DELFAIL, (u64)resv, f, t, 0); }")
+    # (refused where the lock is left for the allocation: what the deletion has seen is so at this moment)
+    refuse = "if (hp_inject(3)) { hp_log(HP_DELFAIL, (u64)resv, f, t, 0); spin_unlock(&resv->lock); return -ENOMEM; }"
+    file.before("region_del", r"spin_unlock\(&resv->lock\);(?=\s*nrg = kmalloc)", refuse)
 
 
 def counts(file: Source) -> None:
@@ -81,6 +89,26 @@ def counts(file: Source) -> None:
               r"if (delta > 0) hp_log(HP_ACCT, 0, delta, ret, 0); \g<0> hp_pause(4);")
     # (it leaves the lock before it comes back, so what is given back is logged where the count is lowered)
     file.behind("return_unused_surplus_pages", r"h->resv_huge_pages -= unused_resv_pages;", "hp_log(HP_UNUSED, 0, unused_resv_pages, 0, 0);")
+
+
+def quotas(file: Source) -> None:
+    """What a mount has used of its maximum, logged under the lock of its own that this count has."""
+    file.edit("hugepage_subpool_get_pages", r"spin_unlock_irq\(&spool->lock\);",
+              r"hp_log(HP_QUOTA, 0, delta, spool->used_hpages, ret < 0); \g<0> hp_pause(40);")
+    file.edit("hugepage_subpool_put_pages", r"unlock_or_release_subpool\(spool, flags\);",
+              r"hp_log(HP_QUOTA, 0, -delta, spool->used_hpages, 0); \g<0> hp_pause(41);")
+
+
+def resizes(file: Source, page: str) -> None:
+    """A pool that grows page by page, shrinks at once, and gives up the pages that it had too many where they become free."""
+    if file.has("void prep_and_add_allocated_folios("):
+        file.behind("prep_and_add_allocated_folios", r"enqueue_hugetlb_folio\(h, folio\);", "hp_log(HP_GROW, 0, folio_pfn(folio), h->nr_huge_pages, 0);")
+    free = "free_huge_page" if file.has("void free_huge_page(struct page") else "free_huge_folio"
+    file.behind(free, r"remove_huge\w+\(h, (page|folio), true\);", f"hp_log(HP_SURPLUS, 0, {page}, restore_reserve, h->nr_huge_pages);")
+    function = "set_max_huge_pages"
+    file.before(function, r"spin_unlock_irq\(&hugetlb_lock\);(?=\s*update_and_free_pages_bulk)",
+                "hp_log(HP_SHRINK, 0, count, h->nr_huge_pages, h->surplus_huge_pages);")
+    file.before(function, r"h->max_huge_pages = persistent_huge_pages\(h\);", "hp_log(HP_RESIZED, 0, count, h->nr_huge_pages, h->surplus_huge_pages);")
 
 
 def takes(file: Source, page: str) -> None:
@@ -154,6 +182,8 @@ def hugetlb(tree: Path) -> Source:
     file.behind(None, include, "\n#include <linux/hplive.h>")
     region_map(file)
     counts(file)
+    quotas(file)
+    resizes(file, page)
     takes(file, page)
     page_cache(file, page, is_old)
     missing_pages(file, page, is_old)

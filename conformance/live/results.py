@@ -1,0 +1,106 @@
+#!/usr/bin/env python3
+"""What the recordings of one kernel show, workload by workload, in one table.
+
+usage: results.py [--program P] [--kernel NAME] [--jobs N] RECORDING ..
+
+Each recording is compared twice: with the machine alone, a punch as punches of the indices that Linux visits; and with Linux's own rows,
+those that the workload's line 'rules LETTERS' names (check.py --help lists them). Status: 0 all are whole with Linux's own rows; 1 some
+aren't; 2 the program and the Python machine disagree, or a file can't be read.
+"""
+from __future__ import annotations
+
+import argparse
+import os
+import sys
+from collections import Counter
+from dataclasses import dataclass
+from pathlib import Path
+
+import check
+from recordings import workload_file
+
+HEAD = f"{'workload':<10} {'recordings':>10} {'calls':>8} {'events':>9} {'overlaps':>8} {'alone':>6} {'rules':<11} {'whole':>6} {'wrong count at rest':>19}"
+
+
+@dataclass(frozen=True)
+class Line:
+    """One workload: what was compared with the machine alone, and with the rows of these rules."""
+
+    name: str
+    rules: str
+    alone: list[check.Checked]
+    whole: list[check.Checked]
+
+
+def rules_of(recording: Path) -> str:
+    """The rules that the workload names, or all there are."""
+    file = workload_file(recording)
+    lines = file.read_text(encoding="utf-8").splitlines() if file else []
+    named = next((line.split()[1] for line in lines if line.startswith("rules ")), None)
+    return check.letters(named) if named else "".join(check.RULES)
+
+
+def compared(recording: Path, rules: str, program: Path | None, jobs: int) -> Line:
+    words = argparse.Namespace(recordings=[recording], only=None, rules="", split=True, program=program)
+    alone = list(check.check_all(list(check.jobs_of(words)), jobs))
+    words.rules, words.split = rules, False
+    whole = list(check.check_all(list(check.jobs_of(words)), jobs))
+    return Line(recording.name.split(".")[0], rules, alone, whole)
+
+
+def row(name: str, rules: str, alone: list[check.Checked], whole: list[check.Checked]) -> str:
+    return (f"{name:<10} {len(alone):>10} {sum(it.calls for it in alone):>8} {sum(it.events for it in alone):>9} "
+            f"{sum(it.overlaps.total() for it in alone):>8} {are_whole(alone):>6} {rules:<11} {are_whole(whole):>6} "
+            f"{sum(bool(it.error) for it in alone):>19}")
+
+
+def are_whole(done: list[check.Checked]) -> int:
+    return sum(it.kind is None for it in done)
+
+
+def show_kinds(what: str, done: list[check.Checked]) -> None:
+    for kind, number in Counter(it.kind for it in done if it.kind).most_common():
+        least = min((it for it in done if it.kind == kind), key=lambda it: it.at)
+        print(f"{what}: {number} first leave it by: {kind} (smallest: {least.file.name} #{least.number}, after {least.at} events)")
+
+
+def show(lines: list[Line], kernel: str, program: Path | None) -> None:
+    print(f"{kernel}: recordings that are whole, by the machine alone and with Linux's own rows")
+    print(HEAD)
+    for it in lines:
+        print(row(it.name, it.rules, it.alone, it.whole))
+    alone, whole = ([one for it in lines for one in getattr(it, side)] for side in ("alone", "whole"))
+    print(row("all", "", alone, whole))
+    show_kinds("the machine", alone)
+    show_kinds("Linux's rows", whole)
+    for it in alone:
+        if it.disagreement:
+            print(f"{it.file} #{it.number}: THE PROGRAM DIFFERS from the Python machine: {it.disagreement}")
+    if not program:
+        print("no program was asked (--program): the Python machine alone says this, and nothing is proved of it")
+
+
+def read_words() -> argparse.Namespace:
+    words = argparse.ArgumentParser(prog="results.py", description=__doc__, formatter_class=argparse.RawDescriptionHelpFormatter)
+    words.add_argument("recordings", nargs="+", type=Path, metavar="RECORDING")
+    words.add_argument("--program", type=Path, help="the program that replays the traces of the machine alone")
+    words.add_argument("--kernel", default="Linux", metavar="NAME", help="what the table is of")
+    words.add_argument("--jobs", type=int, default=os.cpu_count() or 1, metavar="N", help="processes side by side (%(default)s)")
+    return words.parse_args()
+
+
+def main() -> int:
+    given = read_words()
+    try:
+        lines = [compared(it, rules_of(it), given.program, given.jobs) for it in given.recordings]
+    except (OSError, argparse.ArgumentTypeError) as error:
+        print(f"results.py: {error}", file=sys.stderr)
+        return 2
+    show(lines, given.kernel, given.program)
+    if any(one.disagreement for it in lines for one in it.alone):
+        return 2
+    return int(any(one.kind for it in lines for one in it.whole))
+
+
+if __name__ == "__main__":
+    sys.exit(main())
