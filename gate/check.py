@@ -16,8 +16,8 @@ usage: ./check [STEP] [..]
                      traces beside a plain program
   ./check refusals   a failed allocation, read or write at each place where programs and drivers make one, one a run, and how many
                      threads the commands start (needs cc)
-  ./check linux      what a Linux kernel answered (conformance/), recordings of its races, and the recorder, as far as it needs no
-                     kernel (needs cc)
+  ./check linux      what Linux kernels answered (conformance/), peers' tests, recordings of races, and the recorder, as far as it
+                     needs no kernel (needs cc)
   ./check quick      before a commit: the format of changed texts; proofs and tests of what changed; whether each mutant applies
 
 First it lists the commands that are missing. At the end it prints what each step took, and what was left out.
@@ -64,9 +64,12 @@ SCRIPTS = {
         "conformance/compare.py",
         "conformance/races.py",
         "conformance/live/test_check.py",
+        "conformance/live/test_instrument.py",
         "conformance/test_compare.py",
         "conformance/test_record.py",
         "conformance/test_kernel.py",
+        "conformance/test_peers.py",
+        "conformance/test_versions.py",
     ),
     "quick": ("rt check and test", "gate/documents.py"),
 }

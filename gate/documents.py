@@ -3,7 +3,8 @@
 
 A document is a file *.md outside of the crates. Looked at are the words between backquotes and the lines of commands in blocks:
 a path has to be the end of one in the repository; `./hugepool` has to have the command and its options, `./check` the step; and of a call
-`hp_frames::Bank::take` or `hp_frames::Bank::{take, free}` each name has to be declared in that crate.
+`hp_frames::Bank::take` or `hp_frames::Bank::{take, free}` each name has to be declared in that crate. In a table whose rows begin with
+crates, the calls of the last column leave the crate out: they have to be declared in one of the row's crates.
 """
 from __future__ import annotations
 
@@ -25,6 +26,7 @@ PATH = re.compile(r"[\w.*-]*(?:/[\w.*-]*)+|[\w.*-]+\.(?:md|rt|antt|rs|sh|py|c|tx
 CALL = re.compile(r"(hp_\w+)((?:::\w+)*)(?:::(?:\w+|\{([^}]*)\}))")
 COMMAND = re.compile(r"(?:^|[|;&$] *)(\./[\w./-]+|hugepool)(?= |$)([^|;&#]*)")
 OPTION = re.compile(r"--([\w-]+)")
+ROW_OF_CRATES = re.compile(r"`\w+`(?:, `\w+`)*")
 
 
 @cache
@@ -51,7 +53,7 @@ def source_of(crate: str) -> str:
 
 def is_declared(crate: str, name: str) -> bool:
     """Whether a crate declares an item, a variant or a module of this name, or hands one on."""
-    item = rf"\b(?:fn|struct|enum|trait|type|const|mod) {name}\b|^ +{name}(?:,|\(| \{{)"
+    item = rf"\b(?:fn|struct|enum|trait|type|const|mod) {name}\b|^ +{name}(?:,|\(| \{{)|^impl(?:<[^>]*>)? (?:\w+::)*{name} for"
     return bool(re.search(rf"{item}|\bpub use [^;]*\b{name}\b", source_of(crate), re.M))
 
 
@@ -66,6 +68,21 @@ def call_faults(text: str) -> Iterator[str]:
         for name in (it.strip() for it in names):
             if re.fullmatch(r"\w+", name) and not is_declared(crate, name):
                 yield f"{crate} declares no {name}"
+
+
+def table_faults(text: str) -> Iterator[str]:
+    """The names in the last column of a table of crates that none of the row's crates declares. A row without a crate goes on with those
+    of the row before."""
+    crates: list[str] = []
+    for line in text.splitlines():
+        cells = [it.strip() for it in line.strip("| ").split(" | ")] if line.startswith("| ") else []
+        if line.startswith("| |"):
+            cells = ["", *cells]
+        if len(cells) != 3 or cells[0]:
+            crates = [it for it in re.findall(r"\w+", cells[0]) if it in crates_of(TOP)] if cells and ROW_OF_CRATES.fullmatch(cells[0]) else []
+        for name in re.findall(r"[A-Za-z]\w*", " ".join(re.findall(r"`([^`]+)`", cells[2]))) if crates and len(cells) == 3 else []:
+            if not any(is_declared(it, name) for it in crates):
+                yield f"{', '.join(crates)}: none declares {name}"
 
 
 def command_faults(line: str) -> Iterator[str]:
@@ -100,6 +117,7 @@ def faults_in(text: str) -> Iterator[str]:
         yield from call_faults(span)
         if PATH.fullmatch(span) and not (span.startswith(ELSEWHERE) or span.endswith("/out") or is_path(span)):
             yield f"there is no {span}"
+    yield from table_faults(text)
     for line in text.splitlines():
         if line.startswith(("    ./", "    $ ./", "./", "$ ./")):
             yield from command_faults(line.strip().removeprefix("$ "))
@@ -112,6 +130,8 @@ WRONG = """`docs/NOT_THERE.md` `hp_frames::Bank::not_there` `hp_not_there::Bank`
     ./hugepool replay < examples/not-there.trace
     ./check not_there
     ./bench/not-there.sh
+| `hp_frames`, `hp_table` | A promise. | `Bank::{take, not_here}` |
+| | Another. | calls of `Space`; `not_here_either` |
 """
 
 
@@ -119,7 +139,7 @@ def main() -> int:
     documents = [file for file in map(TOP.joinpath, paths()) if file.suffix == ".md" and "crates" not in file.relative_to(TOP).parts]
     faults = [f"{file.relative_to(TOP)}: {it}" for file in sorted(documents) for it in faults_in(file.read_text(encoding="utf-8"))]
     noticed = len(list(faults_in(WRONG)))
-    faults += [] if noticed == 9 else [f"of nine wrong names {noticed} are noticed"]
+    faults += [] if noticed == 11 else [f"of eleven wrong names {noticed} are noticed"]
     print("".join(f"  {it}\n" for it in faults), end="")
     print(f"documents: {len(documents) + 1 - len({it.split(':')[0] for it in faults})} passed, {len(faults)} failed")
     return 1 if faults else 0

@@ -4,7 +4,7 @@
 The race has to be closed, and so has one whose journal is cut. Of a third one the trace is read: the begins of each task are the
 script's calls of that task, in their order up to its exit, and a replay of it blocks and refuses nothing and ends with no call in
 flight. A trace that lacks a line of those, or in which two of one task are swapped, is told. (A script has no kills: those of
-`crates/hp_soak_tests` are made through the library.)
+`crates/hp_pool_tests` are made through the library.)
 """
 from __future__ import annotations
 

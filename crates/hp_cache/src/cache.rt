@@ -3,6 +3,7 @@ ghost use Rattle.std.specs.Prelude.{◌≡◌, ◌<◌, ◌≤◌, OnOk, OnErr, 
 ghost use Rattle.std.specs.FinMap as map;
 ghost use Rattle.hp_base.specs.Indices.{count_below};
 ghost use Rattle.hp_base.specs.Pages.{IsPagesEnd};
+ghost use Rattle.hp_chunks.specs.Framed.{no_chunks, NoMoreChunks};
 
 use hp_base::{Frame, Index, LIMIT};
 use hp_chunks::{FrameMap, PLACES};
@@ -32,7 +33,7 @@ impl PageCache {
     /// The cache of a file with no page.
     pub fn new(alloc: Global) -> Self
         ensures pages { result.pages ≡ map.empty }
-        ensures room { result.room ≡ 0 }
+        ensures room { result.room ≡ no_chunks }
     {
         PageCache {
             frames: FrameMap::new(alloc),
@@ -62,7 +63,7 @@ impl PageCache {
         requires present { IsSome (map.get self.old.pages index) }
         ensures frame { map.get self.old.pages index ≡ Some result }
         ensures pages { self.new.pages ≡ map.remove self.old.pages index }
-        ensures room { self.new.room ≤ self.old.room }
+        ensures room { NoMoreChunks self.new.room self.old.room }
     {
         self.frames.remove(index.number())
     }

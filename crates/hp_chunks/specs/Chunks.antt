@@ -7,7 +7,7 @@ use Rattle.std.specs.Ordering.{nat_cmp}
 use Rattle.std.specs.FinMap as finite
 use Rattle.std.specs.Option.{option_map}
 use Rattle.hp_chunks.specs.declared.chunk.TheConstants.{PLACES}
-use Rattle.hp_chunks.specs.Framed.{Framed}
+use Rattle.hp_chunks.specs.Framed.{ChunkRoom, Framed}
 
 -- the frame of each place of a chunk, where it has one
 abbrev pub Places : Type 0
@@ -52,9 +52,9 @@ AreCopies copies chunks = map places_of copies ≡ map places_of chunks
 unfoldable pub frame_of : List Slot → ℕ → Option ℕ
 frame_of chunks number = frame_in (slice_index_or chunks (number / PLACES) None) (number % PLACES)
 
--- for how many places there is memory: for those of the chunks that are there, and for chunks to be listed
-abbrev pub room_of : List Slot → ℕ → ℕ
-room_of chunks capacity = PLACES * count_by is_some chunks + capacity
+-- the memory of the chunks that are there, and of their list
+abbrev pub room_of : List Slot → (capacity : ℕ) → ChunkRoom
+room_of chunks capacity = record { chunks = count_by is_some chunks; listed = capacity }
 
 -- a map with the value of a key, where it has one
 abbrev pub with_value : finite.FinMap nat_cmp ℕ → ℕ → Option ℕ → finite.FinMap nat_cmp ℕ

@@ -4,7 +4,7 @@ ghost use Rattle.std.specs.FinMap as map;
 ghost use Rattle.std.specs.Iterator.{YieldsFirst, item_count};
 ghost use Rattle.hp_base.specs.Indices.{count_below};
 ghost use Rattle.hp_base.specs.Pages.{IsPagesEnd};
-ghost use Rattle.hp_chunks.specs.Framed.{IsFirstWithin};
+ghost use Rattle.hp_chunks.specs.Framed.{no_chunks, NoMoreChunks, IsFirstWithin};
 
 use crate::chunk::{Chunk, PLACES, first_in, take_from};
 use crate::chunk_list::{copy_all, put_at};
@@ -50,7 +50,7 @@ impl<const CHUNKS: usize> FrameMap<CHUNKS> {
     pub fn new(alloc: Global) -> Self
         requires { CHUNKS * PLACES ≤ 2 ^ 31 }
         ensures frames { result.frames ≡ map.empty }
-        ensures room { result.room ≡ 0 }
+        ensures room { result.room ≡ no_chunks }
     {
         FrameMap {
             chunks: Vec::new(alloc),
@@ -86,7 +86,7 @@ impl<const CHUNKS: usize> FrameMap<CHUNKS> {
         requires present { IsSome (map.get self.old.frames number) }
         ensures frame { map.get self.old.frames number ≡ Some result }
         ensures frames { self.new.frames ≡ map.remove self.old.frames number }
-        ensures room { self.new.room ≤ self.old.room }
+        ensures room { NoMoreChunks self.new.room self.old.room }
     {
         let number = number as usize;
         let frame = take_from(&mut self.chunks[number / PLACES], number % PLACES);

@@ -35,7 +35,7 @@ use Rattle.hp_audit.specs.declared.picture.Picture.{Picture}
 use Rattle.hp_audit.specs.Findings.{IsFileShaped, IsShaped, Agrees, IsOnePlace, IsBelow, IsCounted, IsUsedCounted, IsRight, times_in, pages_in}
 use Rattle.hp_audit.specs.Findings.{place_count, is_vacant, vacant_of, vacant_in, reserved_of, reserved_in, has_page}
 use Rattle.hp_audit.proofs.Counts.{counts as passed, counted, counted_in}
-use Rattle.hp_fault.specs.View.{no_file, pages_of}
+use Rattle.hp_parts.specs.View.{no_file, pages_of}
 use Rattle.hp_core.specs.State.{CoreState, as_state}
 use Rattle.hp_machine.specs.Events.{IsReached}
 use Rattle.hp_core.specs.Runs.{Headline}

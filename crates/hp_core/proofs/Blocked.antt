@@ -22,9 +22,9 @@ use Rattle.hp_machine.specs.declared.call.Turn.{Turn}
 use Rattle.hp_machine.specs.declared.call.Turn.TheVariants.{Moved, Blocked, Ended}
 use Rattle.hp_laws.specs.Bounds.{HoldsUp}
 use Rattle.hp_laws.proofs.Waiting.{blocked_by_holder}
-use Rattle.hp_fault.specs.State.{PartsState}
-use Rattle.hp_fault.specs.View.{pool_of}
-use Rattle.hp_fault.specs.Turns.{IfBlocked, IfWanting}
+use Rattle.hp_parts.specs.State.{PartsState}
+use Rattle.hp_parts.specs.View.{pool_of}
+use Rattle.hp_parts.specs.Turns.{IfBlocked, IfWanting}
 use Rattle.hp_core.specs.declared.seat.Seat.{Seat}
 use Rattle.hp_core.specs.State.{CoreState, seat_at, as_state, state_with, calls_of}
 use Rattle.hp_core.specs.Fits.{EventFits}

@@ -18,8 +18,8 @@ use Rattle.hp_frames.specs.declared.frame.FrameState.{FrameState}
 use Rattle.hp_frames.specs.declared.frame.FrameState.TheVariants.{Hand}
 use Rattle.hp_table.specs.Table.{Table}
 use Rattle.hp_region.specs.declared.region.Region.{Region}
-use Rattle.hp_fault.proofs.Laws.{frame_at_is}
-use Rattle.hp_fault.specs.View.{no_table, table_of}
+use Rattle.hp_parts.proofs.Laws.{frame_at_is}
+use Rattle.hp_parts.specs.View.{no_table, table_of}
 use Rattle.hp_core.specs.Copies.{translations, all_translations}
 
 -- a frame that isn't there counts as one in a hand

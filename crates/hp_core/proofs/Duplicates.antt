@@ -20,13 +20,13 @@ use Rattle.hp_machine.specs.State.{State}
 use Rattle.hp_machine.specs.Events.{IsReached, IsReachedFrom}
 use Rattle.hp_machine.specs.declared.call.Call.{Call}
 use Rattle.hp_laws.specs.Protocol.{IsAtRest, HoldsNothing}
-use Rattle.hp_fault.specs.declared.parts.FileState.{FileState}
-use Rattle.hp_fault.specs.State.{PartsState}
-use Rattle.hp_fault.specs.View.{no_file, no_table, table_of, holders_of, sizes_of, pendings_of, spares_of, sets_of, pages_of}
-use Rattle.hp_fault.specs.View.{ready_by_task, mappings_by_task, entries_of, pool_of, geometry_of}
+use Rattle.hp_parts.specs.declared.parts.FileState.{FileState}
+use Rattle.hp_parts.specs.State.{PartsState}
+use Rattle.hp_parts.specs.View.{no_file, no_table, table_of, holders_of, sizes_of, pendings_of, spares_of, sets_of, pages_of}
+use Rattle.hp_parts.specs.View.{ready_by_task, mappings_by_task, entries_of, pool_of, geometry_of}
 use Rattle.hp_core.specs.declared.seat.Seat.{Seat}
 use Rattle.hp_core.specs.Duplicates.{IsSameFile, IsSameTable}
-use Rattle.hp_core.specs.Readers.{calls_of as calls_in, entries_of as entries_told}
+use Rattle.hp_core.specs.Readers.{calls_of as calls_in}
 use Rattle.hp_core.specs.Sound.{IsSound, IsKept}
 use Rattle.hp_core.specs.State.{CoreState, as_state, calls_of, lives_of, no_seat, state_with}
 use Rattle.hp_core.proofs.Headlines.{reached_of}
@@ -135,10 +135,6 @@ module _ (p q : PartsState) (same : AreSame p q) where
     entries = entries_same i;
   }
 
-  -- how many pages of each task are translated
-  pub counts_same : (t : ℕ) → map.len (table_of q.spaces t).entries ≡ map.len (table_of p.spaces t).entries
-  counts_same t = ap (λ (x : Table). map.len x.entries) (table_at t)
-
 -- told part by part
 pub are_same : (p q : PartsState) (files : List FileState) (spaces : List Table) → q.bank ≡ record p.bank { room = q.bank.room }
     → files ≡ p.files → AllZip IsSameFile files q.files → q.slots ≡ p.slots → q.locks ≡ p.locks
@@ -232,11 +228,7 @@ can_copy law s seen e sound none =
       calls = calls;
     }
 
--- its readers tell the same
-pub entries_counted : (s c : CoreState) → AreSame s.parts c.parts → entries_told c ≡ entries_told s
-unfolding entries_told
-entries_counted s c same = fun_ext (λ t. counts_same s.parts c.parts same t)
-
+-- as many calls are counted
 pub calls_counted : (s c : CoreState) → c.seats ≡ s.seats → calls_in c ≡ calls_in s
 unfolding calls_in
 calls_counted s c seats = ap (λ (xs : List Seat). count_by (λ (seat : Seat). is_some seat.call) xs) seats

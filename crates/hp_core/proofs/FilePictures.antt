@@ -11,8 +11,8 @@ use Rattle.hp_region.specs.Regions.{is_member, IsApartFrom}
 use Rattle.hp_region.specs.declared.region.Region.{Region}
 use Rattle.hp_audit.specs.Findings.{is_reserved}
 use Rattle.hp_audit.specs.declared.picture.FilePicture.{FilePicture}
-use Rattle.hp_fault.specs.declared.parts.FileState.{FileState}
-use Rattle.hp_fault.specs.View.{no_file, sizes_of, sets_of, pages_of, holders_of}
+use Rattle.hp_parts.specs.declared.parts.FileState.{FileState}
+use Rattle.hp_parts.specs.View.{no_file, sizes_of, sets_of, pages_of, holders_of}
 use Rattle.hp_slots.specs.Holders.{holder_of}
 use Rattle.hp_core.specs.State.{CoreState, as_state}
 use Rattle.hp_core.specs.Copies.{IsCopy}

@@ -28,7 +28,8 @@ use Rattle.hp_machine.specs.declared.call.Call.TheVariants as call
 use Rattle.hp_laws.proofs.Meets.{caller_there, entry_placed, has_page, held_there, pending_spared, pending_there, settles}
 use Rattle.hp_laws.proofs.Meets.{stands, used_few, map_misses_few}
 use Rattle.hp_laws.proofs.Standing.{below_limit}
-use Rattle.hp_fault.specs.Fits.{MapFits, TouchFits, AllocFits, IsPage}
+use Rattle.hp_parts.specs.Fits.{IsPage}
+use Rattle.hp_fault.specs.Fits.{MapFits, TouchFits, AllocFits}
 use Rattle.hp_remove.specs.Fits.{PunchFits, TruncateFits, UnmapFits, ExitFits, IsCleared}
 use Rattle.hp_core.specs.State.{CoreState, seat_at, calls_of, as_state}
 use Rattle.hp_core.specs.Fits.{CallFits, EventFits}

@@ -22,10 +22,10 @@ use Rattle.hp_table.specs.Table.{Table}
 use Rattle.hp_machine.specs.Events as rows
 use Rattle.hp_machine.specs.declared.call.Call.{Call}
 use Rattle.hp_machine.specs.declared.outcome.Life.TheVariants as life
-use Rattle.hp_fault.specs.declared.parts.FileState.{FileState}
-use Rattle.hp_fault.specs.State.{PartsState}
-use Rattle.hp_fault.specs.View.{no_file, no_table, table_of, holders_of, sizes_of, pendings_of, spares_of, sets_of, pages_of}
-use Rattle.hp_fault.specs.View.{ready_by_task, mappings_by_task, entries_of, geometry_of}
+use Rattle.hp_parts.specs.declared.parts.FileState.{FileState}
+use Rattle.hp_parts.specs.State.{PartsState}
+use Rattle.hp_parts.specs.View.{no_file, no_table, table_of, holders_of, sizes_of, pendings_of, spares_of, sets_of, pages_of}
+use Rattle.hp_parts.specs.View.{ready_by_task, mappings_by_task, entries_of, geometry_of}
 use Rattle.hp_core.specs.declared.seat.Seat.{Seat}
 use Rattle.hp_core.specs.State.{seat_at, no_seat, calls_of, lives_of, state_with}
 use Rattle.hp_core.specs.Opening.{IsFresh, IsVacant}

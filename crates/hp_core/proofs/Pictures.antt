@@ -9,8 +9,8 @@ use Rattle.hp_slots.specs.Holders.{holder_of}
 use Rattle.hp_machine.specs.Views.{hand}
 use Rattle.hp_machine.specs.declared.call.Call.{Call}
 use Rattle.hp_audit.specs.declared.picture.Picture.{Picture}
-use Rattle.hp_fault.specs.View.{no_file}
-use Rattle.hp_fault.proofs.Laws.{free_frames_is}
+use Rattle.hp_parts.specs.View.{no_file}
+use Rattle.hp_parts.proofs.Laws.{free_frames_is}
 use Rattle.hp_core.specs.declared.seat.Seat.{Seat}
 use Rattle.hp_core.specs.State.{CoreState, as_state}
 use Rattle.hp_core.specs.Sound.{IsSound}

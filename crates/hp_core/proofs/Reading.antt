@@ -6,8 +6,8 @@ use Rattle.std.proofs.lemmas.Bool.Decides.{nat_tests}
 use Rattle.std.proofs.lemmas.List.{get_or_default}
 use Rattle.hp_base.specs.Limits.{IsWithinLimits}
 use Rattle.hp_machine.specs.Resizes.{is_size}
-use Rattle.hp_fault.specs.declared.parts.FileState.{FileState}
-use Rattle.hp_fault.specs.View.{no_file, no_table, table_of}
+use Rattle.hp_parts.specs.declared.parts.FileState.{FileState}
+use Rattle.hp_parts.specs.View.{no_file, no_table, table_of}
 use Rattle.hp_table.specs.Table.{Table}
 use Rattle.hp_core.specs.declared.seat.Seat.{Seat}
 use Rattle.hp_core.specs.State.{CoreState, seat_at, no_seat}

@@ -12,9 +12,9 @@ use Rattle.hp_machine.specs.Resizes.{is_size, ResizeRow, Retires, surplus}
 use Rattle.hp_machine.specs.State.{active_frames, actives}
 use Rattle.hp_machine.specs.declared.outcome.Outcome.TheVariants as outcome
 use Rattle.hp_machine.specs.declared.outcome.Refusal.TheVariants as refusal
-use Rattle.hp_fault.specs.State.{PartsState}
-use Rattle.hp_fault.specs.View.{pool_of}
-use Rattle.hp_fault.proofs.Laws.{free_frames_is}
+use Rattle.hp_parts.specs.State.{PartsState}
+use Rattle.hp_parts.specs.View.{pool_of}
+use Rattle.hp_parts.proofs.Laws.{free_frames_is}
 use Rattle.hp_core.proofs.Seats.{at_true, at_false}
 
 -- the bank's count of active frames is the machine's

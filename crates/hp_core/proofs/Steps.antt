@@ -8,8 +8,8 @@ use Rattle.hp_machine.specs.State.{Geometry, State, is_dead}
 use Rattle.hp_machine.specs.Events as rows
 use Rattle.hp_machine.specs.declared.outcome.Outcome.{Outcome}
 use Rattle.hp_laws.proofs.Runs.{always, measures_stay}
-use Rattle.hp_fault.specs.State.{PartsState, SizesStay}
-use Rattle.hp_fault.specs.View.{geometry_of, pool_of}
+use Rattle.hp_parts.specs.State.{PartsState, SizesStay}
+use Rattle.hp_parts.specs.View.{geometry_of, pool_of}
 use Rattle.hp_core.specs.declared.seat.Seat.{Seat}
 use Rattle.hp_core.specs.State.{CoreState, seat_at, state_with, as_state}
 use Rattle.hp_core.specs.Fits.{EventFits}

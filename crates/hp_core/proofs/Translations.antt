@@ -21,7 +21,7 @@ use Rattle.hp_table.proofs.Counts.{count_by-find}
 use Rattle.hp_table.proofs.Mapped.{found_in_space}
 use Rattle.hp_table.proofs.PageTable.{is_sorted-Rises}
 use Rattle.hp_laws.proofs.Runs.{always}
-use Rattle.hp_fault.specs.View.{table_of, mappings_by_task, entries_of}
+use Rattle.hp_parts.specs.View.{table_of, mappings_by_task, entries_of}
 use Rattle.hp_core.specs.State.{CoreState, as_state}
 use Rattle.hp_core.specs.Sound.{IsSound}
 use Rattle.hp_core.specs.Copies.{translation, translations, all_translations}

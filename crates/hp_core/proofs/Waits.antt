@@ -41,8 +41,8 @@ use Rattle.hp_machine.specs.declared.exit.ExitPhase.TheVariants as exit
 use Rattle.hp_machine.specs.declared.outcome.Outcome.{Outcome}
 use Rattle.hp_machine.specs.declared.outcome.Outcome.TheVariants as outcome
 use Rattle.hp_slots.specs.Holders.{slot_number}
-use Rattle.hp_fault.specs.State.{PartsState, IsSized}
-use Rattle.hp_fault.specs.View.{pool_of, holders_of, sizes_of, pages_of, entries_of}
+use Rattle.hp_parts.specs.State.{PartsState, IsSized}
+use Rattle.hp_parts.specs.View.{pool_of, holders_of, sizes_of, pages_of, entries_of}
 use Rattle.hp_core.specs.State.{CoreState, seat_at, calls_of, lives_of, as_state}
 use Rattle.hp_core.specs.Sound.{IsSound}
 use Rattle.hp_core.specs.Runs.{Row}

@@ -15,7 +15,7 @@ use Rattle.hp_machine.specs.declared.punch.PunchPhase.{PunchPhase}
 use Rattle.hp_machine.specs.declared.punch.PunchPhase.TheVariants as punch
 use Rattle.hp_machine.specs.declared.truncate.TruncatePhase.{TruncatePhase}
 use Rattle.hp_machine.specs.declared.truncate.TruncatePhase.TheVariants as truncate
-use Rattle.hp_fault.specs.State.{PartsState}
+use Rattle.hp_parts.specs.State.{PartsState}
 use Rattle.hp_core.specs.declared.seat.Seat.{Seat}
 
 -- the range is empty, or ends above the limit of a file

@@ -8,8 +8,8 @@ use Rattle.hp_base.specs.Mappings.{find}
 use Rattle.hp_region.specs.Regions.{IsApartFrom}
 use Rattle.hp_table.specs.Table.{Table}
 use Rattle.hp_audit.specs.declared.picture.FilePicture.{FilePicture}
-use Rattle.hp_fault.specs.declared.parts.FileState.{FileState}
-use Rattle.hp_fault.specs.View.{table_of}
+use Rattle.hp_parts.specs.declared.parts.FileState.{FileState}
+use Rattle.hp_parts.specs.View.{table_of}
 
 -- the picture copies that file, whose lock is taken or not
 pub record IsCopy (file : FileState) (taken : Bool) (p : FilePicture) : Type 0 where

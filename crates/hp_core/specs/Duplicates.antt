@@ -1,7 +1,7 @@
 -- What is the same in a copy.
 use Rattle.std.specs.Prelude.{◌≡◌}
 use Rattle.hp_table.specs.Table.{Table}
-use Rattle.hp_fault.specs.declared.parts.FileState.{FileState}
+use Rattle.hp_parts.specs.declared.parts.FileState.{FileState}
 
 -- the same file, whatever memory its map and its cache have taken
 abbrev pub IsSameFile : FileState → FileState → Type 0

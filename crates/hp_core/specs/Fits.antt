@@ -6,8 +6,8 @@ use Rattle.hp_machine.specs.declared.call.Call.{Call}
 use Rattle.hp_machine.specs.declared.call.Call.TheVariants as call
 use Rattle.hp_fault.specs.Fits.{MapFits, TouchFits, AllocFits}
 use Rattle.hp_remove.specs.Fits.{PunchFits, TruncateFits, UnmapFits, ExitFits}
-use Rattle.hp_fault.specs.State.{PartsState, IsSized}
-use Rattle.hp_fault.specs.View.{pool_of}
+use Rattle.hp_parts.specs.State.{PartsState, IsSized}
+use Rattle.hp_parts.specs.View.{pool_of}
 use Rattle.hp_core.specs.declared.seat.Seat.{Seat}
 use Rattle.hp_core.specs.State.{seat_at}
 

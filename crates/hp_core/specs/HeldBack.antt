@@ -10,7 +10,7 @@ use Rattle.hp_machine.specs.declared.outcome.Outcome.{Outcome}
 use Rattle.hp_machine.specs.declared.outcome.Outcome.TheVariants.{Refused, Blocked}
 use Rattle.hp_machine.specs.declared.outcome.Refusal.{Refusal}
 use Rattle.hp_machine.specs.declared.outcome.Refusal.TheVariants.{NotAlive, InCall, Idle, BadSize}
-use Rattle.hp_fault.specs.State.{PartsState}
+use Rattle.hp_parts.specs.State.{PartsState}
 use Rattle.hp_core.specs.declared.seat.Seat.{Seat}
 use Rattle.hp_core.specs.Blockers.{task_blocker}
 use Rattle.hp_core.specs.State.{CoreState, seat_at}

@@ -11,6 +11,7 @@ pub mod RunLaws
 pub mod Runs
 pub mod Seats
 pub mod Sound
+pub mod Standing
 pub mod State
 pub mod Turns
 pub mod Waiting

@@ -2,7 +2,7 @@
 use Rattle.std.specs.Prelude.{◌≡◌, None, []}
 use Rattle.std.specs.FinMap.{empty}
 use Rattle.hp_machine.specs.declared.outcome.Life.TheVariants.{Alive}
-use Rattle.hp_fault.specs.declared.parts.FileState.{FileState}
+use Rattle.hp_parts.specs.declared.parts.FileState.{FileState}
 use Rattle.hp_core.specs.declared.seat.Seat.{Seat}
 
 -- an empty file, with no reservation and no page

@@ -1,17 +1,15 @@
 -- The numbers of a core, in the machine's words.
 use Rattle.std.specs.Prelude.{ℕ, ℤ, pos, ◌-ℤ◌, Option, length, count_by, is_some}
 use Rattle.std.specs.Option.{option_map}
-use Rattle.std.specs.FinMap as map
 use Rattle.hp_base.specs.Numbers.{total}
 use Rattle.hp_base.specs.Indices.{count_below, region_count}
 use Rattle.hp_base.specs.Text.{Sizes}
-use Rattle.hp_base.specs.declared.limits.TheConstants.{LIMIT}
+use Rattle.hp_base.specs.declared.limits.TheConstants.{LIMIT, VPNS}
 use Rattle.hp_machine.specs.State.{active_frames, free_frames}
 use Rattle.hp_machine.specs.Events.{word_of}
 use Rattle.hp_machine.specs.Headline.{all_less, all_more, all_used_owed}
 use Rattle.hp_machine.specs.declared.outcome.Life.{Life}
 use Rattle.hp_machine.specs.declared.phase.Phase.{Phase}
-use Rattle.hp_fault.specs.View.{table_of}
 use Rattle.hp_core.specs.State.{CoreState, as_state}
 
 -- the numbers of its config
@@ -81,7 +79,7 @@ mappings_of s t = length ((as_state s).mappings t)
 
 -- how many virtual pages of the task are translated
 unfoldable pub entries_of : CoreState → (task : ℕ) → ℕ
-entries_of s t = map.len (table_of s.parts.spaces t).entries
+entries_of s t = count_below (λ v. is_some ((as_state s).entries t v)) VPNS
 
 -- the frame that a virtual page of the task is translated to, if it is
 unfoldable pub translation_of : CoreState → (task vpn : ℕ) → Option ℕ

@@ -13,9 +13,9 @@ use Rattle.hp_machine.specs.Wants.{Wants}
 use Rattle.hp_machine.specs.declared.outcome.Outcome.{Outcome}
 use Rattle.hp_machine.specs.declared.outcome.Outcome.TheVariants as outcome
 use Rattle.hp_base.specs.declared.limits.TheConstants.{LIMIT, VPNS}
-use Rattle.hp_fault.specs.Room.{RoomStays}
-use Rattle.hp_fault.specs.State.{PartsState}
-use Rattle.hp_fault.specs.View.{pool_of}
+use Rattle.hp_parts.specs.Room.{RoomStays}
+use Rattle.hp_parts.specs.State.{PartsState}
+use Rattle.hp_parts.specs.View.{pool_of}
 use Rattle.hp_core.specs.declared.seat.Seat.{Seat}
 use Rattle.hp_core.specs.State.{CoreState, as_state, seat_at}
 

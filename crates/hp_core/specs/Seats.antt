@@ -12,9 +12,9 @@ use Rattle.hp_base.specs.declared.event.Event.{Event}
 use Rattle.hp_base.specs.declared.event.Event.TheVariants.{Begin, Step, Kill, Resize}
 use Rattle.hp_machine.specs.Resizes.{ResizeRow}
 use Rattle.hp_machine.specs.Standings.{standing}
-use Rattle.hp_fault.specs.Turns.{IfWanting}
-use Rattle.hp_fault.specs.State.{PartsState}
-use Rattle.hp_fault.specs.View.{pool_of}
+use Rattle.hp_parts.specs.Turns.{IfWanting}
+use Rattle.hp_parts.specs.State.{PartsState}
+use Rattle.hp_parts.specs.View.{pool_of}
 use Rattle.hp_core.specs.declared.seat.Seat.{Seat}
 use Rattle.hp_core.specs.State.{seat_at}
 use Rattle.hp_core.specs.Turns.{IfToldRefused, life_after}

@@ -2,7 +2,7 @@
 use Rattle.std.specs.Prelude.{◌≡◌, length}
 use Rattle.hp_base.specs.Limits.{IsWithinLimits}
 use Rattle.hp_machine.specs.Events.{IsReachedFrom}
-use Rattle.hp_fault.specs.State.{IsSized}
+use Rattle.hp_parts.specs.State.{IsSized}
 use Rattle.hp_core.specs.State.{CoreState, as_state}
 
 -- what the machine doesn't see

@@ -5,8 +5,8 @@ use Rattle.hp_machine.specs.State.{State}
 use Rattle.hp_machine.specs.declared.call.Call.{Call}
 use Rattle.hp_machine.specs.declared.outcome.Life.{Life}
 use Rattle.hp_machine.specs.declared.outcome.Life.TheVariants.{Dead}
-use Rattle.hp_fault.specs.State.{PartsState}
-use Rattle.hp_fault.specs.View.{pool_of}
+use Rattle.hp_parts.specs.State.{PartsState}
+use Rattle.hp_parts.specs.View.{pool_of}
 use Rattle.hp_core.specs.declared.seat.Seat.{Seat}
 
 -- the numbers of its config, what its parts keep, the seat of each task, and for how many seats it has taken memory

@@ -9,9 +9,9 @@ use crate::events::step_event;
 use crate::opening::{new_files, new_seats, new_spaces};
 use crate::seat::Seat;
 use hp_base::{Config, Event};
-use hp_fault::Parts;
 use hp_frames::Bank;
 use hp_machine::Outcome;
+use hp_parts::Parts;
 use hp_slots::SlotTable;
 use std::alloc::{AllocError, Global};
 use std::marker::Model;
@@ -30,7 +30,7 @@ impl Model for Core {
     ghost use Rattle.std.specs.FinMap as map;
     ghost use Rattle.std.specs.Ordering.{nat_cmp};
     ghost use Rattle.hp_base.specs.Text.{sizes};
-    ghost use Rattle.hp_fault.specs.State.{state_of};
+    ghost use Rattle.hp_parts.specs.State.{state_of};
     ghost use Rattle.hp_core.specs.State.{CoreState};
     ghost use Rattle.hp_core.specs.Sound.{IsSound};
 

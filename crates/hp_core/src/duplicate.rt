@@ -2,12 +2,12 @@
 ghost use Rattle.std.specs.Prelude.{◌≡◌, IfOk, None, All};
 ghost use Rattle.std.specs.List.{AllZip};
 ghost use Rattle.hp_core.specs.Duplicates.{IsSameFile, IsSameTable};
-ghost use Rattle.hp_core.specs.Readers.{calls_of, config_of, entries_of};
+ghost use Rattle.hp_core.specs.Readers.{calls_of, config_of};
 ghost use Rattle.hp_core.specs.State.{as_state};
 
 use crate::core_state::Core;
 use crate::seat::Seat;
-use hp_fault::{FileState, Parts};
+use hp_parts::{FileState, Parts};
 use hp_table::Space;
 use std::alloc::{AllocError, Global};
 
@@ -73,7 +73,6 @@ impl Core {
 
         // Frames, words, reserve maps, pages, mappings, translations, lives and counts are the same.
         ensures state { IfOk result (λ copy. as_state copy ≡ as_state self.now) }
-        ensures entries { IfOk result (λ copy. entries_of copy ≡ entries_of self.now) }
         ensures calls { IfOk result (λ copy. calls_of copy ≡ 0) }
         ensures config { IfOk result (λ copy. config_of copy ≡ config_of self.now) }
     {

@@ -3,9 +3,9 @@ ghost use Rattle.std.specs.Prelude.{◌≡◌, true, IfOk, IfSome, OnErr, length
 ghost use Rattle.hp_machine.specs.State as machine;
 ghost use Rattle.hp_machine.specs.Events as rows;
 ghost use Rattle.hp_machine.specs.Wants.{Wants};
-ghost use Rattle.hp_fault.specs.State.{state_of, SizesStay};
-ghost use Rattle.hp_fault.specs.Room.{RoomStays, RoomStaysUnless};
-ghost use Rattle.hp_fault.specs.View.{view};
+ghost use Rattle.hp_parts.specs.State.{state_of, SizesStay};
+ghost use Rattle.hp_parts.specs.Room.{RoomStays, RoomStaysUnless};
+ghost use Rattle.hp_parts.specs.View.{view};
 ghost use Rattle.hp_core.specs.Fits.{EventFits, StepFits};
 ghost use Rattle.hp_core.specs.Seats.{BeginSeats, StepSeats, KillSeats, EventSeats, BlockedStays};
 ghost use Rattle.hp_core.specs.Turns.{IfToldBlocked};
@@ -16,7 +16,6 @@ ghost use Rattle.hp_core.specs.Runs.{StepWants, WantsGrowth};
 use crate::resizing::resize;
 use crate::seat::{Seat, is_dead, is_killed, step_seat};
 use hp_base::{Event, File, Index, Op, Task, Vpn};
-use hp_fault::Parts;
 use hp_machine::alloc::{AllocPhase, Allocation};
 use hp_machine::exit::ExitPhase;
 use hp_machine::map::{MapPhase, MapRequest};
@@ -25,6 +24,7 @@ use hp_machine::touch::{Access, Look, TouchPhase};
 use hp_machine::truncate::{TruncatePhase, Truncation};
 use hp_machine::unmap::UnmapPhase;
 use hp_machine::{Call, Life, Outcome, Refusal, alloc, map, punch, truncate, unmap};
+use hp_parts::Parts;
 use std::alloc::AllocError;
 
 // Where a call of the operation begins.

@@ -22,6 +22,7 @@ mod resizing;
 pub mod run;
 mod run_laws;
 pub mod seat;
+mod standing;
 pub mod waiting;
 pub mod wanting;
 pub mod words;

@@ -2,12 +2,12 @@
 ghost use Rattle.std.specs.Prelude.{◌≡◌, IfOk, All, length};
 ghost use Rattle.hp_core.specs.Opening.{IsFresh, IsVacant};
 ghost use Rattle.hp_core.specs.State.{CoreState};
-ghost use Rattle.hp_fault.specs.View.{no_table};
+ghost use Rattle.hp_parts.specs.View.{no_table};
 
 use crate::seat::Seat;
 use hp_cache::PageCache;
-use hp_fault::FileState;
 use hp_machine::Life;
+use hp_parts::FileState;
 use hp_region::RegionMap;
 use hp_table::Space;
 use std::alloc::{AllocError, Global};

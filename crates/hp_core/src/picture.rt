@@ -8,7 +8,7 @@ ghost use Rattle.hp_region.specs.Regions.{IsApartFrom};
 ghost use Rattle.hp_slots.specs.Holders.{holder_of};
 ghost use Rattle.hp_audit.specs.Findings.{IsRight};
 ghost use Rattle.hp_audit.specs.declared.picture.FilePicture.{FilePicture};
-ghost use Rattle.hp_fault.specs.View.{no_file};
+ghost use Rattle.hp_parts.specs.View.{no_file};
 ghost use Rattle.hp_core.specs.Copies.{IsCopy, translations, all_translations};
 ghost use Rattle.hp_core.specs.Pictures.{IsPicture};
 
@@ -16,8 +16,8 @@ use crate::core_state::Core;
 use crate::hands::hands;
 use hp_audit::{FilePicture, Picture};
 use hp_base::{File, Frame, Index, Task};
-use hp_fault::FileState;
 use hp_frames::Bank;
+use hp_parts::FileState;
 use hp_region::RegionMap;
 use hp_slots::SlotTable;
 use hp_table::Space;

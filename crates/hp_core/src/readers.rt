@@ -2,7 +2,7 @@
 ghost use Rattle.std.specs.Prelude.{◌≡◌, ◌≤◌, ◌<◌, ◌+◌, ℕ, Bool, true, Some, None, MatchOption, IfSome, length, count_by, is_some};
 ghost use Rattle.hp_base.specs.Numbers.{total};
 ghost use Rattle.hp_base.specs.Indices.{count_below};
-ghost use Rattle.hp_fault.specs.View.{sets_of};
+ghost use Rattle.hp_parts.specs.View.{sets_of};
 ghost use Rattle.hp_core.specs.State.{CoreState, seat_at};
 ghost use Rattle.hp_core.specs.Readers.{config_of, frames_of, free_of, resv_of, used_of, quota_of, calls_of, size_of, reserved_of, regions_of, pages_of};
 ghost use Rattle.hp_core.specs.Readers.{changes_of, spare_of, life_of, mappings_of, entries_of, translation_of, phase_of};

@@ -1,7 +1,7 @@
 //! Events that change nothing: refused, or blocked.
 ghost use Rattle.std.specs.Prelude.{◌≡◌, MatchOption};
 ghost use Rattle.hp_base.specs.declared.event.Event.TheVariants as event;
-ghost use Rattle.hp_fault.specs.State.{state_of, IsSized};
+ghost use Rattle.hp_parts.specs.State.{state_of, IsSized};
 ghost use Rattle.hp_core.specs.HeldBack.{HeldBack, refusal_of, event_blocker, told_back};
 ghost use Rattle.hp_core.specs.State.{no_seat, seat_at};
 
@@ -10,8 +10,8 @@ use crate::events::is_exit;
 use crate::seat::{Seat, is_dead, is_killed};
 use crate::waiting::seat_blocker;
 use hp_base::{Config, Event, Op, Task};
-use hp_fault::Parts;
 use hp_machine::{Life, Outcome, Refusal};
+use hp_parts::Parts;
 
 // The seat of a task that is there.
 fn seat_of(seats: &[Seat], task: Task) -> Option<&Seat>

@@ -1,14 +1,14 @@
 //! A pool that gets more frames, or fewer.
 ghost use Rattle.std.specs.Prelude.{◌≡◌, ◌<◌, true, IfOk, OnErr};
 ghost use Rattle.hp_machine.specs.Resizes.{ResizeRow, is_size};
-ghost use Rattle.hp_fault.specs.State.{state_of, SizesStay};
-ghost use Rattle.hp_fault.specs.Room.{RoomStays};
-ghost use Rattle.hp_fault.specs.View.{pool_of};
+ghost use Rattle.hp_parts.specs.State.{state_of, SizesStay};
+ghost use Rattle.hp_parts.specs.Room.{RoomStays};
+ghost use Rattle.hp_parts.specs.View.{pool_of};
 ghost use Rattle.hp_core.specs.Turns.{IfToldBlocked, IfToldRefused};
 
 use hp_base::Config;
-use hp_fault::Parts;
 use hp_machine::{Outcome, Refusal};
+use hp_parts::Parts;
 use std::alloc::AllocError;
 
 // A Resize. More frames than there are come in at once. Of fewer, as many are retired as are free and nobody reserved

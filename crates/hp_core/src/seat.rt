@@ -5,19 +5,20 @@ ghost use Rattle.hp_base.specs.Numbers.{is_none};
 ghost use Rattle.hp_machine.specs.Events.{CallRow};
 ghost use Rattle.hp_machine.specs.State as machine;
 ghost use Rattle.hp_machine.specs.Wants.{Wants};
-ghost use Rattle.hp_fault.specs.State.{state_of, SizesStay};
-ghost use Rattle.hp_fault.specs.Room.{RoomStaysUnless};
-ghost use Rattle.hp_fault.specs.View.{view};
+ghost use Rattle.hp_parts.specs.State.{state_of, SizesStay};
+ghost use Rattle.hp_parts.specs.Room.{RoomStaysUnless};
+ghost use Rattle.hp_parts.specs.View.{view};
 ghost use Rattle.hp_core.specs.Fits.{CallFits};
 ghost use Rattle.hp_machine.specs.Standings.{standing};
-ghost use Rattle.hp_fault.specs.Turns.{IfWanting};
+ghost use Rattle.hp_parts.specs.Turns.{IfWanting};
 ghost use Rattle.hp_core.specs.Turns.{life_after, IfToldBlocked, Settles};
 
 use crate::in_flight::InFlight;
 use crate::words::phase_word;
 use hp_base::Task;
-use hp_fault::{Parts, step_alloc, step_map, step_touch};
+use hp_fault::{step_alloc, step_map, step_touch};
 use hp_machine::{Call, Life, Outcome, Stopped, Turn};
+use hp_parts::Parts;
 use hp_remove::{step_exit, step_punch, step_truncate, step_unmap};
 use std::alloc::AllocError;
 

@@ -1,6 +1,6 @@
 //! Whom a task waits for.
 ghost use Rattle.std.specs.Prelude.{◌≡◌, ◌≤◌, length};
-ghost use Rattle.hp_fault.specs.State.{state_of, IsSized};
+ghost use Rattle.hp_parts.specs.State.{state_of, IsSized};
 ghost use Rattle.hp_core.specs.Blockers.{lock_blocker, slot_blocker, touch_blocker, map_blocker, alloc_blocker, punch_blocker};
 ghost use Rattle.hp_core.specs.Blockers.{truncate_blocker, call_blocker, task_blocker};
 ghost use Rattle.hp_core.specs.Readers.{config_of};
@@ -9,14 +9,13 @@ ghost use Rattle.hp_core.specs.Waiting.{WaitsFor, IsReady};
 use crate::core_state::Core;
 use crate::seat::{Seat, is_dead, is_killed};
 use hp_base::{File, Index, LIMIT, Task};
-use hp_fault::Parts;
-use hp_fault::shared::is_bad_range;
 use hp_machine::Call;
 use hp_machine::alloc::AllocPhase;
 use hp_machine::map::MapPhase;
 use hp_machine::punch::PunchPhase;
 use hp_machine::touch::TouchPhase;
 use hp_machine::truncate::TruncatePhase;
+use hp_parts::{Parts, is_bad_range};
 
 /// What a task may do next.
 #[derive(Clone, Copy, Debug, PartialEq, Eq)]

@@ -89,7 +89,7 @@ pub fn draw_trace<W: Sink>(alloc: Global, trace: &Trace, writer: &mut W) -> Resu
         (W.contents writer.old) (W.contents writer.new)) }
     ensures err { IfErr result (λ fault. IsWriteFault fault × PartlyDrawn (sizes trace.now.config) trace.now.events.items
         (W.contents writer.old) (W.contents writer.new)) }
-    ensures writes { TellsWrites result (W.failed writer.old) (W.failed writer.new) }
+    ensures writes { TellsWrites result (W.failures writer.old) (W.failures writer.new) }
 {
     let text = lay_picture(alloc, trace)?;
     write_text(writer, text.as_bytes())
@@ -106,8 +106,8 @@ pub fn draw<R: Source, W: Sink>(
     ensures err { IfErr result (λ fault. NotDrawn fault (R.remaining reader.old) (R.remaining reader.new)
         (W.contents writer.old) (W.contents writer.new)) }
     ensures bad { IfErr result (λ fault. IfSome (R.remaining reader.old) (λ bytes. HasFault bytes fault)) }
-    ensures reads { TellsReads result (R.failed reader.old) (R.failed reader.new) }
-    ensures writes { TellsWrites result (W.failed writer.old) (W.failed writer.new) }
+    ensures reads { TellsReads result (R.failures reader.old) (R.failures reader.new) }
+    ensures writes { TellsWrites result (W.failures writer.old) (W.failures writer.new) }
 {
     let trace = read_trace(alloc, reader)?;
     draw_trace(alloc, &trace, writer)

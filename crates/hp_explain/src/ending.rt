@@ -89,7 +89,7 @@ pub(crate) fn write_end<W: Sink>(
     ensures ok { OnOk result (Appends (W.contents writer.old) (W.contents writer.new) (end_text core.now)) }
     ensures err { IfErr result (λ fault. IsWriteFault fault
         × Wrote (W.contents writer.old) (W.contents writer.new) (end_text core.now)) }
-    ensures writes { TellsWrites result (W.failed writer.old) (W.failed writer.new) }
+    ensures writes { TellsWrites result (W.failures writer.old) (W.failures writer.new) }
 {
     lay_end(core, text)?;
     write_text(writer, text.as_bytes())

@@ -25,7 +25,7 @@ pub fn explain_trace<W: Sink>(
         (W.contents writer.old) (W.contents writer.new)) }
     ensures err { IfErr result (λ fault. IsWriteFault fault × PartlyExplained (sizes trace.now.config) trace.now.events.items
         (W.contents writer.old) (W.contents writer.new)) }
-    ensures writes { TellsWrites result (W.failed writer.old) (W.failed writer.new) }
+    ensures writes { TellsWrites result (W.failures writer.old) (W.failures writer.new) }
 {
     let mut cell = String::new(alloc);
     let mut line = String::new(alloc);
@@ -49,8 +49,8 @@ pub fn explain<R: Source, W: Sink>(
     ensures err { IfErr result (λ fault. NotExplained fault (R.remaining reader.old) (R.remaining reader.new)
         (W.contents writer.old) (W.contents writer.new)) }
     ensures bad { IfErr result (λ fault. IfSome (R.remaining reader.old) (λ bytes. HasFault bytes fault)) }
-    ensures reads { TellsReads result (R.failed reader.old) (R.failed reader.new) }
-    ensures writes { TellsWrites result (W.failed writer.old) (W.failed writer.new) }
+    ensures reads { TellsReads result (R.failures reader.old) (R.failures reader.new) }
+    ensures writes { TellsWrites result (W.failures writer.old) (W.failures writer.new) }
 {
     let trace = read_trace(alloc, reader)?;
     explain_trace(alloc, &trace, writer)

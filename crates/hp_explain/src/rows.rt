@@ -23,7 +23,7 @@ pub(crate) fn write_head<W: Sink>(
     ensures ok { OnOk result (Appends (W.contents writer.old) (W.contents writer.new) (head_text widths.now)) }
     ensures err { IfErr result (λ fault. IsWriteFault fault
         × Wrote (W.contents writer.old) (W.contents writer.new) (head_text widths.now)) }
-    ensures writes { TellsWrites result (W.failed writer.old) (W.failed writer.new) }
+    ensures writes { TellsWrites result (W.failures writer.old) (W.failures writer.new) }
 {
     lay_head(widths, word, line)?;
     write_text(writer, line.as_bytes())
@@ -102,7 +102,7 @@ fn write_row<W: Sink>(
     ensures ok { OnOk result (RowWritten widths.now line event core.old core.new (W.contents writer.old) (W.contents writer.new)) }
     ensures err { IfErr result (λ fault. IsWriteFault fault × (Keeps (W.contents writer.old) (W.contents writer.new)
         ⊎ RowPartlyWritten widths.now line event core.old (W.contents writer.old) (W.contents writer.new))) }
-    ensures writes { TellsWrites result (W.failed writer.old) (W.failed writer.new) }
+    ensures writes { TellsWrites result (W.failures writer.old) (W.failures writer.new) }
 {
     let told = core.step(event)?;
     lay_row(widths, line, core, &event, told, cell, row)?;
@@ -122,7 +122,7 @@ pub(crate) fn write_rows<W: Sink>(
     ensures ok { OnOk result (RowsWritten widths.now 2 events.now core.old core.new (W.contents writer.old) (W.contents writer.new)) }
     ensures err { IfErr result (λ fault. IsWriteFault fault
         × RowsPartlyWritten widths.now 2 events.now core.old (W.contents writer.old) (W.contents writer.new)) }
-    ensures writes { TellsWrites result (W.failed writer.old) (W.failed writer.new) }
+    ensures writes { TellsWrites result (W.failures writer.old) (W.failures writer.new) }
 {
     let mut line = 2;
     for event in events {

@@ -28,8 +28,8 @@ use Rattle.hp_laws.specs.Laws.{IsOf}
 use Rattle.hp_laws.proofs.Nearing.{others_stay}
 use Rattle.hp_laws.proofs.Runs.{always, measures_stay}
 use Rattle.hp_laws.proofs.Standing.{HasSlot, HasLock}
-use Rattle.hp_fault.specs.State.{PartsState}
-use Rattle.hp_fault.specs.View.{holders_of}
+use Rattle.hp_parts.specs.State.{PartsState}
+use Rattle.hp_parts.specs.View.{holders_of}
 use Rattle.hp_slots.specs.Holders.{slot_number}
 use Rattle.hp_core.specs.Blockers.{slot_blocker, lock_blocker, call_blocker, seat_call_blocker, task_blocker, is_bad}
 use Rattle.hp_core.specs.Holding.{held_by, holding_of}

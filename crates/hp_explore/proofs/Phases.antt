@@ -31,7 +31,7 @@ use Rattle.hp_laws.proofs.Reading.{begin_cases, step_cases, kill_cases}
 use Rattle.hp_laws.proofs.Resizing.{resize_cases}
 use Rattle.hp_laws.proofs.Telling.{call_steps_on}
 use Rattle.hp_laws.proofs.Waiting.{moved_tells}
-use Rattle.hp_fault.specs.State.{PartsState}
+use Rattle.hp_parts.specs.State.{PartsState}
 use Rattle.hp_core.specs.Blockers.{call_blocker, seat_call_blocker}
 use Rattle.hp_core.specs.Holding.{held_by, holding_of}
 use Rattle.hp_core.specs.Readers.{phase_of}

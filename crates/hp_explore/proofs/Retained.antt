@@ -23,8 +23,8 @@ use Rattle.hp_machine.specs.declared.outcome.Life.{Life}
 use Rattle.hp_machine.specs.declared.outcome.Outcome.{Outcome}
 use Rattle.hp_laws.specs.Laws.{IsOf}
 use Rattle.hp_laws.proofs.Nearing.{others_stay}
-use Rattle.hp_fault.specs.State.{PartsState}
-use Rattle.hp_fault.specs.View.{holders_of}
+use Rattle.hp_parts.specs.State.{PartsState}
+use Rattle.hp_parts.specs.View.{holders_of}
 use Rattle.hp_slots.specs.Holders.{slot_number}
 use Rattle.hp_core.specs.Blockers.{slot_blocker, lock_blocker, call_blocker, task_blocker, is_bad}
 use Rattle.hp_core.specs.Holding.{holding_of}

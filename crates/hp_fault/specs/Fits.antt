@@ -2,7 +2,6 @@
 -- state that the machine reaches.
 use Rattle.std.specs.Prelude.{◌≡◌, ℕ, ◌+◌, ◌≤◌, ◌<◌, ◌^◌, true, None, Some, IfSome, IsSome}
 use Rattle.hp_base.specs.Mappings.{find, fits}
-use Rattle.hp_frames.specs.declared.frame.FrameState.TheVariants.{Hand, Placed}
 use Rattle.hp_machine.specs.State.{Pool, slot_of}
 use Rattle.hp_machine.specs.declared.map.MapPhase.{MapPhase}
 use Rattle.hp_machine.specs.declared.map.MapPhase.TheVariants as at
@@ -10,24 +9,7 @@ use Rattle.hp_machine.specs.declared.touch.TouchPhase.{TouchPhase}
 use Rattle.hp_machine.specs.declared.touch.TouchPhase.TheVariants as touch
 use Rattle.hp_machine.specs.declared.alloc.AllocPhase.{AllocPhase}
 use Rattle.hp_machine.specs.declared.alloc.AllocPhase.TheVariants as alloc
-
-abbrev pub IsTaskOf : Pool → ℕ → Type 0
-IsTaskOf s t = (1 ≤ t) × (t ≤ s.geometry.tasks)
-
-abbrev pub IsFileOf : Pool → ℕ → Type 0
-IsFileOf s f = f < s.geometry.files
-
--- the frame is in a call's hand
-abbrev pub IsHeld : Pool → ℕ → Type 0
-IsHeld s x = (x < s.frames) × (s.frame x ≡ Hand)
-
--- the frame is a page's, and has a word
-abbrev pub IsPage : Pool → ℕ → Type 0
-IsPage s x = (x < s.frames) × ((word : ℕ) × (s.frame x ≡ Placed word))
-
--- the index has a page, whose frame has a word
-abbrev pub HasPage : Pool → (file index : ℕ) → Type 0
-HasPage s f i = (x : ℕ) × (s.pages f i ≡ Some x) × IsPage s x
+use Rattle.hp_parts.specs.Fits.{IsTaskOf, IsFileOf, IsHeld, IsPage, HasPage}
 
 abbrev pub MapFits : Pool → (task : ℕ) → MapPhase → Type 0
 MapFits s t (at.Start p) = Unit {0}

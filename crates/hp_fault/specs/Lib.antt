@@ -1,5 +1,1 @@
 pub mod Fits
-pub mod Room
-pub mod State
-pub mod Turns
-pub mod View

@@ -7,22 +7,21 @@ ghost use Rattle.hp_machine.specs.AllocRows.{AllocCommittedRow, AllocRestoreRow,
 ghost use Rattle.hp_machine.specs.Wants.{alloc_wants};
 ghost use Rattle.hp_machine.specs.Standings.{standing};
 ghost use Rattle.hp_machine.specs.declared.call.Call.TheVariants as call;
-ghost use Rattle.hp_fault.specs.Turns.{IfBlocked, IfWanting};
-ghost use Rattle.hp_fault.specs.View.{view};
-ghost use Rattle.hp_fault.specs.State.{state_of, IsSized, SizesStay};
-ghost use Rattle.hp_fault.specs.Room.{RoomStays, RoomStaysUnless};
-ghost use Rattle.hp_fault.specs.Fits.{AllocFits, IsFileOf, IsHeld};
+ghost use Rattle.hp_parts.specs.Turns.{IfBlocked, IfWanting};
+ghost use Rattle.hp_parts.specs.View.{view};
+ghost use Rattle.hp_parts.specs.State.{state_of, IsSized, SizesStay};
+ghost use Rattle.hp_parts.specs.Room.{RoomStays, RoomStaysUnless};
+ghost use Rattle.hp_fault.specs.Fits.{AllocFits};
+ghost use Rattle.hp_parts.specs.Fits.{IsFileOf, IsHeld};
 
-use crate::parts::Parts;
-use crate::shared::{
-    carry, is_bad_range, leave_lock, leave_slot, place_page, start, take_frame, want_slot,
-};
+use crate::pages::{place_page, take_frame};
 use hp_base::{Answer, Index, LIMIT, Task};
 pub use hp_machine::alloc::{
     Abort, AllocPhase, Allocation, Changed, Committed, Extend, Head, Leave, Locked, Missing,
     Restore, Settle, Start, Taken, Unslot, Want,
 };
 use hp_machine::{Stopped, Turn};
+use hp_parts::{Parts, carry, is_bad_range, leave_lock, leave_slot, start, want_slot};
 use hp_region::{ChangeFault, Pending};
 
 /// One step of an allocation. Where it finds no memory nothing changed, and the phase is handed back. A kill is
@@ -70,7 +69,7 @@ pub fn step_alloc(
     }
 }
 
-#[tactic(auto, using(crate::proofs::Carrying::carry_start, crate::proofs::Carrying::carry_blocked))]
+#[tactic(auto, using(hp_parts::proofs::Carrying::carry_start, hp_parts::proofs::Carrying::carry_blocked))]
 fn from_start(parts: &mut Parts, task: Task, killed: bool, phase: Start) -> Turn<AllocPhase>
     requires { IsSized (state_of parts.old) }
     ensures row { AllocStartRow (view parts.old) task killed phase result (view parts.new) }
@@ -103,7 +102,7 @@ fn from_head(killed: bool, phase: Head) -> Turn<AllocPhase>
     Turn::Moved(AllocPhase::Want(Want { allocation, index }))
 }
 
-#[tactic(auto, using(crate::proofs::Carrying::carry_want, crate::proofs::Carrying::carry_blocked))]
+#[tactic(auto, using(hp_parts::proofs::Carrying::carry_want, hp_parts::proofs::Carrying::carry_blocked))]
 fn from_want(parts: &mut Parts, task: Task, killed: bool, phase: Want) -> Turn<AllocPhase>
     ensures row { AllocWantRow (view parts.old) task killed phase result (view parts.new) }
     ensures sizes { SizesStay (state_of parts.old) (state_of parts.new) }
@@ -119,7 +118,7 @@ fn from_want(parts: &mut Parts, task: Task, killed: bool, phase: Want) -> Turn<A
     carry(turn, AllocPhase::Want(phase), next)
 }
 
-#[tactic(auto, using(crate::proofs::Laws::page_laws))]
+#[tactic(auto, using(hp_parts::proofs::Laws::page_laws))]
 fn from_locked(parts: &mut Parts, phase: Locked) -> Turn<AllocPhase>
     requires { IsFileOf (view parts.old) phase.allocation.file }
     ensures row { AllocLockedRow (view parts.old) phase result (view parts.new) }
@@ -134,7 +133,7 @@ fn from_locked(parts: &mut Parts, phase: Locked) -> Turn<AllocPhase>
     }
 }
 
-#[tactic(auto, using(crate::proofs::Laws::change_laws))]
+#[tactic(auto, using(hp_parts::proofs::Laws::change_laws))]
 fn from_missing(parts: &mut Parts, grant: bool, phase: Missing) -> Result<Turn<AllocPhase>, Missing>
     requires file { IsFileOf (view parts.old) phase.allocation.file }
     requires in_limit { phase.index < LIMIT }
@@ -161,7 +160,7 @@ fn from_missing(parts: &mut Parts, grant: bool, phase: Missing) -> Result<Turn<A
     }
 }
 
-#[tactic(auto, using(crate::proofs::Laws::take_laws))]
+#[tactic(auto, using(hp_parts::proofs::Laws::take_laws))]
 fn from_changed(parts: &mut Parts, killed: bool, phase: Changed) -> Turn<AllocPhase>
     requires reserved { phase.pending.missing ≡ 0 → 1 ≤ (view parts.old).resv }
     requires used { (view parts.old).used + 1 < 2 ^ 32 }
@@ -188,7 +187,7 @@ fn from_changed(parts: &mut Parts, killed: bool, phase: Changed) -> Turn<AllocPh
     }
 }
 
-#[tactic(auto, using(crate::proofs::Laws::change_laws))]
+#[tactic(auto, using(hp_parts::proofs::Laws::change_laws))]
 fn from_abort(parts: &mut Parts, phase: Abort) -> Turn<AllocPhase>
     requires file { IsFileOf (view parts.old) phase.allocation.file }
     requires pending { 1 ≤ (view parts.old).pending phase.allocation.file }
@@ -208,7 +207,7 @@ fn from_abort(parts: &mut Parts, phase: Abort) -> Turn<AllocPhase>
     unslot(allocation, index, Some(answer))
 }
 
-#[tactic(auto, using(crate::proofs::Laws::commit_laws))]
+#[tactic(auto, using(hp_parts::proofs::Laws::commit_laws))]
 fn from_taken(parts: &mut Parts, phase: Taken) -> Turn<AllocPhase>
     requires file { IsFileOf (view parts.old) phase.allocation.file }
     requires pending { 1 ≤ (view parts.old).pending phase.allocation.file }
@@ -301,7 +300,7 @@ fn from_committed(
     }
 }
 
-#[tactic(auto, using(crate::proofs::Laws::frame_laws))]
+#[tactic(auto, using(hp_parts::proofs::Laws::frame_laws))]
 fn from_restore(parts: &mut Parts, phase: Restore) -> Turn<AllocPhase>
     requires { IsHeld (view parts.old) phase.held }
     ensures row { AllocRestoreRow (view parts.old) phase result (view parts.new) }
@@ -347,7 +346,7 @@ fn from_unslot(parts: &mut Parts, task: Task, phase: Unslot) -> Turn<AllocPhase>
     }
 }
 
-#[tactic(auto, using(crate::proofs::Laws::size_laws))]
+#[tactic(auto, using(hp_parts::proofs::Laws::size_laws))]
 fn from_extend(parts: &mut Parts, phase: Extend) -> Turn<AllocPhase>
     requires file { IsFileOf (view parts.old) phase.allocation.file }
     requires in_limit { phase.allocation.from + phase.allocation.len ≤ LIMIT }

@@ -6,19 +6,20 @@ ghost use Rattle.hp_machine.specs.Wants.{map_wants};
 ghost use Rattle.hp_base.specs.Mappings.{fits};
 ghost use Rattle.hp_machine.specs.Standings.{standing};
 ghost use Rattle.hp_machine.specs.declared.call.Call.TheVariants as call;
-ghost use Rattle.hp_fault.specs.Turns.{IfBlocked, IfWanting};
-ghost use Rattle.hp_fault.specs.View.{view};
-ghost use Rattle.hp_fault.specs.State.{state_of, IsSized, SizesStay};
-ghost use Rattle.hp_fault.specs.Room.{RoomStays, RoomStaysUnless};
-ghost use Rattle.hp_fault.specs.Fits.{MapFits, IsTaskOf, IsFileOf};
+ghost use Rattle.hp_parts.specs.Turns.{IfBlocked, IfWanting};
+ghost use Rattle.hp_parts.specs.View.{view};
+ghost use Rattle.hp_parts.specs.State.{state_of, IsSized, SizesStay};
+ghost use Rattle.hp_parts.specs.Room.{RoomStays, RoomStaysUnless};
+ghost use Rattle.hp_fault.specs.Fits.{MapFits};
+ghost use Rattle.hp_parts.specs.Fits.{IsTaskOf, IsFileOf};
 
-use crate::parts::Parts;
-use crate::shared::{carry, is_bad_range, leave_lock, refused, start};
+use crate::pages::refused;
 use hp_base::{Answer, Index, LIMIT, Task, VPNS};
 pub use hp_machine::map::{
     Abort, Accounted, Changed, Enter, Leave, MapPhase, MapRequest, Missing, Room, Settle, Start,
 };
 use hp_machine::{Stopped, Turn};
+use hp_parts::{Parts, carry, is_bad_range, leave_lock, start};
 use hp_region::{ChangeFault, Pending};
 
 /// One step of a map. Where it finds no memory nothing changed, and the phase is handed back.
@@ -58,7 +59,7 @@ pub fn step_map(
     }
 }
 
-#[tactic(auto, using(crate::proofs::Carrying::carry_start, crate::proofs::Carrying::carry_blocked))]
+#[tactic(auto, using(hp_parts::proofs::Carrying::carry_start, hp_parts::proofs::Carrying::carry_blocked))]
 fn from_start(parts: &mut Parts, task: Task, killed: bool, phase: Start) -> Turn<MapPhase>
     requires { IsSized (state_of parts.old) }
     ensures row { MapStartRow (view parts.old) task killed phase result (view parts.new) }
@@ -73,7 +74,7 @@ fn from_start(parts: &mut Parts, task: Task, killed: bool, phase: Start) -> Turn
     carry(turn, MapPhase::Start(phase), next)
 }
 
-#[tactic(auto, using(crate::proofs::Laws::room_laws))]
+#[tactic(auto, using(hp_parts::proofs::Laws::room_laws))]
 fn from_room(
     parts: &mut Parts,
     task: Task,
@@ -108,7 +109,7 @@ fn from_room(
     }
 }
 
-#[tactic(auto, using(crate::proofs::Laws::change_laws))]
+#[tactic(auto, using(hp_parts::proofs::Laws::change_laws))]
 fn from_missing(parts: &mut Parts, grant: bool, phase: Missing) -> Result<Turn<MapPhase>, Missing>
     requires file { IsFileOf (view parts.old) phase.map.file }
     requires some { 1 ≤ phase.map.len }
@@ -132,7 +133,7 @@ fn from_missing(parts: &mut Parts, grant: bool, phase: Missing) -> Result<Turn<M
     }
 }
 
-#[tactic(auto, using(crate::proofs::Laws::free_frames_is))]
+#[tactic(auto, using(hp_parts::proofs::Laws::free_frames_is))]
 fn from_changed(parts: &mut Parts, killed: bool, phase: Changed) -> Turn<MapPhase>
     requires used { (view parts.old).used + phase.pending.missing < 2 ^ 32 }
     ensures row { MapChangedRow (view parts.old) killed phase result (view parts.new) }
@@ -149,7 +150,7 @@ fn from_changed(parts: &mut Parts, killed: bool, phase: Changed) -> Turn<MapPhas
     }
 }
 
-#[tactic(auto, using(crate::proofs::Laws::change_laws))]
+#[tactic(auto, using(hp_parts::proofs::Laws::change_laws))]
 fn from_abort(parts: &mut Parts, phase: Abort) -> Turn<MapPhase>
     requires file { IsFileOf (view parts.old) phase.map.file }
     requires pending { 1 ≤ (view parts.old).pending phase.map.file }
@@ -166,7 +167,7 @@ fn from_abort(parts: &mut Parts, phase: Abort) -> Turn<MapPhase>
     leave(map, answer)
 }
 
-#[tactic(auto, using(crate::proofs::Laws::commit_laws))]
+#[tactic(auto, using(hp_parts::proofs::Laws::commit_laws))]
 fn from_accounted(parts: &mut Parts, phase: Accounted) -> Turn<MapPhase>
     requires file { IsFileOf (view parts.old) phase.map.file }
     requires pending { 1 ≤ (view parts.old).pending phase.map.file }
@@ -197,7 +198,7 @@ fn from_settle(parts: &mut Parts, phase: Settle) -> Turn<MapPhase>
     Turn::Moved(MapPhase::Enter(Enter { map, base }))
 }
 
-#[tactic(auto, using(crate::proofs::Laws::enter_laws))]
+#[tactic(auto, using(hp_parts::proofs::Laws::enter_laws))]
 fn from_enter(parts: &mut Parts, task: Task, phase: Enter) -> Turn<MapPhase>
     requires task { IsTaskOf (view parts.old) task }
     requires file { IsFileOf (view parts.old) phase.map.file }

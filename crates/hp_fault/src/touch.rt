@@ -8,14 +8,14 @@ ghost use Rattle.hp_machine.specs.Wants.{touch_wants};
 ghost use Rattle.hp_base.specs.Mappings.{find};
 ghost use Rattle.hp_machine.specs.Standings.{standing};
 ghost use Rattle.hp_machine.specs.declared.call.Call.TheVariants as call;
-ghost use Rattle.hp_fault.specs.Turns.{IfBlocked, IfWanting};
-ghost use Rattle.hp_fault.specs.View.{view};
-ghost use Rattle.hp_fault.specs.State.{state_of, SizesStay};
-ghost use Rattle.hp_fault.specs.Room.{RoomStays, RoomStaysUnless};
-ghost use Rattle.hp_fault.specs.Fits.{TouchFits, IsTaskOf, IsFileOf, IsHeld, IsPage, HasPage};
+ghost use Rattle.hp_parts.specs.Turns.{IfBlocked, IfWanting};
+ghost use Rattle.hp_parts.specs.View.{view};
+ghost use Rattle.hp_parts.specs.State.{state_of, SizesStay};
+ghost use Rattle.hp_parts.specs.Room.{RoomStays, RoomStaysUnless};
+ghost use Rattle.hp_fault.specs.Fits.{TouchFits};
+ghost use Rattle.hp_parts.specs.Fits.{IsTaskOf, IsFileOf, IsHeld, IsPage, HasPage};
 
-use crate::parts::Parts;
-use crate::shared::{carry, leave_slot, place_page, take_frame, use_page, want_slot};
+use crate::pages::{place_page, take_frame, use_page};
 use hp_base::{Answer, Index, LIMIT, Task};
 use hp_frames::Held;
 pub use hp_machine::touch::{
@@ -23,6 +23,7 @@ pub use hp_machine::touch::{
     Touch, TouchPhase, Want,
 };
 use hp_machine::{Stopped, Turn};
+use hp_parts::{Parts, carry, leave_slot, want_slot};
 use hp_region::{ChangeFault, Pending};
 
 /// One step of a load or a store. Where it finds no memory nothing changed, and the phase is handed back. A kill is
@@ -71,7 +72,7 @@ pub fn step_touch(
     }
 }
 
-#[tactic(auto, using(crate::proofs::Laws::look_laws))]
+#[tactic(auto, using(hp_parts::proofs::Laws::look_laws))]
 fn from_look(parts: &mut Parts, task: Task, phase: Look) -> Turn<TouchPhase>
     requires task { IsTaskOf (view parts.old) task }
     requires page { IfSome ((view parts.old).entries task phase.vpn) (λ x. IsPage (view parts.old) x) }
@@ -97,7 +98,7 @@ fn from_look(parts: &mut Parts, task: Task, phase: Look) -> Turn<TouchPhase>
     }
 }
 
-#[tactic(auto, using(crate::proofs::Carrying::carry_want, crate::proofs::Carrying::carry_blocked))]
+#[tactic(auto, using(hp_parts::proofs::Carrying::carry_want, hp_parts::proofs::Carrying::carry_blocked))]
 fn from_want(parts: &mut Parts, task: Task, killed: bool, phase: Want) -> Turn<TouchPhase>
     ensures row { TouchWantRow (view parts.old) task killed phase result (view parts.new) }
     ensures sizes { SizesStay (state_of parts.old) (state_of parts.new) }
@@ -113,7 +114,7 @@ fn from_want(parts: &mut Parts, task: Task, killed: bool, phase: Want) -> Turn<T
     carry(turn, TouchPhase::Want(phase), next)
 }
 
-#[tactic(auto, using(crate::proofs::Laws::page_laws))]
+#[tactic(auto, using(hp_parts::proofs::Laws::page_laws))]
 fn from_locked(parts: &mut Parts, phase: Locked) -> Turn<TouchPhase>
     requires { IsFileOf (view parts.old) phase.touch.file }
     ensures row { TouchLockedRow (view parts.old) phase result (view parts.new) }
@@ -131,7 +132,7 @@ fn from_locked(parts: &mut Parts, phase: Locked) -> Turn<TouchPhase>
     }
 }
 
-#[tactic(auto, using(crate::proofs::Laws::change_laws))]
+#[tactic(auto, using(hp_parts::proofs::Laws::change_laws))]
 fn from_missing(parts: &mut Parts, grant: bool, phase: Missing) -> Result<Turn<TouchPhase>, Missing>
     requires file { IsFileOf (view parts.old) phase.touch.file }
     requires in_limit { phase.touch.index < LIMIT }
@@ -154,7 +155,7 @@ fn from_missing(parts: &mut Parts, grant: bool, phase: Missing) -> Result<Turn<T
     }
 }
 
-#[tactic(auto, using(crate::proofs::Laws::take_laws))]
+#[tactic(auto, using(hp_parts::proofs::Laws::take_laws))]
 fn from_changed(parts: &mut Parts, killed: bool, phase: Changed) -> Turn<TouchPhase>
     requires reserved { phase.pending.missing ≡ 0 → 1 ≤ (view parts.old).resv }
     requires used { (view parts.old).used + 1 < 2 ^ 32 }
@@ -176,7 +177,7 @@ fn from_changed(parts: &mut Parts, killed: bool, phase: Changed) -> Turn<TouchPh
     }
 }
 
-#[tactic(auto, using(crate::proofs::Laws::change_laws))]
+#[tactic(auto, using(hp_parts::proofs::Laws::change_laws))]
 fn from_abort(parts: &mut Parts, phase: Abort) -> Turn<TouchPhase>
     requires file { IsFileOf (view parts.old) phase.touch.file }
     requires pending { 1 ≤ (view parts.old).pending phase.touch.file }
@@ -193,7 +194,7 @@ fn from_abort(parts: &mut Parts, phase: Abort) -> Turn<TouchPhase>
     leave(touch, answer)
 }
 
-#[tactic(auto, using(crate::proofs::Laws::commit_laws))]
+#[tactic(auto, using(hp_parts::proofs::Laws::commit_laws))]
 fn from_taken(parts: &mut Parts, phase: Taken) -> Turn<TouchPhase>
     requires file { IsFileOf (view parts.old) phase.touch.file }
     requires pending { 1 ≤ (view parts.old).pending phase.touch.file }
@@ -229,7 +230,7 @@ fn from_settle(parts: &mut Parts, phase: Settle) -> Turn<TouchPhase>
     Turn::Moved(TouchPhase::Committed(Committed { touch, held }))
 }
 
-#[tactic(auto, using(crate::proofs::Laws::sizes_at))]
+#[tactic(auto, using(hp_parts::proofs::Laws::sizes_at))]
 fn from_committed(
     parts: &mut Parts,
     grant: bool,
@@ -261,7 +262,7 @@ fn from_committed(
     }
 }
 
-#[tactic(auto, using(crate::proofs::Laws::frame_laws))]
+#[tactic(auto, using(hp_parts::proofs::Laws::frame_laws))]
 fn from_restore(parts: &mut Parts, phase: Restore) -> Turn<TouchPhase>
     requires { IsHeld (view parts.old) phase.held }
     ensures row { TouchRestoreRow (view parts.old) phase result (view parts.new) }
@@ -277,7 +278,7 @@ fn from_restore(parts: &mut Parts, phase: Restore) -> Turn<TouchPhase>
     leave(touch, answer)
 }
 
-#[tactic(auto, using(crate::proofs::Laws::install_laws))]
+#[tactic(auto, using(hp_parts::proofs::Laws::install_laws))]
 fn from_found(
     parts: &mut Parts,
     task: Task,

@@ -210,4 +210,11 @@ can_settle g s t (Some (call.Punch (punch.Free p))) k l e h =
     λ done. let o : bit (not p.denied) ≡ 1 = ap (λ (b : Bool). bit (not b)) done in
     let q = uses g s t (Some (call.Punch (punch.Free p))) k l e in omega arith
 can_settle g s t (Some (call.Truncate (truncate.Settle p))) k l e h = let q = enough g s t _ k l e in (omega arith, uses g s t _ k l e)
+can_settle g s t (Some (call.Unmap (unmap.Start p))) k l e h = tt
+can_settle g s t (Some (call.Unmap (unmap.Clear p))) k l e h = tt
+can_settle g s t (Some (call.Unmap (unmap.Drop p))) k l e h = tt
+can_settle g s t (Some (call.Exit exit.Start)) k l e h = tt
+can_settle g s t (Some (call.Exit (exit.Clear p))) k l e h = tt
+can_settle g s t (Some (call.Exit (exit.Drop p))) k l e h = tt
+can_settle g s t (Some (call.Exit exit.Leave)) k l e h = tt
 can_settle g s t c k l e h = tt

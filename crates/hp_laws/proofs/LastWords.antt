@@ -37,7 +37,9 @@ use Rattle.hp_laws.proofs.Shared.{by_test, by_option}
 use Rattle.hp_laws.proofs.Runs.{Always}
 use Rattle.hp_laws.proofs.Reading.{begin_cases, step_cases, kill_cases}
 use Rattle.hp_laws.proofs.Resizing.{reframed, resize_cases, on_page}
-use Rattle.hp_laws.proofs.Paging.{Shrinks, PlacesOne, reads, call_pages}
+use Rattle.hp_laws.proofs.Fits.{reads}
+use Rattle.hp_laws.proofs.ByWrite.{Shrinks, PlacesOne}
+use Rattle.hp_laws.proofs.Paging.{call_pages}
 
 -- an event with its outcome and the states around it
 abbrev pub moment : State → Event → Outcome → State → Moment
@@ -146,11 +148,11 @@ stored_by s t grant c o n e P f i v wrote look found = elim wrote [
 ]
 
 -- a call that isn't a touch at look or found writes no word
-quiet_call : (s : State) (t : ℕ) (grant : Bool) (c : Call) (o : Outcome) (n : State) → s.calls t ≡ Some c → reads c ≡ false
+quiet_call : (s : State) (t : ℕ) (grant : Bool) (c : Call) (o : Outcome) (n : State) → s.calls t ≡ Some c → reads (Some c) ≡ false
     → Silent s (Step t grant) o n
 quiet_call s t grant c o n e quiet f i v wrote = stored_by s t grant c o n e ⊥ f i v wrote
-    (λ p d a b k. (let z : true ≡ false = sym (ap reads d) ∙ quiet in cc))
-    (λ p d a b k l. (let z : true ≡ false = sym (ap reads d) ∙ quiet in cc))
+    (λ p d a b k. (let z : true ≡ false = sym (ap (λ k. reads (Some k)) d) ∙ quiet in cc))
+    (λ p d a b k l. (let z : true ≡ false = sym (ap (λ k. reads (Some k)) d) ∙ quiet in cc))
 
 -- what leaves the state as it was writes nothing
 quiet_refused : (s : State) (event : Event) (why : Refusal) (o : Outcome) (n : State) → o ≡ outcome.Refused why → n ≡ s → Silent s event o n
@@ -307,7 +309,7 @@ found_tells s t grant p turn pool o n h e row next pages frame =
 
 -- so of each call that doesn't read or write, by what its rows do to the pages
 by_pages : (s : State) (t : ℕ) (killed grant : Bool) (c : Call) (o : Outcome) (pool : Pool) (next : Option Call) (n : State)
-    → reads c ≡ false → Inv s.geometry s → s.calls t ≡ Some c → CallRow (pool_of s) t killed grant c o pool next
+    → reads (Some c) ≡ false → Inv s.geometry s → s.calls t ≡ Some c → CallRow (pool_of s) t killed grant c o pool next
     → n.pages ≡ pool.pages → n.frame ≡ pool.frame → Tells s (Step t grant) o n
 by_pages s t killed grant c o pool next n quiet h e row pages frame = elim (call_pages s t killed grant c o pool next quiet h e row) [
   | inl k ↦ shrinks_tell s (Step t grant) o n pool pages frame (quiet_call s t grant c o n e quiet) k

@@ -1,14 +1,17 @@
 pub mod AllocKeeps
 pub mod Answering
 pub mod Apart
+pub mod ByWrite
 pub mod Claims
 pub mod Cover
 pub mod Cuts
 pub mod Deciding
 pub mod Deletes
 pub mod Denials
+pub mod Did
 pub mod Effects
 pub mod Evicted
+pub mod Fits
 pub mod Histories
 pub mod Holding
 pub mod Invariant
@@ -42,3 +45,4 @@ pub mod TruncateKeeps
 pub mod Turns
 pub mod UnmapKeeps
 pub mod Waiting
+pub mod Writes

@@ -1,24 +1,23 @@
 -- No call touches a retired frame, or brings one in: only a resize does.
-use Rattle.std.proofs.Common.{◌≡◌, ◌≢◌, ℕ, ◌+◌, ◌-◌, ◌<◌, ◌≤◌, refl, ap, sym, ◌∙◌, subst, arith, inl, inr}
+use Rattle.std.proofs.Common.{◌≡◌, ◌≢◌, ℕ, ◌+◌, ◌-◌, ◌<◌, ◌≤◌, refl, ap, sym, ◌∙◌, subst, arith}
 use Rattle.std.specs.Prelude.{Bool, true, false, not, ◌&&◌, ◌==◌, nat_le, nat_lt, max, is_some, Option, Some, List, [], ◌∷◌}
 use Rattle.std.specs.Prelude.{if◌then◌else◌}
 use Rattle.std.proofs.lemmas.Bool.Decides.{nat_tests}
 use Rattle.hp_base.specs.Numbers.{put}
-use Rattle.hp_base.specs.Indices.{missing, splits}
-use Rattle.hp_base.specs.Mappings.{find, is_base, first_base, without}
+use Rattle.hp_base.specs.Indices.{missing}
+use Rattle.hp_base.specs.Mappings.{is_base, first_base, without}
 use Rattle.hp_base.specs.declared.answer.Answer.{Answer}
 use Rattle.hp_base.specs.declared.event.Event.{Event}
 use Rattle.hp_base.specs.declared.event.Event.TheVariants.{Begin, Step, Kill, Resize}
 use Rattle.hp_base.proofs.Counting.{count_below-ext, count_below_none, count_below_full}
-use Rattle.hp_base.proofs.Puts.{put_same, put_other, same_or_other}
 use Rattle.hp_frames.specs.Bank.{is_active, is_retired}
 use Rattle.hp_frames.specs.declared.frame.FrameState.{FrameState}
 use Rattle.hp_frames.specs.declared.frame.FrameState.TheVariants as state
 use Rattle.hp_region.specs.Change.{Change}
 use Rattle.hp_machine.specs.Events.{Row, CallRow, Run, IsReached, IsReachedFrom, opening}
-use Rattle.hp_machine.specs.Parts.{StartRow, WantSlotRow, ChangeRow, CommitRow, TakeRow, UnmapIndexRow, EvictRow, frame_after}
+use Rattle.hp_machine.specs.Parts.{StartRow, WantSlotRow, ChangeRow, UnmapIndexRow, EvictRow}
 use Rattle.hp_machine.specs.Resizes.{is_size, ResizeRow, surplus}
-use Rattle.hp_machine.specs.State.{exceeds_quota, quota_is_used_up, Geometry, Pool, State, pool_of, slot_of, frees, actives, active_frames}
+use Rattle.hp_machine.specs.State.{exceeds_quota, Geometry, Pool, State, pool_of, slot_of, frees, actives, active_frames}
 use Rattle.hp_machine.specs.TouchRows.{TouchRow}
 use Rattle.hp_machine.specs.MapRows.{MapRow}
 use Rattle.hp_machine.specs.AllocRows.{AllocRow}
@@ -27,16 +26,11 @@ use Rattle.hp_machine.specs.TruncateRows.{TruncateRow}
 use Rattle.hp_machine.specs.UnmapRows.{UnmapRow}
 use Rattle.hp_machine.specs.ExitRows.{ExitRow}
 use Rattle.hp_machine.specs.Views.{hand}
-use Rattle.hp_machine.specs.declared.touch.Access.{Access}
-use Rattle.hp_machine.specs.declared.touch.Access.TheVariants.{Load, Store}
 use Rattle.hp_machine.specs.declared.touch.TouchPhase.{TouchPhase}
-use Rattle.hp_machine.specs.declared.touch.TouchPhase.TheVariants as touch
 use Rattle.hp_machine.specs.declared.map.MapPhase.{MapPhase}
 use Rattle.hp_machine.specs.declared.map.MapPhase.TheVariants as map
 use Rattle.hp_machine.specs.declared.alloc.AllocPhase.{AllocPhase}
-use Rattle.hp_machine.specs.declared.alloc.AllocPhase.TheVariants as alloc
 use Rattle.hp_machine.specs.declared.punch.PunchPhase.{PunchPhase}
-use Rattle.hp_machine.specs.declared.punch.PunchPhase.TheVariants as punch
 use Rattle.hp_machine.specs.declared.truncate.TruncatePhase.{TruncatePhase}
 use Rattle.hp_machine.specs.declared.truncate.TruncatePhase.TheVariants as truncate
 use Rattle.hp_machine.specs.declared.unmap.UnmapPhase.{UnmapPhase}
@@ -51,6 +45,10 @@ use Rattle.hp_laws.specs.Protocol.{KeepsItsFrames}
 use Rattle.hp_laws.proofs.Invariant.{Inv}
 use Rattle.hp_laws.proofs.Reading.{begin_cases, step_cases, kill_cases}
 use Rattle.hp_laws.proofs.Runs.{Always, always, row_keeps, opens_well}
+use Rattle.hp_laws.proofs.ByWrite.{put_keeps, frames_stay}
+use Rattle.hp_laws.proofs.TouchKeeps.{touch_did}
+use Rattle.hp_laws.proofs.AllocKeeps.{alloc_did}
+use Rattle.hp_laws.proofs.PunchKeeps.{punch_did}
 use Rattle.hp_laws.proofs.Shared.{by_test, by_option}
 
 -- a pool in which the frames are alike
@@ -65,15 +63,6 @@ quiet : {A : Type 0} {turn wanted : A} {new there : Pool} (s : Pool) → (turn �
     → there.frame ≡ s.frame → KeepsItsFrames s new
 quiet s e frames frame = stay s e.1 frames frame
 
--- where one frame that isn't retired goes to another place
-put_keeps : (frame : ℕ → FrameState) (x : ℕ) (v : FrameState) → is_retired (frame x) ≡ false → is_retired v ≡ false
-    → (y : ℕ) → is_retired (put frame x v y) ≡ is_retired (frame y)
-put_keeps frame x v was is y = elim (same_or_other y x) [
-  | inl e ↦ ap (λ (z : ℕ). is_retired (put frame x v z)) e
-      ∙ (ap is_retired (put_same frame x v) ∙ (is ∙ (sym was ∙ ap (λ (z : ℕ). is_retired (frame z)) (sym e))))
-  | inr d ↦ ap is_retired (put_other frame x v y d)
-]
-
 -- a leaf that moves one
 moves : {A : Type 0} {turn wanted : A} {new there : Pool} (s : Pool) (x : ℕ) (v : FrameState) → (turn ≡ wanted) × (new ≡ there)
     → there.frames ≡ s.frames → there.frame ≡ put s.frame x v → is_retired (s.frame x) ≡ false → is_retired v ≡ false
@@ -83,12 +72,6 @@ moves s x v e frames frame was is = (
   λ y. ap (λ (m : Pool). is_retired (m.frame y)) e.1
       ∙ (ap (λ (m : ℕ → FrameState). is_retired (m y)) frame ∙ put_keeps s.frame x v was is y),
 )
-
--- a leaf that reads or writes a page
-reads : {A : Type 0} {turn wanted : A} {new there : Pool} (s : Pool) (access : Access) (x word : ℕ) → (turn ≡ wanted) × (new ≡ there)
-    → there.frames ≡ s.frames → there.frame ≡ frame_after access s.frame x → s.frame x ≡ state.Placed word → KeepsItsFrames s new
-reads s Load x word e frames frame is = quiet s e frames frame
-reads s (Store v) x word e frames frame is = moves s x (state.Placed v) e frames frame (ap is_retired is) refl
 
 -- what the rows that operations share do: where a lock is taken
 start_keeps : {P : Type 0} (s : Pool) (t : ℕ) (killed : Bool) (f : ℕ) (bad : Bool) (a : Answer) (here next : P) (turn : Turn P)
@@ -114,24 +97,6 @@ change_keeps : {P : Type 0} (s : Pool) (grant : Bool) (f from to : ℕ) (denied 
 change_keeps s grant f from to denied changed turn new row =
     by_test ((s.spare f == s.pending f) && not grant) row (λ _ r. quiet s r refl refl) (λ _ r. quiet s r refl refl)
 
--- where it is committed
-commit_keeps : {P : Type 0} (s : Pool) (f : ℕ) (c : Change) (settle next : P) (turn : Turn P) (new : Pool)
-    → CommitRow s f c settle next turn new → KeepsItsFrames s new
-commit_keeps s f c settle next turn new row =
-    by_test (nat_lt (missing (s.reserved f) c.from c.to) c.missing) row (λ _ r. quiet s r refl refl) (λ _ r. quiet s r refl refl)
-
--- where a frame is taken
-take_keeps : {P : Type 0} (s : Pool) (m : ℕ) (refused : Answer → P) (taken : ℕ → P) (turn : Turn P) (new : Pool)
-    → TakeRow s m refused taken turn new → KeepsItsFrames s new
-take_keeps s m refused taken turn new row =
-    by_test (m == 0) row
-    (λ _ r. moves s r.0 state.Hand r.3 refl refl (ap is_retired r.1) refl)
-    (λ _ r. by_test (quota_is_used_up s) r
-    (λ _ r. quiet s r refl refl)
-    (λ _ r. by_test (frees s == s.resv) r
-    (λ _ r. quiet s r refl refl)
-    (λ _ r. moves s r.0 state.Hand r.2 refl refl (ap is_retired r.1) refl)))
-
 -- where entries of an index are cleared
 unmap_index_keeps : {P : Type 0} (s : Pool) (k f i : ℕ) (more last : P) (turn : Turn P) (new : Pool)
     → UnmapIndexRow s k f i more last turn new → KeepsItsFrames s new
@@ -150,47 +115,10 @@ held : (g : Geometry) (s : State) (t x : ℕ) (c : Call) → Inv g s → s.calls
 held g s t x c h e some = ap is_retired (h.place.hands t x (ap hand e ∙ some))
 
 -- of each operation: a touch
-touch_keeps : (g : Geometry) (s : State) (t : ℕ) (killed grant : Bool) (p : TouchPhase) (turn : Turn TouchPhase) (new : Pool)
-    → Inv g s → s.calls t ≡ Some (call.Touch p) → TouchRow (pool_of s) t killed grant p turn new → KeepsItsFrames (pool_of s) new
-touch_keeps g s t killed grant (touch.Look p) turn new h e row =
-    by_option (find (s.mappings t) p.vpn) row
-    (λ _ r. quiet (pool_of s) r refl refl)
-    (λ place _ r. by_option (s.entries t p.vpn) r
-    (λ _ r. quiet (pool_of s) r refl refl)
-    (λ x _ r. reads (pool_of s) p.access x r.0 r.2 refl refl r.1))
-touch_keeps g s t killed grant (touch.Want p) turn new h e row =
-    by_test killed row (λ _ r. quiet (pool_of s) r refl refl) (λ _ r. want_keeps (pool_of s) t _ _ _ _ turn new r)
-touch_keeps g s t killed grant (touch.Locked p) turn new h e row =
-    by_test (nat_le (s.size p.touch.file) p.touch.index) row
-    (λ _ r. quiet (pool_of s) r refl refl)
-    (λ _ r. by_test (is_some (s.pages p.touch.file p.touch.index)) r
-    (λ _ r. quiet (pool_of s) r refl refl) (λ _ r. quiet (pool_of s) r refl refl))
-touch_keeps g s t killed grant (touch.Missing p) turn new h e row =
-    change_keeps (pool_of s) grant _ p.touch.index (p.touch.index + 1) _
-    (λ change. touch.Changed (record { touch = p.touch; pending = change })) turn new row
-touch_keeps g s t killed grant (touch.Changed p) turn new h e row =
-    by_test killed row
-    (λ _ r. quiet (pool_of s) r refl refl)
-    (λ _ r. take_keeps (pool_of s) p.pending.missing
-    (λ a. touch.Abort (record { touch = p.touch; pending = p.pending; answer = a })) _ turn new r)
-touch_keeps g s t killed grant (touch.Abort p) turn new h e row = quiet (pool_of s) row refl refl
-touch_keeps g s t killed grant (touch.Taken p) turn new h e row = commit_keeps (pool_of s) _ p.pending _ _ turn new row
-touch_keeps g s t killed grant (touch.Settle p) turn new h e row = quiet (pool_of s) row.2 refl refl
-touch_keeps g s t killed grant (touch.Committed p) turn new h e row =
-    by_test (nat_le (s.size p.touch.file) p.touch.index) row
-    (λ _ r. quiet (pool_of s) r refl refl)
-    (λ _ r. by_test grant r
-    (λ _ r. moves (pool_of s) p.held (state.Placed 0) r refl refl (held g s t p.held _ h e refl) refl)
-    (λ _ r. quiet (pool_of s) r refl refl))
-touch_keeps g s t killed grant (touch.Restore p) turn new h e row =
-    moves (pool_of s) p.held state.Free row refl refl (held g s t p.held _ h e refl) refl
-touch_keeps g s t killed grant (touch.Found p) turn new h e row =
-    by_test (nat_le (s.size p.touch.file) p.touch.index) row
-    (λ _ r. quiet (pool_of s) r refl refl)
-    (λ _ r. by_test grant r
-    (λ _ r. reads (pool_of s) p.touch.access r.0 r.1 r.4 refl refl r.3)
-    (λ _ r. quiet (pool_of s) r refl refl))
-touch_keeps g s t killed grant (touch.Leave p) turn new h e row = quiet (pool_of s) row refl refl
+touch_keeps : (s : State) (t : ℕ) (killed grant : Bool) (p : TouchPhase) (turn : Turn TouchPhase) (new : Pool)
+    → Inv s.geometry s → s.calls t ≡ Some (call.Touch p) → TouchRow (pool_of s) t killed grant p turn new → KeepsItsFrames (pool_of s) new
+touch_keeps s t killed grant p turn new h e row =
+    frames_stay call.Touch s t p turn new h e (touch_did s t killed grant p turn new h e row)
 
 -- a map
 map_keeps : (s : Pool) (t : ℕ) (killed grant : Bool) (p : MapPhase) (turn : Turn MapPhase) (new : Pool)
@@ -220,63 +148,17 @@ map_keeps s t killed grant (map.Enter p) turn new row = quiet s row refl refl
 map_keeps s t killed grant (map.Leave p) turn new row = quiet s row refl refl
 
 -- an allocation
-alloc_keeps : (g : Geometry) (s : State) (t : ℕ) (killed grant : Bool) (p : AllocPhase) (turn : Turn AllocPhase) (new : Pool)
-    → Inv g s → s.calls t ≡ Some (call.Alloc p) → AllocRow (pool_of s) t killed grant p turn new → KeepsItsFrames (pool_of s) new
-alloc_keeps g s t killed grant (alloc.Start p) turn new h e row = start_keeps (pool_of s) t killed _ _ _ _ _ turn new row
-alloc_keeps g s t killed grant (alloc.Head p) turn new h e row =
-    by_test killed row (λ _ r. quiet (pool_of s) r refl refl) (λ _ r. quiet (pool_of s) r refl refl)
-alloc_keeps g s t killed grant (alloc.Want p) turn new h e row =
-    by_test killed row (λ _ r. quiet (pool_of s) r refl refl) (λ _ r. want_keeps (pool_of s) t _ _ _ _ turn new r)
-alloc_keeps g s t killed grant (alloc.Locked p) turn new h e row =
-    by_test (is_some (s.pages p.allocation.file p.index)) row
-    (λ _ r. quiet (pool_of s) r refl refl) (λ _ r. quiet (pool_of s) r refl refl)
-alloc_keeps g s t killed grant (alloc.Missing p) turn new h e row =
-    change_keeps (pool_of s) grant _ p.index (p.index + 1) _
-    (λ change. alloc.Changed (record { allocation = p.allocation; index = p.index; pending = change })) turn new row
-alloc_keeps g s t killed grant (alloc.Changed p) turn new h e row =
-    by_test killed row
-    (λ _ r. quiet (pool_of s) r refl refl)
-    (λ _ r. take_keeps (pool_of s) p.pending.missing
-    (λ a. alloc.Abort (record { allocation = p.allocation; index = p.index; pending = p.pending; answer = a })) _ turn new r)
-alloc_keeps g s t killed grant (alloc.Abort p) turn new h e row = quiet (pool_of s) row refl refl
-alloc_keeps g s t killed grant (alloc.Taken p) turn new h e row = commit_keeps (pool_of s) _ p.pending _ _ turn new row
-alloc_keeps g s t killed grant (alloc.Settle p) turn new h e row = quiet (pool_of s) row.2 refl refl
-alloc_keeps g s t killed grant (alloc.Committed p) turn new h e row =
-    by_test grant row
-    (λ _ r. moves (pool_of s) p.held (state.Placed 0) r refl refl (held g s t p.held _ h e refl) refl)
-    (λ _ r. quiet (pool_of s) r refl refl)
-alloc_keeps g s t killed grant (alloc.Restore p) turn new h e row =
-    moves (pool_of s) p.held state.Free row refl refl (held g s t p.held _ h e refl) refl
-alloc_keeps g s t killed grant (alloc.Unslot p) turn new h e row =
-    by_option p.answer row
-    (λ _ r. by_test (nat_lt (p.index + 1) (p.allocation.from + p.allocation.len)) r
-    (λ _ r. quiet (pool_of s) r refl refl)
-    (λ _ r. by_test p.allocation.keep r (λ _ r. quiet (pool_of s) r refl refl) (λ _ r. quiet (pool_of s) r refl refl)))
-    (λ a _ r. quiet (pool_of s) r refl refl)
-alloc_keeps g s t killed grant (alloc.Extend p) turn new h e row = quiet (pool_of s) row refl refl
-alloc_keeps g s t killed grant (alloc.Leave p) turn new h e row = quiet (pool_of s) row refl refl
+alloc_keeps : (s : State) (t : ℕ) (killed grant : Bool) (p : AllocPhase) (turn : Turn AllocPhase) (new : Pool)
+    → Inv s.geometry s → s.calls t ≡ Some (call.Alloc p) → AllocRow (pool_of s) t killed grant p turn new → KeepsItsFrames (pool_of s) new
+alloc_keeps s t killed grant p turn new h e row =
+    frames_stay call.Alloc s t p turn new h e (alloc_did s t killed grant p turn new h e row)
 
 -- a punch
-punch_keeps : (g : Geometry) (s : State) (t : ℕ) (killed grant : Bool) (p : PunchPhase) (turn : Turn PunchPhase) (new : Pool)
-    → Inv g s → s.calls t ≡ Some (call.Punch p) → PunchRow (pool_of s) t killed grant p turn new → KeepsItsFrames (pool_of s) new
-punch_keeps g s t killed grant (punch.Start p) turn new h e row = start_keeps (pool_of s) t killed _ _ _ _ _ turn new row
-punch_keeps g s t killed grant (punch.Want p) turn new h e row = want_keeps (pool_of s) t _ _ _ _ turn new row
-punch_keeps g s t killed grant (punch.Locked p) turn new h e row =
-    by_test (is_some (s.pages p.hole.file p.index)) row
-    (λ _ r. quiet (pool_of s) r refl refl) (λ _ r. quiet (pool_of s) r refl refl)
-punch_keeps g s t killed grant (punch.Unmap p) turn new h e row = unmap_index_keeps (pool_of s) p.task _ _ _ _ turn new row
-punch_keeps g s t killed grant (punch.Evict p) turn new h e row = evict_keeps g s p.hole.file p.index _ turn new h row
-punch_keeps g s t killed grant (punch.Delete p) turn new h e row =
-    by_test (splits (s.reserved p.hole.file) p.index && nat_le (s.spare p.hole.file) (s.pending p.hole.file) && not grant) row
-    (λ _ r. quiet (pool_of s) r refl refl) (λ _ r. quiet (pool_of s) r refl refl)
-punch_keeps g s t killed grant (punch.Free p) turn new h e row =
-    by_test p.denied row
-    (λ _ r. moves (pool_of s) p.held state.Free r refl refl (held g s t p.held _ h e refl) refl)
-    (λ _ r. moves (pool_of s) p.held state.Free r.1 refl refl (held g s t p.held _ h e refl) refl)
-punch_keeps g s t killed grant (punch.Unslot p) turn new h e row =
-    by_test (nat_lt (p.index + 1) (p.hole.from + p.hole.len)) row
-    (λ _ r. quiet (pool_of s) r refl refl) (λ _ r. quiet (pool_of s) r refl refl)
-punch_keeps g s t killed grant (punch.Leave p) turn new h e row = quiet (pool_of s) row refl refl
+punch_keeps : (s : State) (t : ℕ) (killed grant : Bool) (p : PunchPhase) (turn : Turn PunchPhase) (new : Pool)
+    → Inv s.geometry s → 1 ≤ t → t < s.geometry.tasks + 1 → s.calls t ≡ Some (call.Punch p)
+    → PunchRow (pool_of s) t killed grant p turn new → KeepsItsFrames (pool_of s) new
+punch_keeps s t killed grant p turn new h one l e row =
+    frames_stay call.Punch s t p turn new h e (punch_did s t killed grant p turn new h one l e row)
 
 -- a truncation
 truncate_keeps : (g : Geometry) (s : State) (t : ℕ) (killed grant : Bool) (p : TruncatePhase) (turn : Turn TruncatePhase) (new : Pool)
@@ -318,18 +200,18 @@ exit_keeps s t killed grant (exit.Drop p) turn new row =
 exit_keeps s t killed grant exit.Leave turn new row = quiet s row refl refl
 
 -- so does each step of a call
-call_keeps_frames : (g : Geometry) (s : State) (t : ℕ) (killed grant : Bool) (c : Call) (o : Outcome) (new : Pool) (next : Option Call)
-    → Inv g s → s.calls t ≡ Some c → CallRow (pool_of s) t killed grant c o new next → KeepsItsFrames (pool_of s) new
+call_keeps_frames : (s : State) (t : ℕ) (killed grant : Bool) (c : Call) (o : Outcome) (new : Pool) (next : Option Call)
+    → Inv s.geometry s → 1 ≤ t → t < s.geometry.tasks + 1 → s.calls t ≡ Some c → CallRow (pool_of s) t killed grant c o new next → KeepsItsFrames (pool_of s) new
 unfolding CallRow
-call_keeps_frames g s t killed grant (call.Touch p) o new next h e (turn, row, tells, leaves) = touch_keeps g s t killed grant p turn new h e row
-call_keeps_frames g s t killed grant (call.Map p) o new next h e (turn, row, tells, leaves) = map_keeps (pool_of s) t killed grant p turn new row
-call_keeps_frames g s t killed grant (call.Alloc p) o new next h e (turn, row, tells, leaves) = alloc_keeps g s t killed grant p turn new h e row
-call_keeps_frames g s t killed grant (call.Punch p) o new next h e (turn, row, tells, leaves) = punch_keeps g s t killed grant p turn new h e row
-call_keeps_frames g s t killed grant (call.Truncate p) o new next h e (turn, row, tells, leaves) =
-    truncate_keeps g s t killed grant p turn new h e row
-call_keeps_frames g s t killed grant (call.Unmap p) o new next h e (turn, row, tells, leaves) =
+call_keeps_frames s t killed grant (call.Touch p) o new next h one l e (turn, row, tells, leaves) = touch_keeps s t killed grant p turn new h e row
+call_keeps_frames s t killed grant (call.Map p) o new next h one l e (turn, row, tells, leaves) = map_keeps (pool_of s) t killed grant p turn new row
+call_keeps_frames s t killed grant (call.Alloc p) o new next h one l e (turn, row, tells, leaves) = alloc_keeps s t killed grant p turn new h e row
+call_keeps_frames s t killed grant (call.Punch p) o new next h one l e (turn, row, tells, leaves) = punch_keeps s t killed grant p turn new h one l e row
+call_keeps_frames s t killed grant (call.Truncate p) o new next h one l e (turn, row, tells, leaves) =
+    truncate_keeps s.geometry s t killed grant p turn new h e row
+call_keeps_frames s t killed grant (call.Unmap p) o new next h one l e (turn, row, tells, leaves) =
     unmap_keeps (pool_of s) t killed grant p turn new row
-call_keeps_frames g s t killed grant (call.Exit p) o new next h e (turn, row, tells, leaves) =
+call_keeps_frames s t killed grant (call.Exit p) o new next h one l e (turn, row, tells, leaves) =
     exit_keeps (pool_of s) t killed grant p turn new row
 
 -- and each event that is no resize
@@ -344,7 +226,8 @@ row_keeps_frames s (Kill t) o n h row no_resize = kill_cases s t o n (KeepsItsFr
 row_keeps_frames s (Step t grant) o n h row no_resize = step_cases s t grant o n (KeepsItsFrames (pool_of s) (pool_of n)) row
     (λ why e d. stay (pool_of s) (ap pool_of d) refl refl)
     (λ c lives e pool next r d. subst (λ (m : Pool). KeepsItsFrames (pool_of s) m) (sym (ap pool_of d))
-    (call_keeps_frames s.geometry s t _ grant c o pool next h.inv e r))
+    (call_keeps_frames s t _ grant c o pool next h.inv (h.lives.there t lives).0
+    (let z = (h.lives.there t lives).1 in omega arith) e r))
 row_keeps_frames s (Resize size) o n h row no_resize = absurd (no_resize size refl)
 
 -- so in every reached state

@@ -1,6 +1,6 @@
 -- What each row does to the pages and their words.
-use Rattle.std.proofs.Common.{◌≡◌, ℕ, ◌+◌, ◌-◌, refl, ap, sym, ◌∙◌, inl, inr, ◌⊎◌}
-use Rattle.std.specs.Prelude.{Bool, true, false, not, ◌&&◌, ◌==◌, nat_le, nat_lt, max, is_some, Option, Some, None}
+use Rattle.std.proofs.Common.{◌≡◌, ℕ, ◌+◌, ◌-◌, refl, ap, sym, ◌∙◌, inl, inr}
+use Rattle.std.specs.Prelude.{Bool, false, not, ◌&&◌, ◌==◌, nat_le, nat_lt, max, is_some, Option, Some, None}
 use Rattle.hp_base.specs.Numbers.{put, put2}
 use Rattle.hp_base.specs.Indices.{missing, splits}
 use Rattle.hp_base.specs.Mappings.{is_base, first_base, without}
@@ -9,23 +9,16 @@ use Rattle.hp_base.proofs.Puts.{put_tells, put2_tells}
 use Rattle.hp_frames.specs.declared.frame.FrameState.{FrameState}
 use Rattle.hp_frames.specs.declared.frame.FrameState.TheVariants as state
 use Rattle.hp_region.specs.Change.{Change}
-use Rattle.hp_machine.specs.State.{exceeds_quota, quota_is_used_up, Pool, State, pool_of, slot_of, frees}
-use Rattle.hp_machine.specs.Parts.{StartRow, WantSlotRow, ChangeRow, CommitRow, TakeRow, UnmapIndexRow, EvictRow}
-use Rattle.hp_machine.specs.TouchRows.{TouchRow}
+use Rattle.hp_machine.specs.State.{exceeds_quota, Pool, State, pool_of, slot_of, frees}
+use Rattle.hp_machine.specs.Parts.{StartRow, WantSlotRow, ChangeRow, UnmapIndexRow, EvictRow}
 use Rattle.hp_machine.specs.MapRows.{MapRow}
-use Rattle.hp_machine.specs.AllocRows.{AllocRow}
 use Rattle.hp_machine.specs.PunchRows.{PunchRow}
 use Rattle.hp_machine.specs.TruncateRows.{TruncateRow}
 use Rattle.hp_machine.specs.UnmapRows.{UnmapRow}
 use Rattle.hp_machine.specs.ExitRows.{ExitRow}
 use Rattle.hp_machine.specs.Events.{CallRow}
-use Rattle.hp_machine.specs.Views.{hand}
-use Rattle.hp_machine.specs.declared.touch.TouchPhase.{TouchPhase}
-use Rattle.hp_machine.specs.declared.touch.TouchPhase.TheVariants as touch
 use Rattle.hp_machine.specs.declared.map.MapPhase.{MapPhase}
 use Rattle.hp_machine.specs.declared.map.MapPhase.TheVariants as map
-use Rattle.hp_machine.specs.declared.alloc.AllocPhase.{AllocPhase}
-use Rattle.hp_machine.specs.declared.alloc.AllocPhase.TheVariants as alloc
 use Rattle.hp_machine.specs.declared.punch.PunchPhase.{PunchPhase}
 use Rattle.hp_machine.specs.declared.punch.PunchPhase.TheVariants as punch
 use Rattle.hp_machine.specs.declared.truncate.TruncatePhase.{TruncatePhase}
@@ -39,22 +32,11 @@ use Rattle.hp_machine.specs.declared.call.Call.{Call}
 use Rattle.hp_machine.specs.declared.call.Call.TheVariants as call
 use Rattle.hp_machine.specs.declared.call.Turn.{Turn}
 use Rattle.hp_laws.proofs.Invariant.{Inv}
-use Rattle.hp_laws.proofs.Shared.{by_test, by_option, stands_at}
-
--- each page was there, with its word
-abbrev pub Shrinks : State → Pool → Type 0
-Shrinks s new =
-    (f i x w : ℕ) → new.pages f i ≡ Some x → new.frame x ≡ state.Placed w → (s.pages f i ≡ Some x) × (s.frame x ≡ state.Placed w)
-
--- or one page more, with word 0
-abbrev pub PlacesOne : State → Pool → Type 0
-PlacesOne s new =
-    (f i x : ℕ) × (new.pages ≡ put2 s.pages f i (Some x)) × (new.frame ≡ put s.frame x (state.Placed 0))
-    × (s.pages f i ≡ None) × (s.frame x ≡ state.Hand)
-
--- one of the two: all that a row does to the pages and their words, but a touch's that reads or writes one
-abbrev pub Pages : State → Pool → Type 0
-Pages s new = Shrinks s new ⊎ PlacesOne s new
+use Rattle.hp_laws.proofs.Fits.{reads}
+use Rattle.hp_laws.proofs.ByWrite.{Pages, pages_by}
+use Rattle.hp_laws.proofs.TouchKeeps.{touch_did}
+use Rattle.hp_laws.proofs.AllocKeeps.{alloc_did}
+use Rattle.hp_laws.proofs.Shared.{by_test, by_option}
 
 -- a leaf that leaves pages and frames alone does so
 same : (s : State) (there new : Pool) → new ≡ there → there.pages ≡ s.pages → there.frame ≡ s.frame → Pages s new
@@ -106,22 +88,6 @@ change_pages : {P : Type 0} (s : State) (grant : Bool) (f from to : ℕ) (denied
 change_pages s grant f from to denied changed turn new row =
     by_test ((s.spare f == s.pending f) && not grant) row (λ _ r. same s _ new r.1 refl refl) (λ _ r. same s _ new r.1 refl refl)
 
--- taking a frame
-take_pages : {P : Type 0} (s : State) (m : ℕ) (refused : Answer → P) (taken : ℕ → P) (turn : Turn P) (new : Pool)
-    → TakeRow (pool_of s) m refused taken turn new → Pages s new
-take_pages s m refused taken turn new row =
-    by_test (m == 0) row (λ _ r. moves s _ new r.0 state.Hand r.3.1 refl refl hand_not_placed)
-    (λ _ r. by_test (quota_is_used_up (pool_of s)) r (λ _ r. same s _ new r.1 refl refl)
-    (λ _ r. by_test (frees (pool_of s) == s.resv) r (λ _ r. same s _ new r.1 refl refl)
-    (λ _ r. moves s _ new r.0 state.Hand r.2.1 refl refl hand_not_placed)))
-
--- committing a change
-commit_pages : {P : Type 0} (s : State) (f : ℕ) (c : Change) (settle next : P) (turn : Turn P) (new : Pool)
-    → CommitRow (pool_of s) f c settle next turn new → Pages s new
-commit_pages s f c settle next turn new row =
-    by_test (nat_lt (missing (s.reserved f) c.from c.to) c.missing) row (λ _ r. same s _ new r.1 refl refl)
-    (λ _ r. same s _ new r.1 refl refl)
-
 -- clearing one task's entries
 unmap_index_pages : {P : Type 0} (s : State) (k f i : ℕ) (more last : P) (turn : Turn P) (new : Pool)
     → UnmapIndexRow (pool_of s) k f i more last turn new → Pages s new
@@ -141,49 +107,6 @@ evict_pages s f i next turn new (x, page, row) = inl (λ k j y w a b.
       ]),
       (elim (put_tells s.frame x state.Hand y) [ inl q ↦ absurd (hand_not_placed w (sym q.1 ∙ d)) | inr q ↦ sym q.1 ∙ d ]),
     ))
-
--- placing the frame in a hand makes one page more, with word 0
-places : (s : State) (t f i x : ℕ) (new there : Pool) → new ≡ there → there.pages ≡ put2 s.pages f i (Some x)
-    → there.frame ≡ put s.frame x (state.Placed 0) → s.pages f i ≡ None → s.frame x ≡ state.Hand → Pages s new
-places s t f i x new there e pages frame bare hand =
-    inr (f, i, x, ap (λ (m : Pool). m.pages) e ∙ pages, ap (λ (m : Pool). m.frame) e ∙ frame, bare, hand)
-
--- a touch that looks or found its page, whose step may read or write a word
-abbrev pub is_reader : TouchPhase → Bool
-is_reader (touch.Look p) = true
-is_reader (touch.Found p) = true
-is_reader other = false
-
--- so no row of a touch does more, but those that read or write a word
-pub touch_pages : (s : State) (t : ℕ) (killed grant : Bool) (phase : TouchPhase) (turn : Turn TouchPhase) (new : Pool)
-    → is_reader phase ≡ false → Inv s.geometry s → s.calls t ≡ Some (call.Touch phase)
-    → TouchRow (pool_of s) t killed grant phase turn new → Pages s new
-touch_pages s t killed grant (touch.Look p) turn new reads h e row = (let d : true ≡ false = reads in absurd (cc))
-touch_pages s t killed grant (touch.Want p) turn new reads h e row =
-    by_test killed row (λ _ r. same s _ new r.1 refl refl) (λ _ r. want_pages s t p.touch.file p.touch.index _ _ turn new r)
-touch_pages s t killed grant (touch.Locked p) turn new reads h e row =
-    by_test (nat_le (s.size p.touch.file) p.touch.index) row (λ _ r. same s _ new r.1 refl refl)
-    (λ _ r. by_test (is_some (s.pages p.touch.file p.touch.index)) r (λ _ r. same s _ new r.1 refl refl)
-    (λ _ r. same s _ new r.1 refl refl))
-touch_pages s t killed grant (touch.Missing p) turn new reads h e row =
-    change_pages s grant p.touch.file p.touch.index (p.touch.index + 1) _
-    (λ k. touch.Changed (record { touch = p.touch; pending = k })) turn new row
-touch_pages s t killed grant (touch.Changed p) turn new reads h e row =
-    by_test killed row (λ _ r. same s _ new r.1 refl refl)
-    (λ _ r. take_pages s p.pending.missing
-    (λ a. touch.Abort (record { touch = p.touch; pending = p.pending; answer = a }))
-    (λ x. touch.Taken (record { touch = p.touch; pending = p.pending; held = x })) turn new r)
-touch_pages s t killed grant (touch.Abort p) turn new reads h e row = same s _ new row.1 refl refl
-touch_pages s t killed grant (touch.Taken p) turn new reads h e row = commit_pages s p.touch.file p.pending _ _ turn new row
-touch_pages s t killed grant (touch.Settle p) turn new reads h e (low, used, row) = same s _ new row.1 refl refl
-touch_pages s t killed grant (touch.Committed p) turn new reads h e row =
-    by_test (nat_le (s.size p.touch.file) p.touch.index) row (λ _ r. same s _ new r.1 refl refl)
-    (λ _ r. by_test grant r
-    (λ _ r. places s t p.touch.file p.touch.index p.held new _ r.1 refl refl (stands_at s t _ h e).facts.bare
-    (h.place.hands t p.held (ap hand e))) (λ _ r. same s _ new r.1 refl refl))
-touch_pages s t killed grant (touch.Restore p) turn new reads h e row = moves s _ new p.held state.Free row.1 refl refl free_not_placed
-touch_pages s t killed grant (touch.Found p) turn new reads h e row = (let d : true ≡ false = reads in absurd (cc))
-touch_pages s t killed grant (touch.Leave p) turn new reads h e row = same s _ new row.1 refl refl
 
 -- no row of a map
 map_pages : (s : State) (t : ℕ) (killed grant : Bool) (phase : MapPhase) (turn : Turn MapPhase) (new : Pool) → Inv s.geometry s
@@ -209,41 +132,6 @@ map_pages s t killed grant (map.Accounted p) turn new h e row =
 map_pages s t killed grant (map.Settle p) turn new h e (low, used, row) = same s _ new row.1 refl refl
 map_pages s t killed grant (map.Enter p) turn new h e row = same s _ new row.1 refl refl
 map_pages s t killed grant (map.Leave p) turn new h e row = same s _ new row.1 refl refl
-
--- of an allocation
-alloc_pages : (s : State) (t : ℕ) (killed grant : Bool) (phase : AllocPhase) (turn : Turn AllocPhase) (new : Pool)
-    → Inv s.geometry s → s.calls t ≡ Some (call.Alloc phase) → AllocRow (pool_of s) t killed grant phase turn new → Pages s new
-alloc_pages s t killed grant (alloc.Start p) turn new h e row = start_pages s t killed p.allocation.file _ _ _ _ turn new row
-alloc_pages s t killed grant (alloc.Head p) turn new h e row =
-    by_test killed row (λ _ r. same s _ new r.1 refl refl) (λ _ r. same s _ new r.1 refl refl)
-alloc_pages s t killed grant (alloc.Want p) turn new h e row =
-    by_test killed row (λ _ r. same s _ new r.1 refl refl) (λ _ r. want_pages s t p.allocation.file p.index _ _ turn new r)
-alloc_pages s t killed grant (alloc.Locked p) turn new h e row =
-    by_test (is_some (s.pages p.allocation.file p.index)) row (λ _ r. same s _ new r.1 refl refl)
-    (λ _ r. same s _ new r.1 refl refl)
-alloc_pages s t killed grant (alloc.Missing p) turn new h e row =
-    change_pages s grant p.allocation.file p.index (p.index + 1) _
-    (λ k. alloc.Changed (record { allocation = p.allocation; index = p.index; pending = k })) turn new row
-alloc_pages s t killed grant (alloc.Changed p) turn new h e row =
-    by_test killed row (λ _ r. same s _ new r.1 refl refl)
-    (λ _ r. take_pages s p.pending.missing
-    (λ a. alloc.Abort (record { allocation = p.allocation; index = p.index; pending = p.pending; answer = a }))
-    (λ x. alloc.Taken (record { allocation = p.allocation; index = p.index; pending = p.pending; held = x })) turn new r)
-alloc_pages s t killed grant (alloc.Abort p) turn new h e row = same s _ new row.1 refl refl
-alloc_pages s t killed grant (alloc.Taken p) turn new h e row = commit_pages s p.allocation.file p.pending _ _ turn new row
-alloc_pages s t killed grant (alloc.Settle p) turn new h e (low, used, row) = same s _ new row.1 refl refl
-alloc_pages s t killed grant (alloc.Committed p) turn new h e row =
-    by_test grant row (λ _ r. places s t p.allocation.file p.index p.held new _ r.1 refl refl
-    (stands_at s t _ h e).facts.bare (h.place.hands t p.held (ap hand e))) (λ _ r. same s _ new r.1 refl refl)
-alloc_pages s t killed grant (alloc.Restore p) turn new h e row = moves s _ new p.held state.Free row.1 refl refl free_not_placed
-alloc_pages s t killed grant (alloc.Unslot p) turn new h e row =
-    by_option p.answer row
-    (λ _ r. by_test (nat_lt (p.index + 1) (p.allocation.from + p.allocation.len)) r
-    (λ _ r. same s _ new r.1 refl refl)
-    (λ _ r. by_test p.allocation.keep r (λ _ r. same s _ new r.1 refl refl) (λ _ r. same s _ new r.1 refl refl)))
-    (λ a _ r. same s _ new r.1 refl refl)
-alloc_pages s t killed grant (alloc.Extend p) turn new h e row = same s _ new row.1 refl refl
-alloc_pages s t killed grant (alloc.Leave p) turn new h e row = same s _ new row.1 refl refl
 
 -- of a punch
 punch_pages : (s : State) (t : ℕ) (killed grant : Bool) (phase : PunchPhase) (turn : Turn PunchPhase) (new : Pool)
@@ -308,19 +196,15 @@ exit_pages s t killed grant (exit.Drop p) turn new h e row =
     (λ base _ r. same s _ new r.1 refl refl)
 exit_pages s t killed grant exit.Leave turn new h e row = same s _ new row.1 refl refl
 
--- a call that is such a touch
-abbrev pub reads : Call → Bool
-reads (call.Touch phase) = is_reader phase
-reads other = false
-
 -- so no step of a call does, but of a touch that reads or writes
 pub call_pages : (s : State) (t : ℕ) (killed grant : Bool) (c : Call) (o : Outcome) (new : Pool) (next : Option Call)
-    → reads c ≡ false → Inv s.geometry s → s.calls t ≡ Some c → CallRow (pool_of s) t killed grant c o new next → Pages s new
+    → reads (Some c) ≡ false → Inv s.geometry s → s.calls t ≡ Some c → CallRow (pool_of s) t killed grant c o new next → Pages s new
 unfolding CallRow
 call_pages s t killed grant (call.Touch p) o new next reads h e (turn, row, tells, leaves) =
-    touch_pages s t killed grant p turn new reads h e row
+    pages_by call.Touch s t p turn new h e reads (touch_did s t killed grant p turn new h e row)
 call_pages s t killed grant (call.Map p) o new next reads h e (turn, row, tells, leaves) = map_pages s t killed grant p turn new h e row
-call_pages s t killed grant (call.Alloc p) o new next reads h e (turn, row, tells, leaves) = alloc_pages s t killed grant p turn new h e row
+call_pages s t killed grant (call.Alloc p) o new next reads h e (turn, row, tells, leaves) =
+    pages_by call.Alloc s t p turn new h e reads (alloc_did s t killed grant p turn new h e row)
 call_pages s t killed grant (call.Punch p) o new next reads h e (turn, row, tells, leaves) = punch_pages s t killed grant p turn new h e row
 call_pages s t killed grant (call.Truncate p) o new next reads h e (turn, row, tells, leaves) =
     truncate_pages s t killed grant p turn new h e row

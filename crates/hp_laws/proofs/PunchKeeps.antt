@@ -1,220 +1,216 @@
--- Each row of a punch keeps the invariant.
+-- What each row of a punch did, so it keeps the invariant.
 use Rattle.std.proofs.Common.{◌≡◌, ℕ, ◌+◌, ◌-◌, ◌<◌, ◌≤◌, refl, ap, arith}
-use Rattle.std.specs.Prelude.{Bool, true, false, not, ◌&&◌, nat_lt, nat_le, is_some, Option, Some, None, if◌then◌else◌}
+use Rattle.std.specs.Prelude.{Bool, true, not, ◌&&◌, ◌==◌, nat_lt, nat_le, is_some, Option, Some, None}
 use Rattle.std.proofs.lemmas.Bool.Decides.{nat_tests}
-use Rattle.hp_base.specs.Numbers.{put, bit}
+use Rattle.hp_base.specs.Numbers.{bit}
 use Rattle.hp_base.specs.Indices.{splits}
 use Rattle.hp_base.specs.declared.answer.Answer.TheVariants as answer
 use Rattle.hp_base.proofs.Puts.{put_same, put2_same}
-use Rattle.hp_base.specs.Mappings.{without_index}
-use Rattle.hp_frames.proofs.Quotas.{less_within}
 use Rattle.hp_machine.specs.Views.{less, used_owed}
 use Rattle.hp_machine.specs.declared.call.Call.{Call}
-use Rattle.hp_machine.specs.PunchRows.{PunchRow, PunchLockedRow, PunchUnmapRow, PunchEvictRow, PunchDeleteRow, PunchFreeRow, PunchUnslotRow}
-use Rattle.hp_machine.specs.declared.punch.Locked.{Locked}
-use Rattle.hp_machine.specs.declared.punch.Unmap.{Unmap}
-use Rattle.hp_machine.specs.declared.punch.Evict.{Evict}
-use Rattle.hp_machine.specs.declared.punch.Delete.{Delete}
-use Rattle.hp_machine.specs.declared.punch.Free.{Free}
-use Rattle.hp_machine.specs.declared.punch.Unslot.{Unslot}
+use Rattle.hp_machine.specs.PunchRows.{PunchRow}
 use Rattle.hp_machine.specs.declared.punch.PunchPhase.{PunchPhase}
 use Rattle.hp_machine.specs.declared.punch.PunchPhase.TheVariants as at
 use Rattle.hp_machine.specs.declared.call.Call.TheVariants as call
 use Rattle.hp_machine.specs.declared.call.Turn.{Turn}
 use Rattle.hp_machine.specs.State.{Pool, State, pool_of, slot_of}
-use Rattle.hp_laws.proofs.Deciding.{lt, le}
-use Rattle.hp_laws.proofs.Standing.{Stands, below_limit, in_first, in_next}
-use Rattle.hp_laws.proofs.Invariant.{Inv, stays}
-use Rattle.hp_laws.proofs.Holding.{leaves_slot, leaves_lock}
-use Rattle.hp_laws.proofs.Effects.{gives}
-use Rattle.hp_laws.proofs.Tables.{clears, cleared_next}
-use Rattle.hp_laws.proofs.Removals.{evicts, deletes, page_marked}
-use Rattle.hp_laws.proofs.Shared.{after, so, by_test, stands_at, start_row, good_range, want_row}
+use Rattle.hp_laws.proofs.Deciding.{lt, le, never}
+use Rattle.hp_laws.proofs.Standing.{below_limit, in_first, in_next}
+use Rattle.hp_laws.proofs.Invariant.{Inv}
+use Rattle.hp_laws.proofs.Tables.{cleared_next}
+use Rattle.hp_laws.proofs.Removals.{page_marked}
+use Rattle.hp_laws.proofs.ByWrite.{keeps_inv}
+use Rattle.hp_laws.proofs.Writes.{Nothing, LeavesLock, LeavesSlot, Clears, Evicts, Deletes, Restores, FreesUnreserved}
+use Rattle.hp_laws.proofs.Did.{times_next, first_left, Did, went, over, start_did, want_did}
+use Rattle.hp_laws.proofs.Shared.{after, by_test, stands_at, good_range}
 use Rattle.hp_laws.proofs.TouchKeeps.{some_page}
 
--- a split leaves a spare for each change
-spare_left : (b : Bool) (pending spare : ℕ) → pending ≤ spare → pending ≤ (if b && nat_lt pending spare then spare - 1 else spare)
-spare_left true pending spare l = here (nat_lt pending spare) refl
-  where
-    here : (d : Bool) → nat_lt pending spare ≡ d → pending ≤ (if d then spare - 1 else spare)
-    here true e = let a : pending < spare = grind (arith, nat_tests) in omega arith
-    here false e = l
-spare_left false pending spare l = l
+-- an index is at itself
+here_at : (f i : ℕ) → ((f == f) && (i == i)) ≡ true
+here_at f i = grind (arith, nat_tests)
 
--- at locked it goes on to clear an index with a page, and passes over one without
-punch_locked : (s : State) (t : ℕ) (p : Locked) (turn : Turn PunchPhase) (new : Pool) → Inv s.geometry s → 1 ≤ t
-    → t < s.geometry.tasks + 1 → s.calls t ≡ Some (call.Punch (at.Locked p)) → PunchLockedRow (pool_of s) p turn new
-    → Inv s.geometry (after call.Punch s t turn new)
-punch_locked s t p turn new h one l e row =
-    let y = stands_at s t _ h e in
-    by_test (is_some (s.pages p.hole.file p.index)) row
-    (λ page r. so call.Punch s t _ turn _ new r
-    (stays s.geometry s t _ (Some (call.Punch (at.Unmap (record { hole = p.hole; index = p.index; task = 1 })))) h l e refl tt
-    (record {
-      slot = y.slot;
-      lock = y.lock;
-      facts = record {
-        aim = y.facts.aim;
-        cached = some_page _ page;
-        task = (omega arith, omega arith);
-        cleared = λ w v x a b c d. absurd (omega arith);
-      };
-    })))
-    (λ none r. so call.Punch s t _ turn _ new r
-    (stays s.geometry s t _ (Some (call.Punch (at.Unslot (record { hole = p.hole; index = p.index })))) h l e refl
-    tt (record { slot = y.slot; lock = y.lock; facts = y.facts })))
-
--- at unmap it clears one task's entries, and goes on to the next task or to evict
-punch_unmap : (s : State) (t : ℕ) (p : Unmap) (turn : Turn PunchPhase) (new : Pool) → Inv s.geometry s → t < s.geometry.tasks + 1
-    → s.calls t ≡ Some (call.Punch (at.Unmap p)) → PunchUnmapRow (pool_of s) p turn new
-    → Inv s.geometry (after call.Punch s t turn new)
-punch_unmap s t p turn new h l e row =
-    let y = stands_at s t _ h e in
-    let f = p.hole.file in
-    let n : State = record s {
-      pool = record s.pool {
-        entries = put s.entries p.task
-            (without_index (s.mappings p.task) (s.entries p.task) f p.index);
-      };
-    } in
-    by_test (nat_lt p.task s.geometry.tasks) row
-    (λ more r. so call.Punch s t _ turn _ new r
-    (stays s.geometry n t _
-    (Some (call.Punch (at.Unmap (record { hole = p.hole; index = p.index; task = p.task + 1 }))))
-    (clears s.geometry s p.task f p.index h) l e refl tt
-    (record {
-      slot = y.slot;
-      lock = y.lock;
-      facts = record {
-        aim = y.facts.aim;
-        cached = y.facts.cached;
-        task = (omega arith, (let a = lt _ _ more in omega arith));
-        cleared = cleared_next s p.task f p.index y.facts.cleared;
-      };
-    })))
-    (λ last r. so call.Punch s t _ turn _ new r
-    (stays s.geometry n t _ (Some (call.Punch (at.Evict (record { hole = p.hole; index = p.index }))))
-    (clears s.geometry s p.task f p.index h) l e refl tt
-    (record {
-      slot = y.slot;
-      lock = y.lock;
-      facts = record {
-        aim = y.facts.aim;
-        cached = y.facts.cached;
-        cleared = λ w v x a b. cleared_next s p.task f p.index y.facts.cleared w v x a (let c = le _ _ last in omega arith);
-      };
-    })))
-
--- at evict the page goes into its hand
-punch_evict : (s : State) (t : ℕ) (p : Evict) (turn : Turn PunchPhase) (new : Pool) → Inv s.geometry s → t < s.geometry.tasks + 1
-    → s.calls t ≡ Some (call.Punch (at.Evict p)) → PunchEvictRow (pool_of s) p turn new
-    → Inv s.geometry (after call.Punch s t turn new)
-punch_evict s t p turn new h l e row =
-    let y = stands_at s t _ h e in
-    let c = y.facts.cleared in
-    let x = row.0 in
-    so call.Punch s t _ turn _ new row.2
-    (evicts s.geometry s t _ (Some (call.Punch (at.Delete (record { hole = p.hole; index = p.index; held = x }))))
-    p.hole.file p.index x h l e y.facts.aim.file refl refl refl refl refl refl refl row.1 y.slot
-    (λ w v z a d. let o = h.entries.owners w v z a in c w v z o.0 (let b = o.1 in omega arith) a d) tt
-    (record {
-      slot = y.slot;
-      lock = y.lock;
-      facts = record {
-        aim = y.facts.aim;
-        bare = put2_same s.pages p.hole.file p.index None;
-        marked = page_marked s.geometry s p.hole.file p.index x h row.1;
-      };
-    }))
-
--- at delete the index is taken out of the reserved ones, or that is denied
-punch_delete : (s : State) (t : ℕ) (grant : Bool) (p : Delete) (turn : Turn PunchPhase) (new : Pool) → Inv s.geometry s
-    → t < s.geometry.tasks + 1 → s.calls t ≡ Some (call.Punch (at.Delete p)) → PunchDeleteRow (pool_of s) grant p turn new
-    → Inv s.geometry (after call.Punch s t turn new)
-punch_delete s t grant p turn new h l e row =
-    let y = stands_at s t _ h e in
-    let f = p.hole.file in
-    by_test (splits (s.reserved f) p.index && nat_le (s.spare f) (s.pending f) && not grant) row
-    (λ denied r. so call.Punch s t _ turn _ new r
-    (stays s.geometry s t _
-    (Some (call.Punch (at.Free (record { hole = p.hole; index = p.index; held = p.held; denied = true })))) h l e refl tt
-    (record { slot = y.slot; lock = y.lock; facts = record { aim = y.facts.aim; bare = y.facts.bare; marked = λ d. y.facts.marked } })))
-    (λ done r. so call.Punch s t _ turn _ new r
-    (deletes s.geometry s t _
-    (Some (call.Punch (at.Free (record { hole = p.hole; index = p.index; held = p.held; denied = false })))) f
-    p.index _ h l e y.facts.aim.file (below_limit s.geometry _ y.facts.aim) refl refl refl refl refl refl
-    (spare_left (splits (s.reserved f) p.index) (s.pending f) (s.spare f) (h.spares f)) y.facts.marked y.facts.bare y.slot y.lock tt
-    (record {
-      slot = y.slot;
-      lock = y.lock;
-      facts = record { aim = y.facts.aim; bare = y.facts.bare; marked = λ d. (let z : false ≡ true = d in absurd (cc)) };
-    })))
-
--- at free the frame is given back, and with it the reservation where the delete was denied; else the index isn't used any more
-punch_free : (s : State) (t : ℕ) (p : Free) (turn : Turn PunchPhase) (new : Pool) → Inv s.geometry s → t < s.geometry.tasks + 1
-    → s.calls t ≡ Some (call.Punch (at.Free p)) → PunchFreeRow (pool_of s) p turn new
-    → Inv s.geometry (after call.Punch s t turn new)
-punch_free s t p turn new h l e row =
-    let y = stands_at s t _ h e in
-    let here : Option Call = Some (call.Punch (at.Free p)) in
-    let next : Option Call = Some (call.Punch (at.Unslot (record { hole = p.hole; index = p.index }))) in
-    let own : Stands s.geometry s t next = record { slot = y.slot; lock = y.lock; facts = record { aim = y.facts.aim } } in
-    by_test p.denied row
-    (λ denied r. let owes : less here ≡ 1 = ap bit denied in
-    let no_use : used_owed here ≡ 0 = ap (λ (b : Bool). bit (not b)) denied in
-    so call.Punch s t _ turn _ new r
-    (gives s.geometry s t here next p.held (s.resv + 1) s.used h l e refl refl refl refl refl (omega arith) (omega arith)
-    (omega arith) h.quota tt own))
-    (λ done r. let owes : less here ≡ 0 = ap bit done in
-    let one_use : used_owed here ≡ 1 = ap (λ (b : Bool). bit (not b)) done in
-    let some : 1 ≤ s.used = r.0 in
-    so call.Punch s t _ turn _ new r.1
-    (gives s.geometry s t here next p.held s.resv (s.used - 1) h l e refl refl refl refl refl (omega arith) (omega arith)
-    (omega arith) (less_within s.geometry.quota s.used (s.used - 1) (omega arith) h.quota) tt own))
-
--- at unslot it leaves the slot, for the next index or for its end
-punch_unslot : (s : State) (t : ℕ) (p : Unslot) (turn : Turn PunchPhase) (new : Pool) → Inv s.geometry s
-    → t < s.geometry.tasks + 1 → s.calls t ≡ Some (call.Punch (at.Unslot p)) → PunchUnslotRow (pool_of s) p turn new
-    → Inv s.geometry (after call.Punch s t turn new)
-punch_unslot s t p turn new h l e row =
-    let y = stands_at s t _ h e in
-    by_test (nat_lt (p.index + 1) (p.hole.from + p.hole.len)) row
-    (λ more r. so call.Punch s t _ turn _ new r
-    (leaves_slot s.geometry s t _ (Some (call.Punch (at.Want (record { hole = p.hole; index = p.index + 1 }))))
-    p.hole.file p.index h l e refl refl refl refl y.slot tt
-    (record {
-      slot = tt;
-      lock = y.lock;
-      facts = record { aim = in_next s.geometry _ y.facts.aim (lt _ _ more) };
-    })))
-    (λ last r. so call.Punch s t _ turn _ new r
-    (leaves_slot s.geometry s t _ (Some (call.Punch (at.Leave (record { hole = p.hole })))) p.hole.file p.index h l
-    e refl refl refl refl y.slot tt (record { slot = tt; lock = y.lock; facts = record { file = y.facts.aim.file } })))
-
--- so each row of a punch keeps the invariant
-pub punch_row : (s : State) (t : ℕ) (killed grant : Bool) (phase : PunchPhase) (turn : Turn PunchPhase) (new : Pool)
+-- each row of a punch wrote what fits and went on, or waits
+pub punch_did : (s : State) (t : ℕ) (killed grant : Bool) (phase : PunchPhase) (turn : Turn PunchPhase) (new : Pool)
     → Inv s.geometry s → 1 ≤ t → t < s.geometry.tasks + 1 → s.calls t ≡ Some (call.Punch phase)
-    → PunchRow (pool_of s) t killed grant phase turn new → Inv s.geometry (after call.Punch s t turn new)
-punch_row s t killed grant (at.Start p) turn new h one l e row =
-    start_row call.Punch s t killed p.hole.file _ answer.Killed (at.Start p)
-    (at.Want (record { hole = p.hole; index = p.hole.from })) turn new h l e row refl refl refl refl refl refl
+    → PunchRow (pool_of s) t killed grant phase turn new → Did PunchPhase call.Punch s t phase turn new
+punch_did s t killed grant (at.Start p) turn new h one l e row =
+    start_did call.Punch s t killed p.hole.file _ answer.Killed (at.Start p)
+    (at.Want (record { hole = p.hole; index = p.hole.from })) turn new row refl refl refl refl refl refl refl
+    (λ good _ m. let z = first_left p.hole.from p.hole.len (6 + s.geometry.tasks) (good_range s p.hole.from p.hole.len good).0 in
+    omega arith) (λ _ _. omega arith)
     (λ in_files good. let o = good_range s p.hole.from p.hole.len good in
     record {
       slot = tt;
       lock = put_same s.locks p.hole.file (Some t);
       facts = record { aim = in_first s.geometry in_files o.0 o.1 };
     })
-punch_row s t killed grant (at.Want p) turn new h one l e row =
+punch_did s t killed grant (at.Want p) turn new h one l e row =
     let y = stands_at s t _ h e in
-    want_row call.Punch s t p.hole.file p.index (at.Want p) (at.Locked (record { hole = p.hole; index = p.index }))
-    turn new h l e row refl refl refl refl refl
+    want_did call.Punch s t p.hole.file p.index (at.Want p) (at.Locked (record { hole = p.hole; index = p.index })) turn new row refl
+    refl refl refl refl refl (λ _ _. omega arith)
     (record { slot = put_same s.slots (slot_of s.geometry p.hole.file p.index) (Some t); lock = y.lock; facts = y.facts })
-punch_row s t killed grant (at.Locked p) turn new h one l e row = punch_locked s t p turn new h one l e row
-punch_row s t killed grant (at.Unmap p) turn new h one l e row = punch_unmap s t p turn new h l e row
-punch_row s t killed grant (at.Evict p) turn new h one l e row = punch_evict s t p turn new h l e row
-punch_row s t killed grant (at.Delete p) turn new h one l e row = punch_delete s t grant p turn new h l e row
-punch_row s t killed grant (at.Free p) turn new h one l e row = punch_free s t p turn new h l e row
-punch_row s t killed grant (at.Unslot p) turn new h one l e row = punch_unslot s t p turn new h l e row
-punch_row s t killed grant (at.Leave p) turn new h one l e row =
-    so call.Punch s t _ turn _ new row
-    (leaves_lock s.geometry s t _ p.hole.file h l e refl refl refl refl refl refl refl (stands_at s t _ h e).lock (λ k j. refl))
+punch_did s t killed grant (at.Locked p) turn new h one l e row =
+    let y = stands_at s t _ h e in
+    by_test (is_some (s.pages p.hole.file p.index)) row
+    (λ page r. went call.Punch s t (at.Locked p) _ turn new Nothing r (λ _ _. omega arith) (record {
+      same = refl;
+      fill = tt;
+      own = record {
+        slot = y.slot;
+        lock = y.lock;
+        facts = record {
+          aim = y.facts.aim;
+          cached = some_page _ page;
+          task = (omega arith, omega arith);
+          cleared = λ w v x a b c d. absurd (omega arith);
+        };
+      };
+    }))
+    (λ none r. went call.Punch s t (at.Locked p) _ turn new Nothing r (λ _ _. omega arith)
+    (record { same = refl; fill = tt; own = record { slot = y.slot; lock = y.lock; facts = y.facts } }))
+punch_did s t killed grant (at.Unmap p) turn new h one l e row =
+    let y = stands_at s t _ h e in
+    let f = p.hole.file in
+    by_test (nat_lt p.task s.geometry.tasks) row
+    (λ more r. went call.Punch s t (at.Unmap p) _ turn new (Clears p.task f p.index) r (λ _ m. let z = lt _ _ more in omega arith) (record {
+      same = refl;
+      fill = tt;
+      own = record {
+        slot = y.slot;
+        lock = y.lock;
+        facts = record {
+          aim = y.facts.aim;
+          cached = y.facts.cached;
+          task = (omega arith, (let a = lt _ _ more in omega arith));
+          cleared = cleared_next s p.task f p.index y.facts.cleared;
+        };
+      };
+    }))
+    (λ last r. went call.Punch s t (at.Unmap p) _ turn new (Clears p.task f p.index) r (λ _ _. omega arith) (record {
+      same = refl;
+      fill = tt;
+      own = record {
+        slot = y.slot;
+        lock = y.lock;
+        facts = record {
+          aim = y.facts.aim;
+          cached = y.facts.cached;
+          cleared = λ w v x a b. cleared_next s p.task f p.index y.facts.cleared w v x a (let c = le _ _ last in omega arith);
+        };
+      };
+    }))
+punch_did s t killed grant (at.Evict p) turn new h one l e (x, page, row) =
+    let y = stands_at s t _ h e in
+    let c = y.facts.cleared in
+    went call.Punch s t (at.Evict p) _ turn new (Evicts p.hole.file p.index x) row (λ _ _. omega arith) (record {
+      file = y.facts.aim.file;
+      same = refl;
+      holds = refl;
+      empty = refl;
+      full = refl;
+      change = refl;
+      balance = refl;
+      owed = refl;
+      page = page;
+      held = y.slot;
+      cleared = λ w v z a d. let o = h.entries.owners w v z a in c w v z o.0 (let b = o.1 in omega arith) a d;
+      fill = tt;
+      own = record {
+        slot = y.slot;
+        lock = y.lock;
+        facts = record {
+          aim = y.facts.aim;
+          bare = put2_same s.pages p.hole.file p.index None;
+          marked = page_marked s.geometry s p.hole.file p.index x h page;
+        };
+      };
+    })
+punch_did s t killed grant (at.Delete p) turn new h one l e row =
+    let y = stands_at s t _ h e in
+    let f = p.hole.file in
+    by_test (splits (s.reserved f) p.index && nat_le (s.spare f) (s.pending f) && not grant) row
+    (λ denied r. went call.Punch s t (at.Delete p) _ turn new Nothing r (λ _ _. omega arith) (record {
+      same = refl;
+      fill = tt;
+      own = record { slot = y.slot; lock = y.lock; facts = record { aim = y.facts.aim; bare = y.facts.bare; marked = λ d. y.facts.marked } };
+    }))
+    (λ done r. went call.Punch s t (at.Delete p) _ turn new (Deletes f p.index) r (λ _ _. omega arith) (record {
+      file = y.facts.aim.file;
+      index = below_limit s.geometry _ y.facts.aim;
+      same = refl;
+      change = refl;
+      balance = refl;
+      owed = refl;
+      marked = y.facts.marked;
+      bare = y.facts.bare;
+      slot = y.slot;
+      lock = y.lock;
+      deletes = here_at f p.index;
+      fill = tt;
+      own = record {
+        slot = y.slot;
+        lock = y.lock;
+        facts = record { aim = y.facts.aim; bare = y.facts.bare; marked = λ d. never d };
+      };
+    }))
+punch_did s t killed grant (at.Free p) turn new h one l e row =
+    let y = stands_at s t _ h e in
+    let here : Option Call = Some (call.Punch (at.Free p)) in
+    by_test p.denied row
+    (λ denied r. let owes : less here ≡ 1 = ap bit denied in
+    let no_use : used_owed here ≡ 0 = ap (λ (b : Bool). bit (not b)) denied in
+    went call.Punch s t (at.Free p) _ turn new (Restores p.held) r (λ _ _. omega arith) (record {
+      same = refl;
+      some = refl;
+      none = refl;
+      balance = omega arith;
+      owed = omega arith;
+      fill = tt;
+      own = record { slot = y.slot; lock = y.lock; facts = record { aim = y.facts.aim } };
+    }))
+    (λ done r. let owes : less here ≡ 0 = ap bit done in
+    let one_use : used_owed here ≡ 1 = ap (λ (b : Bool). bit (not b)) done in
+    went call.Punch s t (at.Free p) _ turn new (FreesUnreserved p.held) r.1 (λ _ _. omega arith) (record {
+      used = r.0;
+      same = refl;
+      some = refl;
+      none = refl;
+      balance = omega arith;
+      owed = omega arith;
+      fill = tt;
+      own = record { slot = y.slot; lock = y.lock; facts = record { aim = y.facts.aim } };
+    }))
+punch_did s t killed grant (at.Unslot p) turn new h one l e row =
+    let y = stands_at s t _ h e in
+    let w = LeavesSlot p.hole.file p.index in
+    by_test (nat_lt (p.index + 1) (p.hole.from + p.hole.len)) row
+    (λ more r. went call.Punch s t (at.Unslot p) _ turn new w r (λ _ m. let k = lt _ _ more in
+    let z = times_next (p.hole.from + p.hole.len - (p.index + 1)) (p.hole.from + p.hole.len - (p.index + 1 + 1)) (6 + s.geometry.tasks)
+    (omega arith) in omega arith) (record {
+      same = refl;
+      lock = refl;
+      some = refl;
+      none = refl;
+      held = y.slot;
+      fill = tt;
+      own = record { slot = tt; lock = y.lock; facts = record { aim = in_next s.geometry _ y.facts.aim (lt _ _ more) } };
+    }))
+    (λ last r. went call.Punch s t (at.Unslot p) _ turn new w r (λ _ _. omega arith) (record {
+      same = refl;
+      lock = refl;
+      some = refl;
+      none = refl;
+      held = y.slot;
+      fill = tt;
+      own = record { slot = tt; lock = y.lock; facts = record { file = y.facts.aim.file } };
+    }))
+punch_did s t killed grant (at.Leave p) turn new h one l e row =
+    over call.Punch s t (at.Leave p) answer.Done turn new (LeavesLock p.hole.file) row (λ _ _. omega arith)
+    (record { over = refl; same = refl; slot = refl; lock = refl; held = (stands_at s t _ h e).lock; done = λ k j. refl })
+
+-- so it keeps the invariant
+pub punch_row : (s : State) (t : ℕ) (killed grant : Bool) (phase : PunchPhase) (turn : Turn PunchPhase) (new : Pool)
+    → Inv s.geometry s → 1 ≤ t → t < s.geometry.tasks + 1 → s.calls t ≡ Some (call.Punch phase)
+    → PunchRow (pool_of s) t killed grant phase turn new → Inv s.geometry (after call.Punch s t turn new)
+punch_row s t killed grant phase turn new h one l e row =
+    keeps_inv call.Punch s t phase turn new h l e (λ d. one) (punch_did s t killed grant phase turn new h one l e row)

@@ -20,7 +20,10 @@ use Rattle.hp_laws.specs.StepsLeft.{steps_left}
 use Rattle.hp_laws.proofs.Deletes.{deletes}
 use Rattle.hp_laws.proofs.Invariant.{Inv, put_known}
 use Rattle.hp_laws.proofs.Shared.{by_test, by_option}
-use Rattle.hp_laws.proofs.Turns.{is_blocked, Turned, touch_turn, map_turn, alloc_turn, punch_turn, truncate_turn, unmap_turn, exit_turn}
+use Rattle.hp_laws.proofs.TouchKeeps.{touch_did}
+use Rattle.hp_laws.proofs.AllocKeeps.{alloc_did}
+use Rattle.hp_laws.proofs.PunchKeeps.{punch_did}
+use Rattle.hp_laws.proofs.Turns.{is_blocked, Turned, turned_by, map_turn, truncate_turn, unmap_turn, exit_turn}
 
 -- a Begin is refused and changes nothing, or its call is in flight
 pub begin_cases : (s : State) (t : ℕ) (p : Op) (o : Outcome) (n : State) (P : Type 0) → BeginRow s t p o n
@@ -136,13 +139,16 @@ pub call_steps : (s : State) (t top : ℕ) (killed grant : Bool) (c : Call) (o :
     → Steps s t top c o new next
 unfolding CallRow
 call_steps s t top killed grant (call.Touch p) o new next h one l e (turn, row, tells, leaves) =
-    of_turn call.Touch s t top p turn o new next (touch_turn s t top killed grant p turn new h e row) tells leaves
+    of_turn call.Touch s t top p turn o new next (turned_by call.Touch s t top p turn new (touch_did s t killed grant p turn new h e row))
+    tells leaves
 call_steps s t top killed grant (call.Map p) o new next h one l e (turn, row, tells, leaves) =
     of_turn call.Map s t top p turn o new next (map_turn s t top killed grant p turn new h e row) tells leaves
 call_steps s t top killed grant (call.Alloc p) o new next h one l e (turn, row, tells, leaves) =
-    of_turn call.Alloc s t top p turn o new next (alloc_turn s t top killed grant p turn new h e row) tells leaves
+    of_turn call.Alloc s t top p turn o new next (turned_by call.Alloc s t top p turn new (alloc_did s t killed grant p turn new h e row))
+    tells leaves
 call_steps s t top killed grant (call.Punch p) o new next h one l e (turn, row, tells, leaves) =
-    of_turn call.Punch s t top p turn o new next (punch_turn s t top killed grant p turn new h one l e row) tells leaves
+    of_turn call.Punch s t top p turn o new next (turned_by call.Punch s t top p turn new (punch_did s t killed grant p turn new h one l e row))
+    tells leaves
 call_steps s t top killed grant (call.Truncate p) o new next h one l e (turn, row, tells, leaves) =
     of_turn call.Truncate s t top p turn o new next (truncate_turn s t top killed grant p turn new h one l e row) tells leaves
 call_steps s t top killed grant (call.Unmap p) o new next h one l e (turn, row, tells, leaves) =

@@ -1,28 +1,26 @@
 -- Rows that several operations share, and how a row's leaf is reached.
-use Rattle.std.proofs.Common.{◌≡◌, ◌≢◌, ℕ, zero, suc, ◌+◌, ◌-◌, ◌<◌, ◌≤◌, refl, ap, sym, ◌∙◌, subst, arith}
-use Rattle.std.specs.Prelude.{Bool, true, false, not, ◌&&◌, ◌==◌, nat_le, nat_lt, Option, Some, None, IfSome, MatchBool, MatchOption}
+use Rattle.std.proofs.Common.{◌≡◌, ◌≢◌, ℕ, ◌+◌, ◌<◌, ◌≤◌, refl, ap, sym, ◌∙◌, subst, arith}
+use Rattle.std.specs.Prelude.{Bool, true, false, not, ◌&&◌, ◌==◌, nat_le, Option, Some, None, IfSome, MatchBool, MatchOption}
 use Rattle.std.proofs.lemmas.Bool.Decides.{nat_tests}
 use Rattle.hp_base.specs.Numbers.{put, bit}
 use Rattle.hp_base.specs.Indices.{is_within, missing, add_range}
 use Rattle.hp_base.specs.declared.answer.Answer.{Answer}
-use Rattle.hp_base.specs.declared.answer.Answer.TheVariants.{NoFrame, NoQuota}
 use Rattle.hp_base.proofs.Puts.{put_same}
 use Rattle.hp_base.proofs.Sets.{missing_one, add_range_has}
-use Rattle.hp_frames.proofs.Quotas.{one_within}
 use Rattle.hp_region.specs.Change.{Change}
-use Rattle.hp_machine.specs.State.{Geometry, Pool, State, pool_of, with_pool, slot_of, free_frames, frees, quota_is_used_up}
-use Rattle.hp_machine.specs.Parts.{StartRow, is_bad_range, WantSlotRow, ChangeRow, CommitRow, TakeRow}
+use Rattle.hp_machine.specs.State.{Geometry, Pool, State, pool_of, with_pool, slot_of, free_frames, frees}
+use Rattle.hp_machine.specs.Parts.{StartRow, is_bad_range, WantSlotRow, ChangeRow}
 use Rattle.hp_machine.specs.Events.{left}
 use Rattle.hp_machine.specs.Views.{less, more, used_owed, hand, change_in, locked_file, slot_held}
 use Rattle.hp_machine.specs.declared.call.Call.{Call}
 use Rattle.hp_machine.specs.declared.call.Turn.{Turn}
-use Rattle.hp_laws.specs.Sweep.{fills, ahead, passed}
-use Rattle.hp_laws.proofs.Deciding.{is_nil, not_nil}
+use Rattle.hp_laws.specs.Sweep.{fills, ahead}
+use Rattle.hp_laws.proofs.Deciding.{is_nil}
 use Rattle.hp_laws.proofs.Standing.{IsOne, Stands}
 use Rattle.hp_laws.proofs.Invariant
 use Rattle.hp_laws.proofs.Invariant.{Reached, Inv, sweeps, holds, seen, stays, to}
 use Rattle.hp_laws.proofs.Holding.{shown, takes_slot, takes_lock}
-use Rattle.hp_laws.proofs.Effects.{committing, opened, commits, takes}
+use Rattle.hp_laws.proofs.Effects.{committing, opened}
 
 -- the state after a turn
 abbrev pub after : {P : Type 0} → (P → Call) → State → (task : ℕ) → Turn P → Pool → State
@@ -65,7 +63,7 @@ pub waits : (s : State) (t : ℕ) (c : Option Call) → Inv s.geometry s → t <
 waits s t c h l e = stays s.geometry s t c c h l e refl (reach_at s t c h e) (stands_at s t c h e)
 
 -- a call that fills none has nothing to reach
-no_fill : (s : State) (c : Option Call) → fills c ≡ None → IfSome (fills c) (λ k. Reached s.size (λ u. ahead (s.calls u)) k.0 k.1)
+pub no_fill : (s : State) (c : Option Call) → fills c ≡ None → IfSome (fills c) (λ k. Reached s.size (λ u. ahead (s.calls u)) k.0 k.1)
 no_fill s c e = subst (λ (o : Option (ℕ × ℕ)). IfSome o (λ k. Reached s.size (λ u. ahead (s.calls u)) k.0 k.1)) (sym e) tt
 
 -- a call that takes its file's lock, waits for it, or ends keeps the invariant
@@ -149,53 +147,11 @@ change_row call s t grant f from to here denied changed turn new h l e row y =
     (ap (λ p. p.2) y.same) y.none y.some y.balance y.owed y.fill y.own))
 
 -- where the free frames aren't as many as the reserve count, there is one more than that
-free_left : (s : State) → Inv s.geometry s → (frees (pool_of s) == s.resv) ≡ false → s.resv + 1 ≤ free_frames s.frame s.frames
+pub free_left : (s : State) → Inv s.geometry s → (frees (pool_of s) == s.resv) ≡ false → s.resv + 1 ≤ free_frames s.frame s.frames
 free_left s h e = let d : free_frames s.frame s.frames ≢ s.resv = differ _ _ e in let z = h.enough in omega arith
   where
     differ : (m n : ℕ) → (m == n) ≡ false → m ≢ n
     differ m n e = grind (arith, nat_tests)
-
--- a frame is taken, or there is none, or the quota is used up
-pub take_row : {P : Type 0} (call : P → Call) (s : State) (t m : ℕ) (here : P) (refused : Answer → P) (taken : ℕ → P)
-    (turn : Turn P) (new : Pool)
-    → Inv s.geometry s → t < s.geometry.tasks + 1 → s.calls t ≡ Some (call here) → TakeRow (pool_of s) m refused taken turn new
-    → record {
-      lacks : (b : Answer) → Inv s.geometry (Invariant.to s t (Some (call (refused b))));
-      few : m ≤ 1;
-      unused : used_owed (Some (call here)) ≡ 0;
-      uses : (x : ℕ) → used_owed (Some (call (taken x))) ≡ m;
-      same : (x : ℕ) → unhanded (Some (call (taken x))) ≡ unhanded (Some (call here));
-      empty : hand (Some (call here)) ≡ None;
-      full : (x : ℕ) → hand (Some (call (taken x))) ≡ Some x;
-      owes : (x : ℕ) → less (Some (call (taken x))) ≡ bit (m == 0);
-      free : less (Some (call here)) ≡ 0;
-      fill : (x : ℕ) → IfSome (fills (Some (call (taken x)))) (λ k. Reached s.size (λ u. ahead (s.calls u)) k.0 k.1);
-      own : (x : ℕ) → Stands s.geometry s t (Some (call (taken x)));
-    }
-    → Inv s.geometry (after call s t turn new)
-take_row call s t m here refused taken turn new h l e row y =
-    by_test (m == 0) row
-    (λ none r. so call s t _ turn _ new r.3
-    (takes s.geometry s t (Some (call here)) (Some (call (taken r.0))) r.0 (s.resv - 1) s.used h l e r.1
-    (ap (λ p. p.0) (y.same r.0)) (ap (λ p. p.1) (y.same r.0)) y.empty (y.full r.0) (ap (λ p. p.2) (y.same r.0))
-    (let low : 1 ≤ s.resv = r.2 in let a : less (Some (call (taken r.0))) ≡ 1 = y.owes r.0 ∙ ap bit none in
-    let b = y.free in
-    let c : more (Some (call (taken r.0))) ≡ more (Some (call here)) = ap (λ p. p.3) (y.same r.0) in omega arith)
-    (let low : 1 ≤ s.resv = r.2 in let z = h.enough in omega arith)
-    (let a : used_owed (Some (call (taken r.0))) ≡ 0 = y.uses r.0 ∙ is_nil m none in let b = y.unused in omega arith) h.quota
-    (y.fill r.0) (y.own r.0)))
-    (λ some r. by_test (quota_is_used_up (pool_of s)) r
-    (λ up r. so call s t _ turn _ new r (y.lacks NoQuota))
-    (λ fits r. by_test (frees (pool_of s) == s.resv) r
-    (λ full r. so call s t _ turn _ new r (y.lacks NoFrame))
-    (λ left r. so call s t _ turn _ new r.2
-    (takes s.geometry s t (Some (call here)) (Some (call (taken r.0))) r.0 s.resv (s.used + 1) h l e r.1
-    (ap (λ p. p.0) (y.same r.0)) (ap (λ p. p.1) (y.same r.0)) y.empty (y.full r.0) (ap (λ p. p.2) (y.same r.0))
-    (let a : less (Some (call (taken r.0))) ≡ 0 = y.owes r.0 ∙ ap bit some in let b = y.free in
-    let c : more (Some (call (taken r.0))) ≡ more (Some (call here)) = ap (λ p. p.3) (y.same r.0) in omega arith)
-    (free_left s h left)
-    (let a : used_owed (Some (call (taken r.0))) ≡ m = y.uses r.0 in let b = y.unused in let z = y.few in
-    let w = not_nil m some in omega arith) (one_within s.geometry.quota s.used fits h.quota) (y.fill r.0) (y.own r.0)))))
 
 -- the index that a change adds is reserved then
 pub own_reserved : (s : State) (f i : ℕ) (change : Change) → IsOne change i → (committing s f change).reserved f i ≡ true
@@ -224,83 +180,3 @@ one_change r i =
     has : (b : Bool) (m : ℕ) → m ≡ bit (not b) → m ≡ 0 → b ≡ true
     has true m e z = refl
     has false m e z = (let d : 1 ≡ 0 = sym e ∙ z in absurd (omega arith))
-
--- a change of one index is committed
-pub commit_row : {P : Type 0} (call : P → Call) (s : State) (t f i : ℕ) (change : Change) (here settle next : P)
-    (turn : Turn P) (new : Pool)
-    → Inv s.geometry s → t < s.geometry.tasks + 1 → s.calls t ≡ Some (call here) → CommitRow (pool_of s) f change settle next turn new
-    → record {
-      file : f < s.geometry.files;
-      index : i < s.geometry.limit;
-      one : IsOne change i;
-      marked : (change.missing == 0) ≡ true → s.reserved f i ≡ true;
-      nobody : (u : ℕ) → passed (s.calls u) f i ≡ true → ⊥;
-      opened : change_in (Some (call here)) ≡ Some f;
-      owes : less (Some (call here)) ≡ bit (change.missing == 0);
-      awaits : more (Some (call here)) ≡ 0;
-      settles : steady (Some (call settle)) ≡ steady (Some (call here));
-      settle_none : change_in (Some (call settle)) ≡ None;
-      settle_less : less (Some (call settle)) ≡ 0;
-      settle_more : more (Some (call settle)) ≡ 0;
-      nexts : steady (Some (call next)) ≡ steady (Some (call here));
-      next_none : change_in (Some (call next)) ≡ None;
-      next_less : less (Some (call next)) ≡ 1;
-      next_more : more (Some (call next)) ≡ 0;
-      uses : used_owed (Some (call here)) ≡ change.missing;
-      settle_uses : used_owed (Some (call settle)) ≡ 1;
-      next_uses : used_owed (Some (call next)) ≡ 0;
-      fill_settle : IfSome (fills (Some (call settle))) (λ k. Reached s.size (λ u. ahead (s.calls u)) k.0 k.1);
-      fill_next : IfSome (fills (Some (call next))) (λ k. Reached s.size (λ u. ahead (s.calls u)) k.0 k.1);
-      own_settle : Stands s.geometry (committing s f change) t (Some (call settle));
-      own_next : Stands s.geometry (committing s f change) t (Some (call next));
-    }
-    → Inv s.geometry (after call s t turn new)
-commit_row call s t f i change here settle next turn new h l e row y =
-    let lacks = own_missing (s.reserved f) change i y.one in
-    let few = y.one.few in
-    let low : change.to ≤ s.geometry.limit = (let a = y.one.ends in let b = y.index in omega arith) in
-    let clear : (u j : ℕ) → passed (s.calls u) f j ≡ true → is_within change.from change.to j ≡ true → ⊥ =
-    λ u j a w. y.nobody u (ap (passed (s.calls u) f) (alone change.from change.to j y.one.begins y.one.ends w) ∙ a) in
-    by_test (nat_lt (missing (s.reserved f) change.from change.to) change.missing) row
-    (λ fewer r. so call s t _ turn _ new r
-    (commits s.geometry s t (Some (call here)) (Some (call settle)) f change h l e y.file low
-    (ap (λ p. p.0) y.settles) (ap (λ p. p.1) y.settles) (ap (λ p. p.2) y.settles) y.opened y.settle_none clear
-    (let a = lt _ _ fewer in let b : less (Some (call here)) ≡ 0 = y.owes ∙ some change.missing a in
-    let c : more (Some (call here)) ≡ 0 = y.awaits in
-    let d : less (Some (call settle)) ≡ 0 = y.settle_less in let x : more (Some (call settle)) ≡ 0 = y.settle_more in omega arith)
-    (let a = lt _ _ fewer in let b = y.uses in let c = y.settle_uses in omega arith) y.fill_settle y.own_settle))
-    (λ all r. so call s t _ turn _ new r
-    (commits s.geometry s t (Some (call here)) (Some (call next)) f change h l e y.file low (ap (λ p. p.0) y.nexts)
-    (ap (λ p. p.1) y.nexts) (ap (λ p. p.2) y.nexts) y.opened y.next_none clear
-    (let a = pays change.missing (missing (s.reserved f) change.from change.to) (s.reserved f i) (change.missing == 0)
-    refl y.marked lacks (le _ _ all) in let b : less (Some (call here)) ≡ bit (change.missing == 0) = y.owes in
-    let c : more (Some (call here)) ≡ 0 = y.awaits in
-    let d : less (Some (call next)) ≡ 1 = y.next_less in let x : more (Some (call next)) ≡ 0 = y.next_more in omega arith)
-    (let a = pays change.missing (missing (s.reserved f) change.from change.to) (s.reserved f i) (change.missing == 0)
-    refl y.marked lacks (le _ _ all) in let b = y.uses in let c = y.next_uses in let d = one_or_none change.missing few in
-    omega arith) y.fill_next y.own_next))
-  where
-    alone : (from to j : ℕ) → from ≡ i → to ≡ i + 1 → is_within from to j ≡ true → i ≡ j
-    alone from to j a b w = let x : from ≤ j = grind (arith, nat_tests) in let z : j < to = grind (arith, nat_tests) in omega arith
-
-    lt : (a b : ℕ) → nat_lt a b ≡ true → a < b
-    lt a b e = grind (arith, nat_tests)
-
-    le : (a b : ℕ) → nat_lt a b ≡ false → b ≤ a
-    le a b e = grind (arith, nat_tests)
-
-    one_or_none : (m : ℕ) → m ≤ 1 → bit (m == 0) + m ≡ 1
-    one_or_none zero l = refl
-    one_or_none (suc zero) l = refl
-    one_or_none (suc (suc m)) l = absurd (omega arith)
-
-    some : (m : ℕ) {k : ℕ} → k < m → bit (m == 0) ≡ 0
-    some m a = ap bit (isnt m a)
-      where
-        isnt : (m : ℕ) {k : ℕ} → k < m → (m == 0) ≡ false
-        isnt m a = grind (arith, nat_tests)
-
-    pays : (m k : ℕ) (r z : Bool) → (m == 0) ≡ z → (z ≡ true → r ≡ true) → k ≡ bit (not r) → m ≤ k → bit z + k ≡ 1
-    pays m k r true e marked lacks le = (let a : k ≡ 0 = lacks ∙ ap (λ (b : Bool). bit (not b)) (marked refl) in omega arith)
-    pays m k true false e marked lacks le = (let a = not_nil m e in absurd (omega arith))
-    pays m k false false e marked lacks le = omega arith

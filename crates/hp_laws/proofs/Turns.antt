@@ -1,56 +1,47 @@
 -- What each row does to the call that it carries on, to sizes and to the reserved indices.
-use Rattle.std.proofs.Common.{◌≡◌, ◌≢◌, ℕ, ◌+◌, ◌-◌, ◌*◌, ◌<◌, ◌≤◌, refl, ap, sym, ◌∙◌, subst, arith, inl, inr, ◌⊎◌, length}
+use Rattle.std.proofs.Common.{◌≡◌, ◌≢◌, ℕ, ◌+◌, ◌-◌, ◌<◌, ◌≤◌, refl, ap, sym, ◌∙◌, subst, arith, inl, inr, ◌⊎◌, length}
 use Rattle.std.specs.Prelude.{Bool, true, false, not, ◌&&◌, ◌||◌, ◌==◌, nat_le, nat_lt, max, is_some, Option, Some, None, IfSome}
 use Rattle.std.specs.Prelude.{List, [], ◌∷◌, if◌then◌else◌}
 use Rattle.std.proofs.lemmas.Bool.Decides.{nat_tests}
 use Rattle.hp_base.specs.Numbers.{put}
-use Rattle.hp_base.specs.Indices.{missing, splits, add_range, cut_tail}
-use Rattle.hp_base.specs.Mappings.{find, is_base, first_base, without}
+use Rattle.hp_base.specs.Indices.{missing, add_range, cut_tail}
+use Rattle.hp_base.specs.Mappings.{is_base, first_base, without}
 use Rattle.hp_base.specs.declared.answer.Answer.{Answer}
-use Rattle.hp_base.specs.declared.answer.Answer.TheVariants as answer
 use Rattle.hp_base.specs.declared.mapping.Mapping.{Mapping}
-use Rattle.hp_base.proofs.Puts.{put_same, put_other, put2_tells, same_or_other}
+use Rattle.hp_base.proofs.Puts.{put_same, put_other, same_or_other}
 use Rattle.hp_base.proofs.Sets.{cut_below}
 use Rattle.hp_region.specs.Change.{Change}
-use Rattle.hp_machine.specs.State.{exceeds_quota, quota_is_used_up, Pool, State, pool_of, slot_of, frees}
-use Rattle.hp_machine.specs.Parts.{StartRow, WantSlotRow, ChangeRow, CommitRow, TakeRow}
-use Rattle.hp_machine.specs.TouchRows.{TouchRow}
+use Rattle.hp_machine.specs.State.{exceeds_quota, Pool, State, pool_of, slot_of, frees}
+use Rattle.hp_machine.specs.Parts.{StartRow, WantSlotRow, ChangeRow}
 use Rattle.hp_machine.specs.MapRows.{MapRow}
-use Rattle.hp_machine.specs.AllocRows.{AllocRow, AllocUnslotRow}
-use Rattle.hp_machine.specs.PunchRows.{PunchRow}
 use Rattle.hp_base.specs.Pages.{IsPagesEnd}
 use Rattle.hp_machine.specs.TruncateRows.{TruncateRow}
 use Rattle.hp_machine.specs.UnmapRows.{UnmapRow}
 use Rattle.hp_machine.specs.ExitRows.{ExitRow}
 use Rattle.hp_machine.specs.Events.{left}
 use Rattle.hp_machine.specs.Views.{wants_slot, wants_lock}
-use Rattle.hp_machine.specs.declared.touch.TouchPhase.{TouchPhase}
 use Rattle.hp_machine.specs.declared.map.MapPhase.{MapPhase}
-use Rattle.hp_machine.specs.declared.alloc.AllocPhase.{AllocPhase}
-use Rattle.hp_machine.specs.declared.punch.PunchPhase.{PunchPhase}
 use Rattle.hp_machine.specs.declared.truncate.TruncatePhase.{TruncatePhase}
 use Rattle.hp_machine.specs.declared.unmap.UnmapPhase.{UnmapPhase}
 use Rattle.hp_machine.specs.declared.exit.ExitPhase.{ExitPhase}
-use Rattle.hp_machine.specs.declared.touch.TouchPhase.TheVariants as touch
 use Rattle.hp_machine.specs.declared.map.MapPhase.TheVariants as map
-use Rattle.hp_machine.specs.declared.alloc.AllocPhase.TheVariants as alloc
-use Rattle.hp_machine.specs.declared.punch.PunchPhase.TheVariants as punch
 use Rattle.hp_machine.specs.declared.truncate.TruncatePhase.TheVariants as truncate
 use Rattle.hp_machine.specs.declared.unmap.UnmapPhase.TheVariants as unmap
 use Rattle.hp_machine.specs.declared.exit.ExitPhase.TheVariants as exit
 use Rattle.hp_machine.specs.declared.call.Call.{Call}
 use Rattle.hp_machine.specs.declared.call.Call.TheVariants as call
-use Rattle.hp_machine.specs.declared.alloc.Unslot.{Unslot}
 use Rattle.hp_machine.specs.declared.call.Turn.{Turn}
 use Rattle.hp_machine.specs.declared.call.Turn.TheVariants.{Moved, Blocked, Ended}
-use Rattle.hp_laws.specs.Bounds.{times, sizes, IsTop, WaitsFor}
+use Rattle.hp_laws.specs.Bounds.{sizes, IsTop, WaitsFor}
 use Rattle.hp_laws.proofs.Deciding.{lt, le}
-use Rattle.hp_laws.specs.StepsLeft.{steps_left, unslot_left}
+use Rattle.hp_laws.specs.StepsLeft.{steps_left}
 use Rattle.hp_laws.proofs.Deletes.{deletes}
 use Rattle.hp_laws.proofs.Invariant.{Inv}
 use Rattle.hp_laws.proofs.Effects.{grown_keeps}
 use Rattle.hp_laws.proofs.Tables.{grown_size}
-use Rattle.hp_laws.proofs.Shared.{by_test, by_option, stands_at, good_range}
+use Rattle.hp_laws.proofs.Did.{times_next, Did, Wrote, Over, Waits}
+use Rattle.hp_laws.proofs.ByWrite.{changes}
+use Rattle.hp_laws.proofs.Shared.{by_test, by_option, stands_at}
 
 -- the turn waits
 abbrev pub is_blocked : {P : Type 0} → Turn P → Bool
@@ -150,21 +141,6 @@ change_turn call s t top grant f from to here denied changed turn new row nearer
     (λ _ r. plain call s t top here _ turn _ new r refl refl refl refl nearer)
     (λ _ r. plain call s t top here _ turn _ new r refl refl refl refl (nearer_changed _))
 
--- where a frame is taken
-take_turn : {P : Type 0} (call : P → Call) (s : State) (t top m : ℕ) (here : P) (refused : Answer → P) (taken : ℕ → P)
-    (turn : Turn P) (new : Pool)
-    → TakeRow (pool_of s) m refused taken turn new
-    → ((b : Answer) → Nearer call s top here (Moved (refused b))) → ((x : ℕ) → Nearer call s top here (Moved (taken x)))
-    → Turned call s t top here turn new
-take_turn call s t top m here refused taken turn new row nearer nearer_taken =
-    by_test (m == 0) row
-    (λ _ r. plain call s t top here (Moved (taken r.0)) turn _ new r.3 refl refl refl refl (nearer_taken r.0))
-    (λ _ r. by_test (quota_is_used_up (pool_of s)) r
-    (λ _ r. plain call s t top here _ turn _ new r refl refl refl refl (nearer answer.NoQuota))
-    (λ _ r. by_test (frees (pool_of s) == s.resv) r
-    (λ _ r. plain call s t top here _ turn _ new r refl refl refl refl (nearer answer.NoFrame))
-    (λ _ r. plain call s t top here (Moved (taken r.0)) turn _ new r.2 refl refl refl refl (nearer_taken r.0))))
-
 -- a leaf that adds to the reserved indices
 adds : {P : Type 0} (call : P → Call) (s : State) (t top f : ℕ) (c : Change) (here : P) (wanted turn : Turn P) (there new : Pool)
     → (turn ≡ wanted) × (new ≡ there)
@@ -182,15 +158,6 @@ adds call s t top f c here wanted turn there new e goes mappings reserved size n
           (length (s.mappings t)) top (Some (call here))) (ap (λ (m : ℕ → List Mapping). length (m t)) (sym mappings))
           (nearer (length (s.mappings t)));
     })
-
--- and where a change is committed
-commit_turn : {P : Type 0} (call : P → Call) (s : State) (t top f : ℕ) (c : Change) (here settle next : P) (turn : Turn P) (new : Pool)
-    → CommitRow (pool_of s) f c settle next turn new
-    → Nearer call s top here (Moved settle) → Nearer call s top here (Moved next) → Turned call s t top here turn new
-commit_turn call s t top f c here settle next turn new row nearer nearer_next =
-    by_test (nat_lt (missing (s.reserved f) c.from c.to) c.missing) row
-    (λ _ r. adds call s t top f c here _ turn _ new r refl refl refl refl nearer)
-    (λ _ r. adds call s t top f c here _ turn _ new r refl refl refl refl nearer_next)
 
 -- a leaf that changes sizes alone, or mappings of the task and sizes
 sized : {P : Type 0} (call : P → Call) (s : State) (t top f new_size : ℕ) (here : P) (wanted turn : Turn P) (there new : Pool)
@@ -217,78 +184,29 @@ sized call s t top f new_size here wanted turn there new e goes mappings reserve
       nearer = nearer;
     })
 
--- one more of something is that much more
-times_next : (n m k : ℕ) → n ≡ m + 1 → times n k ≡ times m k + k
-unfolding times
-times_next n m k e = ap (λ (j : ℕ). j * k) e ∙ grown m k
-  where
-    grown : (m k : ℕ) → (m + 1) * k ≡ m * k + k
-    grown m k = omega arith
-
--- the first index of a range
-first_left : (from len k : ℕ) → 1 ≤ len → times len k ≡ times (from + len - (from + 1)) k + k
-first_left from len k l = times_next len (from + len - (from + 1)) k (omega arith)
-
--- equal places pass the test for that
-both : (a b c d : ℕ) → a ≡ c → b ≡ d → ((a == c) && (b == d)) ≡ true
-both a b c d e f = grind (arith, nat_tests)
-
 -- an index from another on passes the test for that
 here_on : (a b c d : ℕ) → a ≡ c → b ≤ d → ((a == c) && nat_le b d) ≡ true
 here_on a b c d e f = grind (arith, nat_tests)
 
--- each row of a touch goes on with fewer steps left, ends it, or waits, and says what it did to sizes and reserved
--- indices
-pub touch_turn : (s : State) (t top : ℕ) (killed grant : Bool) (phase : TouchPhase) (turn : Turn TouchPhase) (new : Pool)
-    → Inv s.geometry s → s.calls t ≡ Some (call.Touch phase) → TouchRow (pool_of s) t killed grant phase turn new
-    → Turned call.Touch s t top phase turn new
-touch_turn s t top killed grant (touch.Look p) turn new h e row =
-    by_option (find (s.mappings t) p.vpn) row
-    (λ _ r. plain call.Touch s t top (touch.Look p) _ turn _ new r refl refl refl refl (λ m. omega arith))
-    (λ place _ r. by_option (s.entries t p.vpn) r
-    (λ _ r. plain call.Touch s t top (touch.Look p) _ turn _ new r refl refl refl refl (λ m. omega arith))
-    (λ x _ r. plain call.Touch s t top (touch.Look p) _ turn _ new r.2 refl refl refl refl (λ m. omega arith)))
-touch_turn s t top killed grant (touch.Want p) turn new h e row =
-    by_test killed row (λ _ r. plain call.Touch s t top (touch.Want p) _ turn _ new r refl refl refl refl
-    (λ m. omega arith)) (λ _ r. want_turn call.Touch s t top p.touch.file p.touch.index (touch.Want p) _ turn new r
-    refl (λ m. omega arith))
-touch_turn s t top killed grant (touch.Locked p) turn new h e row =
-    by_test (nat_le (s.size p.touch.file) p.touch.index) row
-    (λ _ r. plain call.Touch s t top (touch.Locked p) _ turn _ new r refl refl refl refl (λ m. omega arith))
-    (λ _ r. by_test (is_some (s.pages p.touch.file p.touch.index)) r
-    (λ _ r. plain call.Touch s t top (touch.Locked p) _ turn _ new r refl refl refl refl (λ m. omega arith))
-    (λ _ r. plain call.Touch s t top (touch.Locked p) _ turn _ new r refl refl refl refl (λ m. omega arith)))
-touch_turn s t top killed grant (touch.Missing p) turn new h e row =
-    change_turn call.Touch s t top grant p.touch.file p.touch.index (p.touch.index + 1) (touch.Missing p) _
-    (λ k. touch.Changed (record { touch = p.touch; pending = k })) turn new row (λ m. omega arith) (λ k m. omega arith)
-touch_turn s t top killed grant (touch.Changed p) turn new h e row =
-    by_test killed row (λ _ r. plain call.Touch s t top (touch.Changed p) _ turn _ new r refl refl refl refl
-    (λ m. omega arith)) (λ _ r. take_turn call.Touch s t top p.pending.missing (touch.Changed p)
-    (λ a. touch.Abort (record { touch = p.touch; pending = p.pending; answer = a }))
-    (λ x. touch.Taken (record { touch = p.touch; pending = p.pending; held = x })) turn new r (λ b m. omega arith)
-    (λ x m. omega arith))
-touch_turn s t top killed grant (touch.Abort p) turn new h e row =
-    plain call.Touch s t top (touch.Abort p) _ turn _ new row refl refl refl refl (λ m. omega arith)
-touch_turn s t top killed grant (touch.Taken p) turn new h e row =
-    commit_turn call.Touch s t top p.touch.file p.pending (touch.Taken p) _ _ turn new row (λ m. omega arith) (λ m. omega arith)
-touch_turn s t top killed grant (touch.Settle p) turn new h e (low, used, row) =
-    plain call.Touch s t top (touch.Settle p) _ turn _ new row refl refl refl refl (λ m. omega arith)
-touch_turn s t top killed grant (touch.Committed p) turn new h e row =
-    by_test (nat_le (s.size p.touch.file) p.touch.index) row
-    (λ _ r. plain call.Touch s t top (touch.Committed p) _ turn _ new r refl refl refl refl (λ m. omega arith))
-    (λ _ r. by_test grant r
-    (λ _ r. plain call.Touch s t top (touch.Committed p) _ turn _ new r refl refl refl refl (λ m. omega arith))
-    (λ _ r. plain call.Touch s t top (touch.Committed p) _ turn _ new r refl refl refl refl (λ m. omega arith)))
-touch_turn s t top killed grant (touch.Restore p) turn new h e row =
-    plain call.Touch s t top (touch.Restore p) _ turn _ new row refl refl refl refl (λ m. omega arith)
-touch_turn s t top killed grant (touch.Found p) turn new h e row =
-    by_test (nat_le (s.size p.touch.file) p.touch.index) row
-    (λ _ r. plain call.Touch s t top (touch.Found p) _ turn _ new r refl refl refl refl (λ m. omega arith))
-    (λ _ r. by_test grant r
-    (λ _ r. plain call.Touch s t top (touch.Found p) _ turn _ new r.4 refl refl refl refl (λ m. omega arith))
-    (λ _ r. plain call.Touch s t top (touch.Found p) _ turn _ new r refl refl refl refl (λ m. omega arith)))
-touch_turn s t top killed grant (touch.Leave p) turn new h e row =
-    plain call.Touch s t top (touch.Leave p) _ turn _ new row refl refl refl refl (λ m. omega arith)
+-- a row that wrote what fits does so
+pub turned_by : {P : Type 0} (call : P → Call) (s : State) (t top : ℕ) (here : P) (turn : Turn P) (new : Pool)
+    → Did P call s t here turn new → Turned call s t top here turn new
+turned_by call s t top here turn new (Waits u w) = inl (u, refl, refl, w)
+turned_by call s t top here turn new (Wrote w next near y) = let d = changes s t (Some (call here)) (Some (call next)) w y in inr (record {
+  goes = refl;
+  mappings = d.mappings;
+  keeps = d.keeps;
+  grows = d.grows;
+  nearer = λ _. subst (λ (m : List Mapping). steps_left s.geometry (length m) top (Some (call next)) + 1 ≤ steps_left s.geometry
+      (length (s.mappings t)) top (Some (call here))) (sym d.own) (near top (length (s.mappings t)));
+})
+turned_by call s t top here turn new (Over w a near y) = let d = changes s t (Some (call here)) None w y in inr (record {
+  goes = refl;
+  mappings = d.mappings;
+  keeps = d.keeps;
+  grows = d.grows;
+  nearer = λ _. near top (length (s.mappings t));
+})
 
 -- so does each row of a map
 pub map_turn : (s : State) (t top : ℕ) (killed grant : Bool) (phase : MapPhase) (turn : Turn MapPhase) (new : Pool)
@@ -327,132 +245,6 @@ map_turn s t top killed grant (map.Enter p) turn new h e row =
     row refl (λ u d. put_other s.mappings t _ u d) refl refl (inl (omega arith)) (λ _. omega arith)
 map_turn s t top killed grant (map.Leave p) turn new h e row =
     plain call.Map s t top (map.Leave p) _ turn _ new row refl refl refl refl (λ m. omega arith)
-
--- an allocation that carries no answer has as many steps left as its range says
-left_none : {A : Type 0} (o : Option A) (n k : ℕ) → o ≡ None → k ≤ n → k ≤ unslot_left o n
-left_none o n k e l = subst (λ (m : Option _). k ≤ unslot_left m n) (sym e) l
-
--- one that carries an answer has two steps left at least
-left_some : {A : Type 0} (o : Option A) (a : A) (n : ℕ) → o ≡ Some a → 2 ≤ unslot_left o n
-left_some o a n e = subst (λ (m : Option _). 2 ≤ unslot_left m n) (sym e) (omega arith)
-
--- an allocation's unslot does so, at an index, at the last and with an answer
-alloc_unslot : (s : State) (t top : ℕ) (p : Unslot) (turn : Turn AllocPhase) (new : Pool) → Inv s.geometry s
-    → s.calls t ≡ Some (call.Alloc (alloc.Unslot p)) → AllocUnslotRow (pool_of s) p turn new
-    → Turned call.Alloc s t top (alloc.Unslot p) turn new
-alloc_unslot s t top p turn new h e row =
-    let y = stands_at s t _ h e in
-    let left : ℕ = times (p.allocation.from + p.allocation.len - (p.index + 1)) 9 in
-    by_option p.answer row
-    (λ none r. by_test (nat_lt (p.index + 1) (p.allocation.from + p.allocation.len)) r
-    (λ more r. let l = lt _ _ more in
-    let z = times_next (p.allocation.from + p.allocation.len - (p.index + 1))
-    (p.allocation.from + p.allocation.len - (p.index + 1 + 1)) 9 (omega arith) in
-    plain call.Alloc s t top (alloc.Unslot p) _ turn _ new r refl refl refl refl (λ m. left_none p.answer (left + 3) _ none (omega arith)))
-    (λ last r. by_test p.allocation.keep r
-    (λ _ r. plain call.Alloc s t top (alloc.Unslot p) _ turn _ new r refl refl refl refl
-    (λ m. left_none p.answer (left + 3) _ none (omega arith)))
-    (λ _ r. plain call.Alloc s t top (alloc.Unslot p) _ turn _ new r refl refl refl refl
-    (λ m. left_none p.answer (left + 3) _ none (omega arith)))))
-    (λ a some r. plain call.Alloc s t top (alloc.Unslot p) _ turn _ new r refl refl refl refl (λ m. left_some p.answer a (left + 3) some))
-
--- so does each row of an allocation
-pub alloc_turn : (s : State) (t top : ℕ) (killed grant : Bool) (phase : AllocPhase) (turn : Turn AllocPhase) (new : Pool)
-    → Inv s.geometry s → s.calls t ≡ Some (call.Alloc phase) → AllocRow (pool_of s) t killed grant phase turn new
-    → Turned call.Alloc s t top phase turn new
-alloc_turn s t top killed grant (alloc.Start p) turn new h e row =
-    start_turn call.Alloc s t top killed p.allocation.file _ _ (alloc.Start p) _ turn new row refl
-    (λ good m. let z = first_left p.allocation.from p.allocation.len 9
-    (good_range s p.allocation.from p.allocation.len good).0 in omega arith) (λ m. omega arith)
-alloc_turn s t top killed grant (alloc.Head p) turn new h e row =
-    by_test killed row (λ _ r. plain call.Alloc s t top (alloc.Head p) _ turn _ new r refl refl refl refl
-    (λ m. omega arith)) (λ _ r. plain call.Alloc s t top (alloc.Head p) _ turn _ new r refl refl refl refl (λ m. omega arith))
-alloc_turn s t top killed grant (alloc.Want p) turn new h e row =
-    by_test killed row (λ _ r. plain call.Alloc s t top (alloc.Want p) _ turn _ new r refl refl refl refl
-    (λ m. omega arith)) (λ _ r. want_turn call.Alloc s t top p.allocation.file p.index (alloc.Want p) _ turn new r
-    refl (λ m. omega arith))
-alloc_turn s t top killed grant (alloc.Locked p) turn new h e row =
-    by_test (is_some (s.pages p.allocation.file p.index)) row
-    (λ _ r. plain call.Alloc s t top (alloc.Locked p) _ turn _ new r refl refl refl refl (λ m. omega arith))
-    (λ _ r. plain call.Alloc s t top (alloc.Locked p) _ turn _ new r refl refl refl refl (λ m. omega arith))
-alloc_turn s t top killed grant (alloc.Missing p) turn new h e row =
-    change_turn call.Alloc s t top grant p.allocation.file p.index (p.index + 1) (alloc.Missing p) _
-    (λ k. alloc.Changed (record { allocation = p.allocation; index = p.index; pending = k })) turn new row
-    (λ m. omega arith) (λ k m. omega arith)
-alloc_turn s t top killed grant (alloc.Changed p) turn new h e row =
-    by_test killed row (λ _ r. plain call.Alloc s t top (alloc.Changed p) _ turn _ new r refl refl refl refl
-    (λ m. omega arith)) (λ _ r. take_turn call.Alloc s t top p.pending.missing (alloc.Changed p)
-    (λ a. alloc.Abort (record { allocation = p.allocation; index = p.index; pending = p.pending; answer = a }))
-    (λ x. alloc.Taken (record { allocation = p.allocation; index = p.index; pending = p.pending; held = x })) turn new
-    r (λ b m. omega arith) (λ x m. omega arith))
-alloc_turn s t top killed grant (alloc.Abort p) turn new h e row =
-    plain call.Alloc s t top (alloc.Abort p) _ turn _ new row refl refl refl refl (λ m. omega arith)
-alloc_turn s t top killed grant (alloc.Taken p) turn new h e row =
-    commit_turn call.Alloc s t top p.allocation.file p.pending (alloc.Taken p) _ _ turn new row (λ m. omega arith)
-    (λ m. omega arith)
-alloc_turn s t top killed grant (alloc.Settle p) turn new h e (low, used, row) =
-    plain call.Alloc s t top (alloc.Settle p) _ turn _ new row refl refl refl refl (λ m. omega arith)
-alloc_turn s t top killed grant (alloc.Committed p) turn new h e row =
-    by_test grant row (λ _ r. plain call.Alloc s t top (alloc.Committed p) _ turn _ new r refl refl refl refl
-    (λ m. omega arith)) (λ _ r. plain call.Alloc s t top (alloc.Committed p) _ turn _ new r refl refl refl refl (λ m. omega arith))
-alloc_turn s t top killed grant (alloc.Restore p) turn new h e row =
-    plain call.Alloc s t top (alloc.Restore p) _ turn _ new row refl refl refl refl (λ m. omega arith)
-alloc_turn s t top killed grant (alloc.Unslot p) turn new h e row = alloc_unslot s t top p turn new h e row
-alloc_turn s t top killed grant (alloc.Extend p) turn new h e row =
-    sized call.Alloc s t top p.allocation.file (max (s.size p.allocation.file) (p.allocation.from + p.allocation.len))
-    (alloc.Extend p) _ turn _ new row refl (λ u d. refl) refl refl (inl (omega arith)) (λ _. omega arith)
-alloc_turn s t top killed grant (alloc.Leave p) turn new h e row =
-    plain call.Alloc s t top (alloc.Leave p) _ turn _ new row refl refl refl refl (λ m. omega arith)
-
--- of a punch
-pub punch_turn : (s : State) (t top : ℕ) (killed grant : Bool) (phase : PunchPhase) (turn : Turn PunchPhase) (new : Pool)
-    → Inv s.geometry s → 1 ≤ t → t < s.geometry.tasks + 1 → s.calls t ≡ Some (call.Punch phase)
-    → PunchRow (pool_of s) t killed grant phase turn new → Turned call.Punch s t top phase turn new
-punch_turn s t top killed grant (punch.Start p) turn new h one l e row =
-    start_turn call.Punch s t top killed p.hole.file _ _ (punch.Start p) _ turn new row refl
-    (λ good m. let z = first_left p.hole.from p.hole.len (6 + s.geometry.tasks)
-    (good_range s p.hole.from p.hole.len good).0 in omega arith) (λ m. omega arith)
-punch_turn s t top killed grant (punch.Want p) turn new h one l e row =
-    want_turn call.Punch s t top p.hole.file p.index (punch.Want p) _ turn new row refl (λ m. omega arith)
-punch_turn s t top killed grant (punch.Locked p) turn new h one l e row =
-    by_test (is_some (s.pages p.hole.file p.index)) row
-    (λ _ r. plain call.Punch s t top (punch.Locked p) _ turn _ new r refl refl refl refl (λ m. omega arith))
-    (λ _ r. plain call.Punch s t top (punch.Locked p) _ turn _ new r refl refl refl refl (λ m. omega arith))
-punch_turn s t top killed grant (punch.Unmap p) turn new h one l e row =
-    by_test (nat_lt p.task s.geometry.tasks) row
-    (λ more r. let z = lt _ _ more in
-    plain call.Punch s t top (punch.Unmap p) _ turn _ new r refl refl refl refl (λ m. omega arith))
-    (λ _ r. plain call.Punch s t top (punch.Unmap p) _ turn _ new r refl refl refl refl (λ m. omega arith))
-punch_turn s t top killed grant (punch.Evict p) turn new h one l e (x, page, row) =
-    plain call.Punch s t top (punch.Evict p) _ turn _ new row refl refl refl refl (λ m. omega arith)
-punch_turn s t top killed grant (punch.Delete p) turn new h one l e row =
-    by_test (splits (s.reserved p.hole.file) p.index && nat_le (s.spare p.hole.file) (s.pending p.hole.file)
-    && not grant) row (λ _ r. plain call.Punch s t top (punch.Delete p) _ turn _ new r refl refl refl refl
-    (λ m. omega arith)) (λ _ r. turned call.Punch s t top (punch.Delete p) _ turn _ new r
-    (record {
-      goes = refl;
-      mappings = λ u d. refl;
-      keeps = λ f i a. elim (put2_tells s.reserved p.hole.file p.index false f i) [
-        | inl z ↦
-            inr (both p.hole.file p.index f i (sym z.0) (sym z.1))
-        | inr z ↦ inl (z.1 ∙ a)
-      ];
-      grows = λ f. inl (omega arith);
-      nearer = λ _. omega arith;
-    }))
-punch_turn s t top killed grant (punch.Free p) turn new h one l e row =
-    by_test p.denied row (λ _ r. plain call.Punch s t top (punch.Free p) _ turn _ new r refl refl refl refl (λ m. omega arith))
-    (λ _ r. plain call.Punch s t top (punch.Free p) _ turn _ new r.1 refl refl refl refl (λ m. omega arith))
-punch_turn s t top killed grant (punch.Unslot p) turn new h one l e row =
-    let y = stands_at s t _ h e in
-    by_test (nat_lt (p.index + 1) (p.hole.from + p.hole.len)) row
-    (λ more r. let k = lt _ _ more in
-    let z = times_next (p.hole.from + p.hole.len - (p.index + 1)) (p.hole.from + p.hole.len - (p.index + 1 + 1))
-    (6 + s.geometry.tasks) (omega arith) in
-    plain call.Punch s t top (punch.Unslot p) _ turn _ new r refl refl refl refl (λ m. omega arith))
-    (λ last r. plain call.Punch s t top (punch.Unslot p) _ turn _ new r refl refl refl refl (λ m. omega arith))
-punch_turn s t top killed grant (punch.Leave p) turn new h one l e row =
-    plain call.Punch s t top (punch.Leave p) _ turn _ new row refl refl refl refl (λ m. omega arith)
 
 -- the end of the pages is one
 same_end : (pages : ℕ → Option ℕ) (a b : ℕ) → IsPagesEnd pages a → IsPagesEnd pages b → a ≡ b

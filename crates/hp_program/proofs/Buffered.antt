@@ -1,6 +1,6 @@
 -- A replay to a buffered output: what reaches the output.
-use Rattle.std.proofs.Common.{◌≡◌, ℕ, List, [], ◌++◌, Option, Some, None, Bool, false, refl, sym, ap, subst, ◌∙◌, append_assoc}
-use Rattle.std.specs.Prelude.{OnOk, OnErr, IfErr, Result, Ok, Err}
+use Rattle.std.proofs.Common.{◌≡◌, ℕ, List, [], ◌++◌, Option, Some, None, false, refl, sym, ap, subst, ◌∙◌, append_assoc}
+use Rattle.std.specs.Prelude.{OnOk, OnErr, IfErr, Result, Ok, Err, nat_lt}
 use Rattle.std.specs.Io.Buffered.{writer_buffer, writer_contents, writer_inner}
 use Rattle.std.specs.Io.KnownBytes.{Appends, Keeps, append_known}
 use Rattle.std.specs.declared.io.buffered.BufWriter.{BufWriter}
@@ -113,7 +113,7 @@ cut from to before mid after left s kept =
     record { bytes = s.bytes; text = s.text; reads = s.reads; run = s.run; holds = holds before mid after left s.text s.wrote kept }
 
 -- all of the buffer was written
-flushed_ok : (from to : Option (List ℕ)) (old new : Bool) (before mid after : Option (List ℕ)) (r : Result (Unit {0}) ReplayFault)
+flushed_ok : (from to : Option (List ℕ)) (old new : ℕ) (before mid after : Option (List ℕ)) (r : Result (Unit {0}) ReplayFault)
     → OnOk r (Replayed from to before mid) → IfErr r (λ fault. Stopped fault from to before mid) → TellsReads r old new
     → Keeps mid after → Keeps mid (append_known after []) → DidReplay r from to old new before (Some after)
 flushed_ok from to old new before mid after (Ok x) ok err reads kept same = (
@@ -183,25 +183,25 @@ early : (from to before after : Option (List ℕ)) (r : Result (Unit {0}) Replay
 early from to before after (Ok x) ok err = early_ok from to before after ok
 early from to before after (Err fault) ok err = early_err fault from to before after err
 
--- all of it was, unless the output failed
-unless_failed : (from to : Option (List ℕ)) (old new failed : Bool) (before mid after : Option (List ℕ)) (left : List ℕ)
+-- all of it was, unless a write failed
+unless_failed : (from to : Option (List ℕ)) (old new failures : ℕ) (before mid after : Option (List ℕ)) (left : List ℕ)
     (r : Result (Unit {0}) ReplayFault) → OnOk r (Replayed from to before mid) → IfErr r (λ fault. Stopped fault from to before mid)
-    → TellsReads r old new → TellsWrites r false failed → Keeps mid (append_known after left) → (failed ≡ false → left ≡ [])
+    → TellsReads r old new → TellsWrites r 0 failures → Keeps mid (append_known after left) → (nat_lt 0 failures ≡ false → left ≡ [])
     → DidReplay r from to old new before (Some after)
-unless_failed from to old new failed before mid after left r ok err reads writes kept empty =
+unless_failed from to old new failures before mid after left r ok err reads writes kept empty =
     by_answer r ok err reads writes
   where
     emptied : (s : Result (Unit {0}) ReplayFault)
         → OnOk s (Replayed from to before mid) → IfErr s (λ fault. Stopped fault from to before mid)
-        → TellsReads s old new → failed ≡ false → DidReplay s from to old new before (Some after)
+        → TellsReads s old new → failures ≡ 0 → DidReplay s from to old new before (Some after)
     emptied s ok err reads good =
-        let whole : Keeps mid (append_known after []) = subst (λ (x : List ℕ). Keeps mid (append_known after x)) (empty good) kept in
+        let whole : Keeps mid (append_known after []) = subst (λ (x : List ℕ). Keeps mid (append_known after x)) (empty (ap (λ (n : ℕ). nat_lt 0 n) good)) kept in
         flushed_ok from to old new before mid after s ok err reads
         (subst (λ (x : Option (List ℕ)). Keeps mid x) (unbuffered after) whole) whole
 
     by_answer : (s : Result (Unit {0}) ReplayFault)
         → OnOk s (Replayed from to before mid) → IfErr s (λ fault. Stopped fault from to before mid)
-        → TellsReads s old new → TellsWrites s false failed → DidReplay s from to old new before (Some after)
+        → TellsReads s old new → TellsWrites s 0 failures → DidReplay s from to old new before (Some after)
     by_answer (Ok x) ok err reads writes = emptied (Ok x) ok err reads writes
     by_answer (Err BadHeader) ok err reads writes = emptied (Err BadHeader) ok err reads writes
     by_answer (Err (BadLine n)) ok err reads writes = emptied (Err (BadLine n)) ok err reads writes
@@ -210,17 +210,17 @@ unless_failed from to old new failed before mid after left r ok err reads writes
     by_answer (Err Memory) ok err reads writes = emptied (Err Memory) ok err reads writes
 
 -- and where the flush may have failed
-pub did_replay : {E : Type 0} (from to : Option (List ℕ)) (old new failed : Bool) (start before mid after : Option (List ℕ))
+pub did_replay : {E : Type 0} (from to : Option (List ℕ)) (old new failures : ℕ) (start before mid after : Option (List ℕ))
     (left : List ℕ) (replayed : Result (Unit {0}) ReplayFault) (flushed : Result (Unit {0}) E) (answer : Result (Unit {0}) ReplayFault)
     → start ≡ before → OnOk replayed (Replayed from to start mid) → IfErr replayed (λ fault. Stopped fault from to start mid)
-    → TellsReads replayed old new → TellsWrites replayed false failed → Keeps mid (append_known after left)
-    → OnOk flushed (failed ≡ false → left ≡ []) → OnOk flushed (answer ≡ replayed) → OnErr flushed (answer ≡ Err Write)
+    → TellsReads replayed old new → TellsWrites replayed 0 failures → Keeps mid (append_known after left)
+    → OnOk flushed (nat_lt 0 failures ≡ false → left ≡ []) → OnOk flushed (answer ≡ replayed) → OnErr flushed (answer ≡ Err Write)
     → DidReplay answer from to old new before (Some after)
-did_replay from to old new failed start before mid after left replayed (Ok x) answer same ok err reads writes kept empty is not =
+did_replay from to old new failures start before mid after left replayed (Ok x) answer same ok err reads writes kept empty is not =
     subst (λ (r : Result (Unit {0}) ReplayFault). DidReplay r from to old new before (Some after)) (sym is)
     (subst (λ (x : Option (List ℕ)). DidReplay replayed from to old new x (Some after)) same
-    (unless_failed from to old new failed start mid after left replayed ok err reads writes kept empty))
-did_replay from to old new failed start before mid after left replayed (Err e) answer same ok err reads writes kept empty is not =
+    (unless_failed from to old new failures start mid after left replayed ok err reads writes kept empty))
+did_replay from to old new failures start before mid after left replayed (Err e) answer same ok err reads writes kept empty is not =
     subst (λ (r : Result (Unit {0}) ReplayFault). DidReplay r from to old new before (Some after)) (sym not) (
       tt,
       subst (λ (x : Option (List ℕ)). CutShort from to x after) same

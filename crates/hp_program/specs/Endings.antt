@@ -1,8 +1,9 @@
 -- What a replay has read and written where it ends, with an output that is buffered.
-use Rattle.std.specs.Prelude.{◌≡◌, ℕ, List, ◌++◌, Option, Some, None, ⊤, Bool, true, Result, Ok, Err}
+use Rattle.std.specs.Prelude.{◌≡◌, ℕ, List, ◌++◌, Option, Some, None, ⊤, Result, Ok, Err}
 use Rattle.std.specs.Io.KnownBytes.{Consumes, Keeps}
 use Rattle.hp_replay.specs.declared.fault.ReplayFault.{ReplayFault}
 use Rattle.hp_replay.specs.declared.fault.ReplayFault.TheVariants.{BadLine, BadHeader, Read, Write, Memory}
+use Rattle.hp_replay.specs.Streams.{one_more}
 use Rattle.hp_replay.specs.Replaying.{Replayed, StoppedAtHeader, StoppedAtLine, StoppedAtRead, StoppedEarly, RunWrites}
 
 -- A reader had the bytes `from` left, and now has `to`; an output held `before`, and now holds `after`.
@@ -30,15 +31,15 @@ Ended Write from to before after = CutShort from to before after
 Ended Memory from to before after = StoppedEarly from to before after
 
 -- whether the reader has failed where a replay ends with this fault; one of writing may hide that it has
-abbrev pub ReaderAt : ReplayFault → Bool → Bool → Type 0
+abbrev pub ReaderAt : ReplayFault → (old new : ℕ) → Type 0
 ReaderAt BadHeader old new = new ≡ old
 ReaderAt (BadLine n) old new = new ≡ old
-ReaderAt Read old new = new ≡ true
+ReaderAt Read old new = new ≡ one_more old
 ReaderAt Write old new = Unit {0}
 ReaderAt Memory old new = new ≡ old
 
 -- what a replay does to a reader, which may have failed, and to an output, which goes with a buffer that is refused
-abbrev pub DidReplay : Result (Unit {0}) ReplayFault → Option (List ℕ) → Option (List ℕ) → Bool → Bool
+abbrev pub DidReplay : Result (Unit {0}) ReplayFault → Option (List ℕ) → Option (List ℕ) → (old new : ℕ)
     → Option (List ℕ) → Option (Option (List ℕ)) → Type 0
 DidReplay (Ok x) from to old new before (Some after) = (new ≡ old) × Replayed from to before after
 DidReplay (Ok x) from to old new before None = ⊥

@@ -15,7 +15,7 @@ pub fn run_replay<R: Source, W: Write + Drop>(
     reader: &mut R,
     out: W,
 ) -> (Result<(), ReplayFault>, Option<W>)
-    ensures { DidReplay result.0 (R.remaining reader.old) (R.remaining reader.new) (R.failed reader.old) (R.failed reader.new)
+    ensures { DidReplay result.0 (R.remaining reader.old) (R.remaining reader.new) (R.failures reader.old) (R.failures reader.new)
         (W.contents out) (option_map W.contents result.1) }
 {
     let Ok(buffered) = BufWriter::new(alloc, out) else {

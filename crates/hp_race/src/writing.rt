@@ -29,7 +29,7 @@ fn write_race<W: Sink>(
     ensures ok { OnOk result (Appends (W.contents writer.old) (W.contents writer.new) (run_line run race)) }
     ensures err { IfErr result (λ fault. IsWriteFault fault
         × Wrote (W.contents writer.old) (W.contents writer.new) (run_line run race)) }
-    ensures writes { TellsWrites result (W.failed writer.old) (W.failed writer.new) }
+    ensures writes { TellsWrites result (W.failures writer.old) (W.failures writer.new) }
 {
     let mut text = String::new(alloc);
     writeln!(text, "run {run} {race}")?;
@@ -77,7 +77,7 @@ pub fn write_races<R: Threads + Wait + Sync, W: Sink>(
         (W.contents writer.old) (W.contents writer.new)) }
     ensures err { IfErr result (λ fault. IsWriteFault fault
         × WroteSomeRaces script.now (option_map non_zero_u32_get cut) times (W.contents writer.old) (W.contents writer.new)) }
-    ensures writes { TellsWrites result (W.failed writer.old) (W.failed writer.new) }
+    ensures writes { TellsWrites result (W.failures writer.old) (W.failures writer.new) }
 {
     let mut closed = true;
     for run in 0..times {
@@ -99,7 +99,7 @@ pub fn write_race_trace<R: Threads + Wait + Sync, W: Sink>(
     ensures ok { IfOk result (λ closed. WroteTrace script.now closed (W.contents writer.old) (W.contents writer.new)) }
     ensures err { IfErr result (λ fault. IsWriteFault fault
         × WroteSomeTrace script.now (W.contents writer.old) (W.contents writer.new)) }
-    ensures writes { TellsWrites result (W.failed writer.old) (W.failed writer.new) }
+    ensures writes { TellsWrites result (W.failures writer.old) (W.failures writer.new) }
 {
     let Some(trace) = race_trace(rt, alloc, script)? else {
         return Ok(false);

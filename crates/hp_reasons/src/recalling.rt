@@ -139,7 +139,7 @@ impl<S> Recalls for Watched<S> {
 impl<S: Source> Source for Recalling<S> {
     ghost remaining = { λ recalling. S.remaining (source_of recalling) };
 
-    ghost failed = { λ recalling. S.failed (source_of recalling) };
+    ghost failures = { λ recalling. S.failures (source_of recalling) };
 
     fn read_piece(&mut self, piece: &mut [u8]) -> Result<usize, ReplayFault> {
         let count = self.source.read_piece(piece)?;

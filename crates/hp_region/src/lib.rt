@@ -7,6 +7,7 @@
 //! memory and always succeed, whatever comes between. It knows nothing of pages, frames or tasks.
 #![tactic(auto)]
 
+mod bits;
 mod fault;
 mod map;
 mod region;

@@ -4,6 +4,7 @@ ghost use Rattle.std.specs.Option.{option_map};
 ghost use Rattle.hp_base.specs.Indices.{count_below, missing, region_count, HasAllWithin};
 ghost use Rattle.hp_region.specs.Regions.{is_member, IsApartFrom};
 
+use crate::bits::Bits;
 use crate::region::Region;
 use crate::walk;
 use hp_base::{Index, LIMIT};
@@ -15,10 +16,12 @@ mod remove;
 
 /// The indices of a file that have a reservation, as a set that is changed in two phases: `change`
 /// tells what is missing and prepares room, and `commit` adds the range, which takes no memory then,
-/// or `abort` gives the change up. Each call finds its first region by binary search.
+/// or `abort` gives the change up. Calls on regions find the first by binary search. The set is kept a
+/// second time, a bit for each index: so what is missing is counted 64 indices at once.
 #[derive(Drop)]
 pub struct RegionMap {
     regions: Vec<Region>,
+    bits: Bits,
     count: u32,
     pending: usize,
     spare: usize,
@@ -28,6 +31,7 @@ impl Model for RegionMap {
     ghost use Rattle.std.specs.Prelude.{◌≡◌, ◌+◌, ◌≤◌, vec_len, vec_capacity};
     ghost use Rattle.hp_base.specs.Indices.{count_below};
     ghost use Rattle.hp_base.specs.declared.limits.TheConstants.{LIMIT};
+    ghost use Rattle.hp_region.specs.Bits.{has_bit};
     ghost use Rattle.hp_region.specs.Regions.{is_member, IsApartFrom};
     ghost use Rattle.hp_region.specs.Reserved.{Reserved};
 
@@ -37,6 +41,7 @@ impl Model for RegionMap {
 
     ghost invariant = { λ m. record {
       apart : IsApartFrom 0 m.regions.items;
+      marked : has_bit m.bits ≡ is_member m.regions.items;
       counted : m.count ≡ count_below (is_member m.regions.items) LIMIT;
       covered : m.pending ≤ m.spare;
       room : vec_len m.regions + m.spare ≤ vec_capacity m.regions;
@@ -53,6 +58,7 @@ impl RegionMap {
     {
         RegionMap {
             regions: Vec::new(alloc),
+            bits: Bits::new(),
             count: 0,
             pending: 0,
             spare: 0,
@@ -70,14 +76,14 @@ impl RegionMap {
         regions.extend_from_slice(&self.regions)?;
         Ok(RegionMap {
             regions,
+            bits: self.bits.copy(),
             count: self.count,
             pending: self.pending,
             spare: self.spare,
         })
     }
 
-    /// How many indices of [from, to) are not in the set. Of the regions those in the range are
-    /// looked at.
+    /// How many indices of [from, to) are not in the set. Their bits are looked at, 64 at once.
     pub fn missing(&self, from: Index, to: Index) -> u32
         requires in_order { from ≤ to }
         requires in_limit { to ≤ LIMIT }
@@ -86,7 +92,7 @@ impl RegionMap {
         // A set that has all that another has in the range misses no more of it.
         ensures no_more { (other : ℕ → Bool) → HasAllWithin other (is_member self.now.regions) from to → result ≤ missing other from to }
     {
-        to.number() - from.number() - walk::held(&self.regions, from, to)
+        to.number() - from.number() - self.bits.count(from, to)
     }
 
     /// How many indices are in the set. The map keeps this number.
@@ -102,7 +108,7 @@ impl RegionMap {
         ensures member { result ≡ is_member self.now.regions index }
         ensures in_limit { IsTrue result → index < LIMIT }
     {
-        walk::find(&self.regions, index).is_some()
+        self.bits.has(index)
     }
 
     /// How many regions end at or below an index, which is the place of the first that ends above

@@ -2,7 +2,7 @@
 ghost use Rattle.std.specs.Prelude.{◌≡◌, ℕ, ◌^◌, ◌+◌, ◌++◌, ◌∷◌, take, drop, ◌-◌, ◌<◌, ◌≤◌, ◌↔◌, true, false, min, max, not};
 ghost use Rattle.std.specs.Prelude.{nat_le, length, count_by, IsTrue, IsSome, IfSome, slice_index_or, vec_len, vec_capacity};
 ghost use Rattle.std.specs.Prelude.{if◌then◌else◌};
-ghost use Rattle.hp_base.specs.Indices.{is_within, count_within, add_range, cut_tail, touches, splits};
+ghost use Rattle.hp_base.specs.Indices.{is_within, count_within, missing, add_range, cut_tail, touches, splits};
 ghost use Rattle.hp_base.specs.Numbers.{put};
 ghost use Rattle.hp_region.specs.Regions.{is_member, IsApartFrom};
 ghost use Rattle.hp_region.specs.declared.region.Region.{Region};
@@ -58,6 +58,16 @@ pub fn held(regions: &[Region], from: Index, to: Index) -> u32
         at += 1;
     }
     held
+}
+
+// How many indices of [from, to) the regions lack.
+pub fn missing(regions: &[Region], from: Index, to: Index) -> u32
+    requires apart { IsApartFrom 0 regions.now }
+    requires in_order { from ≤ to }
+    requires in_limit { to ≤ LIMIT }
+    ensures { result ≡ missing (is_member regions.now) from to }
+{
+    to.number() - from.number() - held(regions, from, to)
 }
 
 // Adds [from, to) to the regions, merged with those that it overlaps or touches. Answers whether

@@ -6,7 +6,7 @@ use Rattle.std.proofs.lemmas.Bool.{ne_eqb}
 use Rattle.std.proofs.lemmas.List.{get_or_default}
 use Rattle.hp_base.specs.Mappings.{in_mapping}
 use Rattle.hp_table.specs.Table.{Table}
-use Rattle.hp_fault.specs.View.{no_table, table_of, mappings_by_task, entries_of}
+use Rattle.hp_parts.specs.View.{no_table, table_of, mappings_by_task, entries_of}
 
 table_read : (xs : List Table) (n t : ℕ) (d : Table) → 1 ≤ t → t ≤ length xs → n ≡ t → d ≡ get_or xs (n - 1) d → d ≡ table_of xs t
 table_read xs n t d low high e is =

@@ -4,8 +4,8 @@ use Rattle.std.specs.Prelude.{max}
 use Rattle.std.specs.FinMap.{get}
 use Rattle.std.proofs.lemmas.List.{get_or_default}
 use Rattle.hp_base.specs.Pages.{IsPagesEnd}
-use Rattle.hp_fault.specs.declared.parts.FileState.{FileState}
-use Rattle.hp_fault.specs.View.{no_file, sizes_of, pages_of}
+use Rattle.hp_parts.specs.declared.parts.FileState.{FileState}
+use Rattle.hp_parts.specs.View.{no_file, sizes_of, pages_of}
 
 pub top_is : (xs : List FileState) (n f : ℕ) (d : FileState) (end top : ℕ) → f < length xs → n ≡ f → d ≡ get_or xs n d
     → IsPagesEnd (get d.cache.pages) end → top ≡ max d.size end

@@ -12,7 +12,7 @@ use Rattle.hp_machine.specs.declared.unmap.UnmapPhase.{UnmapPhase}
 use Rattle.hp_machine.specs.declared.unmap.UnmapPhase.TheVariants as unmap
 use Rattle.hp_machine.specs.declared.exit.ExitPhase.{ExitPhase}
 use Rattle.hp_machine.specs.declared.exit.ExitPhase.TheVariants as exit
-use Rattle.hp_fault.specs.Fits.{IsTaskOf, IsFileOf, IsHeld, HasPage}
+use Rattle.hp_parts.specs.Fits.{IsTaskOf, IsFileOf, IsHeld, HasPage}
 
 -- no virtual page of the mapping is translated
 abbrev pub IsCleared : Pool → (task base : ℕ) → Type 0

@@ -1,16 +1,16 @@
 //! One function for each phase of the end of a task (Linux: `exit_mmap`).
 ghost use Rattle.hp_machine.specs.ExitRows.{ExitRow, ExitStartRow, ExitClearRow, ExitDropRow};
-ghost use Rattle.hp_fault.specs.View.{view};
-ghost use Rattle.hp_fault.specs.State.{state_of, SizesStay};
-ghost use Rattle.hp_fault.specs.Room.{RoomStays};
-ghost use Rattle.hp_fault.specs.Fits.{IsTaskOf};
+ghost use Rattle.hp_parts.specs.View.{view};
+ghost use Rattle.hp_parts.specs.State.{state_of, SizesStay};
+ghost use Rattle.hp_parts.specs.Room.{RoomStays};
+ghost use Rattle.hp_parts.specs.Fits.{IsTaskOf};
 ghost use Rattle.hp_remove.specs.Fits.{ExitFits, IsCleared};
 
 use crate::pages::{clear_mapping, drop_mapping};
 use hp_base::{Answer, Task};
-use hp_fault::Parts;
 use hp_machine::Turn;
 pub use hp_machine::exit::{Clear, Drop, ExitPhase};
+use hp_parts::Parts;
 
 /// One step of an exit. It wants no memory, and no kill is noticed in it: `killed` and `grant` are taken as every
 /// step takes them, and change nothing.
@@ -35,7 +35,7 @@ pub fn step_exit(
     }
 }
 
-#[tactic(auto, using(hp_fault::proofs::Laws::look_laws))]
+#[tactic(auto, using(hp_parts::proofs::Laws::look_laws))]
 fn from_start(parts: &mut Parts, task: Task) -> Turn<ExitPhase>
     requires { IsTaskOf (view parts.old) task }
     ensures row { ExitStartRow (view parts.old) task result (view parts.new) }
@@ -59,7 +59,7 @@ fn from_clear(parts: &mut Parts, task: Task, phase: Clear) -> Turn<ExitPhase>
     Turn::Moved(ExitPhase::Drop(Drop { base }))
 }
 
-#[tactic(auto, using(hp_fault::proofs::Laws::look_laws, hp_base::proofs::Puts::put_same))]
+#[tactic(auto, using(hp_parts::proofs::Laws::look_laws, hp_base::proofs::Puts::put_same))]
 fn from_drop(parts: &mut Parts, task: Task, phase: Drop) -> Turn<ExitPhase>
     requires task { IsTaskOf (view parts.old) task }
     requires bare { IsCleared (view parts.old) task phase.base }

@@ -4,18 +4,18 @@ ghost use Rattle.hp_base.specs.Numbers.{put, put2};
 ghost use Rattle.hp_base.specs.Mappings.{without, without_index};
 ghost use Rattle.hp_frames.specs.declared.frame.FrameState.TheVariants.{Hand};
 ghost use Rattle.hp_machine.specs.Parts.{cleared};
-ghost use Rattle.hp_fault.specs.View.{view};
-ghost use Rattle.hp_fault.specs.State.{state_of, SizesStay};
-ghost use Rattle.hp_fault.specs.Room.{RoomStays};
-ghost use Rattle.hp_fault.specs.Fits.{IsTaskOf, IsFileOf, HasPage};
+ghost use Rattle.hp_parts.specs.View.{view};
+ghost use Rattle.hp_parts.specs.State.{state_of, SizesStay};
+ghost use Rattle.hp_parts.specs.Room.{RoomStays};
+ghost use Rattle.hp_parts.specs.Fits.{IsTaskOf, IsFileOf, HasPage};
 ghost use Rattle.hp_remove.specs.Fits.{IsCleared};
 
 use hp_base::{File, Index, Task, Vpn};
-use hp_fault::Parts;
 use hp_frames::Held;
+use hp_parts::Parts;
 
 /// Clears the task's entries of an index, in each of its mappings (Linux: `hugetlb_vmdelete_list`).
-#[tactic(auto, using(hp_fault::proofs::Laws::clear_laws))]
+#[tactic(auto, using(hp_parts::proofs::Laws::clear_laws))]
 pub fn clear_index(parts: &mut Parts, task: Task, file: File, index: Index)
     requires { IsTaskOf (view parts.old) task }
     ensures after { view parts.new ≡ record (view parts.old) {
@@ -29,7 +29,7 @@ pub fn clear_index(parts: &mut Parts, task: Task, file: File, index: Index)
 }
 
 /// The page goes from the cache into the call's hand (Linux: `hugetlb_delete_from_page_cache`).
-#[tactic(auto, using(hp_fault::proofs::Laws::evict_laws))]
+#[tactic(auto, using(hp_parts::proofs::Laws::evict_laws))]
 pub fn evict_page(parts: &mut Parts, file: File, index: Index) -> Held
     requires file { IsFileOf (view parts.old) file }
     requires page { HasPage (view parts.old) file index }
@@ -46,7 +46,7 @@ pub fn evict_page(parts: &mut Parts, file: File, index: Index) -> Held
 }
 
 /// Clears the task's entries of a mapping (Linux: `unmap_vmas`).
-#[tactic(auto, using(hp_fault::proofs::Laws::clear_laws))]
+#[tactic(auto, using(hp_parts::proofs::Laws::clear_laws))]
 pub fn clear_mapping(parts: &mut Parts, task: Task, base: Vpn)
     requires { IsTaskOf (view parts.old) task }
     ensures after { view parts.new ≡ cleared (view parts.old) task base }
@@ -57,7 +57,7 @@ pub fn clear_mapping(parts: &mut Parts, task: Task, base: Vpn)
 }
 
 /// The mapping goes, once no page of it is translated (Linux: `remove_vma`).
-#[tactic(auto, using(hp_fault::proofs::Laws::drop_laws))]
+#[tactic(auto, using(hp_parts::proofs::Laws::drop_laws))]
 pub fn drop_mapping(parts: &mut Parts, task: Task, base: Vpn)
     requires task { IsTaskOf (view parts.old) task }
     requires bare { IsCleared (view parts.old) task base }

@@ -6,22 +6,21 @@ ghost use Rattle.hp_machine.specs.PunchRows.{PunchDeleteRow, PunchFreeRow, Punch
 ghost use Rattle.hp_machine.specs.Wants.{punch_wants};
 ghost use Rattle.hp_machine.specs.Standings.{standing};
 ghost use Rattle.hp_machine.specs.declared.call.Call.TheVariants as call;
-ghost use Rattle.hp_fault.specs.Turns.{IfBlocked, IfWanting};
-ghost use Rattle.hp_fault.specs.View.{view};
-ghost use Rattle.hp_fault.specs.State.{state_of, IsSized, SizesStay};
-ghost use Rattle.hp_fault.specs.Room.{RoomStays, RoomStaysUnless};
-ghost use Rattle.hp_fault.specs.Fits.{IsTaskOf, IsFileOf, IsHeld, HasPage};
+ghost use Rattle.hp_parts.specs.Turns.{IfBlocked, IfWanting};
+ghost use Rattle.hp_parts.specs.View.{view};
+ghost use Rattle.hp_parts.specs.State.{state_of, IsSized, SizesStay};
+ghost use Rattle.hp_parts.specs.Room.{RoomStays, RoomStaysUnless};
+ghost use Rattle.hp_parts.specs.Fits.{IsTaskOf, IsFileOf, IsHeld, HasPage};
 ghost use Rattle.hp_remove.specs.Fits.{PunchFits};
 
 use crate::pages::{clear_index, evict_page};
 use hp_base::{Answer, Index, LIMIT, Task};
-use hp_fault::Parts;
-use hp_fault::shared::{carry, is_bad_range, leave_lock, leave_slot, start, want_slot};
 use hp_frames::Held;
 pub use hp_machine::punch::{
     Delete, Evict, Free, Hole, Leave, Locked, PunchPhase, Start, Unmap, Unslot, Want,
 };
 use hp_machine::{Stopped, Turn};
+use hp_parts::{Parts, carry, is_bad_range, leave_lock, leave_slot, start, want_slot};
 use hp_region::DelFault;
 
 /// One step of a punch. Where it finds no memory nothing changed, and the phase is handed back. A kill is noticed
@@ -60,7 +59,7 @@ pub fn step_punch(
     }
 }
 
-#[tactic(auto, using(hp_fault::proofs::Carrying::carry_start, hp_fault::proofs::Carrying::carry_blocked))]
+#[tactic(auto, using(hp_parts::proofs::Carrying::carry_start, hp_parts::proofs::Carrying::carry_blocked))]
 fn from_start(parts: &mut Parts, task: Task, killed: bool, phase: Start) -> Turn<PunchPhase>
     requires { IsSized (state_of parts.old) }
     ensures row { PunchStartRow (view parts.old) task killed phase result (view parts.new) }
@@ -76,7 +75,7 @@ fn from_start(parts: &mut Parts, task: Task, killed: bool, phase: Start) -> Turn
     carry(turn, PunchPhase::Start(phase), next)
 }
 
-#[tactic(auto, using(hp_fault::proofs::Carrying::carry_want, hp_fault::proofs::Carrying::carry_blocked))]
+#[tactic(auto, using(hp_parts::proofs::Carrying::carry_want, hp_parts::proofs::Carrying::carry_blocked))]
 fn from_want(parts: &mut Parts, task: Task, phase: Want) -> Turn<PunchPhase>
     ensures row { PunchWantRow (view parts.old) task phase result (view parts.new) }
     ensures sizes { SizesStay (state_of parts.old) (state_of parts.new) }
@@ -89,7 +88,7 @@ fn from_want(parts: &mut Parts, task: Task, phase: Want) -> Turn<PunchPhase>
     carry(turn, PunchPhase::Want(phase), next)
 }
 
-#[tactic(auto, using(hp_fault::proofs::Laws::page_laws))]
+#[tactic(auto, using(hp_parts::proofs::Laws::page_laws))]
 fn from_locked(parts: &mut Parts, phase: Locked) -> Turn<PunchPhase>
     requires { IsFileOf (view parts.old) phase.hole.file }
     ensures row { PunchLockedRow (view parts.old) phase result (view parts.new) }
@@ -136,7 +135,7 @@ fn from_evict(parts: &mut Parts, phase: Evict) -> Turn<PunchPhase>
     Turn::Moved(PunchPhase::Delete(Delete { hole, index, held }))
 }
 
-#[tactic(auto, using(hp_fault::proofs::Laws::delete_laws))]
+#[tactic(auto, using(hp_parts::proofs::Laws::delete_laws))]
 fn from_delete(parts: &mut Parts, grant: bool, phase: Delete) -> Result<Turn<PunchPhase>, Delete>
     requires file { IsFileOf (view parts.old) phase.hole.file }
     requires spared { (view parts.old).pending phase.hole.file ≤ (view parts.old).spare phase.hole.file }
@@ -160,7 +159,7 @@ fn from_delete(parts: &mut Parts, grant: bool, phase: Delete) -> Result<Turn<Pun
 
 // Where the delete was denied the index is still reserved, and its page used. Else it isn't, so the page no longer is
 // (Linux: `hugepage_subpool_put_pages`).
-#[tactic(auto, using(hp_fault::proofs::Laws::frame_laws))]
+#[tactic(auto, using(hp_parts::proofs::Laws::frame_laws))]
 fn from_free(parts: &mut Parts, phase: Free) -> Turn<PunchPhase>
     requires held { IsHeld (view parts.old) phase.held }
     requires used { phase.denied ≡ false → 1 ≤ (view parts.old).used }

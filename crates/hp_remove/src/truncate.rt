@@ -9,21 +9,20 @@ ghost use Rattle.hp_machine.specs.TruncateRows.{TruncateLockedRow, TruncateUnmap
 ghost use Rattle.hp_machine.specs.TruncateRows.{TruncateUnslotRow, TruncateTailRow, TruncateSettleRow, TruncateLeaveRow};
 ghost use Rattle.hp_machine.specs.Standings.{standing};
 ghost use Rattle.hp_machine.specs.declared.call.Call.TheVariants as call;
-ghost use Rattle.hp_fault.specs.Turns.{IfBlocked, IfWanting};
-ghost use Rattle.hp_fault.specs.View.{view};
-ghost use Rattle.hp_fault.specs.State.{state_of, IsSized, SizesStay};
-ghost use Rattle.hp_fault.specs.Room.{RoomStays};
-ghost use Rattle.hp_fault.specs.Fits.{IsTaskOf, IsFileOf, IsHeld, HasPage};
+ghost use Rattle.hp_parts.specs.Turns.{IfBlocked, IfWanting};
+ghost use Rattle.hp_parts.specs.View.{view};
+ghost use Rattle.hp_parts.specs.State.{state_of, IsSized, SizesStay};
+ghost use Rattle.hp_parts.specs.Room.{RoomStays};
+ghost use Rattle.hp_parts.specs.Fits.{IsTaskOf, IsFileOf, IsHeld, HasPage};
 ghost use Rattle.hp_remove.specs.Fits.{TruncateFits};
 
 use crate::pages::{clear_index, evict_page};
 use hp_base::{Answer, File, Index, LIMIT, Task};
-use hp_fault::Parts;
-use hp_fault::shared::{carry, leave_lock, leave_slot, start, want_slot};
 use hp_machine::Turn;
 pub use hp_machine::truncate::{
     Evict, Free, Leave, Locked, Settle, Size, Start, Tail, TruncatePhase, Unmap, Unslot, Want,
 };
+use hp_parts::{Parts, carry, leave_lock, leave_slot, start, want_slot};
 
 /// One step of a truncation. It wants no memory, so `grant`, which every step takes, changes nothing; a kill is
 /// noticed at its start alone.
@@ -58,7 +57,7 @@ pub fn step_truncate(
     }
 }
 
-#[tactic(auto, using(hp_fault::proofs::Carrying::carry_start, hp_fault::proofs::Carrying::carry_blocked))]
+#[tactic(auto, using(hp_parts::proofs::Carrying::carry_start, hp_parts::proofs::Carrying::carry_blocked))]
 fn from_start(parts: &mut Parts, task: Task, killed: bool, phase: Start) -> Turn<TruncatePhase>
     requires { IsSized (state_of parts.old) }
     ensures row { TruncateStartRow (view parts.old) task killed phase result (view parts.new) }
@@ -98,7 +97,7 @@ fn from_size(parts: &mut Parts, phase: Size) -> Turn<TruncatePhase>
 
 // Sets the file's size, and tells where the sweep begins: the larger of the old size and the end of the
 // pages.
-#[tactic(auto, using(hp_fault::proofs::Laws::size_laws, hp_fault::proofs::Laws::pages_are))]
+#[tactic(auto, using(hp_parts::proofs::Laws::size_laws, hp_parts::proofs::Laws::pages_are))]
 fn set_size(parts: &mut Parts, file: File, new: u32) -> u32
     requires { IsFileOf (view parts.old) file }
     ensures top { (end : ℕ) × IsPagesEnd ((view parts.old).pages file) end × (result ≡ max ((view parts.old).size file) end) }
@@ -112,7 +111,7 @@ fn set_size(parts: &mut Parts, file: File, new: u32) -> u32
     top
 }
 
-#[tactic(auto, using(hp_fault::proofs::Carrying::carry_want, hp_fault::proofs::Carrying::carry_blocked))]
+#[tactic(auto, using(hp_parts::proofs::Carrying::carry_want, hp_parts::proofs::Carrying::carry_blocked))]
 fn from_want(parts: &mut Parts, task: Task, phase: Want) -> Turn<TruncatePhase>
     ensures row { TruncateWantRow (view parts.old) task phase result (view parts.new) }
     ensures sizes { SizesStay (state_of parts.old) (state_of parts.new) }
@@ -129,7 +128,7 @@ fn from_want(parts: &mut Parts, task: Task, phase: Want) -> Turn<TruncatePhase>
     carry(turn, TruncatePhase::Want(phase), next)
 }
 
-#[tactic(auto, using(hp_fault::proofs::Laws::page_laws))]
+#[tactic(auto, using(hp_parts::proofs::Laws::page_laws))]
 fn from_locked(parts: &mut Parts, phase: Locked) -> Turn<TruncatePhase>
     requires { IsFileOf (view parts.old) phase.truncation.file }
     ensures row { TruncateLockedRow (view parts.old) phase result (view parts.new) }
@@ -211,7 +210,7 @@ fn from_evict(parts: &mut Parts, phase: Evict) -> Turn<TruncatePhase>
     }))
 }
 
-#[tactic(auto, using(hp_fault::proofs::Laws::frame_laws))]
+#[tactic(auto, using(hp_parts::proofs::Laws::frame_laws))]
 fn from_free(parts: &mut Parts, phase: Free) -> Turn<TruncatePhase>
     requires { IsHeld (view parts.old) phase.held }
     ensures row { TruncateFreeRow (view parts.old) phase result (view parts.new) }
@@ -258,7 +257,7 @@ fn from_unslot(parts: &mut Parts, task: Task, phase: Unslot) -> Turn<TruncatePha
     }
 }
 
-#[tactic(auto, using(hp_fault::proofs::Laws::tail_laws))]
+#[tactic(auto, using(hp_parts::proofs::Laws::tail_laws))]
 fn from_tail(parts: &mut Parts, phase: Tail) -> Turn<TruncatePhase>
     requires file { IsFileOf (view parts.old) phase.truncation.file }
     requires evicted { phase.evicted ≤ count_within ((view parts.old).reserved phase.truncation.file) phase.truncation.new LIMIT }

@@ -1,16 +1,16 @@
 //! One function for each phase of an unmap of a whole mapping (Linux: `do_munmap`).
 ghost use Rattle.hp_machine.specs.UnmapRows.{UnmapRow, UnmapStartRow, UnmapClearRow, UnmapDropRow};
-ghost use Rattle.hp_fault.specs.View.{view};
-ghost use Rattle.hp_fault.specs.State.{state_of, SizesStay};
-ghost use Rattle.hp_fault.specs.Room.{RoomStays};
-ghost use Rattle.hp_fault.specs.Fits.{IsTaskOf};
+ghost use Rattle.hp_parts.specs.View.{view};
+ghost use Rattle.hp_parts.specs.State.{state_of, SizesStay};
+ghost use Rattle.hp_parts.specs.Room.{RoomStays};
+ghost use Rattle.hp_parts.specs.Fits.{IsTaskOf};
 ghost use Rattle.hp_remove.specs.Fits.{UnmapFits, IsCleared};
 
 use crate::pages::{clear_mapping, drop_mapping};
 use hp_base::{Answer, Task};
-use hp_fault::Parts;
 use hp_machine::Turn;
 pub use hp_machine::unmap::{Clear, Drop, Start, UnmapPhase};
+use hp_parts::Parts;
 
 /// One step of an unmap. It wants no memory, and no kill is noticed in it: `killed` and `grant` are taken as every
 /// step takes them, and change nothing.
@@ -34,7 +34,7 @@ pub fn step_unmap(
     }
 }
 
-#[tactic(auto, using(hp_fault::proofs::Laws::look_laws))]
+#[tactic(auto, using(hp_parts::proofs::Laws::look_laws))]
 fn from_start(parts: &mut Parts, task: Task, phase: Start) -> Turn<UnmapPhase>
     requires { IsTaskOf (view parts.old) task }
     ensures row { UnmapStartRow (view parts.old) task phase result (view parts.new) }

@@ -2,7 +2,7 @@
 use Rattle.std.proofs.Common.{◌≡◌, ℕ, ◌-◌, ◌<◌, List, [], ◌∷◌, ◌++◌, length, drop, map, Option}
 use Rattle.std.proofs.Common.{Some, None, refl, sym, ap}
 use Rattle.std.proofs.Common.{subst, ◌∙◌, append_assoc, arith, inl, inr, ◌⊎◌}
-use Rattle.std.specs.Prelude.{All, IfSome, IsSomeAnd, Ok, Err, Bool}
+use Rattle.std.specs.Prelude.{All, IfSome, IsSomeAnd, Ok, Err}
 use Rattle.std.specs.Io.BufRead.{take_through}
 use Rattle.std.specs.Io.KnownBytes.{Consumes, IsAtEnd}
 use Rattle.std.proofs.KnownBytes.{Consumes-trans}
@@ -40,7 +40,7 @@ pub bad_line : (held h next : Held) (old mid : List Line) (piece rest : List ℕ
     → AreCalls mid → next ≡ held_after h (take_through 10 rest) → lines_after h (take_through 10 rest) ≡ []
     → next.fault ≡ Some fault
     → IsLineFault fault → PieceNotCalls fault held old piece
-bad_line held h next old mid piece rest fault a calls held_is none failed is =
+bad_line held h next old mid piece rest fault a calls held_is none failures is =
     let first = take_through 10 rest in
     let left = drop (length first) rest in
     let taken : next ≡ held_after held (a.front ++ first) =
@@ -51,7 +51,7 @@ bad_line held h next old mid piece rest fault a calls held_is none failed is =
     ∙ (ap (λ (x : List Line). lines_after held a.front ++ x) none ∙ append-nil (lines_after held a.front)))) ∙ sym a.lines in
     no_line (a.front ++ first) left
     (a.parts ∙ (ap (λ (x : List ℕ). a.front ++ x) (through_parts rest) ∙ sym (append_assoc a.front first left)))
-    (ap (λ (x : Held). x.fault) (sym taken) ∙ failed) is (subst (λ (ls : List Line). AreCalls ls) (sym lines) calls)
+    (ap (λ (x : Held). x.fault) (sym taken) ∙ failures) is (subst (λ (ls : List Line). AreCalls ls) (sym lines) calls)
 
 -- an event that begins no call does
 pub other_event : (held h next : Held) (old mid : List Line) (piece rest left : List ℕ) (line : Option Line) (n : ℕ)
@@ -99,7 +99,7 @@ held_ok h lines d = ap (λ (x : Held). x.fault) (sym d.held) ∙ d.no_fault
 pub piece_fault : (from mid to : Option (List ℕ)) (h : Held) (lines : List Line) (piece : List ℕ) (fault : ReplayFault)
     → Drafting from mid h lines → Consumes mid to piece → PieceNotCalls fault h lines piece
     → IfSome from (λ bytes. HasScriptFault bytes fault)
-piece_fault from mid to h lines piece fault d read (no_line front back parts failed is calls) =
+piece_fault from mid to h lines piece fault d read (no_line front back parts failures is calls) =
     let held : held_after opening_held (d.bytes ++ front) ≡ held_after h front =
     held_after-append opening_held d.bytes front ∙ ap (λ (x : Held). held_after x front) (sym d.held) in
     let all : lines_after opening_held (d.bytes ++ front) ≡ lines ++ lines_after h front =
@@ -109,7 +109,7 @@ piece_fault from mid to h lines piece fault d read (no_line front back parts fai
     (λ left. subst (λ (x : List ℕ). HasScriptFault x fault)
     (append_assoc d.bytes front (back ++ left) ∙ (ap (λ (x : List ℕ). d.bytes ++ x) (sym (append_assoc front back left))
     ∙ (ap (λ (x : List ℕ). d.bytes ++ (x ++ left)) (sym parts) ∙ sym (append_assoc d.bytes piece left))))
-    (fed_fault (d.bytes ++ front) fault (back ++ left) (ap (λ (x : Held). x.fault) held ∙ failed)
+    (fed_fault (d.bytes ++ front) fault (back ++ left) (ap (λ (x : Held). x.fault) held ∙ failures)
     (subst (λ (ls : List Line). AreCalls ls) (sym all) calls)))
 piece_fault from mid to h lines piece fault d read (no_call front back before e parts ok are calls other is) =
     let held : held_after opening_held (d.bytes ++ front) ≡ held_after h front =
@@ -127,20 +127,20 @@ piece_fault from mid to h lines piece fault d read (no_call front back before e 
 piece_fault from mid to h lines piece fault d read (no_memory is) =
     for_some from _ (λ bytes. subst (λ (f : ReplayFault). HasScriptFault bytes f) (sym is) tt)
 
-pub piece_no_read : (fault : ReplayFault) (h : Held) (lines : List Line) (piece : List ℕ) (failed : Bool)
+pub piece_no_read : (fault : ReplayFault) (h : Held) (lines : List Line) (piece : List ℕ) (failures : ℕ)
     → PieceNotCalls fault h lines piece
-    → failed ≡ source_at fault failed
-piece_no_read fault h lines piece failed (no_line front back parts bad is calls) = line_none fault failed is
+    → failures ≡ source_at fault failures
+piece_no_read fault h lines piece failures (no_line front back parts bad is calls) = line_none fault failures is
   where
-    line_none : (fault : ReplayFault) (failed : Bool) → IsLineFault fault → failed ≡ source_at fault failed
-    line_none BadHeader failed is = refl
-    line_none (BadLine n) failed is = refl
-    line_none Read failed is = absurd is
-    line_none Write failed is = absurd is
-    line_none Memory failed is = absurd is
-piece_no_read fault h lines piece failed (no_call front back before e parts ok are calls other is) =
-    subst (λ (f : ReplayFault). failed ≡ source_at f failed) (sym is) refl
-piece_no_read fault h lines piece failed (no_memory is) = subst (λ (f : ReplayFault). failed ≡ source_at f failed) (sym is) refl
+    line_none : (fault : ReplayFault) (failures : ℕ) → IsLineFault fault → failures ≡ source_at fault failures
+    line_none BadHeader failures is = refl
+    line_none (BadLine n) failures is = refl
+    line_none Read failures is = absurd is
+    line_none Write failures is = absurd is
+    line_none Memory failures is = absurd is
+piece_no_read fault h lines piece failures (no_call front back before e parts ok are calls other is) =
+    subst (λ (f : ReplayFault). failures ≡ source_at f failures) (sym is) refl
+piece_no_read fault h lines piece failures (no_memory is) = subst (λ (f : ReplayFault). failures ≡ source_at f failures) (sym is) refl
 
 -- what is wrong at the end
 end_line : (h : Held) (fault : ReplayFault) → h.fault ≡ None → end_of h ≡ Err fault
@@ -219,15 +219,15 @@ takes_more held h next piece rest left t is left_is ok =
 
 pub takes_fault : (held h next : Held) (piece rest : List ℕ) (fault : ReplayFault) → Taking held h piece rest
     → next ≡ held_after h (take_through 10 rest) → next.fault ≡ Some fault → (held_after held piece).fault ≡ Some fault
-takes_fault held h next piece rest fault t is failed =
+takes_fault held h next piece rest fault t is failures =
     let first = take_through 10 rest in
     let left = drop (length first) rest in
-    let s = stays next fault left failed in
+    let s = stays next fault left failures in
     let whole : held_after held piece ≡ next =
     ap (λ (x : List ℕ). held_after held x) (t.parts ∙ ap (λ (x : List ℕ). t.front ++ x) (through_parts rest))
     ∙ (held_after-append held t.front (first ++ left) ∙ (ap (λ (x : Held). held_after x (first ++ left)) (sym t.taken)
     ∙ (held_after-append h first left ∙ (ap (λ (x : Held). held_after x left) (sym is) ∙ s.0)))) in
-    ap (λ (x : Held). x.fault) whole ∙ failed
+    ap (λ (x : Held). x.fault) whole ∙ failures
 
 pub takes_all : (held now : Held) (piece rest : List ℕ) → length rest ≡ 0 → Taking held now piece rest
     → now ≡ held_after held piece
@@ -257,11 +257,11 @@ checks_on from mid to h next piece (lines, d) read is ok = (
 pub piece_bad : (from mid to : Option (List ℕ)) (h : Held) (piece : List ℕ) (fault : ReplayFault) → Checking from mid h
     → Consumes mid to piece
     → (held_after h piece).fault ≡ Some fault → IfSome from (λ bytes. HasFault bytes fault)
-piece_bad from mid to h piece fault (lines, d) read failed =
+piece_bad from mid to h piece fault (lines, d) read failures =
     let held : held_after opening_held (d.bytes ++ piece) ≡ held_after h piece =
     held_after-append opening_held d.bytes piece ∙ ap (λ (x : Held). held_after x piece) (sym d.held) in
     known from to (d.bytes ++ piece) (λ bytes. HasFault bytes fault) (Consumes-trans from mid to d.bytes piece d.reads read)
-    (λ left. fault_of (d.bytes ++ piece) fault left (ap (λ (x : Held). x.fault) held ∙ failed))
+    (λ left. fault_of (d.bytes ++ piece) fault left (ap (λ (x : Held). x.fault) held ∙ failures))
 
 pub end_bad : (from mid to : Option (List ℕ)) (h : Held) (fault : ReplayFault) → Checking from mid h → Consumes mid to []
     → IsAtEnd to

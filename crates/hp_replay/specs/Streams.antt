@@ -1,5 +1,5 @@
--- Whether a stream has failed, and what is answered of it.
-use Rattle.std.specs.Prelude.{◌≡◌, Bool, true, Result, MatchResult}
+-- How often a stream has failed, and what is answered of it.
+use Rattle.std.specs.Prelude.{◌≡◌, ℕ, ◌+◌, ◌^◌, ◌-◌, Bool, nat_lt, min, Result, MatchResult}
 use Rattle.hp_replay.specs.declared.fault.ReplayFault.{ReplayFault}
 use Rattle.hp_replay.specs.declared.fault.ReplayFault.TheVariants.{BadLine, BadHeader, Read, Write, Memory}
 use Rattle.hp_replay.specs.declared.streams.Watched.{Watched}
@@ -8,25 +8,33 @@ use Rattle.hp_replay.specs.declared.streams.Watched.{Watched}
 abbrev pub stream_of : {S : Type 0} → Watched S → S
 stream_of watched = watched.stream
 
--- whether a call of it has failed
+-- how many calls of it have failed
+abbrev pub failures_of : {S : Type 0} → Watched S → ℕ
+failures_of watched = watched.failures
+
+-- whether one has
 abbrev pub has_failed : {S : Type 0} → Watched S → Bool
-has_failed watched = watched.failed
+has_failed watched = nat_lt 0 watched.failures
 
--- whether a source has failed once this fault is answered: it has at a fault of reading, else it is as it was
-abbrev pub source_at : ReplayFault → Bool → Bool
-source_at BadHeader failed = failed
-source_at (BadLine n) failed = failed
-source_at Read failed = true
-source_at Write failed = failed
-source_at Memory failed = failed
+-- a failure more; the count stays at its largest number
+abbrev pub one_more : (failures : ℕ) → ℕ
+one_more failures = min (failures + 1) (2 ^ 64 - 1)
 
--- whether a sink has failed once this fault is answered: it has at a fault of writing, else it is as it was
-abbrev pub sink_at : ReplayFault → Bool → Bool
-sink_at BadHeader failed = failed
-sink_at (BadLine n) failed = failed
-sink_at Read failed = failed
-sink_at Write failed = true
-sink_at Memory failed = failed
+-- how often a source has failed once this fault is answered: once more at a fault of reading, else as often as it had
+abbrev pub source_at : ReplayFault → (failures : ℕ) → ℕ
+source_at BadHeader failures = failures
+source_at (BadLine n) failures = failures
+source_at Read failures = one_more failures
+source_at Write failures = failures
+source_at Memory failures = failures
+
+-- how often a sink has failed once this fault is answered: once more at a fault of writing, else as often as it had
+abbrev pub sink_at : ReplayFault → (failures : ℕ) → ℕ
+sink_at BadHeader failures = failures
+sink_at (BadLine n) failures = failures
+sink_at Read failures = failures
+sink_at Write failures = one_more failures
+sink_at Memory failures = failures
 
 -- the faults of reading a trace of which nothing is kept
 abbrev pub IsReadFault : ReplayFault → Type 0
@@ -36,10 +44,10 @@ IsReadFault Read = Unit {0}
 IsReadFault Write = ⊥
 IsReadFault Memory = ⊥
 
--- a fault of reading is answered where a read failed, and nowhere else
-abbrev pub TellsReads : {A : Type 0} → Result A ReplayFault → Bool → Bool → Type 0
+-- a fault of reading is answered where a read failed in this call, and nowhere else
+abbrev pub TellsReads : {A : Type 0} → Result A ReplayFault → (old new : ℕ) → Type 0
 TellsReads result old new = MatchResult result (λ _. new ≡ old) (λ fault. new ≡ source_at fault old)
 
--- a fault of writing is answered where a write failed, and nowhere else
-abbrev pub TellsWrites : {A : Type 0} → Result A ReplayFault → Bool → Bool → Type 0
+-- a fault of writing is answered where a write failed in this call, and nowhere else
+abbrev pub TellsWrites : {A : Type 0} → Result A ReplayFault → (old new : ℕ) → Type 0
 TellsWrites result old new = MatchResult result (λ _. new ≡ old) (λ fault. new ≡ sink_at fault old)

@@ -38,7 +38,7 @@ pub fn write_count<W: Sink>(alloc: Global, events: u32, writer: &mut W) -> Resul
     ensures ok { OnOk result (Appends (W.contents writer.old) (W.contents writer.new) (count_line events)) }
     ensures err { IfErr result (λ fault. IsWriteFault fault
         × Wrote (W.contents writer.old) (W.contents writer.new) (count_line events)) }
-    ensures writes { TellsWrites result (W.failed writer.old) (W.failed writer.new) }
+    ensures writes { TellsWrites result (W.failures writer.old) (W.failures writer.new) }
 {
     let mut text = String::new(alloc);
     writeln!(text, "events {events}")?;
@@ -53,7 +53,7 @@ pub fn check_trace<R: Source>(reader: &mut R) -> Result<u32, ReplayFault>
     ensures only { IfErr result (λ fault. IsLineFault fault
         → IfSome (R.remaining reader.old) (λ bytes. ¬ (SpellsSome bytes))) }
     ensures kind { IfErr result IsReadFault }
-    ensures reads { TellsReads result (R.failed reader.old) (R.failed reader.new) }
+    ensures reads { TellsReads result (R.failures reader.old) (R.failures reader.new) }
 {
     let mut feed = TraceFeed::new();
     let mut piece = [0; PIECE];

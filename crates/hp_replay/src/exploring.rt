@@ -154,7 +154,7 @@ fn explore_beside<W: Sink>(
     ensures ok { OnOk result (Appends (W.contents writer.old) (W.contents writer.new) (lines_text before.now)) }
     ensures err { IfErr result (λ fault. IsWriteFault fault
         × Wrote (W.contents writer.old) (W.contents writer.new) (lines_text before.now)) }
-    ensures writes { TellsWrites result (W.failed writer.old) (W.failed writer.new) }
+    ensures writes { TellsWrites result (W.failures writer.old) (W.failures writer.new) }
 {
     let (explored, written) = join_mut(
         rt,
@@ -180,7 +180,7 @@ pub fn write_explored<W: Sink>(
     ensures ok { IfOk result (λ finished. WroteRuns script.now exploration finished (W.contents writer.old) (W.contents writer.new)) }
     ensures err { IfErr result (λ fault. IsWriteFault fault
         × WroteSomeRuns script.now exploration (W.contents writer.old) (W.contents writer.new)) }
-    ensures writes { TellsWrites result (W.failed writer.old) (W.failed writer.new) }
+    ensures writes { TellsWrites result (W.failures writer.old) (W.failures writer.new) }
 {
     let mut part = FIRST_PART;
     let mut explored = exploration.runs.min(part);

@@ -107,7 +107,7 @@ impl LineBuffer {
         ensures ok { OnOk result (Appends (W.contents writer.old) (W.contents writer.new) self.now) }
         ensures front { IfErr result (λ fault. (fault ≡ ReplayFault.Write)
             × Wrote (W.contents writer.old) (W.contents writer.new) self.now) }
-        ensures writes { TellsWrites result (W.failed writer.old) (W.failed writer.new) }
+        ensures writes { TellsWrites result (W.failures writer.old) (W.failures writer.new) }
     {
         write_text(writer, &self.front)?;
         write_text(writer, self.back.as_slice())

@@ -225,7 +225,7 @@ fn write_state<W: Sink>(alloc: Global, core: &Core, writer: &mut W) -> Result<()
     ensures ok { OnOk result (Appends (W.contents writer.old) (W.contents writer.new) (state_text core.now)) }
     ensures err { IfErr result (λ fault. IsWriteFault fault
         × Wrote (W.contents writer.old) (W.contents writer.new) (state_text core.now)) }
-    ensures writes { TellsWrites result (W.failed writer.old) (W.failed writer.new) }
+    ensures writes { TellsWrites result (W.failures writer.old) (W.failures writer.new) }
 {
     let mut text = String::new(alloc);
     push_state(core, &mut text)?;
@@ -247,7 +247,7 @@ fn finish<W: Sink>(
         ((end_of feed.now ≡ Err fault) × IsLineFault fault × Keeps (W.contents writer.old) (W.contents writer.new))
         ⊎ (IsWriteFault fault × (end_of feed.now ≡ Ok tt)
         × IfSome core.now (λ core. Wrote (W.contents writer.old) (W.contents writer.new) (state_text core)))) }
-    ensures writes { TellsWrites result (W.failed writer.old) (W.failed writer.new) }
+    ensures writes { TellsWrites result (W.failures writer.old) (W.failures writer.new) }
 {
     feed.end()?;
     match core {
@@ -268,8 +268,8 @@ pub fn replay<R: Source, W: Sink>(
         (W.contents writer.old) (W.contents writer.new)) }
     ensures err { IfErr result (λ fault. Stopped fault (R.remaining reader.old) (R.remaining reader.new)
         (W.contents writer.old) (W.contents writer.new)) }
-    ensures reads { TellsReads result (R.failed reader.old) (R.failed reader.new) }
-    ensures writes { TellsWrites result (W.failed writer.old) (W.failed writer.new) }
+    ensures reads { TellsReads result (R.failures reader.old) (R.failures reader.new) }
+    ensures writes { TellsWrites result (W.failures writer.old) (W.failures writer.new) }
 {
     let mut feed = TraceFeed::new();
     let mut core = None;

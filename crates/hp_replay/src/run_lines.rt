@@ -64,7 +64,7 @@ pub fn write_lines<W: Sink>(
     ensures ok { OnOk result (Appends (W.contents writer.old) (W.contents writer.new) (lines_text lines.now)) }
     ensures err { IfErr result (λ fault. IsWriteFault fault
         × Wrote (W.contents writer.old) (W.contents writer.new) (lines_text lines.now)) }
-    ensures writes { TellsWrites result (W.failed writer.old) (W.failed writer.new) }
+    ensures writes { TellsWrites result (W.failures writer.old) (W.failures writer.new) }
 {
     let mut text = String::new(alloc);
     push_lines(lines, &mut text)?;

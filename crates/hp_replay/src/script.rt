@@ -101,7 +101,7 @@ pub fn read_script<R: Source>(alloc: Global, reader: &mut R) -> Result<Script, R
     ensures bad { IfErr result (λ fault. IfSome (R.remaining reader.old) (λ bytes. HasScriptFault bytes fault)) }
     ensures only { IfErr result (λ fault. IsLineFault fault
         → IfSome (R.remaining reader.old) (λ bytes. ¬ (SpellsSomeScript bytes))) }
-    ensures reads { TellsReads result (R.failed reader.old) (R.failed reader.new) }
+    ensures reads { TellsReads result (R.failures reader.old) (R.failures reader.new) }
 {
     let mut feed = TraceFeed::new();
     let mut draft = Draft::new();

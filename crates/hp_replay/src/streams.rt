@@ -1,7 +1,7 @@
-//! Where a trace is read from and written to: streams that remember whether a call of them failed.
+//! Where a trace is read from and written to: streams that count the calls of them that failed.
 ghost use Rattle.std.specs.Prelude.{◌≡◌, ◌≢◌, ◌<◌, ◌≤◌, IfOk, IfErr, OnOk, OnErr, IfSome, Ok, Err, Some, true, false, length, take};
 ghost use Rattle.std.specs.Io.KnownBytes.{Appends, Consumes, IsAtEnd, Keeps};
-ghost use Rattle.hp_replay.specs.Streams.{stream_of, has_failed};
+ghost use Rattle.hp_replay.specs.Streams.{stream_of, failures_of, has_failed, one_more};
 
 use crate::fault::ReplayFault;
 use std::io;
@@ -10,68 +10,68 @@ use std::io::{Read, Write};
 /// The most bytes that are read at a time.
 pub(crate) const PIECE: usize = 4096;
 
-/// Where a trace is read from. Contracts see whether a read of it has failed.
+/// Where a trace is read from. Contracts see how many reads of it have failed.
 pub trait Source {
-    ghost use Rattle.std.specs.Prelude.{Option, List, ℕ, Bool};
+    ghost use Rattle.std.specs.Prelude.{Option, List, ℕ};
 
     // the bytes that reads will give from here on, where they are known
     ghost remaining: { Self → Option (List ℕ) };
 
-    // whether a read has failed
-    ghost failed: { Self → Bool };
+    // how many reads have failed
+    ghost failures: { Self → ℕ };
 
     /// Reads once, and tells how many bytes came; none come at the end alone.
     fn read_piece(&mut self, piece: &mut [u8]) -> Result<usize, ReplayFault>
         ensures within { IfOk result (λ n. n ≤ length piece.new) }
         ensures bytes { IfOk result (λ n. Consumes (remaining self.old) (remaining self.new) (take n piece.new)) }
         ensures end { IfOk result (λ n. n ≡ 0 → 0 < length piece.old → IsAtEnd (remaining self.new)) }
-        ensures ok { OnOk result (failed self.new ≡ failed self.old) }
-        ensures err { IfErr result (λ fault. (fault ≡ ReplayFault.Read) × (failed self.new ≡ true)
+        ensures ok { OnOk result (failures self.new ≡ failures self.old) }
+        ensures err { IfErr result (λ fault. (fault ≡ ReplayFault.Read) × (failures self.new ≡ one_more (failures self.old))
             × Keeps (remaining self.old) (remaining self.new)) };
 }
 
-/// Where a text is written. Contracts see whether a write to it has failed.
+/// Where a text is written. Contracts see how many writes to it have failed.
 pub trait Sink {
-    ghost use Rattle.std.specs.Prelude.{Option, List, ℕ, Bool};
+    ghost use Rattle.std.specs.Prelude.{Option, List, ℕ};
 
     // the bytes that are written, where they are known
     ghost contents: { Self → Option (List ℕ) };
 
-    // whether a write has failed
-    ghost failed: { Self → Bool };
+    // how many writes have failed
+    ghost failures: { Self → ℕ };
 
     /// Writes once, and tells how many bytes of the front were taken, which are some.
     fn write_piece(&mut self, piece: &[u8]) -> Result<usize, ReplayFault>
         ensures some { IfOk result (λ n. 0 < n) }
         ensures within { IfOk result (λ n. n ≤ length piece.now) }
         ensures bytes { IfOk result (λ n. Appends (contents self.old) (contents self.new) (take n piece.now)) }
-        ensures ok { OnOk result (failed self.new ≡ failed self.old) }
-        ensures err { IfErr result (λ fault. (fault ≡ ReplayFault.Write) × (failed self.new ≡ true)
+        ensures ok { OnOk result (failures self.new ≡ failures self.old) }
+        ensures err { IfErr result (λ fault. (fault ≡ ReplayFault.Write) × (failures self.new ≡ one_more (failures self.old))
             × Keeps (contents self.old) (contents self.new)) };
 }
 
-/// A stream, and whether a read of it answered an error, or a write an error or no byte.
+/// A stream, and how many reads of it answered an error, or writes an error or no byte. The count stays at its largest number.
 #[derive(Drop)]
 pub struct Watched<S> {
     stream: S,
-    failed: bool,
+    failures: u64,
 }
 
 impl<S> Watched<S> {
     pub fn new(stream: S) -> Self
         ensures stream { stream_of result ≡ stream }
-        ensures failed { has_failed result ≡ false }
+        ensures failures { failures_of result ≡ 0 }
     {
         Watched {
             stream,
-            failed: false,
+            failures: 0,
         }
     }
 
     pub fn has_failed(&self) -> bool
         ensures { result ≡ has_failed self.now }
     {
-        self.failed
+        self.failures > 0
     }
 
     pub fn into_inner(self) -> S
@@ -104,12 +104,12 @@ fn written_count(answer: io::Result<usize>) -> Result<usize, ReplayFault>
 impl<R: Read> Source for Watched<R> {
     ghost remaining = { λ watched. R.remaining (stream_of watched) };
 
-    ghost failed = { has_failed };
+    ghost failures = { failures_of };
 
     fn read_piece(&mut self, piece: &mut [u8]) -> Result<usize, ReplayFault> {
         let count = read_count(self.stream.read(piece));
         if count.is_err() {
-            self.failed = true;
+            self.failures = self.failures.saturating_add(1);
         }
         count
     }
@@ -118,12 +118,12 @@ impl<R: Read> Source for Watched<R> {
 impl<W: Write> Sink for Watched<W> {
     ghost contents = { λ watched. W.contents (stream_of watched) };
 
-    ghost failed = { has_failed };
+    ghost failures = { failures_of };
 
     fn write_piece(&mut self, piece: &[u8]) -> Result<usize, ReplayFault> {
         let count = written_count(self.stream.write(piece));
         if count.is_err() {
-            self.failed = true;
+            self.failures = self.failures.saturating_add(1);
         }
         count
     }
@@ -133,7 +133,7 @@ impl<W: Write> Sink for Watched<W> {
 impl Source for &[u8] {
     ghost remaining = { λ bytes. Some bytes.now };
 
-    ghost failed = { λ _. false };
+    ghost failures = { λ _. 0 };
 
     fn read_piece(&mut self, piece: &mut [u8]) -> Result<usize, ReplayFault> {
         read_count(self.read(piece))

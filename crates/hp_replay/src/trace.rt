@@ -35,7 +35,7 @@ fn write_event<W: Sink>(writer: &mut W, event: Event, line: &mut String) -> Resu
     ensures ok { OnOk result (Appends (W.contents writer.old) (W.contents writer.new) (event_line event)) }
     ensures err { IfErr result (λ fault. IsWriteFault fault
         × Wrote (W.contents writer.old) (W.contents writer.new) (event_line event)) }
-    ensures writes { TellsWrites result (W.failed writer.old) (W.failed writer.new) }
+    ensures writes { TellsWrites result (W.failures writer.old) (W.failures writer.new) }
 {
     write_line(writer, event, line)
 }
@@ -48,7 +48,7 @@ pub fn write_trace<W: Sink>(alloc: Global, trace: &Trace, writer: &mut W) -> Res
     ensures spells { OnOk result (IsTrace (sizes trace.now.config) trace.now.events.items) }
     ensures err { IfErr result (λ fault. IsWriteFault fault × Wrote (W.contents writer.old) (W.contents writer.new)
         (trace_text (sizes trace.now.config) trace.now.events.items)) }
-    ensures writes { TellsWrites result (W.failed writer.old) (W.failed writer.new) }
+    ensures writes { TellsWrites result (W.failures writer.old) (W.failures writer.new) }
 {
     let mut line = String::new(alloc);
     write_line(writer, trace.config, &mut line)?;
@@ -168,7 +168,7 @@ pub fn read_trace<R: Source>(alloc: Global, reader: &mut R) -> Result<Trace, Rep
     ensures bad { IfErr result (λ fault. IfSome (R.remaining reader.old) (λ bytes. HasFault bytes fault)) }
     ensures only { IfErr result (λ fault. IsLineFault fault
         → IfSome (R.remaining reader.old) (λ bytes. ¬ (SpellsSome bytes))) }
-    ensures reads { TellsReads result (R.failed reader.old) (R.failed reader.new) }
+    ensures reads { TellsReads result (R.failures reader.old) (R.failures reader.new) }
 {
     let mut feed = TraceFeed::new();
     let mut draft = Draft::new();

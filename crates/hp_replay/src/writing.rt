@@ -13,7 +13,7 @@ pub fn write_text<W: Sink>(writer: &mut W, text: &[u8]) -> Result<(), ReplayFaul
     ensures ok { OnOk result (Appends (W.contents writer.old) (W.contents writer.new) text.now) }
     ensures front { IfErr result (λ fault. (fault ≡ ReplayFault.Write)
         × Wrote (W.contents writer.old) (W.contents writer.new) text.now) }
-    ensures writes { TellsWrites result (W.failed writer.old) (W.failed writer.new) }
+    ensures writes { TellsWrites result (W.failures writer.old) (W.failures writer.new) }
 {
     let mut rest = text;
     while !rest.is_empty() {
@@ -33,7 +33,7 @@ pub(crate) fn write_line<W: Sink, D: Display + Drop>(
         Appends (W.contents writer.old) (W.contents writer.new) (text ++ 10 ∷ []))) }
     ensures front { IfErr result (λ fault. IsWriteFault fault × IfSome (D.output value) (λ text.
         Wrote (W.contents writer.old) (W.contents writer.new) (text ++ 10 ∷ []))) }
-    ensures writes { TellsWrites result (W.failed writer.old) (W.failed writer.new) }
+    ensures writes { TellsWrites result (W.failures writer.old) (W.failures writer.new) }
 {
     line.clear();
     writeln!(line, "{value}")?;

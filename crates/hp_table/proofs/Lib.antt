@@ -4,6 +4,7 @@ pub mod Clearing
 pub mod Counts
 pub mod GapsOf
 pub mod Mapped
+pub mod Memory
 pub mod PageTable
 pub mod Room
 pub mod Spread

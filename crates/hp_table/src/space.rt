@@ -1,10 +1,11 @@
 //! The space of a task.
-ghost use Rattle.std.specs.Prelude.{◌≡◌, ◌+◌, ◌<◌, ◌≤◌, ◌↔◌, [], ℕ, None, length, true, false, IsTrue, IsSome, IfOk, OnOk, OnErr, IfSome, IfNone, All};
+ghost use Rattle.std.specs.Prelude.{◌≡◌, ◌+◌, ◌<◌, ◌≤◌, ◌↔◌, [], ℕ, None, length, true, false, IsTrue, IsSome, IfOk, OnOk, OnErr, IfSome, IfNone, All, is_some};
 ghost use Rattle.std.specs.FinMap as map;
 ghost use Rattle.std.specs.Iterator.{YieldsFirst, item_count};
+ghost use Rattle.hp_base.specs.Indices.{count_below};
 ghost use Rattle.hp_base.specs.Mappings.{find, base_of, is_base, is_there, fits, entered, in_mapping, first_base, without, without_index};
 ghost use Rattle.hp_base.specs.Mappings.{without_mapping, IsRoom, IsSpread};
-ghost use Rattle.hp_table.specs.Table.{Table};
+ghost use Rattle.hp_table.specs.Table.{no_memory, NoMoreMemory, Table};
 
 use crate::gaps::{self, Gap};
 use crate::places::{self, Place};
@@ -51,7 +52,12 @@ impl Model for Space {
       mappings = s.mappings.items;
       entries = s.entries.frames;
       ready = s.ready;
-      room = vec_capacity s.mappings + vec_capacity s.gaps + s.entries.room + btree_set_len s.places;
+      room = record {
+        mappings = vec_capacity s.mappings;
+        gaps = vec_capacity s.gaps;
+        entries = s.entries.room;
+        places = btree_set_len s.places;
+      };
     } };
 
     ghost invariant = { λ s. record {
@@ -71,7 +77,7 @@ impl Space {
         ensures mappings { result.mappings ≡ [] }
         ensures entries { result.entries ≡ map.empty }
         ensures ready { result.ready ≡ false }
-        ensures room { result.room ≡ 0 }
+        ensures room { result.room ≡ no_memory }
     {
         Space {
             mappings: Vec::new(alloc),
@@ -192,7 +198,7 @@ impl Space {
         ensures mappings { self.new.mappings ≡ self.old.mappings }
         ensures entries { self.new.entries ≡ map.remove self.old.entries vpn }
         ensures ready { self.new.ready ≡ self.old.ready }
-        ensures room { self.new.room ≤ self.old.room }
+        ensures room { NoMoreMemory self.new.room self.old.room }
     {
         let (file, index) = self.find(vpn).unwrap();
         places::take(&mut self.places, file, index, vpn);
@@ -216,7 +222,7 @@ impl Space {
         ensures mappings { self.new.mappings ≡ self.old.mappings }
         ensures entries { map.get self.new.entries ≡ without_index self.old.mappings (map.get self.old.entries) file index }
         ensures ready { self.new.ready ≡ self.old.ready }
-        ensures room { self.new.room ≤ self.old.room }
+        ensures room { NoMoreMemory self.new.room self.old.room }
     {
         while let Some(vpn) = self.page_of(file, index) {
             self.clear(vpn);
@@ -229,7 +235,7 @@ impl Space {
         ensures mappings { self.new.mappings ≡ self.old.mappings }
         ensures entries { map.get self.new.entries ≡ without_mapping self.old.mappings (map.get self.old.entries) base }
         ensures ready { self.new.ready ≡ self.old.ready }
-        ensures room { self.new.room ≤ self.old.room }
+        ensures room { NoMoreMemory self.new.room self.old.room }
     {
         let Some(at) = search::place_of(&self.mappings, base) else {
             return;
@@ -286,6 +292,7 @@ impl Space {
     /// The number of virtual pages that are translated.
     pub fn entries(&self) -> usize
         ensures value { result ≡ map.len self.now.entries }
+        ensures count { result ≡ count_below (λ vpn. is_some (map.get self.now.entries vpn)) VPNS }
 
         // Each of them lies in a mapping.
         ensures mapped { (vpn : ℕ) → IsSome (map.get self.now.entries vpn) → IsSome (find self.now.mappings vpn) }

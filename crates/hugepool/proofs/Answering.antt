@@ -42,8 +42,8 @@ no_trace_fault (Some bytes) Read is = absurd is
 no_trace_fault (Some bytes) Write is = tt
 no_trace_fault (Some bytes) Memory is = tt
 
--- the reader has failed where that is told
-pub reader_at : (fault : ReplayFault) (old new : Bool) → new ≡ source_at fault old → ReaderAt fault old new
+-- the reader has failed once more where that is told
+pub reader_at : (fault : ReplayFault) (old new : ℕ) → new ≡ source_at fault old → ReaderAt fault old new
 reader_at BadHeader old new h = h
 reader_at (BadLine n) old new h = h
 reader_at Read old new h = h
@@ -89,7 +89,7 @@ races_kept r closed from to start before mid after same kept h =
     (record { script = h.script; reads = h.reads; wrote = wrote_kept r h.script closed start mid after kept h.wrote })
 
 -- what was written where a fault is told, by an output that has no buffer
-part_at : (Partly : Option (List ℕ) → Type 0) (fault : ReplayFault) (old new : Bool) (before after : Option (List ℕ))
+part_at : (Partly : Option (List ℕ) → Type 0) (fault : ReplayFault) (old new : ℕ) (before after : Option (List ℕ))
     → NotDone (Partly after) fault old new before after → PartAt Partly fault before after
 part_at Partly BadHeader old new before after (inl (none, good)) = none
 part_at Partly BadHeader old new before after (inr (is, partly, told)) = absurd is
@@ -103,33 +103,33 @@ part_at Partly Memory old new before after (inl (none, good)) = inl none
 part_at Partly Memory old new before after (inr (is, partly, told)) = inr partly
 
 -- and where the flush fails behind it
-part_unflushed : (Partly : Option (List ℕ) → Type 0) (fault : ReplayFault) (old new : Bool) (before after : Option (List ℕ))
+part_unflushed : (Partly : Option (List ℕ) → Type 0) (fault : ReplayFault) (old new : ℕ) (before after : Option (List ℕ))
     → NotDone (Partly after) fault old new before after → PartAt Partly Write before after
 part_unflushed Partly fault old new before after (inl (none, good)) = inl none
 part_unflushed Partly fault old new before after (inr (is, partly, told)) = inr partly
 
 -- what is answered of runs, once their lines reached the output
 answered_runs : {E : Type 0} (Done : Bool → Option (List ℕ) → Type 0) (Partly : Option (List ℕ) → Type 0) (Bad : ReplayFault → Type 0)
-    (old new unfailed failed : Bool) (before after : Option (List ℕ))
+    (old new unfailed failures : ℕ) (before after : Option (List ℕ))
     (runs : Result Bool ReplayFault) (flushed : Result (Unit {0}) E) (told : Result (Unit {0}) Stop)
     → IfOk runs (λ ended. Done ended after) → ((ended : Bool) → Done ended after → Partly after)
-    → IfErr runs (λ fault. NotDone (Partly after) fault unfailed failed before after) → IfErr runs Bad → Bad Write
+    → IfErr runs (λ fault. NotDone (Partly after) fault unfailed failures before after) → IfErr runs Bad → Bad Write
     → TellsReads runs old new → OnErr flushed (told ≡ Err (stop.Replay Write))
     → OnOk flushed (IfErr runs (λ fault. told ≡ Err (stop.Replay fault))) → OnOk flushed (runs ≡ Ok true → told ≡ Ok tt)
     → OnOk flushed (runs ≡ Ok false → told ≡ Err stop.Unfinished) → AnsweredRuns Done Partly Bad told old new before (Some after)
-answered_runs Done Partly Bad old new unfailed failed before after (Ok ended) (Err x) told done part short bad unwritten reads wrong fault all some =
+answered_runs Done Partly Bad old new unfailed failures before after (Ok ended) (Err x) told done part short bad unwritten reads wrong fault all some =
     subst (λ (t : Result (Unit {0}) Stop). AnsweredRuns Done Partly Bad t old new before (Some after)) (sym wrong)
     (tt, unwritten, inr (part ended done))
-answered_runs Done Partly Bad old new unfailed failed before after (Err f) (Err x) told done part short bad unwritten reads wrong fault all some =
+answered_runs Done Partly Bad old new unfailed failures before after (Err f) (Err x) told done part short bad unwritten reads wrong fault all some =
     subst (λ (t : Result (Unit {0}) Stop). AnsweredRuns Done Partly Bad t old new before (Some after)) (sym wrong)
-    (tt, unwritten, part_unflushed Partly f unfailed failed before after short)
-answered_runs Done Partly Bad old new unfailed failed before after (Ok true) (Ok y) told done part short bad unwritten reads wrong fault all some =
+    (tt, unwritten, part_unflushed Partly f unfailed failures before after short)
+answered_runs Done Partly Bad old new unfailed failures before after (Ok true) (Ok y) told done part short bad unwritten reads wrong fault all some =
     subst (λ (t : Result (Unit {0}) Stop). AnsweredRuns Done Partly Bad t old new before (Some after)) (sym (all refl)) (reads, done)
-answered_runs Done Partly Bad old new unfailed failed before after (Ok false) (Ok y) told done part short bad unwritten reads wrong fault all some =
+answered_runs Done Partly Bad old new unfailed failures before after (Ok false) (Ok y) told done part short bad unwritten reads wrong fault all some =
     subst (λ (t : Result (Unit {0}) Stop). AnsweredRuns Done Partly Bad t old new before (Some after)) (sym (some refl)) (reads, done)
-answered_runs Done Partly Bad old new unfailed failed before after (Err f) (Ok y) told done part short bad unwritten reads wrong fault all some =
+answered_runs Done Partly Bad old new unfailed failures before after (Err f) (Ok y) told done part short bad unwritten reads wrong fault all some =
     subst (λ (t : Result (Unit {0}) Stop). AnsweredRuns Done Partly Bad t old new before (Some after)) (sym fault)
-    (reader_at f old new reads, bad, part_at Partly f unfailed failed before after short)
+    (reader_at f old new reads, bad, part_at Partly f unfailed failures before after short)
 
 -- what was done reached the output
 reached : (P Q : Bool → Type 0) (runs : Result Bool ReplayFault) → ((ended : Bool) → P ended → Q ended) → IfOk runs P → IfOk runs Q
@@ -137,7 +137,7 @@ reached P Q (Ok ended) f done = f ended done
 reached P Q (Err fault) f done = tt
 
 -- and what was done in part
-part_reached : (P : Type 0) (Q : Option (List ℕ) → Type 0) (runs : Result Bool ReplayFault) (old new : Bool) (start before mid after : Option (List ℕ))
+part_reached : (P : Type 0) (Q : Option (List ℕ) → Type 0) (runs : Result Bool ReplayFault) (old new : ℕ) (start before mid after : Option (List ℕ))
     → start ≡ before → Keeps mid after → (P → Q after) → IfErr runs (λ fault. NotDone P fault old new start mid)
     → IfErr runs (λ fault. NotDone (Q after) fault old new before after)
 part_reached P Q (Ok ended) old new start before mid after same kept f short = tt
@@ -182,22 +182,22 @@ explores_partly_kept e from to start before mid after same kept h =
       };
     }
 
-pub answered_explore : {E : Type 0} (e : Exploration) (from to : Option (List ℕ)) (old new unfailed failed : Bool)
+pub answered_explore : {E : Type 0} (e : Exploration) (from to : Option (List ℕ)) (old new unfailed failures : ℕ)
     (start before mid after : Option (List ℕ))
     (explored : Result Bool ReplayFault) (flushed : Result (Unit {0}) E) (told : Result (Unit {0}) Stop) → start ≡ before
     → IfOk explored (λ finished. Explores e finished from to start mid)
-    → IfErr explored (λ fault. NotDone (ExploresPartly e from to start mid) fault unfailed failed start mid)
+    → IfErr explored (λ fault. NotDone (ExploresPartly e from to start mid) fault unfailed failures start mid)
     → IfErr explored (λ fault. IfSome from (λ bytes. HasScriptFault bytes fault))
     → TellsReads explored old new → Keeps mid after → OnErr flushed (told ≡ Err (stop.Replay Write))
     → OnOk flushed (IfErr explored (λ fault. told ≡ Err (stop.Replay fault))) → OnOk flushed (explored ≡ Ok true → told ≡ Ok tt)
     → OnOk flushed (explored ≡ Ok false → told ≡ Err stop.Unfinished) → AnsweredExplore e told from to old new before (Some after)
-answered_explore e from to old new unfailed failed start before mid after explored flushed told same done short bad reads kept wrong fault all some =
+answered_explore e from to old new unfailed failures start before mid after explored flushed told same done short bad reads kept wrong fault all some =
     answered_runs (λ ended out. Explores e ended from to before out) (ExploresPartly e from to before)
-    (λ f. IfSome from (λ bytes. HasScriptFault bytes f)) old new unfailed failed before after explored flushed told
+    (λ f. IfSome from (λ bytes. HasScriptFault bytes f)) old new unfailed failures before after explored flushed told
     (reached (λ ended. Explores e ended from to start mid) (λ ended. Explores e ended from to before after) explored
     (λ ended h. explores_kept e ended from to start before mid after same kept h) done)
     (λ ended h. explores_partly e ended from to before after h)
-    (part_reached (ExploresPartly e from to start mid) (ExploresPartly e from to before) explored unfailed failed start before mid after
+    (part_reached (ExploresPartly e from to start mid) (ExploresPartly e from to before) explored unfailed failures start before mid after
     same kept (explores_partly_kept e from to start before mid after same kept) short)
     bad (no_script_fault from Write tt) reads wrong fault all some
 
@@ -228,22 +228,22 @@ some_kept Trace script start before mid after same kept (inl none) =
 some_kept Trace script start before mid after same kept (inr (events, is, wrote)) =
     inr (events, is, front_kept start before mid after (trace_text (sizes script.config) events) same kept wrote)
 
-pub answered_race : {E : Type 0} (r : Racing) (from to : Option (List ℕ)) (old new unfailed failed : Bool)
+pub answered_race : {E : Type 0} (r : Racing) (from to : Option (List ℕ)) (old new unfailed failures : ℕ)
     (start before mid after : Option (List ℕ))
     (raced : Result Bool ReplayFault) (flushed : Result (Unit {0}) E) (told : Result (Unit {0}) Stop) → start ≡ before
     → IfOk raced (λ closed. Races r closed from to start mid)
-    → IfErr raced (λ fault. NotDone (RacesPartly r from to start mid) fault unfailed failed start mid)
+    → IfErr raced (λ fault. NotDone (RacesPartly r from to start mid) fault unfailed failures start mid)
     → IfErr raced (λ fault. IfSome from (λ bytes. HasScriptFault bytes fault))
     → TellsReads raced old new → Keeps mid after → OnErr flushed (told ≡ Err (stop.Replay Write))
     → OnOk flushed (IfErr raced (λ fault. told ≡ Err (stop.Replay fault))) → OnOk flushed (raced ≡ Ok true → told ≡ Ok tt)
     → OnOk flushed (raced ≡ Ok false → told ≡ Err stop.Unfinished) → AnsweredRace r told from to old new before (Some after)
-answered_race r from to old new unfailed failed start before mid after raced flushed told same done short bad reads kept wrong fault all some =
+answered_race r from to old new unfailed failures start before mid after raced flushed told same done short bad reads kept wrong fault all some =
     answered_runs (λ ended out. Races r ended from to before out) (RacesPartly r from to before)
-    (λ f. IfSome from (λ bytes. HasScriptFault bytes f)) old new unfailed failed before after raced flushed told
+    (λ f. IfSome from (λ bytes. HasScriptFault bytes f)) old new unfailed failures before after raced flushed told
     (reached (λ ended. Races r ended from to start mid) (λ ended. Races r ended from to before after) raced
     (λ ended h. races_kept r ended from to start before mid after same kept h) done)
     (λ ended h. record { script = h.script; reads = h.reads; wrote = wrote_some r h.script ended before after h.wrote })
-    (part_reached (RacesPartly r from to start mid) (RacesPartly r from to before) raced unfailed failed start before mid after
+    (part_reached (RacesPartly r from to start mid) (RacesPartly r from to before) raced unfailed failures start before mid after
     same kept (λ h. record {
       script = h.script;
       reads = h.reads;
@@ -259,7 +259,7 @@ module _ (e : Exploration) (from to before after : Option (List ℕ)) (script : 
   explores (Ok finished) runs = record { script = script; reads = reads; runs = runs }
   explores (Err fault) runs = tt
 
-  pub explores_short : (explored : Result Bool ReplayFault) (old new : Bool)
+  pub explores_short : (explored : Result Bool ReplayFault) (old new : ℕ)
       → IfErr explored (λ fault. IsWriteFault fault × WroteSomeRuns script e before after) → TellsWrites explored old new
       → IfErr explored (λ fault. NotDone (ExploresPartly e from to before after) fault old new before after)
   explores_short (Ok finished) old new short told = tt
@@ -273,7 +273,7 @@ module _ (r : Racing) (from to before after : Option (List ℕ)) (script : Scrip
   races (Ok closed) wrote = record { script = script; reads = reads; wrote = wrote }
   races (Err fault) wrote = tt
 
-  pub races_short : (raced : Result Bool ReplayFault) (old new : Bool)
+  pub races_short : (raced : Result Bool ReplayFault) (old new : ℕ)
       → IfErr raced (λ fault. IsWriteFault fault × WroteSomeRacing r script before after) → TellsWrites raced old new
       → IfErr raced (λ fault. NotDone (RacesPartly r from to before after) fault old new before after)
   races_short (Ok closed) old new short told = tt

@@ -1,5 +1,5 @@
 -- The trace of a run of a script, through a buffer, and how many events a trace has.
-use Rattle.std.proofs.Common.{◌≡◌, ℕ, List, [], Option, Some, Bool, false, refl, sym, ap, subst, inr}
+use Rattle.std.proofs.Common.{◌≡◌, ℕ, List, [], Option, Some, refl, sym, ap, subst, inr}
 use Rattle.std.specs.Prelude.{OnOk, OnErr, IfErr, IfSome, Result, Ok, Err, map}
 use Rattle.std.specs.Io.KnownBytes.{Appends, Keeps, append_known}
 use Rattle.std.proofs.KnownBytes.{Appends-kept}
@@ -48,7 +48,7 @@ checks_pass =
     }
 
 pub counts_short : (from to before after : Option (List ℕ)) (n : ℕ) → ReadsEvents n from to → (counted : Result (Unit {0}) ReplayFault)
-    → (old new : Bool) → IfErr counted (λ fault. IsWriteFault fault × Wrote before after (count_line n)) → TellsWrites counted old new
+    → (old new : ℕ) → IfErr counted (λ fault. IsWriteFault fault × Wrote before after (count_line n)) → TellsWrites counted old new
     → IfErr counted (λ fault. NotDone (ChecksPartly from to before after) fault old new before after)
 counts_short from to before after n reads (Ok x) old new short told = tt
 counts_short from to before after n reads (Err fault) old new (is, wrote) told =
@@ -114,7 +114,7 @@ module _ (s : Scheduling) (from to before after : Option (List ℕ)) (script : S
         wrote = subst (λ (y : Sizes). Appends before after (trace_text y events)) same wrote;
       }
 
-  pub schedules_short : (written : Result (Unit {0}) ReplayFault) (old new : Bool)
+  pub schedules_short : (written : Result (Unit {0}) ReplayFault) (old new : ℕ)
       → IfErr written (λ fault. IsWriteFault fault × Wrote before after (trace_text z events)) → TellsWrites written old new
       → IfErr written (λ fault. NotDone (SchedulesPartly s from to before after) fault old new before after)
   schedules_short (Ok x) old new short told = tt
@@ -137,14 +137,14 @@ whatever (Ok x) p = p
 whatever (Err e) p = tt
 
 -- what is answered of a checked trace, through an output without a buffer
-pub answered_check : {E : Type 0} (from to : Option (List ℕ)) (old new : Bool) (start before mid after : Option (List ℕ)) (first failed : Bool)
+pub answered_check : {E : Type 0} (from to : Option (List ℕ)) (old new : ℕ) (start before mid after : Option (List ℕ)) (first failures : ℕ)
     (counted answer : Result (Unit {0}) ReplayFault) (flushed : Result (Unit {0}) E) (told : Result (Unit {0}) Stop)
-    → start ≡ before → first ≡ false → OnOk counted (Checks from to start mid)
-    → IfErr counted (λ fault. NotDone (ChecksPartly from to start mid) fault first failed start mid)
-    → IfErr counted (λ fault. IfSome from (λ bytes. HasFault bytes fault)) → TellsReads counted old new → OnOk counted (failed ≡ first)
+    → start ≡ before → first ≡ 0 → OnOk counted (Checks from to start mid)
+    → IfErr counted (λ fault. NotDone (ChecksPartly from to start mid) fault first failures start mid)
+    → IfErr counted (λ fault. IfSome from (λ bytes. HasFault bytes fault)) → TellsReads counted old new → OnOk counted (failures ≡ first)
     → Keeps mid after → OnOk flushed (answer ≡ counted) → OnErr flushed (answer ≡ Err Write) → OnOk answer (told ≡ Ok tt)
     → IfErr answer (λ fault. told ≡ Err (stop.Replay fault)) → AnsweredCheck told from to old new before (Some after)
-answered_check from to old new start before mid after first failed counted answer flushed told same clean done short bad reads good kept is not ok wrong =
-    answered_text Checks ChecksPartly IsCount HasFault checks_pass from to old new start before mid after first failed [] counted answer
+answered_check from to old new start before mid after first failures counted answer flushed told same clean done short bad reads good kept is not ok wrong =
+    answered_text Checks ChecksPartly IsCount HasFault checks_pass from to old new start before mid after first failures [] counted answer
     flushed told same clean done short bad (no_trace_fault from Write tt) reads good
     (subst (λ (x : Option (List ℕ)). Keeps mid x) (sym (unbuffered after)) kept) (whatever flushed (λ unfailed. refl)) is not ok wrong

@@ -1,6 +1,6 @@
 -- A text about a trace, an explanation or a picture, that is written to a buffered output.
-use Rattle.std.proofs.Common.{◌≡◌, ℕ, List, [], Option, Some, Bool, false, refl, sym, subst, inl, inr, ◌∙◌}
-use Rattle.std.specs.Prelude.{OnOk, OnErr, IfErr, IfSome, Result, Ok, Err, ◌⊎◌}
+use Rattle.std.proofs.Common.{◌≡◌, ℕ, List, [], Option, Some, false, refl, sym, ap, subst, inl, inr, ◌∙◌}
+use Rattle.std.specs.Prelude.{OnOk, OnErr, IfErr, IfSome, Result, Ok, Err, ◌⊎◌, nat_lt}
 use Rattle.std.specs.Io.KnownBytes.{Keeps, append_known}
 use Rattle.std.proofs.KnownBytes.{Appends-kept, Keeps-trans}
 use Rattle.hp_base.specs.Text.{Sizes}
@@ -44,54 +44,54 @@ all_kept mid after left empty kept =
     (subst (λ (x : List ℕ). Keeps mid (append_known after x)) empty kept)
 
 stopped_short : (Done Partly : Between) (IsFront : Sizes → List Event → List ℕ → Type 0) → Passes Done Partly IsFront
-    → (fault : ReplayFault) (first failed : Bool) (from to before mid after : Option (List ℕ)) (left : List ℕ)
-    → NotDone (Partly from to before mid) fault first failed before mid → Keeps mid (append_known after left)
+    → (fault : ReplayFault) (first failures : ℕ) (from to before mid after : Option (List ℕ)) (left : List ℕ)
+    → NotDone (Partly from to before mid) fault first failures before mid → Keeps mid (append_known after left)
     → HasFront IsFront from to before after
-stopped_short Done Partly IsFront passes fault first failed from to before mid after left (inl (none, good)) kept =
+stopped_short Done Partly IsFront passes fault first failures from to before mid after left (inl (none, good)) kept =
     inl (holds before mid after left [] (none_of before mid none) kept)
-stopped_short Done Partly IsFront passes fault first failed from to before mid after left (inr (is, partly, told)) kept =
+stopped_short Done Partly IsFront passes fault first failures from to before mid after left (inr (is, partly, told)) kept =
     passes.part from to before mid after left kept partly
 
 -- what was written where the fault is told; a sink that has not failed is flushed
 stopped_in : (Done Partly : Between) (IsFront : Sizes → List Event → List ℕ → Type 0) → Passes Done Partly IsFront
-    → (fault : ReplayFault) (from to before mid after : Option (List ℕ)) (first failed : Bool) (left : List ℕ)
-    → NotDone (Partly from to before mid) fault first failed before mid → first ≡ false → (failed ≡ false → left ≡ [])
+    → (fault : ReplayFault) (from to before mid after : Option (List ℕ)) (first failures : ℕ) (left : List ℕ)
+    → NotDone (Partly from to before mid) fault first failures before mid → first ≡ 0 → (nat_lt 0 failures ≡ false → left ≡ [])
     → Keeps mid (append_known after left) → TextIn IsFront fault from to before after
-stopped_in Done Partly IsFront passes BadHeader from to before mid after first failed left (inl (none, good)) clean empty kept =
-    Keeps-trans before mid after none (all_kept mid after left (empty (good ∙ clean)) kept)
-stopped_in Done Partly IsFront passes BadHeader from to before mid after first failed left (inr (is, partly, told)) clean empty kept = absurd is
-stopped_in Done Partly IsFront passes (BadLine n) from to before mid after first failed left (inl (none, good)) clean empty kept =
-    Keeps-trans before mid after none (all_kept mid after left (empty (good ∙ clean)) kept)
-stopped_in Done Partly IsFront passes (BadLine n) from to before mid after first failed left (inr (is, partly, told)) clean empty kept = absurd is
-stopped_in Done Partly IsFront passes Read from to before mid after first failed left (inl (none, good)) clean empty kept =
-    Keeps-trans before mid after none (all_kept mid after left (empty (good ∙ clean)) kept)
-stopped_in Done Partly IsFront passes Read from to before mid after first failed left (inr (is, partly, told)) clean empty kept = absurd is
-stopped_in Done Partly IsFront passes Write from to before mid after first failed left h clean empty kept =
-    stopped_short Done Partly IsFront passes Write first failed from to before mid after left h kept
-stopped_in Done Partly IsFront passes Memory from to before mid after first failed left h clean empty kept =
-    stopped_short Done Partly IsFront passes Memory first failed from to before mid after left h kept
+stopped_in Done Partly IsFront passes BadHeader from to before mid after first failures left (inl (none, good)) clean empty kept =
+    Keeps-trans before mid after none (all_kept mid after left (empty (ap (λ (n : ℕ). nat_lt 0 n) (good ∙ clean))) kept)
+stopped_in Done Partly IsFront passes BadHeader from to before mid after first failures left (inr (is, partly, told)) clean empty kept = absurd is
+stopped_in Done Partly IsFront passes (BadLine n) from to before mid after first failures left (inl (none, good)) clean empty kept =
+    Keeps-trans before mid after none (all_kept mid after left (empty (ap (λ (n : ℕ). nat_lt 0 n) (good ∙ clean))) kept)
+stopped_in Done Partly IsFront passes (BadLine n) from to before mid after first failures left (inr (is, partly, told)) clean empty kept = absurd is
+stopped_in Done Partly IsFront passes Read from to before mid after first failures left (inl (none, good)) clean empty kept =
+    Keeps-trans before mid after none (all_kept mid after left (empty (ap (λ (n : ℕ). nat_lt 0 n) (good ∙ clean))) kept)
+stopped_in Done Partly IsFront passes Read from to before mid after first failures left (inr (is, partly, told)) clean empty kept = absurd is
+stopped_in Done Partly IsFront passes Write from to before mid after first failures left h clean empty kept =
+    stopped_short Done Partly IsFront passes Write first failures from to before mid after left h kept
+stopped_in Done Partly IsFront passes Memory from to before mid after first failures left h clean empty kept =
+    stopped_short Done Partly IsFront passes Memory first failures from to before mid after left h kept
 
 -- what is answered, through a buffer that may keep some of it
 pub answered_text : {E : Type 0} (Done Partly : Between) (IsFront : Sizes → List Event → List ℕ → Type 0)
     (Bad : List ℕ → ReplayFault → Type 0) → Passes Done Partly IsFront
-    → (from to : Option (List ℕ)) (old new : Bool) (start before mid after : Option (List ℕ)) (first failed : Bool) (left : List ℕ)
+    → (from to : Option (List ℕ)) (old new : ℕ) (start before mid after : Option (List ℕ)) (first failures : ℕ) (left : List ℕ)
     → (wrote answer : Result (Unit {0}) ReplayFault) (flushed : Result (Unit {0}) E) (told : Result (Unit {0}) Stop)
-    → start ≡ before → first ≡ false → OnOk wrote (Done from to start mid)
-    → IfErr wrote (λ fault. NotDone (Partly from to start mid) fault first failed start mid)
+    → start ≡ before → first ≡ 0 → OnOk wrote (Done from to start mid)
+    → IfErr wrote (λ fault. NotDone (Partly from to start mid) fault first failures start mid)
     → IfErr wrote (λ fault. IfSome from (λ bytes. Bad bytes fault)) → IfSome from (λ bytes. Bad bytes Write)
-    → TellsReads wrote old new → OnOk wrote (failed ≡ first) → Keeps mid (append_known after left)
-    → OnOk flushed (failed ≡ false → left ≡ []) → OnOk flushed (answer ≡ wrote) → OnErr flushed (answer ≡ Err Write)
+    → TellsReads wrote old new → OnOk wrote (failures ≡ first) → Keeps mid (append_known after left)
+    → OnOk flushed (nat_lt 0 failures ≡ false → left ≡ []) → OnOk flushed (answer ≡ wrote) → OnErr flushed (answer ≡ Err Write)
     → OnOk answer (told ≡ Ok tt) → IfErr answer (λ fault. told ≡ Err (stop.Replay fault))
     → AnsweredText Done IsFront Bad told from to old new before (Some after)
-answered_text Done Partly IsFront Bad passes from to old new start before mid after first failed left (Ok x) answer (Ok y) told same clean done stopped bad
+answered_text Done Partly IsFront Bad passes from to old new start before mid after first failures left (Ok x) answer (Ok y) told same clean done stopped bad
     unwritten reads good kept empty is not ok wrong =
     let ended : told ≡ Ok tt = subst (λ (r : Result (Unit {0}) ReplayFault). OnOk r (told ≡ Ok tt)) is ok in
     subst (λ (t : Result (Unit {0}) Stop). AnsweredText Done IsFront Bad t from to old new before (Some after)) (sym ended) (
       reads,
       subst (λ (b : Option (List ℕ)). Done from to b after) same
-          (passes.kept from to start mid after (all_kept mid after left (empty (good ∙ clean)) kept) done),
+          (passes.kept from to start mid after (all_kept mid after left (empty (ap (λ (n : ℕ). nat_lt 0 n) (good ∙ clean))) kept) done),
     )
-answered_text Done Partly IsFront Bad passes from to old new start before mid after first failed left (Ok x) answer (Err e) told same clean done stopped bad
+answered_text Done Partly IsFront Bad passes from to old new start before mid after first failures left (Ok x) answer (Err e) told same clean done stopped bad
     unwritten reads good kept empty is not ok wrong =
     let ended : told ≡ Err (stop.Replay Write) =
     subst (λ (r : Result (Unit {0}) ReplayFault). IfErr r (λ fault. told ≡ Err (stop.Replay fault))) not wrong in
@@ -100,7 +100,7 @@ answered_text Done Partly IsFront Bad passes from to old new start before mid af
       unwritten,
       subst (λ (b : Option (List ℕ)). HasFront IsFront from to b after) same (passes.whole from to start mid after left kept done),
     )
-answered_text Done Partly IsFront Bad passes from to old new start before mid after first failed left (Err f) answer (Ok y) told same clean done stopped bad
+answered_text Done Partly IsFront Bad passes from to old new start before mid after first failures left (Err f) answer (Ok y) told same clean done stopped bad
     unwritten reads good kept empty is not ok wrong =
     let ended : told ≡ Err (stop.Replay f) =
     subst (λ (r : Result (Unit {0}) ReplayFault). IfErr r (λ fault. told ≡ Err (stop.Replay fault))) is wrong in
@@ -108,9 +108,9 @@ answered_text Done Partly IsFront Bad passes from to old new start before mid af
       reader_at f old new reads,
       bad,
       subst (λ (b : Option (List ℕ)). TextIn IsFront f from to b after) same
-          (stopped_in Done Partly IsFront passes f from to start mid after first failed left stopped clean empty kept),
+          (stopped_in Done Partly IsFront passes f from to start mid after first failures left stopped clean empty kept),
     )
-answered_text Done Partly IsFront Bad passes from to old new start before mid after first failed left (Err f) answer (Err e) told same clean done stopped bad
+answered_text Done Partly IsFront Bad passes from to old new start before mid after first failures left (Err f) answer (Err e) told same clean done stopped bad
     unwritten reads good kept empty is not ok wrong =
     let ended : told ≡ Err (stop.Replay Write) =
     subst (λ (r : Result (Unit {0}) ReplayFault). IfErr r (λ fault. told ≡ Err (stop.Replay fault))) not wrong in
@@ -118,29 +118,29 @@ answered_text Done Partly IsFront Bad passes from to old new start before mid af
       tt,
       unwritten,
       subst (λ (b : Option (List ℕ)). HasFront IsFront from to b after) same
-          (stopped_short Done Partly IsFront passes f first failed from to start mid after left stopped kept),
+          (stopped_short Done Partly IsFront passes f first failures from to start mid after left stopped kept),
     )
 
 -- a trace that isn't read is no fault of writing
-not_done : (Partly : Between) (fault : ReplayFault) (failed : Bool) (from to before after : Option (List ℕ))
-    → (NotRead fault from to × Keeps before after) ⊎ (IsWriteFault fault × Partly from to before after) → failed ≡ sink_at fault false
-    → NotDone (Partly from to before after) fault false failed before after
-not_done Partly BadHeader failed from to before after (inl (not_read, none)) told = inl (none, told)
-not_done Partly (BadLine n) failed from to before after (inl (not_read, none)) told = inl (none, told)
-not_done Partly Read failed from to before after (inl (not_read, none)) told = inl (none, told)
-not_done Partly Write failed from to before after (inl (not_read, none)) told = absurd not_read
-not_done Partly Memory failed from to before after (inl (not_read, none)) told = inl (none, told)
-not_done Partly fault failed from to before after (inr (is, partly)) told = inr (is, partly, told)
+not_done : (Partly : Between) (fault : ReplayFault) (failures : ℕ) (from to before after : Option (List ℕ))
+    → (NotRead fault from to × Keeps before after) ⊎ (IsWriteFault fault × Partly from to before after) → failures ≡ sink_at fault 0
+    → NotDone (Partly from to before after) fault 0 failures before after
+not_done Partly BadHeader failures from to before after (inl (not_read, none)) told = inl (none, told)
+not_done Partly (BadLine n) failures from to before after (inl (not_read, none)) told = inl (none, told)
+not_done Partly Read failures from to before after (inl (not_read, none)) told = inl (none, told)
+not_done Partly Write failures from to before after (inl (not_read, none)) told = absurd not_read
+not_done Partly Memory failures from to before after (inl (not_read, none)) told = inl (none, told)
+not_done Partly fault failures from to before after (inr (is, partly)) told = inr (is, partly, told)
 
-stopped_so : (Partly : Between) (wrote : Result (Unit {0}) ReplayFault) (failed : Bool) (from to before after : Option (List ℕ))
+stopped_so : (Partly : Between) (wrote : Result (Unit {0}) ReplayFault) (failures : ℕ) (from to before after : Option (List ℕ))
     → IfErr wrote (λ fault. (NotRead fault from to × Keeps before after) ⊎ (IsWriteFault fault × Partly from to before after))
-    → TellsWrites wrote false failed → IfErr wrote (λ fault. NotDone (Partly from to before after) fault false failed before after)
-stopped_so Partly (Ok x) failed from to before after stopped told = tt
-stopped_so Partly (Err fault) failed from to before after stopped told = not_done Partly fault failed from to before after stopped told
+    → TellsWrites wrote 0 failures → IfErr wrote (λ fault. NotDone (Partly from to before after) fault 0 failures before after)
+stopped_so Partly (Ok x) failures from to before after stopped told = tt
+stopped_so Partly (Err fault) failures from to before after stopped told = not_done Partly fault failures from to before after stopped told
 
-unfailed : (wrote : Result (Unit {0}) ReplayFault) (failed : Bool) → TellsWrites wrote false failed → OnOk wrote (failed ≡ false)
-unfailed (Ok x) failed told = told
-unfailed (Err fault) failed told = tt
+unfailed : (wrote : Result (Unit {0}) ReplayFault) (failures : ℕ) → TellsWrites wrote 0 failures → OnOk wrote (failures ≡ 0)
+unfailed (Ok x) failures told = told
+unfailed (Err fault) failures told = tt
 
 -- an explanation
 explains_part : (from to before mid after : Option (List ℕ)) (left : List ℕ) (s : Sizes) (events : List Event)
@@ -191,17 +191,17 @@ explanation_passes =
       part = λ from to before mid after left kept h. explains_part from to before mid after left h.sizes h.events h.reads h.wrote kept;
     }
 
-pub answered_explain : {E : Type 0} (from to : Option (List ℕ)) (old new : Bool) (start before mid after : Option (List ℕ)) (failed : Bool)
+pub answered_explain : {E : Type 0} (from to : Option (List ℕ)) (old new : ℕ) (start before mid after : Option (List ℕ)) (failures : ℕ)
     (left : List ℕ) (wrote answer : Result (Unit {0}) ReplayFault) (flushed : Result (Unit {0}) E) (told : Result (Unit {0}) Stop)
     → start ≡ before → OnOk wrote (Explained from to start mid) → IfErr wrote (λ fault. NotExplained fault from to start mid)
-    → IfErr wrote (λ fault. IfSome from (λ bytes. HasFault bytes fault)) → TellsReads wrote old new → TellsWrites wrote false failed
-    → Keeps mid (append_known after left) → OnOk flushed (failed ≡ false → left ≡ []) → OnOk flushed (answer ≡ wrote)
+    → IfErr wrote (λ fault. IfSome from (λ bytes. HasFault bytes fault)) → TellsReads wrote old new → TellsWrites wrote 0 failures
+    → Keeps mid (append_known after left) → OnOk flushed (nat_lt 0 failures ≡ false → left ≡ []) → OnOk flushed (answer ≡ wrote)
     → OnErr flushed (answer ≡ Err Write) → OnOk answer (told ≡ Ok tt) → IfErr answer (λ fault. told ≡ Err (stop.Replay fault))
     → AnsweredExplain told from to old new before (Some after)
-answered_explain from to old new start before mid after failed left wrote answer flushed told same done stopped bad reads writes =
-    answered_text Explained ExplainedPartly IsExplaining HasFault explanation_passes from to old new start before mid after false failed left wrote answer
-    flushed told same refl done (stopped_so ExplainedPartly wrote failed from to start mid stopped writes) bad (no_trace_fault from Write tt) reads
-    (unfailed wrote failed writes)
+answered_explain from to old new start before mid after failures left wrote answer flushed told same done stopped bad reads writes =
+    answered_text Explained ExplainedPartly IsExplaining HasFault explanation_passes from to old new start before mid after 0 failures left wrote answer
+    flushed told same refl done (stopped_so ExplainedPartly wrote failures from to start mid stopped writes) bad (no_trace_fault from Write tt) reads
+    (unfailed wrote failures writes)
 
 -- a picture
 draws_part : (from to before mid after : Option (List ℕ)) (left : List ℕ) (s : Sizes) (events : List Event)
@@ -242,14 +242,14 @@ picture_passes =
       part = λ from to before mid after left kept h. draws_part from to before mid after left h.sizes h.events h.reads h.wrote kept;
     }
 
-pub answered_draw : {E : Type 0} (from to : Option (List ℕ)) (old new : Bool) (start before mid after : Option (List ℕ)) (failed : Bool)
+pub answered_draw : {E : Type 0} (from to : Option (List ℕ)) (old new : ℕ) (start before mid after : Option (List ℕ)) (failures : ℕ)
     (left : List ℕ) (wrote answer : Result (Unit {0}) ReplayFault) (flushed : Result (Unit {0}) E) (told : Result (Unit {0}) Stop)
     → start ≡ before → OnOk wrote (IsDrawing from to start mid) → IfErr wrote (λ fault. NotDrawn fault from to start mid)
-    → IfErr wrote (λ fault. IfSome from (λ bytes. HasFault bytes fault)) → TellsReads wrote old new → TellsWrites wrote false failed
-    → Keeps mid (append_known after left) → OnOk flushed (failed ≡ false → left ≡ []) → OnOk flushed (answer ≡ wrote)
+    → IfErr wrote (λ fault. IfSome from (λ bytes. HasFault bytes fault)) → TellsReads wrote old new → TellsWrites wrote 0 failures
+    → Keeps mid (append_known after left) → OnOk flushed (nat_lt 0 failures ≡ false → left ≡ []) → OnOk flushed (answer ≡ wrote)
     → OnErr flushed (answer ≡ Err Write) → OnOk answer (told ≡ Ok tt) → IfErr answer (λ fault. told ≡ Err (stop.Replay fault))
     → AnsweredDraw told from to old new before (Some after)
-answered_draw from to old new start before mid after failed left wrote answer flushed told same done stopped bad reads writes =
-    answered_text IsDrawing IsPartOfDrawing PictureOf HasFault picture_passes from to old new start before mid after false failed left wrote answer
-    flushed told same refl done (stopped_so IsPartOfDrawing wrote failed from to start mid stopped writes) bad (no_trace_fault from Write tt) reads
-    (unfailed wrote failed writes)
+answered_draw from to old new start before mid after failures left wrote answer flushed told same done stopped bad reads writes =
+    answered_text IsDrawing IsPartOfDrawing PictureOf HasFault picture_passes from to old new start before mid after 0 failures left wrote answer
+    flushed told same refl done (stopped_so IsPartOfDrawing wrote failures from to start mid stopped writes) bad (no_trace_fault from Write tt) reads
+    (unfailed wrote failures writes)

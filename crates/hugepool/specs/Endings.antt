@@ -1,5 +1,5 @@
 -- What the program has read and written where it ends.
-use Rattle.std.specs.Prelude.{◌≡◌, ◌≢◌, ℕ, List, Option, Some, None, ◌⊎◌, Bool, Result, Ok, Err}
+use Rattle.std.specs.Prelude.{◌≡◌, ◌≢◌, ℕ, List, Option, Some, None, ◌⊎◌, Result, Ok, Err}
 use Rattle.std.specs.Io.KnownBytes.{Keeps}
 use Rattle.clap.specs.Values.{kind_of}
 use Rattle.clap.specs.declared.error.Error.{Error}
@@ -12,7 +12,7 @@ use Rattle.hugepool.specs.declared.program.Stop.TheVariants as stop
 -- A reader had the bytes `from` left, and now has `to`; an output held `before`, and now holds `after`.
 
 -- the same of the program's answer
-abbrev pub AnsweredReplay : Result (Unit {0}) Stop → Option (List ℕ) → Option (List ℕ) → Bool → Bool
+abbrev pub AnsweredReplay : Result (Unit {0}) Stop → Option (List ℕ) → Option (List ℕ) → (old new : ℕ)
     → Option (List ℕ) → Option (Option (List ℕ)) → Type 0
 AnsweredReplay (Ok x) from to old new before after = DidReplay (Ok x) from to old new before after
 AnsweredReplay (Err (stop.Replay fault)) from to old new before after = DidReplay (Err fault) from to old new before after
@@ -34,7 +34,7 @@ Told (Err (stop.Usage error)) before after = IsKept before after
 Told (Err stop.Unfinished) before after = ⊥
 
 -- and nothing is read
-abbrev pub AnsweredElse : Result (Unit {0}) Stop → Option (List ℕ) → Option (List ℕ) → Bool → Bool
+abbrev pub AnsweredElse : Result (Unit {0}) Stop → Option (List ℕ) → Option (List ℕ) → (old new : ℕ)
     → Option (List ℕ) → Option (Option (List ℕ)) → Type 0
 AnsweredElse answer from to old new before after = (new ≡ old) × Keeps from to × Told answer before after
 

@@ -76,7 +76,7 @@ pub record SchedulesPartly (s : Scheduling) (from to before after : Option (List
 
 -- What was done where a request was not: nothing is written before all is read, so nothing was written and no write failed, or
 -- there was a fault of writing and `Partly` says how far it went; whether the sink had failed, and whether it has now
-abbrev pub NotDone : (Partly : Type 0) → ReplayFault → (old new : Bool) → (before after : Option (List ℕ)) → Type 0
+abbrev pub NotDone : (Partly : Type 0) → ReplayFault → (old new : ℕ) → (before after : Option (List ℕ)) → Type 0
 NotDone Partly fault old new before after =
     (Keeps before after × (new ≡ old)) ⊎ (IsWriteFault fault × Partly × (new ≡ sink_at fault old))
 
@@ -96,7 +96,7 @@ PartAt Partly Memory before after = Keeps before after ⊎ Partly after
 -- What is answered where these are done, and all runs came to their ends or some didn't; a fault of reading is told where the
 -- reader failed, and a bad line where it is
 abbrev pub AnsweredRuns : (Bool → Option (List ℕ) → Type 0) → (Option (List ℕ) → Type 0) → (ReplayFault → Type 0)
-    → Result (Unit {0}) Stop → Bool → Bool → Option (List ℕ) → Option (Option (List ℕ)) → Type 0
+    → Result (Unit {0}) Stop → (old new : ℕ) → Option (List ℕ) → Option (Option (List ℕ)) → Type 0
 AnsweredRuns Done Partly Bad (Ok x) old new before after = (new ≡ old) × IfThere after (Done true)
 AnsweredRuns Done Partly Bad (Err stop.Unfinished) old new before after = (new ≡ old) × IfThere after (Done false)
 AnsweredRuns Done Partly Bad (Err (stop.Replay fault)) old new before after =
@@ -104,13 +104,13 @@ AnsweredRuns Done Partly Bad (Err (stop.Replay fault)) old new before after =
 AnsweredRuns Done Partly Bad (Err (stop.Usage error)) old new before after = ⊥
 AnsweredRuns Done Partly Bad (Err (stop.Work fault)) old new before after = ⊥
 
-abbrev pub AnsweredExplore : Exploration → Result (Unit {0}) Stop → Option (List ℕ) → Option (List ℕ) → Bool → Bool
+abbrev pub AnsweredExplore : Exploration → Result (Unit {0}) Stop → Option (List ℕ) → Option (List ℕ) → (old new : ℕ)
     → Option (List ℕ) → Option (Option (List ℕ)) → Type 0
 AnsweredExplore e answer from to old new before after =
     AnsweredRuns (λ finished after. Explores e finished from to before after) (ExploresPartly e from to before)
     (λ fault. IfSome from (λ bytes. HasScriptFault bytes fault)) answer old new before after
 
-abbrev pub AnsweredRace : Racing → Result (Unit {0}) Stop → Option (List ℕ) → Option (List ℕ) → Bool → Bool
+abbrev pub AnsweredRace : Racing → Result (Unit {0}) Stop → Option (List ℕ) → Option (List ℕ) → (old new : ℕ)
     → Option (List ℕ) → Option (Option (List ℕ)) → Type 0
 AnsweredRace r answer from to old new before after =
     AnsweredRuns (λ closed after. Races r closed from to before after) (RacesPartly r from to before)
@@ -145,7 +145,7 @@ TextAt IsFront fault from to before (Some after) = TextIn IsFront fault from to 
 
 abbrev pub AnsweredText : (Option (List ℕ) → Option (List ℕ) → Option (List ℕ) → Option (List ℕ) → Type 0)
     → (Sizes → List Event → List ℕ → Type 0) → (List ℕ → ReplayFault → Type 0) → Result (Unit {0}) Stop → Option (List ℕ)
-    → Option (List ℕ) → Bool → Bool → Option (List ℕ) → Option (Option (List ℕ)) → Type 0
+    → Option (List ℕ) → (old new : ℕ) → Option (List ℕ) → Option (Option (List ℕ)) → Type 0
 AnsweredText Done IsFront Bad (Ok x) from to old new before after = (new ≡ old) × IfThere after (Done from to before)
 AnsweredText Done IsFront Bad (Err (stop.Replay fault)) from to old new before after =
     ReaderAt fault old new × IfSome from (λ bytes. Bad bytes fault) × TextAt IsFront fault from to before after
@@ -157,7 +157,7 @@ AnsweredText Done IsFront Bad (Err (stop.Work fault)) from to old new before aft
 abbrev pub IsCount : Sizes → List Event → List ℕ → Type 0
 IsCount s events text = text ≡ count_line (length events)
 
-abbrev pub AnsweredCheck : Result (Unit {0}) Stop → Option (List ℕ) → Option (List ℕ) → Bool → Bool
+abbrev pub AnsweredCheck : Result (Unit {0}) Stop → Option (List ℕ) → Option (List ℕ) → (old new : ℕ)
     → Option (List ℕ) → Option (Option (List ℕ)) → Type 0
 AnsweredCheck answer from to old new before after = AnsweredText Checks IsCount HasFault answer from to old new before after
 
@@ -165,11 +165,11 @@ AnsweredCheck answer from to old new before after = AnsweredText Checks IsCount 
 abbrev pub IsExplaining : Sizes → List Event → List ℕ → Type 0
 IsExplaining s events text = Beginning s events text ⊎ Explanation s events text
 
-abbrev pub AnsweredExplain : Result (Unit {0}) Stop → Option (List ℕ) → Option (List ℕ) → Bool → Bool
+abbrev pub AnsweredExplain : Result (Unit {0}) Stop → Option (List ℕ) → Option (List ℕ) → (old new : ℕ)
     → Option (List ℕ) → Option (Option (List ℕ)) → Type 0
 AnsweredExplain answer from to old new before after = AnsweredText Explained IsExplaining HasFault answer from to old new before after
 
-abbrev pub AnsweredDraw : Result (Unit {0}) Stop → Option (List ℕ) → Option (List ℕ) → Bool → Bool
+abbrev pub AnsweredDraw : Result (Unit {0}) Stop → Option (List ℕ) → Option (List ℕ) → (old new : ℕ)
     → Option (List ℕ) → Option (Option (List ℕ)) → Type 0
 AnsweredDraw answer from to old new before after = AnsweredText IsDrawing PictureOf HasFault answer from to old new before after
 
@@ -183,13 +183,13 @@ pub record IsScheduled (s : Scheduling) (z : Sizes) (begins : List Event) (text 
   pub explored : IsExplored script s.seed s.chances.deny s.chances.kill 0 events line
   pub spelt : text ≡ trace_text (sizes script.config) events
 
-abbrev pub AnsweredSchedule : Scheduling → Result (Unit {0}) Stop → Option (List ℕ) → Option (List ℕ) → Bool → Bool
+abbrev pub AnsweredSchedule : Scheduling → Result (Unit {0}) Stop → Option (List ℕ) → Option (List ℕ) → (old new : ℕ)
     → Option (List ℕ) → Option (Option (List ℕ)) → Type 0
 AnsweredSchedule s answer from to old new before after =
     AnsweredText (Schedules s) (IsScheduled s) HasScriptFault answer from to old new before after
 
 -- what is answered at each request
-abbrev pub Answered : Request → Result (Unit {0}) Stop → Option (List ℕ) → Option (List ℕ) → Bool → Bool
+abbrev pub Answered : Request → Result (Unit {0}) Stop → Option (List ℕ) → Option (List ℕ) → (old new : ℕ)
     → Option (List ℕ) → Option (Option (List ℕ)) → Type 0
 Answered request.Replay answer from to old new before after = AnsweredReplay answer from to old new before after
 Answered (request.Explore e) answer from to old new before after = AnsweredExplore e answer from to old new before after
@@ -202,13 +202,13 @@ Answered (request.Work words) answer from to old new before after =
     (new ≡ old) × Keeps from to × IfThere after (AnsweredWork words answer before)
 
 -- what the program does: what is answered at some request, or help or a refusal of the words
-abbrev pub Did : Result (Unit {0}) Stop → Option (List ℕ) → Option (List ℕ) → Bool → Bool
+abbrev pub Did : Result (Unit {0}) Stop → Option (List ℕ) → Option (List ℕ) → (old new : ℕ)
     → Option (List ℕ) → Option (Option (List ℕ)) → Type 0
 Did answer from to old new before after =
     ((request : Request) × Answered request answer from to old new before after) ⊎ AnsweredElse answer from to old new before after
 
 -- and the status with which it ends
-pub record EndsWith (status : ℕ) (from to : Option (List ℕ)) (old new : Bool) (before : Option (List ℕ))
+pub record EndsWith (status : ℕ) (from to : Option (List ℕ)) (old new : ℕ) (before : Option (List ℕ))
     (after : Option (Option (List ℕ))) : Type 0 where
   pub answer : Result (Unit {0}) Stop
   pub is : status ≡ status_at answer

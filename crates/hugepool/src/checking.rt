@@ -20,10 +20,10 @@ fn count_events<R: Source, W: Sink>(
     ensures ok { OnOk result (Checks (R.remaining reader.old) (R.remaining reader.new) (W.contents writer.old) (W.contents writer.new)) }
     ensures err { IfErr result (λ fault. NotDone
         (ChecksPartly (R.remaining reader.old) (R.remaining reader.new) (W.contents writer.old) (W.contents writer.new)) fault
-        (W.failed writer.old) (W.failed writer.new) (W.contents writer.old) (W.contents writer.new)) }
+        (W.failures writer.old) (W.failures writer.new) (W.contents writer.old) (W.contents writer.new)) }
     ensures bad { IfErr result (λ fault. IfSome (R.remaining reader.old) (λ bytes. HasFault bytes fault)) }
-    ensures reads { TellsReads result (R.failed reader.old) (R.failed reader.new) }
-    ensures writes { OnOk result (W.failed writer.new ≡ W.failed writer.old) }
+    ensures reads { TellsReads result (R.failures reader.old) (R.failures reader.new) }
+    ensures writes { OnOk result (W.failures writer.new ≡ W.failures writer.old) }
 {
     let events = check_trace(reader)?;
     write_count(alloc, events, writer)
@@ -35,8 +35,8 @@ pub(crate) fn run_check<R: Source, W: Write + Drop>(
     reader: &mut R,
     out: W,
 ) -> (Result<(), Stop>, Option<W>)
-    ensures { AnsweredCheck result.0 (R.remaining reader.old) (R.remaining reader.new) (R.failed reader.old)
-        (R.failed reader.new) (W.contents out) (option_map W.contents result.1) }
+    ensures { AnsweredCheck result.0 (R.remaining reader.old) (R.remaining reader.new) (R.failures reader.old)
+        (R.failures reader.new) (W.contents out) (option_map W.contents result.1) }
 {
     let mut sink = Watched::new(out);
     let counted = count_events(alloc, reader, &mut sink);

@@ -16,8 +16,8 @@ pub(crate) fn run_draw<R: Source, W: Write + Drop>(
     reader: &mut R,
     out: W,
 ) -> (Result<(), Stop>, Option<W>)
-    ensures { AnsweredDraw result.0 (R.remaining reader.old) (R.remaining reader.new) (R.failed reader.old)
-        (R.failed reader.new) (W.contents out) (option_map W.contents result.1) }
+    ensures { AnsweredDraw result.0 (R.remaining reader.old) (R.remaining reader.new) (R.failures reader.old)
+        (R.failures reader.new) (W.contents out) (option_map W.contents result.1) }
 {
     let Ok(buffered) = BufWriter::new(alloc, out) else {
         return (Err(Stop::Replay(ReplayFault::Memory)), None);

@@ -25,9 +25,9 @@ fn explore_script<R: Source, W: Sink>(
         (W.contents writer.old) (W.contents writer.new)) }
     ensures err { IfErr result (λ fault. NotDone (ExploresPartly exploration (R.remaining reader.old) (R.remaining reader.new)
         (W.contents writer.old) (W.contents writer.new)) fault
-        (W.failed writer.old) (W.failed writer.new) (W.contents writer.old) (W.contents writer.new)) }
+        (W.failures writer.old) (W.failures writer.new) (W.contents writer.old) (W.contents writer.new)) }
     ensures bad { IfErr result (λ fault. IfSome (R.remaining reader.old) (λ bytes. HasScriptFault bytes fault)) }
-    ensures reads { TellsReads result (R.failed reader.old) (R.failed reader.new) }
+    ensures reads { TellsReads result (R.failures reader.old) (R.failures reader.new) }
 {
     let script = read_script(alloc, reader)?;
     write_explored(rt, alloc, &script, exploration, writer)
@@ -59,8 +59,8 @@ pub(crate) fn run_explore<R: Source, W: Write + Drop>(
     reader: &mut R,
     out: W,
 ) -> (Result<(), Stop>, Option<W>)
-    ensures { AnsweredExplore exploration result.0 (R.remaining reader.old) (R.remaining reader.new) (R.failed reader.old)
-        (R.failed reader.new) (W.contents out) (option_map W.contents result.1) }
+    ensures { AnsweredExplore exploration result.0 (R.remaining reader.old) (R.remaining reader.new) (R.failures reader.old)
+        (R.failures reader.new) (W.contents out) (option_map W.contents result.1) }
 {
     let mut sink = Watched::new(out);
     let explored = explore_script(rt, alloc, exploration, reader, &mut sink);

@@ -65,7 +65,7 @@ pub(crate) fn program<H: Threads + Wait + Sync, S: AsStr, R: Source + Recalls, W
     out: W,
     faults: &mut impl Write,
 ) -> (u8, Option<W>)
-    ensures { EndsWith result.0 (R.remaining reader.old) (R.remaining reader.new) (R.failed reader.old) (R.failed reader.new)
+    ensures { EndsWith result.0 (R.remaining reader.old) (R.remaining reader.new) (R.failures reader.old) (R.failures reader.new)
         (W.contents out) (option_map W.contents result.1) }
 {
     let (answer, out) = run(rt, alloc, words, reader, out);
@@ -100,7 +100,7 @@ fn run<H: Threads + Wait + Sync, S: AsStr, R: Source, W: Write + Drop>(
     reader: &mut R,
     out: W,
 ) -> (Result<(), Stop>, Option<W>)
-    ensures { Did result.0 (R.remaining reader.old) (R.remaining reader.new) (R.failed reader.old) (R.failed reader.new)
+    ensures { Did result.0 (R.remaining reader.old) (R.remaining reader.new) (R.failures reader.old) (R.failures reader.new)
         (W.contents out) (option_map W.contents result.1) }
 {
     let asked = read_words(alloc, words);
@@ -116,11 +116,11 @@ fn answer<H: Threads + Wait + Sync, R: Source, W: Write + Drop>(
     mut out: W,
 ) -> (Result<(), Stop>, Option<W>)
     ensures asked { IfOk asked (λ request. Answered request result.0 (R.remaining reader.old) (R.remaining reader.new)
-        (R.failed reader.old) (R.failed reader.new) (W.contents out) (option_map W.contents result.1)) }
+        (R.failures reader.old) (R.failures reader.new) (W.contents out) (option_map W.contents result.1)) }
     ensures help { IfErr asked (λ error. IsHelp error → IfErr result.0 (λ stop. stop ≡ Stop.Replay ReplayFault.Write)) }
     ensures refused { IfErr asked (λ error. ¬ (IsHelp error) → IfErr result.0 (IsRefusal error)) }
     ensures nothing_done { IfErr asked (λ error. ¬ (IsHelp error) → OnOk result.0 ⊥) }
-    ensures did { Did result.0 (R.remaining reader.old) (R.remaining reader.new) (R.failed reader.old) (R.failed reader.new)
+    ensures did { Did result.0 (R.remaining reader.old) (R.remaining reader.new) (R.failures reader.old) (R.failures reader.new)
         (W.contents out) (option_map W.contents result.1) }
 {
     match asked {

@@ -110,7 +110,7 @@ fn write_racing<W: Sink>(
     ensures ok { IfOk result (λ closed. WroteRacing racing script.now closed (W.contents writer.old) (W.contents writer.new)) }
     ensures err { IfErr result (λ fault. IsWriteFault fault
         × WroteSomeRacing racing script.now (W.contents writer.old) (W.contents writer.new)) }
-    ensures writes { TellsWrites result (W.failed writer.old) (W.failed writer.new) }
+    ensures writes { TellsWrites result (W.failures writer.old) (W.failures writer.new) }
 {
     match racing {
         Racing::Times { times, cut } => write_races(rt, alloc, script, cut, times, writer),
@@ -130,9 +130,9 @@ fn race_script<R: Source, W: Sink>(
         (W.contents writer.old) (W.contents writer.new)) }
     ensures err { IfErr result (λ fault. NotDone (RacesPartly racing (R.remaining reader.old) (R.remaining reader.new)
         (W.contents writer.old) (W.contents writer.new)) fault
-        (W.failed writer.old) (W.failed writer.new) (W.contents writer.old) (W.contents writer.new)) }
+        (W.failures writer.old) (W.failures writer.new) (W.contents writer.old) (W.contents writer.new)) }
     ensures bad { IfErr result (λ fault. IfSome (R.remaining reader.old) (λ bytes. HasScriptFault bytes fault)) }
-    ensures reads { TellsReads result (R.failed reader.old) (R.failed reader.new) }
+    ensures reads { TellsReads result (R.failures reader.old) (R.failures reader.new) }
 {
     let script = read_script(alloc, reader)?;
     write_racing(rt, alloc, &script, racing, writer)
@@ -146,8 +146,8 @@ pub(crate) fn run_race<R: Source, W: Write + Drop>(
     reader: &mut R,
     out: W,
 ) -> (Result<(), Stop>, Option<W>)
-    ensures { AnsweredRace racing result.0 (R.remaining reader.old) (R.remaining reader.new) (R.failed reader.old)
-        (R.failed reader.new) (W.contents out) (option_map W.contents result.1) }
+    ensures { AnsweredRace racing result.0 (R.remaining reader.old) (R.remaining reader.new) (R.failures reader.old)
+        (R.failures reader.new) (W.contents out) (option_map W.contents result.1) }
 {
     let mut sink = Watched::new(out);
     let raced = race_script(rt, alloc, racing, reader, &mut sink);

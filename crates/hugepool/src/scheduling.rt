@@ -23,10 +23,10 @@ fn schedule_script<R: Source, W: Sink>(
         (W.contents writer.old) (W.contents writer.new)) }
     ensures err { IfErr result (λ fault. NotDone (SchedulesPartly scheduling (R.remaining reader.old) (R.remaining reader.new)
         (W.contents writer.old) (W.contents writer.new)) fault
-        (W.failed writer.old) (W.failed writer.new) (W.contents writer.old) (W.contents writer.new)) }
+        (W.failures writer.old) (W.failures writer.new) (W.contents writer.old) (W.contents writer.new)) }
     ensures bad { IfErr result (λ fault. IfSome (R.remaining reader.old) (λ bytes. HasScriptFault bytes fault)) }
-    ensures reads { TellsReads result (R.failed reader.old) (R.failed reader.new) }
-    ensures writes { OnOk result (W.failed writer.new ≡ W.failed writer.old) }
+    ensures reads { TellsReads result (R.failures reader.old) (R.failures reader.new) }
+    ensures writes { OnOk result (W.failures writer.new ≡ W.failures writer.old) }
 {
     let Scheduling { seed, chances } = scheduling;
     let script = read_script(alloc, reader)?;
@@ -41,8 +41,8 @@ pub(crate) fn run_schedule<R: Source, W: Write + Drop>(
     reader: &mut R,
     out: W,
 ) -> (Result<(), Stop>, Option<W>)
-    ensures { AnsweredSchedule scheduling result.0 (R.remaining reader.old) (R.remaining reader.new) (R.failed reader.old)
-        (R.failed reader.new) (W.contents out) (option_map W.contents result.1) }
+    ensures { AnsweredSchedule scheduling result.0 (R.remaining reader.old) (R.remaining reader.new) (R.failures reader.old)
+        (R.failures reader.new) (W.contents out) (option_map W.contents result.1) }
 {
     let Ok(buffered) = BufWriter::new(alloc, out) else {
         return (Err(Stop::Replay(ReplayFault::Memory)), None);

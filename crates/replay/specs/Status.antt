@@ -1,5 +1,5 @@
 -- What the program has done where it ends, and its status.
-use Rattle.std.specs.Prelude.{◌≡◌, ℕ, List, Option, Bool, Result, Ok, Err}
+use Rattle.std.specs.Prelude.{◌≡◌, ℕ, List, Option, Result, Ok, Err}
 use Rattle.hp_program.specs.Endings.{DidReplay}
 use Rattle.hp_replay.specs.declared.fault.ReplayFault.{ReplayFault}
 
@@ -11,7 +11,7 @@ status_at (Ok x) = 0
 status_at (Err fault) = 1
 
 -- a replay, as `hugepool replay` does it, and its status
-pub record EndsWith (status : ℕ) (from to : Option (List ℕ)) (old new : Bool) (before : Option (List ℕ))
+pub record EndsWith (status : ℕ) (from to : Option (List ℕ)) (old new : ℕ) (before : Option (List ℕ))
     (after : Option (Option (List ℕ))) : Type 0 where
   pub answer : Result (Unit {0}) ReplayFault
   pub is : status ≡ status_at answer

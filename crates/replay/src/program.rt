@@ -17,7 +17,7 @@ pub(crate) fn program<R: Source + Recalls, W: Write + Drop>(
     out: W,
     faults: &mut impl Write,
 ) -> (u8, Option<W>)
-    ensures { EndsWith result.0 (R.remaining reader.old) (R.remaining reader.new) (R.failed reader.old) (R.failed reader.new)
+    ensures { EndsWith result.0 (R.remaining reader.old) (R.remaining reader.new) (R.failures reader.old) (R.failures reader.new)
         (W.contents out) (option_map W.contents result.1) }
 {
     let (answer, out) = run_replay(alloc, reader, out);

@@ -112,8 +112,9 @@ impl RegionMap {
         ensures room { self.new.room ≡ self.old.room }
     {
         let Pending { from, to, .. } = change;
-        let added = self.missing(from, to);
+        let added = walk::missing(&self.regions, from, to);
         let alone = walk::add(&mut self.regions, from, to);
+        self.bits.add_range(from, to);
         self.count += added;
         self.spare -= usize::from(alone);
         self.pending -= 1;

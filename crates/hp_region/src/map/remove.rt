@@ -22,6 +22,7 @@ impl RegionMap {
     {
         let removed = walk::held(&self.regions, from, Index::new(LIMIT));
         walk::cut(&mut self.regions, from);
+        self.bits.cut_tail(from);
         self.count -= removed;
         removed
     }
@@ -54,6 +55,7 @@ impl RegionMap {
             take_room(&mut self.regions, &mut self.spare, self.pending, grant)?;
         }
         walk::carve(&mut self.regions, at, index);
+        self.bits.take(index);
         self.count -= 1;
         Ok(1)
     }

@@ -4,11 +4,11 @@ use Rattle.std.specs.Ordering.{nat_cmp}
 use Rattle.std.specs.FinMap.{FinMap}
 use Rattle.std.proofs.lemmas.List.Elements.{All-push}
 use Rattle.hp_base.specs.declared.mapping.Mapping.{Mapping}
-use Rattle.hp_table.specs.Table.{Table}
-use Rattle.hp_fault.specs.View.{no_table}
+use Rattle.hp_table.specs.Table.{SpaceRoom, Table}
+use Rattle.hp_parts.specs.View.{no_table}
 use Rattle.hp_core.proofs.opening.new_spaces.Goals as goal
 
-of_fields : List Mapping → FinMap nat_cmp ℕ → Bool → ℕ → Table
+of_fields : List Mapping → FinMap nat_cmp ℕ → Bool → SpaceRoom → Table
 of_fields mappings entries ready room = record { mappings = mappings; entries = entries; ready = ready; room = room }
 
 -- a table is known by its four fields

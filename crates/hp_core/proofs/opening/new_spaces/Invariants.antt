@@ -1,5 +1,5 @@
 use Rattle.std.specs.Prelude.{◌≡◌, All, length}
-use Rattle.hp_fault.specs.View.{no_table}
+use Rattle.hp_parts.specs.View.{no_table}
 use Rattle.hp_core.proofs.opening.new_spaces.Given as goal
 
 abbrev pub invariant-loop : goal.invariant-loop

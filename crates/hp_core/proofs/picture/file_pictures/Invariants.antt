@@ -1,6 +1,6 @@
 use Rattle.std.specs.Prelude.{◌≡◌, ℕ, ◌<◌, length, HoldsAt, is_some, slice_index_or}
 use Rattle.hp_slots.specs.Holders.{holder_of}
-use Rattle.hp_fault.specs.View.{no_file}
+use Rattle.hp_parts.specs.View.{no_file}
 use Rattle.hp_core.specs.Copies.{IsCopy}
 use Rattle.hp_core.proofs.picture.file_pictures.Given as goal
 

@@ -5,7 +5,7 @@ use Rattle.std.proofs.lemmas.Bool.Decides.{nat_tests}
 use Rattle.std.proofs.lemmas.Grind.{common_steps}
 use Rattle.hp_frames.specs.Bank.{retired_frames}
 use Rattle.hp_frames.proofs.Resizing.{active_and_retired}
-use Rattle.hp_fault.specs.State.{state_of}
+use Rattle.hp_parts.specs.State.{state_of}
 use Rattle.hp_core.proofs.Resizes.{refused_row, grown_row, shrunk_row, sized}
 use Rattle.hp_core.proofs.resizing.resize.Goals as goal
 
@@ -42,9 +42,10 @@ returns-then-now-frames-clause-room c = λ unwanted.
         | inr l ↦ (c.in_ok-grow.ensures.room (omega (arith, all, l))).1
       ];
       maps = refl;
-      caches = λ file. omega arith;
-      spaces = λ task. omega arith;
-      lists = refl;
+      caches = λ file. (omega arith, refl);
+      spaces = λ task. record { mappings = refl; gaps = refl; entries = (omega arith, refl); places = omega arith };
+      files = refl;
+      tasks = refl;
     }
 
 pub returns-clause-row : goal.returns-clause-row

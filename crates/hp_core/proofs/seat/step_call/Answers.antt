@@ -1,7 +1,7 @@
 use Rattle.std.proofs.Common.{sym, ap, ◌∙◌}
 use Rattle.std.specs.Prelude.{Some, Ok}
 use Rattle.hp_machine.specs.declared.call.Call.TheVariants as call
-use Rattle.hp_fault.specs.View.{view}
+use Rattle.hp_parts.specs.View.{view}
 use Rattle.hp_core.proofs.Rows.{touch_row, map_row, alloc_row, punch_row, truncate_row, unmap_row, exit_row, seat_row, seat_wants}
 use Rattle.hp_core.proofs.Blocked.{settled_blocked, seat_blocked}
 use Rattle.hp_core.proofs.seat.step_call.Goals as goal

@@ -7,4 +7,4 @@ abbrev pub invariant-loop-event : goal.invariant-loop-event
 invariant-loop-event g l =
     RowsSoFar l.widths l.events l.event-index l.fn.core l.core (g.W.Sink.contents l.fn.writer) (g.W.Sink.contents l.writer)
     × (l.line ≡ l.event-index + 2)
-    × (g.W.Sink.failed l.writer ≡ g.W.Sink.failed l.fn.writer)
+    × (g.W.Sink.failures l.writer ≡ g.W.Sink.failures l.fn.writer)

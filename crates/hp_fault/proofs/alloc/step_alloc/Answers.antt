@@ -1,4 +1,4 @@
-use Rattle.hp_fault.proofs.Carrying.{ok_kept}
+use Rattle.hp_parts.proofs.Carrying.{ok_kept}
 use Rattle.hp_fault.proofs.alloc.step_alloc.Goals as goal
 
 pub returns-in-Committed-clause-room : goal.returns-in-Committed-clause-room

@@ -1,4 +1,4 @@
-use Rattle.hp_fault.proofs.Carrying.{ok_kept}
+use Rattle.hp_parts.proofs.Carrying.{ok_kept}
 use Rattle.hp_fault.proofs.map.step_map.Goals as goal
 
 pub returns-in-Room-clause-row : goal.returns-in-Room-clause-row

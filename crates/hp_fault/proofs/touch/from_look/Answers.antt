@@ -1,7 +1,7 @@
 use Rattle.std.proofs.Common.{◌≡◌, arith}
 use Rattle.std.specs.Prelude.{Some}
-use Rattle.hp_fault.specs.View.{entries_of}
-use Rattle.hp_fault.proofs.Laws.{look_laws, word_of}
+use Rattle.hp_parts.specs.View.{entries_of}
+use Rattle.hp_parts.proofs.Laws.{look_laws, word_of}
 use Rattle.hp_fault.proofs.touch.from_look.Goals as goal
 
 -- the frame that the entry tells is a page's

@@ -1,4 +1,4 @@
-use Rattle.hp_fault.proofs.Carrying.{ok_kept}
+use Rattle.hp_parts.proofs.Carrying.{ok_kept}
 use Rattle.hp_fault.proofs.touch.step_touch.Goals as goal
 
 pub returns-in-Found-clause-row : goal.returns-in-Found-clause-row

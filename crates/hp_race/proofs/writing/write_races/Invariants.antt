@@ -7,4 +7,4 @@ use Rattle.hp_race.proofs.writing.write_races.Given as goal
 abbrev pub invariant-loop-run : goal.invariant-loop-run
 invariant-loop-run g l =
     SoFar l.script (option_map non_zero_u32_get l.cut) l.run l.closed (g.W.Sink.contents l.fn.writer) (g.W.Sink.contents l.writer)
-    × (g.W.Sink.failed l.writer ≡ g.W.Sink.failed l.fn.writer)
+    × (g.W.Sink.failures l.writer ≡ g.W.Sink.failures l.fn.writer)

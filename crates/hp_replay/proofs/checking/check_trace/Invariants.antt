@@ -6,7 +6,7 @@ use Rattle.hp_replay.proofs.checking.check_trace.Given as goal
 abbrev pub invariant-loop-n : goal.invariant-loop-n
 invariant-loop-n g l =
     Checking (g.R.Source.remaining l.fn.reader) (g.R.Source.remaining l.reader) l.feed
-    × (g.R.Source.failed l.reader ≡ g.R.Source.failed l.fn.reader)
+    × (g.R.Source.failures l.reader ≡ g.R.Source.failures l.fn.reader)
 
 abbrev pub decreases-loop-n : goal.decreases-loop-n
 decreases-loop-n g l = room l.feed

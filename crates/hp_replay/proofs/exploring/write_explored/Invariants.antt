@@ -5,7 +5,7 @@ use Rattle.hp_replay.proofs.exploring.write_explored.Given as goal
 abbrev pub invariant-loop-explored : goal.invariant-loop-explored
 invariant-loop-explored g l =
     AllButKept l.script l.exploration l.explored l.finished (g.W.Sink.contents l.fn.writer) (g.W.Sink.contents l.writer) l.lines.items
-    × (g.W.Sink.failed l.writer ≡ g.W.Sink.failed l.fn.writer)
+    × (g.W.Sink.failures l.writer ≡ g.W.Sink.failures l.fn.writer)
     × (0 < l.part)
     × (l.part ≤ 16384)
 

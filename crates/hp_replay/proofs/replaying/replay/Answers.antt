@@ -1,4 +1,4 @@
-use Rattle.std.proofs.Common.{arith, rules, ◌<◌, length, take, refl, subst, ◌∙◌, Bool}
+use Rattle.std.proofs.Common.{ℕ, arith, rules, ◌<◌, length, take, refl, subst, ◌∙◌}
 use Rattle.std.proofs.lemmas.Result.{err_from_is_err_and}
 use Rattle.std.proofs.lemmas.List.{length-take-le}
 use Rattle.hp_replay.specs.Streams.{TellsWrites}
@@ -52,7 +52,7 @@ returns-then-n-eq0-clause-reads g c =
 
 pub returns-then-n-eq0-clause-writes : goal.returns-then-n-eq0-clause-writes
 returns-then-n-eq0-clause-writes g c =
-    subst (λ (failed : Bool). TellsWrites c.finish.result failed (g.W.Sink.failed c.finish.new.writer))
+    subst (λ (failures : ℕ). TellsWrites c.finish.result failures (g.W.Sink.failures c.finish.new.writer))
     c.loop-lines.invariant.2 c.finish.ensures.writes
 
 pub returns-in_err-write-clause-err : goal.returns-in_err-write-clause-err

@@ -6,7 +6,7 @@ use Rattle.hp_replay.proofs.trace.read_trace.Given as goal
 abbrev pub invariant-loop-draft : goal.invariant-loop-draft
 invariant-loop-draft g l =
     Drafting (g.R.Source.remaining l.fn.reader) (g.R.Source.remaining l.reader) l.feed l.draft
-    × (g.R.Source.failed l.reader ≡ g.R.Source.failed l.fn.reader)
+    × (g.R.Source.failures l.reader ≡ g.R.Source.failures l.fn.reader)
 
 abbrev pub decreases-loop-draft : goal.decreases-loop-draft
 decreases-loop-draft g l = room l.feed

@@ -7,4 +7,4 @@ abbrev pub invariant-loop-event : goal.invariant-loop-event
 invariant-loop-event g l =
     WritingTrace (g.W.Sink.contents l.fn.writer) (g.W.Sink.contents l.writer) (sizes l.trace.config)
     l.trace.events.items l.event-index
-    × (g.W.Sink.failed l.writer ≡ g.W.Sink.failed l.fn.writer)
+    × (g.W.Sink.failures l.writer ≡ g.W.Sink.failures l.fn.writer)

@@ -5,7 +5,7 @@ use Rattle.hp_replay.proofs.writing.write_text.Given as goal
 abbrev pub invariant-loop-rest : goal.invariant-loop-rest
 invariant-loop-rest g l =
     Writing (g.W.Sink.contents l.fn.writer) (g.W.Sink.contents l.writer) l.text l.rest
-    × (g.W.Sink.failed l.writer ≡ g.W.Sink.failed l.fn.writer)
+    × (g.W.Sink.failures l.writer ≡ g.W.Sink.failures l.fn.writer)
 
 abbrev pub decreases-loop-rest : goal.decreases-loop-rest
 decreases-loop-rest g l = length l.rest

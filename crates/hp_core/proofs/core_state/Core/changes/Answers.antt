@@ -1,6 +1,6 @@
 use Rattle.std.proofs.Common.{arith, ◌∙◌, ap}
-use Rattle.hp_fault.specs.declared.parts.FileState.{FileState}
-use Rattle.hp_fault.specs.View.{pendings_of}
+use Rattle.hp_parts.specs.declared.parts.FileState.{FileState}
+use Rattle.hp_parts.specs.View.{pendings_of}
 use Rattle.hp_core.specs.Readers.{changes_of}
 use Rattle.hp_core.proofs.Reading.{file_in, file_read}
 use Rattle.hp_core.proofs.core_state.Core.changes.Goals as goal

@@ -1,11 +1,11 @@
 use Rattle.std.proofs.Common.{◌≡◌, List, refl, ap, sym, subst, ◌∙◌}
 use Rattle.std.specs.Prelude.{All, None}
-use Rattle.hp_fault.specs.declared.parts.FileState.{FileState}
-use Rattle.hp_fault.specs.State.{state_of}
+use Rattle.hp_parts.specs.declared.parts.FileState.{FileState}
+use Rattle.hp_parts.specs.State.{state_of}
 use Rattle.hp_core.specs.declared.seat.Seat.{Seat}
 use Rattle.hp_core.specs.State.{CoreState, as_state}
-use Rattle.hp_core.specs.Readers.{calls_of, config_of, entries_of}
-use Rattle.hp_core.proofs.Duplicates.{can_copy, are_same, state_same, still_sound, entries_counted, calls_counted}
+use Rattle.hp_core.specs.Readers.{calls_of, config_of}
+use Rattle.hp_core.proofs.Duplicates.{can_copy, are_same, state_same, still_sound, calls_counted}
 use Rattle.hp_core.proofs.core_state.Core.copy.Goals as goal
 
 pub copy-requires : goal.copy-requires
@@ -41,13 +41,6 @@ returns-clause-state c =
     c.in_ok-copy-3.ensures c.deref-2.ensures.value c.in_ok-copy_spaces.ensures)
     (c.in_ok-seats.ensures ∙ c.deref-3.ensures.value)
     ∙ ap (λ (s : CoreState). as_state s) c.self.view_is
-
-pub returns-clause-entries : goal.returns-clause-entries
-returns-clause-entries c =
-    entries_counted _ _
-    (are_same _ _ _ _ c.in_ok-copy.ensures c.deref.ensures.value c.in_ok-copy_files.ensures c.in_ok-copy-2.ensures
-    c.in_ok-copy-3.ensures c.deref-2.ensures.value c.in_ok-copy_spaces.ensures)
-    ∙ ap (λ (s : CoreState). entries_of s) c.self.view_is
 
 pub returns-clause-calls : goal.returns-clause-calls
 returns-clause-calls c =

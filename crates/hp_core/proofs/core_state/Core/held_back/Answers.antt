@@ -1,6 +1,6 @@
 use Rattle.std.proofs.Common.{◌∙◌, List, Option, sym, subst, ap}
 use Rattle.hp_machine.specs.declared.outcome.Outcome.{Outcome}
-use Rattle.hp_fault.specs.State.{state_of}
+use Rattle.hp_parts.specs.State.{state_of}
 use Rattle.hp_core.specs.declared.seat.Seat.{Seat}
 use Rattle.hp_core.specs.HeldBack.{HeldBack, refusal_of, event_blocker}
 use Rattle.hp_core.proofs.HeldBack.{read_back}

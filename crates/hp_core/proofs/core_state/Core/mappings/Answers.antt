@@ -1,7 +1,7 @@
 use Rattle.std.proofs.Common.{arith, ◌∙◌, ap}
 use Rattle.std.specs.Prelude.{length}
 use Rattle.hp_table.specs.Table.{Table}
-use Rattle.hp_fault.specs.View.{mappings_by_task}
+use Rattle.hp_parts.specs.View.{mappings_by_task}
 use Rattle.hp_core.specs.Readers.{mappings_of}
 use Rattle.hp_core.proofs.Reading.{space_in, space_read}
 use Rattle.hp_core.proofs.core_state.Core.mappings.Goals as goal

@@ -1,7 +1,7 @@
-use Rattle.std.proofs.Common.{arith, rules, ◌∙◌, ap, sym}
-use Rattle.std.specs.Prelude.{Option}
-use Rattle.hp_machine.specs.declared.call.Call.{Call}
+use Rattle.std.proofs.Common.{◌≡◌, arith, rules, ◌∙◌, ap}
+use Rattle.std.specs.Prelude.{pos, ◌-ℤ◌}
 use Rattle.hp_core.specs.declared.seat.Seat.{Seat}
+use Rattle.hp_core.specs.declared.standing.Standing.{Standing}
 use Rattle.hp_core.specs.State.{calls_of}
 use Rattle.hp_core.specs.Wanting.{owed_by_call, owed_by_of}
 use Rattle.hp_core.proofs.Reading.{seat_in, seat_read}
@@ -12,15 +12,12 @@ index-requires c =
     let l = seat_in c.self.view_is c.self.invariant c.number.ensures c.requires.first c.requires.last in
     omega (arith, l)
 
-pub returns-in-Some : goal.returns-in-Some
+pub returns : goal.returns
 unfolding owed_by_of calls_of
-returns-in-Some c =
+returns c =
     let read = seat_read c.self.view_is c.self.invariant c.number.ensures c.requires.first c.requires.last c.index.ensures in
-    let is = c.call_owes.ensures ∙ (ap (λ (o : Option Call). owed_by_call o) (sym c.in-Some.is) ∙ ap (λ (y : Seat). owed_by_call y.call) read) in
+    let owes = ap (λ (s : Standing). pos s.more -ℤ pos s.less) c.standing_of-standing.ensures.standing in
+    let kept : (pos c.from.result -ℤ pos c.from-2.result) ≡ (pos c.standing_of-standing.result.more -ℤ pos c.standing_of-standing.result.less) =
+    λ i. pos (c.from.ensures i) -ℤ pos (c.from-2.ensures i) in
+    let is = c.difference.ensures ∙ (kept ∙ (owes ∙ ap (λ (y : Seat). owed_by_call y.call) read)) in
     search (rules, is)
-
-pub returns-in-None : goal.returns-in-None
-unfolding owed_by_of calls_of
-returns-in-None c =
-    let read = seat_read c.self.view_is c.self.invariant c.number.ensures c.requires.first c.requires.last c.index.ensures in
-    ap (λ (o : Option Call). owed_by_call o) (sym c.in-None.is) ∙ ap (λ (y : Seat). owed_by_call y.call) read

@@ -3,8 +3,8 @@ use Rattle.std.specs.Prelude.{is_some}
 use Rattle.std.specs.FinMap.{get}
 use Rattle.hp_base.specs.Indices.{count_below}
 use Rattle.hp_base.specs.declared.limits.TheConstants.{LIMIT}
-use Rattle.hp_fault.specs.declared.parts.FileState.{FileState}
-use Rattle.hp_fault.specs.View as view
+use Rattle.hp_parts.specs.declared.parts.FileState.{FileState}
+use Rattle.hp_parts.specs.View as view
 use Rattle.hp_core.specs.Readers.{pages_of}
 use Rattle.hp_core.proofs.Reading.{file_in, file_read}
 use Rattle.hp_core.proofs.core_state.Core.pages.Goals as goal

@@ -5,9 +5,9 @@ use Rattle.hp_base.specs.Text.{sizes}
 use Rattle.hp_machine.specs.Views.{hand}
 use Rattle.hp_slots.specs.Holders.{holder_of}
 use Rattle.hp_table.specs.Table.{Table}
-use Rattle.hp_fault.specs.declared.parts.FileState.{FileState}
-use Rattle.hp_fault.specs.State.{state_of}
-use Rattle.hp_fault.specs.View.{no_file}
+use Rattle.hp_parts.specs.declared.parts.FileState.{FileState}
+use Rattle.hp_parts.specs.State.{state_of}
+use Rattle.hp_parts.specs.View.{no_file}
 use Rattle.hp_core.specs.declared.seat.Seat.{Seat}
 use Rattle.hp_core.specs.Copies.{IsCopy, all_translations}
 use Rattle.hp_core.specs.State.{CoreState}

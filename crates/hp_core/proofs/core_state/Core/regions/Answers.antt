@@ -2,8 +2,8 @@ use Rattle.std.proofs.Common.{arith, ◌∙◌, ap}
 use Rattle.hp_base.specs.Indices.{region_count}
 use Rattle.hp_base.specs.declared.limits.TheConstants.{LIMIT}
 use Rattle.hp_region.specs.Regions.{is_member}
-use Rattle.hp_fault.specs.declared.parts.FileState.{FileState}
-use Rattle.hp_fault.specs.View.{sets_of}
+use Rattle.hp_parts.specs.declared.parts.FileState.{FileState}
+use Rattle.hp_parts.specs.View.{sets_of}
 use Rattle.hp_core.specs.Readers.{regions_of}
 use Rattle.hp_core.proofs.Reading.{file_in, file_read}
 use Rattle.hp_core.proofs.core_state.Core.regions.Goals as goal

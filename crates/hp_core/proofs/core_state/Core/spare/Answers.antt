@@ -1,6 +1,6 @@
 use Rattle.std.proofs.Common.{arith, ◌∙◌, ap}
-use Rattle.hp_fault.specs.declared.parts.FileState.{FileState}
-use Rattle.hp_fault.specs.View.{spares_of}
+use Rattle.hp_parts.specs.declared.parts.FileState.{FileState}
+use Rattle.hp_parts.specs.View.{spares_of}
 use Rattle.hp_core.specs.Readers.{spare_of}
 use Rattle.hp_core.proofs.Reading.{file_in, file_read}
 use Rattle.hp_core.proofs.core_state.Core.spare.Goals as goal

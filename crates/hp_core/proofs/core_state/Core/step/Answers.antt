@@ -1,7 +1,7 @@
 use Rattle.std.proofs.Common.{◌≡◌, ap, vec_capacity}
 use Rattle.std.specs.Prelude.{IfOk}
 use Rattle.hp_base.specs.Text.{sizes}
-use Rattle.hp_fault.specs.State.{state_of}
+use Rattle.hp_parts.specs.State.{state_of}
 use Rattle.hp_core.specs.State.{CoreState}
 use Rattle.hp_core.specs.Readers.{config_of}
 use Rattle.hp_core.specs.Runs.{Row, IsIdle, Headline}

@@ -1,7 +1,7 @@
 use Rattle.std.proofs.Common.{arith, ◌∙◌, ap}
 use Rattle.std.specs.FinMap as map
 use Rattle.hp_table.specs.Table.{Table}
-use Rattle.hp_fault.specs.View as view
+use Rattle.hp_parts.specs.View as view
 use Rattle.hp_core.specs.Readers.{translation_of}
 use Rattle.hp_core.proofs.Reading.{space_in, space_read}
 use Rattle.hp_core.proofs.core_state.Core.translate.Goals as goal

@@ -1,5 +1,5 @@
 use Rattle.std.proofs.Common.{◌∙◌, ap, arith}
-use Rattle.hp_fault.specs.State.{state_of}
+use Rattle.hp_parts.specs.State.{state_of}
 use Rattle.hp_core.specs.declared.seat.Seat.{Seat}
 use Rattle.hp_core.specs.Blockers.{task_blocker}
 use Rattle.hp_core.proofs.Reading.{seat_in, seat_read}

@@ -1,7 +1,6 @@
-use Rattle.std.proofs.Common.{arith, ◌∙◌, ap, sym}
-use Rattle.std.specs.Prelude.{Option}
-use Rattle.hp_machine.specs.declared.call.Call.{Call}
+use Rattle.std.proofs.Common.{arith, ◌∙◌, ap}
 use Rattle.hp_core.specs.declared.seat.Seat.{Seat}
+use Rattle.hp_core.specs.declared.standing.Standing.{Standing}
 use Rattle.hp_core.specs.State.{calls_of}
 use Rattle.hp_core.specs.Wanting.{wanted_by, wanted_of}
 use Rattle.hp_core.proofs.Reading.{seat_in, seat_read}
@@ -12,14 +11,8 @@ index-requires c =
     let l = seat_in c.self.view_is c.self.invariant c.number.ensures c.requires.first c.requires.last in
     omega (arith, l)
 
-pub returns-in-Some : goal.returns-in-Some
+pub returns : goal.returns
 unfolding wanted_of calls_of
-returns-in-Some c =
+returns c =
     let read = seat_read c.self.view_is c.self.invariant c.number.ensures c.requires.first c.requires.last c.index.ensures in
-    c.call_wanted.ensures ∙ (ap (λ (o : Option Call). wanted_by o) (sym c.in-Some.is) ∙ ap (λ (y : Seat). wanted_by y.call) read)
-
-pub returns-in-None : goal.returns-in-None
-unfolding wanted_of calls_of
-returns-in-None c =
-    let read = seat_read c.self.view_is c.self.invariant c.number.ensures c.requires.first c.requires.last c.index.ensures in
-    ap (λ (o : Option Call). wanted_by o) (sym c.in-None.is) ∙ ap (λ (y : Seat). wanted_by y.call) read
+    ap (λ (s : Standing). s.wants) c.standing_of.ensures.standing ∙ ap (λ (y : Seat). wanted_by y.call) read

@@ -1,12 +1,13 @@
-use Rattle.std.proofs.Common.{◌≡◌, arith}
+use Rattle.std.proofs.Common.{◌≡◌, ◌∙◌, ℕ, Bool, ap, arith}
 use Rattle.hp_region.specs.Regions.{is_member}
 use Rattle.hp_base.specs.Indices.{count_within}
 use Rattle.hp_base.proofs.Counting.{count_within-missing, missing_anti}
 use Rattle.hp_region.proofs.map.RegionMap.missing.Goals as goal
 
 -- what is held, of the regions that the caller sees
-held_is : (c : goal.After-held) → c.held.result ≡ count_within (is_member c.args.self.now.regions) c.args.from c.args.to
-held_is c = rw (← c.self.view_is, ← c.deref.ensures.value) c.held.ensures.counted
+held_is : (c : goal.After-count) → c.count.result ≡ count_within (is_member c.args.self.now.regions) c.args.from c.args.to
+held_is c =
+    rw (← c.self.view_is) (c.count.ensures ∙ ap (λ (set : ℕ → Bool). count_within set c.args.from c.args.to) c.self.invariant.marked)
 
 pub overflow_sub-result-2 : goal.overflow_sub-result-2
 overflow_sub-result-2 c = omega (arith, held_is c, count_within-missing (is_member c.args.self.now.regions) c.args.from c.args.to)

@@ -6,6 +6,7 @@ use Rattle.hp_region.proofs.map.RegionMap.new.Goals as goal
 pub invariant_of-result : goal.invariant_of-result
 invariant_of-result c = record {
   apart = rw c.new.ensures.items tt;
+  marked = rw c.new.ensures.items c.new-2.ensures;
   counted = rw c.new.ensures.items (sym (count_below_none (λ k. false) LIMIT (λ k below. refl)));
   covered = omega arith;
   room = omega arith;

@@ -1,4 +1,4 @@
-use Rattle.std.proofs.Common.{ℕ, ◌≡◌, ◌≤◌, ◌-◌, ◌+◌, Bool, true, false, cond, IsTrue, List, vec_len, vec_capacity, refl, ap, sym}
+use Rattle.std.proofs.Common.{ℕ, ◌≡◌, ◌<◌, ◌≤◌, ◌-◌, ◌+◌, Bool, true, false, cond, IsTrue, List, vec_len, vec_capacity, refl, ap, sym}
 use Rattle.std.proofs.Common.{◌∙◌, arith}
 use Rattle.std.specs.Prelude.{nat_lt}
 use Rattle.std.proofs.lemmas.Bool.Decides.{nat_tests}
@@ -8,6 +8,7 @@ use Rattle.hp_base.specs.declared.limits.TheConstants.{LIMIT}
 use Rattle.hp_base.proofs.Counting.{count_below-put_false}
 use Rattle.hp_region.specs.declared.region.Region.{Region}
 use Rattle.hp_region.specs.declared.map.RegionMap.TheInside.{Inside}
+use Rattle.hp_region.specs.Bits.{has_bit}
 use Rattle.hp_region.specs.Regions.{is_member, IsApartFrom}
 use Rattle.hp_region.proofs.Sets.{absent-put, member_below_limit}
 use Rattle.hp_region.proofs.map.RegionMap.remove_one.Goals as goal
@@ -50,6 +51,22 @@ same c = elim c.if-is_split.branch [
 
 left : (c : goal.After-self-1) → is_member c.carve.new.regions.items ≡ put (is_member c.self.inside.regions.items) c.args.index false
 left c = c.carve.ensures.members ∙ ap (λ (rs : List Region). put (is_member rs) c.args.index false) (same c)
+
+-- and without a change of the bits
+marked : (c : goal.After-self-1) → has_bit c.if-is_split.self-inside.bits ≡ is_member c.self.inside.regions.items
+marked c = elim c.if-is_split.branch [
+  | then-is_split+in_ok-take_room w ↦ ap (λ (m : Inside). has_bit m.bits) w.self-inside-is ∙ c.self.invariant.marked
+  | else-is_split w ↦ ap (λ (m : Inside). has_bit m.bits) w.self-inside-is ∙ c.self.invariant.marked
+]
+
+-- an index that is there lies below the limit
+in_limit : (rs seen : List Region) (i : ℕ) → IsApartFrom 0 rs → seen ≡ rs → is_member seen i ≡ true → i < LIMIT
+in_limit rs seen i apart same there = member_below_limit 0 rs i apart (ap (λ (xs : List Region). is_member xs i) (sym same) ∙ there)
+
+pub take-requires : goal.take-requires
+take-requires c =
+    in_limit c.self.inside.regions.items c.deref.result.now c.args.index c.self.invariant.apart c.deref.ensures.value
+    (c.in-Some.ensures.found.0 refl)
 
 at_most : (b : Bool) (n m : ℕ) → m ≤ cond b (n + 1) n → m ≤ n + 1
 at_most b n m h = grind arith
@@ -105,6 +122,7 @@ invariant_of-self-2 c =
     c.self.invariant.counted c.deref.ensures.value (c.in-Some.ensures.found.0 refl) in
     record {
       apart = c.carve.ensures.apart;
+      marked = c.take.ensures ∙ ap (λ (set : ℕ → Bool). put set c.args.index false) (marked c) ∙ sym (left c);
       counted = rw (left c) (omega (arith, kept, less));
       covered = covered c;
       room = room c;

@@ -1,4 +1,4 @@
-use Rattle.std.proofs.Common.{ℕ, ◌≡◌, ◌+◌, ◌∙◌, List, ap, arith}
+use Rattle.std.proofs.Common.{ℕ, ◌≡◌, ◌+◌, ◌∙◌, Bool, List, ap, sym, arith}
 use Rattle.hp_base.specs.Indices.{count_below, count_within, cut_tail}
 use Rattle.hp_base.specs.declared.limits.TheConstants.{LIMIT}
 use Rattle.hp_base.proofs.Counting.{count_below-cut_tail}
@@ -28,6 +28,7 @@ invariant_of-self c =
     c.self.invariant.counted c.held-removed.ensures.counted c.deref.ensures.value c.new.ensures in
     record {
       apart = c.cut.ensures.apart;
+      marked = c.cut_tail.ensures ∙ ap (λ (set : ℕ → Bool). cut_tail set c.args.from) c.self.invariant.marked ∙ sym c.cut.ensures.members;
       counted = rw c.cut.ensures.members (omega (arith, parts));
       covered = c.self.invariant.covered;
       room = omega (arith, c.cut.ensures.len, c.cut.ensures.capacity, c.self.invariant.room);

@@ -2,6 +2,7 @@ use Rattle.std.proofs.Common.{ℕ, sym, ap, ◌∙◌, arith}
 use Rattle.std.proofs.Math.Path.{fun_ext}
 use Rattle.std.specs.FinMap as map
 use Rattle.std.specs.Ordering.{nat_cmp}
+use Rattle.hp_table.proofs.Memory.{no_more_since}
 use Rattle.hp_table.proofs.Clearing.{get_removed, fewer_removed, without_there, without_none}
 use Rattle.hp_table.proofs.space.Space.clear_index.Goals as goal
 
@@ -24,7 +25,7 @@ loop-vpn-preserved c =
           (λ u. ap (λ (m : map.FinMap nat_cmp ℕ). map.get m u) c.clear.ensures.entries
           ∙ get_removed c.loop-vpn.self.entries c.in-Some.vpn u) v;
       ready = c.clear.ensures.ready ∙ i.ready;
-      room = omega (arith, i.room, c.clear.ensures.room);
+      room = no_more_since _ _ _ c.clear.ensures.room i.room;
     }
 
 pub returns-clause-entries : goal.returns-clause-entries

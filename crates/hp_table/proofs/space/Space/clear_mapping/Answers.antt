@@ -8,6 +8,7 @@ use Rattle.hp_base.specs.Mappings.{without_mapping}
 use Rattle.hp_chunks.specs.Framed.{IsFirstWithin}
 use Rattle.hp_table.specs.Table.{Table}
 use Rattle.hp_table.proofs.Bases.{begins_at, ends_in_space_at, within_mapping, without_mapping-none}
+use Rattle.hp_table.proofs.Memory.{no_more_since}
 use Rattle.hp_table.proofs.Clearing.{get_removed, clear_first, clear_all}
 use Rattle.hp_table.proofs.space.Space.clear_mapping.Goals as goal
 
@@ -62,7 +63,7 @@ loop-vpn-preserved c =
           (λ v. ap (λ (m : map.FinMap nat_cmp ℕ). map.get m v) (rw c.new.ensures at c.clear.ensures.entries)
           ∙ get_removed c.loop-vpn.self.entries c.in-Some-first_within.vpn v);
       ready = c.clear.ensures.ready ∙ i.ready;
-      room = omega (arith, i.room, c.clear.ensures.room);
+      room = no_more_since _ _ _ c.clear.ensures.room i.room;
     }
 
 pub returns-clause-entries : goal.returns-clause-entries

@@ -1,0 +1,328 @@
+-- What a write needs where a call goes on, and that the invariant is kept where it has it: once for all operations.
+use Rattle.std.proofs.lemmas.Bool.Decides.{nat_tests}
+use Rattle.std.proofs.Common.{◌≡◌, ℕ, ◌+◌, ◌-◌, ◌<◌, ◌≤◌, refl, ap, sym, subst, arith}
+use Rattle.std.specs.Prelude.{Bool, true, false, Option, Some, None, IfSome, max, ◌&&◌, nat_lt, if◌then◌else◌}
+use Rattle.hp_base.specs.Indices.{splits, is_within, missing}
+use Rattle.hp_base.specs.Mappings.{find}
+use Rattle.hp_frames.specs.Bank.{IsWithinQuota}
+use Rattle.hp_frames.specs.declared.frame.FrameState.TheVariants.{Free, Placed}
+use Rattle.hp_frames.proofs.Quotas.{less_within}
+use Rattle.hp_machine.specs.State.{State, pool_of, with_pool, slot_of, free_frames}
+use Rattle.hp_machine.specs.Parts.{frame_after}
+use Rattle.hp_machine.specs.Views.{less, more, used_owed, hand, change_in, locked_file, slot_held}
+use Rattle.hp_machine.specs.declared.touch.TouchPhase.{TouchPhase}
+use Rattle.hp_machine.specs.declared.touch.TouchPhase.TheVariants as touch
+use Rattle.hp_machine.specs.declared.call.Call.{Call}
+use Rattle.hp_machine.specs.declared.call.Call.TheVariants as call
+use Rattle.hp_laws.specs.Sweep.{fills, ahead, passed}
+use Rattle.hp_laws.proofs.Standing.{HasSlot, HasLock, Stands}
+use Rattle.hp_laws.proofs.Invariant.{Reached, Inv, seen, stays, sweeps, holds, to}
+use Rattle.hp_laws.proofs.Holding.{shown, takes_slot, leaves_slot, takes_lock, leaves_lock}
+use Rattle.hp_laws.proofs.Effects.{touches_word, rebalances, opened, closed, commits, takes, gives, places}
+use Rattle.hp_laws.proofs.Deletes.{deletes}
+use Rattle.hp_laws.proofs.Removals
+use Rattle.hp_laws.proofs.Removals.{evicts}
+use Rattle.hp_laws.proofs.Tables.{enters_table, extends, clears}
+use Rattle.hp_laws.proofs.Shared.{steady, unhanded, no_fill}
+use Rattle.hp_laws.proofs.Writes.{Write, written, Nothing, TakesLock, LeavesLock, TakesSlot, LeavesSlot, Opens, Aborts, Commits}
+use Rattle.hp_laws.proofs.Writes.{TakesReserved, TakesFree, Settles, Places, Restores, Enters, Accesses, Grows, Clears, Evicts, Deletes}
+use Rattle.hp_laws.proofs.Writes.{FreesUnreserved}
+
+-- the state after a write
+abbrev pub wrote : State → (task : ℕ) → Write → State
+wrote s t w = with_pool s (written (pool_of s) t w)
+
+-- what the call fills is reached
+abbrev pub Fills : State → Option Call → Type 0
+Fills s c = IfSome (fills c) (λ k. Reached s.size (λ u. ahead (s.calls u)) k.0 k.1)
+
+-- what holds of the call after the write
+abbrev pub Own : State → (task : ℕ) → Write → Option Call → Type 0
+Own s t w c = Stands s.geometry (wrote s t w) t c
+
+-- no truncation has passed the index
+abbrev pub Nobody : State → (file index : ℕ) → Type 0
+Nobody s f i = (u : ℕ) → passed (s.calls u) f i ≡ true → ⊥
+
+-- a touch that looks or found its page, whose step may read or write a word
+abbrev pub is_reader : TouchPhase → Bool
+is_reader (touch.Look p) = true
+is_reader (touch.Found p) = true
+is_reader other = false
+
+-- a call that is such a touch
+abbrev pub reads : Option Call → Bool
+reads (Some (call.Touch phase)) = is_reader phase
+reads other = false
+
+-- what a write needs where the call of task t goes on from b to c
+abbrev pub Fit : State → (task : ℕ) → (b c : Option Call) → Write → Type 0
+Fit s t b c Nothing = record { same : seen c ≡ seen b; fill : Fills s c; own : Own s t Nothing c }
+Fit s t b c (TakesLock f) = record {
+  free : s.locks f ≡ None;
+  same : shown c ≡ shown b;
+  slot : slot_held c ≡ slot_held b;
+  none : locked_file b ≡ None;
+  some : locked_file c ≡ Some f;
+  fill : fills c ≡ None;
+  own : Own s t (TakesLock f) c;
+}
+Fit s t b c (LeavesLock f) = record {
+  over : c ≡ None;
+  same : shown None ≡ shown b;
+  slot : slot_held b ≡ None;
+  lock : locked_file b ≡ Some f;
+  held : HasLock s t f;
+  done : (k j : ℕ) → ahead b k j ≡ false;
+}
+Fit s t b c (TakesSlot f i) = record {
+  free : s.slots (slot_of s.geometry f i) ≡ None;
+  same : shown c ≡ shown b;
+  lock : locked_file c ≡ locked_file b;
+  none : slot_held b ≡ None;
+  some : slot_held c ≡ Some (f, i);
+  fill : fills c ≡ None;
+  own : Own s t (TakesSlot f i) c;
+}
+Fit s t b c (LeavesSlot f i) = record {
+  same : shown c ≡ shown b;
+  lock : locked_file c ≡ locked_file b;
+  some : slot_held b ≡ Some (f, i);
+  none : slot_held c ≡ None;
+  held : HasSlot s.geometry s t f i;
+  fill : Fills s c;
+  own : Own s t (LeavesSlot f i) c;
+}
+Fit s t b c (Opens f) = record {
+  same : steady c ≡ steady b;
+  none : change_in b ≡ None;
+  some : change_in c ≡ Some f;
+  balance : less c + more b ≡ less b + more c;
+  owed : used_owed c ≡ used_owed b;
+  fill : Fills s c;
+  own : Own s t Nothing c;
+}
+Fit s t b c (Aborts f) = record {
+  same : steady c ≡ steady b;
+  some : change_in b ≡ Some f;
+  none : change_in c ≡ None;
+  balance : less c + more b ≡ less b + more c;
+  owed : used_owed c ≡ used_owed b;
+  fill : Fills s c;
+  own : Own s t Nothing c;
+}
+Fit s t b c (Commits f change) = record {
+  file : f < s.geometry.files;
+  limit : change.to ≤ s.geometry.limit;
+  same : steady c ≡ steady b;
+  some : change_in b ≡ Some f;
+  none : change_in c ≡ None;
+  nobody : (u j : ℕ) → passed (s.calls u) f j ≡ true → is_within change.from change.to j ≡ true → ⊥;
+  balance : less c + more b ≡ less b + missing (s.reserved f) change.from change.to + more c;
+  owed : used_owed b ≡ missing (s.reserved f) change.from change.to + used_owed c;
+  fill : Fills s c;
+  own : Own s t (Commits f change) c;
+}
+Fit s t b c (TakesReserved x) = record {
+  free : s.frame x ≡ Free;
+  low : 1 ≤ s.resv;
+  same : unhanded c ≡ unhanded b;
+  empty : hand b ≡ None;
+  full : hand c ≡ Some x;
+  owes : less c ≡ less b + 1;
+  owed : used_owed c ≡ used_owed b;
+  fill : Fills s c;
+  own : Own s t Nothing c;
+}
+Fit s t b c (TakesFree x) = record {
+  free : s.frame x ≡ Free;
+  left : s.resv + 1 ≤ free_frames s.frame s.frames;
+  quota : IsWithinQuota s.geometry.quota (s.used + 1);
+  same : unhanded c ≡ unhanded b;
+  empty : hand b ≡ None;
+  full : hand c ≡ Some x;
+  owes : less c ≡ less b;
+  owed : used_owed c ≡ used_owed b + 1;
+  fill : Fills s c;
+  own : Own s t Nothing c;
+}
+Fit s t b c (Settles n m) = record {
+  low : n ≤ s.resv;
+  used : m ≤ s.used;
+  same : steady c ≡ steady b;
+  change : change_in c ≡ change_in b;
+  balance : less c + more b ≡ less b + more c + n;
+  owed : used_owed b ≡ used_owed c + m;
+  fill : Fills s c;
+  own : Own s t Nothing c;
+}
+Fit s t b c (Places f i x) = record {
+  file : f < s.geometry.files;
+  index : i < s.geometry.limit;
+  same : unhanded c ≡ unhanded b;
+  some : hand b ≡ Some x;
+  none : hand c ≡ None;
+  balance : less b ≡ less c + 1;
+  owed : used_owed c ≡ used_owed b;
+  marked : s.reserved f i ≡ true;
+  bare : s.pages f i ≡ None;
+  held : HasSlot s.geometry s t f i;
+  nobody : Nobody s f i;
+  fill : Fills s c;
+  own : Own s t (Places f i x) c;
+}
+Fit s t b c (Restores x) = record {
+  same : unhanded c ≡ unhanded b;
+  some : hand b ≡ Some x;
+  none : hand c ≡ None;
+  balance : less b ≡ less c + 1;
+  owed : used_owed c ≡ used_owed b;
+  fill : Fills s c;
+  own : Own s t Nothing c;
+}
+Fit s t b c (Enters v x access) = record {
+  reader : reads b ≡ true;
+  place : ℕ × ℕ;
+  word : ℕ;
+  placed : s.frame x ≡ Placed word;
+  same : seen c ≡ seen b;
+  found : find (s.mappings t) v ≡ Some place;
+  page : s.pages place.0 place.1 ≡ Some x;
+  below : place.1 < s.size place.0;
+  held : HasSlot s.geometry s t place.0 place.1;
+  fill : Fills s c;
+  own : Own s t (Enters v x access) c;
+}
+Fit s t b c (Accesses x access) = record {
+  reader : reads b ≡ true;
+  word : ℕ;
+  placed : s.frame x ≡ Placed word;
+  same : seen c ≡ seen b;
+  fill : Fills s c;
+  own : Own s t (Accesses x access) c;
+}
+Fit s t b c (Grows f end) = record {
+  same : seen c ≡ seen b;
+  held : HasLock s t f;
+  limit : end ≤ s.geometry.limit;
+  nobody : (u j : ℕ) → passed (s.calls u) f j ≡ true → ⊥;
+  fill : Fills s c;
+  own : Own s t (Grows f end) c;
+}
+Fit s t b c (Clears k f i) = record { same : seen c ≡ seen b; fill : Fills s c; own : Own s t (Clears k f i) c }
+Fit s t b c (Evicts f i x) = record {
+  file : f < s.geometry.files;
+  same : sweeps c ≡ sweeps b;
+  holds : holds c ≡ holds b;
+  empty : hand b ≡ None;
+  full : hand c ≡ Some x;
+  change : change_in c ≡ change_in b;
+  balance : less c + more b ≡ less b + more c + 1;
+  owed : used_owed c ≡ used_owed b;
+  page : s.pages f i ≡ Some x;
+  held : HasSlot s.geometry s t f i;
+  cleared : (w v y : ℕ) → s.entries w v ≡ Some y → find (s.mappings w) v ≡ Some (f, i) → ⊥;
+  fill : Fills s c;
+  own : Own s t (Evicts f i x) c;
+}
+Fit s t b c (Deletes f i) = record {
+  file : f < s.geometry.files;
+  index : i < s.geometry.limit;
+  same : steady c ≡ steady b;
+  change : change_in c ≡ change_in b;
+  balance : less b + more c ≡ less c + more b + 1;
+  owed : used_owed c ≡ used_owed b + 1;
+  marked : s.reserved f i ≡ true;
+  bare : s.pages f i ≡ None;
+  slot : HasSlot s.geometry s t f i;
+  lock : HasLock s t f;
+  deletes : deletes b f i ≡ true;
+  fill : Fills s c;
+  own : Own s t (Deletes f i) c;
+}
+Fit s t b c (FreesUnreserved x) = record {
+  used : 1 ≤ s.used;
+  same : unhanded c ≡ unhanded b;
+  some : hand b ≡ Some x;
+  none : hand c ≡ None;
+  balance : less b ≡ less c;
+  owed : used_owed b ≡ used_owed c + 1;
+  fill : Fills s c;
+  own : Own s t Nothing c;
+}
+
+-- a split leaves a spare for each change
+spare_left : (b : Bool) (pending spare : ℕ) → pending ≤ spare → pending ≤ (if b && nat_lt pending spare then spare - 1 else spare)
+spare_left true pending spare l = here (nat_lt pending spare) refl
+  where
+    here : (d : Bool) → nat_lt pending spare ≡ d → pending ≤ (if d then spare - 1 else spare)
+    here true e = let a : pending < spare = grind (arith, nat_tests) in omega arith
+    here false e = l
+spare_left false pending spare l = l
+
+-- so the invariant is kept
+pub keeps : (s : State) (t : ℕ) (b c : Option Call) (w : Write) → Inv s.geometry s → t < s.geometry.tasks + 1 → s.calls t ≡ b
+    → (reads b ≡ true → 1 ≤ t) → Fit s t b c w → Inv s.geometry (to (wrote s t w) t c)
+keeps s t b c Nothing h l e one y = stays s.geometry s t b c h l e y.same y.fill y.own
+keeps s t b c (TakesLock f) h l e one y = takes_lock s.geometry s t b c f h l e y.free y.same y.slot y.none y.some y.fill y.own
+keeps s t b c (LeavesLock f) h l e one y =
+    subst (λ (d : Option Call). Inv s.geometry (to (wrote s t (LeavesLock f)) t d)) (sym y.over)
+    (leaves_lock s.geometry s t b f h l e (sym (ap (λ p. p.0) y.same)) (sym (ap (λ p. p.1) y.same)) (sym (ap (λ p. p.5) y.same))
+    (sym (ap (λ p. p.2) y.same)) (sym (ap (λ p. p.3) y.same)) y.slot y.lock y.held y.done)
+keeps s t b c (TakesSlot f i) h l e one y =
+    takes_slot s.geometry s t b c f i h l e y.free y.same y.lock y.none y.some (no_fill s c y.fill) y.own
+keeps s t b c (LeavesSlot f i) h l e one y = leaves_slot s.geometry s t b c f i h l e y.same y.lock y.some y.none y.held y.fill y.own
+keeps s t b c (Opens f) h l e one y =
+    opened s.geometry s t b c f h l e (ap (λ p. p.0) y.same) (ap (λ p. p.1) y.same) (ap (λ p. p.2) y.same) y.none y.some y.balance
+    y.owed y.fill y.own
+keeps s t b c (Aborts f) h l e one y =
+    closed s.geometry s t b c f h l e (ap (λ p. p.0) y.same) (ap (λ p. p.1) y.same) (ap (λ p. p.2) y.same) y.some y.none y.balance
+    y.owed y.fill y.own
+keeps s t b c (Commits f change) h l e one y =
+    commits s.geometry s t b c f change h l e y.file y.limit (ap (λ p. p.0) y.same) (ap (λ p. p.1) y.same) (ap (λ p. p.2) y.same)
+    y.some y.none y.nobody y.balance y.owed y.fill y.own
+keeps s t b c (TakesReserved x) h l e one y =
+    takes s.geometry s t b c x (s.resv - 1) s.used h l e y.free (ap (λ p. p.0) y.same) (ap (λ p. p.1) y.same) y.empty y.full
+    (ap (λ p. p.2) y.same)
+    (let a : more c ≡ more b = ap (λ p. p.3) y.same in let d = y.owes in let z = y.low in omega arith)
+    (let z = h.enough in let d = y.low in omega arith) (let a = y.owed in omega arith) h.quota y.fill y.own
+keeps s t b c (TakesFree x) h l e one y =
+    takes s.geometry s t b c x s.resv (s.used + 1) h l e y.free (ap (λ p. p.0) y.same) (ap (λ p. p.1) y.same) y.empty y.full
+    (ap (λ p. p.2) y.same) (let a : more c ≡ more b = ap (λ p. p.3) y.same in let d = y.owes in omega arith) y.left
+    (let a = y.owed in omega arith) y.quota y.fill y.own
+keeps s t b c (Settles n m) h l e one y =
+    rebalances s.geometry s t b c (s.resv - n) (s.used - m) h l e (ap (λ p. p.0) y.same) (ap (λ p. p.1) y.same) (ap (λ p. p.2) y.same)
+    y.change (let a = y.balance in let d = y.low in omega arith) (let z = h.enough in omega arith)
+    (let a = y.owed in let d = y.used in omega arith) (less_within s.geometry.quota s.used (s.used - m) (omega arith) h.quota) y.fill
+    y.own
+keeps s t b c (Places f i x) h l e one y =
+    places s.geometry s t b c f i x h l e y.file y.index (ap (λ p. p.0) y.same) (ap (λ p. p.1) y.same) y.some y.none
+    (ap (λ p. p.2) y.same) (let a : more c ≡ more b = ap (λ p. p.3) y.same in let d = y.balance in omega arith) y.owed y.marked y.bare
+    y.held y.nobody y.fill y.own
+keeps s t b c (Restores x) h l e one y =
+    gives s.geometry s t b c x (s.resv + 1) s.used h l e (ap (λ p. p.0) y.same) (ap (λ p. p.1) y.same) y.some y.none
+    (ap (λ p. p.2) y.same) (let a : more c ≡ more b = ap (λ p. p.3) y.same in let d = y.balance in omega arith) (omega arith)
+    (let a = y.owed in omega arith) h.quota y.fill y.own
+keeps s t b c (Enters v x access) h l e one y =
+    enters_table s.geometry (record s { pool = record s.pool { frame = frame_after access s.frame x } }) t b c v y.place.0 y.place.1 x
+    (touches_word s.geometry s access x y.word h y.placed) (one y.reader) l e y.same y.found y.page y.below y.held y.fill y.own
+keeps s t b c (Accesses x access) h l e one y =
+    stays s.geometry (record s { pool = record s.pool { frame = frame_after access s.frame x } }) t b c
+    (touches_word s.geometry s access x y.word h y.placed) l e y.same y.fill y.own
+keeps s t b c (Grows f end) h l e one y =
+    extends s.geometry s t b c f (max (s.size f) end) h l e y.same y.held (omega arith)
+    (let a = h.sizes f in let d = y.limit in omega arith) y.nobody y.fill y.own
+keeps s t b c (Clears k f i) h l e one y =
+    stays s.geometry (wrote s t (Clears k f i)) t b c (clears s.geometry s k f i h) l e y.same y.fill y.own
+keeps s t b c (Evicts f i x) h l e one y =
+    evicts s.geometry s t b c f i x h l e y.file y.same y.holds y.empty y.full y.change y.balance y.owed y.page y.held y.cleared y.fill
+    y.own
+keeps s t b c (Deletes f i) h l e one y =
+    Removals.deletes s.geometry s t b c f i _ h l e y.file y.index (ap (λ p. p.0) y.same) (ap (λ p. p.1) y.same) (ap (λ p. p.2) y.same)
+    y.change y.balance y.owed (spare_left (splits (s.reserved f) i) (s.pending f) (s.spare f) (h.spares f)) y.marked y.bare y.slot y.lock
+    y.fill y.own
+keeps s t b c (FreesUnreserved x) h l e one y =
+    gives s.geometry s t b c x s.resv (s.used - 1) h l e (ap (λ p. p.0) y.same) (ap (λ p. p.1) y.same) y.some y.none
+    (ap (λ p. p.2) y.same) (let a : more c ≡ more b = ap (λ p. p.3) y.same in let d = y.balance in omega arith) (omega arith)
+    (let a = y.owed in let d = y.used in omega arith) (less_within s.geometry.quota s.used (s.used - 1) (omega arith) h.quota) y.fill
+    y.own

@@ -1,0 +1,5 @@
+pub mod Fits
+pub mod Room
+pub mod State
+pub mod Turns
+pub mod View

@@ -1,4 +1,0 @@
-use Rattle.hp_shared_tests.proofs.cuts.a_running_pool_is_resized.Given as goal
-
-abbrev pub ghosts-resized : goal.ghosts-resized
-ghosts-resized g a = record { name = a.blank.name; parts = a.blank.parts }

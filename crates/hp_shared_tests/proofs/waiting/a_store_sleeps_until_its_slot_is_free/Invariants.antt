@@ -1,4 +1,0 @@
-use Rattle.hp_shared_tests.proofs.waiting.a_store_sleeps_until_its_slot_is_free.Given as goal
-
-abbrev pub ghosts-a_pool_of_two : goal.ghosts-a_pool_of_two
-ghosts-a_pool_of_two g a = record { name = a.blank.name; parts = a.blank.parts }
