@@ -3,7 +3,7 @@
 
 A library that is loaded before the program refuses the growth (faults.c). For each line of words below it refuses the 1st, 2nd, ..
 growth, up to a run that meets none. Where memory is refused, hugepool must say so and end with status 1, and its output must be a front
-of the right one; where a thread is refused, or nothing is, the output must be right. hp_refusals runs stories, which print each refusal
+of the right one; where a thread is refused, or nothing is, the output must be right. hp_memory_tests runs stories, which print each refusal
 and try again: everything else must be as with ample memory, to the end. In two of them threads meet at a gate, and where the second
 thread is refused, the story must say that they don't. Wrong programs, and a library that refuses nothing, have to be noticed. At last
 it counts the threads that a command starts: one for each racing task and each call of a round on a running pool, anew behind each cut of
@@ -40,7 +40,7 @@ def two_stores(gate: str, word: int, end: str) -> str:
     return "".join(f"{line}\n" for line in [*told, f"gate: {gate}", f"load of 2: word {word}", f"closed: {end}"])
 
 
-# what hp_refusals tells where nothing is refused, by what it reads; of a trace, what its replay writes
+# what hp_memory_tests tells where nothing is refused, by what it reads; of a trace, what its replay writes
 STORIES = {
     "c": """map of 1: mapped 0
 map of 2: mapped 0
@@ -157,7 +157,7 @@ def cases() -> list[Case]:
 
 
 def stories() -> list[Case]:
-    """What hp_refusals reads."""
+    """What hp_memory_tests reads."""
     traces = [it for it in sorted((TOP / "examples").rglob("*.trace")) if not it.with_suffix(".err").exists()]
     told = {it.read_text(encoding="utf-8"): it.with_suffix(".out").read_text(encoding="utf-8") for it in traces}
     every = {**STORIES, **told}
@@ -225,7 +225,7 @@ def faults(program: Program, case: Case, pool: ThreadPoolExecutor, judge: Judge 
     return MOST, [*found, f"{name}: it has {MOST} growths or more"]
 
 
-# Wrong programs around hp_refusals (faults.py has those around hugepool), which tells of a journal that is cut, ..
+# Wrong programs around hp_memory_tests (faults.py has those around hugepool), which tells of a journal that is cut, ..
 WRONG_STORIES = {
     "loses its last line": '$program | head -n -1',
     "begins again": '$program; [ "$FAULT_GROWTH" = 0 ] || FAULT_GROWTH=0 $program < /dev/null',
@@ -306,7 +306,7 @@ class Tried:
 
 def main() -> int:
     tried = Tried()
-    program, teller = built("hugepool"), built("hp_refusals")
+    program, teller = built("hugepool"), built("hp_memory_tests")
     replay, told = Case("replay", example("map-four-of-four.trace"), is_same, is_front), {it.read: it for it in stories()}
     with tempfile.TemporaryDirectory(prefix="growths-") as name, ThreadPoolExecutor(os.cpu_count() or 1) as pool:
         room = Room(Path(name))

@@ -1,5 +1,5 @@
 #!/usr/bin/env python3
-"""Refuses each growth of memory of two stores over a driver (a story of hp_refusals), one a run, and compares what each store answers.
+"""Refuses each growth of memory of two stores over a driver (a story of hp_memory_tests), one a run, and compares what each store answers.
 
 A driver must answer an allocation failure and carry on. A program that tries again after one, and doesn't say so, has to be noticed.
 """
@@ -68,12 +68,12 @@ def fault(told: list[list[str]]) -> str | None:
 
 
 def main() -> int:
-    program = built("hp_refusals")
+    program = built("hp_memory_tests")
     with tempfile.TemporaryDirectory(prefix="refusals-") as name:
         room = Room(Path(name))
         found, noticed = fault(runs(Program(program, room.library))), fault(runs(room.around(program, WRONG)))
     faults = [*([found] if found else []), *([] if noticed else ["a program that tries again and says nothing isn't noticed"])]
-    print("".join(f"  hp_refusals: {it}\n" for it in faults), end="")
+    print("".join(f"  hp_memory_tests: {it}\n" for it in faults), end="")
     print(f"refusals: {2 - len(faults)} passed, {len(faults)} failed")
     return 1 if faults else 0
 

@@ -2,7 +2,7 @@
 ghost use Rattle.hp_base.specs.declared.config.Config.{Config};
 ghost use Rattle.hp_laws.specs.HistoryLaws.{HasHistory, FewOwnSteps, KeepsPromises, PromisedNeverLacks, PromisedIsServed};
 ghost use Rattle.hp_laws.specs.HistoryLaws.{LoadsTellLastWords, LoadsEndWithLastWords};
-ghost use Rattle.hp_meaning.specs.Meaning.{CallsAloneMean};
+ghost use Rattle.hp_sequential.specs.Meaning.{CallsAloneMean};
 ghost use Rattle.hp_core.specs.State.{as_state};
 ghost use Rattle.hp_core.specs.RunLaws.{FramesDontShow};
 
@@ -10,11 +10,11 @@ use crate::core_state::Core;
 
 impl Core {
     /// Where no call is in flight, a call that an alive task begins here, and that runs alone by granted steps to its
-    /// end, has the answer and leads to the state that a table tells of its operation (`hp_meaning`).
+    /// end, has the answer and leads to the state that a table tells of its operation (`hp_sequential`).
     pub fn a_call_alone_has_its_plain_meaning(&self)
         ensures { CallsAloneMean (as_state self.now) }
     {
-        hp_meaning::a_call_alone_has_its_plain_meaning();
+        hp_sequential::a_call_alone_has_its_plain_meaning();
         let _ = &self.config;
     }
 
@@ -23,7 +23,7 @@ impl Core {
     pub fn frames_do_not_show()
         ensures { (config : Config) → FramesDontShow config }
     {
-        hp_meaning::frames_do_not_show();
+        hp_sequential::frames_do_not_show();
     }
 
     /// This core has a history: a list of moments, each an event with the states around it, from the

@@ -12,9 +12,9 @@ use Rattle.hp_machine.specs.declared.outcome.Outcome.TheVariants.{Blocked}
 use Rattle.hp_laws.proofs.Leads.{no_dead_ends}
 use Rattle.hp_laws.proofs.Runs.{always, measures_stay}
 use Rattle.hp_laws.proofs.Waiting.{blocked_by_holder}
-use Rattle.hp_meaning.specs.Renaming.{renamed, call_renamed, Alike}
-use Rattle.hp_meaning.proofs.Runs.{run_alike, frames_hidden}
-use Rattle.hp_meaning.proofs.Parts.{frees_renamed}
+use Rattle.hp_sequential.specs.Renaming.{renamed, call_renamed, Alike}
+use Rattle.hp_sequential.proofs.Runs.{run_alike, frames_hidden}
+use Rattle.hp_sequential.proofs.Parts.{frees_renamed}
 use Rattle.hp_core.proofs.Steps.{run_on}
 use Rattle.hp_core.specs.State.{CoreState, as_state}
 use Rattle.hp_core.specs.Runs as core

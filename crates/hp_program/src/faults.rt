@@ -1,5 +1,5 @@
 //! The lines of a fault.
-use hp_reasons::{Recalls, line_told};
+use hp_diagnostics::{Recalls, line_told};
 use hp_replay::ReplayFault;
 use std::io;
 use std::io::Write;

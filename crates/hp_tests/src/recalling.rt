@@ -1,5 +1,5 @@
 //! Which lines a source that keeps what it gave last recalls, however it is read.
-use hp_reasons::{Recalling, Recalls};
+use hp_diagnostics::{Recalling, Recalls};
 use hp_replay::Source;
 use std::test::Fail;
 

@@ -17,7 +17,7 @@ mod scheduling;
 mod words;
 mod working;
 
-use hp_reasons::Recalling;
+use hp_diagnostics::Recalling;
 use hp_replay::Watched;
 use program::program;
 use std::io;

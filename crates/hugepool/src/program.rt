@@ -17,7 +17,7 @@ use crate::scheduling::run_schedule;
 use crate::working::{WorkFault, run_work};
 use clap::error::ErrorKind;
 use hp_program::{run_replay, write_fault};
-use hp_reasons::Recalls;
+use hp_diagnostics::Recalls;
 use hp_replay::{ReplayFault, Source};
 use std::alloc::Global;
 use std::convert::AsStr;

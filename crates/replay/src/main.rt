@@ -6,7 +6,7 @@
 
 mod program;
 
-use hp_reasons::Recalling;
+use hp_diagnostics::Recalling;
 use hp_replay::Watched;
 use program::program;
 use std::io;

@@ -4,7 +4,7 @@ ghost use Rattle.std.specs.Option.{option_map};
 ghost use Rattle.replay.specs.Status.{EndsWith, status_at};
 
 use hp_program::{run_replay, write_fault};
-use hp_reasons::Recalls;
+use hp_diagnostics::Recalls;
 use hp_replay::{ReplayFault, Source};
 use std::alloc::Global;
 use std::io::Write;

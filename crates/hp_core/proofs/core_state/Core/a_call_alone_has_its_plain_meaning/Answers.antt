@@ -1,4 +1,4 @@
-use Rattle.hp_meaning.specs.Meaning.{CallsAloneMean}
+use Rattle.hp_sequential.specs.Meaning.{CallsAloneMean}
 use Rattle.hp_core.proofs.Headlines.{law_of}
 use Rattle.hp_core.proofs.core_state.Core.a_call_alone_has_its_plain_meaning.Goals as goal
 

@@ -1,5 +1,0 @@
-use Rattle.hp_meaning.proofs.Runs.{frames_hidden}
-use Rattle.hp_meaning.proofs.frames_do_not_show.Goals as goal
-
-pub returns : goal.returns
-returns c = frames_hidden

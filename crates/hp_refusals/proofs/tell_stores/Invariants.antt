@@ -1,4 +1,0 @@
-use Rattle.hp_refusals.proofs.tell_stores.Given as goal
-
-abbrev pub ghosts-tell : goal.ghosts-tell
-ghosts-tell g a = record { name = a.blank.name; parts = a.blank.parts }
