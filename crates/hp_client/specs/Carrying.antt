@@ -8,7 +8,7 @@ use Rattle.hp_core.specs.Runs.{IsOpening}
 use Rattle.hp_core.specs.State.{CoreState}
 use Rattle.hp_shared.specs.Journal.{IsCameTo}
 use Rattle.hp_shared.specs.States.{tally_of as pool_tally}
-use Rattle.hp_client.specs.Crew.{DeskState, desks_of, new_seats}
+use Rattle.hp_client.specs.Crew.{MemberState, members_of, new_seats}
 use Rattle.hp_client.specs.Driving.{Rounds, Stops, IsHeard, IsUnheard}
 use Rattle.hp_client.specs.Heard.{DriverState, tally_of}
 use Rattle.hp_client.specs.PoolRounds.{PoolRound, PoolRoundStops}
@@ -30,21 +30,21 @@ core_rounds = IsHeard (λ (d : DriverState). d.heard) (λ old calls answers new.
 abbrev pub core_stops : Stops DriverState
 core_stops = IsUnheard (λ (d : DriverState). d.heard) (λ fault old calls new. RoundStops fault old.core calls new.core)
 
--- what is seen of a driver of a running pool: the desks of its crew, and what it has heard
+-- what is seen of a driver of a running pool: the members of its crew, and what it has heard
 pub record CrewState : Type 0 where
-  pub desks : List DeskState
+  pub members : List MemberState
   pub heard : List (ℕ × Op × Answer)
 
 -- a new one, with a seat for each of the workload's tasks
 abbrev pub IsNewCrew : Workload → CrewState → Type 0
-IsNewCrew workload driver = (driver.desks ≡ desks_of (new_seats (sizes_of workload).tasks)) × (driver.heard ≡ [])
+IsNewCrew workload driver = (driver.members ≡ members_of (new_seats (sizes_of workload).tasks)) × (driver.heard ≡ [])
 
 -- the rounds of a driver of a running pool, and where one stops
 abbrev pub crew_rounds : Rounds CrewState
-crew_rounds = IsHeard (λ (d : CrewState). d.heard) (λ old calls answers new. PoolRound old.desks calls answers new.desks)
+crew_rounds = IsHeard (λ (d : CrewState). d.heard) (λ old calls answers new. PoolRound old.members calls answers new.members)
 
 abbrev pub crew_stops : Stops CrewState
-crew_stops = IsUnheard (λ (d : CrewState). d.heard) (λ fault old calls new. PoolRoundStops fault old.desks calls new.desks)
+crew_stops = IsUnheard (λ (d : CrewState). d.heard) (λ fault old calls new. PoolRoundStops fault old.members calls new.members)
 
 -- the workload's lines ran over a new driver of a core, this is what came of it, and the tally is that of the core at the end
 pub record RunOverCore (workload : Workload) (report : Report) : Type 0 where

@@ -1,4 +1,4 @@
--- A crew: the seats of a running pool, each at a desk with what it is to do next.
+-- A crew: the seats of a running pool, each at a member with what it is to do next.
 use Rattle.std.specs.Prelude.{◌≡◌, ℕ, ◌+◌, ◌==◌, Bool, true, false, List, [], ◌∷◌, map, Result, Ok, Err}
 use Rattle.std.specs.Prelude.{if◌then◌else◌}
 use Rattle.std.specs.List.{AllZip, list_any, range_with_len}
@@ -19,7 +19,7 @@ use Rattle.hp_client.specs.declared.crew.Work.{Work}
 use Rattle.hp_client.specs.declared.crew.Work.TheVariants.{Idle, Call, Resume, Came}
 
 -- a seat, and its work
-pub record DeskState : Type 0 where
+pub record MemberState : Type 0 where
   pub seat : SeatState
   pub work : Work
 
@@ -54,12 +54,12 @@ Does (Call op) old new work = (came : Result Reply CallFault) × (work ≡ Came 
 Does Resume old new work = (came : Result Reply CallFault) × (work ≡ Came came) × Resumed came old new
 Does (Came came) old new work = (new ≡ old) × (work ≡ Came came)
 
--- a desk did its work
-abbrev pub Works : DeskState → DeskState → Type 0
+-- a member did its work
+abbrev pub Works : MemberState → MemberState → Type 0
 Works old new = Does old.work old.seat new.seat new.work
 
--- each desk did its work
-abbrev pub AllWork : List DeskState → List DeskState → Type 0
+-- each member did its work
+abbrev pub AllWork : List MemberState → List MemberState → Type 0
 AllWork old new = AllZip Works old new
 
 -- the first call of the task among these, if there is one
@@ -67,30 +67,30 @@ abbrev pub work_for : (task : ℕ) → List (ℕ × Op) → Work
 work_for task [] = Idle
 work_for task (call ∷ calls) = if call.0 == task then Call call.1 else work_for task calls
 
--- the desk with its call among these, or with nothing to do
-abbrev pub given : List (ℕ × Op) → DeskState → DeskState
-given calls desk = record { seat = desk.seat; work = work_for desk.seat.task calls }
+-- the member with its call among these, or with nothing to do
+abbrev pub given : List (ℕ × Op) → MemberState → MemberState
+given calls member = record { seat = member.seat; work = work_for member.seat.task calls }
 
--- the desk that is to go on with its call in flight
-abbrev pub resuming : DeskState → DeskState
-resuming desk = record { seat = desk.seat; work = Resume }
+-- the member that is to go on with its call in flight
+abbrev pub resuming : MemberState → MemberState
+resuming member = record { seat = member.seat; work = Resume }
 
--- whether the task has a desk
-abbrev pub has_desk : (task : ℕ) → List DeskState → Bool
-has_desk task desks = list_any (λ (d : DeskState). d.seat.task == task) desks
+-- whether the task has a member
+abbrev pub has_member : (task : ℕ) → List MemberState → Bool
+has_member task members = list_any (λ (d : MemberState). d.seat.task == task) members
 
--- the work at the task's desk; nothing, where it has none
-abbrev pub work_at : (task : ℕ) → List DeskState → Work
+-- the work at the task's member; nothing, where it has none
+abbrev pub work_at : (task : ℕ) → List MemberState → Work
 work_at task [] = Idle
-work_at task (desk ∷ desks) = if desk.seat.task == task then desk.work else work_at task desks
+work_at task (member ∷ members) = if member.seat.task == task then member.work else work_at task members
 
--- the seats of the desks
-abbrev pub seats_at : List DeskState → List SeatState
-seats_at desks = map (λ (d : DeskState). d.seat) desks
+-- the seats of the members
+abbrev pub seats_at : List MemberState → List SeatState
+seats_at members = map (λ (d : MemberState). d.seat) members
 
--- the desks of these seats, which have nothing to do
-abbrev pub desks_of : List SeatState → List DeskState
-desks_of seats = map (λ (s : SeatState). record { seat = s; work = Idle }) seats
+-- the members of these seats, which have nothing to do
+abbrev pub members_of : List SeatState → List MemberState
+members_of seats = map (λ (s : SeatState). record { seat = s; work = Idle }) seats
 
 -- the seats of the tasks from 1 to n, which made no entry yet
 abbrev pub new_seats : ℕ → List SeatState
@@ -98,9 +98,9 @@ new_seats n = map (λ task. new_seat (task + 1)) (range_with_len 0 n)
 
 -- Whatever carries a crew through its work does nothing else, and can always be called.
 module _ {F C R : Type 0} (g : Shared F (MutBor C × (Bor R × Unit {0})) (Unit {0} × (MutBor C × Unit {0})))
-    (desks : C → List DeskState) where
+    (members : C → List MemberState) where
   abbrev pub AllRun : Type 0
   AllRun =
       (f : F) (crew : MutBor C) (rt : Bor R)
       → g.pre f (crew, (rt, tt))
-      × ((after : MutBor C) → g.post f (crew, (rt, tt)) (tt, (after, tt)) → AllWork (desks crew.now) (desks after.now))
+      × ((after : MutBor C) → g.post f (crew, (rt, tt)) (tt, (after, tt)) → AllWork (members crew.now) (members after.now))

@@ -5,7 +5,7 @@ ghost use Rattle.hp_core.specs.State.{CoreState};
 ghost use Rattle.hp_shared.specs.Journal.{IsCameTo};
 ghost use Rattle.hp_shared.specs.Seats.{AllSeated, new_seat};
 ghost use Rattle.hp_shared.specs.States.{tally_of};
-ghost use Rattle.hp_client.specs.Crew.{AllWork, Works, given, resuming, has_desk, work_at, work_for, desks_of, new_seats, seats_at};
+ghost use Rattle.hp_client.specs.Crew.{AllWork, Works, given, resuming, has_member, work_at, work_for, members_of, new_seats, seats_at};
 ghost use Rattle.hp_client.specs.PoolRounds.{AreSeated, answer_of, end_of, AreEnded, FirstUnended};
 
 use crate::fault::ClientFault;
@@ -32,25 +32,25 @@ pub enum Work {
 
 // A seat, and its work.
 #[derive(Drop)]
-struct Desk<L: Ledger> {
+struct Member<L: Ledger> {
     seat: Seat<L>,
     work: Work,
 }
 
-impl<L: Ledger> Model for Desk<L> {
-    ghost use Rattle.hp_client.specs.Crew.{DeskState};
+impl<L: Ledger> Model for Member<L> {
+    ghost use Rattle.hp_client.specs.Crew.{MemberState};
 
-    ghost Value = { DeskState };
+    ghost Value = { MemberState };
 
     ghost view = { λ d. record { seat = d.seat; work = d.work } };
 }
 
-impl<L: Ledger> Desk<L> {
-    // Does the desk's work, hold by hold.
+impl<L: Ledger> Member<L> {
+    // Does the member's work, hold by hold.
     fn run<G: Gate, R: Wait>(&mut self, hold: &Halting<'_, L>, gate: &G, rt: &R)
         ensures { Works self.old self.new }
     {
-        let Desk { seat, work } = self;
+        let Member { seat, work } = self;
         match *work {
             Work::Call(op) => *work = Work::Came(call(hold, rt, seat, op, gate)),
             Work::Resume => *work = Work::Came(resume(hold, rt, seat, gate)),
@@ -62,29 +62,29 @@ impl<L: Ledger> Desk<L> {
 /// Seats with what each is to do: who gives them calls, and asks what came of them, needs to know no more.
 pub trait Team {
     ghost use Rattle.std.specs.Prelude.{List};
-    ghost use Rattle.hp_client.specs.Crew.{DeskState};
+    ghost use Rattle.hp_client.specs.Crew.{MemberState};
 
-    ghost desks: { Self → List DeskState };
+    ghost members: { Self → List MemberState };
 
     /// Gives each call to the seat of its task, and nothing to the others. Where a task has no seat, nothing is given.
     fn give(&mut self, calls: &[(Task, Op)]) -> Result<(), Refusal>
-        ensures ok { OnOk result (desks self.new ≡ map (given calls.now) (desks self.old)) }
-        ensures seated { OnOk result (AreSeated (desks self.old) calls.now) }
-        ensures err { IfErr result (λ why. (why ≡ Refusal.NotAlive) × (desks self.new ≡ desks self.old)) }
-        ensures unseated { IfErr result (λ _. ¬ (AreSeated (desks self.old) calls.now)) };
+        ensures ok { OnOk result (members self.new ≡ map (given calls.now) (members self.old)) }
+        ensures seated { OnOk result (AreSeated (members self.old) calls.now) }
+        ensures err { IfErr result (λ why. (why ≡ Refusal.NotAlive) × (members self.new ≡ members self.old)) }
+        ensures unseated { IfErr result (λ _. ¬ (AreSeated (members self.old) calls.now)) };
 
     /// Tells each seat to go on with its call in flight.
     fn resume_all(&mut self)
-        ensures { desks self.new ≡ map resuming (desks self.old) };
+        ensures { members self.new ≡ map resuming (members self.old) };
 
     /// What came of the task's call: its answer, or why there is none.
     fn answer_of(&self, task: Task) -> Result<Answer, ClientFault>
-        ensures { result ≡ answer_of (work_at task (desks self.now)) };
+        ensures { result ≡ answer_of (work_at task (members self.now)) };
 
     /// Whether each call in flight came to its end, or why the first, in the seats' order, didn't.
     fn finished(&self) -> Result<(), ClientFault>
-        ensures ok { OnOk result (AreEnded (desks self.now)) }
-        ensures err { IfErr result (λ fault. FirstUnended (desks self.now) fault) };
+        ensures ok { OnOk result (AreEnded (members self.now)) }
+        ensures err { IfErr result (λ fault. FirstUnended (members self.now) fault) };
 
     /// The numbers of the pool, read in one hold that changes nothing.
     fn tally<R: Wait>(&self, rt: &R) -> Tally
@@ -96,7 +96,7 @@ pub trait Team {
 pub struct Crew<L: Ledger, G> {
     shared: Shared<L>,
     gate: G,
-    desks: Vec<Desk<L>>,
+    members: Vec<Member<L>>,
 }
 
 // The first call of the task among these, if there is one.
@@ -111,45 +111,45 @@ fn work_for(task: Task, calls: &[(Task, Op)]) -> Work
     Work::Idle
 }
 
-// Whether the task has a desk.
-fn has_desk<L: Ledger>(desks: &[Desk<L>], task: Task) -> bool
-    ensures { result ≡ has_desk task desks.now }
+// Whether the task has a member.
+fn has_member<L: Ledger>(members: &[Member<L>], task: Task) -> bool
+    ensures { result ≡ has_member task members.now }
 {
-    desks.iter().any(|desk| desk.seat.task() == task)
+    members.iter().any(|member| member.seat.task() == task)
 }
 
-// Whether each of the calls' tasks has a desk.
-fn are_seated<L: Ledger>(desks: &[Desk<L>], calls: &[(Task, Op)]) -> bool
-    ensures { IsTrue result ↔ AreSeated desks.now calls.now }
+// Whether each of the calls' tasks has a member.
+fn are_seated<L: Ledger>(members: &[Member<L>], calls: &[(Task, Op)]) -> bool
+    ensures { IsTrue result ↔ AreSeated members.now calls.now }
 {
-    calls.iter().all(|call| has_desk(desks, call.0))
+    calls.iter().all(|call| has_member(members, call.0))
 }
 
-// Gives each desk the call of its task, or nothing.
-fn give_calls<L: Ledger>(desks: &mut [Desk<L>], calls: &[(Task, Op)])
-    ensures { desks.new ≡ map (given calls.now) desks.old }
+// Gives each member the call of its task, or nothing.
+fn give_calls<L: Ledger>(members: &mut [Member<L>], calls: &[(Task, Op)])
+    ensures { members.new ≡ map (given calls.now) members.old }
 {
-    for desk in desks.iter_mut() {
-        desk.work = work_for(desk.seat.task(), calls);
+    for member in members.iter_mut() {
+        member.work = work_for(member.seat.task(), calls);
     }
 }
 
-// Tells each desk to go on with its call in flight.
-fn resume_desks<L: Ledger>(desks: &mut [Desk<L>])
-    ensures { desks.new ≡ map resuming desks.old }
+// Tells each member to go on with its call in flight.
+fn resume_members<L: Ledger>(members: &mut [Member<L>])
+    ensures { members.new ≡ map resuming members.old }
 {
-    for desk in desks.iter_mut() {
-        desk.work = Work::Resume;
+    for member in members.iter_mut() {
+        member.work = Work::Resume;
     }
 }
 
-// The work at the task's desk.
-fn work_at<L: Ledger>(desks: &[Desk<L>], task: Task) -> Work
-    ensures { result ≡ work_at task desks.now }
+// The work at the task's member.
+fn work_at<L: Ledger>(members: &[Member<L>], task: Task) -> Work
+    ensures { result ≡ work_at task members.now }
 {
-    for desk in desks {
-        if desk.seat.task() == task {
-            return desk.work;
+    for member in members {
+        if member.seat.task() == task {
+            return member.work;
         }
     }
     Work::Idle
@@ -181,31 +181,31 @@ fn end_of(work: Work) -> Result<(), ClientFault>
 }
 
 // Whether all came to their ends, or why the first didn't.
-fn all_ended<L: Ledger>(desks: &[Desk<L>]) -> Result<(), ClientFault>
-    ensures ok { OnOk result (AreEnded desks.now) }
-    ensures err { IfErr result (λ fault. FirstUnended desks.now fault) }
+fn all_ended<L: Ledger>(members: &[Member<L>]) -> Result<(), ClientFault>
+    ensures ok { OnOk result (AreEnded members.now) }
+    ensures err { IfErr result (λ fault. FirstUnended members.now fault) }
 {
-    for desk in desks {
-        end_of(desk.work)?;
+    for member in members {
+        end_of(member.work)?;
     }
     Ok(())
 }
 
-// Does the work of all desks at once, that of each in a thread of its own. Who has nothing to do needs none.
-#[cycle(desks)]
-fn run_desks<L: Ledger + Send + Sync, G: Gate + Sync, R: Threads + Wait + Sync>(
+// Does the work of all members at once, that of each in a thread of its own. Who has nothing to do needs none.
+#[cycle(members)]
+fn run_members<L: Ledger + Send + Sync, G: Gate + Sync, R: Threads + Wait + Sync>(
     hold: &Halting<'_, L>,
     gate: &G,
-    desks: &mut [Desk<L>],
+    members: &mut [Member<L>],
     rt: &R,
 )
-    ensures { AllWork desks.old desks.new }
+    ensures { AllWork members.old members.new }
 {
-    let Some((first, rest)) = desks.split_first_mut() else {
+    let Some((first, rest)) = members.split_first_mut() else {
         return;
     };
     if matches!(first.work, Work::Idle | Work::Came(_)) {
-        run_desks(hold, gate, rest, rt);
+        run_members(hold, gate, rest, rt);
         return;
     }
     join_mut(
@@ -217,31 +217,31 @@ fn run_desks<L: Ledger + Send + Sync, G: Gate + Sync, R: Threads + Wait + Sync>(
         &mut ||
             requires { IsSync R.row × IsSync G.row × IsSend L.row × IsSync L.row }
             ensures { AllWork rest.entry.now rest.exit.now }
-        { run_desks(hold, gate, rest, rt) },
+        { run_members(hold, gate, rest, rt) },
     );
 }
 
-// A desk for each seat, with nothing to do.
-fn desks_of<L: Ledger>(alloc: Global, seats: Vec<Seat<L>>) -> Result<Vec<Desk<L>>, AllocError>
-    ensures { IfOk result (λ desks. desks.items ≡ desks_of seats.items) }
+// A member for each seat, with nothing to do.
+fn members_of<L: Ledger>(alloc: Global, seats: Vec<Seat<L>>) -> Result<Vec<Member<L>>, AllocError>
+    ensures { IfOk result (λ members. members.items ≡ members_of seats.items) }
 {
     seats
         .into_iter()
-        .map(|seat| Desk {
+        .map(|seat| Member {
             seat,
             work: Work::Idle,
         })
         .collect(alloc)
 }
 
-// The seats of the desks, in room that was made before.
-fn seats_at<L: Ledger>(desks: Vec<Desk<L>>, seats: &mut Vec<Seat<L>>)
+// The seats of the members, in room that was made before.
+fn seats_at<L: Ledger>(members: Vec<Member<L>>, seats: &mut Vec<Seat<L>>)
     requires empty { seats.old.items ≡ [] }
-    requires room { length desks.items ≤ vec_capacity seats.old }
-    ensures { seats.new.items ≡ seats_at desks.items }
+    requires room { length members.items ≤ vec_capacity seats.old }
+    ensures { seats.new.items ≡ seats_at members.items }
 {
-    for desk in desks {
-        let Desk { seat, work: _ } = desk;
+    for member in members {
+        let Member { seat, work: _ } = member;
         seats.push_reserved(seat);
     }
 }
@@ -255,15 +255,15 @@ impl<L: Ledger, G: Drop> Crew<L, G> {
         gate: G,
     ) -> Result<Crew<L, G>, AllocError>
         requires { AllSeated shared.tasks seats.items }
-        ensures desks { IfOk result (λ crew. crew.desks.items ≡ desks_of seats.items) }
+        ensures members { IfOk result (λ crew. crew.members.items ≡ members_of seats.items) }
         ensures tasks { IfOk result (λ crew. crew.shared.tasks ≡ shared.tasks) }
         ensures gate { IfOk result (λ crew. crew.gate ≡ gate) }
     {
-        let desks = desks_of(alloc, seats)?;
+        let members = members_of(alloc, seats)?;
         Ok(Crew {
             shared,
             gate,
-            desks,
+            members,
         })
     }
 
@@ -277,7 +277,7 @@ impl<L: Ledger, G: Drop> Crew<L, G> {
         requires name { blank.name ≡ L.name }
         requires parts { (blank.parts ≡ L.parts) × (blank.parts ≡ config.tasks) }
         ensures tasks { IfOk result (λ crew. crew.shared.tasks ≡ config.tasks) }
-        ensures desks { IfOk result (λ crew. crew.desks.items ≡ desks_of (new_seats config.tasks)) }
+        ensures members { IfOk result (λ crew. crew.members.items ≡ members_of (new_seats config.tasks)) }
         ensures gate { IfOk result (λ crew. crew.gate ≡ gate) }
     {
         let (shared, seats) = Shared::new(alloc, blank, config)?;
@@ -294,19 +294,19 @@ impl<L: Ledger, G: Drop> Crew<L, G> {
     /// The pool, its seats, and the gate. Where there is no memory for the list of seats, the crew is as it was.
     pub fn into_parts(self, alloc: Global) -> Result<(Shared<L>, Vec<Seat<L>>, G), Crew<L, G>>
         ensures pool { IfOk result (λ parts. parts.0 ≡ self.shared) }
-        ensures seats { IfOk result (λ parts. parts.1.items ≡ seats_at self.desks.items) }
+        ensures seats { IfOk result (λ parts. parts.1.items ≡ seats_at self.members.items) }
         ensures gate { IfOk result (λ parts. parts.2 ≡ self.gate) }
         ensures err { IfErr result (λ back. back ≡ self) }
     {
-        let Ok(mut seats) = Vec::with_capacity(alloc, self.desks.len()) else {
+        let Ok(mut seats) = Vec::with_capacity(alloc, self.members.len()) else {
             return Err(self);
         };
         let Crew {
             shared,
             gate,
-            desks,
+            members,
         } = self;
-        seats_at(desks, &mut seats);
+        seats_at(members, &mut seats);
         Ok((shared, seats, gate))
     }
 }
@@ -315,38 +315,38 @@ impl<L: Ledger + Send + Sync, G: Gate + Sync> Crew<L, G> {
     /// Does what each seat was given, at once. It returns when all came to an end. Where one finds no memory all others stop, since
     /// some may wait for it: they stay in flight.
     pub fn run<R: Threads + Wait + Sync>(&mut self, rt: &R)
-        ensures { AllWork self.old.desks.items self.new.desks.items }
+        ensures { AllWork self.old.members.items self.new.members.items }
     {
         let Crew {
             shared,
             gate,
-            desks,
+            members,
         } = self;
-        run_desks(&Halting::new(shared), gate, desks.as_mut_slice(), rt);
+        run_members(&Halting::new(shared), gate, members.as_mut_slice(), rt);
     }
 }
 
 impl<L: Ledger, G> Team for Crew<L, G> {
-    ghost desks = { λ crew. crew.desks.items };
+    ghost members = { λ crew. crew.members.items };
 
     fn give(&mut self, calls: &[(Task, Op)]) -> Result<(), Refusal> {
-        if !are_seated(self.desks.as_slice(), calls) {
+        if !are_seated(self.members.as_slice(), calls) {
             return Err(Refusal::NotAlive);
         }
-        give_calls(self.desks.as_mut_slice(), calls);
+        give_calls(self.members.as_mut_slice(), calls);
         Ok(())
     }
 
     fn resume_all(&mut self) {
-        resume_desks(self.desks.as_mut_slice());
+        resume_members(self.members.as_mut_slice());
     }
 
     fn answer_of(&self, task: Task) -> Result<Answer, ClientFault> {
-        answer_of(work_at(self.desks.as_slice(), task))
+        answer_of(work_at(self.members.as_slice(), task))
     }
 
     fn finished(&self) -> Result<(), ClientFault> {
-        all_ended(self.desks.as_slice())
+        all_ended(self.members.as_slice())
     }
 
     fn tally<R: Wait>(&self, rt: &R) -> Tally {

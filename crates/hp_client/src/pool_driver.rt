@@ -33,9 +33,9 @@ fn tell_answers<C: Team>(
 ) -> Result<(), ClientFault>
     requires empty { answers.old.items ≡ [] }
     requires room { length calls.now ≤ vec_capacity answers.old }
-    ensures ok { OnOk result (AreAnswers (C.desks crew.now) calls.now answers.new.items) }
+    ensures ok { OnOk result (AreAnswers (C.members crew.now) calls.now answers.new.items) }
     ensures each { OnOk result (length answers.new.items ≡ length calls.now) }
-    ensures err { IfErr result (λ fault. FirstUnanswered (C.desks crew.now) calls.now fault) }
+    ensures err { IfErr result (λ fault. FirstUnanswered (C.members crew.now) calls.now fault) }
 {
     for call in calls {
         answers.push_reserved(crew.answer_of(call.0)?);
@@ -77,22 +77,22 @@ impl<'a, C, R, F: Drop> PoolDriver<'a, C, R, F> {
 impl<'a, C: Team, R: Wait, F: Fn(&mut C, &R)> Driver for PoolDriver<'a, C, R, F> {
     ghost heard_by = { λ driver. driver.heard.items };
 
-    ghost makes = { λ old calls answers new. PoolRound (C.desks old.crew) calls answers (C.desks new.crew) };
+    ghost makes = { λ old calls answers new. PoolRound (C.members old.crew) calls answers (C.members new.crew) };
 
-    ghost stops = { λ fault old calls new. PoolRoundStops fault (C.desks old.crew) calls (C.desks new.crew) };
+    ghost stops = { λ fault old calls new. PoolRoundStops fault (C.members old.crew) calls (C.members new.crew) };
 
     ghost can_tell = { λ driver tally. (core : CoreState) × IsCameTo core × (tally ≡ tally_of core) };
 
-    ghost rests_on = { AllRun F.Fn C.desks };
+    ghost rests_on = { AllRun F.Fn C.members };
 
     fn round(&mut self, alloc: Global, calls: &[(Task, Op)]) -> Result<Vec<Answer>, ClientFault>
         requires apart { AreApart calls.now }
-        requires rests { AllRun F.Fn C.desks }
+        requires rests { AllRun F.Fn C.members }
         ensures answers { IfOk result (λ answers. length answers.items ≡ length calls.now) }
         ensures heard { IfOk result (λ answers. self.new.heard.items ≡ self.old.heard.items ++ heard_of calls.now answers.items) }
         ensures err { OnErr result (self.new.heard.items ≡ self.old.heard.items) }
-        ensures round { IfOk result (λ answers. PoolRound (C.desks self.old.crew) calls.now answers.items (C.desks self.new.crew)) }
-        ensures stopped { IfErr result (λ fault. PoolRoundStops fault (C.desks self.old.crew) calls.now (C.desks self.new.crew)) }
+        ensures round { IfOk result (λ answers. PoolRound (C.members self.old.crew) calls.now answers.items (C.members self.new.crew)) }
+        ensures stopped { IfErr result (λ fault. PoolRoundStops fault (C.members self.old.crew) calls.now (C.members self.new.crew)) }
     {
         self.heard.reserve(calls.len())?;
         let mut answers = Vec::with_capacity(alloc, calls.len())?;
@@ -106,10 +106,10 @@ impl<'a, C: Team, R: Wait, F: Fn(&mut C, &R)> Driver for PoolDriver<'a, C, R, F>
     }
 
     fn finish(&mut self, _alloc: Global) -> Result<(), ClientFault>
-        requires rests { AllRun F.Fn C.desks }
+        requires rests { AllRun F.Fn C.members }
         ensures heard { self.new.heard.items ≡ self.old.heard.items }
-        ensures ended { OnOk result (Finished (C.desks self.old.crew) (C.desks self.new.crew)) }
-        ensures stopped { IfErr result (λ fault. FinishFails fault (C.desks self.old.crew) (C.desks self.new.crew)) }
+        ensures ended { OnOk result (Finished (C.members self.old.crew) (C.members self.new.crew)) }
+        ensures stopped { IfErr result (λ fault. FinishFails fault (C.members self.old.crew) (C.members self.new.crew)) }
     {
         self.crew.resume_all();
         (self.run)(&mut self.crew, self.rt);

@@ -64,7 +64,7 @@ fn advance(core: &mut Core, asked: &mut Asked) -> Result<bool, AllocError>
     ensures blocked { result ≡ Ok false → AreBlocked core.old (asked.old ∷ []) core.new }
     ensures nearer { IfOk result (λ moved. left_to_all (as_state core.new) + bit moved ≤ left_to_all (as_state core.old)) }
     ensures same { OnErr result (core.new ≡ core.old) }
-    ensures wanted { OnErr result (WantsGrowth core.old.parts core.old.seats (Step asked.old.task true)) }
+    ensures wanted { OnErr result (WantsGrowth core.old.parts core.old.task_states (Step asked.old.task true)) }
 {
     if asked.answer.is_some() {
         return Ok(false);

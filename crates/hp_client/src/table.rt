@@ -20,7 +20,7 @@ pub enum Ask {
 
 /// An answer, with its number.
 #[derive(Clone, Copy, Debug, PartialEq, Eq)]
-pub enum Wanted {
+pub enum Allowed {
     Mapped(u32),
     Word(u64),
     Done,
@@ -30,14 +30,14 @@ pub enum Wanted {
 
 /// A task's call, and the one answer that is allowed.
 #[derive(Clone, Copy, Debug, PartialEq, Eq)]
-pub struct Row(pub u32, pub Ask, pub Wanted);
+pub struct Row(pub u32, pub Ask, pub Allowed);
 
 /// A line of a table: a round of one call, or of two, or a `fallocate` with its task, file, mode, offset and length.
 #[derive(Clone, Copy, Debug, PartialEq, Eq)]
 pub enum Line {
     Call(Row),
     Race(Row, Row),
-    Fallocate(u32, u32, u32, u64, u64, Wanted),
+    Fallocate(u32, u32, u32, u64, u64, Allowed),
 }
 
 /// The sizes of the pool that a workload is for: its frames, files and tasks. All have four slots.
@@ -54,9 +54,9 @@ pub(crate) struct Table {
     pub lines: &'static [Line],
 }
 
+use Allowed::{Beyond, Done, Mapped, NoFrame, Word};
 use Ask::{Alloc, Load, Map, MapNoReserve, Punch, Store, Truncate, Unmap};
 use Line::{Call, Fallocate, Race};
-use Wanted::{Beyond, Done, Mapped, NoFrame, Word};
 
 const READBACK: Table = Table {
     name: "readback",

@@ -9,7 +9,7 @@ ghost use Rattle.hp_client.specs.Judging.{Judges};
 use crate::bytes::fallocate;
 use crate::driver::Driver;
 use crate::fault::ClientFault;
-use crate::table::{Ask, Line, Pool, Wanted, Workload};
+use crate::table::{Allowed, Ask, Line, Pool, Workload};
 use hp_base::{Answer, Config, File, Index, Op, Task, Vpn};
 use hp_core::Tally;
 use std::alloc::Global;
@@ -75,26 +75,26 @@ fn op_of(ask: Ask) -> Op
 }
 
 // An answer of a table.
-fn answer_of(wanted: Wanted) -> Answer
-    ensures { result ≡ answer_of wanted }
+fn answer_of(allowed: Allowed) -> Answer
+    ensures { result ≡ answer_of allowed }
 {
-    match wanted {
-        Wanted::Mapped(base) => Answer::Mapped(Vpn::new(base)),
-        Wanted::Word(word) => Answer::Word(word),
-        Wanted::Done => Answer::Done,
-        Wanted::Beyond => Answer::Beyond,
-        Wanted::NoFrame => Answer::NoFrame,
+    match allowed {
+        Allowed::Mapped(base) => Answer::Mapped(Vpn::new(base)),
+        Allowed::Word(word) => Answer::Word(word),
+        Allowed::Done => Answer::Done,
+        Allowed::Beyond => Answer::Beyond,
+        Allowed::NoFrame => Answer::NoFrame,
     }
 }
 
 // Judges one more answer.
-fn judge(judged: &mut Judged, given: Answer, wanted: Wanted)
+fn judge(judged: &mut Judged, given: Answer, allowed: Allowed)
     requires { judged.old.calls < 100 }
     ensures calls { judged.new.calls ≡ judged.old.calls + 1 }
-    ensures judges { (tried : Tried) → Judges tried judged.old → Judges (tried ++ (given, answer_of wanted) ∷ []) judged.new }
+    ensures judges { (tried : Tried) → Judges tried judged.old → Judges (tried ++ (given, answer_of allowed) ∷ []) judged.new }
 {
     judged.calls += 1;
-    if given == answer_of(wanted) {
+    if given == answer_of(allowed) {
         return;
     }
     if judged.bad.is_none() {
@@ -131,10 +131,10 @@ fn run_line<D: Driver>(
             judge(judged, given[0], first.2);
             judge(judged, given[1], second.2);
         }
-        Line::Fallocate(task, file, bits, offset, len, wanted) => {
+        Line::Fallocate(task, file, bits, offset, len, allowed) => {
             let (task, file) = (Task::new(task), File::new(file));
             let given = fallocate(driver, alloc, task, file, bits, offset, len)?;
-            judge(judged, given, wanted);
+            judge(judged, given, allowed);
         }
     }
     Ok(())
@@ -166,13 +166,13 @@ fn run_lines<D: Driver>(
 }
 
 // The first call with another answer than the table's, or one more than there are where only the tally differs.
-fn first_bad(judged: Judged, told: Tally, wanted: Tally) -> Option<u32>
+fn first_bad(judged: Judged, told: Tally, allowed: Tally) -> Option<u32>
     requires { judged.calls ≤ 100 }
-    ensures { (tried : Tried) → Judges tried judged → IsBad tried told wanted result }
+    ensures { (tried : Tried) → Judges tried judged → IsBad tried told allowed result }
 {
     match judged.bad {
         Some(number) => Some(number),
-        None if told != wanted => Some(judged.calls + 1),
+        None if told != allowed => Some(judged.calls + 1),
         None => None,
     }
 }

@@ -25,15 +25,15 @@ use Rattle.hp_laws.proofs.Waiting.{blocked_by_holder}
 use Rattle.hp_parts.specs.State.{PartsState}
 use Rattle.hp_parts.specs.View.{pool_of}
 use Rattle.hp_parts.specs.Turns.{IfBlocked, IfWanting}
-use Rattle.hp_core.specs.declared.seat.Seat.{Seat}
-use Rattle.hp_core.specs.State.{CoreState, seat_at, as_state, state_with, calls_of}
+use Rattle.hp_core.specs.declared.task_state.TaskState.{TaskState}
+use Rattle.hp_core.specs.State.{CoreState, task_state_at, as_state, state_with, calls_of}
 use Rattle.hp_core.specs.Fits.{EventFits}
-use Rattle.hp_core.specs.Seats.{StepSeats, EventSeats, BlockedStays}
+use Rattle.hp_core.specs.TaskStates.{StepTaskStates, EventTaskStates, BlockedStays}
 use Rattle.hp_core.specs.Sound.{IsSound}
 use Rattle.hp_core.specs.Runs.{IsIdle}
 use Rattle.hp_core.specs.Turns.{Settles, IfToldBlocked, IfToldRefused}
 use Rattle.hp_core.proofs.Headlines.{reached_of}
-use Rattle.hp_core.proofs.Seats.{by_test, by_option}
+use Rattle.hp_core.proofs.TaskStates.{by_test, by_option}
 use Rattle.hp_core.proofs.Steps.{event_row, with_fields}
 
 -- where nothing is asked of a blocked outcome, each will do
@@ -72,12 +72,12 @@ settled_blocked inflight here Q w (Ok turn) result next h b =
 settled_blocked inflight here Q w (Err stopped) (Err e) next h b = tt
 settled_blocked inflight here Q w (Err stopped) (Ok told) next h b = (let no = h.0 in absurd (cc))
 
--- so it is of a seat that has the call
-pub seat_blocked : (result : Result Outcome AllocError) (o : Option Call) (c : Call) (Q : Type 0) (next : Option Call) → o ≡ Some c
+-- so it is of a task state that has the call
+pub task_state_blocked : (result : Result Outcome AllocError) (o : Option Call) (c : Call) (Q : Type 0) (next : Option Call) → o ≡ Some c
     → IfOk result (λ told. IfToldBlocked told (IfWanting (standing c).wants (Q × (next ≡ Some c))))
     → IfOk result (λ told. IfToldBlocked told (IfSome o (λ call. IfWanting (standing call).wants (Q × (next ≡ Some call)))))
-seat_blocked (Err e) o c Q next was h = tt
-seat_blocked (Ok told) o c Q next was h =
+task_state_blocked (Err e) o c Q next was h = tt
+task_state_blocked (Ok told) o c Q next was h =
     subst (λ (x : Option Call). IfToldBlocked told (IfSome x (λ call. IfWanting (standing call).wants (Q × (next ≡ Some call)))))
     (sym was) h
 
@@ -102,11 +102,11 @@ unguarded (Lock f) Q some h = h
 unguarded (Slot f i) Q some h = h
 
 -- what holds of calls that want something holds of one that wants a slot or a lock
-wanting : (o : Option Call) (Q : Type 0) → ((k : ℕ × ℕ) × (wants_slot o ≡ Some k)) ⊎ ((f : ℕ) × (wants_lock o ≡ Some f))
+acquiring : (o : Option Call) (Q : Type 0) → ((k : ℕ × ℕ) × (wants_slot o ≡ Some k)) ⊎ ((f : ℕ) × (wants_lock o ≡ Some f))
     → IfSome o (λ c. IfWanting (standing c).wants Q) → Q
-wanting None Q (inl k) h = (let d : ◌≡◌ {A = Option (ℕ × ℕ)} None (Some k.0) = k.1 in absurd (cc))
-wanting None Q (inr f) h = (let d : ◌≡◌ {A = Option ℕ} None (Some f.0) = f.1 in absurd (cc))
-wanting (Some c) Q some h = unguarded (standing c).wants Q some h
+acquiring None Q (inl k) h = (let d : ◌≡◌ {A = Option (ℕ × ℕ)} None (Some k.0) = k.1 in absurd (cc))
+acquiring None Q (inr f) h = (let d : ◌≡◌ {A = Option ℕ} None (Some f.0) = f.1 in absurd (cc))
+acquiring (Some c) Q some h = unguarded (standing c).wants Q some h
 
 -- who is held up wants something
 wants_of : (s : State) (u t : ℕ) → HoldsUp s u t
@@ -145,49 +145,49 @@ not_marked : {X : Type 0} (o : Outcome) (why : Refusal) → o ≡ outcome.Refuse
 not_marked o why e d = (let z : outcome.Refused why ≡ outcome.Marked = sym e ∙ d in absurd (cc))
 
 -- a refused event changed nothing
-refused_same : (p after : PartsState) (seats new : List Seat) (event : Event) (o : Outcome) (why : Refusal)
-    → EventSeats p seats event o after new → o ≡ outcome.Refused why → (after ≡ p) × (new ≡ seats)
-unfolding EventSeats StepSeats
-refused_same p after seats new (Begin t op) o why row e = (
+refused_same : (p after : PartsState) (task_states new : List TaskState) (event : Event) (o : Outcome) (why : Refusal)
+    → EventTaskStates p task_states event o after new → o ≡ outcome.Refused why → (after ≡ p) × (new ≡ task_states)
+unfolding EventTaskStates StepTaskStates
+refused_same p after task_states new (Begin t op) o why row e = (
   row.1,
-  by_test (is_dead (seat_at seats t).life) row.0
+  by_test (is_dead (task_state_at task_states t).life) row.0
       (λ _ r. r.1)
-      (λ _ r. by_option (seat_at seats t).call r
-      (λ _ r. by_test (is_killed (seat_at seats t).life && not (rows.is_exit op)) r (λ _ r. r.1) (λ _ r. not_begun o why e r.0))
+      (λ _ r. by_option (task_state_at task_states t).call r
+      (λ _ r. by_test (is_killed (task_state_at task_states t).life && not (rows.is_exit op)) r (λ _ r. r.1) (λ _ r. not_begun o why e r.0))
       (λ c _ r. r.1)),
 )
-refused_same p after seats new (Kill t) o why row e =
-    (row.1, by_test (is_alive (seat_at seats t).life) row.0 (λ _ r. not_marked o why e r.0) (λ _ r. r.1))
-refused_same p after seats new (Resize frames) o why row e =
+refused_same p after task_states new (Kill t) o why row e =
+    (row.1, by_test (is_alive (task_state_at task_states t).life) row.0 (λ _ r. not_marked o why e r.0) (λ _ r. r.1))
+refused_same p after task_states new (Resize frames) o why row e =
     (subst (λ (told : Outcome). IfToldRefused told (after ≡ p)) e row.1, row.2)
-refused_same p after seats new (Step t grant) o why row e = by_test (is_dead (seat_at seats t).life) row
+refused_same p after task_states new (Step t grant) o why row e = by_test (is_dead (task_state_at task_states t).life) row
     (λ _ r. (r.1, r.0.1))
-    (λ _ r. by_option (seat_at seats t).call r
+    (λ _ r. by_option (task_state_at task_states t).call r
     (λ _ r. (r.1, r.0.1))
-    (λ c _ r. call_not_refused (pool_of p) t (is_killed (seat_at seats t).life) grant c o (pool_of after) r.0.call why r.1 e))
+    (λ c _ r. call_not_refused (pool_of p) t (is_killed (task_state_at task_states t).life) grant c o (pool_of after) r.0.call why r.1 e))
 
 -- so did a blocked step
-blocked_same : (s : CoreState) (event : Event) (u : ℕ) (after : PartsState) (new : List Seat) → IsSound s
-    → EventFits s.parts s.seats event → EventSeats s.parts s.seats event (outcome.Blocked u) after new
-    → BlockedStays s.parts s.seats event after new → (after ≡ s.parts) × (new ≡ s.seats)
+blocked_same : (s : CoreState) (event : Event) (u : ℕ) (after : PartsState) (new : List TaskState) → IsSound s
+    → EventFits s.parts s.task_states event → EventTaskStates s.parts s.task_states event (outcome.Blocked u) after new
+    → BlockedStays s.parts s.task_states event after new → (after ≡ s.parts) × (new ≡ s.task_states)
 unfolding calls_of
 blocked_same s (Begin t op) u after new h fits row stays = absurd stays
 blocked_same s (Kill t) u after new h fits row stays = absurd stays
 blocked_same s (Resize frames) u after new h fits row stays = absurd stays
 blocked_same s (Step t grant) u after new h fits row stays =
     let held = blocked_by_holder (as_state s) t grant u (state_with after new) (reached_of s h)
-    (event_row s.parts after s.seats new (Step t grant) (outcome.Blocked u) fits row) in
-    wanting (seat_at s.seats t).call ((after ≡ s.parts) × (new ≡ s.seats)) (wants_of (as_state s) u t held.2) stays
+    (event_row s.parts after s.task_states new (Step t grant) (outcome.Blocked u) fits row) in
+    acquiring (task_state_at s.task_states t).call ((after ≡ s.parts) × (new ≡ s.task_states)) (wants_of (as_state s) u t held.2) stays
 
--- a core with the parts and the seats that it had is that core
-same_fields : (s : CoreState) (after : PartsState) (new : List Seat) → (after ≡ s.parts) × (new ≡ s.seats) → with_fields s after new ≡ s
-same_fields s after new e = λ i. record { sizes = s.sizes; parts = e.0 i; seats = e.1 i; room = s.room }
+-- a core with the parts and the task states that it had is that core
+same_fields : (s : CoreState) (after : PartsState) (new : List TaskState) → (after ≡ s.parts) × (new ≡ s.task_states) → with_fields s after new ≡ s
+same_fields s after new e = λ i. record { sizes = s.sizes; parts = e.0 i; task_states = e.1 i; room = s.room }
 
 -- what comes to nothing leaves the core as it was
-pub idle_result : (s : CoreState) (event : Event) (result : Result Outcome AllocError) (after : PartsState) (new : List Seat)
-    → IsSound s → EventFits s.parts s.seats event
-    → IfOk result (λ told. EventSeats s.parts s.seats event told after new)
-    → IfOk result (λ told. IfToldBlocked told (BlockedStays s.parts s.seats event after new))
+pub idle_result : (s : CoreState) (event : Event) (result : Result Outcome AllocError) (after : PartsState) (new : List TaskState)
+    → IsSound s → EventFits s.parts s.task_states event
+    → IfOk result (λ told. EventTaskStates s.parts s.task_states event told after new)
+    → IfOk result (λ told. IfToldBlocked told (BlockedStays s.parts s.task_states event after new))
     → IfOk result (λ told. IsIdle told → with_fields s after new ≡ s)
 idle_result s event (Err x) after new h fits row stays = tt
 idle_result s event (Ok outcome.Begun) after new h fits row stays = λ idle. absurd idle
@@ -198,4 +198,4 @@ idle_result s event (Ok (outcome.Resized frames)) after new h fits row stays = �
 idle_result s event (Ok (outcome.Blocked u)) after new h fits row stays =
     λ _. same_fields s after new (blocked_same s event u after new h fits row stays)
 idle_result s event (Ok (outcome.Refused why)) after new h fits row stays =
-    λ _. same_fields s after new (refused_same s.parts after s.seats new event (outcome.Refused why) why row refl)
+    λ _. same_fields s after new (refused_same s.parts after s.task_states new event (outcome.Refused why) why row refl)

@@ -24,11 +24,11 @@ use Rattle.hp_parts.specs.declared.parts.FileState.{FileState}
 use Rattle.hp_parts.specs.State.{PartsState}
 use Rattle.hp_parts.specs.View.{no_file, no_table, table_of, holders_of, sizes_of, pendings_of, spares_of, sets_of, pages_of}
 use Rattle.hp_parts.specs.View.{ready_by_task, mappings_by_task, entries_of, pool_of, geometry_of}
-use Rattle.hp_core.specs.declared.seat.Seat.{Seat}
+use Rattle.hp_core.specs.declared.task_state.TaskState.{TaskState}
 use Rattle.hp_core.specs.Duplicates.{IsSameFile, IsSameTable}
 use Rattle.hp_core.specs.Readers.{calls_of as calls_in}
 use Rattle.hp_core.specs.Sound.{IsSound, IsKept}
-use Rattle.hp_core.specs.State.{CoreState, as_state, calls_of, lives_of, no_seat, state_with}
+use Rattle.hp_core.specs.State.{CoreState, as_state, calls_of, lives_of, no_task_state, state_with}
 use Rattle.hp_core.proofs.Headlines.{reached_of}
 
 -- a list of things with one more, each of which is as it should be beside its source
@@ -147,55 +147,55 @@ are_same p q files spaces bank all_files each_file slots locks all_spaces each_s
   spaces = subst (λ (xs : List Table). AllZip IsSameTable xs q.spaces) all_spaces each_space;
 }
 
--- the same parts and seats are the same state
-pub state_same : (p q : PartsState) (before after : List Seat) → AreSame p q → after ≡ before
+-- the same parts and task states are the same state
+pub state_same : (p q : PartsState) (before after : List TaskState) → AreSame p q → after ≡ before
     → state_with q after ≡ state_with p before
-state_same p q before after same seats = λ i. record {
+state_same p q before after same task_states = λ i. record {
   pool = pool_same p q same i;
-  life = lives_of (seats i);
-  calls = calls_of (seats i);
+  life = lives_of (task_states i);
+  calls = calls_of (task_states i);
 }
 
 -- so it is as sound
-pub still_sound : (s c : CoreState) → IsSound s → AreSame s.parts c.parts → c.seats ≡ s.seats → c.sizes ≡ s.sizes → IsSound c
+pub still_sound : (s c : CoreState) → IsSound s → AreSame s.parts c.parts → c.task_states ≡ s.task_states → c.sizes ≡ s.sizes → IsSound c
 unfolding IsSound
-still_sound s c sound same seats sizes_are =
+still_sound s c sound same task_states sizes_are =
     let kept = sound.1 in
     let P : Sizes → Type 0 = λ z. IsReachedFrom z.frames (as_state c) × IsKept (record c { sizes = z }) in (
       subst (λ (z : Sizes). IsReachedFrom z.frames (as_state c)) (sym sizes_are)
-          (subst (λ (m : State). IsReachedFrom s.sizes.frames m) (sym (state_same s.parts c.parts s.seats c.seats same seats)) sound.0),
+          (subst (λ (m : State). IsReachedFrom s.sizes.frames m) (sym (state_same s.parts c.parts s.task_states c.task_states same task_states)) sound.0),
       subst (λ (z : Sizes). IsKept (record c { sizes = z })) (sym sizes_are) (record {
         locks = ap (λ (xs : List (Option ℕ)). length xs) same.locks ∙ kept.locks ∙ sym (files_long s.parts c.parts same);
         files = files_long s.parts c.parts same ∙ kept.files;
         slots = ap (λ (xs : List (Option ℕ)). length xs) same.slots ∙ kept.slots;
         spaces = spaces_long s.parts c.parts same ∙ kept.spaces;
         quota = ap (λ (b : BankState). b.quota) same.bank ∙ kept.quota;
-        seats = ap (λ (xs : List Seat). length xs) seats ∙ kept.seats;
+        task_states = ap (λ (xs : List TaskState). length xs) task_states ∙ kept.task_states;
         limits = kept.limits;
       }),
     )
 
--- where no seat's call is counted there is none
-pub no_calls : (seats : List Seat) → count_by (λ seat. is_some seat.call) seats ≡ 0 → All (λ seat. seat.call ≡ None) seats
+-- where no task's call is counted there is none
+pub no_calls : (task_states : List TaskState) → count_by (λ task_state. is_some task_state.call) task_states ≡ 0 → All (λ task_state. task_state.call ≡ None) task_states
 no_calls [] none = All-nil _
 no_calls (x ∷ xs) none = by_call x.call refl (λ rest. no_calls xs rest)
   where
     by_call : (o : Option Call) → x.call ≡ o
-        → (count_by (λ (seat : Seat). is_some seat.call) xs ≡ 0 → All (λ (seat : Seat). seat.call ≡ None) xs)
-        → All (λ (seat : Seat). seat.call ≡ None) (x ∷ xs)
-    by_call None e others = All-cons (λ (seat : Seat). seat.call ≡ None) x xs e (others (grind (arith, common_steps)))
+        → (count_by (λ (task_state : TaskState). is_some task_state.call) xs ≡ 0 → All (λ (task_state : TaskState). task_state.call ≡ None) xs)
+        → All (λ (task_state : TaskState). task_state.call ≡ None) (x ∷ xs)
+    by_call None e others = All-cons (λ (task_state : TaskState). task_state.call ≡ None) x xs e (others (grind (arith, common_steps)))
     by_call (Some c) e others = absurd (grind (arith, common_steps))
 
 -- so the core is at rest
-pub at_rest : (s : CoreState) → All (λ seat. seat.call ≡ None) s.seats → IsAtRest (as_state s)
+pub at_rest : (s : CoreState) → All (λ task_state. task_state.call ≡ None) s.task_states → IsAtRest (as_state s)
 unfolding calls_of
 at_rest s none t = elim (same_or_other t 0) [
   | inl e ↦ rw e refl
   | inr d ↦
       let b : (t == 0) ≡ false = ne_eqb t 0 d in
-      rw b (elim (cases_lt (t - 1) (length s.seats)) [
-        | inl l ↦ All-get_or (λ (seat : Seat). seat.call ≡ None) s.seats (t - 1) no_seat l none
-        | inr l ↦ ap (λ (seat : Seat). seat.call) (get_or-eq_default s.seats no_seat l)
+      rw b (elim (cases_lt (t - 1) (length s.task_states)) [
+        | inl l ↦ All-get_or (λ (task_state : TaskState). task_state.call ≡ None) s.task_states (t - 1) no_task_state l none
+        | inr l ↦ ap (λ (task_state : TaskState). task_state.call) (get_or-eq_default s.task_states no_task_state l)
       ])
 ]
 
@@ -213,14 +213,14 @@ no_hands bank none = count_below_none (λ x. is_in_hand (frame_at bank.frames x)
 pub record CanCopy (s : CoreState) : Type 0 where
   pub hands : hand_count s.parts.bank ≡ 0
   pub changes : All (λ (file : FileState). file.map.pending ≡ 0) s.parts.files
-  pub calls : All (λ (seat : Seat). seat.call ≡ None) s.seats
+  pub calls : All (λ (task_state : TaskState). task_state.call ≡ None) s.task_states
 
 -- and finds in each core with no call in flight
 pub can_copy : ((m : State) → IsReached m → IsAtRest m → HoldsNothing m) → (s seen : CoreState) → s ≡ seen → IsSound s
     → calls_in seen ≡ 0 → CanCopy s
 unfolding calls_in
 can_copy law s seen e sound none =
-    let calls = no_calls s.seats (ap (λ (x : CoreState). count_by (λ (seat : Seat). is_some seat.call) x.seats) e ∙ none) in
+    let calls = no_calls s.task_states (ap (λ (x : CoreState). count_by (λ (task_state : TaskState). is_some task_state.call) x.task_states) e ∙ none) in
     let nothing = law (as_state s) (reached_of s sound) (at_rest s calls) in
     record {
       hands = no_hands s.parts.bank nothing.hands;
@@ -229,6 +229,6 @@ can_copy law s seen e sound none =
     }
 
 -- as many calls are counted
-pub calls_counted : (s c : CoreState) → c.seats ≡ s.seats → calls_in c ≡ calls_in s
+pub calls_counted : (s c : CoreState) → c.task_states ≡ s.task_states → calls_in c ≡ calls_in s
 unfolding calls_in
-calls_counted s c seats = ap (λ (xs : List Seat). count_by (λ (seat : Seat). is_some seat.call) xs) seats
+calls_counted s c task_states = ap (λ (xs : List TaskState). count_by (λ (task_state : TaskState). is_some task_state.call) xs) task_states

@@ -20,7 +20,7 @@ use Rattle.hp_core.specs.HeldBack.{HeldBack, refusal_beside, idle_unless, refusa
 use Rattle.hp_core.specs.Runs.{Row, IsIdle}
 use Rattle.hp_core.specs.Waiting.{WaitsFor}
 use Rattle.hp_core.specs.Sound.{IsSound}
-use Rattle.hp_core.proofs.Seats.{by_test}
+use Rattle.hp_core.proofs.TaskStates.{by_test}
 use Rattle.hp_core.proofs.Waits.{waits}
 
 -- nothing is something
@@ -104,7 +104,7 @@ busy : (told wanted : Outcome) → told ≡ wanted → (IsIdle wanted → ⊥) �
 busy told wanted e not_idle idle = not_idle (subst (λ (o : Outcome). IsIdle o) e idle)
 
 -- a refused event may do nothing
-pub refused_row : (s : CoreState) (event : Event) (why : Refusal) → refusal_of s.seats event ≡ Some why
+pub refused_row : (s : CoreState) (event : Event) (why : Refusal) → refusal_of s.task_states event ≡ Some why
     → HeldBack s event (Some (outcome.Refused why))
 unfolding HeldBack Row rows.BeginRow rows.StepRow rows.KillRow ResizeRow lives_of calls_of
 refused_row s (Begin t op) why e = (tt, (begin_refused (as_state s) _ _ _ _ why e, refl))
@@ -131,7 +131,7 @@ IsBlocked s (Kill t) holder = ⊥
 IsBlocked s (Resize n) holder = ⊥
 
 -- of a step that isn't refused nothing comes only where its call is blocked
-step_busy : (s new : CoreState) (t : ℕ) (grant : Bool) (told : Outcome) → refusal_of s.seats (Step t grant) ≡ None
+step_busy : (s new : CoreState) (t : ℕ) (grant : Bool) (told : Outcome) → refusal_of s.task_states (Step t grant) ≡ None
     → WaitsFor s t None → Row s (Step t grant) told new → IsIdle told → ⊥
 unfolding Row rows.StepRow WaitsFor lives_of calls_of
 step_busy s new t grant outcome.Begun e waits row idle = idle
@@ -153,7 +153,7 @@ resize_admitted p new n told e row = by_test (is_size n) row
     (λ isnt r. never BadSize (sym (ap (λ (b : Bool). if b then None else Some BadSize) isnt) ∙ e))
 
 -- an event that isn't refused, and no step that is blocked, changes something
-pub admitted_row : (s : CoreState) (event : Event) → refusal_of s.seats event ≡ None → IsFree s event → HeldBack s event None
+pub admitted_row : (s : CoreState) (event : Event) → refusal_of s.task_states event ≡ None → IsFree s event → HeldBack s event None
 unfolding HeldBack Row rows.BeginRow rows.KillRow lives_of calls_of
 admitted_row s (Begin t op) e waits = λ told new row.
     busy told outcome.Begun (begin_admitted (as_state s) _ (as_state new) _ _ _ told e row.0) (λ idle. idle)
@@ -171,27 +171,27 @@ blocked_row s (Step t grant) holder waits = (tt, waits grant)
 blocked_row s (Kill t) holder waits = absurd waits
 blocked_row s (Resize n) holder waits = absurd waits
 
--- what the readers of the seats find, of the core that they belong to
+-- what the readers of the task states find, of the core that they belong to
 pub read_back : (inside seen : CoreState) (event : Event) (why : Option Refusal) (holder : Option ℕ) → inside ≡ seen → IsSound inside
-    → why ≡ refusal_of inside.seats event → holder ≡ event_blocker inside.parts inside.seats event
+    → why ≡ refusal_of inside.task_states event → holder ≡ event_blocker inside.parts inside.task_states event
     → HeldBack seen event (told_back why holder)
 read_back inside seen event why holder same sound refused blocked =
     subst (λ (s : CoreState). HeldBack s event (told_back why holder)) same (by_refusal why (sym refused) holder (sym blocked))
   where
-    free : (e : Event) → event_blocker inside.parts inside.seats e ≡ None → IsFree inside e
+    free : (e : Event) → event_blocker inside.parts inside.task_states e ≡ None → IsFree inside e
     free (Begin t op) none = tt
     free (Step t grant) none = waits {inside = inside} {seen = inside} t None refl sound (sym none)
     free (Kill t) none = tt
     free (Resize n) none = tt
 
-    stuck : (e : Event) (h : ℕ) → event_blocker inside.parts inside.seats e ≡ Some h → IsBlocked inside e h
+    stuck : (e : Event) (h : ℕ) → event_blocker inside.parts inside.task_states e ≡ Some h → IsBlocked inside e h
     stuck (Begin t op) h is = (let d : ◌≡◌ {A = Option ℕ} None (Some h) = is in absurd (cc))
     stuck (Step t grant) h is = waits {inside = inside} {seen = inside} t (Some h) refl sound (sym is)
     stuck (Kill t) h is = (let d : ◌≡◌ {A = Option ℕ} None (Some h) = is in absurd (cc))
     stuck (Resize n) h is = (let d : ◌≡◌ {A = Option ℕ} None (Some h) = is in absurd (cc))
 
-    by_refusal : (r : Option Refusal) → refusal_of inside.seats event ≡ r → (h : Option ℕ)
-        → event_blocker inside.parts inside.seats event ≡ h → HeldBack inside event (told_back r h)
+    by_refusal : (r : Option Refusal) → refusal_of inside.task_states event ≡ r → (h : Option ℕ)
+        → event_blocker inside.parts inside.task_states event ≡ h → HeldBack inside event (told_back r h)
     by_refusal (Some r) e h is = refused_row inside event r e
     by_refusal None e (Some h) is = blocked_row inside event h (stuck event h is)
     by_refusal None e None is = admitted_row inside event e (free event is)

@@ -15,7 +15,7 @@ pub mod Reading
 pub mod Resizes
 pub mod Rows
 pub mod RunsOn
-pub mod Seats
+pub mod TaskStates
 pub mod Steps
 pub mod Sums
 pub mod Tallies

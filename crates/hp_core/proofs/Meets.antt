@@ -31,7 +31,7 @@ use Rattle.hp_laws.proofs.Standing.{below_limit}
 use Rattle.hp_parts.specs.Fits.{IsPage}
 use Rattle.hp_fault.specs.Fits.{MapFits, TouchFits, AllocFits}
 use Rattle.hp_remove.specs.Fits.{PunchFits, TruncateFits, UnmapFits, ExitFits, IsCleared}
-use Rattle.hp_core.specs.State.{CoreState, seat_at, calls_of, as_state}
+use Rattle.hp_core.specs.State.{CoreState, task_state_at, calls_of, as_state}
 use Rattle.hp_core.specs.Fits.{CallFits, EventFits}
 use Rattle.hp_core.specs.Sound.{IsSound, IsKept}
 use Rattle.hp_core.proofs.Reading.{few_tasks, few_files_of}
@@ -228,9 +228,9 @@ step_fits s t None reached kept e = tt
 step_fits s t (Some c) reached kept e = call_fits s t c reached kept e
 
 -- and so each event of a sound core
-pub fits_from_sound : (s : CoreState) (e : Event) → IsSound s → EventFits s.parts s.seats e
+pub fits_from_sound : (s : CoreState) (e : Event) → IsSound s → EventFits s.parts s.task_states e
 unfolding IsSound calls_of
 fits_from_sound s (Begin t op) h = tt
-fits_from_sound s (Step t grant) h = step_fits s t (seat_at s.seats t).call (s.sizes.frames, h.0) h.1 refl
+fits_from_sound s (Step t grant) h = step_fits s t (task_state_at s.task_states t).call (s.sizes.frames, h.0) h.1 refl
 fits_from_sound s (Kill t) h = tt
 fits_from_sound s (Resize frames) h = tt

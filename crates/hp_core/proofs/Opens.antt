@@ -26,8 +26,8 @@ use Rattle.hp_parts.specs.declared.parts.FileState.{FileState}
 use Rattle.hp_parts.specs.State.{PartsState}
 use Rattle.hp_parts.specs.View.{no_file, no_table, table_of, holders_of, sizes_of, pendings_of, spares_of, sets_of, pages_of}
 use Rattle.hp_parts.specs.View.{ready_by_task, mappings_by_task, entries_of, geometry_of}
-use Rattle.hp_core.specs.declared.seat.Seat.{Seat}
-use Rattle.hp_core.specs.State.{seat_at, no_seat, calls_of, lives_of, state_with}
+use Rattle.hp_core.specs.declared.task_state.TaskState.{TaskState}
+use Rattle.hp_core.specs.State.{task_state_at, no_task_state, calls_of, lives_of, state_with}
 use Rattle.hp_core.specs.Opening.{IsFresh, IsVacant}
 use Rattle.hp_core.specs.Sound.{IsSound}
 use Rattle.hp_core.specs.Runs.{IsOpening, geometry}
@@ -58,32 +58,32 @@ same_copies {A} a n i = elim (cases_lt i n) [
   | inr l ↦ get_or-eq_default (replicate n a) a (let e = length-replicate n a in omega arith)
 ]
 
--- a seat of a core that nothing has happened to
-vacant_life : (xs : List Seat) → All IsVacant xs → (t : ℕ)
-    → (seat_at xs t).life ≡ (if nat_le 1 t && nat_le t (length xs) then life.Alive else life.Dead)
+-- a task state of a core that nothing has happened to
+vacant_life : (xs : List TaskState) → All IsVacant xs → (t : ℕ)
+    → (task_state_at xs t).life ≡ (if nat_le 1 t && nat_le t (length xs) then life.Alive else life.Dead)
 vacant_life xs h t = elim (same_or_other t 0) [
   | inl e ↦ rw e refl
   | inr d ↦ (let q : (t == 0) ≡ false = ne_eqb t 0 d in elim (cases_lt (t - 1) (length xs)) [
-    | inl l ↦ (let y = All-get_or IsVacant xs (t - 1) no_seat l h in
+    | inl l ↦ (let y = All-get_or IsVacant xs (t - 1) no_task_state l h in
         let b : (nat_le 1 t && nat_le t (length xs)) ≡ true = grind (arith, nat_tests, d, l) in
         rw (q, b) y.life)
     | inr l ↦ (let b : (nat_le 1 t && nat_le t (length xs)) ≡ false = grind (arith, nat_tests, d, l) in
-        rw (q, b) (ap (λ (s : Seat). s.life) (get_or-eq_default xs no_seat l)))
+        rw (q, b) (ap (λ (s : TaskState). s.life) (get_or-eq_default xs no_task_state l)))
   ])
 ]
 
 -- and it has no call
-vacant_call : (xs : List Seat) → All IsVacant xs → (t : ℕ) → (seat_at xs t).call ≡ None
+vacant_call : (xs : List TaskState) → All IsVacant xs → (t : ℕ) → (task_state_at xs t).call ≡ None
 vacant_call xs h t = elim (same_or_other t 0) [
   | inl e ↦ rw e refl
   | inr d ↦ (let q : (t == 0) ≡ false = ne_eqb t 0 d in elim (cases_lt (t - 1) (length xs)) [
-    | inl l ↦ (let y = All-get_or IsVacant xs (t - 1) no_seat l h in rw q y.call)
-    | inr l ↦ rw q (ap (λ (s : Seat). s.call) (get_or-eq_default xs no_seat l))
+    | inl l ↦ (let y = All-get_or IsVacant xs (t - 1) no_task_state l h in rw q y.call)
+    | inr l ↦ rw q (ap (λ (s : TaskState). s.call) (get_or-eq_default xs no_task_state l))
   ])
 ]
 
 -- the lists of a core that nothing has happened to
-abbrev pub AreFresh : Sizes → PartsState → List Seat → Type 0
+abbrev pub AreFresh : Sizes → PartsState → List TaskState → Type 0
 AreFresh z p ss = record {
   all_frames : p.bank.frames ≡ replicate z.frames frame.Free;
   none_reserved : p.bank.resv ≡ 0;
@@ -95,11 +95,11 @@ AreFresh z p ss = record {
   all_files : All IsFresh p.files;
   spaces_long : length p.spaces ≡ z.tasks;
   all_spaces : All (λ table. table ≡ no_table) p.spaces;
-  seats_long : length ss ≡ z.tasks;
-  all_seats : All IsVacant ss;
+  task_states_long : length ss ≡ z.tasks;
+  all_task_states : All IsVacant ss;
 }
 
-module _ (z : Sizes) (p : PartsState) (seats : List Seat) (h : AreFresh z p seats) where
+module _ (z : Sizes) (p : PartsState) (task_states : List TaskState) (h : AreFresh z p task_states) where
   -- what each file is, also one that isn't there
   file_is : (P : FileState → Type 0) → ((f : FileState) → IsFresh f → P f) → P no_file → (f : ℕ) → P (get_or p.files f no_file)
   file_is P fresh none f = elim (cases_lt f (length p.files)) [
@@ -165,17 +165,17 @@ module _ (z : Sizes) (p : PartsState) (seats : List Seat) (h : AreFresh z p seat
   unfolding entries_of
   entries_are = fun_ext (λ t. fun_ext (λ v. ap (λ (y : Table). get y.entries v) (same_table p.spaces h.all_spaces t) ∙ get-empty nat_cmp v))
 
-  lives_are : lives_of seats ≡ (λ t. if nat_le 1 t && nat_le t z.tasks then life.Alive else life.Dead)
+  lives_are : lives_of task_states ≡ (λ t. if nat_le 1 t && nat_le t z.tasks then life.Alive else life.Dead)
   unfolding lives_of
   lives_are =
-      fun_ext (λ t. vacant_life seats h.all_seats t
-      ∙ ap (λ (n : ℕ). if nat_le 1 t && nat_le t n then life.Alive else life.Dead) h.seats_long)
+      fun_ext (λ t. vacant_life task_states h.all_task_states t
+      ∙ ap (λ (n : ℕ). if nat_le 1 t && nat_le t n then life.Alive else life.Dead) h.task_states_long)
 
-  calls_are : calls_of seats ≡ (λ _. None)
+  calls_are : calls_of task_states ≡ (λ _. None)
   unfolding calls_of
-  calls_are = fun_ext (λ t. vacant_call seats h.all_seats t)
+  calls_are = fun_ext (λ t. vacant_call task_states h.all_task_states t)
 
-  pub is_opening : state_with p seats ≡ rows.opening (geometry z) z.frames
+  pub is_opening : state_with p task_states ≡ rows.opening (geometry z) z.frames
   is_opening = λ i. record {
     pool = record {
       geometry = geometry_is i;
@@ -199,7 +199,7 @@ module _ (z : Sizes) (p : PartsState) (seats : List Seat) (h : AreFresh z p seat
   }
 
   pub are_sound : (room : ℕ) → IsWithinLimits z.frames z.files z.slots z.tasks
-      → IsSound (record { sizes = z; parts = p; seats = seats; room = room })
+      → IsSound (record { sizes = z; parts = p; task_states = task_states; room = room })
   unfolding IsSound
   are_sound room within = (
     ([], is_opening ∙ λ i. rows.opening (sym geometry_is i) z.frames),
@@ -209,28 +209,28 @@ module _ (z : Sizes) (p : PartsState) (seats : List Seat) (h : AreFresh z p seat
       slots = ap (λ (ss : List (Option ℕ)). length ss) h.all_slots ∙ length-replicate z.slots None;
       spaces = h.spaces_long;
       quota = h.same_quota;
-      seats = h.seats_long;
+      task_states = h.task_states_long;
       limits = within;
     },
   )
 
 -- so it opens the machine
-pub opens_as : (config : Config) (p : PartsState) (seats : List Seat) (room : ℕ) → AreFresh (sizes config) p seats
-    → IsOpening config (record { sizes = sizes config; parts = p; seats = seats; room = room })
+pub opens_as : (config : Config) (p : PartsState) (task_states : List TaskState) (room : ℕ) → AreFresh (sizes config) p task_states
+    → IsOpening config (record { sizes = sizes config; parts = p; task_states = task_states; room = room })
 unfolding IsOpening
-opens_as config p seats room h = (refl, is_opening (sizes config) p seats h)
+opens_as config p task_states room h = (refl, is_opening (sizes config) p task_states h)
 
--- a seat without a call counts for none
-one_vacant : (seat : Seat) (seats : List Seat) → is_some seat.call ≡ false → count_by (λ s. is_some s.call) seats ≡ 0
-    → count_by (λ s. is_some s.call) (seat ∷ seats) ≡ 0
-one_vacant seat seats here rest =
-    let cons = sum_by-cons (λ (s : Seat). cond (is_some s.call) 1 0) seat seats in
-    let none : ◌≡◌ {A = ℕ} (cond (is_some seat.call) 1 0) 0 = ap (λ (b : Bool). cond b 1 0) here in
+-- a task state without a call counts for none
+one_vacant : (task_state : TaskState) (task_states : List TaskState) → is_some task_state.call ≡ false → count_by (λ s. is_some s.call) task_states ≡ 0
+    → count_by (λ s. is_some s.call) (task_state ∷ task_states) ≡ 0
+one_vacant task_state task_states here rest =
+    let cons = sum_by-cons (λ (s : TaskState). cond (is_some s.call) 1 0) task_state task_states in
+    let none : ◌≡◌ {A = ℕ} (cond (is_some task_state.call) 1 0) 0 = ap (λ (b : Bool). cond b 1 0) here in
     omega (arith, cons, none, rest)
 
 -- so no call is in flight at first
-pub none_in_flight : (seats : List Seat) → All IsVacant seats → count_by (λ s. is_some s.call) seats ≡ 0
+pub none_in_flight : (task_states : List TaskState) → All IsVacant task_states → count_by (λ s. is_some s.call) task_states ≡ 0
 none_in_flight [] h = refl
-none_in_flight (seat ∷ seats) h =
-    one_vacant seat seats (ap (λ (call : Option Call). is_some call) (h 0 seat (omega arith)).call)
-    (none_in_flight seats (λ k d within. h (suc k) d (omega (arith, within))))
+none_in_flight (task_state ∷ task_states) h =
+    one_vacant task_state task_states (ap (λ (call : Option Call). is_some call) (h 0 task_state (omega arith)).call)
+    (none_in_flight task_states (λ k d within. h (suc k) d (omega (arith, within))))

@@ -11,7 +11,7 @@ use Rattle.hp_machine.specs.declared.call.Call.{Call}
 use Rattle.hp_audit.specs.declared.picture.Picture.{Picture}
 use Rattle.hp_parts.specs.View.{no_file}
 use Rattle.hp_parts.proofs.Laws.{free_frames_is}
-use Rattle.hp_core.specs.declared.seat.Seat.{Seat}
+use Rattle.hp_core.specs.declared.task_state.TaskState.{TaskState}
 use Rattle.hp_core.specs.State.{CoreState, as_state}
 use Rattle.hp_core.specs.Sound.{IsSound}
 use Rattle.hp_core.specs.Copies.{IsCopy, all_translations}
@@ -22,7 +22,7 @@ use Rattle.hp_core.proofs.Sums.{sum_is}
 use Rattle.hp_core.proofs.FilePictures.{file_picture_of}
 use Rattle.hp_core.proofs.Translations.{all_counted}
 
--- a frame is given as often as some seat has it
+-- a frame is given as often as some task state has it
 given_times : {X : Type 0} (h : X → Option ℕ) (x : ℕ) (ys : List X)
     → count_by (λ frame. frame == x) (filter_map h ys) ≡ sum_by (λ y. bit (is_that x (h y))) ys
 given_times {X} h x ys = count_by-filter_map (λ frame. frame == x) h ys ∙ (λ i. sum_by (λ (y : X). as_bit (h y) i) ys)
@@ -32,14 +32,14 @@ given_times {X} h x ys = count_by-filter_map (λ frame. frame == x) h ys ∙ (λ
     as_bit (Some y) = cond_bit (y == x)
 
 -- a frame is told in hands as often as calls have it
-hands_of : (s : CoreState) (hands : List ℕ) (x : ℕ) → IsSound s → hands ≡ filter_map (λ seat. hand seat.call) s.seats
+hands_of : (s : CoreState) (hands : List ℕ) (x : ℕ) → IsSound s → hands ≡ filter_map (λ task_state. hand task_state.call) s.task_states
     → count_by (λ frame. frame == x) hands ≡ total ((as_state s).geometry.tasks + 1) (λ t. bit (is_that x (hand ((as_state s).calls t))))
 unfolding IsSound
 hands_of s hands x h is =
-    let n : length s.parts.spaces ≡ length s.seats = h.1.spaces ∙ sym h.1.seats in
+    let n : length s.parts.spaces ≡ length s.task_states = h.1.spaces ∙ sym h.1.task_states in
     ap (λ (xs : List ℕ). count_by (λ frame. frame == x) xs) is
-    ∙ (given_times (λ (seat : Seat). hand seat.call) x s.seats
-    ∙ sum_is (λ (call : Option Call). bit (is_that x (hand call))) s.seats (length s.parts.spaces) refl n)
+    ∙ (given_times (λ (task_state : TaskState). hand task_state.call) x s.task_states
+    ∙ sum_is (λ (call : Option Call). bit (is_that x (hand call))) s.task_states (length s.parts.spaces) refl n)
 
 -- a sound core has at most 16 files
 pub few_files : (s : CoreState) → IsSound s → length s.parts.files ≤ 16
@@ -65,7 +65,7 @@ pub record AreCopies (s : CoreState) (p : Picture) : Type 0 where
   pub used : p.used ≡ used_of s
   pub used_owed : p.used_owed ≡ used_owed_of s
   pub quota : p.quota ≡ quota_of s
-  pub hands : p.hands.items ≡ filter_map (λ seat. hand seat.call) s.seats
+  pub hands : p.hands.items ≡ filter_map (λ task_state. hand task_state.call) s.task_states
   pub as_many : length p.files.items ≡ length s.parts.files
   pub files : (f : ℕ) → f < length s.parts.files
       → HoldsAt (IsCopy (get_or s.parts.files f no_file) (is_some (holder_of s.parts.locks f))) p.files.items f

@@ -1,4 +1,4 @@
--- What the readers read: a file, a space, a seat of a sound core.
+-- What the readers read: a file, a space, a task state of a sound core.
 use Rattle.std.proofs.Common.{◌≡◌, ℕ, ◌-◌, ◌<◌, ◌≤◌, length, get_or, ◌∙◌, ap, sym, subst, arith}
 use Rattle.std.specs.Prelude.{true, false, ◌==◌}
 use Rattle.std.proofs.lemmas.Bool.{ne_eqb}
@@ -9,8 +9,8 @@ use Rattle.hp_machine.specs.Resizes.{is_size}
 use Rattle.hp_parts.specs.declared.parts.FileState.{FileState}
 use Rattle.hp_parts.specs.View.{no_file, no_table, table_of}
 use Rattle.hp_table.specs.Table.{Table}
-use Rattle.hp_core.specs.declared.seat.Seat.{Seat}
-use Rattle.hp_core.specs.State.{CoreState, seat_at, no_seat}
+use Rattle.hp_core.specs.declared.task_state.TaskState.{TaskState}
+use Rattle.hp_core.specs.State.{CoreState, task_state_at, no_task_state}
 use Rattle.hp_core.specs.Sound.{IsSound}
 use Rattle.hp_core.specs.Readers.{config_of}
 
@@ -54,22 +54,22 @@ space_read {inside} {n = n} {task = task} {y = y} same h e low high is =
     ∙ (ap (λ (k : ℕ). get_or inside.parts.spaces (k - 1) no_table) e
     ∙ ap (λ (s : CoreState). get_or s.parts.spaces (task - 1) no_table) same)))
 
--- it has a seat
-pub seat_in : {inside seen : CoreState} {n task : ℕ} → inside ≡ seen → IsSound inside → n ≡ task → 1 ≤ task
-    → task ≤ (config_of seen).tasks → n - 1 < length inside.seats
+-- it has a task state
+pub task_state_in : {inside seen : CoreState} {n task : ℕ} → inside ≡ seen → IsSound inside → n ≡ task → 1 ≤ task
+    → task ≤ (config_of seen).tasks → n - 1 < length inside.task_states
 unfolding IsSound
-seat_in {task = task} same h e low high =
-    let k = h.1.seats in
+task_state_in {task = task} same h e low high =
+    let k = h.1.task_states in
     let within = task_in {task = task} same high in
     omega (arith, k, low, within, e)
 
 -- and what is read there is the machine's
-pub seat_read : {inside seen : CoreState} {n task : ℕ} {y : Seat} → inside ≡ seen → IsSound inside → n ≡ task → 1 ≤ task
-    → task ≤ (config_of seen).tasks → y ≡ get_or inside.seats (n - 1) y → y ≡ seat_at seen.seats task
-seat_read {inside} {n = n} {task = task} {y = y} same h e low high is =
+pub task_state_read : {inside seen : CoreState} {n task : ℕ} {y : TaskState} → inside ≡ seen → IsSound inside → n ≡ task → 1 ≤ task
+    → task ≤ (config_of seen).tasks → y ≡ get_or inside.task_states (n - 1) y → y ≡ task_state_at seen.task_states task
+task_state_read {inside} {n = n} {task = task} {y = y} same h e low high is =
     let q : (task == 0) ≡ false = ne_eqb task 0 (λ z. omega (arith, z, low)) in
-    rw q (is ∙ (get_or_default inside.seats (n - 1) y no_seat (seat_in same h e low high)
-    ∙ (ap (λ (k : ℕ). get_or inside.seats (k - 1) no_seat) e ∙ ap (λ (s : CoreState). get_or s.seats (task - 1) no_seat) same)))
+    rw q (is ∙ (get_or_default inside.task_states (n - 1) y no_task_state (task_state_in same h e low high)
+    ∙ (ap (λ (k : ℕ). get_or inside.task_states (k - 1) no_task_state) e ∙ ap (λ (s : CoreState). get_or s.task_states (task - 1) no_task_state) same)))
 
 -- a pool may have so many frames as the limits allow
 few_frames : (a b c d : ℕ) → IsWithinLimits a b c d → is_size a ≡ true
@@ -88,10 +88,10 @@ few_tasks a b c d h = grind (arith, nat_tests, h)
 pub few_files_of : (a b c d : ℕ) → IsWithinLimits a b c d → b ≤ 16
 few_files_of a b c d h = grind (arith, nat_tests, h)
 
--- so a sound core has at most 64 seats
-pub few_seats : (s : CoreState) → IsSound s → length s.seats ≤ 64
+-- so a sound core has at most 64 task states
+pub few_task_states : (s : CoreState) → IsSound s → length s.task_states ≤ 64
 unfolding IsSound
-few_seats s h =
+few_task_states s h =
     let l = few_tasks s.sizes.frames s.sizes.files s.sizes.slots s.sizes.tasks h.1.limits in
-    let k = h.1.seats in
+    let k = h.1.task_states in
     omega (arith, k, l)

@@ -15,7 +15,7 @@ use Rattle.hp_machine.specs.declared.outcome.Refusal.TheVariants as refusal
 use Rattle.hp_parts.specs.State.{PartsState}
 use Rattle.hp_parts.specs.View.{pool_of}
 use Rattle.hp_parts.proofs.Laws.{free_frames_is}
-use Rattle.hp_core.proofs.Seats.{at_true, at_false}
+use Rattle.hp_core.proofs.TaskStates.{at_true, at_false}
 
 -- the bank's count of active frames is the machine's
 pub actives_is : (xs : List FrameState) → active_frames (frame_at xs) (length xs) ≡ bank.active_frames xs

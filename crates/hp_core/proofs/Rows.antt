@@ -100,16 +100,16 @@ unfolding CallRow
 exit_row s t killed grant p new turn result next h r =
     settled_row call.Exit (ExitRow s t killed grant p) new (Ok turn) result next h r
 
--- so it is of a seat that has the call, and of a task that is killed as the step was told
-pub seat_row : (s : Pool) (t : ℕ) (killed now grant : Bool) (o : Option Call) (c : Call) (new : Pool)
+-- so it is of a task state that has the call, and of a task that is killed as the step was told
+pub task_state_row : (s : Pool) (t : ℕ) (killed now grant : Bool) (o : Option Call) (c : Call) (new : Pool)
     (result : Result Outcome AllocError) (next : Option Call) → o ≡ Some c → killed ≡ now
     → IfOk result (λ told. CallRow s t killed grant c told new next)
     → IfOk result (λ told. IfSome o (λ call. CallRow s t now grant call told new next))
-seat_row s t killed now grant o c new (Err e) next was same h = tt
-seat_row s t killed now grant o c new (Ok told) next was same h =
+task_state_row s t killed now grant o c new (Err e) next was same h = tt
+task_state_row s t killed now grant o c new (Ok told) next was same h =
     subst (λ (x : Option Call). IfSome x (λ call. CallRow s t now grant call told new next)) (sym was)
     (subst (λ (b : Bool). CallRow s t b grant c told new next) same h)
 
--- and what its call wants, the seat's does
-pub seat_wants : (s : Pool) (t : ℕ) (o : Option Call) (c : Call) → o ≡ Some c → Wants s t c → IsSomeAnd o (λ call. Wants s t call)
-seat_wants s t o c was wants = subst (λ (x : Option Call). IsSomeAnd x (λ call. Wants s t call)) (sym was) wants
+-- and what its call wants, the task state's does
+pub task_state_wants : (s : Pool) (t : ℕ) (o : Option Call) (c : Call) → o ≡ Some c → Wants s t c → IsSomeAnd o (λ call. Wants s t call)
+task_state_wants s t o c was wants = subst (λ (x : Option Call). IsSomeAnd x (λ call. Wants s t call)) (sym was) wants

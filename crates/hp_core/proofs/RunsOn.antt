@@ -92,9 +92,9 @@ ran_empty s (x ∷ es) os e none = absurd (not_none (length (x ∷ es)) e (omega
 
 -- the event that didn't happen wanted growth, where the run stands
 pub wanted_at : (mid new : CoreState) (es : List Event) (i n : ℕ) (e : Event) → i < length es → e ≡ get_or es i e → n ≡ i
-    → new ≡ mid → WantsGrowth mid.parts mid.seats e
-    → HoldsAt (λ event. WantsGrowth new.parts new.seats event) es n
+    → new ≡ mid → WantsGrowth mid.parts mid.task_states e
+    → HoldsAt (λ event. WantsGrowth new.parts new.task_states event) es n
 wanted_at mid new es i n e within is long same wants =
-    subst (λ (k : ℕ). HoldsAt (λ event. WantsGrowth new.parts new.seats event) es k) (sym long)
-    (at_read es (λ event. WantsGrowth new.parts new.seats event) i e within is
-    (subst (λ (s : CoreState). WantsGrowth s.parts s.seats e) (sym same) wants))
+    subst (λ (k : ℕ). HoldsAt (λ event. WantsGrowth new.parts new.task_states event) es k) (sym long)
+    (at_read es (λ event. WantsGrowth new.parts new.task_states event) i e within is
+    (subst (λ (s : CoreState). WantsGrowth s.parts s.task_states e) (sym same) wants))

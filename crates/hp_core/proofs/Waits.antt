@@ -43,13 +43,13 @@ use Rattle.hp_machine.specs.declared.outcome.Outcome.TheVariants as outcome
 use Rattle.hp_slots.specs.Holders.{slot_number}
 use Rattle.hp_parts.specs.State.{PartsState, IsSized}
 use Rattle.hp_parts.specs.View.{pool_of, holders_of, sizes_of, pages_of, entries_of}
-use Rattle.hp_core.specs.State.{CoreState, seat_at, calls_of, lives_of, as_state}
+use Rattle.hp_core.specs.State.{CoreState, task_state_at, calls_of, lives_of, as_state}
 use Rattle.hp_core.specs.Sound.{IsSound}
 use Rattle.hp_core.specs.Runs.{Row}
 use Rattle.hp_core.specs.Waiting.{WaitsFor}
 use Rattle.hp_core.specs.Blockers.{is_bad, slot_blocker, touch_blocker, map_blocker, alloc_blocker, punch_blocker}
-use Rattle.hp_core.specs.Blockers.{truncate_blocker, call_blocker, seat_call_blocker, task_blocker}
-use Rattle.hp_core.proofs.Seats.{by_test, by_option, at_false, at_some}
+use Rattle.hp_core.specs.Blockers.{truncate_blocker, call_blocker, task_state_call_blocker, task_blocker}
+use Rattle.hp_core.proofs.TaskStates.{by_test, by_option, at_false, at_some}
 
 -- the holder that a turn was blocked by
 abbrev pub held_up : {P : Type 0} → Turn P → Option ℕ
@@ -480,18 +480,18 @@ call_blocks p t killed grant (call.Exit phase) h e = nobody h e
 
 -- a step is held up by whom the reader names
 pub step_held : (s : CoreState) (t : ℕ) (grant : Bool) (told : Outcome) (new : State)
-    → rows.StepRow (as_state s) t grant told new → told_of told ≡ task_blocker s.parts (seat_at s.seats t)
+    → rows.StepRow (as_state s) t grant told new → told_of told ≡ task_blocker s.parts (task_state_at s.task_states t)
 unfolding rows.StepRow lives_of calls_of
 step_held s t grant told new row =
-    by_test (is_dead (seat_at s.seats t).life) row
+    by_test (is_dead (task_state_at s.task_states t).life) row
     (λ dead r. ap told_of r.0 ∙ rw dead refl)
-    (λ alive rest. by_option (seat_at s.seats t).call rest
+    (λ alive rest. by_option (task_state_at s.task_states t).call rest
     (λ none r. ap told_of r.0 ∙ rw (alive, none) refl)
     (λ inflight some r. call_held s.parts t _ grant inflight told r.0 r.1 r.2 ∙ rw (alive, some) refl))
 
 -- where the reader names someone, the task isn't dead and its call waits
 blocker_parts : (p : PartsState) (dead killed : Bool) (o : Option Call) (h : ℕ)
-    → (if dead then None else seat_call_blocker p killed o) ≡ Some h
+    → (if dead then None else task_state_call_blocker p killed o) ≡ Some h
     → (dead ≡ false) × ((inflight : Call) × (o ≡ Some inflight) × (call_blocker p killed inflight ≡ Some h))
 blocker_parts p true killed o h e = nobody h e
 blocker_parts p false killed None h e = nobody h e
@@ -512,14 +512,14 @@ same_calls : (calls : ℕ → Option Call) (t : ℕ) (inflight : Call) → calls
 same_calls calls t inflight e = subst (λ (o : Option Call). put calls t o ≡ calls) e (put_self calls t)
 
 -- where the reader names someone, the event that waits for it is a row of the machine
-pub step_blocks : (s : CoreState) (t : ℕ) (grant : Bool) (h : ℕ) → task_blocker s.parts (seat_at s.seats t) ≡ Some h
+pub step_blocks : (s : CoreState) (t : ℕ) (grant : Bool) (h : ℕ) → task_blocker s.parts (task_state_at s.task_states t) ≡ Some h
     → rows.StepRow (as_state s) t grant (outcome.Blocked h) (as_state s)
 unfolding rows.StepRow lives_of calls_of
 step_blocks s t grant h e =
-    let b = blocker_parts s.parts (is_dead (seat_at s.seats t).life) (is_killed (seat_at s.seats t).life) (seat_at s.seats t).call h e in
+    let b = blocker_parts s.parts (is_dead (task_state_at s.task_states t).life) (is_killed (task_state_at s.task_states t).life) (task_state_at s.task_states t).call h e in
     let inflight = b.1.0 in
-    let calls = same_calls (calls_of s.seats) t inflight b.1.1 in
-    let lives = lives_on (lives_of s.seats) t inflight inflight in
+    let calls = same_calls (calls_of s.task_states) t inflight b.1.1 in
+    let lives = lives_on (lives_of s.task_states) t inflight inflight in
     at_false _ _ _ b.0 (at_some _ _ _ inflight b.1.1 (
       pool_of s.parts,
       Some inflight,
@@ -528,7 +528,7 @@ step_blocks s t grant h e =
     ))
 
 -- the reader names whom the next step is blocked by
-names : (s : CoreState) (t : ℕ) (o : Option ℕ) → task_blocker s.parts (seat_at s.seats t) ≡ o → WaitsFor s t o
+names : (s : CoreState) (t : ℕ) (o : Option ℕ) → task_blocker s.parts (task_state_at s.task_states t) ≡ o → WaitsFor s t o
 unfolding WaitsFor Row
 names s t (Some h) e = λ grant. (step_blocks s t grant h e, refl)
 names s t None e =
@@ -536,9 +536,9 @@ names s t None e =
 
 -- so the reader tells exactly whom the task waits for
 pub waits : {inside seen : CoreState} (t : ℕ) (o : Option ℕ) → inside ≡ seen → IsSound inside
-    → o ≡ task_blocker inside.parts (seat_at seen.seats t) → WaitsFor seen t o
+    → o ≡ task_blocker inside.parts (task_state_at seen.task_states t) → WaitsFor seen t o
 waits {inside} t o same sound e =
-    let here = e ∙ ap (λ (s : CoreState). task_blocker inside.parts (seat_at s.seats t)) (sym same) in
+    let here = e ∙ ap (λ (s : CoreState). task_blocker inside.parts (task_state_at s.task_states t)) (sym same) in
     subst (λ (s : CoreState). WaitsFor s t o) same (names inside t o (sym here))
 
 -- a sound core has a lock for each file

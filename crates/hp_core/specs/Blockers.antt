@@ -16,7 +16,7 @@ use Rattle.hp_machine.specs.declared.punch.PunchPhase.TheVariants as punch
 use Rattle.hp_machine.specs.declared.truncate.TruncatePhase.{TruncatePhase}
 use Rattle.hp_machine.specs.declared.truncate.TruncatePhase.TheVariants as truncate
 use Rattle.hp_parts.specs.State.{PartsState}
-use Rattle.hp_core.specs.declared.seat.Seat.{Seat}
+use Rattle.hp_core.specs.declared.task_state.TaskState.{TaskState}
 
 -- the range is empty, or ends above the limit of a file
 abbrev pub is_bad : (from len : ℕ) → Bool
@@ -63,9 +63,9 @@ call_blocker p killed (call.Truncate phase) = truncate_blocker p killed phase
 call_blocker p killed (call.Unmap phase) = None
 call_blocker p killed (call.Exit phase) = None
 
-abbrev pub seat_call_blocker : PartsState → (killed : Bool) → Option Call → Option ℕ
-seat_call_blocker p killed None = None
-seat_call_blocker p killed (Some inflight) = call_blocker p killed inflight
+abbrev pub task_state_call_blocker : PartsState → (killed : Bool) → Option Call → Option ℕ
+task_state_call_blocker p killed None = None
+task_state_call_blocker p killed (Some inflight) = call_blocker p killed inflight
 
-abbrev pub task_blocker : PartsState → Seat → Option ℕ
-task_blocker p seat = if is_dead seat.life then None else seat_call_blocker p (is_killed seat.life) seat.call
+abbrev pub task_blocker : PartsState → TaskState → Option ℕ
+task_blocker p task_state = if is_dead task_state.life then None else task_state_call_blocker p (is_killed task_state.life) task_state.call

@@ -8,8 +8,8 @@ use Rattle.hp_fault.specs.Fits.{MapFits, TouchFits, AllocFits}
 use Rattle.hp_remove.specs.Fits.{PunchFits, TruncateFits, UnmapFits, ExitFits}
 use Rattle.hp_parts.specs.State.{PartsState, IsSized}
 use Rattle.hp_parts.specs.View.{pool_of}
-use Rattle.hp_core.specs.declared.seat.Seat.{Seat}
-use Rattle.hp_core.specs.State.{seat_at}
+use Rattle.hp_core.specs.declared.task_state.TaskState.{TaskState}
+use Rattle.hp_core.specs.State.{task_state_at}
 
 abbrev pub CallFits : PartsState → (task : ℕ) → Call → Type 0
 CallFits p t (call.Touch phase) = TouchFits (pool_of p) t phase
@@ -21,11 +21,11 @@ CallFits p t (call.Unmap phase) = UnmapFits (pool_of p) t phase
 CallFits p t (call.Exit phase) = ExitFits (pool_of p) t phase
 
 -- what a step of the task's call takes for granted
-abbrev pub StepFits : PartsState → List Seat → (task : ℕ) → Type 0
-StepFits p seats t = IfSome (seat_at seats t).call (λ inflight. CallFits p t inflight)
+abbrev pub StepFits : PartsState → List TaskState → (task : ℕ) → Type 0
+StepFits p task_states t = IfSome (task_state_at task_states t).call (λ inflight. CallFits p t inflight)
 
-abbrev pub EventFits : PartsState → List Seat → Event → Type 0
-EventFits p seats (Begin task op) = Unit {0}
-EventFits p seats (Step task grant) = StepFits p seats task
-EventFits p seats (Kill task) = Unit {0}
-EventFits p seats (Resize frames) = Unit {0}
+abbrev pub EventFits : PartsState → List TaskState → Event → Type 0
+EventFits p task_states (Begin task op) = Unit {0}
+EventFits p task_states (Step task grant) = StepFits p task_states task
+EventFits p task_states (Kill task) = Unit {0}
+EventFits p task_states (Resize frames) = Unit {0}

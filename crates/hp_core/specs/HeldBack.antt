@@ -11,9 +11,9 @@ use Rattle.hp_machine.specs.declared.outcome.Outcome.TheVariants.{Refused, Block
 use Rattle.hp_machine.specs.declared.outcome.Refusal.{Refusal}
 use Rattle.hp_machine.specs.declared.outcome.Refusal.TheVariants.{NotAlive, InCall, Idle, BadSize}
 use Rattle.hp_parts.specs.State.{PartsState}
-use Rattle.hp_core.specs.declared.seat.Seat.{Seat}
+use Rattle.hp_core.specs.declared.task_state.TaskState.{TaskState}
 use Rattle.hp_core.specs.Blockers.{task_blocker}
-use Rattle.hp_core.specs.State.{CoreState, seat_at}
+use Rattle.hp_core.specs.State.{CoreState, task_state_at}
 use Rattle.hp_core.specs.Runs.{Row, IsIdle}
 
 -- The event would be told that and change nothing; or whatever it may do changes something
@@ -33,20 +33,20 @@ idle_unless None = Some Idle
 idle_unless (Some c) = None
 
 -- why the event is refused, if it is
-abbrev pub refusal_of : List Seat → Event → Option Refusal
-refusal_of seats (Begin t op) =
-    if is_dead (seat_at seats t).life then Some NotAlive
-    else refusal_beside (seat_at seats t).call (is_killed (seat_at seats t).life && not (is_exit op))
-refusal_of seats (Step t grant) = if is_dead (seat_at seats t).life then Some NotAlive else idle_unless (seat_at seats t).call
-refusal_of seats (Kill t) = if is_alive (seat_at seats t).life then None else Some NotAlive
-refusal_of seats (Resize n) = if is_size n then None else Some BadSize
+abbrev pub refusal_of : List TaskState → Event → Option Refusal
+refusal_of task_states (Begin t op) =
+    if is_dead (task_state_at task_states t).life then Some NotAlive
+    else refusal_beside (task_state_at task_states t).call (is_killed (task_state_at task_states t).life && not (is_exit op))
+refusal_of task_states (Step t grant) = if is_dead (task_state_at task_states t).life then Some NotAlive else idle_unless (task_state_at task_states t).call
+refusal_of task_states (Kill t) = if is_alive (task_state_at task_states t).life then None else Some NotAlive
+refusal_of task_states (Resize n) = if is_size n then None else Some BadSize
 
 -- who holds up the event: the holder that its step waits for
-abbrev pub event_blocker : PartsState → List Seat → Event → Option ℕ
-event_blocker p seats (Begin t op) = None
-event_blocker p seats (Step t grant) = task_blocker p (seat_at seats t)
-event_blocker p seats (Kill t) = None
-event_blocker p seats (Resize n) = None
+abbrev pub event_blocker : PartsState → List TaskState → Event → Option ℕ
+event_blocker p task_states (Begin t op) = None
+event_blocker p task_states (Step t grant) = task_blocker p (task_state_at task_states t)
+event_blocker p task_states (Kill t) = None
+event_blocker p task_states (Resize n) = None
 
 -- what is told of an event that is refused, or blocked
 abbrev pub told_back : Option Refusal → (holder : Option ℕ) → Option Outcome

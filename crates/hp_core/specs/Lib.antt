@@ -9,10 +9,10 @@ pub mod Pictures
 pub mod Readers
 pub mod RunLaws
 pub mod Runs
-pub mod Seats
+pub mod TaskStates
 pub mod Sound
 pub mod Standing
 pub mod State
 pub mod Turns
 pub mod Waiting
-pub mod Wanting
+pub mod Acquiring

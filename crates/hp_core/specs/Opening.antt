@@ -3,7 +3,7 @@ use Rattle.std.specs.Prelude.{◌≡◌, None, []}
 use Rattle.std.specs.FinMap.{empty}
 use Rattle.hp_machine.specs.declared.outcome.Life.TheVariants.{Alive}
 use Rattle.hp_parts.specs.declared.parts.FileState.{FileState}
-use Rattle.hp_core.specs.declared.seat.Seat.{Seat}
+use Rattle.hp_core.specs.declared.task_state.TaskState.{TaskState}
 
 -- an empty file, with no reservation and no page
 pub record IsFresh (file : FileState) : Type 0 where
@@ -14,6 +14,6 @@ pub record IsFresh (file : FileState) : Type 0 where
   pub cache : file.cache.pages ≡ empty
 
 -- a task that is alive and has no call
-pub record IsVacant (seat : Seat) : Type 0 where
-  pub life : seat.life ≡ Alive
-  pub call : seat.call ≡ None
+pub record IsVacant (task_state : TaskState) : Type 0 where
+  pub life : task_state.life ≡ Alive
+  pub call : task_state.call ≡ None

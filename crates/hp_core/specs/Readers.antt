@@ -46,7 +46,7 @@ quota_of s = (as_state s).geometry.quota
 
 -- how many calls are in flight
 unfoldable pub calls_of : CoreState → ℕ
-calls_of s = count_by (λ seat. is_some seat.call) s.seats
+calls_of s = count_by (λ task_state. is_some task_state.call) s.task_states
 
 unfoldable pub size_of : CoreState → (file : ℕ) → ℕ
 size_of s f = (as_state s).size f

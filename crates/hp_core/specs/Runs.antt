@@ -16,8 +16,8 @@ use Rattle.hp_base.specs.declared.limits.TheConstants.{LIMIT, VPNS}
 use Rattle.hp_parts.specs.Room.{RoomStays}
 use Rattle.hp_parts.specs.State.{PartsState}
 use Rattle.hp_parts.specs.View.{pool_of}
-use Rattle.hp_core.specs.declared.seat.Seat.{Seat}
-use Rattle.hp_core.specs.State.{CoreState, as_state, seat_at}
+use Rattle.hp_core.specs.declared.task_state.TaskState.{TaskState}
+use Rattle.hp_core.specs.State.{CoreState, as_state, task_state_at}
 
 -- the geometry of a pool of these sizes, with its quota
 abbrev pub geometry : Sizes → machine.Geometry
@@ -54,16 +54,16 @@ unfoldable pub Headline : CoreState → Type 0
 Headline s = head.Headline (as_state s)
 
 -- the task has a call in flight, whose row wants growth
-abbrev pub StepWants : PartsState → List Seat → (task : ℕ) → Type 0
-StepWants p seats t = IsSomeAnd (seat_at seats t).call (λ inflight. Wants (pool_of p) t inflight)
+abbrev pub StepWants : PartsState → List TaskState → (task : ℕ) → Type 0
+StepWants p task_states t = IsSomeAnd (task_state_at task_states t).call (λ inflight. Wants (pool_of p) t inflight)
 
 -- the event is a granted step whose row wants growth, or a resize that brings in new numbers
-abbrev pub WantsGrowth : PartsState → List Seat → Event → Type 0
-WantsGrowth p seats (Begin task op) = ⊥
-WantsGrowth p seats (Step task grant) = (grant ≡ true) × StepWants p seats task
-WantsGrowth p seats (Kill task) = ⊥
-WantsGrowth p seats (Resize frames) = (is_size frames ≡ true) × ((pool_of p).frames < frames)
+abbrev pub WantsGrowth : PartsState → List TaskState → Event → Type 0
+WantsGrowth p task_states (Begin task op) = ⊥
+WantsGrowth p task_states (Step task grant) = (grant ≡ true) × StepWants p task_states task
+WantsGrowth p task_states (Kill task) = ⊥
+WantsGrowth p task_states (Resize frames) = (is_size frames ≡ true) × ((pool_of p).frames < frames)
 
--- no memory was taken: no part has more room than before, and the list of seats has as much
+-- no memory was taken: no part has more room than before, and the list of task states has as much
 abbrev pub TakesNoMemory : CoreState → CoreState → Type 0
 TakesNoMemory old new = RoomStays old.parts new.parts × (new.room ≡ old.room)

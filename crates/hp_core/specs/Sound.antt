@@ -12,7 +12,7 @@ pub record IsKept (s : CoreState) : Type 0 where
   pub slots : length s.parts.slots ≡ s.sizes.slots
   pub spaces : length s.parts.spaces ≡ s.sizes.tasks
   pub quota : s.parts.bank.quota ≡ s.sizes.quota
-  pub seats : length s.seats ≡ s.sizes.tasks
+  pub task_states : length s.task_states ≡ s.sizes.tasks
   pub limits : IsWithinLimits s.sizes.frames s.sizes.files s.sizes.slots s.sizes.tasks
 
 unfoldable pub IsSound : CoreState → Type 0

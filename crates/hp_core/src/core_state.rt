@@ -6,8 +6,8 @@ ghost use Rattle.hp_core.specs.Runs.{Row, Run, IsOpening, IsOfConfig, IsIdle, He
 ghost use Rattle.hp_core.specs.Readers.{calls_of, config_of};
 
 use crate::events::step_event;
-use crate::opening::{new_files, new_seats, new_spaces};
-use crate::seat::Seat;
+use crate::opening::{new_files, new_spaces, new_task_states};
+use crate::task_state::TaskState;
 use hp_base::{Config, Event};
 use hp_frames::Bank;
 use hp_machine::Outcome;
@@ -16,12 +16,12 @@ use hp_slots::SlotTable;
 use std::alloc::{AllocError, Global};
 use std::marker::Model;
 
-/// The state of a pool: its parts, and a seat for each task.
+/// The state of a pool: its parts, and the state of each task.
 #[derive(Drop)]
 pub struct Core {
     pub(crate) config: Config,
     pub(crate) parts: Parts,
-    pub(crate) seats: Vec<Seat>,
+    pub(crate) task_states: Vec<TaskState>,
 }
 
 impl Model for Core {
@@ -41,15 +41,15 @@ impl Model for Core {
     ghost view = { λ c. record {
       sizes = sizes c.config;
       parts = state_of c.parts;
-      seats = c.seats.items;
-      room = vec_capacity c.seats;
+      task_states = c.task_states.items;
+      room = vec_capacity c.task_states;
     } };
 
     ghost invariant = { λ c. IsSound (record {
       sizes = sizes c.config;
       parts = state_of c.parts;
-      seats = c.seats.items;
-      room = vec_capacity c.seats;
+      task_states = c.task_states.items;
+      room = vec_capacity c.task_states;
     }) };
 }
 
@@ -67,11 +67,11 @@ impl Core {
             locks: SlotTable::new(alloc, config.files)?,
             spaces: new_spaces(alloc, config.tasks)?,
         };
-        let seats = new_seats(alloc, config.tasks)?;
+        let task_states = new_task_states(alloc, config.tasks)?;
         Ok(Core {
             config,
             parts,
-            seats,
+            task_states,
         })
     }
 
@@ -81,16 +81,16 @@ impl Core {
     pub fn step(&mut self, event: Event) -> Result<Outcome, AllocError>
         ensures row { IfOk result (λ told. Row self.old event told self.new) }
         ensures err { OnErr result (self.new ≡ self.old) }
-        ensures growth { OnErr result (WantsGrowth self.old.parts self.old.seats event) }
+        ensures growth { OnErr result (WantsGrowth self.old.parts self.old.task_states event) }
         ensures idle { IfOk result (λ told. IsIdle told → self.new ≡ self.old) }
 
         // A begin, a kill, a step that isn't granted and one whose row wants no growth take no memory, nor
         // does a resize without new numbers.
-        ensures room { ¬ WantsGrowth self.old.parts self.old.seats event → TakesNoMemory self.old self.new }
+        ensures room { ¬ WantsGrowth self.old.parts self.old.task_states event → TakesNoMemory self.old self.new }
         ensures headline { Headline self.new }
         ensures config { config_of self.new ≡ config_of self.old }
     {
-        step_event(&mut self.parts, &mut self.seats, event)
+        step_event(&mut self.parts, &mut self.task_states, event)
     }
 
     /// What holds of every pool, whatever happened to it: the headline; and that its state is of the sizes that `config`

@@ -6,7 +6,7 @@ ghost use Rattle.hp_core.specs.Readers.{calls_of, config_of};
 ghost use Rattle.hp_core.specs.State.{as_state};
 
 use crate::core_state::Core;
-use crate::seat::Seat;
+use crate::task_state::TaskState;
 use hp_parts::{FileState, Parts};
 use hp_table::Space;
 use std::alloc::{AllocError, Global};
@@ -49,15 +49,15 @@ fn copy_spaces(alloc: Global, spaces: &[Space]) -> Result<Vec<Space>, AllocError
     Ok(copies)
 }
 
-// The same seats, none of which has a call.
-fn copy_seats(alloc: Global, seats: &[Seat]) -> Result<Vec<Seat>, AllocError>
-    requires { All (λ seat. seat.call ≡ None) seats.now }
-    ensures { IfOk result (λ copies. copies.items ≡ seats.now) }
+// The same task states, none of which has a call.
+fn copy_task_states(alloc: Global, task_states: &[TaskState]) -> Result<Vec<TaskState>, AllocError>
+    requires { All (λ task_state. task_state.call ≡ None) task_states.now }
+    ensures { IfOk result (λ copies. copies.items ≡ task_states.now) }
 {
-    let mut copies = Vec::with_capacity(alloc, seats.len())?;
-    for seat in seats {
-        copies.push(Seat {
-            life: seat.life,
+    let mut copies = Vec::with_capacity(alloc, task_states.len())?;
+    for task_state in task_states {
+        copies.push(TaskState {
+            life: task_state.life,
             call: None,
         })?;
     }
@@ -84,11 +84,11 @@ impl Core {
             locks: self.parts.locks.copy(alloc)?,
             spaces: copy_spaces(alloc, &self.parts.spaces)?,
         };
-        let seats = copy_seats(alloc, &self.seats)?;
+        let task_states = copy_task_states(alloc, &self.task_states)?;
         Ok(Core {
             config: self.config,
             parts,
-            seats,
+            task_states,
         })
     }
 }

@@ -1,4 +1,4 @@
-//! What an event does to the parts and the seats.
+//! What an event does to the parts and the task states.
 ghost use Rattle.std.specs.Prelude.{◌≡◌, true, IfOk, IfSome, OnErr, length, vec_capacity};
 ghost use Rattle.hp_machine.specs.State as machine;
 ghost use Rattle.hp_machine.specs.Events as rows;
@@ -7,14 +7,14 @@ ghost use Rattle.hp_parts.specs.State.{state_of, SizesStay};
 ghost use Rattle.hp_parts.specs.Room.{RoomStays, RoomStaysUnless};
 ghost use Rattle.hp_parts.specs.View.{view};
 ghost use Rattle.hp_core.specs.Fits.{EventFits, StepFits};
-ghost use Rattle.hp_core.specs.Seats.{BeginSeats, StepSeats, KillSeats, EventSeats, BlockedStays};
+ghost use Rattle.hp_core.specs.TaskStates.{BeginTaskStates, StepTaskStates, KillTaskStates, EventTaskStates, BlockedStays};
 ghost use Rattle.hp_core.specs.Turns.{IfToldBlocked};
 ghost use Rattle.hp_base.specs.declared.event.Event.TheVariants.{Step};
-ghost use Rattle.hp_core.specs.State.{state_with, seat_at};
+ghost use Rattle.hp_core.specs.State.{state_with, task_state_at};
 ghost use Rattle.hp_core.specs.Runs.{StepWants, WantsGrowth};
 
 use crate::resizing::resize;
-use crate::seat::{Seat, is_dead, is_killed, step_seat};
+use crate::task_state::{TaskState, is_dead, is_killed, step_task_state};
 use hp_base::{Event, File, Index, Op, Task, Vpn};
 use hp_machine::alloc::{AllocPhase, Allocation};
 use hp_machine::exit::ExitPhase;
@@ -89,46 +89,46 @@ pub fn is_exit(op: &Op) -> bool
 }
 
 // A Begin of an operation.
-fn begin(seats: &mut Vec<Seat>, task: Task, op: Op) -> Outcome
-    ensures row { BeginSeats seats.old.items task op result seats.new.items }
+fn begin(task_states: &mut Vec<TaskState>, task: Task, op: Op) -> Outcome
+    ensures row { BeginTaskStates task_states.old.items task op result task_states.new.items }
     ensures told { IfToldBlocked result ⊥ }
-    ensures seats { length seats.new.items ≡ length seats.old.items }
-    ensures capacity { vec_capacity seats.new ≡ vec_capacity seats.old }
+    ensures task_states { length task_states.new.items ≡ length task_states.old.items }
+    ensures capacity { vec_capacity task_states.new ≡ vec_capacity task_states.old }
 {
     let number = task.number() as usize;
-    if number == 0 || number > seats.len() {
+    if number == 0 || number > task_states.len() {
         return Outcome::Refused(Refusal::NotAlive);
     }
-    let seat = &mut seats[number - 1];
-    if is_dead(seat.life) {
+    let task_state = &mut task_states[number - 1];
+    if is_dead(task_state.life) {
         return Outcome::Refused(Refusal::NotAlive);
     }
-    if seat.call.is_some() {
+    if task_state.call.is_some() {
         return Outcome::Refused(Refusal::InCall);
     }
     let exits = is_exit(&op);
-    if is_killed(seat.life) && !exits {
+    if is_killed(task_state.life) && !exits {
         return Outcome::Refused(Refusal::NotAlive);
     }
-    seat.call = Some(first_call(op));
+    task_state.call = Some(first_call(op));
     Outcome::Begun
 }
 
 // A Kill of a task.
-fn kill(seats: &mut Vec<Seat>, task: Task) -> Outcome
-    ensures row { KillSeats seats.old.items task result seats.new.items }
+fn kill(task_states: &mut Vec<TaskState>, task: Task) -> Outcome
+    ensures row { KillTaskStates task_states.old.items task result task_states.new.items }
     ensures told { IfToldBlocked result ⊥ }
-    ensures seats { length seats.new.items ≡ length seats.old.items }
-    ensures capacity { vec_capacity seats.new ≡ vec_capacity seats.old }
+    ensures task_states { length task_states.new.items ≡ length task_states.old.items }
+    ensures capacity { vec_capacity task_states.new ≡ vec_capacity task_states.old }
 {
     let number = task.number() as usize;
-    if number == 0 || number > seats.len() {
+    if number == 0 || number > task_states.len() {
         return Outcome::Refused(Refusal::NotAlive);
     }
-    let seat = &mut seats[number - 1];
-    match seat.life {
+    let task_state = &mut task_states[number - 1];
+    match task_state.life {
         Life::Alive => {
-            seat.life = Life::Killed;
+            task_state.life = Life::Killed;
             Outcome::Marked
         }
         Life::Killed | Life::Dead => Outcome::Refused(Refusal::NotAlive),
@@ -136,36 +136,36 @@ fn kill(seats: &mut Vec<Seat>, task: Task) -> Outcome
 }
 
 // A Step of a task.
-#[tactic(auto, unfolding(crate::specs::Seats::StepSeats))]
+#[tactic(auto, unfolding(crate::specs::TaskStates::StepTaskStates))]
 fn step_task(
     parts: &mut Parts,
-    seats: &mut Vec<Seat>,
+    task_states: &mut Vec<TaskState>,
     task: Task,
     grant: bool,
 ) -> Result<Outcome, AllocError>
-    requires { StepFits (state_of parts.old) seats.old.items task }
+    requires { StepFits (state_of parts.old) task_states.old.items task }
     ensures row { IfOk result
-        (λ told. StepSeats (state_of parts.old) seats.old.items task grant told (state_of parts.new) seats.new.items) }
+        (λ told. StepTaskStates (state_of parts.old) task_states.old.items task grant told (state_of parts.new) task_states.new.items) }
     ensures blocked { IfOk result
         (λ told. IfToldBlocked told
-        (BlockedStays (state_of parts.old) seats.old.items (Step task grant) (state_of parts.new) seats.new.items)) }
+        (BlockedStays (state_of parts.old) task_states.old.items (Step task grant) (state_of parts.new) task_states.new.items)) }
     ensures sizes { SizesStay (state_of parts.old) (state_of parts.new) }
-    ensures room { RoomStaysUnless grant (StepWants (state_of parts.old) seats.old.items task) (state_of parts.old) (state_of parts.new) }
-    ensures seats { length seats.new.items ≡ length seats.old.items }
-    ensures capacity { vec_capacity seats.new ≡ vec_capacity seats.old }
-    ensures err { OnErr result ((state_of parts.new ≡ state_of parts.old) × (seats.new.items ≡ seats.old.items)) }
+    ensures room { RoomStaysUnless grant (StepWants (state_of parts.old) task_states.old.items task) (state_of parts.old) (state_of parts.new) }
+    ensures task_states { length task_states.new.items ≡ length task_states.old.items }
+    ensures capacity { vec_capacity task_states.new ≡ vec_capacity task_states.old }
+    ensures err { OnErr result ((state_of parts.new ≡ state_of parts.old) × (task_states.new.items ≡ task_states.old.items)) }
     ensures growth { OnErr result (grant ≡ true) }
-    ensures wanted { OnErr result (StepWants (state_of parts.old) seats.old.items task) }
+    ensures wanted { OnErr result (StepWants (state_of parts.old) task_states.old.items task) }
 {
     let number = task.number() as usize;
-    if number == 0 || number > seats.len() {
+    if number == 0 || number > task_states.len() {
         return Ok(Outcome::Refused(Refusal::NotAlive));
     }
-    let seat = &mut seats[number - 1];
-    if is_dead(seat.life) {
+    let task_state = &mut task_states[number - 1];
+    if is_dead(task_state.life) {
         return Ok(Outcome::Refused(Refusal::NotAlive));
     }
-    let told = step_seat(parts, seat, task, grant)?;
+    let told = step_task_state(parts, task_state, task, grant)?;
     match told {
         Some(outcome) => Ok(outcome),
         None => Ok(Outcome::Refused(Refusal::Idle)),
@@ -173,27 +173,27 @@ fn step_task(
 }
 
 /// One event. Where it finds no memory nothing changed.
-#[tactic(auto, unfolding(crate::specs::Seats::EventSeats))]
+#[tactic(auto, unfolding(crate::specs::TaskStates::EventTaskStates))]
 pub fn step_event(
     parts: &mut Parts,
-    seats: &mut Vec<Seat>,
+    task_states: &mut Vec<TaskState>,
     event: Event,
 ) -> Result<Outcome, AllocError>
-    requires { EventFits (state_of parts.old) seats.old.items event }
-    ensures row { IfOk result (λ told. EventSeats (state_of parts.old) seats.old.items event told (state_of parts.new) seats.new.items) }
+    requires { EventFits (state_of parts.old) task_states.old.items event }
+    ensures row { IfOk result (λ told. EventTaskStates (state_of parts.old) task_states.old.items event told (state_of parts.new) task_states.new.items) }
     ensures blocked { IfOk result
-        (λ told. IfToldBlocked told (BlockedStays (state_of parts.old) seats.old.items event (state_of parts.new) seats.new.items)) }
+        (λ told. IfToldBlocked told (BlockedStays (state_of parts.old) task_states.old.items event (state_of parts.new) task_states.new.items)) }
     ensures sizes { SizesStay (state_of parts.old) (state_of parts.new) }
-    ensures room { ¬ WantsGrowth (state_of parts.old) seats.old.items event → RoomStays (state_of parts.old) (state_of parts.new) }
-    ensures seats { length seats.new.items ≡ length seats.old.items }
-    ensures capacity { vec_capacity seats.new ≡ vec_capacity seats.old }
-    ensures err { OnErr result ((state_of parts.new ≡ state_of parts.old) × (seats.new.items ≡ seats.old.items)) }
-    ensures growth { OnErr result (WantsGrowth (state_of parts.old) seats.old.items event) }
+    ensures room { ¬ WantsGrowth (state_of parts.old) task_states.old.items event → RoomStays (state_of parts.old) (state_of parts.new) }
+    ensures task_states { length task_states.new.items ≡ length task_states.old.items }
+    ensures capacity { vec_capacity task_states.new ≡ vec_capacity task_states.old }
+    ensures err { OnErr result ((state_of parts.new ≡ state_of parts.old) × (task_states.new.items ≡ task_states.old.items)) }
+    ensures growth { OnErr result (WantsGrowth (state_of parts.old) task_states.old.items event) }
 {
     match event {
-        Event::Begin(task, op) => Ok(begin(seats, task, op)),
-        Event::Step(task, grant) => step_task(parts, seats, task, grant),
-        Event::Kill(task) => Ok(kill(seats, task)),
+        Event::Begin(task, op) => Ok(begin(task_states, task, op)),
+        Event::Step(task, grant) => step_task(parts, task_states, task, grant),
+        Event::Kill(task) => Ok(kill(task_states, task)),
         Event::Resize(frames) => resize(parts, frames),
     }
 }

@@ -1,11 +1,12 @@
-//! The core: one state machine over events, which holds the parts of a pool and a seat for each task.
+//! The core: one state machine over events, which holds the parts of a pool and the state of each task.
 //!
 //! It stands on hp_fault and hp_remove, whose steps it drives, and on hp_laws, whose theorems it inherits. A core is seen
-//! as its parts and seats, read as a state of hp_machine; its invariant is that a run of the machine reached
+//! as its parts and task states, read as a state of hp_machine; its invariant is that a run of the machine reached
 //! that state. So each event is a row of the machine, and whatever is proved of every run holds of every core.
 //! It knows no text, no thread and no client.
 #![tactic(auto)]
 
+pub mod acquiring;
 pub mod core_state;
 mod duplicate;
 mod events;
@@ -21,12 +22,12 @@ mod refusing;
 mod resizing;
 pub mod run;
 mod run_laws;
-pub mod seat;
 mod standing;
+pub mod task_state;
 pub mod waiting;
-pub mod wanting;
 pub mod words;
 
+pub use acquiring::Acquired;
 pub use core_state::Core;
 pub use holding::Holding;
 pub use hp_audit::{FilePicture, Finding, Picture, audit};
@@ -34,6 +35,5 @@ pub use hp_base::Answer;
 pub use hp_machine::{Life, Outcome, Phase, Refusal};
 pub use readers::Tally;
 pub use run::RunFault;
-pub use seat::Seat;
+pub use task_state::TaskState;
 pub use waiting::Readiness;
-pub use wanting::Wanted;

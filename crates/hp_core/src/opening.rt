@@ -1,10 +1,10 @@
-//! The parts and seats of a pool that nothing has happened to.
+//! The parts and task states of a pool that nothing has happened to.
 ghost use Rattle.std.specs.Prelude.{◌≡◌, IfOk, All, length};
 ghost use Rattle.hp_core.specs.Opening.{IsFresh, IsVacant};
 ghost use Rattle.hp_core.specs.State.{CoreState};
 ghost use Rattle.hp_parts.specs.View.{no_table};
 
-use crate::seat::Seat;
+use crate::task_state::TaskState;
 use hp_cache::PageCache;
 use hp_machine::Life;
 use hp_parts::FileState;
@@ -40,17 +40,17 @@ pub fn new_spaces(alloc: Global, count: u32) -> Result<Vec<Space>, AllocError>
     Ok(spaces)
 }
 
-/// So many seats, each of a task that is alive and has no call.
-pub fn new_seats(alloc: Global, count: u32) -> Result<Vec<Seat>, AllocError>
-    ensures count { IfOk result (λ seats. length seats.items ≡ count) }
-    ensures fresh { IfOk result (λ seats. All IsVacant seats.items) }
+/// So many task states, each of a task that is alive and has no call.
+pub fn new_task_states(alloc: Global, count: u32) -> Result<Vec<TaskState>, AllocError>
+    ensures count { IfOk result (λ task_states. length task_states.items ≡ count) }
+    ensures fresh { IfOk result (λ task_states. All IsVacant task_states.items) }
 {
-    let mut seats = Vec::new(alloc);
+    let mut task_states = Vec::new(alloc);
     for _ in 0..count {
-        seats.push(Seat {
+        task_states.push(TaskState {
             life: Life::Alive,
             call: None,
         })?;
     }
-    Ok(seats)
+    Ok(task_states)
 }

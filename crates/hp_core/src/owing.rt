@@ -2,37 +2,37 @@
 ghost use Rattle.std.specs.Prelude.{◌≡◌, ◌≤◌, ◌*◌, ◌^◌, ◌-ℤ◌, pos, length, sum_by};
 ghost use Rattle.hp_machine.specs.Views.{less, more, used_owed};
 ghost use Rattle.hp_core.specs.Readers.{config_of, owed_of, used_owed_of};
-ghost use Rattle.hp_core.specs.Wanting.{owed_by_of};
+ghost use Rattle.hp_core.specs.Acquiring.{owed_by_of};
 
 use crate::core_state::Core;
-use crate::seat::Seat;
 use crate::standing::standing_of;
+use crate::task_state::TaskState;
 use hp_base::Task;
 
 // The sum over all calls in flight.
-fn all_uses(seats: &[Seat]) -> u64
-    requires { length seats.now ≤ 64 }
-    ensures sum { result ≡ sum_by (λ seat. used_owed seat.call) seats.now }
+fn all_uses(task_states: &[TaskState]) -> u64
+    requires { length task_states.now ≤ 64 }
+    ensures sum { result ≡ sum_by (λ task_state. used_owed task_state.call) task_states.now }
     ensures few { result ≤ 2 ^ 33 * 64 }
 {
     let mut all_uses = 0;
-    for seat in seats {
-        all_uses += standing_of(&seat.call).used;
+    for task_state in task_states {
+        all_uses += standing_of(&task_state.call).used;
     }
     all_uses
 }
 
 // The sums over all calls in flight, both ways.
-fn sums(seats: &[Seat]) -> (u64, u64)
-    requires { length seats.now ≤ 64 }
-    ensures less { result.0 ≡ sum_by (λ seat. less seat.call) seats.now }
-    ensures more { result.1 ≡ sum_by (λ seat. more seat.call) seats.now }
+fn sums(task_states: &[TaskState]) -> (u64, u64)
+    requires { length task_states.now ≤ 64 }
+    ensures less { result.0 ≡ sum_by (λ task_state. less task_state.call) task_states.now }
+    ensures more { result.1 ≡ sum_by (λ task_state. more task_state.call) task_states.now }
     ensures few_less { result.0 ≤ 2 ^ 32 * 64 }
     ensures few_more { result.1 ≤ 2 ^ 32 * 64 }
 {
     let (mut all_less, mut all_more) = (0, 0);
-    for seat in seats {
-        let standing = standing_of(&seat.call);
+    for task_state in task_states {
+        let standing = standing_of(&task_state.call);
         all_less += u64::from(standing.less);
         all_more += u64::from(standing.more);
     }
@@ -61,7 +61,7 @@ impl Core {
     pub fn owed(&self) -> i64
         ensures { result ≡ owed_of self.now }
     {
-        let (less, more) = sums(&self.seats);
+        let (less, more) = sums(&self.task_states);
         difference(more, less)
     }
 
@@ -71,7 +71,7 @@ impl Core {
         requires last { task ≤ (config_of self.now).tasks }
         ensures { result ≡ owed_by_of self.now task }
     {
-        let standing = standing_of(&self.seats[(task.number() - 1) as usize].call);
+        let standing = standing_of(&self.task_states[(task.number() - 1) as usize].call);
         difference(u64::from(standing.more), u64::from(standing.less))
     }
 
@@ -79,6 +79,6 @@ impl Core {
     pub fn used_owed(&self) -> i64
         ensures { result ≡ used_owed_of self.now }
     {
-        signed(all_uses(&self.seats))
+        signed(all_uses(&self.task_states))
     }
 }

@@ -143,7 +143,7 @@ impl Core {
             used: self.used(),
             used_owed: self.used_owed(),
             quota: self.quota(),
-            hands: hands(alloc, &self.seats)?,
+            hands: hands(alloc, &self.task_states)?,
             files: file_pictures(alloc, &self.parts.files, &self.parts.locks)?,
             tables: tables(alloc, &self.parts.spaces)?,
         })

@@ -3,7 +3,7 @@ ghost use Rattle.std.specs.Prelude.{◌≡◌, ◌≤◌, ◌<◌, ◌+◌, ℕ,
 ghost use Rattle.hp_base.specs.Numbers.{total};
 ghost use Rattle.hp_base.specs.Indices.{count_below};
 ghost use Rattle.hp_parts.specs.View.{sets_of};
-ghost use Rattle.hp_core.specs.State.{CoreState, seat_at};
+ghost use Rattle.hp_core.specs.State.{CoreState, task_state_at};
 ghost use Rattle.hp_core.specs.Readers.{config_of, frames_of, free_of, resv_of, used_of, quota_of, calls_of, size_of, reserved_of, regions_of, pages_of};
 ghost use Rattle.hp_core.specs.Readers.{changes_of, spare_of, life_of, mappings_of, entries_of, translation_of, phase_of};
 ghost use Rattle.hp_core.specs.Readers.{all_reserved_of, all_pages_of};
@@ -11,7 +11,7 @@ ghost use Rattle.hp_core.specs.Runs.{Headline};
 ghost use Rattle.hp_machine.specs.Resizes.{is_size};
 
 use crate::core_state::Core;
-use crate::seat::Seat;
+use crate::task_state::TaskState;
 use crate::words::phase_word;
 use hp_base::{File, Frame, LIMIT, Task, Vpn};
 use hp_machine::{Life, Phase};
@@ -30,12 +30,12 @@ pub struct Tally {
 }
 
 // The calls in flight.
-fn count_calls(seats: &[Seat]) -> usize
-    ensures { result ≡ count_by (λ seat. is_some seat.call) seats.now }
+fn count_calls(task_states: &[TaskState]) -> usize
+    ensures { result ≡ count_by (λ task_state. is_some task_state.call) task_states.now }
 {
     let mut calls = 0;
-    for seat in seats {
-        if seat.call.is_some() {
+    for task_state in task_states {
+        if task_state.call.is_some() {
             calls += 1;
         }
     }
@@ -87,7 +87,7 @@ impl Core {
     pub fn calls(&self) -> u32
         ensures { result ≡ calls_of self.now }
     {
-        count_calls(&self.seats) as u32
+        count_calls(&self.task_states) as u32
     }
 
     /// The numbers of the pool as a whole. At every moment the headline holds of it: entries agree, each
@@ -177,7 +177,7 @@ impl Core {
         requires last { task ≤ (config_of self.now).tasks }
         ensures { result ≡ life_of self.now task }
     {
-        self.seats[(task.number() - 1) as usize].life
+        self.task_states[(task.number() - 1) as usize].life
     }
 
     /// The number of its mappings.
@@ -213,7 +213,7 @@ impl Core {
         requires last { task ≤ (config_of self.now).tasks }
         ensures { result ≡ phase_of self.now task }
     {
-        match &self.seats[(task.number() - 1) as usize].call {
+        match &self.task_states[(task.number() - 1) as usize].call {
             Some(call) => Some(phase_word(call)),
             None => None,
         }

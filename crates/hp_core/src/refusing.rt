@@ -3,68 +3,71 @@ ghost use Rattle.std.specs.Prelude.{◌≡◌, MatchOption};
 ghost use Rattle.hp_base.specs.declared.event.Event.TheVariants as event;
 ghost use Rattle.hp_parts.specs.State.{state_of, IsSized};
 ghost use Rattle.hp_core.specs.HeldBack.{HeldBack, refusal_of, event_blocker, told_back};
-ghost use Rattle.hp_core.specs.State.{no_seat, seat_at};
+ghost use Rattle.hp_core.specs.State.{no_task_state, task_state_at};
 
 use crate::core_state::Core;
 use crate::events::is_exit;
-use crate::seat::{Seat, is_dead, is_killed};
-use crate::waiting::seat_blocker;
+use crate::task_state::{TaskState, is_dead, is_killed};
+use crate::waiting::task_state_blocker;
 use hp_base::{Config, Event, Op, Task};
 use hp_machine::{Life, Outcome, Refusal};
 use hp_parts::Parts;
 
-// The seat of a task that is there.
-fn seat_of(seats: &[Seat], task: Task) -> Option<&Seat>
-    ensures { MatchOption result (seat_at seats.now task ≡ no_seat) (λ seat. seat.now ≡ seat_at seats.now task) }
+// The state of a task that is there.
+fn task_state_of(task_states: &[TaskState], task: Task) -> Option<&TaskState>
+    ensures { MatchOption result (task_state_at task_states.now task ≡ no_task_state) (λ task_state. task_state.now ≡ task_state_at task_states.now task) }
 {
     let before = (task.number() as usize).checked_sub(1)?;
-    seats.get(before)
+    task_states.get(before)
 }
 
-fn begin_refusal(seats: &[Seat], task: Task, op: &Op) -> Option<Refusal>
-    ensures { result ≡ refusal_of seats.now (event.Begin task op.now) }
+fn begin_refusal(task_states: &[TaskState], task: Task, op: &Op) -> Option<Refusal>
+    ensures { result ≡ refusal_of task_states.now (event.Begin task op.now) }
 {
-    let Some(seat) = seat_of(seats, task) else {
+    let Some(task_state) = task_state_of(task_states, task) else {
         return Some(Refusal::NotAlive);
     };
-    if is_dead(seat.life) {
+    if is_dead(task_state.life) {
         return Some(Refusal::NotAlive);
     }
-    if seat.call.is_some() {
+    if task_state.call.is_some() {
         return Some(Refusal::InCall);
     }
-    (is_killed(seat.life) && !is_exit(op)).then_some(Refusal::NotAlive)
+    (is_killed(task_state.life) && !is_exit(op)).then_some(Refusal::NotAlive)
 }
 
-fn step_refusal(seats: &[Seat], task: Task, grant: bool) -> Option<Refusal>
-    ensures { result ≡ refusal_of seats.now (event.Step task grant) }
+fn step_refusal(task_states: &[TaskState], task: Task, grant: bool) -> Option<Refusal>
+    ensures { result ≡ refusal_of task_states.now (event.Step task grant) }
 {
     let _ = grant;
-    match seat_of(seats, task) {
-        Some(seat) if !is_dead(seat.life) => seat.call.is_none().then_some(Refusal::Idle),
+    match task_state_of(task_states, task) {
+        Some(task_state) if !is_dead(task_state.life) => task_state
+            .call
+            .is_none()
+            .then_some(Refusal::Idle),
         _ => Some(Refusal::NotAlive),
     }
 }
 
-fn kill_refusal(seats: &[Seat], task: Task) -> Option<Refusal>
-    ensures { result ≡ refusal_of seats.now (event.Kill task) }
+fn kill_refusal(task_states: &[TaskState], task: Task) -> Option<Refusal>
+    ensures { result ≡ refusal_of task_states.now (event.Kill task) }
 {
-    let Some(seat) = seat_of(seats, task) else {
+    let Some(task_state) = task_state_of(task_states, task) else {
         return Some(Refusal::NotAlive);
     };
-    match seat.life {
+    match task_state.life {
         Life::Alive => None,
         Life::Killed | Life::Dead => Some(Refusal::NotAlive),
     }
 }
 
-fn refusal(seats: &[Seat], event: &Event) -> Option<Refusal>
-    ensures { result ≡ refusal_of seats.now event.now }
+fn refusal(task_states: &[TaskState], event: &Event) -> Option<Refusal>
+    ensures { result ≡ refusal_of task_states.now event.now }
 {
     match event {
-        Event::Begin(task, op) => begin_refusal(seats, *task, op),
-        Event::Step(task, grant) => step_refusal(seats, *task, *grant),
-        Event::Kill(task) => kill_refusal(seats, *task),
+        Event::Begin(task, op) => begin_refusal(task_states, *task, op),
+        Event::Step(task, grant) => step_refusal(task_states, *task, *grant),
+        Event::Kill(task) => kill_refusal(task_states, *task),
         Event::Resize(frames) => {
             (*frames == 0 || *frames > Config::MAX_FRAMES).then_some(Refusal::BadSize)
         }
@@ -72,12 +75,12 @@ fn refusal(seats: &[Seat], event: &Event) -> Option<Refusal>
 }
 
 // Who holds up the event.
-fn event_blocker(parts: &Parts, seats: &[Seat], event: &Event) -> Option<Task>
+fn event_blocker(parts: &Parts, task_states: &[TaskState], event: &Event) -> Option<Task>
     requires { IsSized (state_of parts.now) }
-    ensures { result ≡ event_blocker (state_of parts.now) seats.now event.now }
+    ensures { result ≡ event_blocker (state_of parts.now) task_states.now event.now }
 {
     match event {
-        Event::Step(task, _) => seat_blocker(parts, seat_of(seats, *task)?),
+        Event::Step(task, _) => task_state_blocker(parts, task_state_of(task_states, *task)?),
         Event::Begin(..) | Event::Kill(_) | Event::Resize(_) => None,
     }
 }
@@ -99,8 +102,8 @@ impl Core {
     pub fn held_back(&self, event: Event) -> Option<Outcome>
         ensures { HeldBack self.now event result }
     {
-        let refusal = refusal(&self.seats, &event);
-        let holder = event_blocker(&self.parts, &self.seats, &event);
+        let refusal = refusal(&self.task_states, &event);
+        let holder = event_blocker(&self.parts, &self.task_states, &event);
         told_back(refusal, holder)
     }
 }

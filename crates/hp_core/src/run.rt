@@ -23,7 +23,7 @@ impl Core {
         ensures within { IfErr result (λ fault. fault.done < length events.now) }
         // There was no room for the outcomes, or the event that didn't happen wants growth.
         ensures wanted { IfErr result (λ fault. (fault.done ≡ 0)
-            ⊎ HoldsAt (λ event. WantsGrowth self.new.parts self.new.seats event) events.now fault.done) }
+            ⊎ HoldsAt (λ event. WantsGrowth self.new.parts self.new.task_states event) events.now fault.done) }
         ensures stopped { IfErr result (λ fault. (told : List Outcome) × Run self.old (take fault.done events.now) told self.new) }
         ensures headline { Headline self.new }
     {

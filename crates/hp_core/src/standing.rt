@@ -1,10 +1,10 @@
 //! What a call in flight owes, holds and wants, by the phase in which it stands: one table, a line a phase, the
 //! mirror of that of the machine (`hp_machine/specs/Standings.antt`).
 ghost use Rattle.std.specs.Prelude.{◌≡◌, ◌≤◌, ◌^◌, Some};
-ghost use Rattle.hp_machine.specs.Standings.{apart, in_touch, in_truncate, standing, standing_of};
+ghost use Rattle.hp_machine.specs.Standings.{unencumbered, in_touch, in_truncate, standing, standing_of};
 ghost use Rattle.hp_core.specs.Standing.{standing_as};
 
-use crate::wanting::Wanted;
+use crate::acquiring::Acquired;
 use hp_base::{File, Frame, Index};
 use hp_machine::Call;
 use hp_machine::alloc::{AllocPhase, Allocation};
@@ -29,12 +29,12 @@ pub struct Standing {
     // the file and the index whose slot it holds
     pub slot: Option<(File, Index)>,
     // what its next step has to take
-    pub wants: Wanted,
+    pub wants: Acquired,
 }
 
 // A call that owes, holds and wants nothing; the lines below name what differs.
-fn apart() -> Standing
-    ensures { result ≡ standing_as apart }
+fn unencumbered() -> Standing
+    ensures { result ≡ standing_as unencumbered }
 {
     Standing {
         less: 0,
@@ -43,7 +43,7 @@ fn apart() -> Standing
         hand: None,
         lock: None,
         slot: None,
-        wants: Wanted::Nothing,
+        wants: Acquired::Nothing,
     }
 }
 
@@ -52,21 +52,21 @@ fn in_touch(touch: &Touch) -> Standing
 {
     Standing {
         slot: Some((touch.file, touch.index)),
-        ..apart()
+        ..unencumbered()
     }
 }
 
 fn in_file(file: File) -> Standing
-    ensures { result ≡ standing_as (record apart { lock = Some file }) }
+    ensures { result ≡ standing_as (record unencumbered { lock = Some file }) }
 {
     Standing {
         lock: Some(file),
-        ..apart()
+        ..unencumbered()
     }
 }
 
 fn in_file_at(file: File, index: Index) -> Standing
-    ensures { result ≡ standing_as (record apart { lock = Some file; slot = Some (file, index) }) }
+    ensures { result ≡ standing_as (record unencumbered { lock = Some file; slot = Some (file, index) }) }
 {
     Standing {
         slot: Some((file, index)),
@@ -79,10 +79,10 @@ fn touch_standing(phase: &TouchPhase) -> Standing
     ensures few { result.used ≤ 2 ^ 33 }
 {
     match phase {
-        TouchPhase::Look(_) => apart(),
+        TouchPhase::Look(_) => unencumbered(),
         TouchPhase::Want(at) => Standing {
-            wants: Wanted::Slot(at.touch.file, at.touch.index),
-            ..apart()
+            wants: Acquired::Slot(at.touch.file, at.touch.index),
+            ..unencumbered()
         },
         TouchPhase::Locked(at) => in_touch(&at.touch),
         TouchPhase::Missing(at) => in_touch(&at.touch),
@@ -120,8 +120,8 @@ fn map_standing(phase: &MapPhase) -> Standing
 {
     match phase {
         MapPhase::Start(at) => Standing {
-            wants: Wanted::Lock(at.map.file),
-            ..apart()
+            wants: Acquired::Lock(at.map.file),
+            ..unencumbered()
         },
         MapPhase::Room(at) => in_file(at.map.file),
         MapPhase::Missing(at) => in_file(at.map.file),
@@ -148,12 +148,12 @@ fn alloc_standing(phase: &AllocPhase) -> Standing
 {
     match phase {
         AllocPhase::Start(at) => Standing {
-            wants: Wanted::Lock(at.allocation.file),
-            ..apart()
+            wants: Acquired::Lock(at.allocation.file),
+            ..unencumbered()
         },
         AllocPhase::Head(at) => in_file(at.allocation.file),
         AllocPhase::Want(at) => Standing {
-            wants: Wanted::Slot(at.allocation.file, at.index),
+            wants: Acquired::Slot(at.allocation.file, at.index),
             ..in_file(at.allocation.file)
         },
         AllocPhase::Locked(at) => in_file_at(at.allocation.file, at.index),
@@ -193,11 +193,11 @@ fn punch_standing(phase: &PunchPhase) -> Standing
 {
     match phase {
         PunchPhase::Start(at) => Standing {
-            wants: Wanted::Lock(at.hole.file),
-            ..apart()
+            wants: Acquired::Lock(at.hole.file),
+            ..unencumbered()
         },
         PunchPhase::Want(at) => Standing {
-            wants: Wanted::Slot(at.hole.file, at.index),
+            wants: Acquired::Slot(at.hole.file, at.index),
             ..in_file(at.hole.file)
         },
         PunchPhase::Locked(at) => in_file_at(at.hole.file, at.index),
@@ -244,12 +244,12 @@ fn truncate_standing(phase: &TruncatePhase) -> Standing
 {
     match phase {
         TruncatePhase::Start(at) => Standing {
-            wants: Wanted::Lock(at.truncation.file),
-            ..apart()
+            wants: Acquired::Lock(at.truncation.file),
+            ..unencumbered()
         },
         TruncatePhase::Size(at) => in_file(at.truncation.file),
         TruncatePhase::Want(at) => Standing {
-            wants: Wanted::Slot(at.truncation.file, at.index),
+            wants: Acquired::Slot(at.truncation.file, at.index),
             ..in_sweep(&at.truncation, at.evicted)
         },
         TruncatePhase::Locked(at) => in_sweep_at(&at.truncation, at.index, at.evicted),
@@ -280,7 +280,7 @@ fn call_standing(call: &Call) -> Standing
         Call::Alloc(phase) => alloc_standing(phase),
         Call::Punch(phase) => punch_standing(phase),
         Call::Truncate(phase) => truncate_standing(phase),
-        Call::Unmap(_) | Call::Exit(_) => apart(),
+        Call::Unmap(_) | Call::Exit(_) => unencumbered(),
     }
 }
 
@@ -291,6 +291,6 @@ pub fn standing_of(call: &Option<Call>) -> Standing
 {
     match call {
         Some(call) => call_standing(call),
-        None => apart(),
+        None => unencumbered(),
     }
 }

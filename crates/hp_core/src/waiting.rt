@@ -7,7 +7,7 @@ ghost use Rattle.hp_core.specs.Readers.{config_of};
 ghost use Rattle.hp_core.specs.Waiting.{WaitsFor, IsReady};
 
 use crate::core_state::Core;
-use crate::seat::{Seat, is_dead, is_killed};
+use crate::task_state::{TaskState, is_dead, is_killed};
 use hp_base::{File, Index, LIMIT, Task};
 use hp_machine::Call;
 use hp_machine::alloc::AllocPhase;
@@ -130,16 +130,16 @@ fn call_blocker(parts: &Parts, killed: bool, call: &Call) -> Option<Task>
     }
 }
 
-/// Who holds up the next step of the seat's task.
-pub fn seat_blocker(parts: &Parts, seat: &Seat) -> Option<Task>
+/// Who holds up the task's next step.
+pub fn task_state_blocker(parts: &Parts, task_state: &TaskState) -> Option<Task>
     requires { IsSized (state_of parts.now) }
-    ensures { result ≡ task_blocker (state_of parts.now) seat.now }
+    ensures { result ≡ task_blocker (state_of parts.now) task_state.now }
 {
-    if is_dead(seat.life) {
+    if is_dead(task_state.life) {
         return None;
     }
-    match &seat.call {
-        Some(call) => call_blocker(parts, is_killed(seat.life), call),
+    match &task_state.call {
+        Some(call) => call_blocker(parts, is_killed(task_state.life), call),
         None => None,
     }
 }
@@ -151,7 +151,7 @@ impl Core {
         requires last { task ≤ (config_of self.now).tasks }
         ensures { WaitsFor self.now task result }
     {
-        seat_blocker(&self.parts, &self.seats[(task.number() - 1) as usize])
+        task_state_blocker(&self.parts, &self.task_states[(task.number() - 1) as usize])
     }
 
     /// Whether a call of the task is in flight, and whether its next step is blocked: in one look.

@@ -8,7 +8,7 @@ use Rattle.hp_machine.specs.declared.phase.Phase.{Phase}
 use Rattle.hp_core.specs.Holding.{holding_of}
 use Rattle.hp_core.specs.Readers.{config_of, free_of, resv_of, owed_of, phase_of}
 use Rattle.hp_core.specs.State.{CoreState}
-use Rattle.hp_core.specs.Wanting.{wanted_of, owed_by_of}
+use Rattle.hp_core.specs.Acquiring.{acquired_of, owed_by_of}
 use Rattle.hp_core.specs.declared.holding.Holding.{Holding}
 use Rattle.hp_replay.specs.Outcomes.{state_text}
 use Rattle.hp_explain.specs.Layout.{columns, titles, right, right_signed}
@@ -58,7 +58,7 @@ in_flight_text core task phase =
     codes "task " ++ (decimal task
     ++ (codes " is at " ++ (phase_word phase
     ++ (codes ": holds " ++ (holding_text core (holding_of core task)
-    ++ (codes ", wants " ++ (wanted_text core (wanted_of core task)
+    ++ (codes ", wants " ++ (wanted_text core (acquired_of core task)
     ++ (codes ", owes " ++ (signed_decimal (owed_by_of core task) ++ 10 ∷ [])))))))))
 
 -- where a call of the task is in flight

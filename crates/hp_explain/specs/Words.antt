@@ -11,9 +11,9 @@ use Rattle.hp_machine.specs.declared.outcome.Outcome.TheVariants as outcome
 use Rattle.hp_core.specs.Readers.{config_of}
 use Rattle.hp_core.specs.Runs.{geometry}
 use Rattle.hp_core.specs.State.{CoreState}
-use Rattle.hp_core.specs.Wanting.{wanted_of}
-use Rattle.hp_core.specs.declared.wanting.Wanted.{Wanted}
-use Rattle.hp_core.specs.declared.wanting.Wanted.TheVariants as wanted
+use Rattle.hp_core.specs.Acquiring.{acquired_of}
+use Rattle.hp_core.specs.declared.acquiring.Acquired.{Acquired}
+use Rattle.hp_core.specs.declared.acquiring.Acquired.TheVariants as wanted
 
 -- the column of a task: its number, or 0 where the pool has no such task
 abbrev pub column_of_task : (tasks task : ℕ) → ℕ
@@ -37,14 +37,14 @@ abbrev pub lock_text : (file : ℕ) → List ℕ
 lock_text file = codes "lock of file " ++ decimal file
 
 -- what a call wants
-abbrev pub wanted_text : CoreState → Wanted → List ℕ
+abbrev pub wanted_text : CoreState → Acquired → List ℕ
 wanted_text core wanted.Nothing = codes "nothing"
 wanted_text core (wanted.Lock file) = lock_text file
 wanted_text core (wanted.Slot file index) = slot_text core file index
 
 -- what the call of the task in that column wants
-abbrev pub wanted_in : CoreState → (column : ℕ) → Wanted
-wanted_in core column = if column == 0 then wanted.Nothing else wanted_of core column
+abbrev pub wanted_in : CoreState → (column : ℕ) → Acquired
+wanted_in core column = if column == 0 then wanted.Nothing else acquired_of core column
 
 -- `blocked by 2: slot 3, file 0 index 0`, else the outcome as it is
 abbrev pub told_text : CoreState → Event → Outcome → List ℕ

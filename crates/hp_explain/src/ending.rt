@@ -6,7 +6,7 @@ ghost use Rattle.hp_replay.specs.Streams.{TellsWrites};
 ghost use Rattle.hp_replay.specs.Writing.{IsWriteFault, Wrote};
 ghost use Rattle.std.specs.Io.KnownBytes.{Appends};
 
-use crate::words::{push_slot, push_wanted};
+use crate::words::{push_acquired, push_slot};
 use hp_base::Task;
 use hp_core::{Core, Holding, Phase};
 use hp_replay::{ReplayFault, Sink, push_state, write_text};
@@ -42,7 +42,7 @@ fn push_call(core: &Core, task: Task, phase: Phase, text: &mut String) -> Result
     write!(text, "task {task} is at {phase}: holds ")?;
     push_holding(core, core.holding(task), text)?;
     text.push_str(", wants ")?;
-    push_wanted(core, core.wanting(task), text)?;
+    push_acquired(core, core.acquiring(task), text)?;
     let owed = core.owed_by(task);
     writeln!(text, ", owes {owed}")
 }

@@ -7,7 +7,7 @@ ghost use Rattle.hp_explain.specs.Words.{cell_text, column_of, column_of_task, l
 ghost use Rattle.hp_machine.specs.State.{slot_of};
 
 use hp_base::{Config, Event, File, Index, Task};
-use hp_core::{Core, Outcome, Wanted};
+use hp_core::{Acquired, Core, Outcome};
 use std::alloc::AllocError;
 
 /// The column of a task: its number, or 0 where the pool has no such task.
@@ -57,25 +57,29 @@ pub(crate) fn push_slot(
 }
 
 /// Appends what a call wants.
-pub(crate) fn push_wanted(core: &Core, wanted: Wanted, text: &mut String) -> Result<(), AllocError>
+pub(crate) fn push_acquired(
+    core: &Core,
+    wanted: Acquired,
+    text: &mut String,
+) -> Result<(), AllocError>
     ensures { OnOk result (string_bytes text.new ≡ string_bytes text.old ++ wanted_text core.now wanted) }
 {
     match wanted {
-        Wanted::Nothing => text.push_str("nothing"),
-        Wanted::Lock(file) => write!(text, "lock of file {file}"),
-        Wanted::Slot(file, index) => push_slot(core, file, index, text),
+        Acquired::Nothing => text.push_str("nothing"),
+        Acquired::Lock(file) => write!(text, "lock of file {file}"),
+        Acquired::Slot(file, index) => push_slot(core, file, index, text),
     }
 }
 
 /// What the call of the task in that column wants.
-fn wanted_in(core: &Core, column: u32) -> Wanted
+fn wanted_in(core: &Core, column: u32) -> Acquired
     requires { column ≤ (config_of core.now).tasks }
     ensures { result ≡ wanted_in core.now column }
 {
     if column == 0 {
-        return Wanted::Nothing;
+        return Acquired::Nothing;
     }
-    core.wanting(Task::new(column))
+    core.acquiring(Task::new(column))
 }
 
 /// Appends what came of an event: the outcome, and where a step was blocked, by whom and on what.
@@ -87,7 +91,7 @@ fn push_told(core: &Core, event: &Event, told: Outcome, text: &mut String) -> Re
             let config = core.config();
             let wanted = wanted_in(core, column_of(config.tasks, event));
             write!(text, "blocked by {holder}: ")?;
-            push_wanted(core, wanted, text)
+            push_acquired(core, wanted, text)
         }
         _ => write!(text, "{told}"),
     }

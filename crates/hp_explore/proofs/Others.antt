@@ -31,11 +31,11 @@ use Rattle.hp_laws.proofs.Standing.{HasSlot, HasLock}
 use Rattle.hp_parts.specs.State.{PartsState}
 use Rattle.hp_parts.specs.View.{holders_of}
 use Rattle.hp_slots.specs.Holders.{slot_number}
-use Rattle.hp_core.specs.Blockers.{slot_blocker, lock_blocker, call_blocker, seat_call_blocker, task_blocker, is_bad}
+use Rattle.hp_core.specs.Blockers.{slot_blocker, lock_blocker, call_blocker, task_state_call_blocker, task_blocker, is_bad}
 use Rattle.hp_core.specs.Holding.{held_by, holding_of}
 use Rattle.hp_core.specs.Readers.{phase_of}
 use Rattle.hp_core.specs.Runs.{Row}
-use Rattle.hp_core.specs.State.{CoreState, as_state, seat_at, calls_of, lives_of}
+use Rattle.hp_core.specs.State.{CoreState, as_state, task_state_at, calls_of, lives_of}
 use Rattle.hp_core.specs.Waiting.{WaitsFor}
 use Rattle.hp_core.proofs.Waits.{nobody, step_blocks, step_held}
 use Rattle.hp_explore.specs.Schedule.{Plan, World, Choice, CanTurn, AreRunnable, AreRunnableOf, in_call, next_call, word, drawn}
@@ -130,22 +130,22 @@ same_blocker p q h killed c = refl
 
 -- whom a task of this life, with this call, waits for
 abbrev pub blocker : PartsState → Life → Option Call → Option ℕ
-blocker p life o = if is_dead life then None else seat_call_blocker p (is_killed life) o
+blocker p life o = if is_dead life then None else task_state_call_blocker p (is_killed life) o
 
 same_for : (p q : PartsState) → AreHeldAlike p q → (life : Life) (o : Option Call) → blocker q life o ≡ blocker p life o
 same_for p q h life None = refl
 same_for p q h life (Some c) = ap (λ (o : Option ℕ). if is_dead life then None else o) (same_blocker p q h (is_killed life) c)
 
 -- a task waits for nobody exactly where the reader names nobody
-pub names_nobody : (s : CoreState) (t : ℕ) → WaitsFor s t None → task_blocker s.parts (seat_at s.seats t) ≡ None
+pub names_nobody : (s : CoreState) (t : ℕ) → WaitsFor s t None → task_blocker s.parts (task_state_at s.task_states t) ≡ None
 unfolding WaitsFor Row
-names_nobody s t free = by (task_blocker s.parts (seat_at s.seats t)) refl
+names_nobody s t free = by (task_blocker s.parts (task_state_at s.task_states t)) refl
   where
-    by : (o : Option ℕ) → task_blocker s.parts (seat_at s.seats t) ≡ o → task_blocker s.parts (seat_at s.seats t) ≡ None
+    by : (o : Option ℕ) → task_blocker s.parts (task_state_at s.task_states t) ≡ o → task_blocker s.parts (task_state_at s.task_states t) ≡ None
     by None e = e
     by (Some h) e = absurd (free true h s (step_blocks s t true h e, refl))
 
-pub waits_for_nobody : (s : CoreState) (t : ℕ) → task_blocker s.parts (seat_at s.seats t) ≡ None → WaitsFor s t None
+pub waits_for_nobody : (s : CoreState) (t : ℕ) → task_blocker s.parts (task_state_at s.task_states t) ≡ None → WaitsFor s t None
 unfolding WaitsFor Row
 waits_for_nobody s t e =
     λ grant holder new row. nobody holder (sym e ∙ sym (step_held s t grant (Blocked holder) (as_state new) row.0))
@@ -161,10 +161,10 @@ waits_alike s v t h calls life free =
       slots = same_slots (as_state s) (as_state v) h;
       locks = same_locks (as_state s) (as_state v) h;
     } in
-    let own = same_for s.parts v.parts parts (seat_at v.seats t).life (seat_at v.seats t).call in
-    let seat : blocker s.parts (seat_at v.seats t).life (seat_at v.seats t).call
-    ≡ blocker s.parts (seat_at s.seats t).life (seat_at s.seats t).call = λ i. blocker s.parts (life i) (calls i) in
-    waits_for_nobody v t (own ∙ seat ∙ names_nobody s t free)
+    let own = same_for s.parts v.parts parts (task_state_at v.task_states t).life (task_state_at v.task_states t).call in
+    let task_state : blocker s.parts (task_state_at v.task_states t).life (task_state_at v.task_states t).call
+    ≡ blocker s.parts (task_state_at s.task_states t).life (task_state_at s.task_states t).call = λ i. blocker s.parts (life i) (calls i) in
+    waits_for_nobody v t (own ∙ task_state ∙ names_nobody s t free)
 
 -- a choice of the task is an event of it alone
 of_call : (busy : Bool) (next : Option Op) (deny : ℕ) (made : List ℕ) (t : ℕ) (rng : Lcg) (u : ℕ)

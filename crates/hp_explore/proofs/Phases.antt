@@ -32,11 +32,11 @@ use Rattle.hp_laws.proofs.Resizing.{resize_cases}
 use Rattle.hp_laws.proofs.Telling.{call_steps_on}
 use Rattle.hp_laws.proofs.Waiting.{moved_tells}
 use Rattle.hp_parts.specs.State.{PartsState}
-use Rattle.hp_core.specs.Blockers.{call_blocker, seat_call_blocker}
+use Rattle.hp_core.specs.Blockers.{call_blocker, task_state_call_blocker}
 use Rattle.hp_core.specs.Holding.{held_by, holding_of}
 use Rattle.hp_core.specs.Readers.{phase_of}
 use Rattle.hp_core.specs.Runs.{Row, IsOpening}
-use Rattle.hp_core.specs.State.{CoreState, as_state, seat_at, calls_of}
+use Rattle.hp_core.specs.State.{CoreState, as_state, task_state_at, calls_of}
 use Rattle.hp_core.specs.Waiting.{WaitsFor}
 use Rattle.hp_explore.specs.Leaving.{task_may_leave}
 use Rattle.hp_explore.specs.Passing.{may_wait, task_may_pass, Agrees, ArePhases}
@@ -62,7 +62,7 @@ either_none true o e = refl
 either_none false o e = e
 
 by_call : (p : PartsState) (life : Life) (o : Option Call) (w : Phase) → option_map word_of o ≡ Some w → may_wait w ≡ false
-    → (if is_dead life then None else seat_call_blocker p (is_killed life) o) ≡ None
+    → (if is_dead life then None else task_state_call_blocker p (is_killed life) o) ≡ None
 by_call p life None w e q = either_none (is_dead life) None refl
 by_call p life (Some c) w e q = either_none (is_dead life) _ (unblocked p (is_killed life) c (ap may_wait (same e) ∙ q))
   where
@@ -72,7 +72,7 @@ by_call p life (Some c) w e q = either_none (is_dead life) _ (unblocked p (is_ki
 -- so its task waits for nobody
 pub waits_not : (s : CoreState) (t : ℕ) (w : Phase) → phase_of s t ≡ Some w → may_wait w ≡ false → WaitsFor s t None
 unfolding phase_of calls_of
-waits_not s t w e q = waits_for_nobody s t (by_call s.parts (seat_at s.seats t).life (seat_at s.seats t).call w e q)
+waits_not s t w e q = waits_for_nobody s t (by_call s.parts (task_state_at s.task_states t).life (task_state_at s.task_states t).call w e q)
 
 -- a call that begins holds nothing
 first_holds_nothing : (p : Op) → held_by (Some (first p)) ≡ held_by None

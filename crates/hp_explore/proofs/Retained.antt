@@ -30,7 +30,7 @@ use Rattle.hp_core.specs.Blockers.{slot_blocker, lock_blocker, call_blocker, tas
 use Rattle.hp_core.specs.Holding.{holding_of}
 use Rattle.hp_core.specs.Readers.{phase_of}
 use Rattle.hp_core.specs.Runs.{Row}
-use Rattle.hp_core.specs.State.{CoreState, as_state, seat_at, calls_of, lives_of}
+use Rattle.hp_core.specs.State.{CoreState, as_state, task_state_at, calls_of, lives_of}
 use Rattle.hp_core.specs.Waiting.{WaitsFor}
 use Rattle.hp_core.proofs.Waits.{nobody}
 use Rattle.hp_explore.specs.Schedule.{Plan, World, CanTurn, AreRunnable, AreRunnableOf, in_call, next_call, task_choice}
@@ -101,10 +101,10 @@ free_before s v t h calls life free =
       slots = slot_kept (as_state s) (as_state v) h;
       locks = lock_kept (as_state s) (as_state v) h;
     } in
-    let seat : blocker v.parts (seat_at v.seats t).life (seat_at v.seats t).call
-    ≡ blocker v.parts (seat_at s.seats t).life (seat_at s.seats t).call = λ i. blocker v.parts (life i) (calls i) in
-    waits_for_nobody s t (none_if _ _ (still_for s.parts v.parts keep (seat_at s.seats t).life (seat_at s.seats t).call)
-    (sym seat ∙ names_nobody v t free))
+    let task_state : blocker v.parts (task_state_at v.task_states t).life (task_state_at v.task_states t).call
+    ≡ blocker v.parts (task_state_at s.task_states t).life (task_state_at s.task_states t).call = λ i. blocker v.parts (life i) (calls i) in
+    waits_for_nobody s t (none_if _ _ (still_for s.parts v.parts keep (task_state_at s.task_states t).life (task_state_at s.task_states t).call)
+    (sym task_state ∙ names_nobody v t free))
 
 could_before : (plan : Plan) (w v : World) (t : ℕ) → HoldOn (as_state w.core) (as_state v.core)
     → (as_state v.core).calls t ≡ (as_state w.core).calls t → (as_state v.core).life t ≡ (as_state w.core).life t
@@ -126,7 +126,7 @@ is_nobody (Some h) e = (let d : false ≡ true = e in absurd (cc))
 -- The test is true exactly where the task may take a turn,
 pub tells_can : (plan : Plan) (w : World) (t : ℕ) → (can_now plan w t ≡ true → CanTurn plan w t) × (CanTurn plan w t → can_now plan w t ≡ true)
 tells_can plan w t =
-    by_word (in_call w t) (is_none (task_blocker w.core.parts (seat_at w.core.seats t))) (is_some (next_call plan w.made t))
+    by_word (in_call w t) (is_none (task_blocker w.core.parts (task_state_at w.core.task_states t))) (is_some (next_call plan w.made t))
     ((λ e. waits_for_nobody w.core t (is_nobody _ e)), (λ free. ap (λ (o : Option ℕ). is_none o) (names_nobody w.core t free)))
     ((λ e. e), (λ e. e))
 

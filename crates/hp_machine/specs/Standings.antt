@@ -62,8 +62,8 @@ pub record Standing : Type 0 where
   pub sweep : Sweep
 
 -- a call that owes, holds and wants nothing; the lines below name what differs
-abbrev pub apart : Standing
-apart =
+abbrev pub unencumbered : Standing
+unencumbered =
     record {
       less = 0;
       more = 0;
@@ -79,25 +79,25 @@ apart =
 
 -- it holds the slot of its index, the lock of its file, or both
 abbrev pub in_touch : Touch → Standing
-in_touch t = record apart { slot = Some (t.file, t.index) }
+in_touch t = record unencumbered { slot = Some (t.file, t.index) }
 
 abbrev pub in_map : MapRequest → Standing
-in_map m = record apart { lock = Some m.file }
+in_map m = record unencumbered { lock = Some m.file }
 
 abbrev pub in_alloc : Allocation → Standing
-in_alloc a = record apart { lock = Some a.file }
+in_alloc a = record unencumbered { lock = Some a.file }
 
 abbrev pub in_alloc_at : Allocation → (index : ℕ) → Standing
 in_alloc_at a i = record (in_alloc a) { slot = Some (a.file, i) }
 
 abbrev pub in_punch : Hole → Standing
-in_punch h = record apart { lock = Some h.file }
+in_punch h = record unencumbered { lock = Some h.file }
 
 abbrev pub in_punch_at : Hole → (index : ℕ) → Standing
 in_punch_at h i = record (in_punch h) { slot = Some (h.file, i) }
 
 abbrev pub in_truncate : Truncation → Standing
-in_truncate t = record apart { lock = Some t.file }
+in_truncate t = record unencumbered { lock = Some t.file }
 
 -- a truncation on its way down still owes what it evicted
 abbrev pub in_sweep : Truncation → (index evicted : ℕ) → Standing
@@ -107,8 +107,8 @@ abbrev pub in_sweep_at : Truncation → (index evicted : ℕ) → Standing
 in_sweep_at t i evicted = record (in_sweep t i evicted) { slot = Some (t.file, i) }
 
 abbrev pub standing : Call → Standing
-standing (call.Touch (touch.Look p)) = apart
-standing (call.Touch (touch.Want p)) = record apart { wants = Slot p.touch.file p.touch.index }
+standing (call.Touch (touch.Look p)) = unencumbered
+standing (call.Touch (touch.Want p)) = record unencumbered { wants = Slot p.touch.file p.touch.index }
 standing (call.Touch (touch.Locked p)) = in_touch p.touch
 standing (call.Touch (touch.Missing p)) = record (in_touch p.touch) { work = Makes }
 standing (call.Touch (touch.Changed p)) = record (in_touch p.touch) { work = Makes; change = Counts p.touch.file p.pending }
@@ -126,7 +126,7 @@ standing (call.Touch (touch.Committed p)) = record (in_touch p.touch) { work = M
 standing (call.Touch (touch.Restore p)) = record (in_touch p.touch) { work = Makes; hand = Some p.held; less = 1 }
 standing (call.Touch (touch.Found p)) = record (in_touch p.touch) { work = Uses }
 standing (call.Touch (touch.Leave p)) = in_touch p.touch
-standing (call.Map (map.Start p)) = record apart { wants = Lock p.map.file }
+standing (call.Map (map.Start p)) = record unencumbered { wants = Lock p.map.file }
 standing (call.Map (map.Room p)) = in_map p.map
 standing (call.Map (map.Missing p)) = in_map p.map
 standing (call.Map (map.Changed p)) = record (in_map p.map) { change = Counts p.map.file p.pending }
@@ -136,7 +136,7 @@ standing (call.Map (map.Accounted p)) =
 standing (call.Map (map.Settle p)) = record (in_map p.map) { more = p.excess; used = p.excess }
 standing (call.Map (map.Enter p)) = in_map p.map
 standing (call.Map (map.Leave p)) = in_map p.map
-standing (call.Alloc (alloc.Start p)) = record apart { wants = Lock p.allocation.file }
+standing (call.Alloc (alloc.Start p)) = record unencumbered { wants = Lock p.allocation.file }
 standing (call.Alloc (alloc.Head p)) = in_alloc p.allocation
 standing (call.Alloc (alloc.Want p)) = record (in_alloc p.allocation) { wants = Slot p.allocation.file p.index }
 standing (call.Alloc (alloc.Locked p)) = in_alloc_at p.allocation p.index
@@ -158,7 +158,7 @@ standing (call.Alloc (alloc.Restore p)) = record (in_alloc_at p.allocation p.ind
 standing (call.Alloc (alloc.Unslot p)) = in_alloc_at p.allocation p.index
 standing (call.Alloc (alloc.Extend p)) = in_alloc p.allocation
 standing (call.Alloc (alloc.Leave p)) = in_alloc p.allocation
-standing (call.Punch (punch.Start p)) = record apart { wants = Lock p.hole.file }
+standing (call.Punch (punch.Start p)) = record unencumbered { wants = Lock p.hole.file }
 standing (call.Punch (punch.Want p)) = record (in_punch p.hole) { wants = Slot p.hole.file p.index }
 standing (call.Punch (punch.Locked p)) = in_punch_at p.hole p.index
 standing (call.Punch (punch.Unmap p)) = record (in_punch_at p.hole p.index) { work = Removes }
@@ -168,7 +168,7 @@ standing (call.Punch (punch.Free p)) =
     record (in_punch_at p.hole p.index) { work = Removed; hand = Some p.held; less = bit p.denied; used = bit (not p.denied) }
 standing (call.Punch (punch.Unslot p)) = in_punch_at p.hole p.index
 standing (call.Punch (punch.Leave p)) = in_punch p.hole
-standing (call.Truncate (truncate.Start p)) = record apart { wants = Lock p.truncation.file }
+standing (call.Truncate (truncate.Start p)) = record unencumbered { wants = Lock p.truncation.file }
 standing (call.Truncate (truncate.Size p)) = in_truncate p.truncation
 standing (call.Truncate (truncate.Want p)) = record (in_sweep p.truncation p.index p.evicted) { wants = Slot p.truncation.file p.index }
 standing (call.Truncate (truncate.Locked p)) = in_sweep_at p.truncation p.index p.evicted
@@ -185,15 +185,15 @@ standing (call.Truncate (truncate.Settle p)) =
       sweep = Gone p.truncation.file p.truncation.new;
     }
 standing (call.Truncate (truncate.Leave p)) = record (in_truncate p.truncation) { sweep = Gone p.truncation.file p.truncation.new }
-standing (call.Unmap (unmap.Start p)) = apart
-standing (call.Unmap (unmap.Clear p)) = apart
-standing (call.Unmap (unmap.Drop p)) = apart
-standing (call.Exit exit.Start) = apart
-standing (call.Exit (exit.Clear p)) = apart
-standing (call.Exit (exit.Drop p)) = apart
-standing (call.Exit exit.Leave) = apart
+standing (call.Unmap (unmap.Start p)) = unencumbered
+standing (call.Unmap (unmap.Clear p)) = unencumbered
+standing (call.Unmap (unmap.Drop p)) = unencumbered
+standing (call.Exit exit.Start) = unencumbered
+standing (call.Exit (exit.Clear p)) = unencumbered
+standing (call.Exit (exit.Drop p)) = unencumbered
+standing (call.Exit exit.Leave) = unencumbered
 
 -- where no call is in flight, nothing is owed, held or wanted
 abbrev pub standing_of : Option Call → Standing
-standing_of None = apart
+standing_of None = unencumbered
 standing_of (Some c) = standing c

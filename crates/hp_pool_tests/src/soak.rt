@@ -26,16 +26,16 @@ const CUTS: u64 = 1_000;
 
 /// How many calls were begun in all and how many entries made since the last cut; and whether memory was wanted.
 #[derive(Drop)]
-struct Course {
+struct Soaking {
     calls: AtomicUsize,
     entries: AtomicUsize,
     kills: AtomicUsize,
     lacked: AtomicBool,
 }
 
-impl Course {
-    fn new() -> Course {
-        Course {
+impl Soaking {
+    fn new() -> Soaking {
+        Soaking {
             calls: AtomicUsize::new(0),
             entries: AtomicUsize::new(0),
             kills: AtomicUsize::new(0),
@@ -60,11 +60,11 @@ fn make_turn<L: Ledger, R: Wait>(
     shared: &Shared<L>,
     seat: &mut Seat<L>,
     dice: &mut Dice,
-    course: &Course,
+    soaking: &Soaking,
 ) -> Result<bool, CallFault> {
     if dice.below(5_000) == 0 {
         if shared.kill(rt, seat, dice.task())? == Outcome::Marked {
-            course.kills.fetch_add(1, Ordering::SeqCst);
+            soaking.kills.fetch_add(1, Ordering::SeqCst);
         }
         return Ok(false);
     }
@@ -82,7 +82,7 @@ fn make_calls<L: Ledger, R: Wait>(
     shared: &Shared<L>,
     seats: &mut [Seat<L>],
     dice: Dice,
-    course: &Course,
+    soaking: &Soaking,
 ) -> Result<(), CallFault> {
     let mut dice = dice;
     let mut at = 0;
@@ -90,13 +90,13 @@ fn make_calls<L: Ledger, R: Wait>(
         let Some(seat) = seats.get_mut(at) else {
             return Ok(());
         };
-        if !course.goes_on() {
+        if !soaking.goes_on() {
             return Ok(());
         }
         let before = seat.list().len();
-        let has_ended = make_turn(rt, shared, seat, &mut dice, course)?;
+        let has_ended = make_turn(rt, shared, seat, &mut dice, soaking)?;
         let made = seat.list().len().saturating_sub(before);
-        course.entries.fetch_add(made, Ordering::SeqCst);
+        soaking.entries.fetch_add(made, Ordering::SeqCst);
         at = next_of(at, has_ended);
     }
     Ok(())
@@ -112,10 +112,10 @@ fn run_thread<L: Ledger, R: Wait>(
     shared: &Shared<L>,
     seats: &mut [Seat<L>],
     dice: Dice,
-    course: &Course,
+    soaking: &Soaking,
 ) {
-    if make_calls(rt, shared, seats, dice, course).is_err() {
-        course.lacked.store(true, Ordering::SeqCst);
+    if make_calls(rt, shared, seats, dice, soaking).is_err() {
+        soaking.lacked.store(true, Ordering::SeqCst);
     }
 }
 
@@ -129,7 +129,7 @@ fn run_part<L: Ledger + Send + Sync, R: Threads + Wait + Sync>(
     rt: &R,
     shared: &Shared<L>,
     seats: &mut [Seat<L>],
-    course: &Course,
+    soaking: &Soaking,
     part: u64,
 ) {
     for_each_chunk_mut(
@@ -137,7 +137,7 @@ fn run_part<L: Ledger + Send + Sync, R: Threads + Wait + Sync>(
         seats,
         TASKS_OF_A_THREAD,
         &|thread: usize, seats: &mut [Seat<L>]| {
-            run_thread(rt, shared, seats, dice_of(part, thread), course)
+            run_thread(rt, shared, seats, dice_of(part, thread), soaking)
         },
     );
 }
@@ -215,16 +215,16 @@ fn run_parts<L: Ledger + Send + Sync, R: Threads + Wait + Sync>(
     alloc: Global,
     shared: &Shared<L>,
     seats: &mut [Seat<L>],
-    course: &Course,
+    soaking: &Soaking,
     core: &mut Core,
 ) -> Result<u64, Fail> {
     for part in 0..CUTS {
-        course.entries.store(0, Ordering::SeqCst);
-        run_part(rt, shared, seats, course, part);
-        if course.lacked.load(Ordering::SeqCst) {
+        soaking.entries.store(0, Ordering::SeqCst);
+        run_part(rt, shared, seats, soaking, part);
+        if soaking.lacked.load(Ordering::SeqCst) {
             return Err("out of memory".into());
         }
-        if course.is_over() {
+        if soaking.is_over() {
             return Ok(part);
         }
         cut_and_look(rt, alloc, shared, seats, core)?;
@@ -274,12 +274,12 @@ fn soak<L: Ledger + Send + Sync, R: Threads + Wait + Sync>(
 {
     let (shared, mut seats) = Shared::<L>::new(alloc, blank, config)?;
     let mut core = Core::new(alloc, config)?;
-    let course = Course::new();
-    let cuts = run_parts(rt, alloc, &shared, &mut seats, &course, &mut core)?;
+    let soaking = Soaking::new();
+    let cuts = run_parts(rt, alloc, &shared, &mut seats, &soaking, &mut core)?;
     let closed = end_of(alloc, shared, seats)?;
     Ok(Soaked {
         cuts,
-        kills: course.kills.load(Ordering::SeqCst),
+        kills: soaking.kills.load(Ordering::SeqCst),
         is_same: is_same(alloc, core, &closed)?,
     })
 }

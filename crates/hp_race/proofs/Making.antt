@@ -20,11 +20,11 @@ use Rattle.hp_shared.specs.Replies.{IsCall}
 use Rattle.hp_shared.specs.Seats.{new_seat}
 use Rattle.hp_shared.specs.States.{SeatState}
 use Rattle.hp_race.specs.Calls.{CallMade, CallsMade, CallsStrayed, EndsBy, is_exit, is_not_alive, may_end}
-use Rattle.hp_race.specs.Desks.{HasMade, HasMadeIn, HasRun, HasStrayed, HasStrayedIn, IsNew, SomeStrayed, SomeStrayedIn, calls_in, is_gone}
-use Rattle.hp_race.specs.Parts.{stretch}
-use Rattle.hp_race.specs.declared.stretch.Stretch.{Stretch}
-use Rattle.hp_race.specs.declared.desk.Ending.{Ending}
-use Rattle.hp_race.specs.declared.desk.Ending.TheVariants.{Made, Astray}
+use Rattle.hp_race.specs.Racers.{HasMade, HasMadeIn, HasRun, HasStrayed, HasStrayedIn, IsNew, SomeStrayed, SomeStrayedIn, calls_in, is_gone}
+use Rattle.hp_race.specs.Parts.{call_range}
+use Rattle.hp_race.specs.declared.call_range.CallRange.{CallRange}
+use Rattle.hp_race.specs.declared.racer.Ending.{Ending}
+use Rattle.hp_race.specs.declared.racer.Ending.TheVariants.{Made, Astray}
 
 -- a list that is no longer gained nothing
 gained_none : (task : ℕ) (op : Op) (old new : List Entry) → Gained old new (BegunThen task op (AllMoved task))
@@ -64,37 +64,37 @@ made_now task t gone may op reply old new l m same is_old is_new call ends good 
     ∙ ap (λ (x : List Entry). may_end gone reply (length l) (length x)) (sym is_new) ∙ sym ends ∙ good in
     call_made task gone op reply old new (subst (λ (n : ℕ). IsCall n op reply old new) same call) may_so
 
--- the desks' seats so far, and one more that made its calls
-gathered_made : (script : Script) (stretch : Stretch) (made : Bool) (seats now : List SeatState) (s : SeatState)
-    → MatchBool made (All (HasMadeIn script stretch) seats) (SomeStrayedIn script stretch seats) → HasMadeIn script stretch s
+-- the racers' seats so far, and one more that made its calls
+gathered_made : (script : Script) (call_range : CallRange) (made : Bool) (seats now : List SeatState) (s : SeatState)
+    → MatchBool made (All (HasMadeIn script call_range) seats) (SomeStrayedIn script call_range seats) → HasMadeIn script call_range s
     → now ≡ seats ++ s ∷ []
-    → MatchBool made (All (HasMadeIn script stretch) now) (SomeStrayedIn script stretch now)
-gathered_made script stretch true seats now s had is same =
-    subst (λ (l : List SeatState). All (HasMadeIn script stretch) l) (sym same) (All-push (HasMadeIn script stretch) seats s had is)
-gathered_made script stretch false seats now s had is same =
-    subst (λ (l : List SeatState). SomeStrayedIn script stretch l) (sym same) (any_before (HasStrayedIn script stretch) seats (s ∷ []) had)
+    → MatchBool made (All (HasMadeIn script call_range) now) (SomeStrayedIn script call_range now)
+gathered_made script call_range true seats now s had is same =
+    subst (λ (l : List SeatState). All (HasMadeIn script call_range) l) (sym same) (All-push (HasMadeIn script call_range) seats s had is)
+gathered_made script call_range false seats now s had is same =
+    subst (λ (l : List SeatState). SomeStrayedIn script call_range l) (sym same) (any_before (HasStrayedIn script call_range) seats (s ∷ []) had)
 
 -- or one that strayed
-gathered_strayed : (script : Script) (stretch : Stretch) (seats now : List SeatState) (s : SeatState)
-    → HasStrayedIn script stretch s → now ≡ seats ++ s ∷ []
-    → SomeStrayedIn script stretch now
-gathered_strayed script stretch seats now s is same =
-    subst (λ (l : List SeatState). SomeStrayedIn script stretch l) (sym same) (Any-push (HasStrayedIn script stretch) seats s is)
+gathered_strayed : (script : Script) (call_range : CallRange) (seats now : List SeatState) (s : SeatState)
+    → HasStrayedIn script call_range s → now ≡ seats ++ s ∷ []
+    → SomeStrayedIn script call_range now
+gathered_strayed script call_range seats now s is same =
+    subst (λ (l : List SeatState). SomeStrayedIn script call_range l) (sym same) (Any-push (HasStrayedIn script call_range) seats s is)
 
-pub made_too : (script : Script) (stretch : Stretch) (made now_made : Bool) (ending : Ending) (seats now : List SeatState) (s : SeatState)
-    → MatchBool made (All (HasMadeIn script stretch) seats) (SomeStrayedIn script stretch seats)
-    → HasRun script stretch ending s → ending ≡ Made → now_made ≡ made
-    → now ≡ seats ++ s ∷ [] → MatchBool now_made (All (HasMadeIn script stretch) now) (SomeStrayedIn script stretch now)
-made_too script stretch made now_made ending seats now s had ran is same added =
-    subst (λ (b : Bool). MatchBool b (All (HasMadeIn script stretch) now) (SomeStrayedIn script stretch now)) (sym same)
-    (gathered_made script stretch made seats now s had (subst (λ (e : Ending). HasRun script stretch e s) is ran) added)
+pub made_too : (script : Script) (call_range : CallRange) (made now_made : Bool) (ending : Ending) (seats now : List SeatState) (s : SeatState)
+    → MatchBool made (All (HasMadeIn script call_range) seats) (SomeStrayedIn script call_range seats)
+    → HasRun script call_range ending s → ending ≡ Made → now_made ≡ made
+    → now ≡ seats ++ s ∷ [] → MatchBool now_made (All (HasMadeIn script call_range) now) (SomeStrayedIn script call_range now)
+made_too script call_range made now_made ending seats now s had ran is same added =
+    subst (λ (b : Bool). MatchBool b (All (HasMadeIn script call_range) now) (SomeStrayedIn script call_range now)) (sym same)
+    (gathered_made script call_range made seats now s had (subst (λ (e : Ending). HasRun script call_range e s) is ran) added)
 
-pub strayed_too : (script : Script) (stretch : Stretch) (now_made : Bool) (ending : Ending) (seats now : List SeatState) (s : SeatState)
-    → HasRun script stretch ending s → ending ≡ Astray → now_made ≡ false
-    → now ≡ seats ++ s ∷ [] → MatchBool now_made (All (HasMadeIn script stretch) now) (SomeStrayedIn script stretch now)
-strayed_too script stretch now_made ending seats now s ran is same added =
-    subst (λ (b : Bool). MatchBool b (All (HasMadeIn script stretch) now) (SomeStrayedIn script stretch now)) (sym same)
-    (gathered_strayed script stretch seats now s (subst (λ (e : Ending). HasRun script stretch e s) is ran) added)
+pub strayed_too : (script : Script) (call_range : CallRange) (now_made : Bool) (ending : Ending) (seats now : List SeatState) (s : SeatState)
+    → HasRun script call_range ending s → ending ≡ Astray → now_made ≡ false
+    → now ≡ seats ++ s ∷ [] → MatchBool now_made (All (HasMadeIn script call_range) now) (SomeStrayedIn script call_range now)
+strayed_too script call_range now_made ending seats now s ran is same added =
+    subst (λ (b : Bool). MatchBool b (All (HasMadeIn script call_range) now) (SomeStrayedIn script call_range now)) (sym same)
+    (gathered_strayed script call_range seats now s (subst (λ (e : Ending). HasRun script call_range e s) is ran) added)
 
 -- the next of the calls that are left
 next_call : (calls : List Op) (k : ℕ) (op : Op) → k < length calls → op ≡ get_or calls k op → drop k calls ≡ op ∷ drop (k + 1) calls
@@ -149,15 +149,15 @@ one_more P xs now x same all is = subst (λ (l : List _). All P l) (sym same) (A
 pub one_longer : {X : Type 0} (xs now : List X) (x : X) → now ≡ xs ++ x ∷ [] → length now ≡ length xs + 1
 one_longer xs now x same = ap length same ∙ length-append xs (x ∷ [])
 
--- a task without calls in the stretch has made them all
-pub idle_made : (script : Script) (stretch : Stretch) (s : SeatState) (calls : List Op) → calls ≡ calls_of script.calls.items s.task
-    → length calls ≤ stretch.from → IsNew s → HasMadeIn script stretch s
-idle_made script stretch s calls is few new =
+-- a task without calls in the range has made them all
+pub idle_made : (script : Script) (call_range : CallRange) (s : SeatState) (calls : List Op) → calls ≡ calls_of script.calls.items s.task
+    → length calls ≤ call_range.from → IsNew s → HasMadeIn script call_range s
+idle_made script call_range s calls is few new =
     let mine : List Op = calls_of script.calls.items s.task in
-    let short : length mine ≤ stretch.from = omega (arith, ap length is, few) in
-    let some : 0 ≤ stretch.most = omega arith in
-    let none : calls_in stretch mine ≡ [] = ap (λ (ops : List Op). take stretch.most ops) (drop_all stretch.from mine short) ∙ take_all stretch.most [] some in
-    subst (λ (ops : List Op). CallsMade s.task (is_gone stretch mine) ops [] s.list) (sym none) new
+    let short : length mine ≤ call_range.from = omega (arith, ap length is, few) in
+    let some : 0 ≤ call_range.most = omega arith in
+    let none : calls_in call_range mine ≡ [] = ap (λ (ops : List Op). take call_range.most ops) (drop_all call_range.from mine short) ∙ take_all call_range.most [] some in
+    subst (λ (ops : List Op). CallsMade s.task (is_gone call_range mine) ops [] s.list) (sym none) new
 
 -- no task has more calls than the script
 pub few_calls : (lines : List (ℕ × Op)) (task : ℕ) → length (calls_of lines task) ≤ length lines
@@ -166,31 +166,31 @@ few_calls lines task =
     let both = length-filter_both (λ (line : ℕ × Op). line.0 == task) (λ (line : ℕ × Op). not (line.0 == task)) (λ line. refl) lines in
     omega (arith, some, both)
 
--- a stretch of as many calls as the script has, from the first on, is all of a task's
-whole_made : (script : Script) (s : SeatState) → HasMadeIn script (stretch 0 (length script.calls.items)) s → HasMade script s
+-- a range of as many calls as the script has, from the first on, is all of a task's
+whole_made : (script : Script) (s : SeatState) → HasMadeIn script (call_range 0 (length script.calls.items)) s → HasMade script s
 whole_made script s made =
     subst (λ (ops : List Op). CallsMade s.task false ops [] s.list)
     (take_all (length script.calls.items) (calls_of script.calls.items s.task) (few_calls script.calls.items s.task)) made
 
-whole_strayed : (script : Script) (s : SeatState) → HasStrayedIn script (stretch 0 (length script.calls.items)) s → HasStrayed script s
+whole_strayed : (script : Script) (s : SeatState) → HasStrayedIn script (call_range 0 (length script.calls.items)) s → HasStrayed script s
 whole_strayed script s strayed =
     subst (λ (ops : List Op). CallsStrayed s.task false ops [] s.list)
     (take_all (length script.calls.items) (calls_of script.calls.items s.task) (few_calls script.calls.items s.task)) strayed
 
--- so what came of that stretch, came of all calls
+-- so what came of that range, came of all calls
 pub whole : (script : Script) (most : ℕ) (made : Bool) (seats : List SeatState) → most ≡ length script.calls.items
-    → MatchBool made (All (HasMadeIn script (stretch 0 most)) seats) (SomeStrayedIn script (stretch 0 most) seats)
+    → MatchBool made (All (HasMadeIn script (call_range 0 most)) seats) (SomeStrayedIn script (call_range 0 most) seats)
     → MatchBool made (All (HasMade script) seats) (SomeStrayed script seats)
 whole script most true seats is had =
-    All-weaker (HasMadeIn script (stretch 0 (length script.calls.items))) (HasMade script) (whole_made script) seats
-    (subst (λ (n : ℕ). All (HasMadeIn script (stretch 0 n)) seats) is had)
+    All-weaker (HasMadeIn script (call_range 0 (length script.calls.items))) (HasMade script) (whole_made script) seats
+    (subst (λ (n : ℕ). All (HasMadeIn script (call_range 0 n)) seats) is had)
 whole script most false seats is had =
-    let strayed : SomeStrayedIn script (stretch 0 (length script.calls.items)) seats =
-    subst (λ (n : ℕ). SomeStrayedIn script (stretch 0 n) seats) is had in
+    let strayed : SomeStrayedIn script (call_range 0 (length script.calls.items)) seats =
+    subst (λ (n : ℕ). SomeStrayedIn script (call_range 0 n) seats) is had in
     (strayed.0, strayed.1, strayed.2, strayed.3, whole_strayed script strayed.1 strayed.4)
 
--- what comes of the calls that a stretch has comes of the stretch
-pub ran_in : (script : Script) (calls : Stretch) (ending : Ending) (task : ℕ) (gone : Bool) (all before now : List Op) (old new : List Entry)
+-- what comes of the calls that a range has comes of the range
+pub ran_in : (script : Script) (calls : CallRange) (ending : Ending) (task : ℕ) (gone : Bool) (all before now : List Op) (old new : List Entry)
     → all ≡ calls_of script.calls.items task → before ≡ take calls.from all → now ≡ calls_in calls all
     → gone ≡ list_any is_exit before → old ≡ []
     → EndsBy ending task gone now old new

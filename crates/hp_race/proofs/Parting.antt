@@ -21,14 +21,14 @@ use Rattle.hp_shared.specs.States.{SeatState, tally_of}
 use Rattle.hp_shared.specs.declared.entry.Entry.{Entry}
 use Rattle.hp_shared.specs.declared.fault.CloseFault.{CloseFault}
 use Rattle.hp_shared.specs.declared.fault.CloseFault.TheVariants as fault
-use Rattle.hp_race.specs.Desks.{HasMadeIn, IsNew, SomeStrayedIn}
+use Rattle.hp_race.specs.Racers.{HasMadeIn, IsNew, SomeStrayedIn}
 use Rattle.hp_race.specs.Parts.{AreParts, GoesOn, IsAgain, IsPart, IsToTheEnd, IsToldInParts, IsToldInPartsAs}
-use Rattle.hp_race.specs.Parts.{IsVerdictOnParts, Part, stretch}
+use Rattle.hp_race.specs.Parts.{IsVerdictOnParts, Part, call_range}
 use Rattle.hp_race.specs.Races.{Counts, IsToldOfRefused}
 use Rattle.hp_race.specs.declared.line.Race.{Race}
 use Rattle.hp_race.specs.declared.line.Verdict.{Verdict}
 use Rattle.hp_race.specs.declared.line.Verdict.TheVariants.{Closed, Disagree, Astray}
-use Rattle.hp_race.specs.declared.stretch.Stretch.{Stretch}
+use Rattle.hp_race.specs.declared.call_range.CallRange.{CallRange}
 use Rattle.hp_race.proofs.Told.{closed_came}
 
 -- the most calls of a task, of one task more
@@ -80,7 +80,7 @@ same_items now items len full same new =
     subst (λ (l : List SeatState). All IsNew l) (sym whole) new
 
 -- seats that made their calls, and what is cut off then, are a part
-pub part_made : (script : Script) (calls : Stretch) (position now : ℕ) (start new : CoreState) (seats : List SeatState) (made : Bool)
+pub part_made : (script : Script) (calls : CallRange) (position now : ℕ) (start new : CoreState) (seats : List SeatState) (made : Bool)
     → made ≡ true → MatchBool made (All (HasMadeIn script calls) seats) (SomeStrayedIn script calls seats)
     → AllSeated script.config.tasks seats → length seats ≡ script.config.tasks
     → ((es : List Entry) × Interleaves position es (lists_of seats) × Follows start es new × (now ≡ position + length es))
@@ -97,7 +97,7 @@ part_made script calls position now start new seats true is had seated count cut
 pub parts_on : (script : Script) (most from next position now begun : ℕ) (start core new : CoreState)
     → ((parts : List Part) (entries : ℕ) (end : CoreState) → AreParts script most from position core parts entries end
     → (all : List Part) × AreParts script most 0 begun start all entries end)
-    → ((part : Part) × IsPart script (stretch from most) position core part × (now ≡ position + length part.entries) × (new ≡ part.core))
+    → ((part : Part) × IsPart script (call_range from most) position core part × (now ≡ position + length part.entries) × (new ≡ part.core))
     → next ≡ from + most
     → (parts : List Part) (entries : ℕ) (end : CoreState) → AreParts script most next now new parts entries end
     → (all : List Part) × AreParts script most 0 begun start all entries end

@@ -22,7 +22,7 @@ use Rattle.hp_shared.specs.States.{SeatState, tally_of}
 use Rattle.hp_shared.specs.declared.entry.Entry.{Entry}
 use Rattle.hp_shared.specs.declared.fault.CloseFault.{CloseFault}
 use Rattle.hp_shared.specs.declared.fault.CloseFault.TheVariants as fault
-use Rattle.hp_race.specs.Desks.{HasMade, SomeStrayed}
+use Rattle.hp_race.specs.Racers.{HasMade, SomeStrayed}
 use Rattle.hp_race.specs.Races.{Counts, HasClosedAnother, HaveDisagreed, IsKept, IsKeptOf, IsOfScript, IsTold, IsToldAs}
 use Rattle.hp_race.specs.Races.{IsRace, IsToldOfRefused, IsUnclosed, IsVerdictOn}
 use Rattle.hp_race.specs.declared.line.Race.{Race}

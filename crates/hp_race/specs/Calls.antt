@@ -9,8 +9,8 @@ use Rattle.hp_shared.specs.declared.entry.Entry.{Entry}
 use Rattle.hp_shared.specs.declared.fault.Reply.{Reply}
 use Rattle.hp_shared.specs.declared.fault.Reply.TheVariants.{Ended, Refused}
 use Rattle.hp_shared.specs.Replies.{IsCall}
-use Rattle.hp_race.specs.declared.desk.Ending.{Ending}
-use Rattle.hp_race.specs.declared.desk.Ending.TheVariants.{Made, Astray, Memory}
+use Rattle.hp_race.specs.declared.racer.Ending.{Ending}
+use Rattle.hp_race.specs.declared.racer.Ending.TheVariants.{Made, Astray, Memory}
 
 abbrev pub is_exit : Op → Bool
 is_exit (Map file from len) = false

@@ -1,5 +1,5 @@
 pub mod Calls
-pub mod Desks
+pub mod Racers
 pub mod Parts
 pub mod Races
 pub mod Text

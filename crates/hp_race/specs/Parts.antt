@@ -10,12 +10,12 @@ use Rattle.hp_shared.specs.Closing.{ClosesWith}
 use Rattle.hp_shared.specs.Journal.{Follows, Interleaves, IsCameTo}
 use Rattle.hp_shared.specs.Seats.{AllSeated, lists_of}
 use Rattle.hp_shared.specs.States.{SeatState, tally_of}
-use Rattle.hp_race.specs.Desks.{HasMadeIn}
+use Rattle.hp_race.specs.Racers.{HasMadeIn}
 use Rattle.hp_race.specs.Races.{Counts, IsDisagreed, IsTold}
 use Rattle.hp_race.specs.declared.line.Race.{Race}
 use Rattle.hp_race.specs.declared.line.Verdict.{Verdict}
 use Rattle.hp_race.specs.declared.line.Verdict.TheVariants.{Closed, Disagree, Astray}
-use Rattle.hp_race.specs.declared.stretch.Stretch.{Stretch}
+use Rattle.hp_race.specs.declared.call_range.CallRange.{CallRange}
 
 -- A part of a race: the seats with what each made in it, the entries of the journal, and the core to which they led
 pub record Part : Type 0 where
@@ -23,12 +23,12 @@ pub record Part : Type 0 where
   pub entries : List Entry
   pub core : CoreState
 
-abbrev pub stretch : (from most : ℕ) → Stretch
-stretch from most = record { from = from; most = most }
+abbrev pub call_range : (from most : ℕ) → CallRange
+call_range from most = record { from = from; most = most }
 
--- Each task made a stretch of the script's calls of it, and the entries, whose positions begin with this one, are an interleaving
+-- Each task made a range of the script's calls of it, and the entries, whose positions begin with this one, are an interleaving
 -- of the lists of one seat a task and lead from that core to the part's
-pub record IsPart (script : Script) (calls : Stretch) (position : ℕ) (start : CoreState) (part : Part) : Type 0 where
+pub record IsPart (script : Script) (calls : CallRange) (position : ℕ) (start : CoreState) (part : Part) : Type 0 where
   pub seated : AllSeated script.config.tasks part.seats
   pub count : length part.seats ≡ script.config.tasks
   pub made : All (HasMadeIn script calls) part.seats
@@ -45,7 +45,7 @@ IsToTheEnd script from =
 abbrev pub AreParts : Script → (most from position : ℕ) → (start : CoreState) → List Part → (entries : ℕ) → CoreState → Type 0
 AreParts script most from position start [] entries core = IsToTheEnd script from × (entries ≡ position) × (core ≡ start)
 AreParts script most from position start (part ∷ parts) entries core =
-    IsPart script (stretch from most) position start part
+    IsPart script (call_range from most) position start part
     × AreParts script most (from + most) (position + length part.entries) part.core parts entries core
 
 -- the entries begin at this position and lead from one core to the other, and so many were made by then

@@ -15,7 +15,7 @@ use Rattle.hp_shared.specs.declared.fault.CloseFault.TheVariants as fault
 use Rattle.hp_shared.specs.Journal.{events_of, FirstFailsAt, Follows, Interleaves, IsCameTo}
 use Rattle.hp_shared.specs.Seats.{AllSeated, LeastMissing, lists_of}
 use Rattle.hp_shared.specs.States.{SeatState}
-use Rattle.hp_race.specs.Desks.{HasMade, SomeStrayed}
+use Rattle.hp_race.specs.Racers.{HasMade, SomeStrayed}
 use Rattle.hp_race.specs.declared.line.Race.{Race}
 use Rattle.hp_race.specs.declared.line.Verdict.{Verdict}
 use Rattle.hp_race.specs.declared.line.Verdict.TheVariants.{Closed, Disagree, Astray}

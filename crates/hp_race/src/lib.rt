@@ -7,12 +7,12 @@
 #![tactic(auto)]
 
 mod again;
-mod course;
-mod desk;
+mod call_range;
 mod line;
 mod parts;
+mod racer;
 mod racing;
-mod stretch;
+mod starting_line;
 mod telling;
 mod writing;
 

@@ -5,13 +5,13 @@ ghost use Rattle.hp_shared.specs.Cutting.{emptied};
 ghost use Rattle.hp_shared.specs.Journal.{Follows, Interleaves};
 ghost use Rattle.hp_shared.specs.Seats.{AllSeated, has_seat as seated, lists_of};
 ghost use Rattle.hp_shared.specs.declared.entry.Entry.{Entry};
-ghost use Rattle.hp_race.specs.Desks.{IsNew};
+ghost use Rattle.hp_race.specs.Racers.{IsNew};
 ghost use Rattle.hp_race.specs.Parts.{AreParts, IsPart, IsToTheEnd, IsToldInParts, Part as PartOf};
 
 use crate::again::Again;
-use crate::desk::make_stretch;
+use crate::call_range::CallRange;
 use crate::line::Race;
-use crate::stretch::Stretch;
+use crate::racer::make_range;
 use crate::telling::{told_of_parts, told_of_refused};
 use hp_base::Task;
 use hp_explore::Script;
@@ -84,8 +84,8 @@ fn make_parts<L: Ledger + Send + Sync, R: Threads + Wait + Sync>(
     let mut seats = seats;
     let mut from = 0;
     while from < longest {
-        let stretch = Stretch { from, most };
-        let (is_made, back) = make_part(rt, alloc, script, stretch, shared, again, seats)?;
+        let call_range = CallRange { from, most };
+        let (is_made, back) = make_part(rt, alloc, script, call_range, shared, again, seats)?;
         if !is_made {
             return Ok((false, back));
         }
@@ -95,12 +95,12 @@ fn make_parts<L: Ledger + Send + Sync, R: Threads + Wait + Sync>(
     Ok((true, seats))
 }
 
-// Makes the calls of the stretch, and cuts the journal. Whether all went well.
+// Makes the calls of the range, and cuts the journal. Whether all went well.
 fn make_part<L: Ledger + Send + Sync, R: Threads + Wait + Sync>(
     rt: &R,
     alloc: Global,
     script: &Script,
-    stretch: Stretch,
+    call_range: CallRange,
     shared: &Shared<L>,
     again: &mut Again,
     seats: Vec<Seat<L>>,
@@ -110,11 +110,11 @@ fn make_part<L: Ledger + Send + Sync, R: Threads + Wait + Sync>(
     ensures count { IfOk result (λ ran. length ran.1.items ≡ script.now.config.tasks) }
     ensures new { IfOk result (λ ran. ran.0 ≡ true → All IsNew ran.1.items) }
     ensures part { IfOk result (λ ran. ran.0 ≡ true → (part : PartOf)
-        × IsPart script.now stretch again.old.entries again.old.core part
+        × IsPart script.now call_range again.old.entries again.old.core part
         × (again.new.entries ≡ again.old.entries + length part.entries)
         × (again.new.core ≡ part.core)) }
 {
-    let (made, mut seats) = make_stretch(rt, alloc, shared, script, stretch, seats)?;
+    let (made, mut seats) = make_range(rt, alloc, shared, script, call_range, seats)?;
     if !made {
         return Ok((false, seats));
     }

@@ -1,11 +1,11 @@
 //! One race, from the opening of its pool to its end.
 ghost use Rattle.std.specs.Prelude.{◌≡◌, ◌≤◌, All, IfOk, IfSome, MatchBool, length};
-ghost use Rattle.hp_race.specs.Desks.{HasMade, SomeStrayed};
+ghost use Rattle.hp_race.specs.Racers.{HasMade, SomeStrayed};
 ghost use Rattle.hp_race.specs.Races.{IsKept, IsTold};
 
-use crate::desk::make_stretch;
+use crate::call_range::CallRange;
 use crate::line::Race;
-use crate::stretch::Stretch;
+use crate::racer::make_range;
 use crate::telling::{keep, tell};
 use hp_explore::Script;
 use hp_replay::{MOST_EVENTS, Trace};
@@ -88,10 +88,10 @@ fn run_by<L: Ledger + Send + Sync, R: Threads + Wait + Sync>(
 {
     let (shared, seats) = Shared::<L>::new(alloc, blank, script.config)?;
     // No task has more calls than the script.
-    let all = Stretch {
+    let all = CallRange {
         from: 0,
         most: script.calls.len(),
     };
-    let (made, seats) = make_stretch(rt, alloc, &shared, script, all, seats)?;
+    let (made, seats) = make_range(rt, alloc, &shared, script, all, seats)?;
     Ok((shared, made, seats))
 }

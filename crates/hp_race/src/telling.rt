@@ -3,7 +3,7 @@ ghost use Rattle.std.specs.Prelude.{◌≡◌, ◌≢◌, ◌≤◌, IfOk, IfSom
 ghost use Rattle.hp_base.specs.Text.{sizes};
 ghost use Rattle.hp_core.specs.State.{CoreState};
 ghost use Rattle.hp_shared.specs.Journal.{events_of};
-ghost use Rattle.hp_race.specs.Desks.{HasMade, SomeStrayed};
+ghost use Rattle.hp_race.specs.Racers.{HasMade, SomeStrayed};
 ghost use Rattle.hp_race.specs.Parts.{IsAgain, IsVerdictOnParts};
 ghost use Rattle.hp_race.specs.Races.{Counts, IsKept, IsKeptOf, IsOfScript, IsTold, IsToldOfRefused, IsVerdictOn};
 

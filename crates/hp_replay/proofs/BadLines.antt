@@ -4,7 +4,7 @@ use Rattle.std.proofs.Common.{◌∙◌, arith, append_assoc, length-append, inl
 use Rattle.std.proofs.lemmas.List.{append-nil}
 use Rattle.hp_base.specs.Text.{sizes_text, event_text}
 use Rattle.hp_replay.specs.declared.fault.ReplayFault.{ReplayFault}
-use Rattle.hp_replay.specs.Lines.{Held, Line, header, event, line_at, take_byte, with_fault, fault_at, held_after, lines_after, listed}
+use Rattle.hp_replay.specs.Lines.{FeedState, Line, header, event, line_at, take_byte, with_fault, fault_at, feed_after, lines_after, listed}
 use Rattle.hp_replay.specs.Traces.{BeginsNoHeader, BeginsNoEvent, HasNoEnd}
 use Rattle.hp_replay.proofs.Lines.{header_again, event_again}
 use Rattle.hp_replay.proofs.Feeding.{stays}
@@ -60,18 +60,18 @@ cut (suc n) rest no_end = inr (λ x more trace e. cut_line rest (event_text x) m
         no_line_within rest [] text more no_end (omega arith) (append-nil rest ∙ e)
 
 -- a byte with which a fault comes
-pub record Refuses (h : Held) (b : ℕ) (next : Held × Option Line) : Type 0 where
+pub record Refuses (h : FeedState) (b : ℕ) (next : FeedState × Option Line) : Type 0 where
   pub is : next ≡ (with_fault h, None)
   pub bad : (back : List ℕ) → NoLine h.lines (h.rest ++ (b ∷ back))
 
 all_lines : (n : ℕ) (bytes : List ℕ) → n ≡ 1000001 → NoLine n bytes
 all_lines n bytes e = subst (λ (k : ℕ). NoLine k bytes) (sym e) (inl refl)
 
-pub refuses : (h : Held) (b : ℕ) (fault : ReplayFault) → h.fault ≡ None → IsHeld h
+pub refuses : (h : FeedState) (b : ℕ) (fault : ReplayFault) → h.fault ≡ None → IsHeld h
     → (take_byte h b).0.fault ≡ Some fault → Refuses h b (take_byte h b)
 refuses h b fault none is bad = by (take_byte h b) (byte_case h b none) bad
   where
-    by : (next : Held × Option Line) → ByteCase h b next → next.0.fault ≡ Some fault → Refuses h b next
+    by : (next : FeedState × Option Line) → ByteCase h b next → next.0.fault ≡ Some fault → Refuses h b next
     by next (full n e) bad = record { is = e; bad = λ back. all_lines h.lines _ n }
     by next (takes_none end n e) bad =
         record {
@@ -91,28 +91,28 @@ refuses h b fault none is bad = by (take_byte h b) (byte_case h b none) bad
     by next (takes_line l few end n e) bad =
         absurd (no_fault next (record { lines = h.lines + 1; rest = []; fault = None }, Some l) e refl bad)
       where
-        no_fault : (next x : Held × Option Line) → next ≡ x → x.0.fault ≡ None → next.0.fault ≡ Some fault → ⊥
-        no_fault next x e p q = let same = ap (λ (y : Held × Option Line). y.0.fault) e in cc
+        no_fault : (next x : FeedState × Option Line) → next ≡ x → x.0.fault ≡ None → next.0.fault ≡ Some fault → ⊥
+        no_fault next x e p q = let same = ap (λ (y : FeedState × Option Line). y.0.fault) e in cc
     by next (grows few other short e) bad = absurd (no_fault next (record h { rest = h.rest ++ b ∷ [] }, None) e none bad)
       where
-        no_fault : (next x : Held × Option Line) → next ≡ x → x.0.fault ≡ None → next.0.fault ≡ Some fault → ⊥
-        no_fault next x e p q = let same = ap (λ (y : Held × Option Line). y.0.fault) e in cc
+        no_fault : (next x : FeedState × Option Line) → next ≡ x → x.0.fault ≡ None → next.0.fault ≡ Some fault → ⊥
+        no_fault next x e p q = let same = ap (λ (y : FeedState × Option Line). y.0.fault) e in cc
 
 -- the bytes before the fault, and those from the one with which it came
-pub record Stops (h : Held) (bytes : List ℕ) (fault : ReplayFault) : Type 0 where
+pub record Stops (h : FeedState) (bytes : List ℕ) (fault : ReplayFault) : Type 0 where
   pub front : List ℕ
   pub back : List ℕ
   pub parts : bytes ≡ front ++ back
   pub some : 0 < length back
-  pub ok : (held_after h front).fault ≡ None
-  pub held : IsHeld (held_after h front)
+  pub ok : (feed_after h front).fault ≡ None
+  pub held : IsHeld (feed_after h front)
   pub lines : lines_after h bytes ≡ lines_after h front
-  pub fault_is : fault ≡ fault_at (held_after h front).lines
-  pub bad : (later : List ℕ) → NoLine (held_after h front).lines ((held_after h front).rest ++ (back ++ later))
+  pub fault_is : fault ≡ fault_at (feed_after h front).lines
+  pub bad : (later : List ℕ) → NoLine (feed_after h front).lines ((feed_after h front).rest ++ (back ++ later))
 
-pub stops : (h : Held) (bytes : List ℕ) (fault : ReplayFault) → h.fault ≡ None → IsHeld h
-    → (held_after h bytes).fault ≡ Some fault → Stops h bytes fault
-unfolding held_after lines_after
+pub stops : (h : FeedState) (bytes : List ℕ) (fault : ReplayFault) → h.fault ≡ None → IsHeld h
+    → (feed_after h bytes).fault ≡ Some fault → Stops h bytes fault
+unfolding feed_after lines_after
 stops h [] fault none is bad = absurd (none_some h.fault fault none bad)
 stops h (b ∷ bytes) fault none is bad =
     by (take_byte h b).0.fault refl
@@ -136,8 +136,8 @@ stops h (b ∷ bytes) fault none is bad =
     by (Some f) failed later =
         let kept = stays (take_byte h b).0 f bytes failed in
         let r = refuses h b f none is failed in
-        let same : Some f ≡ Some fault = sym failed ∙ ap (λ (x : Held). x.fault) (sym kept.0) ∙ bad in
-        let this : Some f ≡ Some (fault_at h.lines) = sym failed ∙ ap (λ (x : Held × Option Line). x.0.fault) r.is in
+        let same : Some f ≡ Some fault = sym failed ∙ ap (λ (x : FeedState). x.fault) (sym kept.0) ∙ bad in
+        let this : Some f ≡ Some (fault_at h.lines) = sym failed ∙ ap (λ (x : FeedState × Option Line). x.0.fault) r.is in
         record {
           front = [];
           back = b ∷ bytes;
@@ -145,7 +145,7 @@ stops h (b ∷ bytes) fault none is bad =
           some = omega arith;
           ok = none;
           held = is;
-          lines = ap (λ (x : Held × Option Line). listed x.1 (lines_after (take_byte h b).0 bytes)) r.is ∙ kept.1;
+          lines = ap (λ (x : FeedState × Option Line). listed x.1 (lines_after (take_byte h b).0 bytes)) r.is ∙ kept.1;
           fault_is = cc;
           bad = λ later. r.bad (bytes ++ later);
         }

@@ -10,10 +10,10 @@ use Rattle.hp_base.specs.Text.{Sizes}
 use Rattle.hp_base.specs.declared.event.Event.{Event}
 use Rattle.hp_replay.specs.declared.fault.ReplayFault.{ReplayFault}
 use Rattle.hp_replay.specs.declared.fault.ReplayFault.TheVariants.{Read, Memory}
-use Rattle.hp_replay.specs.Lines.{Held, opening_held, Line, header, event, fault_at, held_after, lines_after, listed, AreLines, end_of}
+use Rattle.hp_replay.specs.Lines.{FeedState, opening_feed, Line, header, event, fault_at, feed_after, lines_after, listed, AreLines, end_of}
 use Rattle.hp_replay.specs.Traces.{HasFault, IsLineFault, SpellsSome}
 use Rattle.hp_replay.specs.Collecting.{CanFollow, CanFollowIfSome, NoRoom, PieceNotKept, ReadsTrace, NotRead}
-use Rattle.hp_replay.proofs.Feeding.{held_after-append, lines_after-append, stays}
+use Rattle.hp_replay.proofs.Feeding.{feed_after-append, lines_after-append, stays}
 use Rattle.hp_replay.proofs.Spelled.{spelled}
 use Rattle.hp_replay.proofs.Bytes.{IsHeld, room}
 use Rattle.hp_replay.proofs.BadLines.{stops, cut}
@@ -24,17 +24,17 @@ use Rattle.hp_replay.proofs.Replays.{for_some, end_cases, with_error, cut_at_end
 use Rattle.hp_replay.proofs.Whole.{opening_is, holds, taken, fault_of, end_fault, end_trace}
 
 -- the lines of the front of the piece are added, and this is left
-pub record Adding (held now : Held) (old new : List Line) (piece rest : List ℕ) : Type 0 where
+pub record Adding (held now : FeedState) (old new : List Line) (piece rest : List ℕ) : Type 0 where
   pub front : List ℕ
   pub parts : piece ≡ front ++ rest
-  pub taken : now ≡ held_after held front
+  pub taken : now ≡ feed_after held front
   pub lines : new ≡ old ++ lines_after held front
   pub no_fault : now.fault ≡ None
   pub count : now.lines ≡ length new
 
-pub starts : (held : Held) (old : List Line) (piece : List ℕ) → held.fault ≡ None → held.lines ≡ length old
+pub starts : (held : FeedState) (old : List Line) (piece : List ℕ) → held.fault ≡ None → held.lines ≡ length old
     → Adding held held old old piece piece
-unfolding held_after lines_after
+unfolding feed_after lines_after
 starts held old piece ok count =
     record { front = []; parts = refl; taken = refl; lines = sym (append-nil old); no_fault = ok; count = count }
 
@@ -47,27 +47,27 @@ can_follow (suc n) (event e) [] count are = absurd (omega arith)
 can_follow (suc n) (event e) (l ∷ lines) count are = tt
 
 -- a line that comes follows those that are there
-pub line_can_follow : (h next : Held) (line : Option Line) (rest : List ℕ) (lines : List Line)
-    → next ≡ held_after h (take_through 10 rest) → listed line [] ≡ lines_after h (take_through 10 rest)
+pub line_can_follow : (h next : FeedState) (line : Option Line) (rest : List ℕ) (lines : List Line)
+    → next ≡ feed_after h (take_through 10 rest) → listed line [] ≡ lines_after h (take_through 10 rest)
     → next.fault ≡ None → h.lines ≡ length lines → CanFollowIfSome lines line
 line_can_follow h next None rest lines held is ok count = tt
 line_can_follow h next (Some line) rest lines held is ok count =
-    let s = spelled h (take_through 10 rest) (ap (λ (x : Held). x.fault) (sym held) ∙ ok) in
+    let s = spelled h (take_through 10 rest) (ap (λ (x : FeedState). x.fault) (sym held) ∙ ok) in
     can_follow h.lines line lines count (subst (λ (ls : List Line). AreLines h.lines ls) (sym is) s.are)
 
-pub adds : (held h next : Held) (old mid new : List Line) (piece rest left : List ℕ) (line : Option Line)
+pub adds : (held h next : FeedState) (old mid new : List Line) (piece rest left : List ℕ) (line : Option Line)
     → Adding held h old mid piece rest → TookLine h next line rest left → new ≡ mid ++ listed line []
     → Adding held next old new piece left
 adds held h next old mid new piece rest left line a t is =
     let first = take_through 10 rest in
-    let s = spelled h first (ap (λ (x : Held). x.fault) (sym t.held) ∙ t.ok) in
-    let taken : next ≡ held_after held (a.front ++ first) =
-    t.held ∙ ap (λ (x : Held). held_after x first) a.taken ∙ sym (held_after-append held a.front first) in
-    let more : listed line [] ≡ lines_after (held_after held a.front) first = t.lines ∙ ap (λ (x : Held). lines_after x first) a.taken in
+    let s = spelled h first (ap (λ (x : FeedState). x.fault) (sym t.held) ∙ t.ok) in
+    let taken : next ≡ feed_after held (a.front ++ first) =
+    t.held ∙ ap (λ (x : FeedState). feed_after x first) a.taken ∙ sym (feed_after-append held a.front first) in
+    let more : listed line [] ≡ lines_after (feed_after held a.front) first = t.lines ∙ ap (λ (x : FeedState). lines_after x first) a.taken in
     let all : lines_after held (a.front ++ first) ≡ lines_after held a.front ++ listed line [] =
     lines_after-append held a.front first ∙ ap (λ (x : List Line). lines_after held a.front ++ x) (sym more) in
     let count : next.lines ≡ h.lines + length (listed line []) =
-    ap (λ (x : Held). x.lines) t.held ∙ s.lines ∙ ap (λ (x : List Line). h.lines + length x) (sym t.lines) in
+    ap (λ (x : FeedState). x.lines) t.held ∙ s.lines ∙ ap (λ (x : List Line). h.lines + length x) (sym t.lines) in
     let longer : length new ≡ length mid + length (listed line []) =
     ap (λ (x : List Line). length x) is ∙ length-append mid (listed line []) in
     let before = a.count in
@@ -85,16 +85,16 @@ adds held h next old mid new piece rest left line a t is =
     }
 
 -- an event for which there is no memory
-pub no_room : (held h next : Held) (old mid : List Line) (piece rest left : List ℕ) (line : Option Line)
+pub no_room : (held h next : FeedState) (old mid : List Line) (piece rest left : List ℕ) (line : Option Line)
     → Adding held h old mid piece rest → TookLine h next line rest left → 0 < length mid → IsSome line → NoRoom held piece
 no_room held h next old mid piece rest left None a t some is = absurd cc
 no_room held h next old mid piece rest left (Some line) a t some is =
     let first = take_through 10 rest in
-    let s = spelled h first (ap (λ (x : Held). x.fault) (sym t.held) ∙ t.ok) in
-    let taken : next ≡ held_after held (a.front ++ first) =
-    t.held ∙ ap (λ (x : Held). held_after x first) a.taken ∙ sym (held_after-append held a.front first) in
+    let s = spelled h first (ap (λ (x : FeedState). x.fault) (sym t.held) ∙ t.ok) in
+    let taken : next ≡ feed_after held (a.front ++ first) =
+    t.held ∙ ap (λ (x : FeedState). feed_after x first) a.taken ∙ sym (feed_after-append held a.front first) in
     let count : next.lines ≡ h.lines + 1 =
-    ap (λ (x : Held). x.lines) t.held ∙ s.lines ∙ ap (λ (x : List Line). h.lines + length x) (sym t.lines) in
+    ap (λ (x : FeedState). x.lines) t.held ∙ s.lines ∙ ap (λ (x : List Line). h.lines + length x) (sym t.lines) in
     let before = a.count in
     record {
       front = a.front ++ first;
@@ -102,69 +102,69 @@ no_room held h next old mid piece rest left (Some line) a t some is =
       parts =
           a.parts ∙ ap (λ (x : List ℕ). a.front ++ x)
           (through_parts rest ∙ ap (λ (x : List ℕ). first ++ x) (sym t.left_is)) ∙ sym (append_assoc a.front first left);
-      ok = ap (λ (x : Held). x.fault) (sym taken) ∙ t.ok;
-      event = subst (λ (x : Held). 1 < x.lines) taken (omega arith);
+      ok = ap (λ (x : FeedState). x.fault) (sym taken) ∙ t.ok;
+      event = subst (λ (x : FeedState). 1 < x.lines) taken (omega arith);
     }
 
 -- a bad line ends the piece
-pub not_added : (held h next : Held) (old mid : List Line) (piece rest : List ℕ) (fault : ReplayFault)
-    → Adding held h old mid piece rest → next ≡ held_after h (take_through 10 rest) → next.fault ≡ Some fault
+pub not_added : (held h next : FeedState) (old mid : List Line) (piece rest : List ℕ) (fault : ReplayFault)
+    → Adding held h old mid piece rest → next ≡ feed_after h (take_through 10 rest) → next.fault ≡ Some fault
     → IsLineFault fault → PieceNotKept fault held piece next
 not_added held h next old mid piece rest fault a held_is failed is =
     let first = take_through 10 rest in
     let left = drop (length first) rest in
     let s = stays next fault left failed in
-    let whole : next ≡ held_after h (first ++ left) =
-    sym s.0 ∙ ap (λ (x : Held). held_after x left) held_is ∙ sym (held_after-append h first left) in
-    let all : next ≡ held_after held (a.front ++ rest) =
-    whole ∙ ap (λ (x : List ℕ). held_after h x) (sym (through_parts rest))
-    ∙ ap (λ (x : Held). held_after x rest) a.taken ∙ sym (held_after-append held a.front rest) in
-    inl (failed, is, all ∙ ap (λ (x : List ℕ). held_after held x) (sym a.parts))
+    let whole : next ≡ feed_after h (first ++ left) =
+    sym s.0 ∙ ap (λ (x : FeedState). feed_after x left) held_is ∙ sym (feed_after-append h first left) in
+    let all : next ≡ feed_after held (a.front ++ rest) =
+    whole ∙ ap (λ (x : List ℕ). feed_after h x) (sym (through_parts rest))
+    ∙ ap (λ (x : FeedState). feed_after x rest) a.taken ∙ sym (feed_after-append held a.front rest) in
+    inl (failed, is, all ∙ ap (λ (x : List ℕ). feed_after held x) (sym a.parts))
 
 -- ---- between two reads
 
-pub record Drafting (from to : Option (List ℕ)) (h : Held) (lines : List Line) : Type 0 where
+pub record Drafting (from to : Option (List ℕ)) (h : FeedState) (lines : List Line) : Type 0 where
   pub bytes : List ℕ
   pub reads : Consumes from to bytes
-  pub held : h ≡ held_after opening_held bytes
-  pub lines_are : lines ≡ lines_after opening_held bytes
+  pub held : h ≡ feed_after opening_feed bytes
+  pub lines_are : lines ≡ lines_after opening_feed bytes
   pub no_fault : h.fault ≡ None
 
-pub begins : (from : Option (List ℕ)) → Drafting from from opening_held []
-unfolding held_after lines_after
+pub begins : (from : Option (List ℕ)) → Drafting from from opening_feed []
+unfolding feed_after lines_after
 begins from = record { bytes = []; reads = Consumes-nil from; held = refl; lines_are = refl; no_fault = refl }
 
-held_ok : {from to : Option (List ℕ)} (h : Held) (lines : List Line) (d : Drafting from to h lines)
-    → (held_after opening_held d.bytes).fault ≡ None
-held_ok h lines d = ap (λ (x : Held). x.fault) (sym d.held) ∙ d.no_fault
+held_ok : {from to : Option (List ℕ)} (h : FeedState) (lines : List Line) (d : Drafting from to h lines)
+    → (feed_after opening_feed d.bytes).fault ≡ None
+held_ok h lines d = ap (λ (x : FeedState). x.fault) (sym d.held) ∙ d.no_fault
 
-pub counts : (from to : Option (List ℕ)) (h : Held) (lines : List Line) → Drafting from to h lines → h.lines ≡ length lines
+pub counts : (from to : Option (List ℕ)) (h : FeedState) (lines : List Line) → Drafting from to h lines → h.lines ≡ length lines
 counts from to h lines d =
     let t = taken d.bytes (held_ok h lines d) in
-    ap (λ (x : Held). x.lines) d.held ∙ t.lines ∙ ap (λ (x : List Line). length x) (sym d.lines_are)
+    ap (λ (x : FeedState). x.lines) d.held ∙ t.lines ∙ ap (λ (x : List Line). length x) (sym d.lines_are)
 
-pub goes_on : (from mid to : Option (List ℕ)) (h h' : Held) (lines more : List Line) (piece : List ℕ)
-    → Drafting from mid h lines → Consumes mid to piece → h' ≡ held_after h piece → more ≡ lines ++ lines_after h piece
+pub goes_on : (from mid to : Option (List ℕ)) (h h' : FeedState) (lines more : List Line) (piece : List ℕ)
+    → Drafting from mid h lines → Consumes mid to piece → h' ≡ feed_after h piece → more ≡ lines ++ lines_after h piece
     → h'.fault ≡ None → Drafting from to h' more
 goes_on from mid to h h' lines more piece d read held is ok =
     record {
       bytes = d.bytes ++ piece;
       reads = Consumes-trans from mid to d.bytes piece d.reads read;
-      held = held ∙ ap (λ (x : Held). held_after x piece) d.held ∙ sym (held_after-append opening_held d.bytes piece);
+      held = held ∙ ap (λ (x : FeedState). feed_after x piece) d.held ∙ sym (feed_after-append opening_feed d.bytes piece);
       lines_are =
           is ∙ ap (λ (x : List Line). x ++ lines_after h piece) d.lines_are
-          ∙ ap (λ (x : Held). lines_after opening_held d.bytes ++ lines_after x piece) d.held
-          ∙ sym (lines_after-append opening_held d.bytes piece);
+          ∙ ap (λ (x : FeedState). lines_after opening_feed d.bytes ++ lines_after x piece) d.held
+          ∙ sym (lines_after-append opening_feed d.bytes piece);
       no_fault = ok;
     }
 
-pub smaller : (from to : Option (List ℕ)) (h h' : Held) (lines : List Line) (piece : List ℕ)
-    → Drafting from to h lines → h' ≡ held_after h piece → h'.fault ≡ None → 0 < length piece → room h' < room h
+pub smaller : (from to : Option (List ℕ)) (h h' : FeedState) (lines : List Line) (piece : List ℕ)
+    → Drafting from to h lines → h' ≡ feed_after h piece → h'.fault ≡ None → 0 < length piece → room h' < room h
 smaller from to h h' lines piece d held ok some =
-    let is : IsHeld h = subst (λ (x : Held). IsHeld x) (sym d.held) (holds opening_held d.bytes opening_is (held_ok h lines d)).held in
-    let later = holds h piece is (ap (λ (x : Held). x.fault) (sym held) ∙ ok) in
+    let is : IsHeld h = subst (λ (x : FeedState). IsHeld x) (sym d.held) (holds opening_feed d.bytes opening_is (held_ok h lines d)).held in
+    let later = holds h piece is (ap (λ (x : FeedState). x.fault) (sym held) ∙ ok) in
     let less = later.room in
-    let same : room h' ≡ room (held_after h piece) = ap room held in
+    let same : room h' ≡ room (feed_after h piece) = ap room held in
     omega arith
 
 -- ---- what is answered
@@ -191,7 +191,7 @@ answers : (from to : Option (List ℕ)) (fault : ReplayFault) → NotRead fault 
     → Answers from to fault
 answers from to fault is bad = record { is = is; bad = bad; only = none_spelled from fault bad }
 
-pub read_failed : (from mid to : Option (List ℕ)) (h : Held) (lines : List Line) → Drafting from mid h lines → Keeps mid to
+pub read_failed : (from mid to : Option (List ℕ)) (h : FeedState) (lines : List Line) → Drafting from mid h lines → Keeps mid to
     → Answers from to Read
 read_failed from mid to h lines d kept =
     answers from to Read
@@ -202,28 +202,28 @@ read_failed from mid to h lines d kept =
     })
     (for_some from _ (λ _. tt))
 
-memory : (from mid to : Option (List ℕ)) (h : Held) (lines : List Line) (piece : List ℕ) → Drafting from mid h lines
+memory : (from mid to : Option (List ℕ)) (h : FeedState) (lines : List Line) (piece : List ℕ) → Drafting from mid h lines
     → Consumes mid to piece → NoRoom h piece → Answers from to Memory
 memory from mid to h lines piece d read n =
-    let same : held_after opening_held (d.bytes ++ n.front) ≡ held_after h n.front =
-    held_after-append opening_held d.bytes n.front ∙ ap (λ (x : Held). held_after x n.front) (sym d.held) in
+    let same : feed_after opening_feed (d.bytes ++ n.front) ≡ feed_after h n.front =
+    feed_after-append opening_feed d.bytes n.front ∙ ap (λ (x : FeedState). feed_after x n.front) (sym d.held) in
     let parts : d.bytes ++ piece ≡ (d.bytes ++ n.front) ++ n.back =
     ap (λ (x : List ℕ). d.bytes ++ x) n.parts ∙ sym (append_assoc d.bytes n.front n.back) in
     answers from to Memory
     (memory_cut from to (d.bytes ++ n.front) n.back
     (subst (λ (x : List ℕ). Consumes from to x) parts (Consumes-trans from mid to d.bytes piece d.reads read))
-    (ap (λ (x : Held). x.fault) same ∙ n.ok) (subst (λ (x : Held). 1 < x.lines) (sym same) n.event))
+    (ap (λ (x : FeedState). x.fault) same ∙ n.ok) (subst (λ (x : FeedState). 1 < x.lines) (sym same) n.event))
     (for_some from _ (λ _. tt))
 
-pub piece_failed : (from mid to : Option (List ℕ)) (h h' : Held) (lines : List Line) (piece : List ℕ)
+pub piece_failed : (from mid to : Option (List ℕ)) (h h' : FeedState) (lines : List Line) (piece : List ℕ)
     (fault : ReplayFault) → Drafting from mid h lines → Consumes mid to piece → PieceNotKept fault h piece h' → Answers from to fault
 piece_failed from mid to h h' lines piece fault d read (inr (is, n)) =
     subst (λ (f : ReplayFault). Answers from to f) (sym is) (memory from mid to h lines piece d read n)
 piece_failed from mid to h h' lines piece fault d read (inl (failed, line, held)) =
-    let whole : h' ≡ held_after opening_held (d.bytes ++ piece) =
-    held ∙ ap (λ (x : Held). held_after x piece) d.held ∙ sym (held_after-append opening_held d.bytes piece) in
-    let stopped : (held_after opening_held (d.bytes ++ piece)).fault ≡ Some fault = ap (λ (x : Held). x.fault) (sym whole) ∙ failed in
-    let s = stops opening_held (d.bytes ++ piece) fault refl opening_is stopped in
+    let whole : h' ≡ feed_after opening_feed (d.bytes ++ piece) =
+    held ∙ ap (λ (x : FeedState). feed_after x piece) d.held ∙ sym (feed_after-append opening_feed d.bytes piece) in
+    let stopped : (feed_after opening_feed (d.bytes ++ piece)).fault ≡ Some fault = ap (λ (x : FeedState). x.fault) (sym whole) ∙ failed in
+    let s = stops opening_feed (d.bytes ++ piece) fault refl opening_is stopped in
     let reads : Consumes from to (d.bytes ++ piece) = Consumes-trans from mid to d.bytes piece d.reads read in
     let some = s.some in
     answers from to fault
@@ -233,7 +233,7 @@ piece_failed from mid to h h' lines piece fault d read (inl (failed, line, held)
     (known_fault from to (d.bytes ++ piece) fault reads
     (for_some to _ (λ left. fault_of (d.bytes ++ piece) fault left stopped)))
 
-pub end_failed : (from mid to : Option (List ℕ)) (h : Held) (lines : List Line) (fault : ReplayFault)
+pub end_failed : (from mid to : Option (List ℕ)) (h : FeedState) (lines : List Line) (fault : ReplayFault)
     → Drafting from mid h lines → Consumes mid to [] → IsAtEnd to → end_of h ≡ Err fault → Answers from to fault
 end_failed from mid to h lines fault d read all ended = by (end_cases h (Err fault) d.no_fault ended)
   where
@@ -257,23 +257,23 @@ end_failed from mid to h lines fault d read all ended = by (end_cases h (Err fau
     by (inl (is, none, some)) = absurd (err_ok fault is)
     by (inr (is, some)) =
         let ok = held_ok h lines d in
-        let now = held_after opening_held d.bytes in
+        let now = feed_after opening_feed d.bytes in
         answers from to fault
         (subst (λ (f : ReplayFault). NotRead f from to)
-        (ap (λ (x : Held). fault_at x.lines) (sym d.held) ∙ err_is fault (fault_at h.lines) is)
+        (ap (λ (x : FeedState). fault_at x.lines) (sym d.held) ∙ err_is fault (fault_at h.lines) is)
         (line_cut from to d.bytes [] reads ok
         (λ more. subst (λ (x : List ℕ). 0 < length x) (sym (append-nil now.rest))
-        (subst (λ (x : Held). 0 < x.lines → 0 < length x.rest) d.held some more))
+        (subst (λ (x : FeedState). 0 < x.lines → 0 < length x.rest) d.held some more))
         (cut_at_end to now.lines now.rest all (cut now.lines now.rest (taken d.bytes ok).held.no_end))))
         (known_fault from to (d.bytes ++ []) fault reads
         (at_end to all (end_fault d.bytes fault (ap end_of (sym d.held) ∙ ended))))
 
 -- the trace is that of the bytes
-pub some_lines : (from to : Option (List ℕ)) (h : Held) (lines : List Line) → Drafting from to h lines → end_of h ≡ Ok tt → 0 < length lines
+pub some_lines : (from to : Option (List ℕ)) (h : FeedState) (lines : List Line) → Drafting from to h lines → end_of h ≡ Ok tt → 0 < length lines
 some_lines from to h lines d ended =
     let t = end_trace d.bytes (ap end_of (sym d.held) ∙ ended) in
     let count = t.lines.count in
-    let same : length lines ≡ length (lines_after opening_held d.bytes) = ap (λ (x : List Line). length x) d.lines_are in
+    let same : length lines ≡ length (lines_after opening_feed d.bytes) = ap (λ (x : List Line). length x) d.lines_are in
     omega arith
 
 map_event : (a b : List Event) → map event a ≡ map event b → a ≡ b
@@ -285,7 +285,7 @@ map_event (x ∷ a) (y ∷ b) e =
     let others : map event a ≡ map event b = cc in
     rw (first, map_event a b others) refl
 
-pub trace_read : (from mid to : Option (List ℕ)) (h : Held) (lines : List Line) (s : Sizes) (events : List Event)
+pub trace_read : (from mid to : Option (List ℕ)) (h : FeedState) (lines : List Line) (s : Sizes) (events : List Event)
     → Drafting from mid h lines → Consumes mid to [] → IsAtEnd to → end_of h ≡ Ok tt
     → lines ≡ header s ∷ map event events → ReadsTrace from to s events
 trace_read from mid to h lines s events d read all ended is =

@@ -2,34 +2,34 @@
 use Rattle.std.proofs.Common.{◌≡◌, ℕ, zero, suc, ◌+◌, ◌<◌, List, ◌++◌, length, Option, Some, None, refl, sym, ap, subst, ◌∙◌}
 use Rattle.std.proofs.Common.{arith, append_assoc, length-append}
 use Rattle.std.specs.Prelude.{IfSome}
-use Rattle.hp_replay.specs.Lines.{opening_held, held_after, lines_after}
+use Rattle.hp_replay.specs.Lines.{opening_feed, feed_after, lines_after}
 use Rattle.hp_replay.specs.Traces.{trace_text}
 use Rattle.hp_replay.proofs.BadLines.{NoLine}
 use Rattle.hp_replay.proofs.Whole.{taken, TakenTrace, taken_trace, rest_is}
 
 pub data Front (front back : List ℕ) : Type 0 where
-  unbegun : (held_after opening_held front).lines ≡ 0 → (held_after opening_held front).rest ≡ front → Front front back
-  begun : (t : TakenTrace front (lines_after opening_held front) (held_after opening_held front).rest)
-      → (held_after opening_held front).lines ≡ length t.trace.events + 1
-      → front ++ back ≡ trace_text t.trace.sizes t.trace.events ++ ((held_after opening_held front).rest ++ back)
+  unbegun : (feed_after opening_feed front).lines ≡ 0 → (feed_after opening_feed front).rest ≡ front → Front front back
+  begun : (t : TakenTrace front (lines_after opening_feed front) (feed_after opening_feed front).rest)
+      → (feed_after opening_feed front).lines ≡ length t.trace.events + 1
+      → front ++ back ≡ trace_text t.trace.sizes t.trace.events ++ ((feed_after opening_feed front).rest ++ back)
       → Front front back
 
-pub front_of : (front back : List ℕ) → (held_after opening_held front).fault ≡ None → Front front back
-front_of front back ok = by (held_after opening_held front).lines refl
+pub front_of : (front back : List ℕ) → (feed_after opening_feed front).fault ≡ None → Front front back
+front_of front back ok = by (feed_after opening_feed front).lines refl
   where
-    by : (n : ℕ) → (held_after opening_held front).lines ≡ n → Front front back
+    by : (n : ℕ) → (feed_after opening_feed front).lines ≡ n → Front front back
     by zero none =
         let t = taken front ok in
         let lines = t.lines in
-        let no_lines : length (lines_after opening_held front) ≡ 0 = omega arith in
-        unbegun none (rest_is (lines_after opening_held front) (held_after opening_held front).rest front no_lines t.text)
+        let no_lines : length (lines_after opening_feed front) ≡ 0 = omega arith in
+        unbegun none (rest_is (lines_after opening_feed front) (feed_after opening_feed front).rest front no_lines t.text)
     by (suc n) count =
         let t = taken_trace front n ok count in
         let lines = (taken front ok).lines in
         let counted = t.trace.count in
         begun t (omega arith)
         (ap (λ (x : List ℕ). x ++ back) (sym t.text)
-        ∙ append_assoc (trace_text t.trace.sizes t.trace.events) (held_after opening_held front).rest back)
+        ∙ append_assoc (trace_text t.trace.sizes t.trace.events) (feed_after opening_feed front).rest back)
 
 -- no header stands at the front of the bytes
 pub no_header : (front back rest : List ℕ) (n : ℕ) (to : Option (List ℕ)) → n ≡ 0 → rest ≡ front

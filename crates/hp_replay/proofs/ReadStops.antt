@@ -2,7 +2,7 @@
 use Rattle.std.proofs.Common.{◌≡◌, ℕ, suc, ◌<◌, List, [], ◌++◌, length, Option, None, refl, sym, subst, arith}
 use Rattle.std.specs.Prelude.{IfSome}
 use Rattle.std.specs.Io.KnownBytes.{Consumes}
-use Rattle.hp_replay.specs.Lines.{opening_held, fault_at, held_after}
+use Rattle.hp_replay.specs.Lines.{opening_feed, fault_at, feed_after}
 use Rattle.hp_replay.specs.Traces.{HasNoEnd}
 use Rattle.hp_replay.specs.Collecting.{NotRead, NotReadAtMemory, AreLinesOfSome, no_line, each_line}
 use Rattle.hp_replay.proofs.BadLines.{NoLine}
@@ -11,38 +11,38 @@ use Rattle.hp_replay.proofs.Fronts.{Front, unbegun, begun, front_of, no_header, 
 
 -- no line stands behind those that were read
 pub line_cut : (from to : Option (List ℕ)) (front back : List ℕ) → Consumes from to (front ++ back)
-    → (held_after opening_held front).fault ≡ None
-    → (0 < (held_after opening_held front).lines → 0 < length ((held_after opening_held front).rest ++ back))
-    → IfSome to (λ left. NoLine (held_after opening_held front).lines ((held_after opening_held front).rest ++ (back ++ left)))
-    → NotRead (fault_at (held_after opening_held front).lines) from to
+    → (feed_after opening_feed front).fault ≡ None
+    → (0 < (feed_after opening_feed front).lines → 0 < length ((feed_after opening_feed front).rest ++ back))
+    → IfSome to (λ left. NoLine (feed_after opening_feed front).lines ((feed_after opening_feed front).rest ++ (back ++ left)))
+    → NotRead (fault_at (feed_after opening_feed front).lines) from to
 line_cut from to front back reads ok some bad = by (front_of front back ok)
   where
-    by : Front front back → NotRead (fault_at (held_after opening_held front).lines) from to
+    by : Front front back → NotRead (fault_at (feed_after opening_feed front).lines) from to
     by (unbegun none is) =
         subst (λ (k : ℕ). NotRead (fault_at k) from to) (sym none)
         (record {
           bytes = front ++ back;
           reads = reads;
-          bad = no_header front back (held_after opening_held front).rest (held_after opening_held front).lines to none is bad;
+          bad = no_header front back (feed_after opening_feed front).rest (feed_after opening_feed front).lines to none is bad;
         })
     by (begun t count parts) =
-        let add : (held_after opening_held front).lines ≡ suc (length t.trace.events) = omega arith in
+        let add : (feed_after opening_feed front).lines ≡ suc (length t.trace.events) = omega arith in
         subst (λ (k : ℕ). NotRead (fault_at k) from to) (sym add)
         (record {
           sizes = t.trace.sizes;
           events = t.trace.events;
-          rest = (held_after opening_held front).rest ++ back;
+          rest = (feed_after opening_feed front).rest ++ back;
           trace = t.trace.trace;
           reads = subst (λ (x : List ℕ). Consumes from to x) parts reads;
           number = refl;
           bad =
-              bad_rest (held_after opening_held front).lines (length t.trace.events)
-              (held_after opening_held front).rest back to count (some (omega arith)) bad;
+              bad_rest (feed_after opening_feed front).lines (length t.trace.events)
+              (feed_after opening_feed front).rest back to count (some (omega arith)) bad;
         })
 
 -- memory was refused for the last event before some bytes
 pub memory_cut : (from to : Option (List ℕ)) (front back : List ℕ) → Consumes from to (front ++ back)
-    → (held_after opening_held front).fault ≡ None → 1 < (held_after opening_held front).lines → NotReadAtMemory from to
+    → (feed_after opening_feed front).fault ≡ None → 1 < (feed_after opening_feed front).lines → NotReadAtMemory from to
 memory_cut from to front back reads ok event = by (front_of front back ok)
   where
     by : Front front back → NotReadAtMemory from to
@@ -51,20 +51,20 @@ memory_cut from to front back reads ok event = by (front_of front back ok)
         record {
           sizes = t.trace.sizes;
           events = t.trace.events;
-          rest = (held_after opening_held front).rest ++ back;
+          rest = (feed_after opening_feed front).rest ++ back;
           trace = t.trace.trace;
           reads = subst (λ (x : List ℕ). Consumes from to x) parts reads;
           some = omega arith;
         }
 
 -- bytes without a fault have no bad line
-pub lines_of : (bytes : List ℕ) → (held_after opening_held bytes).fault ≡ None → AreLinesOfSome bytes
+pub lines_of : (bytes : List ℕ) → (feed_after opening_feed bytes).fault ≡ None → AreLinesOfSome bytes
 lines_of bytes ok = by (front_of bytes [] ok)
   where
-    no_end : HasNoEnd (held_after opening_held bytes).rest
+    no_end : HasNoEnd (feed_after opening_feed bytes).rest
     no_end = (taken bytes ok).held.no_end
 
     by : Front bytes [] → AreLinesOfSome bytes
     by (unbegun none is) = no_line (subst (λ (x : List ℕ). HasNoEnd x) is no_end)
     by (begun t count parts) =
-        each_line t.trace.sizes t.trace.events (held_after opening_held bytes).rest t.trace.trace (sym t.text) no_end
+        each_line t.trace.sizes t.trace.events (feed_after opening_feed bytes).rest t.trace.trace (sym t.text) no_end

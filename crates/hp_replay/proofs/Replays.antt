@@ -11,7 +11,7 @@ use Rattle.hp_machine.specs.declared.outcome.Outcome.{Outcome}
 use Rattle.hp_core.specs.State.{CoreState}
 use Rattle.hp_replay.specs.declared.fault.ReplayFault.{ReplayFault}
 use Rattle.hp_replay.specs.declared.fault.ReplayFault.TheVariants.{BadLine, BadHeader, Read, Write, Memory}
-use Rattle.hp_replay.specs.Lines.{Held, opening_held, Line, header, event, fault_at, held_after, lines_after, end_of, end_at}
+use Rattle.hp_replay.specs.Lines.{FeedState, opening_feed, Line, header, event, fault_at, feed_after, lines_after, end_of, end_at}
 use Rattle.hp_replay.specs.Traces.{IsTrace, HasNoEnd, IsLineFault, trace_text}
 use Rattle.hp_replay.specs.Outcomes.{Run, RunOf, outcomes_text, outcome_line, state_text}
 use Rattle.hp_replay.specs.Writing.{Wrote, IsWriteFault}
@@ -80,22 +80,22 @@ no_lines_ran (l ∷ lines) core text none runs = absurd (omega arith)
 
 -- what ran of the bytes before some point: nothing yet, or the run of a trace
 pub data Ran (front back text : List ℕ) (core : Option CoreState) : Type 0 where
-  before : (held_after opening_held front).lines ≡ 0 → text ≡ [] → (held_after opening_held front).rest ≡ front → Ran front back text core
-  behind : (t : TakenTrace front (lines_after opening_held front) (held_after opening_held front).rest)
-      → (held_after opening_held front).lines ≡ length t.trace.events + 1
-      → front ++ back ≡ trace_text t.trace.sizes t.trace.events ++ ((held_after opening_held front).rest ++ back)
+  before : (feed_after opening_feed front).lines ≡ 0 → text ≡ [] → (feed_after opening_feed front).rest ≡ front → Ran front back text core
+  behind : (t : TakenTrace front (lines_after opening_feed front) (feed_after opening_feed front).rest)
+      → (feed_after opening_feed front).lines ≡ length t.trace.events + 1
+      → front ++ back ≡ trace_text t.trace.sizes t.trace.events ++ ((feed_after opening_feed front).rest ++ back)
       → TraceRan t.trace.sizes t.trace.events core text → Ran front back text core
 
-ran : (front back text : List ℕ) (core : Option CoreState) → (held_after opening_held front).fault ≡ None
-    → LinesRun None (lines_after opening_held front) core text → Ran front back text core
+ran : (front back text : List ℕ) (core : Option CoreState) → (feed_after opening_feed front).fault ≡ None
+    → LinesRun None (lines_after opening_feed front) core text → Ran front back text core
 ran front back text core ok runs = by (front_of front back ok)
   where
     by : Front front back → Ran front back text core
     by (unbegun none is) =
         let lines = (taken front ok).lines in
-        let no_lines : length (lines_after opening_held front) ≡ 0 = omega arith in
-        before none (no_lines_ran (lines_after opening_held front) core text no_lines runs) is
-    by (begun t count parts) = behind t count parts (trace_ran (lines_after opening_held front) t.trace core text runs)
+        let no_lines : length (lines_after opening_feed front) ≡ 0 = omega arith in
+        before none (no_lines_ran (lines_after opening_feed front) core text no_lines runs) is
+    by (begun t count parts) = behind t count parts (trace_ran (lines_after opening_feed front) t.trace core text runs)
 
 -- ---- where a replay stops
 
@@ -106,37 +106,37 @@ Keeps-from (Some a) (Some b) e = e ∙ append-nil a
 
 -- no line stands behind those that ran
 line_stopped : (from to o o' : Option (List ℕ)) (front back text : List ℕ) (core : Option CoreState)
-    → Consumes from to (front ++ back) → (held_after opening_held front).fault ≡ None
-    → LinesRun None (lines_after opening_held front) core text → Appends o o' text
-    → (0 < (held_after opening_held front).lines → 0 < length ((held_after opening_held front).rest ++ back))
-    → IfSome to (λ left. NoLine (held_after opening_held front).lines
-    ((held_after opening_held front).rest ++ (back ++ left))) → Stopped (fault_at (held_after opening_held front).lines) from to o o'
+    → Consumes from to (front ++ back) → (feed_after opening_feed front).fault ≡ None
+    → LinesRun None (lines_after opening_feed front) core text → Appends o o' text
+    → (0 < (feed_after opening_feed front).lines → 0 < length ((feed_after opening_feed front).rest ++ back))
+    → IfSome to (λ left. NoLine (feed_after opening_feed front).lines
+    ((feed_after opening_feed front).rest ++ (back ++ left))) → Stopped (fault_at (feed_after opening_feed front).lines) from to o o'
 line_stopped from to o o' front back text core reads ok runs wrote some bad = by (ran front back text core ok runs)
   where
-    by : Ran front back text core → Stopped (fault_at (held_after opening_held front).lines) from to o o'
+    by : Ran front back text core → Stopped (fault_at (feed_after opening_feed front).lines) from to o o'
     by (before none empty is) =
         subst (λ (k : ℕ). Stopped (fault_at k) from to o o') (sym none)
         (record {
           bytes = front ++ back;
           reads = reads;
-          bad = no_header front back (held_after opening_held front).rest (held_after opening_held front).lines to none is bad;
+          bad = no_header front back (feed_after opening_feed front).rest (feed_after opening_feed front).lines to none is bad;
           wrote = Keeps-from o o' (subst (λ (x : List ℕ). Appends o o' x) empty wrote);
         })
     by (behind t count parts run) =
-        let add : (held_after opening_held front).lines ≡ suc (length t.trace.events) = omega arith in
+        let add : (feed_after opening_feed front).lines ≡ suc (length t.trace.events) = omega arith in
         subst (λ (k : ℕ). Stopped (fault_at k) from to o o') (sym add)
         (record {
           sizes = t.trace.sizes;
           events = t.trace.events;
-          rest = (held_after opening_held front).rest ++ back;
+          rest = (feed_after opening_feed front).rest ++ back;
           outcomes = run.outcomes;
           core = run.new;
           trace = t.trace.trace;
           reads = subst (λ (x : List ℕ). Consumes from to x) parts reads;
           number = refl;
           bad =
-              bad_rest (held_after opening_held front).lines (length t.trace.events)
-              (held_after opening_held front).rest back to count (some (omega arith)) bad;
+              bad_rest (feed_after opening_feed front).lines (length t.trace.events)
+              (feed_after opening_feed front).rest back to count (some (omega arith)) bad;
           run = run.run;
           wrote = subst (λ (x : List ℕ). Appends o o' x) run.text_is wrote;
         })
@@ -154,15 +154,15 @@ early Memory from to o o' is stopped = stopped
 
 -- ---- between two reads
 
-pub record Going (from to : Option (List ℕ)) (h : Held) (core : Option CoreState) (o o' : Option (List ℕ)) : Type 0 where
+pub record Going (from to : Option (List ℕ)) (h : FeedState) (core : Option CoreState) (o o' : Option (List ℕ)) : Type 0 where
   pub bytes : List ℕ
   pub reads : Consumes from to bytes
-  pub piece : PieceRan opening_held bytes h None core o o'
+  pub piece : PieceRan opening_feed bytes h None core o o'
   pub no_fault : h.fault ≡ None
   pub opened : IsOpened h core
 
-pub begins : (from o : Option (List ℕ)) → Going from from opening_held None o o
-unfolding held_after lines_after
+pub begins : (from o : Option (List ℕ)) → Going from from opening_feed None o o
+unfolding feed_after lines_after
 begins from o =
     record {
       bytes = [];
@@ -172,28 +172,28 @@ begins from o =
       opened = λ (some : 0 < 0). absurd (omega arith);
     }
 
-pub goes_on : (from mid to : Option (List ℕ)) (h h' : Held) (core core' : Option CoreState)
+pub goes_on : (from mid to : Option (List ℕ)) (h h' : FeedState) (core core' : Option CoreState)
     (o o' o'' : Option (List ℕ)) (piece : List ℕ) → Going from mid h core o o' → Consumes mid to piece
     → PieceRan h piece h' core core' o' o'' → h'.fault ≡ None → IsOpened h' core' → Going from to h' core' o o''
 goes_on from mid to h h' core core' o o' o'' piece g read more ok opened =
     record {
       bytes = g.bytes ++ piece;
       reads = Consumes-trans from mid to g.bytes piece g.reads read;
-      piece = PieceRan-append opening_held h h' g.bytes piece None core core' o o' o'' g.piece more;
+      piece = PieceRan-append opening_feed h h' g.bytes piece None core core' o o' o'' g.piece more;
       no_fault = ok;
       opened = opened;
     }
 
 -- each byte takes room
-pub smaller : (from mid : Option (List ℕ)) (h h' : Held) (core core' : Option CoreState) (o o' o'' : Option (List ℕ))
+pub smaller : (from mid : Option (List ℕ)) (h h' : FeedState) (core core' : Option CoreState) (o o' o'' : Option (List ℕ))
     (piece : List ℕ) → Going from mid h core o o' → PieceRan h piece h' core core' o' o'' → h'.fault ≡ None
     → 0 < length piece → room h' < room h
 smaller from mid h h' core core' o o' o'' piece g more ok some =
-    let is : IsHeld h = subst (λ (x : Held). IsHeld x) (sym g.piece.taken)
-    (holds opening_held g.bytes opening_is (ap (λ (x : Held). x.fault) (sym g.piece.taken) ∙ g.no_fault)).held in
-    let later = holds h piece is (ap (λ (x : Held). x.fault) (sym more.taken) ∙ ok) in
+    let is : IsHeld h = subst (λ (x : FeedState). IsHeld x) (sym g.piece.taken)
+    (holds opening_feed g.bytes opening_is (ap (λ (x : FeedState). x.fault) (sym g.piece.taken) ∙ g.no_fault)).held in
+    let later = holds h piece is (ap (λ (x : FeedState). x.fault) (sym more.taken) ∙ ok) in
     let less = later.room in
-    let same : room h' ≡ room (held_after h piece) = ap room more.taken in
+    let same : room h' ≡ room (feed_after h piece) = ap room more.taken in
     omega arith
 
 -- what ran before some point writes some of the run's text
@@ -201,7 +201,7 @@ ran_writes : {to : Option (List ℕ)} {front back text : List ℕ} {core : Optio
     → Ran front back text core → RunWrites to (front ++ back) text
 ran_writes (before none empty is) = nothing empty
 ran_writes {to} {front} {back} (behind t count parts run) =
-    so_far ((held_after opening_held front).rest ++ back) run.new
+    so_far ((feed_after opening_feed front).rest ++ back) run.new
     (record {
       sizes = t.trace.sizes;
       events = t.trace.events;
@@ -213,11 +213,11 @@ ran_writes {to} {front} {back} (behind t count parts run) =
     })
 
 -- a piece of which a front ran, and a front of what that writes was written
-piece_partly : (from mid to : Option (List ℕ)) (h : Held) (core : Option CoreState) (o o' o'' : Option (List ℕ))
+piece_partly : (from mid to : Option (List ℕ)) (h : FeedState) (core : Option CoreState) (o o' o'' : Option (List ℕ))
     (piece : List ℕ) → Going from mid h core o o' → Consumes mid to piece → PieceRanPartly h piece core o' o''
     → StoppedEarly from to o o''
 piece_partly from mid to h core o o' o'' piece g read part =
-    let all = PieceRanPartly-behind opening_held h g.bytes piece None core o o' o'' g.piece part in
+    let all = PieceRanPartly-behind opening_feed h g.bytes piece None core o o' o'' g.piece part in
     record {
       bytes = g.bytes ++ piece;
       text = all.ran.text;
@@ -228,12 +228,12 @@ piece_partly from mid to h core o o' o'' piece g read part =
       wrote = all.ran.wrote;
     }
 
-pub piece_stopped : (from mid to : Option (List ℕ)) (h h' : Held) (core core' : Option CoreState)
+pub piece_stopped : (from mid to : Option (List ℕ)) (h h' : FeedState) (core core' : Option CoreState)
     (o o' o'' : Option (List ℕ)) (piece : List ℕ) (fault : ReplayFault) → Going from mid h core o o'
     → Consumes mid to piece → PieceStopped fault h piece h' core core' o' o'' → Stopped fault from to o o''
 piece_stopped from mid to h h' core core' o o' o'' piece fault g read (inl (failed, is, more)) =
-    let all = PieceRan-append opening_held h h' g.bytes piece None core core' o o' o'' g.piece more in
-    let s = stops opening_held (g.bytes ++ piece) fault refl opening_is (ap (λ (x : Held). x.fault) (sym all.taken) ∙ failed) in
+    let all = PieceRan-append opening_feed h h' g.bytes piece None core core' o o' o'' g.piece more in
+    let s = stops opening_feed (g.bytes ++ piece) fault refl opening_is (ap (λ (x : FeedState). x.fault) (sym all.taken) ∙ failed) in
     let reads : Consumes from to (s.front ++ s.back) =
     subst (λ (x : List ℕ). Consumes from to x) s.parts (Consumes-trans from mid to g.bytes piece g.reads read) in
     let some = s.some in
@@ -252,7 +252,7 @@ collected : (l t text : List ℕ) → l ≡ [] → Appends (Some l) (Some t) tex
 collected l t text none e = e ∙ ap (λ (x : List ℕ). x ++ text) none
 
 -- a piece whose lines were collected ran to the writer once all of them are written
-pub ran_written : (h h' : Held) (piece : List ℕ) (core core' : Option CoreState) (o o' : Option (List ℕ)) (l t : List ℕ)
+pub ran_written : (h h' : FeedState) (piece : List ℕ) (core core' : Option CoreState) (o o' : Option (List ℕ)) (l t : List ℕ)
     → l ≡ [] → PieceRan h piece h' core core' (Some l) (Some t) → Appends o o' t → PieceRan h piece h' core core' o o'
 ran_written h h' piece core core' o o' l t none p all =
     record {
@@ -263,7 +263,7 @@ ran_written h h' piece core core' o o' l t none p all =
     }
 
 -- so did one that stopped
-pub stopped_written : (fault : ReplayFault) (h h' : Held) (piece : List ℕ) (core core' : Option CoreState)
+pub stopped_written : (fault : ReplayFault) (h h' : FeedState) (piece : List ℕ) (core core' : Option CoreState)
     (o o' : Option (List ℕ)) (l t : List ℕ) → l ≡ [] → PieceStopped fault h piece h' core core' (Some l) (Some t)
     → Appends o o' t → PieceStopped fault h piece h' core core' o o'
 stopped_written fault h h' piece core core' o o' l t none (inl (failed, is, p)) all =
@@ -291,19 +291,19 @@ stopped_written fault h h' piece core core' o o' l t none (inr (is, p)) all =
     )
 
 -- what a piece came to whose lines were collected
-abbrev pub PieceCame : Result (Unit {0}) ReplayFault → Held → List ℕ → Held → Option CoreState → Option CoreState
+abbrev pub PieceCame : Result (Unit {0}) ReplayFault → FeedState → List ℕ → FeedState → Option CoreState → Option CoreState
     → List ℕ → List ℕ → Type 0
 PieceCame (Ok x) h piece h' core core' l t = PieceRan h piece h' core core' (Some l) (Some t) × (h'.fault ≡ None)
 PieceCame (Err fault) h piece h' core core' l t = PieceStopped fault h piece h' core core' (Some l) (Some t)
 
-pub came : (r : Result (Unit {0}) ReplayFault) (h h' : Held) (piece : List ℕ) (core core' : Option CoreState) (l t : List ℕ)
+pub came : (r : Result (Unit {0}) ReplayFault) (h h' : FeedState) (piece : List ℕ) (core core' : Option CoreState) (l t : List ℕ)
     → OnOk r (PieceRan h piece h' core core' (Some l) (Some t)) → OnOk r (h'.fault ≡ None)
     → IfErr r (λ fault. PieceStopped fault h piece h' core core' (Some l) (Some t)) → PieceCame r h piece h' core core' l t
 came (Ok x) h h' piece core core' l t p ok stopped = (p, ok)
 came (Err fault) h h' piece core core' l t p ok stopped = stopped
 
 -- where not all of its lines could be written, a front of the run's text was
-pub unwritten : (from mid to : Option (List ℕ)) (h h' : Held) (core core' : Option CoreState)
+pub unwritten : (from mid to : Option (List ℕ)) (h h' : FeedState) (core core' : Option CoreState)
     (o o' o'' : Option (List ℕ)) (piece l t : List ℕ) (r : Result (Unit {0}) ReplayFault) → Going from mid h core o o'
     → Consumes mid to piece → l ≡ [] → PieceCame r h piece h' core core' l t → Wrote o' o'' t → StoppedEarly from to o o''
 unwritten from mid to h h' core core' o o' o'' piece l t (Ok x) g read none (p, ok) some =
@@ -312,7 +312,7 @@ unwritten from mid to h h' core core' o o' o'' piece l t (Ok x) g read none (p, 
       front = piece;
       back = [];
       parts = sym (append-nil piece);
-      ok = ap (λ (y : Held). y.fault) (sym p.taken) ∙ ok;
+      ok = ap (λ (y : FeedState). y.fault) (sym p.taken) ∙ ok;
       ran = record {
         new = core';
         text = p.text;
@@ -339,12 +339,12 @@ unwritten from mid to h h' core core' o o' o'' piece l t (Err fault) g read none
     })
 unwritten from mid to h h' core core' o o' o'' piece l t (Err fault) g read none (inl (failed, is, p)) some =
     let both = g.piece.text ++ p.text in
-    let first : PieceRan opening_held g.bytes h None core (Some []) (Some g.piece.text) =
+    let first : PieceRan opening_feed g.bytes h None core (Some []) (Some g.piece.text) =
     record { text = g.piece.text; taken = g.piece.taken; runs = g.piece.runs; wrote = refl } in
     let more : PieceRan h piece h' core core' (Some g.piece.text) (Some both) =
     record { text = p.text; taken = p.taken; runs = p.runs; wrote = refl } in
-    let all = PieceRan-append opening_held h h' g.bytes piece None core core' (Some []) (Some g.piece.text) (Some both) first more in
-    let s = stops opening_held (g.bytes ++ piece) fault refl opening_is (ap (λ (x : Held). x.fault) (sym all.taken) ∙ failed) in
+    let all = PieceRan-append opening_feed h h' g.bytes piece None core core' (Some []) (Some g.piece.text) (Some both) first more in
+    let s = stops opening_feed (g.bytes ++ piece) fault refl opening_is (ap (λ (x : FeedState). x.fault) (sym all.taken) ∙ failed) in
     record {
       bytes = g.bytes ++ piece;
       text = all.text;
@@ -360,11 +360,11 @@ unwritten from mid to h h' core core' o o' o'' piece l t (Err fault) g read none
     }
 
 -- what the feed holds
-held_is : (from mid : Option (List ℕ)) (h : Held) (core : Option CoreState) (o o' : Option (List ℕ))
-    (g : Going from mid h core o o') → (held_after opening_held g.bytes).fault ≡ None
-held_is from mid h core o o' g = ap (λ (x : Held). x.fault) (sym g.piece.taken) ∙ g.no_fault
+held_is : (from mid : Option (List ℕ)) (h : FeedState) (core : Option CoreState) (o o' : Option (List ℕ))
+    (g : Going from mid h core o o') → (feed_after opening_feed g.bytes).fault ≡ None
+held_is from mid h core o o' g = ap (λ (x : FeedState). x.fault) (sym g.piece.taken) ∙ g.no_fault
 
-pub read_failed : (from mid to : Option (List ℕ)) (h : Held) (core : Option CoreState) (o o' : Option (List ℕ))
+pub read_failed : (from mid to : Option (List ℕ)) (h : FeedState) (core : Option CoreState) (o o' : Option (List ℕ))
     → Going from mid h core o o' → Keeps mid to → StoppedAtRead from to o o'
 read_failed from mid to h core o o' g kept =
     record {
@@ -375,13 +375,13 @@ read_failed from mid to h core o o' g kept =
       wrote = g.piece.wrote;
     }
   where
-    no_end : HasNoEnd (held_after opening_held g.bytes).rest
+    no_end : HasNoEnd (feed_after opening_feed g.bytes).rest
     no_end = (taken g.bytes (held_is from mid h core o o' g)).held.no_end
 
     writes : Ran g.bytes [] g.piece.text core → AllRunWrites g.bytes g.piece.text
     writes (before none empty is) = no_line (subst (λ (x : List ℕ). HasNoEnd x) is no_end) empty
     writes (behind t count parts run) =
-        each_line (held_after opening_held g.bytes).rest run.new
+        each_line (feed_after opening_feed g.bytes).rest run.new
         (record {
           sizes = t.trace.sizes;
           events = t.trace.events;
@@ -401,7 +401,7 @@ abbrev pub with_error : ReplayFault → Result (Unit {0}) ReplayFault
 with_error fault = Err fault
 
 -- what the end says where no fault is held
-pub end_cases : (h : Held) (r : Result (Unit {0}) ReplayFault) → h.fault ≡ None → end_of h ≡ r
+pub end_cases : (h : FeedState) (r : Result (Unit {0}) ReplayFault) → h.fault ≡ None → end_of h ≡ r
     → ((r ≡ Ok tt) × (h.rest ≡ []) × (0 < h.lines)) ⊎ ((r ≡ Err (fault_at h.lines)) × (0 < h.lines → 0 < length h.rest))
 end_cases h r ok e = by h.fault h.lines h.rest refl refl refl ok e
   where
@@ -428,7 +428,7 @@ pub record EndRan (from to : Option (List ℕ)) (core : Option CoreState) (o o' 
   pub run : RunOf sizes events outcomes new
   pub wrote : Appends o o' (outcomes_text outcomes)
 
-end_ran : (from mid to : Option (List ℕ)) (h : Held) (core : Option CoreState) (o o' : Option (List ℕ))
+end_ran : (from mid to : Option (List ℕ)) (h : FeedState) (core : Option CoreState) (o o' : Option (List ℕ))
     → Going from mid h core o o' → Consumes mid to [] → end_of h ≡ Ok tt → EndRan from to core o o'
 end_ran from mid to h core o o' g read e = by (end_cases h (Ok tt) g.no_fault e)
   where
@@ -437,10 +437,10 @@ end_ran from mid to h core o o' g read e = by (end_cases h (Ok tt) g.no_fault e)
 
     by_ran : h.rest ≡ [] → 0 < h.lines → Ran g.bytes [] g.piece.text core → EndRan from to core o o'
     by_ran none some (before zero_is empty is) =
-        absurd (let same : h.lines ≡ (held_after opening_held g.bytes).lines = ap (λ (x : Held). x.lines)
+        absurd (let same : h.lines ≡ (feed_after opening_feed g.bytes).lines = ap (λ (x : FeedState). x.lines)
         g.piece.taken in omega arith)
     by_ran none some (behind t count parts run) =
-        let rest : (held_after opening_held g.bytes).rest ≡ [] = ap (λ (x : Held). x.rest) (sym g.piece.taken) ∙ none in
+        let rest : (feed_after opening_feed g.bytes).rest ≡ [] = ap (λ (x : FeedState). x.rest) (sym g.piece.taken) ∙ none in
         let whole : g.bytes ≡ trace_text t.trace.sizes t.trace.events =
         sym t.text ∙ ap (λ (x : List ℕ). trace_text t.trace.sizes t.trace.events ++ x) rest
         ∙ append-nil (trace_text t.trace.sizes t.trace.events) in
@@ -463,7 +463,7 @@ end_ran from mid to h core o o' g read e = by (end_cases h (Ok tt) g.no_fault e)
     by (inl (is, none, some)) = by_ran none some (ran g.bytes [] g.piece.text core (held_is from mid h core o o' g) g.piece.runs)
     by (inr (is, some)) = absurd (ok_err _ is)
 
-pub finished : (from mid to : Option (List ℕ)) (h : Held) (core : Option CoreState) (o o' o'' : Option (List ℕ))
+pub finished : (from mid to : Option (List ℕ)) (h : FeedState) (core : Option CoreState) (o o' o'' : Option (List ℕ))
     (r : Result (Unit {0}) ReplayFault) → Going from mid h core o o' → Consumes mid to [] → IsAtEnd to
     → OnOk r (end_of h ≡ Ok tt) → OnOk r (IfSome core (λ c. Appends o' o'' (state_text c))) → OnOk r (Replayed from to o o'')
 finished from mid to h core o o' o'' (Err f) g read all ended wrote = tt
@@ -484,7 +484,7 @@ finished from mid to h core o o' o'' (Ok x) g read all ended wrote =
     }
 
 -- what `finish` says of a fault
-abbrev pub NotFinished : ReplayFault → Held → Option CoreState → Option (List ℕ) → Option (List ℕ) → Type 0
+abbrev pub NotFinished : ReplayFault → FeedState → Option CoreState → Option (List ℕ) → Option (List ℕ) → Type 0
 NotFinished fault h core o o' =
     ((end_of h ≡ Err fault) × IsLineFault fault × Keeps o o')
     ⊎ (IsWriteFault fault × (end_of h ≡ Ok tt) × IfSome core (λ c. Wrote o o' (state_text c)))
@@ -497,7 +497,7 @@ cut_at_end (Some left) n rest e bad =
     subst (λ (x : List ℕ). NoLine n (rest ++ ([] ++ x))) (sym e)
     (subst (λ (x : List ℕ). NoLine n x) (sym (append-nil rest)) bad)
 
-not_finished : (from mid to : Option (List ℕ)) (h : Held) (core : Option CoreState) (o o' o'' : Option (List ℕ))
+not_finished : (from mid to : Option (List ℕ)) (h : FeedState) (core : Option CoreState) (o o' o'' : Option (List ℕ))
     (fault : ReplayFault) → Going from mid h core o o' → Consumes mid to [] → IsAtEnd to
     → NotFinished fault h core o' o'' → Stopped fault from to o o''
 not_finished from mid to h core o o' o'' fault g read all (inl (ended, line, kept)) = by (end_cases h (Err fault) g.no_fault ended)
@@ -519,14 +519,14 @@ not_finished from mid to h core o o' o'' fault g read all (inl (ended, line, kep
     by (inl (is, none, some)) = absurd (err_ok fault is)
     by (inr (is, some)) =
         let held = g.piece.taken in
-        let now = held_after opening_held g.bytes in
+        let now = feed_after opening_feed g.bytes in
         let no_end = (taken g.bytes (held_is from mid h core o o' g)).held.no_end in
         subst (λ (f : ReplayFault). Stopped f from to o o'')
-        (ap (λ (x : Held). fault_at x.lines) (sym held) ∙ err_is fault (fault_at h.lines) is)
+        (ap (λ (x : FeedState). fault_at x.lines) (sym held) ∙ err_is fault (fault_at h.lines) is)
         (line_stopped from to o o'' g.bytes [] g.piece.text core (Consumes-trans from mid to g.bytes [] g.reads read)
         (held_is from mid h core o o' g) g.piece.runs (kept_writes o o' o'' g.piece.text g.piece.wrote kept)
         (λ more. subst (λ (x : List ℕ). 0 < length x) (sym (append-nil now.rest))
-        (subst (λ (x : Held). 0 < x.lines → 0 < length x.rest) held some more))
+        (subst (λ (x : FeedState). 0 < x.lines → 0 < length x.rest) held some more))
         (cut_at_end to now.lines now.rest all (cut now.lines now.rest no_end)))
 not_finished from mid to h core o o' o'' fault g read all (inr (is, ended, wrote)) =
     let e = end_ran from mid to h core o o' g read ended in
@@ -551,7 +551,7 @@ not_finished from mid to h core o o' o'' fault g read all (inr (is, ended, wrote
           (subst (λ (c : Option CoreState). IfSome c (λ c. Wrote o' o'' (state_text c))) e.is wrote);
     })
 
-pub finish_stopped : (from mid to : Option (List ℕ)) (h : Held) (core : Option CoreState) (o o' o'' : Option (List ℕ))
+pub finish_stopped : (from mid to : Option (List ℕ)) (h : FeedState) (core : Option CoreState) (o o' o'' : Option (List ℕ))
     (r : Result (Unit {0}) ReplayFault) → Going from mid h core o o' → Consumes mid to [] → IsAtEnd to
     → IfErr r (λ fault. NotFinished fault h core o' o'') → IfErr r (λ fault. Stopped fault from to o o'')
 finish_stopped from mid to h core o o' o'' (Ok x) g read all not = tt

@@ -15,12 +15,12 @@ use Rattle.hp_replay.specs.declared.fault.ReplayFault.{ReplayFault}
 use Rattle.hp_replay.specs.declared.fault.ReplayFault.TheVariants.{Memory}
 use Rattle.hp_replay.specs.declared.feed.TraceLine.{TraceLine}
 use Rattle.hp_replay.specs.declared.feed.TraceLine.TheVariants as lines
-use Rattle.hp_replay.specs.Lines.{Held, Line, header, event, line_of, held_after, lines_after, listed, AreLines}
+use Rattle.hp_replay.specs.Lines.{FeedState, Line, header, event, line_of, feed_after, lines_after, listed, AreLines}
 use Rattle.hp_replay.specs.Outcomes.{outcome_line}
 use Rattle.hp_replay.specs.Traces.{IsLineFault}
 use Rattle.hp_replay.specs.Running.{LineRuns, LinesRun, LinesRan, PieceRan, PieceRanPartly}
 use Rattle.hp_replay.specs.Running.{PieceStopped, CanRun, CanRunIfSome, IsOpened}
-use Rattle.hp_replay.proofs.Feeding.{held_after-append, lines_after-append, stays}
+use Rattle.hp_replay.proofs.Feeding.{feed_after-append, lines_after-append, stays}
 use Rattle.hp_replay.proofs.Spelled.{spelled}
 use Rattle.hp_replay.proofs.Writes.{Wrote-behind}
 
@@ -76,16 +76,16 @@ event_ran old core new line e outcome l l' (Ok x) is some row wrote =
 -- ---- pieces
 
 -- the front of the piece has run, and this is left
-pub record Running (held now : Held) (core new : Option CoreState) (before after : Option (List ℕ)) (piece rest : List ℕ) : Type 0 where
+pub record Running (held now : FeedState) (core new : Option CoreState) (before after : Option (List ℕ)) (piece rest : List ℕ) : Type 0 where
   pub front : List ℕ
   pub parts : piece ≡ front ++ rest
   pub ran : PieceRan held front now core new before after
   pub no_fault : now.fault ≡ None
   pub opened : IsOpened now new
 
-pub starts : (held : Held) (core : Option CoreState) (before : Option (List ℕ)) (piece : List ℕ) → held.fault ≡ None
+pub starts : (held : FeedState) (core : Option CoreState) (before : Option (List ℕ)) (piece : List ℕ) → held.fault ≡ None
     → IsOpened held core → Running held held core core before before piece piece
-unfolding held_after lines_after
+unfolding feed_after lines_after
 starts held core before piece ok opened =
     record {
       front = [];
@@ -96,32 +96,32 @@ starts held core before piece ok opened =
     }
 
 -- the lines of a longer piece
-lines_run : (h h' : Held) (a b : List ℕ) (c c' c'' : Option CoreState) (s t : List ℕ) → h' ≡ held_after h a
+lines_run : (h h' : FeedState) (a b : List ℕ) (c c' c'' : Option CoreState) (s t : List ℕ) → h' ≡ feed_after h a
     → LinesRun c (lines_after h a) c' s → LinesRun c' (lines_after h' b) c'' t → LinesRun c (lines_after h (a ++ b)) c'' (s ++ t)
 lines_run h h' a b c c' c'' s t is p q =
-    let more : LinesRun c' (lines_after (held_after h a) b) c'' t = subst (λ (x : Held). LinesRun c' (lines_after x b) c'' t) is q in
+    let more : LinesRun c' (lines_after (feed_after h a) b) c'' t = subst (λ (x : FeedState). LinesRun c' (lines_after x b) c'' t) is q in
     subst (λ (ls : List Line). LinesRun c ls c'' (s ++ t)) (sym (lines_after-append h a b))
-    (LinesRun-append c (lines_after h a) c' s (lines_after (held_after h a) b) c'' t p more)
+    (LinesRun-append c (lines_after h a) c' s (lines_after (feed_after h a) b) c'' t p more)
 
-pub PieceRan-append : (h h' h'' : Held) (a b : List ℕ) (c c' c'' : Option CoreState) (o o' o'' : Option (List ℕ))
+pub PieceRan-append : (h h' h'' : FeedState) (a b : List ℕ) (c c' c'' : Option CoreState) (o o' o'' : Option (List ℕ))
     → PieceRan h a h' c c' o o' → PieceRan h' b h'' c' c'' o' o'' → PieceRan h (a ++ b) h'' c c'' o o''
 PieceRan-append h h' h'' a b c c' c'' o o' o'' p q =
     record {
       text = p.text ++ q.text;
-      taken = q.taken ∙ ap (λ (x : Held). held_after x b) p.taken ∙ sym (held_after-append h a b);
+      taken = q.taken ∙ ap (λ (x : FeedState). feed_after x b) p.taken ∙ sym (feed_after-append h a b);
       runs = lines_run h h' a b c c' c'' p.text q.text p.taken p.runs q.runs;
       wrote = Appends-trans o o' o'' p.text q.text p.wrote q.wrote;
     }
 
 -- a piece that ran, and then one that did in part
-pub PieceRanPartly-behind : (h h' : Held) (a b : List ℕ) (c c' : Option CoreState) (o o' o'' : Option (List ℕ))
+pub PieceRanPartly-behind : (h h' : FeedState) (a b : List ℕ) (c c' : Option CoreState) (o o' o'' : Option (List ℕ))
     → PieceRan h a h' c c' o o' → PieceRanPartly h' b c' o' o'' → PieceRanPartly h (a ++ b) c o o''
 PieceRanPartly-behind h h' a b c c' o o' o'' p q =
     record {
       front = a ++ q.front;
       back = q.back;
       parts = ap (λ (x : List ℕ). a ++ x) q.parts ∙ sym (append_assoc a q.front q.back);
-      ok = ap (λ (x : Held). x.fault) (held_after-append h a q.front ∙ ap (λ (x : Held). held_after x q.front) (sym p.taken)) ∙ q.ok;
+      ok = ap (λ (x : FeedState). x.fault) (feed_after-append h a q.front ∙ ap (λ (x : FeedState). feed_after x q.front) (sym p.taken)) ∙ q.ok;
       ran = record {
         new = q.ran.new;
         text = p.text ++ q.ran.text;
@@ -157,8 +157,8 @@ through_some (x ∷ xs) lt = by (eqb x 10) refl
     by false e = rw e (omega arith)
 
 -- what feed.take told of the line that the rest begins with
-pub record TookLine (h next : Held) (line : Option Line) (rest left : List ℕ) : Type 0 where
-  pub held : next ≡ held_after h (take_through 10 rest)
+pub record TookLine (h next : FeedState) (line : Option Line) (rest left : List ℕ) : Type 0 where
+  pub held : next ≡ feed_after h (take_through 10 rest)
   pub lines : listed line [] ≡ lines_after h (take_through 10 rest)
   pub left_is : left ≡ drop (length (take_through 10 rest)) rest
   pub ok : next.fault ≡ None
@@ -174,12 +174,12 @@ can_run (suc n) (event e) None are opened = absurd (none_is (opened (omega arith
 can_run (suc n) (event e) (Some core) are opened = tt
 
 -- a line that comes finds the core that it needs
-pub line_can_run : (h next : Held) (line : Option Line) (rest : List ℕ) (core : Option CoreState)
-    → next ≡ held_after h (take_through 10 rest) → listed line [] ≡ lines_after h (take_through 10 rest)
+pub line_can_run : (h next : FeedState) (line : Option Line) (rest : List ℕ) (core : Option CoreState)
+    → next ≡ feed_after h (take_through 10 rest) → listed line [] ≡ lines_after h (take_through 10 rest)
     → next.fault ≡ None → IsOpened h core → CanRunIfSome core line
 line_can_run h next None rest core held lines ok opened = tt
 line_can_run h next (Some line) rest core held lines ok opened =
-    let s = spelled h (take_through 10 rest) (ap (λ (x : Held). x.fault) (sym held) ∙ ok) in
+    let s = spelled h (take_through 10 rest) (ap (λ (x : FeedState). x.fault) (sym held) ∙ ok) in
     can_run h.lines line core (subst (λ (ls : List Line). AreLines h.lines ls) (sym lines) s.are) opened
 
 some_core : (old : Option CoreState) (line : Line) (new : Option CoreState) (text : List ℕ) → LineRuns old line new text → IsSome new
@@ -196,7 +196,7 @@ opened_on n m mid new (Some line) text (next, first, others, one, more, parts) c
     subst (λ (x : Option CoreState). IsSome x) (sym more.0) (some_core mid line next first one)
 
 -- the line that the bytes begin with ran
-pub line_ran : (h next : Held) (mid new : Option CoreState) (o o' : Option (List ℕ)) (rest left : List ℕ) (line : Option Line)
+pub line_ran : (h next : FeedState) (mid new : Option CoreState) (o o' : Option (List ℕ)) (rest left : List ℕ) (line : Option Line)
     → TookLine h next line rest left → LinesRan mid (listed line []) new o o' → PieceRan h (take_through 10 rest) next mid new o o'
 line_ran h next mid new o o' rest left line t ran =
     record {
@@ -206,18 +206,18 @@ line_ran h next mid new o o' rest left line t ran =
       wrote = ran.wrote;
     }
 
-pub line_opened : (h next : Held) (mid new : Option CoreState) (o o' : Option (List ℕ)) (rest left : List ℕ) (line : Option Line)
+pub line_opened : (h next : FeedState) (mid new : Option CoreState) (o o' : Option (List ℕ)) (rest left : List ℕ) (line : Option Line)
     → TookLine h next line rest left → LinesRan mid (listed line []) new o o' → IsOpened h mid → IsOpened next new
 line_opened h next mid new o o' rest left line t ran opened =
-    let s = spelled h (take_through 10 rest) (ap (λ (x : Held). x.fault) (sym t.held) ∙ t.ok) in
+    let s = spelled h (take_through 10 rest) (ap (λ (x : FeedState). x.fault) (sym t.held) ∙ t.ok) in
     let count : next.lines ≡ h.lines + length (listed line []) =
-    ap (λ (x : Held). x.lines) t.held ∙ s.lines ∙ ap (λ (x : List Line). h.lines + length x) (sym t.lines) in
+    ap (λ (x : FeedState). x.lines) t.held ∙ s.lines ∙ ap (λ (x : List Line). h.lines + length x) (sym t.lines) in
     opened_on h.lines next.lines mid new line ran.text ran.runs count opened
 
 -- the line was taken, and memory was wanted to run it: of the bytes nothing ran, and no text came
-pub line_unrun : (h after : Held) (mid new : Option CoreState) (l l' rest : List ℕ) → h.fault ≡ None → l' ≡ l
+pub line_unrun : (h after : FeedState) (mid new : Option CoreState) (l l' rest : List ℕ) → h.fault ≡ None → l' ≡ l
     → PieceStopped Memory h rest after mid new (Some l) (Some l')
-unfolding held_after lines_after
+unfolding feed_after lines_after
 line_unrun h after mid new l l' rest ok same =
     inr (
       refl,
@@ -236,15 +236,15 @@ line_unrun h after mid new l l' rest ok same =
     )
 
 -- a fault: no line comes of the bytes
-pub fails : (h next : Held) (mid : Option CoreState) (o : Option (List ℕ)) (rest : List ℕ) (fault : ReplayFault)
-    → next ≡ held_after h (take_through 10 rest) → lines_after h (take_through 10 rest) ≡ [] → next.fault ≡ Some fault
+pub fails : (h next : FeedState) (mid : Option CoreState) (o : Option (List ℕ)) (rest : List ℕ) (fault : ReplayFault)
+    → next ≡ feed_after h (take_through 10 rest) → lines_after h (take_through 10 rest) ≡ [] → next.fault ≡ Some fault
     → IsLineFault fault → PieceStopped fault h rest next mid mid o o
 fails h next mid o rest fault held_is none failed is =
     let t = take_through 10 rest in
     let left = drop (length t) rest in
     let s = stays next fault left failed in
-    let taken : next ≡ held_after h (t ++ left) =
-    sym s.0 ∙ ap (λ (x : Held). held_after x left) held_is ∙ sym (held_after-append h t left) in
+    let taken : next ≡ feed_after h (t ++ left) =
+    sym s.0 ∙ ap (λ (x : FeedState). feed_after x left) held_is ∙ sym (feed_after-append h t left) in
     let no_lines : lines_after h (t ++ left) ≡ [] = lines_after-append h t left ∙ rw (none, ← held_is) s.1 in
     let all : PieceRan h (t ++ left) next mid mid o o =
     record {
@@ -256,7 +256,7 @@ fails h next mid o rest fault held_is none failed is =
     inl (failed, is, subst (λ (x : List ℕ). PieceRan h x next mid mid o o) (sym (through_parts rest)) all)
 
 -- the next line of the piece ran
-pub piece_moves : (held h next : Held) (core mid new : Option CoreState) (o o' o'' : Option (List ℕ)) (piece rest left : List ℕ)
+pub piece_moves : (held h next : FeedState) (core mid new : Option CoreState) (o o' o'' : Option (List ℕ)) (piece rest left : List ℕ)
     → Running held h core mid o o' piece rest → PieceRan h (take_through 10 rest) next mid new o' o'' → next.fault ≡ None
     → IsOpened next new → left ≡ drop (length (take_through 10 rest)) rest → Running held next core new o o'' piece left
 piece_moves held h next core mid new o o' o'' piece rest left r one ok opened left_is =
@@ -272,7 +272,7 @@ piece_moves held h next core mid new o o' o'' piece rest left r one ok opened le
     }
 
 -- the rest of the piece did not run to its end
-pub piece_stops : (held h next : Held) (core mid new : Option CoreState) (o o' o'' : Option (List ℕ)) (piece rest : List ℕ)
+pub piece_stops : (held h next : FeedState) (core mid new : Option CoreState) (o o' o'' : Option (List ℕ)) (piece rest : List ℕ)
     (fault : ReplayFault) → Running held h core mid o o' piece rest → PieceStopped fault h rest next mid new o' o''
     → PieceStopped fault held piece next core new o o''
 piece_stops held h next core mid new o o' o'' piece rest fault r (inl (failed, is, ran)) =

@@ -12,7 +12,7 @@ use Rattle.hp_base.specs.declared.event.Event.TheVariants.{Begin, Step, Kill, Re
 use Rattle.hp_replay.specs.declared.fault.ReplayFault.{ReplayFault}
 use Rattle.hp_replay.specs.declared.fault.ReplayFault.TheVariants.{BadLine, BadHeader, Read, Write, Memory}
 use Rattle.hp_replay.specs.Fits.{EventFits}
-use Rattle.hp_replay.specs.Lines.{Line, header, event, opening_held, held_after, lines_after, fault_at}
+use Rattle.hp_replay.specs.Lines.{Line, header, event, opening_feed, feed_after, lines_after, fault_at}
 use Rattle.hp_replay.specs.Traces.{IsTrace, IsLineFault, header_line, event_line, events_text, trace_text}
 use Rattle.hp_replay.specs.Scripts.{begin_of, IsCall, AreCalls, BeginsNoCall, IsBadCall, HasBadCall, HasScriptFault, SpellsScript}
 use Rattle.hp_replay.proofs.BadLines.{NoLine, stops, cut}
@@ -74,51 +74,51 @@ no_call n rest (inl all) = inl all
 no_call n rest (inr none) = inr (λ t op more fits. none (Begin t op) more fits)
 
 -- no line stands behind those that were taken
-front_fault : (front back : List ℕ) → (held_after opening_held front).fault ≡ None → AreCalls (lines_after opening_held front)
-    → (0 < (held_after opening_held front).lines → 0 < length ((held_after opening_held front).rest ++ back))
-    → NoLine (held_after opening_held front).lines ((held_after opening_held front).rest ++ back)
-    → HasScriptFault (front ++ back) (fault_at (held_after opening_held front).lines)
-front_fault front back ok calls some bad = by (held_after opening_held front).lines refl bad
+front_fault : (front back : List ℕ) → (feed_after opening_feed front).fault ≡ None → AreCalls (lines_after opening_feed front)
+    → (0 < (feed_after opening_feed front).lines → 0 < length ((feed_after opening_feed front).rest ++ back))
+    → NoLine (feed_after opening_feed front).lines ((feed_after opening_feed front).rest ++ back)
+    → HasScriptFault (front ++ back) (fault_at (feed_after opening_feed front).lines)
+front_fault front back ok calls some bad = by (feed_after opening_feed front).lines refl bad
   where
-    by : (n : ℕ) → (held_after opening_held front).lines ≡ n → NoLine n ((held_after opening_held front).rest ++ back)
+    by : (n : ℕ) → (feed_after opening_feed front).lines ≡ n → NoLine n ((feed_after opening_feed front).rest ++ back)
         → HasScriptFault (front ++ back) (fault_at n)
     by zero none bad =
         let t = taken front ok in
         let no_lines = t.lines in
-        let rest : (held_after opening_held front).rest ≡ front =
-        rest_is (lines_after opening_held front) (held_after opening_held front).rest front (omega (arith, no_lines, none)) t.text in
+        let rest : (feed_after opening_feed front).rest ≡ front =
+        rest_is (lines_after opening_feed front) (feed_after opening_feed front).rest front (omega (arith, no_lines, none)) t.text in
         subst (λ (x : List ℕ). NoLine 0 (x ++ back)) rest bad
     by (suc n) count bad =
         let t = taken_trace front n ok count in
         let lines = (taken front ok).lines in
         let counted = t.trace.count in
         let same : n ≡ length t.trace.events = omega (arith, count, lines, counted) in
-        let rest = (held_after opening_held front).rest ++ back in
+        let rest = (feed_after opening_feed front).rest ++ back in
         script_before t.trace.sizes t.trace.events rest (front ++ back) (n + 2)
         (subst (λ (ls : List Line). AreCalls ls) t.trace.is calls).1
         (ap (λ (x : List ℕ). x ++ back) (sym t.text)
-        ∙ append_assoc (trace_text t.trace.sizes t.trace.events) (held_after opening_held front).rest back)
+        ∙ append_assoc (trace_text t.trace.sizes t.trace.events) (feed_after opening_feed front).rest back)
         t.trace.trace (omega (arith, same))
         (some (omega (arith, count)), subst (λ (k : ℕ). (k ≡ 1000000) ⊎ BeginsNoCall rest) same (no_call n rest bad))
 
 -- a fault of the feed, whatever follows
-pub fed_fault : (bytes : List ℕ) (fault : ReplayFault) (later : List ℕ) → (held_after opening_held bytes).fault ≡ Some fault
-    → AreCalls (lines_after opening_held bytes) → HasScriptFault (bytes ++ later) fault
+pub fed_fault : (bytes : List ℕ) (fault : ReplayFault) (later : List ℕ) → (feed_after opening_feed bytes).fault ≡ Some fault
+    → AreCalls (lines_after opening_feed bytes) → HasScriptFault (bytes ++ later) fault
 fed_fault bytes fault later failed calls =
-    let s = stops opening_held bytes fault refl opening_is failed in
+    let s = stops opening_feed bytes fault refl opening_is failed in
     let some = s.some in
     subst (λ (f : ReplayFault). HasScriptFault (bytes ++ later) f) (sym s.fault_is)
-    (subst (λ (x : List ℕ). HasScriptFault x (fault_at (held_after opening_held s.front).lines))
+    (subst (λ (x : List ℕ). HasScriptFault x (fault_at (feed_after opening_feed s.front).lines))
     (sym (ap (λ (x : List ℕ). x ++ later) s.parts ∙ append_assoc s.front s.back later))
     (front_fault s.front (s.back ++ later) s.ok (subst (λ (ls : List Line). AreCalls ls) s.lines calls)
     (λ _. simp (length-append) (omega arith)) (s.bad later)))
 
 -- what is wrong where the bytes are over
-pub over_fault : (bytes : List ℕ) → (held_after opening_held bytes).fault ≡ None → AreCalls (lines_after opening_held bytes)
-    → (0 < (held_after opening_held bytes).lines → 0 < length (held_after opening_held bytes).rest)
-    → HasScriptFault bytes (fault_at (held_after opening_held bytes).lines)
+pub over_fault : (bytes : List ℕ) → (feed_after opening_feed bytes).fault ≡ None → AreCalls (lines_after opening_feed bytes)
+    → (0 < (feed_after opening_feed bytes).lines → 0 < length (feed_after opening_feed bytes).rest)
+    → HasScriptFault bytes (fault_at (feed_after opening_feed bytes).lines)
 over_fault bytes ok calls some =
-    let h = held_after opening_held bytes in
+    let h = feed_after opening_feed bytes in
     let t = taken bytes ok in
     subst (λ (x : List ℕ). HasScriptFault x (fault_at h.lines)) (append-nil bytes)
     (front_fault bytes [] ok calls (λ more. rw (append-nil h.rest) (some more))
@@ -164,14 +164,14 @@ other_line e more other fits t op xs of same =
     let is = (same_event e (Begin t op) more xs fits of same).0 in other (subst (λ (x : Event). IsCall x) (sym is) tt)
 
 -- an event that begins no call
-pub other_fault : (front later : List ℕ) (lines : List Line) (e : Event) → (held_after opening_held front).fault ≡ None
-    → lines_after opening_held front ≡ lines ++ event e ∷ [] → AreCalls lines → (IsCall e → ⊥)
-    → HasBadCall (held_after opening_held front).lines (front ++ later)
-other_fault front later lines e ok is calls other = by (held_after opening_held front).lines refl
+pub other_fault : (front later : List ℕ) (lines : List Line) (e : Event) → (feed_after opening_feed front).fault ≡ None
+    → lines_after opening_feed front ≡ lines ++ event e ∷ [] → AreCalls lines → (IsCall e → ⊥)
+    → HasBadCall (feed_after opening_feed front).lines (front ++ later)
+other_fault front later lines e ok is calls other = by (feed_after opening_feed front).lines refl
   where
-    by : (n : ℕ) → (held_after opening_held front).lines ≡ n → HasBadCall n (front ++ later)
+    by : (n : ℕ) → (feed_after opening_feed front).lines ≡ n → HasBadCall n (front ++ later)
     by zero none =
-        let long : length (lines_after opening_held front) ≡ length lines + 1 =
+        let long : length (lines_after opening_feed front) ≡ length lines + 1 =
         ap (λ (ls : List Line). length ls) is ∙ length-append lines (event e ∷ []) in
         absurd (omega (arith, (taken front ok).lines, none, long))
     by (suc n) count =
@@ -181,7 +181,7 @@ other_fault front later lines e ok is calls other = by (held_after opening_held 
         let counted = t.trace.count in
         let split = split_lines s t.trace.events lines e (sym t.trace.is ∙ is) in
         let es = split.0 in
-        let rest = (held_after opening_held front).rest in
+        let rest = (feed_after opening_feed front).rest in
         let long : length t.trace.events ≡ length es + 1 = ap (λ (xs : List Event). length xs) split.1 ∙ length-append es (e ∷ []) in
         let fits = all_front es e (subst (λ (xs : List Event). All EventFits xs) split.1 t.trace.trace.each) in
         let text : events_text t.trace.events ≡ events_text es ++ event_line e =

@@ -6,7 +6,7 @@ use Rattle.std.proofs.lemmas.List.{append-nil}
 use Rattle.std.proofs.lemmas.List.Concat.{flat_map-cons}
 use Rattle.hp_replay.specs.declared.fault.ReplayFault.{ReplayFault}
 use Rattle.hp_replay.specs.Reading.{header_at, event_at}
-use Rattle.hp_replay.specs.Lines.{Held, Line, header, event, line_at, take_byte, with_fault, held_after, lines_after, listed}
+use Rattle.hp_replay.specs.Lines.{FeedState, Line, header, event, line_at, take_byte, with_fault, feed_after, lines_after, listed}
 use Rattle.hp_replay.specs.Lines.{line_text, AreLines}
 use Rattle.hp_replay.proofs.Numbers.{bind_some}
 use Rattle.hp_replay.proofs.Lines.{header_takes, event_takes}
@@ -14,7 +14,7 @@ use Rattle.hp_replay.proofs.Feeding.{stays}
 use Rattle.hp_replay.proofs.Bytes.{ByteCase, full, takes_line, takes_none, too_long, grows, byte_case}
 
 -- what one byte did where there is no fault after it
-pub record Took (h : Held) (next : Held × Option Line) (b : ℕ) : Type 0 where
+pub record Took (h : FeedState) (next : FeedState × Option Line) (b : ℕ) : Type 0 where
   pub text : flat_map line_text (listed next.1 []) ++ next.0.rest ≡ h.rest ++ (b ∷ [])
   pub lines : next.0.lines ≡ h.lines + length (listed next.1 [])
   pub are : AreLines h.lines (listed next.1 [])
@@ -35,18 +35,18 @@ line_takes (suc n) rest l e =
     subst (λ (x : Line). (rest ++ (10 ∷ []) ≡ line_text x) × AreLines (suc n) (x ∷ [])) (some_is (event a.0) l a.2)
     (ap (λ (x : List ℕ). x ++ (10 ∷ [])) t.0, (t.1, tt))
 
-byte_took : (h : Held) (b : ℕ) → h.fault ≡ None → (take_byte h b).0.fault ≡ None → Took h (take_byte h b) b
+byte_took : (h : FeedState) (b : ℕ) → h.fault ≡ None → (take_byte h b).0.fault ≡ None → Took h (take_byte h b) b
 byte_took h b none ok = by (take_byte h b) (byte_case h b none) ok
   where
-    fails : (next : Held × Option Line) → next ≡ (with_fault h, None) → next.0.fault ≡ None → ⊥
+    fails : (next : FeedState × Option Line) → next ≡ (with_fault h, None) → next.0.fault ≡ None → ⊥
     fails next e ok =
-        let failed = ap (λ (x : Held × Option Line). x.0.fault) e in
+        let failed = ap (λ (x : FeedState × Option Line). x.0.fault) e in
         cc
 
-    same : (next x : Held × Option Line) → next ≡ x → Took h x b → Took h next b
-    same next x e t = subst (λ (y : Held × Option Line). Took h y b) (sym e) t
+    same : (next x : FeedState × Option Line) → next ≡ x → Took h x b → Took h next b
+    same next x e t = subst (λ (y : FeedState × Option Line). Took h y b) (sym e) t
 
-    by : (next : Held × Option Line) → ByteCase h b next → next.0.fault ≡ None → Took h next b
+    by : (next : FeedState × Option Line) → ByteCase h b next → next.0.fault ≡ None → Took h next b
     by next (full n e) ok = absurd (fails next e ok)
     by next (takes_none end n e) ok = absurd (fails next e ok)
     by next (too_long other n e) ok = absurd (fails next e ok)
@@ -79,27 +79,27 @@ are_more (suc n) m (Some (event s)) lines first is more =
     let e : m ≡ suc n + 1 = omega arith in (first.0, subst (λ (k : ℕ). AreLines k lines) e more)
 
 -- what the bytes were, where there is no fault after them
-pub record Spelled (h : Held) (bytes : List ℕ) : Type 0 where
-  pub text : flat_map line_text (lines_after h bytes) ++ (held_after h bytes).rest ≡ h.rest ++ bytes
-  pub lines : (held_after h bytes).lines ≡ h.lines + length (lines_after h bytes)
+pub record Spelled (h : FeedState) (bytes : List ℕ) : Type 0 where
+  pub text : flat_map line_text (lines_after h bytes) ++ (feed_after h bytes).rest ≡ h.rest ++ bytes
+  pub lines : (feed_after h bytes).lines ≡ h.lines + length (lines_after h bytes)
   pub are : AreLines h.lines (lines_after h bytes)
 
 -- there was none before either
-pub no_fault_before : (h : Held) (bytes : List ℕ) → (held_after h bytes).fault ≡ None → h.fault ≡ None
+pub no_fault_before : (h : FeedState) (bytes : List ℕ) → (feed_after h bytes).fault ≡ None → h.fault ≡ None
 no_fault_before h bytes ok = by h.fault refl
   where
     by : (f : Option ReplayFault) → h.fault ≡ f → h.fault ≡ None
     by None is = is
     by (Some f) is =
-        let kept = ap (λ (x : Held). x.fault) (stays h f bytes is).0 in
+        let kept = ap (λ (x : FeedState). x.fault) (stays h f bytes is).0 in
         absurd cc
 
-no_fault_before_byte : (h : Held) (b : ℕ) → (take_byte h b).0.fault ≡ None → h.fault ≡ None
-unfolding held_after
+no_fault_before_byte : (h : FeedState) (b : ℕ) → (take_byte h b).0.fault ≡ None → h.fault ≡ None
+unfolding feed_after
 no_fault_before_byte h b ok = no_fault_before h (b ∷ []) ok
 
-pub spelled : (h : Held) (bytes : List ℕ) → (held_after h bytes).fault ≡ None → Spelled h bytes
-unfolding held_after lines_after
+pub spelled : (h : FeedState) (bytes : List ℕ) → (feed_after h bytes).fault ≡ None → Spelled h bytes
+unfolding feed_after lines_after
 spelled h [] ok = record { text = sym (append-nil h.rest); lines = omega arith; are = tt }
 spelled h (b ∷ bytes) ok =
     let next = take_byte h b in
@@ -107,7 +107,7 @@ spelled h (b ∷ bytes) ok =
     let first = byte_took h b (no_fault_before_byte h b after) after in
     let more = spelled next.0 bytes ok in
     let lines = lines_after next.0 bytes in
-    let rest = (held_after next.0 bytes).rest in
+    let rest = (feed_after next.0 bytes).rest in
     record {
       text =
           ap (λ (x : List ℕ). x ++ rest) (listed_text next.1 lines)

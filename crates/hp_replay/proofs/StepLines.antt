@@ -9,7 +9,7 @@ use Rattle.std.proofs.lemmas.Grind.{common_steps}
 use Rattle.hp_base.specs.Text.{event_text}
 use Rattle.hp_base.specs.declared.event.Event.{Event}
 use Rattle.hp_replay.specs.Fits.{EventFits}
-use Rattle.hp_replay.specs.Lines.{Held, Line, event, held_after, lines_after, line_at, listed}
+use Rattle.hp_replay.specs.Lines.{FeedState, Line, event, feed_after, lines_after, line_at, listed}
 use Rattle.hp_replay.specs.Reading.{◌>>=◌}
 use Rattle.hp_replay.specs.Traces.{HasNoEnd, event_line}
 use Rattle.hp_replay.proofs.Feeding.{turns, ends}
@@ -26,32 +26,32 @@ inside_parts b text is = let p = and_parts _ _ is in (not_true (eqb b 10) p.0, p
     not_true false e = refl
 
 -- from any byte of the line on
-pub whole_text : (h : Held) (text rest : List ℕ) (l : Line) → h.fault ≡ None → eqb h.lines 1000001 ≡ false → HasNoEnd text
+pub whole_text : (h : FeedState) (text rest : List ℕ) (l : Line) → h.fault ≡ None → eqb h.lines 1000001 ≡ false → HasNoEnd text
     → length h.rest + length text ≤ 56 → line_at h.lines (h.rest ++ text) ≡ Some l → IsWhole h (text ++ 10 ∷ rest) (length text) l
 whole_text h [] rest l sound few no_end short is =
     let e = ends h 10 rest refl in
     let byte = end_byte h 10 l sound few refl (ap (λ (t : List ℕ). line_at h.lines t) (sym (append-nil h.rest)) ∙ is) in
     record {
-      held = e.held ∙ ap (λ (p : Held × Option Line). p.0) byte;
-      lines = e.lines ∙ ap (λ (p : Held × Option Line). listed p.1 []) byte;
+      held = e.held ∙ ap (λ (p : FeedState × Option Line). p.0) byte;
+      lines = e.lines ∙ ap (λ (p : FeedState × Option Line). listed p.1 []) byte;
       used = e.used;
     }
 whole_text h (b ∷ text) rest l sound few no_end short is =
     let other = inside_parts b text no_end in
     let t = turns h b (text ++ 10 ∷ rest) other.0 in
     let byte = inside_byte h b sound few other.0 (ne_eqb (length h.rest) 56 (λ e. omega (arith, e, short))) in
-    let next : Held = record h { rest = h.rest ++ b ∷ [] } in
+    let next : FeedState = record h { rest = h.rest ++ b ∷ [] } in
     let longer : length (h.rest ++ b ∷ []) ≡ length h.rest + 1 = grind (arith, common_steps) in
     let later = whole_text next text rest l sound few other.1 (omega (arith, longer, short))
     (ap (λ (x : List ℕ). line_at h.lines x) (append_assoc h.rest (b ∷ []) text) ∙ is) in
     record {
-      held = t.held ∙ (ap (λ (p : Held × Option Line). held_after p.0 (take_through 10 (text ++ 10 ∷ rest))) byte ∙ later.held);
-      lines = t.lines ∙ (ap (λ (p : Held × Option Line). lines_after p.0 (take_through 10 (text ++ 10 ∷ rest))) byte ∙ later.lines);
+      held = t.held ∙ (ap (λ (p : FeedState × Option Line). feed_after p.0 (take_through 10 (text ++ 10 ∷ rest))) byte ∙ later.held);
+      lines = t.lines ∙ (ap (λ (p : FeedState × Option Line). lines_after p.0 (take_through 10 (text ++ 10 ∷ rest))) byte ∙ later.lines);
       used = (let u = later.used in let v = t.used in omega (arith, u, v));
     }
 
 -- the line of an event, where nothing of it was taken before
-pub event_whole : (h : Held) (piece : List ℕ) (e : Event) (rest : List ℕ) → h.rest ≡ [] → h.fault ≡ None → h.lines ≢ 0
+pub event_whole : (h : FeedState) (piece : List ℕ) (e : Event) (rest : List ℕ) → h.rest ≡ [] → h.fault ≡ None → h.lines ≢ 0
     → h.lines ≢ 1000001 → EventFits e → piece ≡ event_line e ++ rest → IsWhole h piece (length (event_text e)) (event e)
 event_whole h piece e rest new sound some few fits parts =
     let width = event_width e fits in
@@ -73,12 +73,12 @@ front_of bytes line rest parts =
     ∙ take-append-le (length line) line rest (omega arith) ∙ take_all (length line) line (omega arith)
 
 -- the line of an event that a piece begins with, by its length
-pub record IsTaken (h : Held) (piece : List ℕ) (n : ℕ) (l : Line) : Type 0 where
-  pub held : held_after h (take_through 10 piece) ≡ line_taken h
+pub record IsTaken (h : FeedState) (piece : List ℕ) (n : ℕ) (l : Line) : Type 0 where
+  pub held : feed_after h (take_through 10 piece) ≡ line_taken h
   pub lines : lines_after h (take_through 10 piece) ≡ l ∷ []
   pub used : length (take_through 10 piece) ≡ n
 
-pub event_taken : (h : Held) (piece : List ℕ) (used : ℕ) (e : Event) → h.rest ≡ [] → h.fault ≡ None → h.lines ≢ 0
+pub event_taken : (h : FeedState) (piece : List ℕ) (used : ℕ) (e : Event) → h.rest ≡ [] → h.fault ≡ None → h.lines ≢ 0
     → h.lines ≢ 1000001 → EventFits e → used ≤ length piece → take used piece ≡ event_line e → IsTaken h piece used (event e)
 event_taken h piece used e new sound some few fits within is =
     let w = event_whole h piece e (drop used piece) new sound some few fits

@@ -4,7 +4,7 @@ use Rattle.std.specs.Prelude.{IfErr, Result, Ok, Err}
 use Rattle.hp_core.specs.State.{CoreState}
 use Rattle.hp_replay.specs.declared.fault.ReplayFault.{ReplayFault}
 use Rattle.hp_replay.specs.declared.fault.ReplayFault.TheVariants.{BadLine, BadHeader, Read, Write, Memory}
-use Rattle.hp_replay.specs.Lines.{Held}
+use Rattle.hp_replay.specs.Lines.{FeedState}
 use Rattle.hp_replay.specs.Traces.{IsLineFault}
 use Rattle.hp_replay.specs.Writing.{IsWriteFault}
 use Rattle.hp_replay.specs.Running.{PieceStopped}
@@ -36,14 +36,14 @@ write_no_read Write failures is = refl
 write_no_read Memory failures is = refl
 
 -- a line of a piece that is bad, or was not kept
-pub not_kept_no_read : (fault : ReplayFault) (held : Held) (piece : List ℕ) (next : Held) (failures : ℕ)
+pub not_kept_no_read : (fault : ReplayFault) (held : FeedState) (piece : List ℕ) (next : FeedState) (failures : ℕ)
     → PieceNotKept fault held piece next → failures ≡ source_at fault failures
 not_kept_no_read fault held piece next failures (inl (bad, is, taken)) = line_no_read fault failures is
 not_kept_no_read fault held piece next failures (inr (is, none)) =
     subst (λ (f : ReplayFault). failures ≡ source_at f failures) (sym is) refl
 
 -- or did not run
-pub stopped_no_read : (fault : ReplayFault) (held : Held) (piece : List ℕ) (next : Held) (old new : Option CoreState)
+pub stopped_no_read : (fault : ReplayFault) (held : FeedState) (piece : List ℕ) (next : FeedState) (old new : Option CoreState)
     (before after : Option (List ℕ)) (failures : ℕ) → PieceStopped fault held piece next old new before after
     → failures ≡ source_at fault failures
 stopped_no_read fault held piece next old new before after failures (inl (bad, is, ran)) = line_no_read fault failures is
@@ -51,7 +51,7 @@ stopped_no_read fault held piece next old new before after failures (inr (is, ra
     subst (λ (f : ReplayFault). failures ≡ source_at f failures) (sym is) refl
 
 -- nor is it one of writing
-pub stopped_no_write : (fault : ReplayFault) (held : Held) (piece : List ℕ) (next : Held) (old new : Option CoreState)
+pub stopped_no_write : (fault : ReplayFault) (held : FeedState) (piece : List ℕ) (next : FeedState) (old new : Option CoreState)
     (before after : Option (List ℕ)) (failures : ℕ) → PieceStopped fault held piece next old new before after
     → failures ≡ sink_at fault failures
 stopped_no_write fault held piece next old new before after failures (inl (bad, is, ran)) = line_no_write fault failures is
@@ -59,7 +59,7 @@ stopped_no_write fault held piece next old new before after failures (inr (is, r
     subst (λ (f : ReplayFault). failures ≡ sink_at f failures) (sym is) refl
 
 -- nor did the end
-pub finish_no_read : (h : Held) (core : Option CoreState) (o o' : Option (List ℕ)) (r : Result (Unit {0}) ReplayFault)
+pub finish_no_read : (h : FeedState) (core : Option CoreState) (o o' : Option (List ℕ)) (r : Result (Unit {0}) ReplayFault)
     (old new : ℕ) → IfErr r (λ fault. NotFinished fault h core o o') → new ≡ old → TellsReads r old new
 finish_no_read h core o o' (Ok x) old new not same = same
 finish_no_read h core o o' (Err fault) old new (inl (ended, is, kept)) same = same ∙ line_no_read fault old is

@@ -10,23 +10,23 @@ use Rattle.hp_base.specs.declared.event.Event.{Event}
 use Rattle.hp_replay.specs.declared.fault.ReplayFault.{ReplayFault}
 use Rattle.hp_replay.specs.declared.fault.ReplayFault.TheVariants.{BadLine, BadHeader}
 use Rattle.hp_replay.specs.Fits.{EventFits}
-use Rattle.hp_replay.specs.Lines.{Held, opening_held, Line, header, event, line_text, AreLines, take_byte, fault_at, held_after}
+use Rattle.hp_replay.specs.Lines.{FeedState, opening_feed, Line, header, event, line_text, AreLines, take_byte, fault_at, feed_after}
 use Rattle.hp_replay.specs.Lines.{lines_after, end_of, end_at}
 use Rattle.hp_replay.specs.Traces.{IsTrace, Spells, HasFault, trace_text, events_text}
 use Rattle.hp_replay.proofs.Bytes.{IsHeld, keeps_held, room}
 use Rattle.hp_replay.proofs.BadLines.{NoLine, stops, cut}
 use Rattle.hp_replay.proofs.Spelled.{spelled, no_fault_before}
 
-pub opening_is : IsHeld opening_held
+pub opening_is : IsHeld opening_feed
 opening_is = record { lines = omega arith; rest = omega arith; no_end = refl }
 
 -- what is held stays so, and each byte takes room
-pub record Holds (h : Held) (bytes : List ℕ) : Type 0 where
-  pub held : IsHeld (held_after h bytes)
-  pub room : room (held_after h bytes) + length bytes ≤ room h
+pub record Holds (h : FeedState) (bytes : List ℕ) : Type 0 where
+  pub held : IsHeld (feed_after h bytes)
+  pub room : room (feed_after h bytes) + length bytes ≤ room h
 
-pub holds : (h : Held) (bytes : List ℕ) → IsHeld h → (held_after h bytes).fault ≡ None → Holds h bytes
-unfolding held_after
+pub holds : (h : FeedState) (bytes : List ℕ) → IsHeld h → (feed_after h bytes).fault ≡ None → Holds h bytes
+unfolding feed_after
 holds h [] is ok = record { held = is; room = omega arith }
 holds h (b ∷ bytes) is ok =
     let after = no_fault_before (take_byte h b).0 bytes ok in
@@ -85,49 +85,49 @@ trace_lines (header s ∷ lines) are few some =
 
 -- what was taken without a fault
 pub record Taken (bytes : List ℕ) : Type 0 where
-  pub held : IsHeld (held_after opening_held bytes)
-  pub text : flat_map line_text (lines_after opening_held bytes) ++ (held_after opening_held bytes).rest ≡ bytes
-  pub lines : (held_after opening_held bytes).lines ≡ length (lines_after opening_held bytes)
-  pub are : AreLines 0 (lines_after opening_held bytes)
+  pub held : IsHeld (feed_after opening_feed bytes)
+  pub text : flat_map line_text (lines_after opening_feed bytes) ++ (feed_after opening_feed bytes).rest ≡ bytes
+  pub lines : (feed_after opening_feed bytes).lines ≡ length (lines_after opening_feed bytes)
+  pub are : AreLines 0 (lines_after opening_feed bytes)
 
-pub taken : (bytes : List ℕ) → (held_after opening_held bytes).fault ≡ None → Taken bytes
+pub taken : (bytes : List ℕ) → (feed_after opening_feed bytes).fault ≡ None → Taken bytes
 taken bytes ok =
-    let s = spelled opening_held bytes ok in
-    record { held = (holds opening_held bytes opening_is ok).held; text = s.text; lines = s.lines ∙ omega arith; are = s.are }
+    let s = spelled opening_feed bytes ok in
+    record { held = (holds opening_feed bytes opening_is ok).held; text = s.text; lines = s.lines ∙ omega arith; are = s.are }
 
 -- the trace that was taken, and what is left
 pub record TakenTrace (bytes : List ℕ) (lines : List Line) (rest : List ℕ) : Type 0 where
   pub trace : TraceLines lines
   pub text : trace_text trace.sizes trace.events ++ rest ≡ bytes
 
-pub taken_trace : (bytes : List ℕ) (n : ℕ) → (held_after opening_held bytes).fault ≡ None
-    → (held_after opening_held bytes).lines ≡ suc n
-    → TakenTrace bytes (lines_after opening_held bytes) (held_after opening_held bytes).rest
+pub taken_trace : (bytes : List ℕ) (n : ℕ) → (feed_after opening_feed bytes).fault ≡ None
+    → (feed_after opening_feed bytes).lines ≡ suc n
+    → TakenTrace bytes (lines_after opening_feed bytes) (feed_after opening_feed bytes).rest
 taken_trace bytes n ok count =
     let t = taken bytes ok in
     let few = t.held.lines in
     let lines = t.lines in
-    let trace = trace_lines (lines_after opening_held bytes) t.are (omega arith) (omega arith) in
-    record { trace = trace; text = ap (λ (x : List ℕ). x ++ (held_after opening_held bytes).rest) (sym trace.text) ∙ t.text }
+    let trace = trace_lines (lines_after opening_feed bytes) t.are (omega arith) (omega arith) in
+    record { trace = trace; text = ap (λ (x : List ℕ). x ++ (feed_after opening_feed bytes).rest) (sym trace.text) ∙ t.text }
 
 pub rest_is : (lines : List Line) (rest bytes : List ℕ) → length lines ≡ 0 → flat_map line_text lines ++ rest ≡ bytes → rest ≡ bytes
 rest_is [] rest bytes e t = t
 rest_is (l ∷ lines) rest bytes e t = absurd (omega arith)
 
 -- no line stands behind those that were taken
-pub front_fault : (front back : List ℕ) → (held_after opening_held front).fault ≡ None
-    → (0 < (held_after opening_held front).lines → 0 < length ((held_after opening_held front).rest ++ back))
-    → NoLine (held_after opening_held front).lines ((held_after opening_held front).rest ++ back)
-    → HasFault (front ++ back) (fault_at (held_after opening_held front).lines)
-front_fault front back ok some bad = by (held_after opening_held front).lines refl bad
+pub front_fault : (front back : List ℕ) → (feed_after opening_feed front).fault ≡ None
+    → (0 < (feed_after opening_feed front).lines → 0 < length ((feed_after opening_feed front).rest ++ back))
+    → NoLine (feed_after opening_feed front).lines ((feed_after opening_feed front).rest ++ back)
+    → HasFault (front ++ back) (fault_at (feed_after opening_feed front).lines)
+front_fault front back ok some bad = by (feed_after opening_feed front).lines refl bad
   where
-    by : (n : ℕ) → (held_after opening_held front).lines ≡ n → NoLine n ((held_after opening_held front).rest ++ back)
+    by : (n : ℕ) → (feed_after opening_feed front).lines ≡ n → NoLine n ((feed_after opening_feed front).rest ++ back)
         → HasFault (front ++ back) (fault_at n)
     by zero none bad =
         let t = taken front ok in
         let no_lines = t.lines in
-        let rest : (held_after opening_held front).rest ≡ front =
-        rest_is (lines_after opening_held front) (held_after opening_held front).rest front (omega arith) t.text in
+        let rest : (feed_after opening_feed front).rest ≡ front =
+        rest_is (lines_after opening_feed front) (feed_after opening_feed front).rest front (omega arith) t.text in
         subst (λ (x : List ℕ). NoLine 0 (x ++ back)) rest bad
     by (suc n) count bad =
         let t = taken_trace front n ok count in
@@ -137,31 +137,31 @@ front_fault front back ok some bad = by (held_after opening_held front).lines re
         record {
           sizes = t.trace.sizes;
           events = t.trace.events;
-          rest = (held_after opening_held front).rest ++ back;
+          rest = (feed_after opening_feed front).rest ++ back;
           parts =
               ap (λ (x : List ℕ). x ++ back) (sym t.text)
-              ∙ append_assoc (trace_text t.trace.sizes t.trace.events) (held_after opening_held front).rest back;
+              ∙ append_assoc (trace_text t.trace.sizes t.trace.events) (feed_after opening_feed front).rest back;
           trace = t.trace.trace;
           number = omega arith;
-          bad = (some (omega arith), subst (λ (k : ℕ). NoLine (suc k) ((held_after opening_held front).rest ++ back)) same bad);
+          bad = (some (omega arith), subst (λ (k : ℕ). NoLine (suc k) ((feed_after opening_feed front).rest ++ back)) same bad);
         }
 
 -- a fault with which bytes are not taken, whatever follows
 pub fault_of : (bytes : List ℕ) (fault : ReplayFault) (later : List ℕ)
-    → (held_after opening_held bytes).fault ≡ Some fault → HasFault (bytes ++ later) fault
+    → (feed_after opening_feed bytes).fault ≡ Some fault → HasFault (bytes ++ later) fault
 fault_of bytes fault later failed =
-    let s = stops opening_held bytes fault refl opening_is failed in
+    let s = stops opening_feed bytes fault refl opening_is failed in
     let some = s.some in
     subst (λ (f : ReplayFault). HasFault (bytes ++ later) f) (sym s.fault_is)
-    (subst (λ (x : List ℕ). HasFault x (fault_at (held_after opening_held s.front).lines))
+    (subst (λ (x : List ℕ). HasFault x (fault_at (feed_after opening_feed s.front).lines))
     (sym (ap (λ (x : List ℕ). x ++ later) s.parts ∙ append_assoc s.front s.back later))
     (front_fault s.front (s.back ++ later) s.ok (λ _. simp (length-append) (omega arith)) (s.bad later)))
 
 -- what is wrong where the bytes are over
-pub end_fault : (bytes : List ℕ) (fault : ReplayFault) → end_of (held_after opening_held bytes) ≡ Err fault → HasFault bytes fault
+pub end_fault : (bytes : List ℕ) (fault : ReplayFault) → end_of (feed_after opening_feed bytes) ≡ Err fault → HasFault bytes fault
 end_fault bytes fault e =
-    by (held_after opening_held bytes).fault (held_after opening_held bytes).lines
-    (held_after opening_held bytes).rest refl refl refl e
+    by (feed_after opening_feed bytes).fault (feed_after opening_feed bytes).lines
+    (feed_after opening_feed bytes).rest refl refl refl e
   where
     err_is : (f g : ReplayFault) → (let r : Result (Unit {0}) ReplayFault = Err f in r) ≡ Err g → f ≡ g
     err_is f g e = cc
@@ -169,18 +169,18 @@ end_fault bytes fault e =
     ok_err : (g : ReplayFault) → (let r : Result (Unit {0}) ReplayFault = Ok tt in r) ≡ Err g → ⊥
     ok_err g e = cc
 
-    over : (held_after opening_held bytes).fault ≡ None
-        → (0 < (held_after opening_held bytes).lines → 0 < length (held_after opening_held bytes).rest)
-        → HasFault bytes (fault_at (held_after opening_held bytes).lines)
+    over : (feed_after opening_feed bytes).fault ≡ None
+        → (0 < (feed_after opening_feed bytes).lines → 0 < length (feed_after opening_feed bytes).rest)
+        → HasFault bytes (fault_at (feed_after opening_feed bytes).lines)
     over ok some =
-        let h = held_after opening_held bytes in
+        let h = feed_after opening_feed bytes in
         let t = taken bytes ok in
         subst (λ (x : List ℕ). HasFault x (fault_at h.lines)) (append-nil bytes)
         (front_fault bytes [] ok (λ more. rw (append-nil h.rest) (some more))
         (subst (λ (x : List ℕ). NoLine h.lines x) (sym (append-nil h.rest)) (cut h.lines h.rest t.held.no_end)))
 
-    by : (f : Option ReplayFault) (n : ℕ) (rest : List ℕ) → (held_after opening_held bytes).fault ≡ f
-        → (held_after opening_held bytes).lines ≡ n → (held_after opening_held bytes).rest ≡ rest
+    by : (f : Option ReplayFault) (n : ℕ) (rest : List ℕ) → (feed_after opening_feed bytes).fault ≡ f
+        → (feed_after opening_feed bytes).lines ≡ n → (feed_after opening_feed bytes).rest ≡ rest
         → end_at f n rest ≡ Err fault → HasFault bytes fault
     by (Some f) n rest failed count is e =
         subst (λ (x : List ℕ). HasFault x fault) (append-nil bytes) (fault_of bytes fault [] (failed ∙ ap Some (err_is f fault e)))
@@ -194,19 +194,19 @@ end_fault bytes fault e =
 
 -- and what they spell where nothing is
 pub record EndTrace (bytes : List ℕ) : Type 0 where
-  pub lines : TraceLines (lines_after opening_held bytes)
+  pub lines : TraceLines (lines_after opening_feed bytes)
   pub spells : Spells bytes lines.sizes lines.events
 
-pub end_trace : (bytes : List ℕ) → end_of (held_after opening_held bytes) ≡ Ok tt → EndTrace bytes
+pub end_trace : (bytes : List ℕ) → end_of (feed_after opening_feed bytes) ≡ Ok tt → EndTrace bytes
 end_trace bytes e =
-    by (held_after opening_held bytes).fault (held_after opening_held bytes).lines
-    (held_after opening_held bytes).rest refl refl refl e
+    by (feed_after opening_feed bytes).fault (feed_after opening_feed bytes).lines
+    (feed_after opening_feed bytes).rest refl refl refl e
   where
     err_ok : (f : ReplayFault) → (let r : Result (Unit {0}) ReplayFault = Err f in r) ≡ Ok tt → ⊥
     err_ok f e = cc
 
-    by : (f : Option ReplayFault) (n : ℕ) (rest : List ℕ) → (held_after opening_held bytes).fault ≡ f
-        → (held_after opening_held bytes).lines ≡ n → (held_after opening_held bytes).rest ≡ rest
+    by : (f : Option ReplayFault) (n : ℕ) (rest : List ℕ) → (feed_after opening_feed bytes).fault ≡ f
+        → (feed_after opening_feed bytes).lines ≡ n → (feed_after opening_feed bytes).rest ≡ rest
         → end_at f n rest ≡ Ok tt → EndTrace bytes
     by (Some f) n rest failed count is e = absurd (err_ok f e)
     by None zero rest ok count is e = absurd (err_ok BadHeader e)

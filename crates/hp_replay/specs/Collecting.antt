@@ -6,7 +6,7 @@ use Rattle.hp_base.specs.declared.event.Event.{Event}
 use Rattle.hp_replay.specs.declared.fault.ReplayFault.{ReplayFault}
 use Rattle.hp_replay.specs.declared.fault.ReplayFault.TheVariants.{BadLine, BadHeader, Read, Write, Memory}
 use Rattle.hp_replay.specs.declared.trace.Trace.{Trace}
-use Rattle.hp_replay.specs.Lines.{Held, Line, header, event, held_after}
+use Rattle.hp_replay.specs.Lines.{FeedState, Line, header, event, feed_after}
 use Rattle.hp_replay.specs.Traces.{IsTrace, IsLineFault, IsBadRest, BeginsNoHeader, HasNoEnd, trace_text}
 
 -- the lines of a draft
@@ -26,17 +26,17 @@ CanFollowIfSome lines None = Unit {0}
 CanFollowIfSome lines (Some line) = CanFollow lines line
 
 -- memory was refused for an event whose line ends in the piece
-pub record NoRoom (held : Held) (piece : List ℕ) : Type 0 where
+pub record NoRoom (held : FeedState) (piece : List ℕ) : Type 0 where
   pub front : List ℕ
   pub back : List ℕ
   pub parts : piece ≡ front ++ back
-  pub ok : (held_after held front).fault ≡ None
-  pub event : 1 < (held_after held front).lines
+  pub ok : (feed_after held front).fault ≡ None
+  pub event : 1 < (feed_after held front).lines
 
 -- a line of the piece is bad, or memory was refused
-abbrev pub PieceNotKept : ReplayFault → Held → List ℕ → Held → Type 0
+abbrev pub PieceNotKept : ReplayFault → FeedState → List ℕ → FeedState → Type 0
 PieceNotKept fault held piece next =
-    ((next.fault ≡ Some fault) × IsLineFault fault × (next ≡ held_after held piece)) ⊎ ((fault ≡ Memory) × NoRoom held piece)
+    ((next.fault ≡ Some fault) × IsLineFault fault × (next ≡ feed_after held piece)) ⊎ ((fault ≡ Memory) × NoRoom held piece)
 
 -- the reader's bytes were the text of this trace
 pub record ReadsTrace (from to : Option (List ℕ)) (s : Sizes) (events : List Event) : Type 0 where

@@ -25,41 +25,41 @@ line_at zero text = header_at text >>= λ s. Some (header s)
 line_at (suc n) text = event_at text >>= λ e. Some (event e)
 
 -- what is held between two bytes: the number of lines taken, what has come of the next, and a fault
-pub record Held : Type 0 where
+pub record FeedState : Type 0 where
   pub lines : ℕ
   pub rest : List ℕ
   pub fault : Option ReplayFault
 
-abbrev pub opening_held : Held
-opening_held = record { lines = 0; rest = []; fault = None }
+abbrev pub opening_feed : FeedState
+opening_feed = record { lines = 0; rest = []; fault = None }
 
 -- the fault of the line that stands behind so many others
 abbrev pub fault_at : ℕ → ReplayFault
 fault_at zero = BadHeader
 fault_at (suc n) = BadLine (n + 2)
 
-abbrev pub with_fault : Held → Held
+abbrev pub with_fault : FeedState → FeedState
 with_fault h = record h { fault = Some (fault_at h.lines) }
 
 -- a line's end: the rest is a line, or else the first bad one
-abbrev pub end_line : Held → Option Line → Held × Option Line
+abbrev pub end_line : FeedState → Option Line → FeedState × Option Line
 end_line h (Some line) = (record { lines = h.lines + 1; rest = []; fault = None }, Some line)
 end_line h None = (with_fault h, None)
 
 -- one byte that comes where there is no fault: no line is behind the 1,000,001st, or longer than 56 bytes
-abbrev pub next_byte : Held → ℕ → Held × Option Line
+abbrev pub next_byte : FeedState → ℕ → FeedState × Option Line
 next_byte h b =
     if h.lines == 1000001 then (with_fault h, None)
     else (if b == 10 then end_line h (line_at h.lines h.rest)
     else (if length h.rest == 56 then (with_fault h, None)
     else (record h { rest = h.rest ++ b ∷ [] }, None)))
 
-abbrev pub unless_fault : Option ReplayFault → Held → Held × Option Line → Held × Option Line
+abbrev pub unless_fault : Option ReplayFault → FeedState → FeedState × Option Line → FeedState × Option Line
 unless_fault None h next = next
 unless_fault (Some fault) h next = (h, None)
 
 -- one byte, and the line that it ends; a fault stays
-unfoldable pub take_byte : Held → ℕ → Held × Option Line
+unfoldable pub take_byte : FeedState → ℕ → FeedState × Option Line
 take_byte h b = unless_fault h.fault h (next_byte h b)
 
 abbrev pub listed : {A : Type 0} → Option A → List A → List A
@@ -67,11 +67,11 @@ listed None xs = xs
 listed (Some x) xs = x ∷ xs
 
 -- what is held after these bytes, and the lines that they end
-unfoldable pub held_after : Held → List ℕ → Held
-held_after h [] = h
-held_after h (b ∷ bytes) = held_after (take_byte h b).0 bytes
+unfoldable pub feed_after : FeedState → List ℕ → FeedState
+feed_after h [] = h
+feed_after h (b ∷ bytes) = feed_after (take_byte h b).0 bytes
 
-unfoldable pub lines_after : Held → List ℕ → List Line
+unfoldable pub lines_after : FeedState → List ℕ → List Line
 lines_after h [] = []
 lines_after h (b ∷ bytes) = listed (take_byte h b).1 (lines_after (take_byte h b).0 bytes)
 
@@ -82,7 +82,7 @@ end_at None zero rest = Err BadHeader
 end_at None (suc n) [] = Ok tt
 end_at None (suc n) (b ∷ rest) = Err (BadLine (n + 2))
 
-abbrev pub end_of : Held → Result (Unit {0}) ReplayFault
+abbrev pub end_of : FeedState → Result (Unit {0}) ReplayFault
 end_of h = end_at h.fault h.lines h.rest
 
 -- the first line end of the piece stands there

@@ -8,7 +8,7 @@ use Rattle.hp_core.specs.Runs.{Row, IsOpening}
 use Rattle.hp_core.specs.State.{CoreState}
 use Rattle.hp_replay.specs.declared.fault.ReplayFault.{ReplayFault}
 use Rattle.hp_replay.specs.declared.fault.ReplayFault.TheVariants.{Memory}
-use Rattle.hp_replay.specs.Lines.{Held, Line, header, event, held_after, lines_after}
+use Rattle.hp_replay.specs.Lines.{FeedState, Line, header, event, feed_after, lines_after}
 use Rattle.hp_replay.specs.Outcomes.{outcome_line}
 use Rattle.hp_replay.specs.Traces.{IsLineFault}
 use Rattle.hp_replay.specs.Writing.{Wrote}
@@ -39,7 +39,7 @@ CanRunIfSome core None = Unit {0}
 CanRunIfSome core (Some line) = CanRun core line
 
 -- where the feed has lines, there is a core
-abbrev pub IsOpened : Held → Option CoreState → Type 0
+abbrev pub IsOpened : FeedState → Option CoreState → Type 0
 IsOpened held core = 0 < held.lines → IsSome core
 
 -- lines ran, and their text was written
@@ -56,23 +56,23 @@ pub record LinesRanPartly (old : Option CoreState) (lines : List Line) (before a
   pub wrote : Wrote before after text
 
 -- the lines of a piece ran, and their text was written
-pub record PieceRan (held : Held) (piece : List ℕ) (next : Held) (old new : Option CoreState)
+pub record PieceRan (held : FeedState) (piece : List ℕ) (next : FeedState) (old new : Option CoreState)
     (before after : Option (List ℕ)) : Type 0 where
   pub text : List ℕ
-  pub taken : next ≡ held_after held piece
+  pub taken : next ≡ feed_after held piece
   pub runs : LinesRun old (lines_after held piece) new text
   pub wrote : Appends before after text
 
 -- the lines of a front of the piece ran, and a front of their text was written
-pub record PieceRanPartly (held : Held) (piece : List ℕ) (old : Option CoreState) (before after : Option (List ℕ)) : Type 0 where
+pub record PieceRanPartly (held : FeedState) (piece : List ℕ) (old : Option CoreState) (before after : Option (List ℕ)) : Type 0 where
   pub front : List ℕ
   pub back : List ℕ
   pub parts : piece ≡ front ++ back
-  pub ok : (held_after held front).fault ≡ None
+  pub ok : (feed_after held front).fault ≡ None
   pub ran : LinesRanPartly old (lines_after held front) before after
 
 -- a line of the piece is bad, or memory was wanted before all of it had run
-abbrev pub PieceStopped : ReplayFault → Held → List ℕ → Held → Option CoreState → Option CoreState → Option (List ℕ)
+abbrev pub PieceStopped : ReplayFault → FeedState → List ℕ → FeedState → Option CoreState → Option CoreState → Option (List ℕ)
     → Option (List ℕ) → Type 0
 PieceStopped fault held piece next old new before after =
     ((next.fault ≡ Some fault) × IsLineFault fault × PieceRan held piece next old new before after)

@@ -8,7 +8,7 @@ use Rattle.hp_base.specs.declared.event.Event.TheVariants.{Begin, Step, Kill, Re
 use Rattle.hp_replay.specs.declared.fault.ReplayFault.{ReplayFault}
 use Rattle.hp_replay.specs.declared.fault.ReplayFault.TheVariants.{BadLine, BadHeader, Read, Write, Memory}
 use Rattle.hp_replay.specs.Fits.{EventFits}
-use Rattle.hp_replay.specs.Lines.{Held, Line, header, event, held_after, lines_after}
+use Rattle.hp_replay.specs.Lines.{FeedState, Line, header, event, feed_after, lines_after}
 use Rattle.hp_replay.specs.Traces.{Spells, IsTrace, BeginsNoHeader, IsLineFault, event_line, trace_text}
 
 -- the event that begins the call
@@ -67,10 +67,10 @@ HasScriptFault bytes Write = Unit {0}
 HasScriptFault bytes Memory = Unit {0}
 
 -- behind these lines the piece has a line that is none of a trace, or one that begins no call; or memory was refused
-pub data PieceNotCalls (fault : ReplayFault) (held : Held) (old : List Line) (piece : List ℕ) : Type 0 where
-  no_line : (front back : List ℕ) → piece ≡ front ++ back → (held_after held front).fault ≡ Some fault → IsLineFault fault
+pub data PieceNotCalls (fault : ReplayFault) (held : FeedState) (old : List Line) (piece : List ℕ) : Type 0 where
+  no_line : (front back : List ℕ) → piece ≡ front ++ back → (feed_after held front).fault ≡ Some fault → IsLineFault fault
       → AreCalls (old ++ lines_after held front) → PieceNotCalls fault held old piece
-  no_call : (front back : List ℕ) (lines : List Line) (e : Event) → piece ≡ front ++ back → (held_after held front).fault ≡ None
+  no_call : (front back : List ℕ) (lines : List Line) (e : Event) → piece ≡ front ++ back → (feed_after held front).fault ≡ None
       → old ++ lines_after held front ≡ lines ++ event e ∷ [] → AreCalls lines → (IsCall e → ⊥)
-      → fault ≡ BadLine (held_after held front).lines → PieceNotCalls fault held old piece
+      → fault ≡ BadLine (feed_after held front).lines → PieceNotCalls fault held old piece
   no_memory : fault ≡ Memory → PieceNotCalls fault held old piece

@@ -1,6 +1,6 @@
 //! Whether bytes spell a trace.
 ghost use Rattle.std.specs.Prelude.{◌≡◌, None, Some, IfOk, IfErr, IfSome, OnOk, length};
-ghost use Rattle.hp_replay.specs.Lines.{held_after};
+ghost use Rattle.hp_replay.specs.Lines.{feed_after};
 ghost use Rattle.std.specs.Io.KnownBytes.{Appends};
 ghost use Rattle.hp_replay.specs.Checking.{ReadsEvents, count_line};
 ghost use Rattle.hp_replay.specs.Writing.{Wrote, IsWriteFault};
@@ -17,9 +17,9 @@ use std::alloc::Global;
 /// Takes all of a piece.
 fn take_piece(feed: &mut TraceFeed, piece: &[u8]) -> Result<(), ReplayFault>
     requires { feed.old.fault ≡ None }
-    ensures held { OnOk result (feed.new ≡ held_after feed.old piece.now) }
+    ensures held { OnOk result (feed.new ≡ feed_after feed.old piece.now) }
     ensures no_fault { OnOk result (feed.new.fault ≡ None) }
-    ensures err { IfErr result (λ fault. (held_after feed.old piece.now).fault ≡ Some fault) }
+    ensures err { IfErr result (λ fault. (feed_after feed.old piece.now).fault ≡ Some fault) }
     ensures kind { IfErr result IsLineFault }
 {
     // The checker of borrows asks for a mention of the types that a line may hold.

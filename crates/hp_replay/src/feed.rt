@@ -3,7 +3,7 @@ ghost use Rattle.std.specs.Prelude.{◌≡◌, ◌≤◌, ◌<◌, IfOk, IfErr, 
 ghost use Rattle.hp_base.specs.declared.event.Event.TheVariants.{Step};
 ghost use Rattle.std.specs.Option.{option_map};
 ghost use Rattle.std.specs.Io.BufRead.{take_through};
-ghost use Rattle.hp_replay.specs.Lines.{Held, IsFirstEnd, line_of, line_at, opening_held, fault_at, with_fault, take_byte, held_after};
+ghost use Rattle.hp_replay.specs.Lines.{FeedState, IsFirstEnd, line_of, line_at, opening_feed, fault_at, with_fault, take_byte, feed_after};
 ghost use Rattle.hp_replay.specs.Lines.{lines_after, listed, end_of, event};
 ghost use Rattle.hp_replay.specs.Traces.{IsLineFault};
 
@@ -36,7 +36,7 @@ pub struct TraceFeed {
 }
 
 impl Model for TraceFeed {
-    ghost Value = { Held };
+    ghost Value = { FeedState };
 
     ghost view = { λ f. record { lines = f.lines; rest = take f.len f.rest; fault = f.fault } };
 
@@ -53,7 +53,7 @@ fn line_end(piece: &[u8]) -> Option<usize>
 
 impl TraceFeed {
     pub fn new() -> Self
-        ensures { result ≡ opening_held }
+        ensures { result ≡ opening_feed }
     {
         TraceFeed {
             lines: 0,
@@ -107,7 +107,7 @@ impl TraceFeed {
     /// read where it stands: so most lines come without being copied.
     fn take_whole(&mut self, piece: &[u8]) -> Option<(usize, TraceLine)>
         requires { self.old.fault ≡ None }
-        ensures held { IfSome result (λ _. self.new ≡ held_after self.old (take_through 10 piece.now)) }
+        ensures held { IfSome result (λ _. self.new ≡ feed_after self.old (take_through 10 piece.now)) }
         ensures used { IfSome result (λ taken. taken.0 ≡ length (take_through 10 piece.now)) }
         ensures line { IfSome result (λ taken. lines_after self.old (take_through 10 piece.now) ≡ line_of taken.1 ∷ []) }
         ensures none { MatchOption result (self.new ≡ self.old) (λ _. self.new.fault ≡ None) }
@@ -125,7 +125,7 @@ impl TraceFeed {
     /// Tells how many bytes that was, and the number.
     pub(crate) fn take_step(&mut self, piece: &[u8]) -> Option<(usize, u32)>
         requires { self.old.fault ≡ None }
-        ensures held { IfSome result (λ _. self.new ≡ held_after self.old (take_through 10 piece.now)) }
+        ensures held { IfSome result (λ _. self.new ≡ feed_after self.old (take_through 10 piece.now)) }
         ensures used { IfSome result (λ taken. taken.0 ≡ length (take_through 10 piece.now)) }
         ensures line { IfSome result
             (λ taken. lines_after self.old (take_through 10 piece.now) ≡ event (Step taken.1 true) ∷ []) }
@@ -182,7 +182,7 @@ impl TraceFeed {
     /// Takes the piece up to and with its first line end, or all of it where there is none.
     /// Tells how many bytes that was, and the line that they end. After a fault it tells that again.
     pub fn take(&mut self, piece: &[u8]) -> Result<(usize, Option<TraceLine>), ReplayFault>
-        ensures held { self.new ≡ held_after self.old (take_through 10 piece.now) }
+        ensures held { self.new ≡ feed_after self.old (take_through 10 piece.now) }
         ensures used { IfOk result (λ taken. taken.0 ≡ length (take_through 10 piece.now)) }
         ensures line { IfOk result (λ taken. listed (option_map line_of taken.1) []
             ≡ lines_after self.old (take_through 10 piece.now)) }

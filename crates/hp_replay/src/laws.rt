@@ -4,28 +4,28 @@ ghost use Rattle.std.specs.List.{flat_map};
 ghost use Rattle.hp_base.specs.Text.{Sizes};
 ghost use Rattle.hp_base.specs.declared.event.Event.{Event};
 ghost use Rattle.hp_replay.specs.declared.fault.ReplayFault.{ReplayFault};
-ghost use Rattle.hp_replay.specs.Lines.{Held, opening_held, held_after, lines_after, line_text, AreLines, end_of};
+ghost use Rattle.hp_replay.specs.Lines.{FeedState, opening_feed, feed_after, lines_after, line_text, AreLines, end_of};
 ghost use Rattle.hp_replay.specs.Replaying.{Stopped};
 ghost use Rattle.hp_replay.specs.Traces.{Spells, SpellsSome, HasFault, HasBadLine, IsLineFault};
 
 /// However the bytes are cut: a and then b give what a followed by b gives.
 pub fn pieces_do_not_show()
-    ensures held { (h : Held) (a b : List ℕ) → held_after h (a ++ b) ≡ held_after (held_after h a) b }
-    ensures lines { (h : Held) (a b : List ℕ)
-        → lines_after h (a ++ b) ≡ lines_after h a ++ lines_after (held_after h a) b }
+    ensures held { (h : FeedState) (a b : List ℕ) → feed_after h (a ++ b) ≡ feed_after (feed_after h a) b }
+    ensures lines { (h : FeedState) (a b : List ℕ)
+        → lines_after h (a ++ b) ≡ lines_after h a ++ lines_after (feed_after h a) b }
 {}
 
 /// What a feed holds is what the bytes spell. Its fault names their first bad line, whatever follows.
 pub fn what_is_held_is_spelled()
-    ensures text { (bytes : List ℕ) → (held_after opening_held bytes).fault ≡ None
-        → flat_map line_text (lines_after opening_held bytes) ++ (held_after opening_held bytes).rest ≡ bytes }
-    ensures lines { (bytes : List ℕ) → (held_after opening_held bytes).fault ≡ None
-        → AreLines 0 (lines_after opening_held bytes) }
+    ensures text { (bytes : List ℕ) → (feed_after opening_feed bytes).fault ≡ None
+        → flat_map line_text (lines_after opening_feed bytes) ++ (feed_after opening_feed bytes).rest ≡ bytes }
+    ensures lines { (bytes : List ℕ) → (feed_after opening_feed bytes).fault ≡ None
+        → AreLines 0 (lines_after opening_feed bytes) }
     ensures fault { (bytes : List ℕ) (fault : ReplayFault) (later : List ℕ)
-        → (held_after opening_held bytes).fault ≡ Some fault → HasFault (bytes ++ later) fault }
-    ensures end_ok { (bytes : List ℕ) → end_of (held_after opening_held bytes) ≡ Ok tt → SpellsSome bytes }
+        → (feed_after opening_feed bytes).fault ≡ Some fault → HasFault (bytes ++ later) fault }
+    ensures end_ok { (bytes : List ℕ) → end_of (feed_after opening_feed bytes) ≡ Ok tt → SpellsSome bytes }
     ensures end_err { (bytes : List ℕ) (fault : ReplayFault)
-        → end_of (held_after opening_held bytes) ≡ Err fault → HasFault bytes fault }
+        → end_of (feed_after opening_feed bytes) ≡ Err fault → HasFault bytes fault }
 {}
 
 /// Bytes spell one trace at most, or have one first bad line.

@@ -2,7 +2,7 @@
 ghost use Rattle.std.specs.Prelude.{◌≡◌, ◌++◌, true, false, None, IfOk, IfErr, IfSome, IsSomeAnd, OnOk, All, length, map};
 ghost use Rattle.std.specs.Option.{option_map};
 ghost use Rattle.hp_base.specs.Text.{sizes};
-ghost use Rattle.hp_replay.specs.Lines.{line_of, held_after, lines_after};
+ghost use Rattle.hp_replay.specs.Lines.{line_of, feed_after, lines_after};
 ghost use Rattle.hp_replay.specs.Collecting.{ReadsTrace};
 ghost use Rattle.hp_replay.specs.Streams.{TellsReads};
 ghost use Rattle.hp_replay.specs.Traces.{IsLineFault};
@@ -49,7 +49,7 @@ fn add_calls(
     requires lines { feed.old.lines ≡ length draft.old }
     requires calls { AreCalls draft.old }
     ensures lines { OnOk result (draft.new ≡ draft.old ++ lines_after feed.old piece.now) }
-    ensures held { OnOk result (feed.new ≡ held_after feed.old piece.now) }
+    ensures held { OnOk result (feed.new ≡ feed_after feed.old piece.now) }
     ensures no_fault { OnOk result (feed.new.fault ≡ None) }
     ensures calls { OnOk result (AreCalls draft.new) }
     ensures err { IfErr result (λ fault. PieceNotCalls fault feed.old draft.old piece.now) }

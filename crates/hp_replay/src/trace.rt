@@ -4,7 +4,7 @@ ghost use Rattle.std.specs.Prelude.{IsSome, OnOk, OnErr, IfOk, IfErr, IfSome};
 ghost use Rattle.std.specs.Option.{option_map};
 ghost use Rattle.std.specs.Io.KnownBytes.{Appends};
 ghost use Rattle.hp_base.specs.Text.{sizes};
-ghost use Rattle.hp_replay.specs.Lines.{header, event, line_of, listed, held_after, lines_after, end_of};
+ghost use Rattle.hp_replay.specs.Lines.{header, event, line_of, listed, feed_after, lines_after, end_of};
 ghost use Rattle.hp_replay.specs.Fits.{EventFits};
 ghost use Rattle.hp_replay.specs.Traces.{HasFault, IsLineFault, IsTrace, SpellsSome, event_line, trace_text};
 ghost use Rattle.hp_replay.specs.Writing.{Wrote, IsWriteFault};
@@ -147,7 +147,7 @@ fn add_piece(
     requires no_fault { feed.old.fault ≡ None }
     requires lines { feed.old.lines ≡ length draft.old }
     ensures lines { OnOk result (draft.new ≡ draft.old ++ lines_after feed.old piece.now) }
-    ensures held { OnOk result (feed.new ≡ held_after feed.old piece.now) }
+    ensures held { OnOk result (feed.new ≡ feed_after feed.old piece.now) }
     ensures no_fault { OnOk result (feed.new.fault ≡ None) }
     ensures err { IfErr result (λ fault. PieceNotKept fault feed.old piece.now feed.new) }
 {

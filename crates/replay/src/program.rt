@@ -3,8 +3,8 @@ ghost use Rattle.std.specs.Prelude.{◌≡◌};
 ghost use Rattle.std.specs.Option.{option_map};
 ghost use Rattle.replay.specs.Status.{EndsWith, status_at};
 
-use hp_program::{run_replay, write_fault};
 use hp_diagnostics::Recalls;
+use hp_program::{run_replay, write_fault};
 use hp_replay::{ReplayFault, Source};
 use std::alloc::Global;
 use std::io::Write;

@@ -10,17 +10,17 @@ push_reserved-requires g c = omega (arith, c.loop-call.invariant.each, c.loop-ca
 
 pub loop-call-preserved : goal.loop-call-preserved
 loop-call-preserved g c =
-    let desks = g.C.Team.desks c.args.crew.now in
+    let members = g.C.Team.members c.args.crew.now in
     let answered =
-    ap (λ (call : ℕ × Op). answer_of (work_at call.0 desks)) (sym c.call-item.is) ∙ sym c.answer_of.ensures
+    ap (λ (call : ℕ × Op). answer_of (work_at call.0 members)) (sym c.call-item.is) ∙ sym c.answer_of.ensures
     ∙ c.in_ok-answer_of.was in record {
       told =
-          answered_more desks c.args.calls.now c.loop-call.answers.items c.push_reserved.new.self.items
+          answered_more members c.args.calls.now c.loop-call.answers.items c.push_reserved.new.self.items
           c.loop-call.call-index c.call-item.result c.in_ok-answer_of.field-0 c.loop-call-test.true answered
           c.push_reserved.ensures.items c.loop-call.invariant.told;
       first =
           λ why later. c.loop-call.invariant.first why
-          (unanswered_left desks c.args.calls.now c.loop-call.call-index c.call-item.result c.in_ok-answer_of.field-0 why
+          (unanswered_left members c.args.calls.now c.loop-call.call-index c.call-item.result c.in_ok-answer_of.field-0 why
           c.loop-call-test.true answered later);
       each = omega (arith, c.loop-call.invariant.each, c.push_reserved.ensures.len);
       room = omega (arith, c.push_reserved.ensures.capacity, c.loop-call.invariant.room);

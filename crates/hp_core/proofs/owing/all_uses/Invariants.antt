@@ -2,8 +2,8 @@ use Rattle.std.specs.Prelude.{◌≡◌, ◌≤◌, ◌*◌, ◌^◌, sum_by, ta
 use Rattle.hp_machine.specs.Views.{used_owed}
 use Rattle.hp_core.proofs.owing.all_uses.Given as goal
 
-abbrev pub invariant-loop-seat : goal.invariant-loop-seat
-invariant-loop-seat l = record {
-  sum : l.all_uses ≡ sum_by (λ seat. used_owed seat.call) (take l.seat-index l.seats);
-  few : l.all_uses ≤ 2 ^ 33 * l.seat-index;
+abbrev pub invariant-loop-task_state : goal.invariant-loop-task_state
+invariant-loop-task_state l = record {
+  sum : l.all_uses ≡ sum_by (λ task_state. used_owed task_state.call) (take l.task_state-index l.task_states);
+  few : l.all_uses ≤ 2 ^ 33 * l.task_state-index;
 }

@@ -2,10 +2,10 @@ use Rattle.std.specs.Prelude.{◌≡◌, ◌≤◌, ◌*◌, ◌^◌, sum_by, ta
 use Rattle.hp_machine.specs.Views.{less, more}
 use Rattle.hp_core.proofs.owing.sums.Given as goal
 
-abbrev pub invariant-loop-seat : goal.invariant-loop-seat
-invariant-loop-seat l = record {
-  less : l.all_less ≡ sum_by (λ seat. less seat.call) (take l.seat-index l.seats);
-  more : l.all_more ≡ sum_by (λ seat. more seat.call) (take l.seat-index l.seats);
-  few_less : l.all_less ≤ 2 ^ 32 * l.seat-index;
-  few_more : l.all_more ≤ 2 ^ 32 * l.seat-index;
+abbrev pub invariant-loop-task_state : goal.invariant-loop-task_state
+invariant-loop-task_state l = record {
+  less : l.all_less ≡ sum_by (λ task_state. less task_state.call) (take l.task_state-index l.task_states);
+  more : l.all_more ≡ sum_by (λ task_state. more task_state.call) (take l.task_state-index l.task_states);
+  few_less : l.all_less ≤ 2 ^ 32 * l.task_state-index;
+  few_more : l.all_more ≤ 2 ^ 32 * l.task_state-index;
 }

@@ -1,7 +1,7 @@
 use Rattle.std.proofs.Common.{◌≡◌, ◌-◌, ℕ, List, length}
 use Rattle.std.specs.Prelude.{All}
 use Rattle.hp_core.specs.State.{CoreState}
-use Rattle.hp_race.specs.Desks.{IsNew}
+use Rattle.hp_race.specs.Racers.{IsNew}
 use Rattle.hp_race.specs.Parts.{AreParts, Part}
 use Rattle.hp_race.proofs.parts.make_parts.Given as goal
 

@@ -2,8 +2,8 @@ use Rattle.std.proofs.Common.{arith}
 use Rattle.hp_race.proofs.Making.{all_new, whole}
 use Rattle.hp_race.proofs.racing.run_by.Goals as goal
 
-pub make_stretch-requires-after_bounds : goal.make_stretch-requires-after_bounds
-make_stretch-requires-after_bounds g c κs within = all_new _ _ c.in_ok-shared.ensures.count c.in_ok-shared.ensures.seats
+pub make_range-requires-after_bounds : goal.make_range-requires-after_bounds
+make_range-requires-after_bounds g c κs within = all_new _ _ c.in_ok-shared.ensures.count c.in_ok-shared.ensures.seats
 
 pub returns-clause-calls : goal.returns-clause-calls
 returns-clause-calls g c =

@@ -1,7 +1,7 @@
 use Rattle.std.proofs.Common.{◌≡◌, ℕ, List, IfOk, sym, subst}
 use Rattle.hp_shared.specs.Seats.{AllSeated}
 use Rattle.hp_shared.specs.States.{SeatState}
-use Rattle.hp_client.specs.Crew.{desks_of}
+use Rattle.hp_client.specs.Crew.{members_of}
 use Rattle.hp_client.proofs.Crewed.{are_new, are_all}
 use Rattle.hp_client.proofs.crew.Crew.open.Goals as goal
 
@@ -11,8 +11,8 @@ new-requires-2 g c =
     let seats = c.in_ok-shared.seats.items in
     subst (λ (n : ℕ). AllSeated n seats) (sym made.tasks) (are_all c.args.config.tasks seats made.count made.seats)
 
-pub returns-clause-desks : goal.returns-clause-desks
-returns-clause-desks g c =
+pub returns-clause-members : goal.returns-clause-members
+returns-clause-members g c =
     let made = c.in_ok-shared.ensures in
-    subst (λ (seats : List SeatState). IfOk c.new-2.result (λ crew. crew.desks.items ≡ desks_of seats))
-    (are_new c.args.config.tasks c.in_ok-shared.seats.items made.count made.seats) c.new-2.ensures.desks
+    subst (λ (seats : List SeatState). IfOk c.new-2.result (λ crew. crew.members.items ≡ members_of seats))
+    (are_new c.args.config.tasks c.in_ok-shared.seats.items made.count made.seats) c.new-2.ensures.members

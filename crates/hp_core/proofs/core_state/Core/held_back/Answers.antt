@@ -1,7 +1,7 @@
 use Rattle.std.proofs.Common.{◌∙◌, List, Option, sym, subst, ap}
 use Rattle.hp_machine.specs.declared.outcome.Outcome.{Outcome}
 use Rattle.hp_parts.specs.State.{state_of}
-use Rattle.hp_core.specs.declared.seat.Seat.{Seat}
+use Rattle.hp_core.specs.declared.task_state.TaskState.{TaskState}
 use Rattle.hp_core.specs.HeldBack.{HeldBack, refusal_of, event_blocker}
 use Rattle.hp_core.proofs.HeldBack.{read_back}
 use Rattle.hp_core.proofs.Waits.{locks_fit}
@@ -14,6 +14,6 @@ pub returns : goal.returns
 returns c =
     subst (λ (told : Option Outcome). HeldBack c.args.self.now c.args.event told) (sym c.told_back.ensures)
     (read_back _ _ c.args.event c.refusal-refusal.result c.event_blocker-holder.result c.self.view_is c.self.invariant
-    (c.refusal-refusal.ensures ∙ ap (λ (seats : List Seat). refusal_of seats c.args.event) c.deref.ensures.value)
+    (c.refusal-refusal.ensures ∙ ap (λ (task_states : List TaskState). refusal_of task_states c.args.event) c.deref.ensures.value)
     (c.event_blocker-holder.ensures
-    ∙ ap (λ (seats : List Seat). event_blocker (state_of c.self.inside.parts) seats c.args.event) c.deref-2.ensures.value))
+    ∙ ap (λ (task_states : List TaskState). event_blocker (state_of c.self.inside.parts) task_states c.args.event) c.deref-2.ensures.value))

@@ -1,17 +1,17 @@
 use Rattle.std.proofs.Common.{arith, ap}
-use Rattle.hp_core.specs.declared.seat.Seat.{Seat}
+use Rattle.hp_core.specs.declared.task_state.TaskState.{TaskState}
 use Rattle.hp_core.specs.State.{lives_of}
 use Rattle.hp_core.specs.Readers.{life_of}
-use Rattle.hp_core.proofs.Reading.{seat_in, seat_read}
+use Rattle.hp_core.proofs.Reading.{task_state_in, task_state_read}
 use Rattle.hp_core.proofs.core_state.Core.life.Goals as goal
 
 pub index-requires : goal.index-requires
 index-requires c =
-    let l = seat_in c.self.view_is c.self.invariant c.number.ensures c.requires.first c.requires.last in
+    let l = task_state_in c.self.view_is c.self.invariant c.number.ensures c.requires.first c.requires.last in
     omega (arith, l)
 
 pub returns : goal.returns
 unfolding life_of lives_of
 returns c =
-    let read = seat_read c.self.view_is c.self.invariant c.number.ensures c.requires.first c.requires.last c.index.ensures in
-    ap (λ (y : Seat). y.life) read
+    let read = task_state_read c.self.view_is c.self.invariant c.number.ensures c.requires.first c.requires.last c.index.ensures in
+    ap (λ (y : TaskState). y.life) read

@@ -17,8 +17,8 @@ invariant_of-result c = are_sound (sizes c.args.config) _ _
       all_files = c.in_ok-new_files.ensures.fresh;
       spaces_long = c.in_ok-new_spaces.ensures.count;
       all_spaces = c.in_ok-new_spaces.ensures.fresh;
-      seats_long = c.in_ok-seats.ensures.count;
-      all_seats = c.in_ok-seats.ensures.fresh;
+      task_states_long = c.in_ok-task_states.ensures.count;
+      all_task_states = c.in_ok-task_states.ensures.fresh;
     }) _ c.args.config.within_limits
 
 pub returns-clause-opening : goal.returns-clause-opening
@@ -34,8 +34,8 @@ returns-clause-opening c = opens_as c.args.config _ _ _
       all_files = c.in_ok-new_files.ensures.fresh;
       spaces_long = c.in_ok-new_spaces.ensures.count;
       all_spaces = c.in_ok-new_spaces.ensures.fresh;
-      seats_long = c.in_ok-seats.ensures.count;
-      all_seats = c.in_ok-seats.ensures.fresh;
+      task_states_long = c.in_ok-task_states.ensures.count;
+      all_task_states = c.in_ok-task_states.ensures.fresh;
     })
 
 pub returns-clause-config : goal.returns-clause-config
@@ -44,4 +44,4 @@ returns-clause-config c = refl
 
 pub returns-clause-calls : goal.returns-clause-calls
 unfolding calls_of
-returns-clause-calls c = none_in_flight _ c.in_ok-seats.ensures.fresh
+returns-clause-calls c = none_in_flight _ c.in_ok-task_states.ensures.fresh

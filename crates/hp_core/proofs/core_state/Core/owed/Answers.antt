@@ -1,12 +1,12 @@
 use Rattle.std.proofs.Common.{rules, arith, ◌∙◌, ap, length}
 use Rattle.hp_core.specs.Readers.{owed_of}
 use Rattle.hp_core.proofs.Sums.{owed_is}
-use Rattle.hp_core.proofs.Reading.{few_seats}
+use Rattle.hp_core.proofs.Reading.{few_task_states}
 use Rattle.hp_core.proofs.core_state.Core.owed.Goals as goal
 
 pub sums-less-requires : goal.sums-less-requires
 sums-less-requires c =
-    let few = few_seats _ c.self.invariant in
+    let few = few_task_states _ c.self.invariant in
     let same = ap length c.deref.ensures.value in
     omega (arith, few, same)
 

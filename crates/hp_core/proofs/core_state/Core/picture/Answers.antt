@@ -8,7 +8,7 @@ use Rattle.hp_table.specs.Table.{Table}
 use Rattle.hp_parts.specs.declared.parts.FileState.{FileState}
 use Rattle.hp_parts.specs.State.{state_of}
 use Rattle.hp_parts.specs.View.{no_file}
-use Rattle.hp_core.specs.declared.seat.Seat.{Seat}
+use Rattle.hp_core.specs.declared.task_state.TaskState.{TaskState}
 use Rattle.hp_core.specs.Copies.{IsCopy, all_translations}
 use Rattle.hp_core.specs.State.{CoreState}
 use Rattle.hp_core.specs.Readers.{resv_of, owed_of, used_of, used_owed_of, quota_of}
@@ -32,8 +32,8 @@ returns c =
     let s : CoreState = record {
       sizes = sizes c.self.inside.config;
       parts = state_of c.self.inside.parts;
-      seats = c.self.inside.seats.items;
-      room = vec_capacity c.self.inside.seats;
+      task_states = c.self.inside.task_states.items;
+      room = vec_capacity c.self.inside.task_states;
     } in
     let is : c.owed.result ≡ owed_of s = c.owed.ensures ∙ ap (λ (z : CoreState). owed_of z) (sym c.self.view_is) in
     let owed_is : to_z w64 (of_z w64 c.owed.result) ≡ owed_of s = grind (arith, to_z-of_z, is) in
@@ -48,7 +48,7 @@ returns c =
       used = c.used.ensures ∙ ap (λ (z : CoreState). used_of z) (sym c.self.view_is);
       used_owed = used_owed_is;
       quota = c.quota.ensures ∙ ap (λ (z : CoreState). quota_of z) (sym c.self.view_is);
-      hands = c.in_ok-hands.ensures ∙ ap (λ (xs : List Seat). filter_map (λ seat. hand seat.call) xs) c.deref.ensures.value;
+      hands = c.in_ok-hands.ensures ∙ ap (λ (xs : List TaskState). filter_map (λ task_state. hand task_state.call) xs) c.deref.ensures.value;
       as_many = c.in_ok-file_pictures.ensures.count ∙ ap (λ (xs : List FileState). length xs) c.deref-2.ensures.value;
       files =
           subst (λ (xs : List FileState). (f : ℕ) → f < length xs

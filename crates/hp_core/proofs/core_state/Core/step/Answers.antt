@@ -17,8 +17,8 @@ step_event-requires c =
     fits_from_sound (record {
       sizes = sizes c.self.inside.config;
       parts = state_of c.self.inside.parts;
-      seats = c.self.inside.seats.items;
-      room = vec_capacity c.self.inside.seats;
+      task_states = c.self.inside.task_states.items;
+      room = vec_capacity c.self.inside.task_states;
     }) c.args.event c.self.invariant
 
 pub invariant_of-self : goal.invariant_of-self
@@ -26,21 +26,21 @@ invariant_of-self c =
     let s : CoreState = record {
       sizes = sizes c.self.inside.config;
       parts = state_of c.self.inside.parts;
-      seats = c.self.inside.seats.items;
-      room = vec_capacity c.self.inside.seats;
+      task_states = c.self.inside.task_states.items;
+      room = vec_capacity c.self.inside.task_states;
     } in
     with_room IsSound s _ _ _ c.step_event.ensures.capacity
     (sound_result s c.args.event c.step_event.result _ _ c.self.invariant
     (fits_from_sound s c.args.event c.self.invariant) c.step_event.ensures.row c.step_event.ensures.sizes
-    c.step_event.ensures.seats c.step_event.ensures.err)
+    c.step_event.ensures.task_states c.step_event.ensures.err)
 
 pub returns-clause-row : goal.returns-clause-row
 returns-clause-row c =
     let s : CoreState = record {
       sizes = sizes c.self.inside.config;
       parts = state_of c.self.inside.parts;
-      seats = c.self.inside.seats.items;
-      room = vec_capacity c.self.inside.seats;
+      task_states = c.self.inside.task_states.items;
+      room = vec_capacity c.self.inside.task_states;
     } in
     rw (← c.self.view_is)
     (with_room (λ n. IfOk c.step_event.result (λ told. Row s c.args.event told n)) s _ _ _ c.step_event.ensures.capacity
@@ -51,13 +51,13 @@ returns-clause-headline c =
     let s : CoreState = record {
       sizes = sizes c.self.inside.config;
       parts = state_of c.self.inside.parts;
-      seats = c.self.inside.seats.items;
-      room = vec_capacity c.self.inside.seats;
+      task_states = c.self.inside.task_states.items;
+      room = vec_capacity c.self.inside.task_states;
     } in
     with_room Headline s _ _ _ c.step_event.ensures.capacity
     (headline_of _ (sound_result s c.args.event c.step_event.result _ _ c.self.invariant
     (fits_from_sound s c.args.event c.self.invariant) c.step_event.ensures.row c.step_event.ensures.sizes
-    c.step_event.ensures.seats c.step_event.ensures.err))
+    c.step_event.ensures.task_states c.step_event.ensures.err))
 
 pub returns-clause-config : goal.returns-clause-config
 unfolding config_of
@@ -68,8 +68,8 @@ returns-clause-idle c =
     let s : CoreState = record {
       sizes = sizes c.self.inside.config;
       parts = state_of c.self.inside.parts;
-      seats = c.self.inside.seats.items;
-      room = vec_capacity c.self.inside.seats;
+      task_states = c.self.inside.task_states.items;
+      room = vec_capacity c.self.inside.task_states;
     } in
     rw (← c.self.view_is)
     (with_room (λ n. IfOk c.step_event.result (λ told. IsIdle told → n ≡ s)) s _ _ _ c.step_event.ensures.capacity

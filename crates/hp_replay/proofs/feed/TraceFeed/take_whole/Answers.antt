@@ -1,6 +1,6 @@
 use Rattle.std.proofs.Common.{◌≡◌, ◌+◌, [], take, ap, sym, ◌∙◌, arith}
 use Rattle.std.proofs.lemmas.Grind.{common_steps}
-use Rattle.hp_replay.specs.Lines.{Held, line_of}
+use Rattle.hp_replay.specs.Lines.{FeedState, line_of}
 use Rattle.hp_replay.proofs.WholeLines.{IsWhole, taken_whole}
 use Rattle.hp_replay.proofs.feed.TraceFeed.take_whole.Goals as goal
 
@@ -10,16 +10,16 @@ nothing_held c = grind (arith, common_steps)
 
 is_whole : (c : goal.After-self-1) → IsWhole c.args.self.now c.args.piece.now c.in_ok-end.end (line_of c.in_ok-line.line)
 is_whole c =
-    let lines = ap (λ (h : Held). h.lines) c.self.view_is in
+    let lines = ap (λ (h : FeedState). h.lines) c.self.view_is in
     taken_whole c.args.self.now c.args.piece.now c.in_ok-end.end (line_of c.in_ok-line.line)
-    (ap (λ (h : Held). h.rest) (sym c.self.view_is) ∙ nothing_held c) c.requires (λ e. omega (arith, lines, e))
+    (ap (λ (h : FeedState). h.rest) (sym c.self.view_is) ∙ nothing_held c) c.requires (λ e. omega (arith, lines, e))
     c.in_ok-end.ensures.end c.in_ok-end.ensures.short (sym c.in_ok-line.ensures)
 
 pub returns-clause-held : goal.returns-clause-held
 returns-clause-held c =
-    let lines = ap (λ (h : Held). h.lines) c.self.view_is in
+    let lines = ap (λ (h : FeedState). h.lines) c.self.view_is in
     let rest = nothing_held c in
-    let fault = ap (λ (h : Held). h.fault) c.self.view_is ∙ c.requires in
+    let fault = ap (λ (h : FeedState). h.fault) c.self.view_is ∙ c.requires in
     (λ i. record { lines = lines i + 1; rest = rest i; fault = fault i }) ∙ sym (is_whole c).held
 
 pub returns-clause-used : goal.returns-clause-used
