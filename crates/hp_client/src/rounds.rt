@@ -178,6 +178,8 @@ pub(crate) fn run_round(
     ensures free { calls_of core.old ≡ 0 → IfErr result (λ fault. fault ≢ Stuck) }
     ensures done { calls_of core.old ≡ 0 → OnOk result (calls_of core.new ≡ 0) }
 {
+    core.is_reached();
+    hp_laws::callers_live();
     let mut asked = ask(alloc, calls)?;
     let mut answers = Vec::with_capacity(alloc, asked.len())?;
     hp_laws::a_begin_begins_or_is_refused();

@@ -30,6 +30,7 @@ use Rattle.hp_core.specs.Readers.{calls_of as calls_in}
 use Rattle.hp_core.specs.Sound.{IsSound, IsKept}
 use Rattle.hp_core.specs.State.{CoreState, as_state, calls_of, lives_of, no_task_state, state_with}
 use Rattle.hp_core.proofs.Headlines.{reached_of}
+use Rattle.hp_core.proofs.Sums.{calls_are}
 
 -- a list of things with one more, each of which is as it should be beside its source
 pub one_more : {X : Type 0} (R : X → X → Type 0) (xs ys new : List X) (n : ℕ) (x y : X) → n < length xs → x ≡ get_or xs n x
@@ -218,17 +219,12 @@ pub record CanCopy (s : CoreState) : Type 0 where
 -- and finds in each core with no call in flight
 pub can_copy : ((m : State) → IsReached m → IsAtRest m → HoldsNothing m) → (s seen : CoreState) → s ≡ seen → IsSound s
     → calls_in seen ≡ 0 → CanCopy s
-unfolding calls_in
+unfolding IsSound
 can_copy law s seen e sound none =
-    let calls = no_calls s.task_states (ap (λ (x : CoreState). count_by (λ (task_state : TaskState). is_some task_state.call) x.task_states) e ∙ none) in
+    let calls = no_calls s.task_states (calls_are s sound.1 ∙ (ap calls_in e ∙ none)) in
     let nothing = law (as_state s) (reached_of s sound) (at_rest s calls) in
     record {
       hands = no_hands s.parts.bank nothing.hands;
       changes = no_changes s.parts nothing.changes;
       calls = calls;
     }
-
--- as many calls are counted
-pub calls_counted : (s c : CoreState) → c.task_states ≡ s.task_states → calls_in c ≡ calls_in s
-unfolding calls_in
-calls_counted s c task_states = ap (λ (xs : List TaskState). count_by (λ (task_state : TaskState). is_some task_state.call) xs) task_states

@@ -6,8 +6,7 @@ use Rattle.std.proofs.lemmas.Bool.{cases_lt, ne_eqb}
 use Rattle.std.proofs.lemmas.Bool.Decides.{nat_tests}
 use Rattle.std.proofs.lemmas.List.{get_or-replicate, length-replicate}
 use Rattle.std.proofs.lemmas.List.Elements.{All-get_or}
-use Rattle.std.proofs.lemmas.List.Sums.{sum_by-cons}
-use Rattle.std.specs.Prelude.{Bool, true, false, Option, None, All, cond, count_by, is_some, nat_lt, nat_le, ◌==◌, ◌&&◌, replicate, if◌then◌else◌}
+use Rattle.std.specs.Prelude.{Bool, true, false, Option, None, All, IsSome, is_some, nat_lt, nat_le, ◌==◌, ◌&&◌, replicate, if◌then◌else◌}
 use Rattle.std.specs.FinMap.{FinMap, get, get-empty}
 use Rattle.std.specs.Ordering.{nat_cmp}
 use Rattle.hp_base.specs.Text.{Sizes, sizes}
@@ -29,7 +28,9 @@ use Rattle.hp_parts.specs.View.{ready_by_task, mappings_by_task, entries_of, geo
 use Rattle.hp_core.specs.declared.task_state.TaskState.{TaskState}
 use Rattle.hp_core.specs.State.{task_state_at, no_task_state, calls_of, lives_of, state_with}
 use Rattle.hp_core.specs.Opening.{IsFresh, IsVacant}
+use Rattle.hp_core.specs.Readers as readers
 use Rattle.hp_core.specs.Sound.{IsSound}
+use Rattle.hp_core.proofs.InFlight.{none_counts}
 use Rattle.hp_core.specs.Runs.{IsOpening, geometry}
 
 -- what stands in a list of equal things, at a default that is one of them
@@ -220,17 +221,15 @@ pub opens_as : (config : Config) (p : PartsState) (task_states : List TaskState)
 unfolding IsOpening
 opens_as config p task_states room h = (refl, is_opening (sizes config) p task_states h)
 
--- a task state without a call counts for none
-one_vacant : (task_state : TaskState) (task_states : List TaskState) → is_some task_state.call ≡ false → count_by (λ s. is_some s.call) task_states ≡ 0
-    → count_by (λ s. is_some s.call) (task_state ∷ task_states) ≡ 0
-one_vacant task_state task_states here rest =
-    let cons = sum_by-cons (λ (s : TaskState). cond (is_some s.call) 1 0) task_state task_states in
-    let none : ◌≡◌ {A = ℕ} (cond (is_some task_state.call) 1 0) 0 = ap (λ (b : Bool). cond b 1 0) here in
-    omega (arith, cons, none, rest)
+no_call : (o : Option Call) → o ≡ None → IsSome o → ⊥
+no_call o none there =
+    let no : ◌≡◌ {A = Bool} false true = sym (ap is_some none) ∙ there in
+    cc
 
 -- so no call is in flight at first
-pub none_in_flight : (task_states : List TaskState) → All IsVacant task_states → count_by (λ s. is_some s.call) task_states ≡ 0
-none_in_flight [] h = refl
-none_in_flight (task_state ∷ task_states) h =
-    one_vacant task_state task_states (ap (λ (call : Option Call). is_some call) (h 0 task_state (omega arith)).call)
-    (none_in_flight task_states (λ k d within. h (suc k) d (omega (arith, within))))
+pub none_in_flight : (z : Sizes) (p : PartsState) (task_states : List TaskState) (room : ℕ) → All IsVacant task_states
+    → readers.calls_of (record { sizes = z; parts = p; task_states = task_states; room = room }) ≡ 0
+unfolding calls_of
+none_in_flight z p task_states room fresh =
+    none_counts (record { sizes = z; parts = p; task_states = task_states; room = room })
+    (λ t there. no_call (task_state_at task_states t).call (vacant_call task_states fresh t) there)

@@ -1,17 +1,20 @@
 -- The sums over all task states are those over all tasks.
 use Rattle.std.proofs.Common.{◌≡◌, ℕ, zero, suc, ◌+◌, ◌-◌, ◌≤◌, List, length, get_or, refl, sym, ◌∙◌, ap, arith, add-one}
-use Rattle.std.specs.Prelude.{Option, None, ◌==◌, false, sum_by, take, pos, ◌-ℤ◌}
+use Rattle.std.proofs.Common.{Option, Some, None, is_some, count_by, cond}
+use Rattle.std.specs.Prelude.{◌==◌, false, sum_by, take, pos, ◌-ℤ◌}
 use Rattle.std.proofs.lemmas.Bool.{ne_eqb}
 use Rattle.std.proofs.lemmas.List.{take_all}
 use Rattle.std.proofs.lemmas.List.Sums.{sum_by_more}
-use Rattle.hp_base.specs.Numbers.{total}
+use Rattle.hp_base.specs.Numbers.{bit, total}
+use Rattle.hp_base.proofs.Totals.{count_below-total, total_same}
 use Rattle.hp_machine.specs.Views.{less, more, used_owed}
 use Rattle.hp_machine.specs.Headline.{all_less, all_more}
 use Rattle.hp_machine.specs.declared.call.Call.{Call}
 use Rattle.hp_core.specs.declared.task_state.TaskState.{TaskState}
 use Rattle.hp_core.specs.Readers.{owed_of, used_owed_of}
+use Rattle.hp_core.specs.Readers as readers
 use Rattle.hp_core.specs.State.{CoreState, task_state_at, no_task_state, as_state, calls_of}
-use Rattle.hp_core.specs.Sound.{IsSound}
+use Rattle.hp_core.specs.Sound.{IsKept, IsSound}
 
 -- tasks are counted from 1, task states from 0
 task_state_next : (xs : List TaskState) (k : ℕ) → task_state_at xs (suc k) ≡ get_or xs k no_task_state
@@ -51,6 +54,21 @@ used_owed_is s task_states n h e uses =
     let many : length s.parts.spaces ≡ length s.task_states = h.1.spaces ∙ sym h.1.task_states in
     ap (λ (k : ℕ). pos k) (uses ∙ (ap (λ (xs : List TaskState). sum_by (λ (task_state : TaskState). used_owed task_state.call) xs) e
     ∙ sum_is used_owed s.task_states _ refl many))
+
+as_bit : (o : Option Call) → cond (is_some o) 1 0 ≡ bit (is_some o)
+as_bit None = refl
+as_bit (Some c) = refl
+
+-- so are the calls in flight
+pub calls_are : (s : CoreState) → IsKept s → count_by (λ task_state. is_some task_state.call) s.task_states ≡ readers.calls_of s
+unfolding readers.calls_of
+calls_are s kept =
+    let many : length s.parts.spaces ≡ length s.task_states = kept.spaces ∙ sym kept.task_states in
+    let tasks = length s.parts.spaces + 1 in
+    sum_is (λ (o : Option Call). cond (is_some o) 1 0) s.task_states _ refl many
+    ∙ (total_same tasks (λ t. bit (is_some ((as_state s).calls t))) (λ t. cond (is_some ((as_state s).calls t)) 1 0)
+    (λ t within. as_bit ((as_state s).calls t))
+    ∙ sym (count_below-total (λ t. is_some ((as_state s).calls t)) tasks))
 
 -- so is what all calls owe
 pub owed_is : (s : CoreState) (task_states : List TaskState) (a b : ℕ) → IsSound s → task_states ≡ s.task_states

@@ -1,5 +1,5 @@
 -- The numbers of a core, in the machine's words.
-use Rattle.std.specs.Prelude.{ℕ, ℤ, pos, ◌-ℤ◌, Option, length, count_by, is_some}
+use Rattle.std.specs.Prelude.{ℕ, ℤ, pos, ◌-ℤ◌, Option, length, is_some}
 use Rattle.std.specs.Option.{option_map}
 use Rattle.hp_base.specs.Numbers.{total}
 use Rattle.hp_base.specs.Indices.{count_below, region_count}
@@ -7,7 +7,7 @@ use Rattle.hp_base.specs.Text.{Sizes}
 use Rattle.hp_base.specs.declared.limits.TheConstants.{LIMIT, VPNS}
 use Rattle.hp_machine.specs.State.{active_frames, free_frames}
 use Rattle.hp_machine.specs.Events.{word_of}
-use Rattle.hp_machine.specs.Headline.{all_less, all_more, all_used_owed}
+use Rattle.hp_machine.specs.Headline.{all_calls, all_less, all_more, all_used_owed}
 use Rattle.hp_machine.specs.declared.outcome.Life.{Life}
 use Rattle.hp_machine.specs.declared.phase.Phase.{Phase}
 use Rattle.hp_core.specs.State.{CoreState, as_state}
@@ -46,7 +46,7 @@ quota_of s = (as_state s).geometry.quota
 
 -- how many calls are in flight
 unfoldable pub calls_of : CoreState → ℕ
-calls_of s = count_by (λ task_state. is_some task_state.call) s.task_states
+calls_of s = all_calls (as_state s)
 
 unfoldable pub size_of : CoreState → (file : ℕ) → ℕ
 size_of s f = (as_state s).size f

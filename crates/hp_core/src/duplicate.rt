@@ -73,7 +73,6 @@ impl Core {
 
         // Frames, words, reserve maps, pages, mappings, translations, lives and counts are the same.
         ensures state { IfOk result (λ copy. as_state copy ≡ as_state self.now) }
-        ensures calls { IfOk result (λ copy. calls_of copy ≡ 0) }
         ensures config { IfOk result (λ copy. config_of copy ≡ config_of self.now) }
     {
         hp_laws::a_pool_at_rest_holds_nothing();

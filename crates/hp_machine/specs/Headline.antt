@@ -1,5 +1,5 @@
 -- The headline: what holds in every state that a run reaches.
-use Rattle.std.specs.Prelude.{◌≡◌, ℕ, ◌+◌, ◌≤◌, ◌<◌, Option, Some, None}
+use Rattle.std.specs.Prelude.{◌≡◌, ℕ, ◌+◌, ◌≤◌, ◌<◌, Option, Some, None, is_some}
 use Rattle.hp_base.specs.Numbers.{total}
 use Rattle.hp_base.specs.Indices.{vacant, count_below}
 use Rattle.hp_base.specs.Mappings.{find}
@@ -55,6 +55,10 @@ reserved_in s = total s.geometry.files (λ f. count_below (s.reserved f) s.geome
 -- what the calls in flight owe to the used count
 abbrev pub all_used_owed : State → ℕ
 all_used_owed s = total (s.geometry.tasks + 1) (λ t. used_owed (s.calls t))
+
+-- how many calls are in flight
+abbrev pub all_calls : State → ℕ
+all_calls s = count_below (λ t. is_some (s.calls t)) (s.geometry.tasks + 1)
 
 -- Translations of one file index name one frame; each frame is in one place; no translation lies beyond the
 -- size of an unlocked file; the reserve count is the number of reserved indices without a page, plus what the

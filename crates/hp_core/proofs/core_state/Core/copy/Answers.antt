@@ -4,8 +4,8 @@ use Rattle.hp_parts.specs.declared.parts.FileState.{FileState}
 use Rattle.hp_parts.specs.State.{state_of}
 use Rattle.hp_core.specs.declared.task_state.TaskState.{TaskState}
 use Rattle.hp_core.specs.State.{CoreState, as_state}
-use Rattle.hp_core.specs.Readers.{calls_of, config_of}
-use Rattle.hp_core.proofs.Duplicates.{can_copy, are_same, state_same, still_sound, calls_counted}
+use Rattle.hp_core.specs.Readers.{config_of}
+use Rattle.hp_core.proofs.Duplicates.{can_copy, are_same, state_same, still_sound}
 use Rattle.hp_core.proofs.core_state.Core.copy.Goals as goal
 
 pub copy-requires : goal.copy-requires
@@ -41,11 +41,6 @@ returns-clause-state c =
     c.in_ok-copy-3.ensures c.deref-2.ensures.value c.in_ok-copy_spaces.ensures)
     (c.in_ok-task_states.ensures ∙ c.deref-3.ensures.value)
     ∙ ap (λ (s : CoreState). as_state s) c.self.view_is
-
-pub returns-clause-calls : goal.returns-clause-calls
-returns-clause-calls c =
-    calls_counted _ _ (c.in_ok-task_states.ensures ∙ c.deref-3.ensures.value)
-    ∙ (ap (λ (s : CoreState). calls_of s) c.self.view_is ∙ c.requires)
 
 pub returns-clause-config : goal.returns-clause-config
 unfolding config_of

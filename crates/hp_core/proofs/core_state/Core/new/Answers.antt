@@ -43,5 +43,4 @@ unfolding config_of
 returns-clause-config c = refl
 
 pub returns-clause-calls : goal.returns-clause-calls
-unfolding calls_of
-returns-clause-calls c = none_in_flight _ c.in_ok-task_states.ensures.fresh
+returns-clause-calls c = none_in_flight (sizes c.args.config) _ _ _ c.in_ok-task_states.ensures.fresh
