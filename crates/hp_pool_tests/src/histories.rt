@@ -50,6 +50,38 @@ fn a_missing_seat_is_told(rt: HostRuntime) -> Result<(), Fail> {
     Ok(())
 }
 
+// What is told of a resize to nothing, of one beyond the most frames, of a kill of a task that isn't there, and of two kills
+// of one task.
+fn resizes_and_kills<L: Ledger + Send + Sync, R: Wait>(
+    rt: &R,
+    alloc: Global,
+    blank: Blank,
+    config: Config,
+) -> Result<[Outcome; 5], Fail>
+    requires name { blank.name ≡ L.name }
+    requires parts { (blank.parts ≡ L.parts) × (blank.parts ≡ config.tasks) }
+{
+    let (shared, mut seats) = Shared::<L>::new(alloc, blank, config)?;
+    let first = seats.get_mut(0).ok_or("a seat")?;
+    Ok([
+        shared.resize(rt, first, 0)?,
+        shared.resize(rt, first, Config::MAX_FRAMES + 1)?,
+        shared.kill(rt, first, Task::new(3))?,
+        shared.kill(rt, first, Task::new(2))?,
+        shared.kill(rt, first, Task::new(2))?,
+    ])
+}
+
+#[test]
+fn resizes_and_kills_are_refused(rt: HostRuntime) -> Result<(), Fail> {
+    let config = Config::new(1, 1, 1, 2)?;
+    let told = resizes_and_kills::<Brand, _>(&rt, rt.alloc(), Blank::new(2), config)?;
+    let not_alive = Outcome::Refused(Refusal::NotAlive);
+    let bad_size = Outcome::Refused(Refusal::BadSize);
+    assert_eq!(rt; told, [bad_size, bad_size, not_alive, Outcome::Marked, not_alive]);
+    Ok(())
+}
+
 #[test]
 fn a_journal_that_is_no_interleaving(rt: HostRuntime) -> Result<(), Fail> {
     let alloc = rt.alloc();

@@ -6,6 +6,8 @@ use Rattle.hp_base.specs.declared.event.Event.{Event}
 use Rattle.hp_base.specs.declared.event.Event.TheVariants.{Begin, Step, Kill, Resize}
 use Rattle.hp_machine.specs.declared.outcome.Outcome.{Outcome}
 use Rattle.hp_machine.specs.declared.outcome.Outcome.TheVariants.{Begun, Moved, Blocked, Ended, Marked, Resized, Refused}
+use Rattle.hp_machine.specs.declared.outcome.Refusal.{Refusal}
+use Rattle.hp_machine.specs.declared.outcome.Refusal.TheVariants.{NotAlive, InCall, Idle, BadSize}
 use Rattle.hp_core.specs.State.{CoreState}
 use Rattle.hp_core.specs.Runs.{Run, IsOpening}
 use Rattle.hp_shared.specs.declared.entry.Entry.{Entry}
@@ -27,21 +29,40 @@ is_made (Refused why) = false
 abbrev pub gained : ℕ → Event → Outcome → List Entry
 gained position event outcome = if is_made outcome then entry position event outcome ∷ [] else []
 
--- an event has only outcomes of its own kind
+-- why an event may be refused
+abbrev pub MayBeRefused : Event → Refusal → Type 0
+MayBeRefused (Begin task op) NotAlive = Unit {0}
+MayBeRefused (Begin task op) InCall = Unit {0}
+MayBeRefused (Begin task op) Idle = ⊥
+MayBeRefused (Begin task op) BadSize = ⊥
+MayBeRefused (Step task grant) NotAlive = Unit {0}
+MayBeRefused (Step task grant) InCall = ⊥
+MayBeRefused (Step task grant) Idle = Unit {0}
+MayBeRefused (Step task grant) BadSize = ⊥
+MayBeRefused (Kill task) NotAlive = Unit {0}
+MayBeRefused (Kill task) InCall = ⊥
+MayBeRefused (Kill task) Idle = ⊥
+MayBeRefused (Kill task) BadSize = ⊥
+MayBeRefused (Resize frames) NotAlive = ⊥
+MayBeRefused (Resize frames) InCall = ⊥
+MayBeRefused (Resize frames) Idle = ⊥
+MayBeRefused (Resize frames) BadSize = Unit {0}
+
+-- an event has only outcomes of its own kind, and is refused only as it may be
 abbrev pub IsOutcomeOf : Event → Outcome → Type 0
 IsOutcomeOf (Begin task op) Begun = Unit {0}
-IsOutcomeOf (Begin task op) (Refused why) = Unit {0}
+IsOutcomeOf (Begin task op) (Refused why) = MayBeRefused (Begin task op) why
 IsOutcomeOf (Begin task op) other = ⊥
 IsOutcomeOf (Step task grant) (Moved phase) = Unit {0}
 IsOutcomeOf (Step task grant) (Blocked holder) = Unit {0}
 IsOutcomeOf (Step task grant) (Ended answer) = Unit {0}
-IsOutcomeOf (Step task grant) (Refused why) = Unit {0}
+IsOutcomeOf (Step task grant) (Refused why) = MayBeRefused (Step task grant) why
 IsOutcomeOf (Step task grant) other = ⊥
 IsOutcomeOf (Kill task) Marked = Unit {0}
-IsOutcomeOf (Kill task) (Refused why) = Unit {0}
+IsOutcomeOf (Kill task) (Refused why) = MayBeRefused (Kill task) why
 IsOutcomeOf (Kill task) other = ⊥
 IsOutcomeOf (Resize frames) (Resized now) = Unit {0}
-IsOutcomeOf (Resize frames) (Refused why) = Unit {0}
+IsOutcomeOf (Resize frames) (Refused why) = MayBeRefused (Resize frames) why
 IsOutcomeOf (Resize frames) other = ⊥
 
 abbrev pub events_of : List Entry → List Event
