@@ -25,8 +25,8 @@ none_in_flight s t live none there =
     omega (arith, all, has, one, none)
 
 false_of : (b : Bool) → (b ≡ true → ⊥) → b ≡ false
-false_of true no = absurd (no refl)
-false_of false no = refl
+false_of true never = absurd (never refl)
+false_of false never = refl
 
 -- and where no task has one, none is in flight
 pub none_counts : (s : CoreState) → ((t : ℕ) → IsSome ((as_state s).calls t) → ⊥) → readers.calls_of s ≡ 0
