@@ -196,6 +196,17 @@ commit_balance r change i one marked =
     here (suc zero) k false l e d = (λ a. (let z = lt k 1 a in absurd (omega arith)), λ a. (omega arith, omega arith))
     here (suc (suc m)) k b l e d = absurd (omega arith)
 
+-- what is missing of a change of one index is what it missed, where nobody reserved the index meanwhile
+pub as_missed : (r : ℕ → Bool) (change : Change) (i : ℕ) → IsOne change i → ((change.missing == 0) ≡ true → r i ≡ true)
+    → ((change.missing == 0) ≡ false → r i ≡ false) → missing r change.from change.to ≡ change.missing
+as_missed r change i one marked unmarked =
+    here change.missing (missing r change.from change.to) (r i) (change.missing == 0) refl one.few (own_missing r change i one) marked unmarked
+  where
+    here : (m k : ℕ) (b is : Bool) → (m == 0) ≡ is → m ≤ 1 → k ≡ bit (not b) → ((m == 0) ≡ true → b ≡ true)
+        → ((m == 0) ≡ false → b ≡ false) → k ≡ m
+    here m k b true z l e has lacks = (let a = is_nil m z in let d : k ≡ 0 = e ∙ ap (λ (c : Bool). bit (not c)) (has z) in omega arith)
+    here m k b false z l e has lacks = (let a = not_nil m z in let d : k ≡ 1 = e ∙ ap (λ (c : Bool). bit (not c)) (lacks z) in omega arith)
+
 -- an index in a change of one is that index
 pub in_one : (from to i j : ℕ) → from ≡ i → to ≡ i + 1 → is_within from to j ≡ true → i ≡ j
 in_one from to i j a b w = let x : from ≤ j = grind (arith, nat_tests) in let z : j < to = grind (arith, nat_tests) in omega arith

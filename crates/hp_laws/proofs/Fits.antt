@@ -18,7 +18,7 @@ use Rattle.hp_laws.specs.Sweep.{fills, ahead, passed}
 use Rattle.hp_laws.proofs.Standing.{HasSlot, HasLock, Stands}
 use Rattle.hp_laws.proofs.Invariant.{Reached, Inv, seen, stays, sweeps, holds, to}
 use Rattle.hp_laws.proofs.Holding.{shown, takes_slot, leaves_slot, takes_lock, leaves_lock}
-use Rattle.hp_laws.proofs.Effects.{touches_word, rebalances, opened, closed, commits, takes, gives, places}
+use Rattle.hp_laws.proofs.Effects.{touches_word, rebalances, opened, closed, IsSole, commits, takes, gives, places}
 use Rattle.hp_laws.proofs.Deletes.{deletes}
 use Rattle.hp_laws.proofs.Removals
 use Rattle.hp_laws.proofs.Removals.{evicts}
@@ -114,6 +114,7 @@ Fit s t b c (Aborts f) = record {
 Fit s t b c (Commits f change) = record {
   file : f < s.geometry.files;
   limit : change.to ≤ s.geometry.limit;
+  sole : IsSole s.geometry s t f change;
   same : steady c ≡ steady b;
   some : change_in b ≡ Some f;
   none : change_in c ≡ None;
@@ -279,7 +280,7 @@ keeps s t b c (Aborts f) h l e one y =
     closed s.geometry s t b c f h l e (ap (λ p. p.0) y.same) (ap (λ p. p.1) y.same) (ap (λ p. p.2) y.same) y.some y.none y.balance
     y.owed y.fill y.own
 keeps s t b c (Commits f change) h l e one y =
-    commits s.geometry s t b c f change h l e y.file y.limit (ap (λ p. p.0) y.same) (ap (λ p. p.1) y.same) (ap (λ p. p.2) y.same)
+    commits s.geometry s t b c f change h l e y.file y.limit y.sole (ap (λ p. p.0) y.same) (ap (λ p. p.1) y.same) (ap (λ p. p.2) y.same)
     y.some y.none y.nobody y.balance y.owed y.fill y.own
 keeps s t b c (TakesReserved x) h l e one y =
     takes s.geometry s t b c x (s.resv - 1) s.used h l e y.free (ap (λ p. p.0) y.same) (ap (λ p. p.1) y.same) y.empty y.full

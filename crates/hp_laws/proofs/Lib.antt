@@ -43,6 +43,7 @@ pub mod Telling
 pub mod TouchKeeps
 pub mod TruncateKeeps
 pub mod Turns
+pub mod Unreached
 pub mod UnmapKeeps
 pub mod Waiting
 pub mod Writes

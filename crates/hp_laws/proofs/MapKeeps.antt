@@ -1,5 +1,5 @@
 -- Each row of a map keeps the invariant.
-use Rattle.std.proofs.Common.{◌≡◌, ℕ, ◌+◌, ◌-◌, ◌<◌, ◌≤◌, refl, ap, sym, ◌∙◌, subst, arith}
+use Rattle.std.proofs.Common.{◌≡◌, ℕ, ◌+◌, ◌-◌, ◌<◌, ◌≤◌, refl, ap, sym, ◌∙◌, subst, arith, inl}
 use Rattle.std.specs.Prelude.{Bool, true, false, nat_lt, max, Some}
 use Rattle.hp_base.specs.Numbers.{put}
 use Rattle.hp_base.specs.Indices.{is_within, missing, add_range}
@@ -179,7 +179,7 @@ map_accounted s t p turn new h l e row =
       base = p.base;
       excess = p.pending.missing - missing (s.reserved f) p.pending.from p.pending.to;
     })))) f p.pending h l e
-    y.facts.range.file low refl refl refl refl refl nobody (omega arith) (omega arith) tt
+    y.facts.range.file low (inl y.lock) refl refl refl refl refl nobody (omega arith) (omega arith) tt
     (record {
       slot = tt;
       lock = y.lock;
@@ -193,7 +193,7 @@ map_accounted s t p turn new h l e row =
     (λ all r. let enough = le _ _ all in let few = y.facts.count in
     so call.Map s t _ turn _ new r
     (commits s.geometry s t _ (Some (call.Map (at.Enter (record { map = p.map; base = p.base })))) f p.pending h l e
-    y.facts.range.file low refl refl refl refl refl nobody (omega arith) (omega arith) tt
+    y.facts.range.file low (inl y.lock) refl refl refl refl refl nobody (omega arith) (omega arith) tt
     (record { slot = tt; lock = y.lock; facts = record { range = y.facts.range; based = y.facts.based; filled = λ d. filled } })))
 
 -- at settle it gives back what it counted too much

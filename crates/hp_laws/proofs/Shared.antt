@@ -15,7 +15,7 @@ use Rattle.hp_machine.specs.Views.{less, more, used_owed, hand, change_in, locke
 use Rattle.hp_machine.specs.declared.call.Call.{Call}
 use Rattle.hp_machine.specs.declared.call.Turn.{Turn}
 use Rattle.hp_laws.specs.Sweep.{fills, ahead}
-use Rattle.hp_laws.proofs.Deciding.{is_nil}
+use Rattle.hp_laws.proofs.Deciding.{is_nil, not_nil}
 use Rattle.hp_laws.proofs.Standing.{IsOne, Stands}
 use Rattle.hp_laws.proofs.Invariant
 use Rattle.hp_laws.proofs.Invariant.{Reached, Inv, sweeps, holds, seen, stays, to}
@@ -169,9 +169,10 @@ own_missing r change i one = ap (λ (k : ℕ). missing r k change.to) one.begins
 -- what a change of one index tells
 pub one_change : (r : ℕ → Bool) (i : ℕ)
     → IsOne (record { from = i; to = i + 1; missing = missing r i (i + 1) }) i × ((missing r i (i + 1) == 0) ≡ true → r i ≡ true)
+    × ((missing r i (i + 1) == 0) ≡ false → r i ≡ false)
 one_change r i =
     let lacks = missing_one r i in
-    (record { begins = refl; ends = refl; few = few (r i) _ lacks }, λ e. has (r i) _ lacks (is_nil _ e))
+    (record { begins = refl; ends = refl; few = few (r i) _ lacks }, λ e. has (r i) _ lacks (is_nil _ e), λ e. hasnt (r i) _ lacks (not_nil _ e))
   where
     few : (b : Bool) (m : ℕ) → m ≡ bit (not b) → m ≤ 1
     few true m e = omega arith
@@ -180,3 +181,7 @@ one_change r i =
     has : (b : Bool) (m : ℕ) → m ≡ bit (not b) → m ≡ 0 → b ≡ true
     has true m e z = refl
     has false m e z = (let d : 1 ≡ 0 = sym e ∙ z in absurd (omega arith))
+
+    hasnt : (b : Bool) (m : ℕ) → m ≡ bit (not b) → 1 ≤ m → b ≡ false
+    hasnt true m e l = absurd (omega arith)
+    hasnt false m e l = refl

@@ -1,5 +1,5 @@
 -- What each row of a touch did, so it keeps the invariant.
-use Rattle.std.proofs.Common.{◌≡◌, ◌≢◌, ℕ, ◌+◌, ◌<◌, ◌≤◌, refl, ap, sym, ◌∙◌, arith, inl}
+use Rattle.std.proofs.Common.{◌≡◌, ◌≢◌, ℕ, ◌+◌, ◌<◌, ◌≤◌, refl, ap, sym, ◌∙◌, subst, arith, inl, inr}
 use Rattle.std.specs.Prelude.{Bool, true, false, not, ◌&&◌, nat_le, nat_lt, is_some, ◌==◌, Option, Some, None}
 use Rattle.std.proofs.lemmas.Bool.Decides.{nat_tests}
 use Rattle.hp_base.specs.Indices.{is_within, missing}
@@ -11,6 +11,7 @@ use Rattle.hp_machine.specs.declared.touch.TouchPhase.{TouchPhase}
 use Rattle.hp_machine.specs.declared.touch.TouchPhase.TheVariants as at
 use Rattle.hp_machine.specs.declared.call.Call.TheVariants as call
 use Rattle.hp_laws.specs.Sweep.{passed}
+use Rattle.hp_laws.proofs.Standing.{HasSlot}
 use Rattle.hp_laws.proofs.Invariant.{Inv}
 use Rattle.hp_laws.proofs.Passing.{reached_not_passed}
 use Rattle.hp_laws.proofs.Tables.{find_within}
@@ -150,6 +151,7 @@ touch_did s t killed grant (at.Taken p) turn new h e row =
     went call.Touch s t (at.Taken p) _ turn new (Commits f p.pending) r (λ _ _. omega arith) (record {
       file = y.facts.aim.file;
       limit = limit;
+      sole = inr (λ j w. subst (HasSlot s.geometry s t f) (in_one p.pending.from p.pending.to p.touch.index j one.begins one.ends w) y.slot);
       same = refl;
       some = refl;
       none = refl;
@@ -163,6 +165,7 @@ touch_did s t killed grant (at.Taken p) turn new h e row =
     went call.Touch s t (at.Taken p) _ turn new (Commits f p.pending) r (λ _ _. omega arith) (record {
       file = y.facts.aim.file;
       limit = limit;
+      sole = inr (λ j w. subst (HasSlot s.geometry s t f) (in_one p.pending.from p.pending.to p.touch.index j one.begins one.ends w) y.slot);
       same = refl;
       some = refl;
       none = refl;
