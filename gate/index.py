@@ -1,5 +1,5 @@
 #!/usr/bin/env python3
-"""Writes docs/INDEX.md: of each phase its row, the function that does it, the lemma that keeps the invariant, and its edits.
+"""Writes docs/INDEX.md: of each phase its row, the function that does it, the lemma that says what it writes, and its edits.
 
 usage: gate/index.py           says whether docs/INDEX.md is what it would write
        gate/index.py --write   writes it
@@ -20,13 +20,13 @@ STEPS = {
     **dict.fromkeys(("touch", "map", "alloc"), "hp_fault"),
     **dict.fromkeys(("punch", "truncate", "unmap", "exit"), "hp_remove"),
 }
-KEEPS = {"unmap": "UnmapKeeps", "exit": "UnmapKeeps"}
+DID = {"exit": "UnmapDid"}
 HEAD = """# Where each phase is
 
 One line a phase: its row (in `crates/hp_machine/specs/`), the function that does it (in `crates/hp_fault/src/`
-or `crates/hp_remove/src/`), the lemma that shows that the row keeps the invariant (in `crates/hp_laws/proofs/`;
-a phase without one of its own is in its operation's `.._row`), and the edits that change that function, each of
-which the prover has to refuse (in the crate's `must-fail/` or `edits/`). Written by `gate/index.py --write`.
+or `crates/hp_remove/src/`), the lemma of which a clause says what the row writes (in `crates/hp_laws/proofs/`; that
+each write keeps the invariant is in `Fits.antt` there), and the edits that change that function, each of which the
+prover has to refuse (in the crate's `must-fail/` or `edits/`). Written by `gate/index.py --write`.
 """
 
 
@@ -57,13 +57,11 @@ def function_of(operation: str, phase: str) -> str:
     return step
 
 
-def lemma_of(operation: str, phase: str) -> str:
-    """The lemma that keeps the invariant there: the phase's own, or the whole operation's."""
-    file = KEEPS.get(operation, f"{operation.capitalize()}Keeps")
+def lemma_of(operation: str) -> str:
+    """The lemma that says what the operation's rows write."""
+    file, name = DID.get(operation, f"{operation.capitalize()}Did"), f"{operation}_did"
     text = (CRATES / "hp_laws" / "proofs" / f"{file}.antt").read_text(encoding="utf-8")
-    own = f"{operation}_{phase.lower()}"
-    name = own if re.search(rf"^(?:pub )?{own} :", text, re.M) else f"{operation}_row"
-    if not re.search(rf"^(?:pub )?{name} :", text, re.M):
+    if not re.search(rf"^pub {name} :", text, re.M):
         raise SystemExit(f"index: {file}.antt has no lemma {name}")
     return f"`{file}.{name}`"
 
@@ -88,7 +86,7 @@ def index() -> str:
             name = function_of(operation, phase)
             own = edits[crate].get(source.Function((operation,), None, False, name), [])
             tried = ", ".join(f"`{it}`" for it in sorted(own))
-            cells = [phase.lower(), row_of(operation, phase, rows), f"`{operation}::{name}`", lemma_of(operation, phase), tried]
+            cells = [phase.lower(), row_of(operation, phase, rows), f"`{operation}::{name}`", lemma_of(operation), tried]
             out.append(f"| {' | '.join(cells)} |\n")
     return "".join(out)
 

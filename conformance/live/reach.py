@@ -4,8 +4,9 @@
 usage: reach.py [--jobs N] [--all]
 
 It asks the Python machine, which answers as the program does (test_check.py). Each set of calls has an allocation in it and what could add
-the allocation's indices to the reserve map meanwhile, since what is looked for is an allocation that goes from taken to settle. With --all
-the rows that are reached are printed, too. Status: 0 that row isn't reached, 1 it is.
+the allocation's indices to the reserve map meanwhile, since what is looked for is an allocation that goes from taken to settle. That none
+does is proved of every run of the machine (an_alloc_never_settles in crates/hp_laws/src/lib.rt). With --all the rows that are reached are
+printed, too. Status: 0 that row isn't reached, 1 it is.
 """
 from __future__ import annotations
 

@@ -85,7 +85,7 @@ TABLES: dict[str, dict[str, tuple[str, ...]]] = {
     "exit": {"start": ("moved clear", "moved leave"), "clear": ("moved drop",), "drop": ("moved clear", "moved leave"), "leave": ("ended done",)},
 }
 ROWS = tuple((f"{table}.{phase}", outcome) for table, phases in TABLES.items() for phase, outcomes in phases.items() for outcome in outcomes)
-# the one row that no run reaches: docs/LINUX.md, "The row that no run reaches"
+# the one row that no run reaches, which hp_laws proves: docs/LINUX.md, "The row that no run reaches"
 UNREACHABLE = (("alloc.taken", "moved settle"), ("alloc.settle", "moved committed"))
 
 

@@ -117,9 +117,7 @@ counted g s t (Some (call.Alloc (alloc.Taken p))) k h e =
     let o = only_of (p.pending.missing == 0) (p.allocation.file, p.index) k e in
     subst (CountsAt g s t (Some (call.Alloc (alloc.Taken p)))) o.1
     (record { marked = h.facts.marked o.0; bare = h.facts.bare; slot = h.slot; who = inr h.lock })
-counted g s t (Some (call.Alloc (alloc.Settle p))) k h e =
-    subst (CountsAt g s t (Some (call.Alloc (alloc.Settle p)))) (some_same e)
-    (record { marked = h.facts.marked; bare = h.facts.bare; slot = h.slot; who = inr h.lock })
+counted g s t (Some (call.Alloc (alloc.Settle p))) k h e = absurd h.facts
 counted g s t (Some (call.Alloc (alloc.Committed p))) k h e =
     subst (CountsAt g s t (Some (call.Alloc (alloc.Committed p)))) (some_same e)
     (record { marked = h.facts.marked; bare = h.facts.bare; slot = h.slot; who = inr h.lock })

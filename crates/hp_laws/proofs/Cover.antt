@@ -199,12 +199,7 @@ can_settle g s t (Some (call.Alloc (alloc.Changed p))) k l e h =
     (below_limit g _ h.facts.aim)
     (λ d. when (p.pending.missing == 0) p.allocation.file p.index (is_zero p.pending.missing z)) in
     let q = enough g s t _ k l e in omega arith
-can_settle g s t (Some (call.Alloc (alloc.Settle p))) k l e h =
-    let o : 1 ≤ need g s (Some (call.Alloc (alloc.Settle p))) =
-    one_claim g s (Some (call.Alloc (alloc.Settle p))) p.allocation.file p.index true h.facts.aim.file
-    (below_limit g _ h.facts.aim) (λ d. self p.allocation.file p.index) in
-    let q = enough g s t _ k l e in
-    (omega arith, uses g s t _ k l e)
+can_settle g s t (Some (call.Alloc (alloc.Settle p))) k l e h = absurd h.facts
 can_settle g s t (Some (call.Map (map.Settle p))) k l e h = let q = enough g s t _ k l e in (omega arith, uses g s t _ k l e)
 can_settle g s t (Some (call.Punch (punch.Free p))) k l e h =
     λ done. let o : bit (not p.denied) ≡ 1 = ap (λ (b : Bool). bit (not b)) done in

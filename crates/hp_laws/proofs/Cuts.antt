@@ -126,6 +126,7 @@ cuts g s t b c f new top h l e same_held same_hand same_change balance owed held
             files = record {
               page = λ k j a. refl;
               mark = λ k j a w r. r;
+              unmark = λ k j a b r. r;
               lock = λ k a. (a, put_other s.size f new k (other_lock s t u k f held d a), λ j r. r);
             };
             tables = same_tables;
@@ -300,6 +301,7 @@ cuts_tail g s t b c f new h l e in_files same_ahead same_passed goners same_held
             files = record {
               page = λ k j a. refl;
               mark = λ k j a w r. kept u d k j w r;
+              unmark = λ k j a b r. cut_still k j r;
               lock = λ k a. (
                 a,
                 refl,

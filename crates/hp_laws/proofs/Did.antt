@@ -1,6 +1,6 @@
--- What a step did: a write that fits, and where the call goes. Below, the rows that operations share.
-use Rattle.std.proofs.Common.{◌*◌, ◌≡◌, ℕ, zero, suc, ◌+◌, ◌<◌, ◌≤◌, refl, ap, ◌∙◌, subst, arith, inl, inr, ◌-◌, sym}
-use Rattle.std.specs.Prelude.{Bool, true, false, not, ◌==◌, nat_le, nat_lt, Option, Some, None}
+-- What a step did: a write that fits, and where the call goes; then the rows that operations share.
+use Rattle.std.proofs.Common.{◌*◌, ◌≡◌, ℕ, zero, suc, ◌+◌, ◌<◌, ◌≤◌, refl, ap, ◌∙◌, subst, arith, inl, inr, ◌-◌, sym, length}
+use Rattle.std.specs.Prelude.{Bool, true, false, not, ◌==◌, nat_le, nat_lt, Option, Some, None, IfSome}
 use Rattle.std.proofs.lemmas.Bool.Decides.{nat_tests}
 use Rattle.hp_base.specs.Numbers.{bit}
 use Rattle.hp_base.specs.Indices.{is_within, missing}
@@ -11,11 +11,14 @@ use Rattle.hp_region.specs.Change.{Change}
 use Rattle.hp_machine.specs.State.{Pool, State, pool_of, frees, slot_of, quota_is_used_up}
 use Rattle.hp_machine.specs.Parts.{StartRow, WantSlotRow, TakeRow}
 use Rattle.hp_machine.specs.Views.{less, used_owed, hand, locked_file, slot_held, wants_slot, wants_lock}
+use Rattle.hp_machine.specs.Events.{word_of, told, left}
+use Rattle.hp_machine.specs.declared.outcome.Outcome.{Outcome}
+use Rattle.hp_machine.specs.declared.outcome.Outcome.TheVariants as outcome
 use Rattle.hp_machine.specs.declared.call.Call.{Call}
 use Rattle.hp_machine.specs.declared.call.Turn.{Turn}
 use Rattle.hp_machine.specs.declared.call.Turn.TheVariants.{Moved, Blocked, Ended}
 use Rattle.hp_laws.specs.Sweep.{fills}
-use Rattle.hp_laws.specs.Bounds.{times, WaitsFor}
+use Rattle.hp_laws.specs.Bounds.{times, sizes, IsTop, WaitsFor}
 use Rattle.hp_laws.specs.StepsLeft.{steps_left, unslot_left}
 use Rattle.hp_laws.proofs.Deciding.{is_nil, not_nil, lt, le}
 use Rattle.hp_laws.proofs.Standing.{IsOne}
@@ -26,8 +29,10 @@ use Rattle.hp_laws.proofs.Writes.{Write, written, Nothing, TakesLock, TakesSlot,
 use Rattle.hp_laws.proofs.Fits.{Fit, Fills, Own}
 
 -- the call has a step fewer left at least
-abbrev pub Nearer : {P : Type 0} → (P → Call) → State → P → Option Call → Type 0
-Nearer call s here c = (top m : ℕ) → steps_left s.geometry m top c + 1 ≤ steps_left s.geometry m top (Some (call here))
+abbrev pub Nearer : State → (task : ℕ) → Write → Call → Option Call → Type 0
+Nearer s t w c next = (top : ℕ) → IfSome (sizes (Some c)) (λ f. IsTop s f top)
+    → steps_left s.geometry (length ((written (pool_of s) t w).mappings t)) top next + 1 ≤ steps_left s.geometry
+    (length (s.mappings t)) top (Some c)
 
 -- one more of something is that much more
 pub times_next : (n m k : ℕ) → n ≡ m + 1 → times n k ≡ times m k + k
@@ -49,13 +54,17 @@ left_none o n k e l = subst (λ (m : Option _). k ≤ unslot_left m n) (sym e) l
 pub left_some : {A : Type 0} (o : Option A) (a : A) (n : ℕ) → o ≡ Some a → 2 ≤ unslot_left o n
 left_some o a n e = subst (λ (m : Option _). 2 ≤ unslot_left m n) (sym e) (omega arith)
 
--- the call wrote what fits and went on, or waits
-pub data Did (P : Type 0) (call : P → Call) (s : State) (t : ℕ) (here : P) : Turn P → Pool → Type 0 where
-  Wrote : (w : Write) (next : P) → Nearer call s here (Some (call next)) → Fit s t (Some (call here)) (Some (call next)) w
-      → Did P call s t here (Moved next) (written (pool_of s) t w)
-  Over : (w : Write) (a : Answer) → Nearer call s here None → Fit s t (Some (call here)) None w
-      → Did P call s t here (Ended a) (written (pool_of s) t w)
-  Waits : (u : ℕ) → WaitsFor s (Some (call here)) u → Did P call s t here (Blocked here u) (pool_of s)
+-- the call wrote what fits and went on or ended, or waits
+pub data Stepped (s : State) (t : ℕ) (c : Call) : Outcome → Pool → Option Call → Type 0 where
+  Wrote : (w : Write) (d : Call) → Nearer s t w c (Some d) → Fit s t (Some c) (Some d) w
+      → Stepped s t c (outcome.Moved (word_of d)) (written (pool_of s) t w) (Some d)
+  Over : (w : Write) (a : Answer) → Nearer s t w c None → Fit s t (Some c) None w
+      → Stepped s t c (outcome.Ended a) (written (pool_of s) t w) None
+  Waits : (u : ℕ) → WaitsFor s (Some c) u → Stepped s t c (outcome.Blocked u) (pool_of s) (Some c)
+
+-- so by the turn of its row
+abbrev pub Did : {P : Type 0} → (P → Call) → State → (task : ℕ) → P → Turn P → Pool → Type 0
+Did call s t here turn new = Stepped s t (call here) (told call turn) new (left call turn)
 
 -- a leaf's equations put in
 put_in : {P : Type 0} (D : Turn P → Pool → Type 0) {wanted turn : Turn P} {there new : Pool} → (turn ≡ wanted) × (new ≡ there)
@@ -66,18 +75,18 @@ put_in {P} D {wanted} {turn} {there} {new} e h = subst (λ (p : Turn P × Pool).
     pair a b = cc
 
 pub went : {P : Type 0} (call : P → Call) (s : State) (t : ℕ) (here next : P) (turn : Turn P) (new : Pool) (w : Write)
-    → (turn ≡ Moved next) × (new ≡ written (pool_of s) t w) → Nearer call s here (Some (call next)) → Fit s t (Some (call here)) (Some (call next)) w
-    → Did P call s t here turn new
-went {P} call s t here next turn new w r near y = put_in (Did P call s t here) r (Wrote w next near y)
+    → (turn ≡ Moved next) × (new ≡ written (pool_of s) t w) → Nearer s t w (call here) (Some (call next))
+    → Fit s t (Some (call here)) (Some (call next)) w → Did call s t here turn new
+went call s t here next turn new w r near y = put_in (Did call s t here) r (Wrote w (call next) near y)
 
 pub over : {P : Type 0} (call : P → Call) (s : State) (t : ℕ) (here : P) (a : Answer) (turn : Turn P) (new : Pool) (w : Write)
-    → (turn ≡ Ended a) × (new ≡ written (pool_of s) t w) → Nearer call s here None → Fit s t (Some (call here)) None w
-    → Did P call s t here turn new
-over {P} call s t here a turn new w r near y = put_in (Did P call s t here) r (Over w a near y)
+    → (turn ≡ Ended a) × (new ≡ written (pool_of s) t w) → Nearer s t w (call here) None → Fit s t (Some (call here)) None w
+    → Did call s t here turn new
+over call s t here a turn new w r near y = put_in (Did call s t here) r (Over w a near y)
 
 pub waits : {P : Type 0} (call : P → Call) (s : State) (t : ℕ) (here : P) (u : ℕ) (turn : Turn P) (new : Pool)
-    → (turn ≡ Blocked here u) × (new ≡ pool_of s) → WaitsFor s (Some (call here)) u → Did P call s t here turn new
-waits {P} call s t here u turn new r y = put_in (Did P call s t here) r (Waits u y)
+    → (turn ≡ Blocked here u) × (new ≡ pool_of s) → WaitsFor s (Some (call here)) u → Did call s t here turn new
+waits call s t here u turn new r y = put_in (Did call s t here) r (Waits u y)
 
 -- one that ends where it owes, holds and wants nothing
 pub ends_fits : (s : State) (t : ℕ) (b : Option Call) → seen None ≡ seen b → Fit s t b None Nothing
@@ -90,9 +99,10 @@ pub start_did : {P : Type 0} (call : P → Call) (s : State) (t : ℕ) (killed :
     → seen None ≡ seen (Some (call here)) → shown (Some (call next)) ≡ shown (Some (call here))
     → slot_held (Some (call next)) ≡ slot_held (Some (call here))
     → locked_file (Some (call here)) ≡ None → locked_file (Some (call next)) ≡ Some f → fills (Some (call next)) ≡ None
-    → wants_lock (Some (call here)) ≡ Some f → (bad ≡ false → Nearer call s here (Some (call next))) → Nearer call s here None
+    → wants_lock (Some (call here)) ≡ Some f → (bad ≡ false → Nearer s t (TakesLock f) (call here) (Some (call next)))
+    → Nearer s t Nothing (call here) None
     → (f < s.geometry.files → bad ≡ false → Own s t (TakesLock f) (Some (call next)))
-    → Did P call s t here turn new
+    → Did call s t here turn new
 start_did call s t killed f bad at_kill here next turn new row none same slot no_lock lock fill wants near near_end own =
     let ends = ends_fits s t (Some (call here)) none in
     by_test (nat_le s.geometry.files f) row
@@ -121,7 +131,8 @@ pub want_did : {P : Type 0} (call : P → Call) (s : State) (t f i : ℕ) (here 
     → WantSlotRow (pool_of s) t f i here next turn new
     → shown (Some (call next)) ≡ shown (Some (call here)) → locked_file (Some (call next)) ≡ locked_file (Some (call here))
     → slot_held (Some (call here)) ≡ None → slot_held (Some (call next)) ≡ Some (f, i) → fills (Some (call next)) ≡ None
-    → wants_slot (Some (call here)) ≡ Some (f, i) → Nearer call s here (Some (call next)) → Own s t (TakesSlot f i) (Some (call next)) → Did P call s t here turn new
+    → wants_slot (Some (call here)) ≡ Some (f, i) → Nearer s t (TakesSlot f i) (call here) (Some (call next))
+    → Own s t (TakesSlot f i) (Some (call next)) → Did call s t here turn new
 want_did call s t f i here next turn new row same lock none some fill wants near own =
     by_option (s.slots (slot_of s.geometry f i)) row
     (λ free r. went call s t here next turn new (TakesSlot f i) r near
@@ -133,8 +144,8 @@ pub take_did : {P : Type 0} (call : P → Call) (s : State) (t m : ℕ) (here : 
     (turn : Turn P) (new : Pool) → Inv s.geometry s → TakeRow (pool_of s) m refused taken turn new
     → record {
       lacks : (a : Answer) → Fit s t (Some (call here)) (Some (call (refused a))) Nothing;
-      near_lacks : (a : Answer) → Nearer call s here (Some (call (refused a)));
-      near : (x : ℕ) → Nearer call s here (Some (call (taken x)));
+      near_lacks : (a : Answer) → Nearer s t Nothing (call here) (Some (call (refused a)));
+      near : (x : ℕ) → Nearer s t Nothing (call here) (Some (call (taken x)));
       few : m ≤ 1;
       unused : used_owed (Some (call here)) ≡ 0;
       uses : (x : ℕ) → used_owed (Some (call (taken x))) ≡ m;
@@ -146,7 +157,7 @@ pub take_did : {P : Type 0} (call : P → Call) (s : State) (t m : ℕ) (here : 
       fill : (x : ℕ) → Fills s (Some (call (taken x)));
       own : (x : ℕ) → Own s t Nothing (Some (call (taken x)));
     }
-    → Did P call s t here turn new
+    → Did call s t here turn new
 take_did call s t m here refused taken turn new h row y =
     by_test (m == 0) row
     (λ none r. went call s t here (taken r.0) turn new (TakesReserved r.0) r.3 (y.near r.0) (record {
@@ -195,6 +206,18 @@ commit_balance r change i one marked =
     here (suc zero) k true l e d = (λ a. (omega arith, refl, refl), λ a. (let z = le k 1 a in absurd (omega arith)))
     here (suc zero) k false l e d = (λ a. (let z = lt k 1 a in absurd (omega arith)), λ a. (omega arith, omega arith))
     here (suc (suc m)) k b l e d = absurd (omega arith)
+
+-- what is missing of a change of one index is what it missed, where nobody reserved the index meanwhile
+pub as_missed : (r : ℕ → Bool) (change : Change) (i : ℕ) → IsOne change i → ((change.missing == 0) ≡ true → r i ≡ true)
+    → ((change.missing == 0) ≡ false → r i ≡ false) → missing r change.from change.to ≡ change.missing
+as_missed r change i one marked unmarked =
+    here change.missing (missing r change.from change.to) (r i) (change.missing == 0) refl one.few (own_missing r change i one) marked
+    unmarked
+  where
+    here : (m k : ℕ) (b is : Bool) → (m == 0) ≡ is → m ≤ 1 → k ≡ bit (not b) → ((m == 0) ≡ true → b ≡ true)
+        → ((m == 0) ≡ false → b ≡ false) → k ≡ m
+    here m k b true z l e has lacks = (let a = is_nil m z in let d : k ≡ 0 = e ∙ ap (λ (c : Bool). bit (not c)) (has z) in omega arith)
+    here m k b false z l e has lacks = (let a = not_nil m z in let d : k ≡ 1 = e ∙ ap (λ (c : Bool). bit (not c)) (lacks z) in omega arith)
 
 -- an index in a change of one is that index
 pub in_one : (from to i j : ℕ) → from ≡ i → to ≡ i + 1 → is_within from to j ≡ true → i ≡ j

@@ -30,7 +30,7 @@ use Rattle.hp_machine.specs.declared.call.Call.TheVariants as call
 use Rattle.hp_laws.specs.Sweep.{fills, ahead, passed, gone}
 use Rattle.hp_laws.proofs.Deciding.{some_same}
 use Rattle.hp_laws.proofs.Moves.{Placing, takes_frame, gives_frame, places_frame, writes_frame}
-use Rattle.hp_laws.proofs.Standing.{HasSlot, Stands}
+use Rattle.hp_laws.proofs.Standing.{HasSlot, HasLock, Stands}
 use Rattle.hp_laws.proofs.Staying.{same_tables, stands_after}
 use Rattle.hp_laws.proofs.Invariant.{Reached, Inv, goes, vacant_of, reserved_of, reserved_change, same_used, sum_of, place_same, same_opens, sweeps, holds, to}
 
@@ -304,16 +304,20 @@ committing s f change = record s {
   };
 }
 
+-- the task holds the lock of the file, or the slot of each index of the change: so nobody else does both
+abbrev pub IsSole : Geometry → State → (task file : ℕ) → Change → Type 0
+IsSole g s t f change = HasLock s t f ⊎ ((j : ℕ) → is_within change.from change.to j ≡ true → HasSlot g s t f j)
+
 -- a change is committed
 pub commits : (g : Geometry) (s : State) (t : ℕ) (b c : Option Call) (f : ℕ) (change : Change) → Inv g s → t < g.tasks + 1
-    → s.calls t ≡ b → f < g.files → change.to ≤ g.limit
+    → s.calls t ≡ b → f < g.files → change.to ≤ g.limit → IsSole g s t f change
     → sweeps c ≡ sweeps b → holds c ≡ holds b → hand c ≡ hand b → change_in b ≡ Some f → change_in c ≡ None
     → ((u j : ℕ) → passed (s.calls u) f j ≡ true → is_within change.from change.to j ≡ true → ⊥)
     → less c + more b ≡ less b + missing (s.reserved f) change.from change.to + more c
     → used_owed b ≡ missing (s.reserved f) change.from change.to + used_owed c
     → IfSome (fills c) (λ k. Reached s.size (λ u. ahead (s.calls u)) k.0 k.1) → Stands g (committing s f change) t c
     → Inv g (to (committing s f change) t c)
-commits g s t b c f change h l e in_files low same same_held same_hand some none nobody balance owed fill own =
+commits g s t b c f change h l e in_files low sole same same_held same_hand some none nobody balance owed fill own =
     goes g s (committing s f change) t b c h l e same same_held (record {
       layout = h.layout;
       entries = h.entries;
@@ -355,6 +359,10 @@ commits g s t b c f change h l e in_files low same same_held same_hand some none
             files = record {
               page = λ k j a. refl;
               mark = λ k j a w. grown_keeps s.reserved f change.from change.to k j;
+              unmark = λ k j a b. still_gone s.reserved f change.from change.to k j (λ q w. elim sole [
+                | inl lock ↦ d (some_same (sym (ap s.locks (sym q) ∙ b) ∙ lock))
+                | inr slot ↦ d (some_same (sym (ap (λ (m : ℕ). s.slots (slot_of g m j)) (sym q) ∙ a) ∙ slot j w))
+              ]);
               lock = λ k a. (a, refl, λ j. grown_keeps s.reserved f change.from change.to k j);
             };
             tables = same_tables;
@@ -499,6 +507,7 @@ places g s t b c f i x h l e in_files in_limit same same_held some none same_cha
             files = record {
               page = λ k j a. other u d k j a;
               mark = λ k j a w r. r;
+              unmark = λ k j a b r. r;
               lock = λ k a. (a, refl, λ j r. r);
             };
             tables = same_tables;

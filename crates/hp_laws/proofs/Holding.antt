@@ -215,6 +215,7 @@ takes_lock g s t b c f h l e free same same_slot none some fill own = goes_as g 
         files = record {
           page = λ k j a. refl;
           mark = λ k j a w r. r;
+          unmark = λ k j a b r. r;
           lock = λ k a. (still u k a, refl, λ j r. r);
         };
         tables = same_tables;
@@ -272,6 +273,7 @@ leaves_lock g s t b f h l e no_less no_more none_used no_hand no_change no_slot 
         files = record {
           page = λ k j a. refl;
           mark = λ k j a w r. r;
+          unmark = λ k j a b r. r;
           lock = λ k a. (still u d k a, refl, λ j r. r);
         };
         tables = same_tables;

@@ -1,5 +1,5 @@
 -- The word of each page is the last one that was made there.
-use Rattle.std.proofs.Common.{◌≡◌, ◌≢◌, ℕ, refl, ap, sym, ◌∙◌, subst, inl, inr, ◌⊎◌}
+use Rattle.std.proofs.Common.{◌≡◌, ◌≢◌, ℕ, refl, ap, sym, ◌∙◌, subst, arith, inl, inr, ◌⊎◌}
 use Rattle.std.specs.Prelude.{Bool, true, false, nat_le, Option, Some, None}
 use Rattle.hp_base.specs.Numbers.{put, put2}
 use Rattle.hp_base.specs.Mappings.{find}
@@ -38,8 +38,9 @@ use Rattle.hp_laws.proofs.Runs.{Always}
 use Rattle.hp_laws.proofs.Reading.{begin_cases, step_cases, kill_cases}
 use Rattle.hp_laws.proofs.Resizing.{reframed, resize_cases, on_page}
 use Rattle.hp_laws.proofs.Fits.{reads}
-use Rattle.hp_laws.proofs.ByWrite.{Shrinks, PlacesOne}
-use Rattle.hp_laws.proofs.Paging.{call_pages}
+use Rattle.hp_laws.proofs.ByWrite.{Shrinks, PlacesOne, pages_by}
+use Rattle.hp_laws.proofs.Did.{Stepped}
+use Rattle.hp_laws.proofs.Steps.{call_did}
 
 -- an event with its outcome and the states around it
 abbrev pub moment : State → Event → Outcome → State → Moment
@@ -308,55 +309,55 @@ found_tells s t grant p turn pool o n h e row next pages frame =
         same_store z = cc
 
 -- so of each call that doesn't read or write, by what its rows do to the pages
-by_pages : (s : State) (t : ℕ) (killed grant : Bool) (c : Call) (o : Outcome) (pool : Pool) (next : Option Call) (n : State)
-    → reads (Some c) ≡ false → Inv s.geometry s → s.calls t ≡ Some c → CallRow (pool_of s) t killed grant c o pool next
+by_pages : (s : State) (t : ℕ) (grant : Bool) (c : Call) (o : Outcome) (pool : Pool) (next : Option Call) (n : State)
+    → reads (Some c) ≡ false → Inv s.geometry s → s.calls t ≡ Some c → Stepped s t c o pool next
     → n.pages ≡ pool.pages → n.frame ≡ pool.frame → Tells s (Step t grant) o n
-by_pages s t killed grant c o pool next n quiet h e row pages frame = elim (call_pages s t killed grant c o pool next quiet h e row) [
+by_pages s t grant c o pool next n quiet h e did pages frame = elim (pages_by s t c o pool next h e quiet did) [
   | inl k ↦ shrinks_tell s (Step t grant) o n pool pages frame (quiet_call s t grant c o n e quiet) k
   | inr k ↦ places_tell s (Step t grant) o n pool h pages frame (quiet_call s t grant c o n e quiet) k
 ]
 
 -- each step of a call makes the word of a page the last one made there
 step_tells : (s : State) (t : ℕ) (killed grant : Bool) (c : Call) (o : Outcome) (pool : Pool) (next : Option Call) (n : State)
-    → Inv s.geometry s → s.calls t ≡ Some c → CallRow (pool_of s) t killed grant c o pool next → n.calls t ≡ next
-    → n.pages ≡ pool.pages → n.frame ≡ pool.frame → Tells s (Step t grant) o n
+    → Inv s.geometry s → s.calls t ≡ Some c → CallRow (pool_of s) t killed grant c o pool next → Stepped s t c o pool next
+    → n.calls t ≡ next → n.pages ≡ pool.pages → n.frame ≡ pool.frame → Tells s (Step t grant) o n
 unfolding CallRow
-step_tells s t killed grant (call.Touch (touch.Look p)) o pool next n h e (turn, row, tells, leaves) calls pages frame =
+step_tells s t killed grant (call.Touch (touch.Look p)) o pool next n h e (turn, row, tells, leaves) _ calls pages frame =
     look_tells s t killed grant p turn pool o n h e row tells pages frame
-step_tells s t killed grant (call.Touch (touch.Found p)) o pool next n h e (turn, row, tells, leaves) calls pages frame =
+step_tells s t killed grant (call.Touch (touch.Found p)) o pool next n h e (turn, row, tells, leaves) _ calls pages frame =
     found_tells s t grant p turn pool o n h e row (calls ∙ leaves) pages frame
-step_tells s t killed grant (call.Touch (touch.Want p)) o pool next n h e row calls pages frame =
-    by_pages s t killed grant (call.Touch (touch.Want p)) o pool next n refl h e row pages frame
-step_tells s t killed grant (call.Touch (touch.Locked p)) o pool next n h e row calls pages frame =
-    by_pages s t killed grant (call.Touch (touch.Locked p)) o pool next n refl h e row pages frame
-step_tells s t killed grant (call.Touch (touch.Missing p)) o pool next n h e row calls pages frame =
-    by_pages s t killed grant (call.Touch (touch.Missing p)) o pool next n refl h e row pages frame
-step_tells s t killed grant (call.Touch (touch.Changed p)) o pool next n h e row calls pages frame =
-    by_pages s t killed grant (call.Touch (touch.Changed p)) o pool next n refl h e row pages frame
-step_tells s t killed grant (call.Touch (touch.Abort p)) o pool next n h e row calls pages frame =
-    by_pages s t killed grant (call.Touch (touch.Abort p)) o pool next n refl h e row pages frame
-step_tells s t killed grant (call.Touch (touch.Taken p)) o pool next n h e row calls pages frame =
-    by_pages s t killed grant (call.Touch (touch.Taken p)) o pool next n refl h e row pages frame
-step_tells s t killed grant (call.Touch (touch.Settle p)) o pool next n h e row calls pages frame =
-    by_pages s t killed grant (call.Touch (touch.Settle p)) o pool next n refl h e row pages frame
-step_tells s t killed grant (call.Touch (touch.Committed p)) o pool next n h e row calls pages frame =
-    by_pages s t killed grant (call.Touch (touch.Committed p)) o pool next n refl h e row pages frame
-step_tells s t killed grant (call.Touch (touch.Restore p)) o pool next n h e row calls pages frame =
-    by_pages s t killed grant (call.Touch (touch.Restore p)) o pool next n refl h e row pages frame
-step_tells s t killed grant (call.Touch (touch.Leave p)) o pool next n h e row calls pages frame =
-    by_pages s t killed grant (call.Touch (touch.Leave p)) o pool next n refl h e row pages frame
-step_tells s t killed grant (call.Map p) o pool next n h e row calls pages frame =
-    by_pages s t killed grant (call.Map p) o pool next n refl h e row pages frame
-step_tells s t killed grant (call.Alloc p) o pool next n h e row calls pages frame =
-    by_pages s t killed grant (call.Alloc p) o pool next n refl h e row pages frame
-step_tells s t killed grant (call.Punch p) o pool next n h e row calls pages frame =
-    by_pages s t killed grant (call.Punch p) o pool next n refl h e row pages frame
-step_tells s t killed grant (call.Truncate p) o pool next n h e row calls pages frame =
-    by_pages s t killed grant (call.Truncate p) o pool next n refl h e row pages frame
-step_tells s t killed grant (call.Unmap p) o pool next n h e row calls pages frame =
-    by_pages s t killed grant (call.Unmap p) o pool next n refl h e row pages frame
-step_tells s t killed grant (call.Exit p) o pool next n h e row calls pages frame =
-    by_pages s t killed grant (call.Exit p) o pool next n refl h e row pages frame
+step_tells s t killed grant (call.Touch (touch.Want p)) o pool next n h e _ did calls pages frame =
+    by_pages s t grant (call.Touch (touch.Want p)) o pool next n refl h e did pages frame
+step_tells s t killed grant (call.Touch (touch.Locked p)) o pool next n h e _ did calls pages frame =
+    by_pages s t grant (call.Touch (touch.Locked p)) o pool next n refl h e did pages frame
+step_tells s t killed grant (call.Touch (touch.Missing p)) o pool next n h e _ did calls pages frame =
+    by_pages s t grant (call.Touch (touch.Missing p)) o pool next n refl h e did pages frame
+step_tells s t killed grant (call.Touch (touch.Changed p)) o pool next n h e _ did calls pages frame =
+    by_pages s t grant (call.Touch (touch.Changed p)) o pool next n refl h e did pages frame
+step_tells s t killed grant (call.Touch (touch.Abort p)) o pool next n h e _ did calls pages frame =
+    by_pages s t grant (call.Touch (touch.Abort p)) o pool next n refl h e did pages frame
+step_tells s t killed grant (call.Touch (touch.Taken p)) o pool next n h e _ did calls pages frame =
+    by_pages s t grant (call.Touch (touch.Taken p)) o pool next n refl h e did pages frame
+step_tells s t killed grant (call.Touch (touch.Settle p)) o pool next n h e _ did calls pages frame =
+    by_pages s t grant (call.Touch (touch.Settle p)) o pool next n refl h e did pages frame
+step_tells s t killed grant (call.Touch (touch.Committed p)) o pool next n h e _ did calls pages frame =
+    by_pages s t grant (call.Touch (touch.Committed p)) o pool next n refl h e did pages frame
+step_tells s t killed grant (call.Touch (touch.Restore p)) o pool next n h e _ did calls pages frame =
+    by_pages s t grant (call.Touch (touch.Restore p)) o pool next n refl h e did pages frame
+step_tells s t killed grant (call.Touch (touch.Leave p)) o pool next n h e _ did calls pages frame =
+    by_pages s t grant (call.Touch (touch.Leave p)) o pool next n refl h e did pages frame
+step_tells s t killed grant (call.Map p) o pool next n h e _ did calls pages frame =
+    by_pages s t grant (call.Map p) o pool next n refl h e did pages frame
+step_tells s t killed grant (call.Alloc p) o pool next n h e _ did calls pages frame =
+    by_pages s t grant (call.Alloc p) o pool next n refl h e did pages frame
+step_tells s t killed grant (call.Punch p) o pool next n h e _ did calls pages frame =
+    by_pages s t grant (call.Punch p) o pool next n refl h e did pages frame
+step_tells s t killed grant (call.Truncate p) o pool next n h e _ did calls pages frame =
+    by_pages s t grant (call.Truncate p) o pool next n refl h e did pages frame
+step_tells s t killed grant (call.Unmap p) o pool next n h e _ did calls pages frame =
+    by_pages s t grant (call.Unmap p) o pool next n refl h e did pages frame
+step_tells s t killed grant (call.Exit p) o pool next n h e _ did calls pages frame =
+    by_pages s t grant (call.Exit p) o pool next n refl h e did pages frame
 
 -- and so does each event
 pub row_tells : (s : State) (event : Event) (o : Outcome) (n : State) → Always s → Row s event o n → Tells s event o n
@@ -389,4 +390,6 @@ row_tells s (Step t grant) o n h row = step_cases s t grant o n (Tells s (Step t
     (λ why e d. self_tells s (Step t grant) o n (ap (λ (m : State). m.pages) d) (ap (λ (m : State). m.frame) d)
     (quiet_refused s (Step t grant) why o n e d))
     (λ c lives e pool next r d. step_tells s t (is_killed (s.life t)) grant c o pool next n h.inv e r
+    (call_did s t (is_killed (s.life t)) grant c o pool next h.inv (h.lives.there t lives).0
+    (let z = (h.lives.there t lives).1 in omega arith) e r)
     (ap (λ (m : State). m.calls t) d ∙ put_same s.calls t next) (ap (λ (m : State). m.pages) d) (ap (λ (m : State). m.frame) d))

@@ -4,7 +4,7 @@ use Rattle.std.specs.Prelude.{Bool, true, false, not, ◌&&◌, Option, Some, No
 use Rattle.hp_base.specs.Numbers.{put}
 use Rattle.hp_base.specs.declared.event.Op.{Op}
 use Rattle.hp_machine.specs.State.{Pool, State, pool_of, with_pool, is_alive, is_killed, is_dead}
-use Rattle.hp_machine.specs.Events.{CallRow, BeginRow, StepRow, KillRow, first, is_exit, word_of, told, left, lives_after}
+use Rattle.hp_machine.specs.Events.{CallRow, BeginRow, StepRow, KillRow, first, is_exit, word_of, lives_after}
 use Rattle.hp_machine.specs.declared.outcome.Life.{Life}
 use Rattle.hp_machine.specs.declared.outcome.Life.TheVariants as life
 use Rattle.hp_machine.specs.declared.outcome.Outcome.{Outcome}
@@ -13,17 +13,14 @@ use Rattle.hp_machine.specs.declared.outcome.Refusal.{Refusal}
 use Rattle.hp_machine.specs.declared.phase.Phase.{Phase}
 use Rattle.hp_machine.specs.declared.call.Call.{Call}
 use Rattle.hp_machine.specs.declared.call.Call.TheVariants as call
-use Rattle.hp_machine.specs.declared.call.Turn.{Turn}
-use Rattle.hp_machine.specs.declared.call.Turn.TheVariants.{Moved, Blocked, Ended}
 use Rattle.hp_laws.specs.Bounds.{sizes, IsTop, WaitsFor}
 use Rattle.hp_laws.specs.StepsLeft.{steps_left}
 use Rattle.hp_laws.proofs.Deletes.{deletes}
 use Rattle.hp_laws.proofs.Invariant.{Inv, put_known}
 use Rattle.hp_laws.proofs.Shared.{by_test, by_option}
-use Rattle.hp_laws.proofs.TouchKeeps.{touch_did}
-use Rattle.hp_laws.proofs.AllocKeeps.{alloc_did}
-use Rattle.hp_laws.proofs.PunchKeeps.{punch_did}
-use Rattle.hp_laws.proofs.Turns.{is_blocked, Turned, turned_by, map_turn, truncate_turn, unmap_turn, exit_turn}
+use Rattle.hp_laws.proofs.Did.{Stepped, Wrote, Over, Waits}
+use Rattle.hp_laws.proofs.ByWrite.{changes}
+use Rattle.hp_laws.proofs.Steps.{call_did}
 
 -- a Begin is refused and changes nothing, or its call is in flight
 pub begin_cases : (s : State) (t : ℕ) (p : Op) (o : Outcome) (n : State) (P : Type 0) → BeginRow s t p o n
@@ -99,62 +96,35 @@ abbrev pub Steps : State → (t top : ℕ) → Call → Outcome → Pool → Opt
 Steps s t top c o new next =
     ((u : ℕ) × (o ≡ outcome.Blocked u) × (new ≡ pool_of s) × (next ≡ Some c) × WaitsFor s (Some c) u) ⊎ Gone s t top c o new next
 
--- a turn that isn't blocked tells no block
-unblocked : {P : Type 0} (call : P → Call) (turn : Turn P) (o : Outcome) → o ≡ told call turn → is_blocked turn ≡ false → (u : ℕ)
-    → o ≡ outcome.Blocked u → ⊥
-unblocked call (Moved p) o e free u d = (let z : outcome.Moved (word_of (call p)) ≡ outcome.Blocked u = sym e ∙ d in absurd (cc))
-unblocked call (Blocked p holder) o e free u d = (let z : true ≡ false = free in absurd (cc))
-unblocked call (Ended a) o e free u d = (let z : outcome.Ended a ≡ outcome.Blocked u = sym e ∙ d in absurd (cc))
-
--- a turn that tells a phase leaves a call that stands there
-word_there : {P : Type 0} (call : P → Call) (turn : Turn P) (o : Outcome) (next : Option Call) → o ≡ told call turn
-    → next ≡ left call turn → (p : Phase) → o ≡ outcome.Moved p → (d : Call) × (next ≡ Some d) × (word_of d ≡ p)
-word_there call (Moved q) o next e l p d = (call q, l, same (sym e ∙ d))
+-- so by what it wrote
+steps_by : (s : State) (t top : ℕ) (c : Call) (o : Outcome) (new : Pool) (next : Option Call) → Stepped s t c o new next
+    → Steps s t top c o new next
+steps_by s t top c o new next (Waits u y) = inl (u, refl, refl, refl, y)
+steps_by s t top c o new next (Wrote w d near y) = let k = changes s t (Some c) (Some d) w y in inr (record {
+  free = λ u z. (let q : outcome.Moved (word_of d) ≡ outcome.Blocked u = z in cc);
+  moved = λ p z. (d, refl, same z);
+  mappings = k.mappings;
+  keeps = k.keeps;
+  grows = k.grows;
+  nearer = near top;
+})
   where
     same : {a b : Phase} → outcome.Moved a ≡ outcome.Moved b → a ≡ b
     same z = cc
-word_there call (Blocked q holder) o next e l p d = (let z : outcome.Blocked holder ≡ outcome.Moved p = sym e ∙ d in absurd (cc))
-word_there call (Ended a) o next e l p d = (let z : outcome.Ended a ≡ outcome.Moved p = sym e ∙ d in absurd (cc))
+steps_by s t top c o new next (Over w a near y) = let k = changes s t (Some c) None w y in inr (record {
+  free = λ u z. (let q : outcome.Ended a ≡ outcome.Blocked u = z in cc);
+  moved = λ p z. (let q : outcome.Ended a ≡ outcome.Moved p = z in absurd (cc));
+  mappings = k.mappings;
+  keeps = k.keeps;
+  grows = k.grows;
+  nearer = near top;
+})
 
--- a turn that goes on, ends or waits does so as a step of its call
-of_turn : {P : Type 0} (call : P → Call) (s : State) (t top : ℕ) (here : P) (turn : Turn P) (o : Outcome) (new : Pool) (next : Option Call)
-    → Turned call s t top here turn new → o ≡ told call turn → next ≡ left call turn → Steps s t top (call here) o new next
-of_turn call s t top here turn o new next h e l = elim h [
-  | inl w ↦ inl (w.0, e ∙ ap (told call) w.1, w.2, l ∙ ap (left call) w.1, w.3)
-  | inr w ↦ inr (record {
-    free = unblocked call turn o e w.goes;
-    moved = word_there call turn o next e l;
-    mappings = w.mappings;
-    keeps = w.keeps;
-    grows = w.grows;
-    nearer =
-        λ z. subst (λ (m : Option Call). steps_left s.geometry (length (new.mappings t)) top m + 1 ≤ steps_left
-        s.geometry (length (s.mappings t)) top (Some (call here))) (sym l) (w.nearer z);
-  })
-]
-
--- so by the rows of each operation
 pub call_steps : (s : State) (t top : ℕ) (killed grant : Bool) (c : Call) (o : Outcome) (new : Pool) (next : Option Call)
     → Inv s.geometry s → 1 ≤ t → t < s.geometry.tasks + 1 → s.calls t ≡ Some c → CallRow (pool_of s) t killed grant c o new next
     → Steps s t top c o new next
-unfolding CallRow
-call_steps s t top killed grant (call.Touch p) o new next h one l e (turn, row, tells, leaves) =
-    of_turn call.Touch s t top p turn o new next (turned_by call.Touch s t top p turn new (touch_did s t killed grant p turn new h e row))
-    tells leaves
-call_steps s t top killed grant (call.Map p) o new next h one l e (turn, row, tells, leaves) =
-    of_turn call.Map s t top p turn o new next (map_turn s t top killed grant p turn new h e row) tells leaves
-call_steps s t top killed grant (call.Alloc p) o new next h one l e (turn, row, tells, leaves) =
-    of_turn call.Alloc s t top p turn o new next (turned_by call.Alloc s t top p turn new (alloc_did s t killed grant p turn new h e row))
-    tells leaves
-call_steps s t top killed grant (call.Punch p) o new next h one l e (turn, row, tells, leaves) =
-    of_turn call.Punch s t top p turn o new next (turned_by call.Punch s t top p turn new (punch_did s t killed grant p turn new h one l e row))
-    tells leaves
-call_steps s t top killed grant (call.Truncate p) o new next h one l e (turn, row, tells, leaves) =
-    of_turn call.Truncate s t top p turn o new next (truncate_turn s t top killed grant p turn new h one l e row) tells leaves
-call_steps s t top killed grant (call.Unmap p) o new next h one l e (turn, row, tells, leaves) =
-    of_turn call.Unmap s t top p turn o new next (unmap_turn s t top killed grant p turn new row) tells leaves
-call_steps s t top killed grant (call.Exit p) o new next h one l e (turn, row, tells, leaves) =
-    of_turn call.Exit s t top p turn o new next (exit_turn s t top killed grant p turn new h e row) tells leaves
+call_steps s t top killed grant c o new next h one l e row =
+    steps_by s t top c o new next (call_did s t killed grant c o new next h one l e row)
 
 -- a task dies only where its call is left with nothing
 pub lives_some : (lives : ℕ → Life) (t : ℕ) (c d : Call) → lives_after lives t c (Some d) ≡ lives

@@ -82,6 +82,7 @@ evicts g s t b c f i x h l e in_files same same_held none some same_change balan
             files = record {
               page = λ k j a. other u d k j a;
               mark = λ k j a w r. r;
+              unmark = λ k j a b r. r;
               lock = λ k a. (a, refl, λ j r. r);
             };
             tables = same_tables;
@@ -177,6 +178,7 @@ deletes g s t b c f i spare h l e in_files in_limit same same_held same_hand sam
             files = record {
               page = λ k j a. refl;
               mark = λ k j a w z. other_slot u d k j a ∙ z;
+              unmark = λ k j a b z. other_slot u d k j a ∙ z;
               lock = λ k a. (a, refl, λ j z. other_lock u d k j a ∙ z);
             };
             tables = same_tables;

@@ -15,7 +15,7 @@ use Rattle.hp_base.proofs.Totals.{total_none, total_same}
 use Rattle.hp_frames.specs.declared.frame.FrameState.{FrameState}
 use Rattle.hp_frames.specs.declared.frame.FrameState.TheVariants as state
 use Rattle.hp_machine.specs.State.{Geometry, Pool, State, pool_of, with_pool, is_alive, is_killed, is_dead}
-use Rattle.hp_machine.specs.Events.{Row, CallRow, BeginRow, StepRow, KillRow, Run, IsReached, opening, first, is_exit, lives_after, left}
+use Rattle.hp_machine.specs.Events.{Row, CallRow, BeginRow, StepRow, KillRow, Run, IsReached, opening, first, is_exit, lives_after}
 use Rattle.hp_machine.specs.Headline.{Headline, Place, Free, Hand, Page, Retired, IsAt, OnePlace}
 use Rattle.hp_machine.specs.Views.{less, more}
 use Rattle.hp_machine.specs.declared.outcome.Life.{Life}
@@ -23,19 +23,14 @@ use Rattle.hp_machine.specs.declared.outcome.Life.TheVariants as life
 use Rattle.hp_machine.specs.declared.outcome.Outcome.{Outcome}
 use Rattle.hp_machine.specs.declared.call.Call.{Call}
 use Rattle.hp_machine.specs.declared.call.Call.TheVariants as call
-use Rattle.hp_machine.specs.declared.call.Turn.{Turn}
 use Rattle.hp_laws.proofs.Deciding.{never}
 use Rattle.hp_laws.proofs.Invariant
-use Rattle.hp_laws.proofs.Invariant.{Inv, stays, to}
+use Rattle.hp_laws.proofs.Invariant.{Inv, stays}
 use Rattle.hp_laws.proofs.Passing.{ahead_locked, locks_file}
 use Rattle.hp_laws.proofs.Resizing.{reframed, resize_cases, shift_keeps}
-use Rattle.hp_laws.proofs.Shared.{after, by_test, by_option}
-use Rattle.hp_laws.proofs.AllocKeeps.{alloc_row}
-use Rattle.hp_laws.proofs.MapKeeps.{map_row}
-use Rattle.hp_laws.proofs.PunchKeeps.{punch_row}
-use Rattle.hp_laws.proofs.TouchKeeps.{touch_row}
-use Rattle.hp_laws.proofs.TruncateKeeps.{truncate_row}
-use Rattle.hp_laws.proofs.UnmapKeeps.{unmap_row, exit_row}
+use Rattle.hp_laws.proofs.Shared.{by_test, by_option}
+use Rattle.hp_laws.proofs.ByWrite.{keeps_inv}
+use Rattle.hp_laws.proofs.Steps.{call_did}
 
 -- tasks that aren't there are dead, and a dead task has no call in flight
 pub record Lives (tasks : ℕ) (lives : ℕ → Life) (calls : ℕ → Option Call) : Type 0 where
@@ -81,32 +76,12 @@ first_keeps s t (op.Punch f from len) h l e = stays s.geometry s t None _ h l e 
 first_keeps s t (op.Truncate f new) h l e = stays s.geometry s t None _ h l e refl tt (record { slot = tt; lock = tt; facts = tt })
 first_keeps s t op.Exit h l e = stays s.geometry s t None _ h l e refl tt (record { slot = tt; lock = tt; facts = tt })
 
--- the state after a turn that is told, with the call that it leaves
-told_state : {P : Type 0} (call : P → Call) (s : State) (t : ℕ) (turn : Turn P) (new : Pool) (next : Option Call)
-    → next ≡ left call turn → Inv s.geometry (after call s t turn new)
-    → Inv s.geometry (record (with_pool s new) { calls = put s.calls t next })
-told_state call s t turn new next e h =
-    subst (λ (n : Option Call). Inv s.geometry (record (with_pool s new) { calls = put s.calls t n })) (sym e) h
-
 -- one step of a call keeps the invariant
 pub call_keeps : (s : State) (t : ℕ) (killed grant : Bool) (c : Call) (o : Outcome) (new : Pool) (next : Option Call)
     → Inv s.geometry s → 1 ≤ t → t < s.geometry.tasks + 1 → s.calls t ≡ Some c → CallRow (pool_of s) t killed grant c o new next
     → Inv s.geometry (record (with_pool s new) { calls = put s.calls t next })
-unfolding CallRow
-call_keeps s t killed grant (call.Touch p) o new next h one l e (turn, row, tells, leaves) =
-    told_state call.Touch s t turn new next leaves (touch_row s t killed grant p turn new h one l e row)
-call_keeps s t killed grant (call.Map p) o new next h one l e (turn, row, tells, leaves) =
-    told_state call.Map s t turn new next leaves (map_row s t killed grant p turn new h l e row)
-call_keeps s t killed grant (call.Alloc p) o new next h one l e (turn, row, tells, leaves) =
-    told_state call.Alloc s t turn new next leaves (alloc_row s t killed grant p turn new h l e row)
-call_keeps s t killed grant (call.Punch p) o new next h one l e (turn, row, tells, leaves) =
-    told_state call.Punch s t turn new next leaves (punch_row s t killed grant p turn new h one l e row)
-call_keeps s t killed grant (call.Truncate p) o new next h one l e (turn, row, tells, leaves) =
-    told_state call.Truncate s t turn new next leaves (truncate_row s t killed grant p turn new h one l e row)
-call_keeps s t killed grant (call.Unmap p) o new next h one l e (turn, row, tells, leaves) =
-    told_state call.Unmap s t turn new next leaves (unmap_row s t killed grant p turn new h l e row)
-call_keeps s t killed grant (call.Exit p) o new next h one l e (turn, row, tells, leaves) =
-    told_state call.Exit s t turn new next leaves (exit_row s t killed grant p turn new h l e row)
+call_keeps s t killed grant c o new next h one l e row =
+    keeps_inv s t c o new next h one l e (call_did s t killed grant c o new next h one l e row)
 
 -- a task dies only where no call is left
 lives_on : (tasks : ℕ) (lives : ℕ → Life) (calls : ℕ → Option Call) (t : ℕ) (c : Call) (next : Option Call)

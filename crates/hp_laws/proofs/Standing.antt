@@ -117,6 +117,16 @@ AtChange A s f i change = record {
   marked : (change.missing == 0) ≡ true → s.reserved f i ≡ true;
 }
 
+-- the same where nobody else may reserve the index: it is reserved only if the change missed nothing
+abbrev pub AtOwnChange : (aim : Type 0) → State → (file index : ℕ) → Change → Type 0
+AtOwnChange A s f i change = record {
+  aim : A;
+  bare : s.pages f i ≡ None;
+  one : IsOne change i;
+  marked : (change.missing == 0) ≡ true → s.reserved f i ≡ true;
+  unmarked : (change.missing == 0) ≡ false → s.reserved f i ≡ false;
+}
+
 -- the index has a page
 abbrev pub AtPage : (aim : Type 0) → State → (file index : ℕ) → Type 0
 AtPage A s f i = record { aim : A; cached : s.pages f i ≢ None }
@@ -202,10 +212,10 @@ Facts g s u (Some (call.Alloc (alloc.Head p))) = AtIndex (alloc_aim g p.allocati
 Facts g s u (Some (call.Alloc (alloc.Want p))) = AtIndex (alloc_aim g p.allocation p.index)
 Facts g s u (Some (call.Alloc (alloc.Locked p))) = AtIndex (alloc_aim g p.allocation p.index)
 Facts g s u (Some (call.Alloc (alloc.Missing p))) = AtBare (alloc_aim g p.allocation p.index) s p.allocation.file p.index
-Facts g s u (Some (call.Alloc (alloc.Changed p))) = AtChange (alloc_aim g p.allocation p.index) s p.allocation.file p.index p.pending
+Facts g s u (Some (call.Alloc (alloc.Changed p))) = AtOwnChange (alloc_aim g p.allocation p.index) s p.allocation.file p.index p.pending
 Facts g s u (Some (call.Alloc (alloc.Abort p))) = AtBare (alloc_aim g p.allocation p.index) s p.allocation.file p.index
-Facts g s u (Some (call.Alloc (alloc.Taken p))) = AtChange (alloc_aim g p.allocation p.index) s p.allocation.file p.index p.pending
-Facts g s u (Some (call.Alloc (alloc.Settle p))) = AtMarked (alloc_aim g p.allocation p.index) s p.allocation.file p.index
+Facts g s u (Some (call.Alloc (alloc.Taken p))) = AtOwnChange (alloc_aim g p.allocation p.index) s p.allocation.file p.index p.pending
+Facts g s u (Some (call.Alloc (alloc.Settle p))) = ⊥
 Facts g s u (Some (call.Alloc (alloc.Committed p))) = AtMarked (alloc_aim g p.allocation p.index) s p.allocation.file p.index
 Facts g s u (Some (call.Alloc (alloc.Restore p))) = AtMarked (alloc_aim g p.allocation p.index) s p.allocation.file p.index
 Facts g s u (Some (call.Alloc (alloc.Unslot p))) = AtIndex (alloc_aim g p.allocation p.index)

@@ -1,6 +1,6 @@
 -- A call goes on standing where what it stands on stays.
 use Rattle.std.proofs.Common.{◌≡◌, ◌≢◌, ℕ, ◌+◌, ◌≤◌, refl, ap, sym, ◌∙◌, arith, inl, inr, ◌⊎◌}
-use Rattle.std.specs.Prelude.{Bool, true, Option, Some, None, IfSome, List}
+use Rattle.std.specs.Prelude.{Bool, true, false, Option, Some, None, IfSome, List}
 use Rattle.hp_base.specs.Indices.{count_within}
 use Rattle.hp_base.specs.Mappings.{find, fits, is_base, in_mapping}
 use Rattle.hp_base.specs.declared.mapping.Mapping.{Mapping}
@@ -22,7 +22,7 @@ use Rattle.hp_machine.specs.declared.call.Call.{Call}
 use Rattle.hp_machine.specs.declared.call.Call.TheVariants as call
 use Rattle.hp_laws.specs.Sweep.{fills}
 use Rattle.hp_laws.proofs.Standing.{HasSlot, HasLock, Aimed, InSweep, IsBased, IsCounted, IsEmptied, ClearedBelow, Facts, Stands}
-use Rattle.hp_laws.proofs.Standing.{AtBare, AtMarked, AtChange, AtClearing, AtCleared}
+use Rattle.hp_laws.proofs.Standing.{AtBare, AtMarked, AtChange, AtOwnChange, AtClearing, AtCleared}
 
 -- what stays of files, of which task u's call c may stand on what lies at its slot or under its lock
 pub record FilesKeep (g : Geometry) (slots locks locks_after : ℕ → Option ℕ) (size size_after : ℕ → ℕ)
@@ -30,6 +30,7 @@ pub record FilesKeep (g : Geometry) (slots locks locks_after : ℕ → Option �
   pub page : (f i : ℕ) → slots (slot_of g f i) ≡ Some u → pages_after f i ≡ pages f i
   pub mark : (f i : ℕ) → slots (slot_of g f i) ≡ Some u → (fills c ≡ Some (f, i)) ⊎ (locked_file c ≡ Some f)
       → reserved f i ≡ true → reserved_after f i ≡ true
+  pub unmark : (f i : ℕ) → slots (slot_of g f i) ≡ Some u → locks f ≡ Some u → reserved f i ≡ false → reserved_after f i ≡ false
   pub lock : (f : ℕ) → locks f ≡ Some u → (locks_after f ≡ Some u) × (size_after f ≡ size f)
       × ((j : ℕ) → reserved f j ≡ true → reserved_after f j ≡ true)
 
@@ -37,7 +38,7 @@ pub record FilesKeep (g : Geometry) (slots locks locks_after : ℕ → Option �
 pub same_files : {g : Geometry} {slots locks : ℕ → Option ℕ} {size : ℕ → ℕ} {reserved : ℕ → ℕ → Bool} {pages : ℕ → ℕ → Option ℕ}
     {u : ℕ} {c : Option Call}
     → FilesKeep g slots locks locks size size reserved reserved pages pages u c
-same_files = record { page = λ f i a. refl; mark = λ f i a w r. r; lock = λ f a. (a, refl, λ j r. r) }
+same_files = record { page = λ f i a. refl; mark = λ f i a w r. r; unmark = λ f i a b r. r; lock = λ f a. (a, refl, λ j r. r) }
 
 -- what stays of tasks: what is translated at the slot, and task u's own mappings and entries
 pub record TablesKeep (g : Geometry) (slots : ℕ → Option ℕ) (mappings_before mappings_after : ℕ → List Mapping)
@@ -141,6 +142,17 @@ change_after f i change k held counts aim h = record {
   marked = λ d. k.mark f i held counts (h.marked d);
 }
 
+-- and by the one call that may reserve it
+own_change_after : {g : Geometry} {s n : State} {u : ℕ} {c : Option Call} {A B : Type 0} (f i : ℕ) (change : Change) → Keeps g s n u c
+    → HasSlot g s u f i → HasLock s u f → locked_file c ≡ Some f → B → AtOwnChange A s f i change → AtOwnChange B n f i change
+own_change_after f i change k held lock locked aim h = record {
+  aim = aim;
+  bare = k.page f i held ∙ h.bare;
+  one = h.one;
+  marked = λ d. k.mark f i held (inr locked) (h.marked d);
+  unmarked = λ d. k.unmark f i held lock (h.unmarked d);
+}
+
 -- an index with a page
 page_after : {g : Geometry} {s n : State} {u : ℕ} {c : Option Call} (f i : ℕ) → Keeps g s n u c → HasSlot g s u f i
     → s.pages f i ≢ None → n.pages f i ≢ None
@@ -224,12 +236,11 @@ facts_after g s n u (Some (call.Alloc (alloc.Want p))) k h = h.facts
 facts_after g s n u (Some (call.Alloc (alloc.Locked p))) k h = h.facts
 facts_after g s n u (Some (call.Alloc (alloc.Missing p))) k h = bare_after p.allocation.file p.index k h.slot h.facts.aim h.facts
 facts_after g s n u (Some (call.Alloc (alloc.Changed p))) k h =
-    change_after p.allocation.file p.index p.pending k h.slot (inr refl) h.facts.aim h.facts
+    own_change_after p.allocation.file p.index p.pending k h.slot h.lock refl h.facts.aim h.facts
 facts_after g s n u (Some (call.Alloc (alloc.Abort p))) k h = bare_after p.allocation.file p.index k h.slot h.facts.aim h.facts
 facts_after g s n u (Some (call.Alloc (alloc.Taken p))) k h =
-    change_after p.allocation.file p.index p.pending k h.slot (inr refl) h.facts.aim h.facts
-facts_after g s n u (Some (call.Alloc (alloc.Settle p))) k h =
-    marked_after p.allocation.file p.index k h.slot (inr refl) h.facts.aim h.facts
+    own_change_after p.allocation.file p.index p.pending k h.slot h.lock refl h.facts.aim h.facts
+facts_after g s n u (Some (call.Alloc (alloc.Settle p))) k h = h.facts
 facts_after g s n u (Some (call.Alloc (alloc.Committed p))) k h =
     marked_after p.allocation.file p.index k h.slot (inr refl) h.facts.aim h.facts
 facts_after g s n u (Some (call.Alloc (alloc.Restore p))) k h =

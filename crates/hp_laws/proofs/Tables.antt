@@ -229,6 +229,7 @@ extends g s t b c f new h l e same held grows low nobody fill own =
             files = record {
               page = λ k j a. refl;
               mark = λ k j a w r. r;
+              unmark = λ k j a b r. r;
               lock = λ k a. (a, other_size s t u f k new d held a, λ j r. r);
             };
             tables = same_tables;
@@ -306,6 +307,7 @@ enters_area g s t b c a h l e same in_files some in_limit clear held nobody fill
         files = record {
           page = λ k j x. refl;
           mark = λ k j x w r. r;
+          unmark = λ k j x b r. r;
           lock = λ f y. (y, other_size s t u a.file f (max (s.size a.file) (a.from + a.len)) d held y, λ j r. r);
         };
         tables = record {

@@ -1,13 +1,14 @@
 -- What a step writes.
-use Rattle.std.specs.Prelude.{ℕ, ◌+◌, ◌-◌, ◌&&◌, false, Some, None, max, nat_lt}
+use Rattle.std.specs.Prelude.{ℕ, ◌+◌, ◌-◌, ◌&&◌, true, false, Some, None, max, nat_lt}
 use Rattle.std.specs.Prelude.{if◌then◌else◌}
 use Rattle.hp_base.specs.Numbers.{put, put2}
-use Rattle.hp_base.specs.Indices.{splits}
-use Rattle.hp_base.specs.Mappings.{without_index}
+use Rattle.hp_base.specs.Indices.{splits, cut_tail}
+use Rattle.hp_base.specs.Mappings.{without_index, entered, without}
+use Rattle.hp_base.specs.declared.mapping.Mapping.{Mapping}
 use Rattle.hp_frames.specs.declared.frame.FrameState.TheVariants.{Free, Hand}
 use Rattle.hp_region.specs.Change.{Change}
 use Rattle.hp_machine.specs.State.{Pool, slot_of}
-use Rattle.hp_machine.specs.Parts.{unlocked, unslotted, aborted, committed, placed, restored, frame_after}
+use Rattle.hp_machine.specs.Parts.{unlocked, unslotted, aborted, committed, placed, restored, frame_after, cleared}
 use Rattle.hp_machine.specs.declared.touch.Access.{Access}
 
 -- what a step writes
@@ -32,6 +33,15 @@ pub data Write : Type 0 where
   Evicts : (file index frame : ℕ) → Write
   Deletes : (file index : ℕ) → Write
   FreesUnreserved : (frame : ℕ) → Write
+  Frees : (frame : ℕ) → Write
+  Cuts : (file size : ℕ) → Write
+  Passes : (file index size : ℕ) → Write
+  CutsTail : (file size : ℕ) → Write
+  Prepares : Write
+  Accounts : (missing : ℕ) → Write
+  EntersArea : Mapping → Write
+  Empties : (base : ℕ) → Write
+  Drops : (base : ℕ) → Write
 
 -- the pool after it
 abbrev pub written : Pool → (task : ℕ) → Write → Pool
@@ -59,3 +69,16 @@ written s t (Deletes f i) =
       spare = put s.spare f (if splits (s.reserved f) i && nat_lt (s.pending f) (s.spare f) then s.spare f - 1 else s.spare f);
     }
 written s t (FreesUnreserved x) = record s { frame = put s.frame x Free; used = s.used - 1 }
+written s t (Frees x) = record s { frame = put s.frame x Free }
+written s t (Cuts f new) = record s { size = put s.size f new }
+written s t (Passes f i new) = unslotted s f i
+written s t (CutsTail f new) = record s { reserved = put s.reserved f (cut_tail (s.reserved f) new) }
+written s t Prepares = record s { ready = put s.ready t true }
+written s t (Accounts n) = record s { resv = s.resv + n; used = s.used + n }
+written s t (EntersArea a) = record s {
+  mappings = put s.mappings t (entered (s.mappings t) a);
+  ready = put s.ready t false;
+  size = put s.size a.file (max (s.size a.file) (a.from + a.len));
+}
+written s t (Empties base) = cleared s t base
+written s t (Drops base) = record s { mappings = put s.mappings t (without (s.mappings t) base) }

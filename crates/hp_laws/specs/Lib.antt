@@ -7,4 +7,5 @@ pub mod Promises
 pub mod Protocol
 pub mod Sweep
 pub mod StepsLeft
+pub mod Unreached
 pub mod Words

@@ -47,6 +47,7 @@ ghost use Rattle.hp_laws.specs.Laws.{TouchNeverLacks, AllocNeverLacks, Truncatio
 ghost use Rattle.hp_laws.specs.Laws.{SlotHoldersGoOn, LockHoldersWaitForSlots, SomeCallGoesOn};
 ghost use Rattle.hp_laws.specs.Laws.{StepsRunOut, OthersStay, BeginsBegin, CallsStep, CallersLive};
 ghost use Rattle.hp_laws.specs.Histories.{Moment, History, in_order};
+ghost use Rattle.hp_laws.specs.Unreached.{AllocAddsAll, AllocNeverSettles};
 ghost use Rattle.hp_laws.specs.Protocol.{ChangesAreCalls, SparesSuffice, PagesAreReserved, LiesWithin, HandsApart, KeepsItsFrames, BareWhereMade};
 ghost use Rattle.hp_laws.specs.Protocol.{GoesUnderLock, PassedIsBare, truncation_of, IsCut, IsAtRest, HoldsNothing};
 
@@ -218,6 +219,13 @@ pub fn an_evicted_index_stays_reserved()
 /// nothing cut off.
 pub fn a_truncation_evicts_no_more_than_it_removes()
     ensures { (s : State) → IsReached s → EvictsFew s }
+{}
+
+/// An allocation adds all that its change found missing to the reserve map, so no run takes it to settle: it holds its
+/// file's lock and the slot of its index, and whoever adds an index holds one of the two.
+pub fn an_alloc_never_settles()
+    ensures adds { (s : State) → IsReached s → AllocAddsAll s }
+    ensures settles { (s : State) → IsReached s → AllocNeverSettles s }
 {}
 
 /// What a map has promised is reserved and below the size, until a punch or a truncation takes it

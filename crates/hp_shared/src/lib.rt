@@ -7,7 +7,8 @@
 #![tactic(auto)]
 
 pub mod calls;
-pub mod cutting;
+pub mod closing;
+mod cutting;
 pub mod entry;
 pub mod fault;
 pub mod halting;

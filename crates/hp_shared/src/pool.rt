@@ -8,12 +8,13 @@ ghost use Rattle.hp_core.specs.State.{CoreState, as_state};
 ghost use Rattle.hp_core.specs.Waiting.{WaitsFor};
 ghost use Rattle.hp_machine.specs.declared.outcome.Outcome.{Outcome};
 ghost use Rattle.hp_shared.specs.Calls.{IsOwn};
-ghost use Rattle.hp_shared.specs.Closing.{ClosesWith};
+ghost use Rattle.hp_shared.specs.Closing.{ClosesWith, entries_of};
 ghost use Rattle.hp_shared.specs.Journal.{gained, is_made, IsOutcomeOf, Follows, IsFromOpening, IsCameTo, Interleaves, FirstFailsAt};
 ghost use Rattle.hp_shared.specs.Seats.{lists_of};
 ghost use Rattle.hp_shared.specs.States.{PoolState, next, pool_with, seat_with, tally_of};
 ghost use Rattle.hp_shared.specs.declared.entry.Entry.{Entry};
 
+use crate::closing::join_shares;
 use crate::cutting::Part;
 use crate::entry::Entry;
 use crate::order::compare;
@@ -180,12 +181,13 @@ impl<L: Ledger> Pool<L> {
         compare(alloc, self.first, self.journal.as_slice(), seats)
     }
 
-    // The core, the journal, and the number of all entries.
-    pub(crate) fn into_closed(self) -> Closed
+    // The core, the journal, and the number of all entries. These are the seats that made them.
+    pub(crate) fn into_closed(self, seats: Vec<Seat<L>>) -> Closed
         ensures core { result.core ≡ self.core }
         ensures first { result.last.first ≡ self.first }
         ensures journal { result.last.entries.items ≡ self.journal }
         ensures entries { result.entries ≡ next self }
+        ensures sum { 0 < length seats.items → length seats.items ≡ L.parts → result.entries ≡ entries_of seats.items }
         ensures run { Follows self.start self.journal self.core }
         ensures origin { (earlier : List Entry) × (length earlier ≡ self.first) × IsFromOpening earlier self.start }
     {
@@ -194,8 +196,9 @@ impl<L: Ledger> Pool<L> {
             start: _,
             first,
             journal,
-            book: _,
+            mut book,
         } = self;
+        join_shares(&mut book, seats);
         Closed {
             core,
             entries: first + journal.len() as u64,

@@ -145,6 +145,21 @@ impl<L: Ledger> Seat<L> {
         let _ = &self.list;
     }
 
+    // What it has of the ledger.
+    pub(crate) fn into_share(self) -> Share<L>
+        ensures parts { result.parts ≡ 1 }
+        ensures amount { result.amount ≡ self.entries }
+    {
+        let Seat {
+            task: _,
+            earlier: _,
+            list: _,
+            progress: _,
+            share,
+        } = self;
+        share
+    }
+
     // Makes of its entries so far earlier ones.
     pub(crate) fn empty(&mut self)
         requires { self.old.earlier + length self.old.list < 2 ^ 64 }

@@ -5,11 +5,12 @@ ghost use Rattle.hp_base.specs.Text.{sizes};
 ghost use Rattle.hp_core.specs.State.{CoreState};
 ghost use Rattle.hp_shared.specs.Journal.{IsOutcomeOf, IsCameTo};
 ghost use Rattle.hp_shared.specs.Calls.{IsOwn};
-ghost use Rattle.hp_shared.specs.Closing.{ClosesWith, RefusesClose, IsDisagree};
+ghost use Rattle.hp_shared.specs.Closing.{ClosesWith, RefusesClose, IsDisagree, entries_of};
 ghost use Rattle.hp_shared.specs.Cutting.{emptied};
 ghost use Rattle.hp_shared.specs.Seats.{new_seat, has_seat as seated, AllSeated, LeastMissing, lists_of};
 ghost use Rattle.hp_shared.specs.States.{seat_with, tally_of};
 
+use crate::closing::KeptOpen;
 use crate::cutting::Part;
 use crate::fault::{CallFault, CloseFault, CutFault};
 use crate::pool::{Closed, Pool};
@@ -158,11 +159,12 @@ impl<L: Ledger> Shared<L> {
     }
 
     /// Ends the pool, where the seats are all there and their lists make up one run. It asks first whether a seat is
-    /// missing.
+    /// missing. The seats that the pool began with have all parts of the ledger: what they made comes to all entries.
     pub fn close(self, alloc: Global, seats: Vec<Seat<L>>) -> Result<Closed, CloseRefused<L>>
         ensures seated { OnOk result (AllSeated self.tasks seats.items) }
         ensures run { IfOk result (λ closed. ClosesWith seats.items closed.core closed.last.first closed.last.entries.items) }
         ensures entries { IfOk result (λ closed. closed.entries ≡ closed.last.first + length closed.last.entries.items) }
+        ensures sum { IfOk result (λ closed. 0 < length seats.items → length seats.items ≡ L.parts → closed.entries ≡ entries_of seats.items) }
         ensures refused { IfErr result (λ refused. RefusesClose self.tasks seats.items refused.fault) }
         ensures back { IfErr result (λ refused. MatchOption refused.back (IsDisagree refused.fault)
             (λ back. (back.0.tasks ≡ self.tasks) × (back.1 ≡ seats))) }
@@ -174,21 +176,20 @@ impl<L: Ledger> Shared<L> {
             });
         }
         let Shared { tasks, pool, moved } = self;
-        let pool = pool.into_inner();
-        match pool.compare(alloc, seats.as_slice()) {
-            Ok(Ok(())) => Ok(pool.into_closed()),
-            Ok(Err(position)) => Err(CloseRefused {
-                fault: CloseFault::Disagree(position),
-                back: None,
-            }),
-            Err(AllocError) => {
+        match pool.into_inner().close_seated(alloc, seats) {
+            Ok(closed) => Ok(closed),
+            Err(KeptOpen { fault, back: None }) => Err(CloseRefused { fault, back: None }),
+            Err(KeptOpen {
+                fault,
+                back: Some((pool, seats)),
+            }) => {
                 let shared = Shared {
                     tasks,
                     pool: Mutex::new(pool),
                     moved,
                 };
                 Err(CloseRefused {
-                    fault: CloseFault::Memory,
+                    fault,
                     back: Some((shared, seats)),
                 })
             }

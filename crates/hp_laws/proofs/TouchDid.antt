@@ -1,5 +1,5 @@
--- What each row of a touch did, so it keeps the invariant.
-use Rattle.std.proofs.Common.{◌≡◌, ◌≢◌, ℕ, ◌+◌, ◌<◌, ◌≤◌, refl, ap, sym, ◌∙◌, arith, inl}
+-- What each row of a touch did.
+use Rattle.std.proofs.Common.{◌≡◌, ◌≢◌, ℕ, ◌<◌, ◌≤◌, refl, ap, sym, ◌∙◌, subst, arith, inl, inr}
 use Rattle.std.specs.Prelude.{Bool, true, false, not, ◌&&◌, nat_le, nat_lt, is_some, ◌==◌, Option, Some, None}
 use Rattle.std.proofs.lemmas.Bool.Decides.{nat_tests}
 use Rattle.hp_base.specs.Indices.{is_within, missing}
@@ -11,11 +11,11 @@ use Rattle.hp_machine.specs.declared.touch.TouchPhase.{TouchPhase}
 use Rattle.hp_machine.specs.declared.touch.TouchPhase.TheVariants as at
 use Rattle.hp_machine.specs.declared.call.Call.TheVariants as call
 use Rattle.hp_laws.specs.Sweep.{passed}
+use Rattle.hp_laws.proofs.Standing.{HasSlot}
 use Rattle.hp_laws.proofs.Invariant.{Inv}
 use Rattle.hp_laws.proofs.Passing.{reached_not_passed}
 use Rattle.hp_laws.proofs.Tables.{find_within}
-use Rattle.hp_laws.proofs.ByWrite.{keeps_inv}
-use Rattle.hp_laws.proofs.Shared.{after, by_test, by_option, stands_at, reach_at, one_change, own_reserved}
+use Rattle.hp_laws.proofs.Shared.{by_test, by_option, stands_at, reach_at, one_change, own_reserved}
 use Rattle.hp_laws.proofs.Writes.{Nothing, LeavesSlot, Opens, Aborts, Commits, Settles, Places, Restores, Enters, Accesses}
 use Rattle.hp_machine.specs.TouchRows.{TouchRow}
 use Rattle.hp_machine.specs.declared.call.Turn.{Turn}
@@ -43,7 +43,7 @@ below_size i size e = grind (arith, nat_tests)
 -- each row of a touch wrote what fits and went on, or waits
 pub touch_did : (s : State) (t : ℕ) (killed grant : Bool) (phase : TouchPhase) (turn : Turn TouchPhase) (new : Pool)
     → Inv s.geometry s → s.calls t ≡ Some (call.Touch phase) → TouchRow (pool_of s) t killed grant phase turn new
-    → Did TouchPhase call.Touch s t phase turn new
+    → Did call.Touch s t phase turn new
 touch_did s t killed grant (at.Look p) turn new h e row =
     by_option (find (s.mappings t) p.vpn) row
     (λ none r. over call.Touch s t (at.Look p) _ turn new Nothing r (λ _ _. omega arith) (ends_fits s t (Some (call.Touch (at.Look p))) refl))
@@ -145,11 +145,14 @@ touch_did s t killed grant (at.Taken p) turn new h e row =
     let nobody : (u j : ℕ) → passed (s.calls u) f j ≡ true → is_within p.pending.from p.pending.to j ≡ true → ⊥ =
     λ u j a w. reached_not_passed s.geometry s f p.touch.index h (reach_at s t _ h e) u
     (ap (passed (s.calls u) f) (in_one p.pending.from p.pending.to p.touch.index j one.begins one.ends w) ∙ a) in
+    let slots = λ (j : ℕ) (w : is_within p.pending.from p.pending.to j ≡ true). subst (HasSlot s.geometry s t f)
+    (in_one p.pending.from p.pending.to p.touch.index j one.begins one.ends w) y.slot in
     by_test (nat_lt (missing (s.reserved f) p.pending.from p.pending.to) p.pending.missing) row
     (λ fewer r. let a = balance.0 fewer in
     went call.Touch s t (at.Taken p) _ turn new (Commits f p.pending) r (λ _ _. omega arith) (record {
       file = y.facts.aim.file;
       limit = limit;
+      sole = inr slots;
       same = refl;
       some = refl;
       none = refl;
@@ -163,6 +166,7 @@ touch_did s t killed grant (at.Taken p) turn new h e row =
     went call.Touch s t (at.Taken p) _ turn new (Commits f p.pending) r (λ _ _. omega arith) (record {
       file = y.facts.aim.file;
       limit = limit;
+      sole = inr slots;
       same = refl;
       some = refl;
       none = refl;
@@ -253,10 +257,3 @@ touch_did s t killed grant (at.Leave p) turn new h e row =
       fill = tt;
       own = record { slot = tt; lock = tt; facts = tt };
     })
-
--- so it keeps the invariant
-pub touch_row : (s : State) (t : ℕ) (killed grant : Bool) (phase : TouchPhase) (turn : Turn TouchPhase) (new : Pool)
-    → Inv s.geometry s → 1 ≤ t → t < s.geometry.tasks + 1 → s.calls t ≡ Some (call.Touch phase)
-    → TouchRow (pool_of s) t killed grant phase turn new → Inv s.geometry (after call.Touch s t turn new)
-touch_row s t killed grant phase turn new h one l e row =
-    keeps_inv call.Touch s t phase turn new h l e (λ _. one) (touch_did s t killed grant phase turn new h e row)

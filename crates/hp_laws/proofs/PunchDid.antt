@@ -1,4 +1,4 @@
--- What each row of a punch did, so it keeps the invariant.
+-- What each row of a punch did.
 use Rattle.std.proofs.Common.{◌≡◌, ℕ, ◌+◌, ◌-◌, ◌<◌, ◌≤◌, refl, ap, arith}
 use Rattle.std.specs.Prelude.{Bool, true, not, ◌&&◌, ◌==◌, nat_lt, nat_le, is_some, Option, Some, None}
 use Rattle.std.proofs.lemmas.Bool.Decides.{nat_tests}
@@ -19,11 +19,10 @@ use Rattle.hp_laws.proofs.Standing.{below_limit, in_first, in_next}
 use Rattle.hp_laws.proofs.Invariant.{Inv}
 use Rattle.hp_laws.proofs.Tables.{cleared_next}
 use Rattle.hp_laws.proofs.Removals.{page_marked}
-use Rattle.hp_laws.proofs.ByWrite.{keeps_inv}
 use Rattle.hp_laws.proofs.Writes.{Nothing, LeavesLock, LeavesSlot, Clears, Evicts, Deletes, Restores, FreesUnreserved}
 use Rattle.hp_laws.proofs.Did.{times_next, first_left, Did, went, over, start_did, want_did}
-use Rattle.hp_laws.proofs.Shared.{after, by_test, stands_at, good_range}
-use Rattle.hp_laws.proofs.TouchKeeps.{some_page}
+use Rattle.hp_laws.proofs.Shared.{by_test, stands_at, good_range}
+use Rattle.hp_laws.proofs.TouchDid.{some_page}
 
 -- an index is at itself
 here_at : (f i : ℕ) → ((f == f) && (i == i)) ≡ true
@@ -32,7 +31,7 @@ here_at f i = grind (arith, nat_tests)
 -- each row of a punch wrote what fits and went on, or waits
 pub punch_did : (s : State) (t : ℕ) (killed grant : Bool) (phase : PunchPhase) (turn : Turn PunchPhase) (new : Pool)
     → Inv s.geometry s → 1 ≤ t → t < s.geometry.tasks + 1 → s.calls t ≡ Some (call.Punch phase)
-    → PunchRow (pool_of s) t killed grant phase turn new → Did PunchPhase call.Punch s t phase turn new
+    → PunchRow (pool_of s) t killed grant phase turn new → Did call.Punch s t phase turn new
 punch_did s t killed grant (at.Start p) turn new h one l e row =
     start_did call.Punch s t killed p.hole.file _ answer.Killed (at.Start p)
     (at.Want (record { hole = p.hole; index = p.hole.from })) turn new row refl refl refl refl refl refl refl
@@ -207,10 +206,3 @@ punch_did s t killed grant (at.Unslot p) turn new h one l e row =
 punch_did s t killed grant (at.Leave p) turn new h one l e row =
     over call.Punch s t (at.Leave p) answer.Done turn new (LeavesLock p.hole.file) row (λ _ _. omega arith)
     (record { over = refl; same = refl; slot = refl; lock = refl; held = (stands_at s t _ h e).lock; done = λ k j. refl })
-
--- so it keeps the invariant
-pub punch_row : (s : State) (t : ℕ) (killed grant : Bool) (phase : PunchPhase) (turn : Turn PunchPhase) (new : Pool)
-    → Inv s.geometry s → 1 ≤ t → t < s.geometry.tasks + 1 → s.calls t ≡ Some (call.Punch phase)
-    → PunchRow (pool_of s) t killed grant phase turn new → Inv s.geometry (after call.Punch s t turn new)
-punch_row s t killed grant phase turn new h one l e row =
-    keeps_inv call.Punch s t phase turn new h l e (λ d. one) (punch_did s t killed grant phase turn new h one l e row)

@@ -1,5 +1,5 @@
--- What each row of an allocation did, so it keeps the invariant.
-use Rattle.std.proofs.Common.{◌≡◌, ℕ, ◌+◌, ◌<◌, ◌≤◌, refl, ap, arith, ◌-◌}
+-- What each row of an allocation did.
+use Rattle.std.proofs.Common.{◌≡◌, ℕ, ◌+◌, ◌≤◌, refl, ap, arith, ◌-◌, inl}
 use Rattle.std.specs.Prelude.{Bool, true, not, ◌&&◌, ◌==◌, nat_lt, is_some, Some}
 use Rattle.hp_base.specs.Indices.{missing}
 use Rattle.hp_base.specs.declared.answer.Answer.{Answer}
@@ -13,21 +13,21 @@ use Rattle.hp_machine.specs.declared.call.Call.TheVariants as call
 use Rattle.hp_machine.specs.declared.call.Turn.{Turn}
 use Rattle.hp_laws.specs.Sweep.{passed}
 use Rattle.hp_laws.specs.Bounds.{times}
-use Rattle.hp_laws.proofs.Deciding.{lt, never}
+use Rattle.hp_laws.proofs.Deciding.{lt}
 use Rattle.hp_laws.proofs.Standing.{below_limit, in_first, in_next}
 use Rattle.hp_laws.proofs.Invariant.{Inv}
 use Rattle.hp_laws.proofs.Passing.{no_passer}
-use Rattle.hp_laws.proofs.ByWrite.{keeps_inv}
-use Rattle.hp_laws.proofs.Shared.{after, by_test, by_option, stands_at, good_range, one_change, own_reserved}
-use Rattle.hp_laws.proofs.TouchKeeps.{no_page}
-use Rattle.hp_laws.proofs.Writes.{Nothing, LeavesLock, LeavesSlot, Opens, Aborts, Commits, Settles, Places, Restores, Grows}
+use Rattle.hp_laws.proofs.Shared.{by_test, by_option, stands_at, good_range, one_change, own_reserved}
+use Rattle.hp_laws.proofs.TouchDid.{no_page}
+use Rattle.hp_laws.proofs.Writes.{Nothing, LeavesLock, LeavesSlot, Opens, Aborts, Commits, Places, Restores, Grows}
 use Rattle.hp_laws.proofs.Fits.{Fit}
-use Rattle.hp_laws.proofs.Did.{times_next, first_left, left_none, left_some, Did, went, over, start_did, want_did, take_did, commit_balance}
+use Rattle.hp_laws.proofs.Did.{times_next, first_left, left_none, left_some, Did, went, over, start_did, want_did, take_did}
+use Rattle.hp_laws.proofs.Did.{commit_balance, as_missed}
 
 -- each row of an allocation wrote what fits and went on, or waits
 pub alloc_did : (s : State) (t : ℕ) (killed grant : Bool) (phase : AllocPhase) (turn : Turn AllocPhase) (new : Pool)
     → Inv s.geometry s → s.calls t ≡ Some (call.Alloc phase) → AllocRow (pool_of s) t killed grant phase turn new
-    → Did AllocPhase call.Alloc s t phase turn new
+    → Did call.Alloc s t phase turn new
 alloc_did s t killed grant (at.Start p) turn new h e row =
     start_did call.Alloc s t killed p.allocation.file _ answer.Interrupted (at.Start p)
     (at.Head (record { allocation = p.allocation; index = p.allocation.from })) turn new row refl refl refl refl refl refl refl
@@ -77,7 +77,11 @@ alloc_did s t killed grant (at.Missing p) turn new h e row =
       balance = refl;
       owed = refl;
       fill = tt;
-      own = record { slot = y.slot; lock = y.lock; facts = record { aim = y.facts.aim; bare = y.facts.bare; one = o.0; marked = o.1 } };
+      own = record {
+        slot = y.slot;
+        lock = y.lock;
+        facts = record { aim = y.facts.aim; bare = y.facts.bare; one = o.0; marked = o.1; unmarked = o.2 };
+      };
     }))
 alloc_did s t killed grant (at.Changed p) turn new h e row =
     let y = stands_at s t _ h e in
@@ -129,23 +133,13 @@ alloc_did s t killed grant (at.Taken p) turn new h e row =
     let nobody = λ (u j : ℕ) (a : passed (s.calls u) f j ≡ true). no_passer s.geometry s t f h y.lock
     (λ j. ap (λ c. passed c f j) e) u j a in
     by_test (nat_lt (missing (s.reserved f) p.pending.from p.pending.to) p.pending.missing) row
-    (λ fewer r. let a = balance.0 fewer in
-    went call.Alloc s t (at.Taken p) _ turn new (Commits f p.pending) r (λ _ _. omega arith) (record {
-      file = y.facts.aim.file;
-      limit = limit;
-      same = refl;
-      some = refl;
-      none = refl;
-      nobody = λ u j a w. nobody u j a;
-      balance = omega arith;
-      owed = omega arith;
-      fill = tt;
-      own = record { slot = y.slot; lock = y.lock; facts = record { aim = y.facts.aim; bare = y.facts.bare; marked = marked } };
-    }))
+    (λ fewer _. let l = lt _ _ fewer in let all = as_missed (s.reserved f) p.pending p.index one y.facts.marked y.facts.unmarked in
+    absurd (omega arith))
     (λ all r. let a = balance.1 all in
     went call.Alloc s t (at.Taken p) _ turn new (Commits f p.pending) r (λ _ _. omega arith) (record {
       file = y.facts.aim.file;
       limit = limit;
+      sole = inl y.lock;
       same = refl;
       some = refl;
       none = refl;
@@ -155,18 +149,7 @@ alloc_did s t killed grant (at.Taken p) turn new h e row =
       fill = tt;
       own = record { slot = y.slot; lock = y.lock; facts = record { aim = y.facts.aim; bare = y.facts.bare; marked = marked } };
     }))
-alloc_did s t killed grant (at.Settle p) turn new h e (low, used, row) =
-    let y = stands_at s t _ h e in
-    went call.Alloc s t (at.Settle p) _ turn new (Settles 1 1) row (λ _ _. omega arith) (record {
-      low = low;
-      used = used;
-      same = refl;
-      change = refl;
-      balance = omega arith;
-      owed = refl;
-      fill = tt;
-      own = record { slot = y.slot; lock = y.lock; facts = y.facts };
-    })
+alloc_did s t killed grant (at.Settle p) turn new h e row = absurd (stands_at s t _ h e).facts
 alloc_did s t killed grant (at.Committed p) turn new h e row =
     let y = stands_at s t _ h e in
     let f = p.allocation.file in
@@ -268,10 +251,3 @@ alloc_did s t killed grant (at.Extend p) turn new h e row =
 alloc_did s t killed grant (at.Leave p) turn new h e row =
     over call.Alloc s t (at.Leave p) p.answer turn new (LeavesLock p.allocation.file) row (λ _ _. omega arith)
     (record { over = refl; same = refl; slot = refl; lock = refl; held = (stands_at s t _ h e).lock; done = λ k j. refl })
-
--- so it keeps the invariant
-pub alloc_row : (s : State) (t : ℕ) (killed grant : Bool) (phase : AllocPhase) (turn : Turn AllocPhase) (new : Pool)
-    → Inv s.geometry s → t < s.geometry.tasks + 1 → s.calls t ≡ Some (call.Alloc phase)
-    → AllocRow (pool_of s) t killed grant phase turn new → Inv s.geometry (after call.Alloc s t turn new)
-alloc_row s t killed grant phase turn new h l e row =
-    keeps_inv call.Alloc s t phase turn new h l e (λ d. never d) (alloc_did s t killed grant phase turn new h e row)
