@@ -7,4 +7,5 @@ pub mod OutcomeKinds
 pub mod Lists
 pub mod Mapped
 pub mod Runs
+pub mod Shares
 pub mod Verdicts

@@ -178,11 +178,12 @@ impl<L: Ledger> Shared<L> {
         let Shared { tasks, pool, moved } = self;
         match pool.into_inner().close_seated(alloc, seats) {
             Ok(closed) => Ok(closed),
-            Err(KeptOpen { fault, back: None }) => Err(CloseRefused { fault, back: None }),
-            Err(KeptOpen {
-                fault,
-                back: Some((pool, seats)),
-            }) => {
+            Err(kept) => {
+                let KeptOpen { fault, back } = kept;
+                let Some(back) = back else {
+                    return Err(CloseRefused { fault, back: None });
+                };
+                let (pool, seats) = back;
                 let shared = Shared {
                     tasks,
                     pool: Mutex::new(pool),
