@@ -11,7 +11,7 @@ use crate::following::{
 };
 use hp_base::{Answer, Event, File, Index, Op, Task, Vpn};
 use hp_core::{Core, Outcome, Phase};
-use hp_replay::{MOST_EVENTS, Trace};
+use hp_text::{MOST_EVENTS, Trace};
 use std::alloc::{AllocError, Global};
 
 /// What is to be drawn of a run. Moments are counted from 0: each is an event's.

@@ -7,7 +7,7 @@ ghost use Rattle.hp_explain.specs.Widths.{HasRoom, NoneNarrower};
 use crate::words::{column_of, lay_cell};
 use hp_base::{Answer, Event};
 use hp_core::{Core, Outcome};
-use hp_replay::Trace;
+use hp_text::Trace;
 use std::alloc::{AllocError, Global};
 
 /// A column for what is of no task and one for each task, each of no width.

@@ -6,7 +6,7 @@ use Rattle.std.proofs.lemmas.Grind.{common_steps}
 use Rattle.hp_base.specs.declared.event.Event.{Event}
 use Rattle.hp_explore.specs.declared.line.Finish.{Finish}
 use Rattle.hp_explore.specs.declared.line.RunLine.{RunLine}
-use Rattle.hp_explore.specs.declared.script.Script.{Script}
+use Rattle.hp_text.specs.declared.script.Script.{Script}
 use Rattle.hp_explore.specs.Schedule.{Plan, World, IsStart, Turn, AreRunnable, plan_of}
 use Rattle.hp_explore.specs.Explored.{IsClean, IsRun, IsExplored, line_of, idle_finish, last_finish, turn_limit}
 

@@ -9,7 +9,7 @@ ghost use Rattle.hp_explore.specs.Claims.{AreClaimed, AreLinesOf, AreRuns, AreSl
 use crate::exploring::explore_one;
 use crate::line::RunLine;
 use crate::plan::Plan;
-use crate::script::Script;
+use hp_text::Script;
 use rayon::current_num_threads;
 use rayon::prelude::*;
 use std::alloc::{AllocError, Global};

@@ -9,10 +9,10 @@ use crate::claims::{RunRange, lines_of};
 use crate::line::{Finish, RunLine};
 use crate::plan::{Chances, Plan};
 use crate::runnable_tasks::RunnableTasks;
-use crate::script::Script;
 use crate::walk::Walk;
 use hp_audit::Finding;
 use hp_base::{Event, Op};
+use hp_text::Script;
 use std::alloc::{AllocError, Global};
 use std::thread::Threads;
 
@@ -154,7 +154,7 @@ fn events_of(
 
 /// The events of run 0 of the script's runs that are seeded from `seed` on. Whoever replays them sees that run, to the
 /// counts that its line tells.
-pub fn schedule(
+pub(crate) fn first_run(
     alloc: Global,
     script: &Script,
     seed: u64,

@@ -10,8 +10,8 @@ use Rattle.std.proofs.lemmas.Option.{get_or_from_slice_get}
 use Rattle.std.proofs.lemmas.List.Elements.{All-head, All-push, All-tail, All-weaker}
 use Rattle.std.proofs.lemmas.List.Quantifiers.{Any-push}
 use Rattle.hp_base.specs.declared.event.Op.{Op}
-use Rattle.hp_explore.specs.Schedule.{calls_of}
-use Rattle.hp_explore.specs.declared.script.Script.{Script}
+use Rattle.hp_text.specs.Scripts.{calls_of}
+use Rattle.hp_text.specs.declared.script.Script.{Script}
 use Rattle.hp_shared.specs.declared.entry.Entry.{Entry}
 use Rattle.hp_shared.specs.declared.fault.Reply.{Reply}
 use Rattle.hp_shared.specs.declared.fault.Reply.TheVariants.{Ended, Refused}

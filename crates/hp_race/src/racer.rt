@@ -1,7 +1,7 @@
 //! A task's place in a race: its seat, and the calls that it is to make.
 ghost use Rattle.std.specs.Prelude.{◌≡◌, ◌+◌, ◌||◌, IfOk, All, true, false, length, [], MatchBool};
 ghost use Rattle.std.specs.List.{list_any};
-ghost use Rattle.hp_explore.specs.Schedule.{calls_of};
+ghost use Rattle.hp_text.specs.Scripts.{calls_of};
 ghost use Rattle.hp_race.specs.Calls.{EndsBy, is_exit, may_end};
 ghost use Rattle.hp_race.specs.Racers.{HasMadeIn, HasRun, HasStrayedIn, IsNew, IsSet, SomeStrayedIn, calls_in, is_gone};
 
@@ -9,8 +9,8 @@ use crate::call_range::CallRange;
 use crate::starting_line::StartingLine;
 use hp_base::Op;
 use hp_core::Refusal;
-use hp_explore::Script;
 use hp_shared::{Halting, Reply, Seat, Shared, call};
+use hp_text::Script;
 use std::alloc::{AllocError, Global};
 use std::sync::Wait;
 use std::sync::ledger::Ledger;

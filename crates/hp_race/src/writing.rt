@@ -6,14 +6,13 @@ ghost use Rattle.std.specs.Option.{option_map};
 ghost use Rattle.hp_race.specs.Parts.{IsToldBy};
 ghost use Rattle.hp_race.specs.Text.{run_line};
 ghost use Rattle.hp_race.specs.Writing.{WroteRaces, WroteSomeRaces, WroteSomeTrace, WroteTrace, is_closed};
-ghost use Rattle.hp_replay.specs.Streams.{TellsWrites};
-ghost use Rattle.hp_replay.specs.Writing.{IsWriteFault, Wrote};
+ghost use Rattle.hp_text.specs.Streams.{TellsWrites};
+ghost use Rattle.hp_text.specs.Writing.{IsWriteFault, Wrote};
 
 use crate::line::{Race, Verdict};
 use crate::parts::race_in_parts;
 use crate::racing::{race, race_trace};
-use hp_explore::Script;
-use hp_replay::{ReplayFault, Sink, write_text, write_trace};
+use hp_text::{ReplayFault, Script, Sink, write_text, write_trace};
 use std::alloc::{AllocError, Global};
 use std::num::NonZeroU32;
 use std::sync::Wait;

@@ -2,7 +2,7 @@
 use crate::racing::{Racing, race_command, race_words};
 use crate::working::{WorkWords, work_command, work_words};
 use clap::{Arg, ArgAction, ArgMatches, Command, Error};
-use hp_replay::{Chances, Exploration};
+use hp_explore::{Chances, Exploration};
 use std::alloc::{AllocError, Global};
 use std::convert::AsStr;
 
