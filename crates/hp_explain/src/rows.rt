@@ -7,10 +7,10 @@ ghost use Rattle.hp_text.specs.Writing.{IsWriteFault, Wrote};
 ghost use Rattle.std.specs.Io.KnownBytes.{Appends, Keeps};
 
 use crate::layout::{push_columns, push_titles};
-use crate::words::{column_of, lay_cell};
+use crate::words::lay_cell;
 use hp_base::Event;
 use hp_core::{Core, Outcome};
-use hp_text::{MOST_EVENTS, ReplayFault, Sink, write_text};
+use hp_text::{MOST_EVENTS, ReplayFault, Sink, column_of, write_text};
 use std::alloc::AllocError;
 
 /// Writes what stands over the rows.

@@ -7,3 +7,4 @@ pub mod Writing
 pub mod Collecting
 pub mod Scripts
 pub mod Checking
+pub mod Columns

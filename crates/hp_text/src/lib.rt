@@ -7,6 +7,7 @@
 #![tactic(auto)]
 
 mod checking;
+mod columns;
 mod fault;
 mod feed;
 mod laws;
@@ -17,6 +18,7 @@ mod trace;
 mod writing;
 
 pub use checking::{check_trace, write_count};
+pub use columns::column_of;
 pub use fault::ReplayFault;
 pub use feed::{TraceFeed, TraceLine};
 pub use laws::{bytes_have_one_reading, pieces_do_not_show, what_is_held_is_spelled};
