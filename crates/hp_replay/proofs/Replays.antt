@@ -23,7 +23,7 @@ use Rattle.hp_text.proofs.Bytes.{IsHeld, room}
 use Rattle.hp_text.proofs.BadLines.{NoLine, stops, cut}
 use Rattle.hp_replay.proofs.Running.{PieceRan-append, PieceRanPartly-behind}
 use Rattle.hp_text.proofs.Whole.{opening_is, holds, taken, TraceLines, TakenTrace}
-use Rattle.hp_text.proofs.LastLines.{for_some, with_error, end_cases, cut_at_end}
+use Rattle.hp_text.proofs.LastLines.{for_some, good, with_error, err_is, err_ok, ok_err, end_cases, cut_at_end}
 use Rattle.hp_text.proofs.Fronts.{Front, unbegun, begun, front_of, no_header, bad_rest}
 
 -- ---- the run of a trace
@@ -391,9 +391,6 @@ read_failed from mid to h core o o' g kept =
 
 -- ---- the end of the bytes
 
-abbrev pub good : Result (Unit {0}) ReplayFault
-good = Ok tt
-
 -- the trace that was read
 pub record EndRan (from to : Option (List ℕ)) (core : Option CoreState) (o o' : Option (List ℕ)) : Type 0 where
   pub sizes : Sizes
@@ -410,9 +407,6 @@ end_ran : (from mid to : Option (List ℕ)) (h : FeedState) (core : Option CoreS
     → Going from mid h core o o' → Consumes mid to [] → end_of h ≡ Ok tt → EndRan from to core o o'
 end_ran from mid to h core o o' g read e = by (end_cases h (Ok tt) g.no_fault e)
   where
-    ok_err : (f : ReplayFault) → good ≡ Err f → ⊥
-    ok_err f e = cc
-
     by_ran : h.rest ≡ [] → 0 < h.lines → Ran g.bytes [] g.piece.text core → EndRan from to core o o'
     by_ran none some (before zero_is empty is) =
         absurd (let same : h.lines ≡ (feed_after opening_feed g.bytes).lines = ap (λ (x : FeedState). x.lines)
@@ -472,12 +466,6 @@ not_finished : (from mid to : Option (List ℕ)) (h : FeedState) (core : Option 
     → NotFinished fault h core o' o'' → Stopped fault from to o o''
 not_finished from mid to h core o o' o'' fault g read all (inl (ended, line, kept)) = by (end_cases h (Err fault) g.no_fault ended)
   where
-    err_ok : (f : ReplayFault) → (with_error f) ≡ Ok tt → ⊥
-    err_ok f e = cc
-
-    err_is : (f f' : ReplayFault) → (with_error f) ≡ Err f' → f' ≡ f
-    err_is f f' e = cc
-
     kept_writes : (a b c : Option (List ℕ)) (text : List ℕ) → Appends a b text → Keeps b c → Appends a c text
     kept_writes None b c text p k = tt
     kept_writes (Some a) None c text p k = absurd p
@@ -492,7 +480,7 @@ not_finished from mid to h core o o' o'' fault g read all (inl (ended, line, kep
         let now = feed_after opening_feed g.bytes in
         let no_end = (taken g.bytes (held_is from mid h core o o' g)).held.no_end in
         subst (λ (f : ReplayFault). Stopped f from to o o'')
-        (ap (λ (x : FeedState). fault_at x.lines) (sym held) ∙ err_is fault (fault_at h.lines) is)
+        (ap (λ (x : FeedState). fault_at x.lines) (sym held) ∙ sym (err_is fault (fault_at h.lines) is))
         (line_stopped from to o o'' g.bytes [] g.piece.text core (Consumes-trans from mid to g.bytes [] g.reads read)
         (held_is from mid h core o o' g) g.piece.runs (kept_writes o o' o'' g.piece.text g.piece.wrote kept)
         (λ more. subst (λ (x : List ℕ). 0 < length x) (sym (append-nil now.rest))

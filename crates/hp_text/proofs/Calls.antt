@@ -13,7 +13,7 @@ use Rattle.hp_base.specs.declared.event.Event.{Event}
 use Rattle.hp_text.specs.declared.fault.ReplayFault.{ReplayFault}
 use Rattle.hp_text.specs.declared.fault.ReplayFault.TheVariants.{BadLine, BadHeader, Read, Write, Memory}
 use Rattle.hp_text.specs.Lines.{FeedState, Line, header, event, opening_feed, feed_after, lines_after, listed, fault_at, end_of}
-use Rattle.hp_text.specs.Traces.{HasFault, IsLineFault, SpellsSome}
+use Rattle.hp_text.specs.Traces.{HasFault, IsLineFault}
 use Rattle.hp_text.specs.Collecting.{ReadsTrace}
 use Rattle.hp_text.specs.Checking.{ReadsEvents}
 use Rattle.hp_text.specs.Scripts.{begin_of, IsCall, IsCallLine, AreCalls, HasScriptFault, PieceNotCalls, SpellsSomeScript}
@@ -21,9 +21,9 @@ use Rattle.hp_text.specs.Scripts.{no_line, no_call, no_memory}
 use Rattle.hp_text.specs.Streams.{source_at, IsReadFault}
 use Rattle.hp_text.proofs.Feeding.{feed_after-append, lines_after-append, stays}
 use Rattle.hp_text.proofs.FirstLines.{TookLine, through_parts}
-use Rattle.hp_text.proofs.Drafts.{Adding, Drafting, trace_read}
-use Rattle.hp_text.proofs.OneReading.{no_fault}
-use Rattle.hp_text.proofs.LastLines.{for_some, end_cases, with_error}
+use Rattle.hp_text.proofs.StreamFaults.{line_no_read}
+use Rattle.hp_text.proofs.Drafts.{Adding, Drafting, held_ok, trace_read}
+use Rattle.hp_text.proofs.LastLines.{for_some, end_cases, with_error, err_is, err_ok}
 use Rattle.hp_text.proofs.Whole.{fault_of, end_fault, end_trace, taken}
 use Rattle.hp_text.proofs.ScriptFaults.{calls_both, all_calls, fed_fault, over_fault, other_fault, no_script_fault}
 
@@ -91,10 +91,6 @@ known_at_end (Some whole) None bytes P reads end is = absurd reads
 known_at_end (Some whole) (Some left) bytes P reads end is =
     subst P (sym (reads ∙ (ap (λ (x : List ℕ). bytes ++ x) end ∙ append-nil bytes))) is
 
-held_ok : {from to : Option (List ℕ)} (h : FeedState) (lines : List Line) (d : Drafting from to h lines)
-    → (feed_after opening_feed d.bytes).fault ≡ None
-held_ok h lines d = ap (λ (x : FeedState). x.fault) (sym d.held) ∙ d.no_fault
-
 -- a piece that is no more of a script
 pub piece_fault : (from mid to : Option (List ℕ)) (h : FeedState) (lines : List Line) (piece : List ℕ) (fault : ReplayFault)
     → Drafting from mid h lines → Consumes mid to piece → PieceNotCalls fault h lines piece
@@ -130,14 +126,7 @@ piece_fault from mid to h lines piece fault d read (no_memory is) =
 pub piece_no_read : (fault : ReplayFault) (h : FeedState) (lines : List Line) (piece : List ℕ) (failures : ℕ)
     → PieceNotCalls fault h lines piece
     → failures ≡ source_at fault failures
-piece_no_read fault h lines piece failures (no_line front back parts bad is calls) = line_none fault failures is
-  where
-    line_none : (fault : ReplayFault) (failures : ℕ) → IsLineFault fault → failures ≡ source_at fault failures
-    line_none BadHeader failures is = refl
-    line_none (BadLine n) failures is = refl
-    line_none Read failures is = absurd is
-    line_none Write failures is = absurd is
-    line_none Memory failures is = absurd is
+piece_no_read fault h lines piece failures (no_line front back parts bad is calls) = line_no_read fault failures is
 piece_no_read fault h lines piece failures (no_call front back before e parts ok are calls other is) =
     subst (λ (f : ReplayFault). failures ≡ source_at f failures) (sym is) refl
 piece_no_read fault h lines piece failures (no_memory is) = subst (λ (f : ReplayFault). failures ≡ source_at f failures) (sym is) refl
@@ -147,12 +136,6 @@ end_line : (h : FeedState) (fault : ReplayFault) → h.fault ≡ None → end_of
     → (fault ≡ fault_at h.lines) × (0 < h.lines → 0 < length h.rest)
 end_line h fault ok ended = by (end_cases h (Err fault) ok ended)
   where
-    err_ok : (f : ReplayFault) → with_error f ≡ Ok tt → ⊥
-    err_ok f e = cc
-
-    err_is : (f g : ReplayFault) → with_error f ≡ Err g → f ≡ g
-    err_is f g e = cc
-
     by : ((with_error fault ≡ Ok tt) × (h.rest ≡ []) × (0 < h.lines))
         ⊎ ((with_error fault ≡ Err (fault_at h.lines)) × (0 < h.lines → 0 < length h.rest))
         → (fault ≡ fault_at h.lines) × (0 < h.lines → 0 < length h.rest)
@@ -269,12 +252,6 @@ pub end_bad : (from mid to : Option (List ℕ)) (h : FeedState) (fault : ReplayF
 end_bad from mid to h fault (lines, d) read end ended =
     known_at_end from to (d.bytes ++ []) (λ bytes. HasFault bytes fault) (Consumes-trans from mid to d.bytes [] d.reads read) end
     (subst (λ (x : List ℕ). HasFault x fault) (sym (append-nil d.bytes)) (end_fault d.bytes fault (ap end_of (sym d.held) ∙ ended)))
-
-pub none_spelled : (from : Option (List ℕ)) (fault : ReplayFault) → IfSome from (λ bytes. HasFault bytes fault)
-    → IsLineFault fault
-    → IfSome from (λ bytes. ¬ (SpellsSome bytes))
-none_spelled None fault bad is = tt
-none_spelled (Some all) fault bad is = λ (s : SpellsSome all). no_fault all fault s.sizes s.events is bad s.spells
 
 pub checked : (from mid to : Option (List ℕ)) (h : FeedState) (n : ℕ) → Checking from mid h → Consumes mid to []
     → IsAtEnd to → end_of h ≡ Ok tt

@@ -20,7 +20,7 @@ use Rattle.hp_text.proofs.BadLines.{stops, cut}
 use Rattle.hp_text.proofs.ReadStops.{line_cut, memory_cut, lines_of}
 use Rattle.hp_text.proofs.OneReading.{no_fault}
 use Rattle.hp_text.proofs.FirstLines.{TookLine, through_parts}
-use Rattle.hp_text.proofs.LastLines.{for_some, end_cases, with_error, cut_at_end}
+use Rattle.hp_text.proofs.LastLines.{for_some, end_cases, with_error, err_is, err_ok, cut_at_end}
 use Rattle.hp_text.proofs.Whole.{opening_is, holds, taken, fault_of, end_fault, end_trace}
 
 -- the lines of the front of the piece are added, and this is left
@@ -134,7 +134,7 @@ pub begins : (from : Option (List ℕ)) → Drafting from from opening_feed []
 unfolding feed_after lines_after
 begins from = record { bytes = []; reads = Consumes-nil from; held = refl; lines_are = refl; no_fault = refl }
 
-held_ok : {from to : Option (List ℕ)} (h : FeedState) (lines : List Line) (d : Drafting from to h lines)
+pub held_ok : {from to : Option (List ℕ)} (h : FeedState) (lines : List Line) (d : Drafting from to h lines)
     → (feed_after opening_feed d.bytes).fault ≡ None
 held_ok h lines d = ap (λ (x : FeedState). x.fault) (sym d.held) ∙ d.no_fault
 
@@ -182,7 +182,7 @@ pub record Answers (from to : Option (List ℕ)) (fault : ReplayFault) : Type 0 
   pub bad : IfSome from (λ all. HasFault all fault)
   pub only : IsLineFault fault → IfSome from (λ all. ¬ (SpellsSome all))
 
-none_spelled : (from : Option (List ℕ)) (fault : ReplayFault) → IfSome from (λ all. HasFault all fault)
+pub none_spelled : (from : Option (List ℕ)) (fault : ReplayFault) → IfSome from (λ all. HasFault all fault)
     → IsLineFault fault → IfSome from (λ all. ¬ (SpellsSome all))
 none_spelled None fault bad is = tt
 none_spelled (Some all) fault bad is = λ (s : SpellsSome all). no_fault all fault s.sizes s.events is bad s.spells
@@ -237,12 +237,6 @@ pub end_failed : (from mid to : Option (List ℕ)) (h : FeedState) (lines : List
     → Drafting from mid h lines → Consumes mid to [] → IsAtEnd to → end_of h ≡ Err fault → Answers from to fault
 end_failed from mid to h lines fault d read all ended = by (end_cases h (Err fault) d.no_fault ended)
   where
-    err_ok : (f : ReplayFault) → with_error f ≡ Ok tt → ⊥
-    err_ok f e = cc
-
-    err_is : (f f' : ReplayFault) → with_error f ≡ Err f' → f' ≡ f
-    err_is f f' e = cc
-
     reads : Consumes from to (d.bytes ++ [])
     reads = Consumes-trans from mid to d.bytes [] d.reads read
 
@@ -260,7 +254,7 @@ end_failed from mid to h lines fault d read all ended = by (end_cases h (Err fau
         let now = feed_after opening_feed d.bytes in
         answers from to fault
         (subst (λ (f : ReplayFault). NotRead f from to)
-        (ap (λ (x : FeedState). fault_at x.lines) (sym d.held) ∙ err_is fault (fault_at h.lines) is)
+        (ap (λ (x : FeedState). fault_at x.lines) (sym d.held) ∙ sym (err_is fault (fault_at h.lines) is))
         (line_cut from to d.bytes [] reads ok
         (λ more. subst (λ (x : List ℕ). 0 < length x) (sym (append-nil now.rest))
         (subst (λ (x : FeedState). 0 < x.lines → 0 < length x.rest) d.held some more))

@@ -16,8 +16,20 @@ for_some (Some xs) P all = all xs
 pub read_none : (mid to : Option (List ℕ)) (buf : List ℕ) (n : ℕ) → n ≡ 0 → Consumes mid to (take n buf) → Consumes mid to []
 read_none mid to buf n none read = subst (λ (k : ℕ). Consumes mid to (take k buf)) none read
 
+abbrev pub good : Result (Unit {0}) ReplayFault
+good = Ok tt
+
 abbrev pub with_error : ReplayFault → Result (Unit {0}) ReplayFault
 with_error fault = Err fault
+
+pub err_ok : (f : ReplayFault) → with_error f ≡ Ok tt → ⊥
+err_ok f e = cc
+
+pub err_is : (f g : ReplayFault) → with_error f ≡ Err g → f ≡ g
+err_is f g e = cc
+
+pub ok_err : (g : ReplayFault) → good ≡ Err g → ⊥
+ok_err g e = cc
 
 -- what the end says where no fault is held
 pub end_cases : (h : FeedState) (r : Result (Unit {0}) ReplayFault) → h.fault ≡ None → end_of h ≡ r

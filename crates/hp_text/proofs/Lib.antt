@@ -1,3 +1,4 @@
+pub mod Options
 pub mod Numbers
 pub mod Lines
 pub mod Feeding

@@ -16,6 +16,7 @@ use Rattle.hp_text.specs.Fits.{IsShort, OpFits, EventFits}
 use Rattle.hp_text.specs.Reading.{◌>>=◌, after_word, number_at, field_at, ended, last_at, range_at, pair_at, option_or, behind}
 use Rattle.hp_text.specs.Reading.{range_op_at, plain_op_at, op_at, event_at, last_field_at, quota_at, sizes_at, header_at, limit}
 use Rattle.hp_text.specs.Reading.{word_limit}
+use Rattle.hp_text.proofs.Options.{none_some, some_is}
 use Rattle.hp_text.proofs.Numbers.{chosen, bind_some, number_takes, number_again, word_takes, Stops}
 
 ended_takes : {A : Type 0} (x : A) (bytes : List ℕ) (y : A) → ended x bytes ≡ Some y → (bytes ≡ []) × (x ≡ y)
@@ -111,9 +112,6 @@ behind_some {A} word bytes read other y e = by (after_word word bytes) refl e
     by (Some rest) is e = inl (rest, word_takes word bytes rest is, e)
     by None is e = inr e
 
-some_is : {A : Type 0} (x y : A) → Some x ≡ Some y → x ≡ y
-some_is x y e = cc
-
 abbrev pub Spells : List ℕ → Op → Type 0
 Spells bytes op = (bytes ≡ op_text op) × OpFits op
 
@@ -187,9 +185,6 @@ exit_case bytes rest op parts e =
     let whole : bytes ≡ op_text Exit = parts ∙ ap (λ (t : List ℕ). codes "exit" ++ t) t.0 in
     subst (λ (op : Op). Spells bytes op) t.1 (whole, tt)
 
-none_op : {A : Type 0} {x : A} → None ≡ Some x → ⊥
-none_op e = cc
-
 range_op_takes : (bytes : List ℕ) (op : Op) → range_op_at bytes ≡ Some op → Spells bytes op
 unfolding range_op_at
 range_op_takes bytes op e =
@@ -205,7 +200,7 @@ range_op_takes bytes op e =
                 (λ _ _ _ f. f) (λ _ _ _. refl) w.1 w.2
             | inr e3 ↦ elim (behind_some (codes "punch ") bytes _ _ op e3) [
               | inl w ↦ range_case (codes "punch ") bytes w.0 Punch op (λ _ _ _ f. f) (λ _ _ _. refl) w.1 w.2
-              | inr e4 ↦ absurd (none_op e4)
+              | inr e4 ↦ absurd (none_some e4)
             ]
           ]
         ]
@@ -228,7 +223,7 @@ plain_op_takes bytes op e =
                 (λ file new. sym (append_assoc (codes "trunc") (field file) (field new))) w.1 w.2
             | inr e3 ↦ elim (behind_some (codes "exit") bytes _ _ op e3) [
               | inl w ↦ exit_case bytes w.0 op w.1 w.2
-              | inr e4 ↦ absurd (none_op e4)
+              | inr e4 ↦ absurd (none_some e4)
             ]
           ]
         ]
@@ -306,9 +301,6 @@ event_takes bytes event e =
         ]
       ]
     ]
-  where
-    none_some : {A : Type 0} {x : A} → None ≡ Some x → ⊥
-    none_some e = cc
 
 -- ---- the first line
 
@@ -382,9 +374,6 @@ header_takes bytes s e =
       | inl w ↦ subst (λ (s : Sizes). SpellsHeader bytes s) (some_is _ _ w.1) (whole, w.0)
       | inr w ↦ absurd (none_some w.1)
     ]
-  where
-    none_some : {A : Type 0} {x : A} → None ≡ Some x → ⊥
-    none_some e = cc
 
 last_field_again : (n : ℕ) → IsShort n → last_field_at (field n) ≡ Some n
 unfolding last_field_at

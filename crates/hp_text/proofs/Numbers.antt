@@ -9,6 +9,7 @@ use Rattle.std.proofs.lemmas.Bool.{and_parts, and_from, eqb-true, eqb-false, ne_
 use Rattle.std.proofs.lemmas.Option.{some_pair_parts}
 use Rattle.std.proofs.lemmas.Fmt.{decimal_digit, decimal_step, decimal_by_steps}
 use Rattle.hp_text.specs.Reading.{◌>>=◌, after_word, number_from, number_at}
+use Rattle.hp_text.proofs.Options.{none_some, some_is}
 
 -- which way a test went
 pub chosen : {A : Type 0} (b : Bool) (x y z : A) → cond b x y ≡ z → ((b ≡ true) × (x ≡ z)) ⊎ ((b ≡ false) × (y ≡ z))
@@ -58,9 +59,6 @@ from_takes most n (b ∷ bytes) m rest fits some le e =
           let p = some_pair_parts n m (b ∷ bytes) rest w.1 in
           (rw (← p.0, ← p.1) refl, rw (← p.0) le)
     ]
-  where
-    none_some : {A : Type 0} {x : A} → None ≡ Some x → ⊥
-    none_some e = cc
 
 pub number_takes : (most : ℕ) (bytes : List ℕ) (n : ℕ) (rest : List ℕ) → 9 ≤ most → most < 2 ^ 64
     → number_at most bytes ≡ Some (n, rest) → (bytes ≡ decimal n ++ rest) × (n ≤ most)
@@ -85,9 +83,6 @@ number_takes most (b ∷ bytes) n rest low fits e =
             | inr v ↦ absurd (none_some v.1)
           ]
     ]
-  where
-    none_some : {A : Type 0} {x : A} → None ≡ Some x → ⊥
-    none_some e = cc
 
 -- no digit comes first
 abbrev pub Stops : List ℕ → Type 0
@@ -146,9 +141,3 @@ word_takes word bytes rest e =
           starts_parts word bytes w.0 ∙ ap (λ (t : List ℕ). word ++ t) same
       | inr w ↦ absurd (none_some w.1)
     ]
-  where
-    some_is : {A : Type 0} (x y : A) → Some x ≡ Some y → x ≡ y
-    some_is x y e = cc
-
-    none_some : {A : Type 0} {x : A} → None ≡ Some x → ⊥
-    none_some e = cc

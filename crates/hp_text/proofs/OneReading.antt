@@ -12,12 +12,10 @@ use Rattle.hp_text.specs.Fits.{EventFits}
 use Rattle.hp_text.specs.Reading.{header_at, event_at}
 use Rattle.hp_text.specs.Traces.{BeginsNoHeader, AreWithinLimits, IsTrace, Spells, HasFault, HasBadLine, IsBadRest, IsLineFault}
 use Rattle.hp_text.specs.Traces.{trace_text, events_text, event_line, header_line}
+use Rattle.hp_text.proofs.Options.{some_is}
 use Rattle.hp_text.proofs.Lines.{header_again, event_again}
 use Rattle.hp_text.proofs.Ends.{line_is}
 use Rattle.hp_text.proofs.Widths.{event_width, sizes_width}
-
-some_is : {A : Type 0} (x y : A) → Some x ≡ Some y → x ≡ y
-some_is x y e = cc
 
 -- equal lines are of equal events, and what follows them is equal
 pub same_event : (e f : Event) (xs ys : List ℕ) → EventFits e → EventFits f → event_line e ++ xs ≡ event_line f ++ ys → (e ≡ f) × (xs ≡ ys)

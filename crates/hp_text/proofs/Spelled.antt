@@ -8,6 +8,7 @@ use Rattle.hp_text.specs.declared.fault.ReplayFault.{ReplayFault}
 use Rattle.hp_text.specs.Reading.{header_at, event_at}
 use Rattle.hp_text.specs.Lines.{FeedState, Line, header, event, line_at, take_byte, with_fault, feed_after, lines_after, listed}
 use Rattle.hp_text.specs.Lines.{line_text, AreLines}
+use Rattle.hp_text.proofs.Options.{some_is}
 use Rattle.hp_text.proofs.Numbers.{bind_some}
 use Rattle.hp_text.proofs.Lines.{header_takes, event_takes}
 use Rattle.hp_text.proofs.Feeding.{stays}
@@ -18,9 +19,6 @@ pub record Took (h : FeedState) (next : FeedState × Option Line) (b : ℕ) : Ty
   pub text : flat_map line_text (listed next.1 []) ++ next.0.rest ≡ h.rest ++ (b ∷ [])
   pub lines : next.0.lines ≡ h.lines + length (listed next.1 [])
   pub are : AreLines h.lines (listed next.1 [])
-
-some_is : {A : Type 0} (x y : A) → Some x ≡ Some y → x ≡ y
-some_is x y e = cc
 
 -- the line that the rest spells
 pub line_takes : (n : ℕ) (rest : List ℕ) (l : Line) → line_at n rest ≡ Some l → (rest ++ (10 ∷ []) ≡ line_text l) × AreLines n (l ∷ [])

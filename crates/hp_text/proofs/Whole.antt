@@ -1,7 +1,7 @@
 -- What all bytes say: a trace, or the fault of their first bad line.
 use Rattle.std.proofs.Common.{◌≡◌, ℕ, zero, suc, ◌+◌, ◌<◌, ◌≤◌, List, [], ◌∷◌, ◌++◌, length, Option, Some, None, refl, sym, ap}
 use Rattle.std.proofs.Common.{subst, ◌∙◌, arith, append_assoc, length-append}
-use Rattle.std.specs.Prelude.{Result, Ok, Err, map, All}
+use Rattle.std.specs.Prelude.{Ok, Err, map, All}
 use Rattle.std.specs.List.{flat_map}
 use Rattle.std.proofs.lemmas.List.{append-nil}
 use Rattle.std.proofs.lemmas.List.Elements.{All-nil, All-cons}
@@ -15,6 +15,7 @@ use Rattle.hp_text.specs.Lines.{lines_after, end_of, end_at}
 use Rattle.hp_text.specs.Traces.{IsTrace, Spells, HasFault, trace_text, events_text}
 use Rattle.hp_text.proofs.Bytes.{IsHeld, keeps_held, room}
 use Rattle.hp_text.proofs.BadLines.{NoLine, stops, cut}
+use Rattle.hp_text.proofs.LastLines.{err_is, err_ok, ok_err}
 use Rattle.hp_text.proofs.Spelled.{spelled, no_fault_before}
 
 pub opening_is : IsHeld opening_feed
@@ -163,12 +164,6 @@ end_fault bytes fault e =
     by (feed_after opening_feed bytes).fault (feed_after opening_feed bytes).lines
     (feed_after opening_feed bytes).rest refl refl refl e
   where
-    err_is : (f g : ReplayFault) → (let r : Result (Unit {0}) ReplayFault = Err f in r) ≡ Err g → f ≡ g
-    err_is f g e = cc
-
-    ok_err : (g : ReplayFault) → (let r : Result (Unit {0}) ReplayFault = Ok tt in r) ≡ Err g → ⊥
-    ok_err g e = cc
-
     over : (feed_after opening_feed bytes).fault ≡ None
         → (0 < (feed_after opening_feed bytes).lines → 0 < length (feed_after opening_feed bytes).rest)
         → HasFault bytes (fault_at (feed_after opening_feed bytes).lines)
@@ -202,9 +197,6 @@ end_trace bytes e =
     by (feed_after opening_feed bytes).fault (feed_after opening_feed bytes).lines
     (feed_after opening_feed bytes).rest refl refl refl e
   where
-    err_ok : (f : ReplayFault) → (let r : Result (Unit {0}) ReplayFault = Err f in r) ≡ Ok tt → ⊥
-    err_ok f e = cc
-
     by : (f : Option ReplayFault) (n : ℕ) (rest : List ℕ) → (feed_after opening_feed bytes).fault ≡ f
         → (feed_after opening_feed bytes).lines ≡ n → (feed_after opening_feed bytes).rest ≡ rest
         → end_at f n rest ≡ Ok tt → EndTrace bytes

@@ -1,9 +1,9 @@
 use Rattle.std.proofs.Common.{arith, rules, ◌-◌, ◌<◌, length, take, refl, sym, ◌∙◌, ap}
 use Rattle.std.proofs.lemmas.Result.{err_from_is_err_and}
 use Rattle.std.proofs.lemmas.List.{length-take-le}
-use Rattle.hp_text.proofs.Drafts.{begins, smaller}
+use Rattle.hp_text.proofs.Drafts.{begins, none_spelled, smaller}
 use Rattle.hp_text.proofs.LastLines.{read_none}
-use Rattle.hp_text.proofs.Calls.{checks_on, piece_bad, end_bad, none_spelled, checked}
+use Rattle.hp_text.proofs.Calls.{checks_on, piece_bad, end_bad, checked}
 use Rattle.hp_text.proofs.checking.check_trace.Goals as goal
 
 pub loop-n-init : goal.loop-n-init
