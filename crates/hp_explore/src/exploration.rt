@@ -1,17 +1,19 @@
 //! The lines of a script's explored runs, and one of them as a trace.
-ghost use Rattle.std.specs.Prelude.{◌≡◌, ◌≤◌, ◌<◌, ◌+◌, ◌*◌, ◌/◌, ◌^◌, ◌&&◌, if◌then◌else◌, min, nat_lt, IfOk, IfErr, OnOk, All, length};
+ghost use Rattle.std.specs.Prelude.{◌≡◌, ◌≤◌, ◌<◌, ◌+◌, ◌*◌, ◌/◌, ◌^◌, if◌then◌else◌, min, nat_lt, IfOk, IfErr, OnOk, All, length};
 ghost use Rattle.std.specs.Io.KnownBytes.{Appends};
 ghost use Rattle.std.specs.List.{AllZip, list_all, range_with_len};
 ghost use Rattle.hp_base.specs.Text.{sizes};
 ghost use Rattle.hp_explore.specs.Explored.{EndsWell, IsExplored, IsLine};
 ghost use Rattle.hp_explore.specs.declared.line.RunLine.{RunLine};
+ghost use Rattle.hp_explore.specs.Schedule.{plan_of};
 ghost use Rattle.hp_explore.specs.RunLines.{is_finished, lines_text, WroteRuns, WroteSomeRuns};
 ghost use Rattle.hp_text.specs.Streams.{TellsWrites};
 ghost use Rattle.hp_text.specs.Writing.{IsWriteFault, Wrote};
 
-use crate::exploring::{explore_audited, explore_runs, first_run};
+use crate::claims::{RunRange, lines_of};
+use crate::exploring::{Audit, first_run};
 use crate::line::{Finish, RunLine};
-use crate::plan::Chances;
+use crate::plan::{Chances, Plan};
 use crate::run_lines::write_lines;
 use hp_text::{MOST_EVENTS, ReplayFault, Script, Sink, Trace};
 use std::alloc::{AllocError, Global};
@@ -24,8 +26,7 @@ pub struct Exploration {
     pub seed: u64,
     pub runs: u32,
     pub chances: Chances,
-    /// Whether the audit is run on every turn; it passes, so the lines are the same.
-    pub audited: bool,
+    pub audit: Audit,
 }
 
 /// How many runs are explored before the first lines are written.
@@ -68,37 +69,47 @@ pub fn explore_hostile(
     ensures ends { IfOk result (λ lines. All (λ line. EndsWell line.finish) lines.items) }
     ensures memory { IfErr result (λ fault. fault ≡ ReplayFault.Memory) }
 {
-    let chances = Chances { deny, kill };
-    match explore_runs(rt, alloc, script, seed, 0, runs, chances) {
+    let exploration = Exploration {
+        seed,
+        runs,
+        chances: Chances { deny, kill },
+        audit: Audit::LeftOut,
+    };
+    let plan = &Plan::new(alloc, script, exploration.chances)?;
+    match explore_runs(rt, alloc, script, plan, exploration, 0, runs) {
         Ok(lines) => Ok(lines),
         Err(_) => Err(ReplayFault::Memory),
     }
 }
 
-/// The lines of some of the runs.
-fn explore_part(
+/// The lines of the runs `first` to `first + count - 1` of an exploration, in order. A run's line knows nothing of the other
+/// runs: so the lines of many runs are those of their parts, one after the other. The plan is that of all runs. Nothing in
+/// it waits.
+fn explore_runs(
     rt: &(impl Threads + Sync),
     alloc: Global,
     script: &Script,
+    plan: &Plan,
     exploration: Exploration,
     first: u32,
-    runs: u32,
+    count: u32,
 ) -> Result<Vec<RunLine>, AllocError>
-    requires { first + runs < 2 ^ 32 }
-    ensures { IfOk result (λ lines. AllZip (IsLine script.now exploration.seed exploration.chances.deny exploration.chances.kill)
-        (range_with_len first runs) lines.items) }
+    requires plan { plan.now ≡ plan_of script.now exploration.chances.deny exploration.chances.kill }
+    requires fits { first + count < 2 ^ 32 }
+    ensures lines { IfOk result (λ lines. AllZip (IsLine script.now exploration.seed exploration.chances.deny exploration.chances.kill)
+        (range_with_len first count) lines.items) }
+    ensures ends { IfOk result (λ lines. All (λ line. EndsWell line.finish) lines.items) }
 {
-    let Exploration {
+    let Exploration { seed, audit, .. } = exploration;
+    let runs = RunRange {
+        script,
+        plan,
         seed,
-        chances,
-        audited,
-        ..
-    } = exploration;
-    if audited {
-        explore_audited(rt, alloc, script, seed, first, runs, chances)
-    } else {
-        explore_runs(rt, alloc, script, seed, first, runs, chances)
-    }
+        first,
+        count,
+        audit,
+    };
+    lines_of(rt, alloc, runs)
 }
 
 /// Whether all runs came to their ends.
@@ -106,12 +117,6 @@ fn are_finished(lines: &[RunLine]) -> bool
     ensures { result ≡ list_all is_finished lines.now }
 {
     lines.iter().all(|line| line.finish == Finish::Finished)
-}
-
-fn both(a: bool, b: bool) -> bool
-    ensures { result ≡ (a && b) }
-{
-    a && b
 }
 
 /// Whether each run was ended by fewer turns.
@@ -142,15 +147,17 @@ fn explore_beside<W: Sink>(
     rt: &(impl Threads + Sync),
     alloc: Global,
     script: &Script,
+    plan: &Plan,
     exploration: Exploration,
     first: u32,
-    runs: u32,
+    count: u32,
     before: &[RunLine],
     writer: &mut W,
 ) -> Result<Vec<RunLine>, ReplayFault>
-    requires { first + runs < 2 ^ 32 }
+    requires plan { plan.now ≡ plan_of script.now exploration.chances.deny exploration.chances.kill }
+    requires fits { first + count < 2 ^ 32 }
     ensures lines { IfOk result (λ lines. AllZip (IsLine script.now exploration.seed exploration.chances.deny exploration.chances.kill)
-        (range_with_len first runs) lines.items) }
+        (range_with_len first count) lines.items) }
     ensures ok { OnOk result (Appends (W.contents writer.old) (W.contents writer.new) (lines_text before.now)) }
     ensures err { IfErr result (λ fault. IsWriteFault fault
         × Wrote (W.contents writer.old) (W.contents writer.new) (lines_text before.now)) }
@@ -159,8 +166,9 @@ fn explore_beside<W: Sink>(
     let (explored, written) = join_mut(
         rt,
         &mut || -> Result<Vec<RunLine>, AllocError>
-            requires { first + runs < 2 ^ 32 }
-        { explore_part(rt, alloc, script, exploration, first, runs) },
+            requires plan { plan.now ≡ plan_of script.now exploration.chances.deny exploration.chances.kill }
+            requires fits { first + count < 2 ^ 32 }
+        { explore_runs(rt, alloc, script, plan, exploration, first, count) },
         &mut || write_lines(alloc, before, writer),
     );
     written?;
@@ -182,9 +190,10 @@ pub fn write_explored<W: Sink>(
         × WroteSomeRuns script.now exploration (W.contents writer.old) (W.contents writer.new)) }
     ensures writes { TellsWrites result (W.failures writer.old) (W.failures writer.new) }
 {
+    let plan = &Plan::new(alloc, script, exploration.chances)?;
     let mut part = FIRST_PART;
     let mut explored = exploration.runs.min(part);
-    let mut lines = explore_part(rt, alloc, script, exploration, 0, explored)?;
+    let mut lines = explore_runs(rt, alloc, script, plan, exploration, 0, explored)?;
     let mut finished = are_finished(lines.as_slice());
     while explored < exploration.runs {
         part = next_part(part, lines.as_slice());
@@ -194,13 +203,14 @@ pub fn write_explored<W: Sink>(
             rt,
             alloc,
             script,
+            plan,
             exploration,
             explored,
             runs,
             before,
             writer,
         )?;
-        finished = both(finished, are_finished(lines.as_slice()));
+        finished &= are_finished(lines.as_slice());
         explored += runs;
     }
     write_lines(alloc, lines.as_slice(), writer)?;

@@ -19,7 +19,7 @@ mod runnable_tasks;
 mod walk;
 
 pub use exploration::{Exploration, explore, explore_hostile, schedule, write_explored};
-pub use exploring::{explore_audited, explore_runs};
+pub use exploring::Audit;
 pub use hp_audit::Finding;
 pub use laws::{a_line_is_one, a_replayed_run_has_its_line};
 pub use line::{Finish, RunLine};

@@ -13,8 +13,8 @@ mod replaying;
 mod state;
 
 pub use hp_explore::{
-    Chances, Exploration, Finish, RunLine, explore, explore_hostile, schedule, write_explored,
-    write_lines,
+    Audit, Chances, Exploration, Finish, RunLine, explore, explore_hostile, schedule,
+    write_explored, write_lines,
 };
 pub use hp_text::{
     MOST_EVENTS, ReplayFault, Script, Sink, Source, Trace, TraceFeed, TraceLine, Watched,

@@ -1,8 +1,13 @@
-use Rattle.std.proofs.Common.{◌+◌, ◌-◌, ◌≤◌, ◌∙◌, arith}
+use Rattle.std.proofs.Common.{◌+◌, ◌-◌, ◌≤◌, ◌∙◌, refl, arith}
 use Rattle.std.proofs.Math.Nat.{min-le_left}
 use Rattle.std.proofs.lemmas.Result.{err_from_is_err_and}
 use Rattle.hp_explore.proofs.WrittenLines.{none_written, part_kept, part_stopped}
 use Rattle.hp_explore.proofs.exploration.write_explored.Goals as goal
+
+pub returns-in_err-plan-clause-err : goal.returns-in_err-plan-clause-err
+returns-in_err-plan-clause-err g c =
+    let p = err_from_is_err_and c.from_residual.result c.from_residual.ensures.1 in
+    rw (p.1, p.2) (tt, none_written _ _ _)
 
 pub returns-in_err-lines-clause-err : goal.returns-in_err-lines-clause-err
 returns-in_err-lines-clause-err g c =
@@ -24,7 +29,7 @@ loop-explored-preserved g c =
     omega (arith, s.few, c.min-runs.ensures, min-le_left (c.args.exploration.runs - c.loop-explored.explored) c.next_part-part.result) in (
       part_kept _ _ _ _ _ c.are_finished.result _ _ _ _ _ c.as_slice-before.result.now c.in_ok-lines-2.lines.items
           c.as_slice-in-loop-explored-2.result.now s few c.as_slice-before.ensures.value c.in_ok-lines-2.ensures.ok
-          c.in_ok-lines-2.ensures.lines c.both-finished.ensures c.are_finished.ensures c.as_slice-in-loop-explored-2.ensures.value,
+          c.in_ok-lines-2.ensures.lines refl c.are_finished.ensures c.as_slice-in-loop-explored-2.ensures.value,
       c.in_ok-lines-2.ensures.writes ∙ c.loop-explored.invariant.1,
       c.next_part-part.ensures.some,
       c.next_part-part.ensures.most,
