@@ -1,5 +1,5 @@
 //! Writes a line for each race.
-ghost use Rattle.std.specs.Prelude.{◌≡◌, ◌&&◌, [], OnOk, IfErr, IfOk, string_bytes};
+ghost use Rattle.std.specs.Prelude.{◌≡◌, [], OnOk, IfErr, IfOk, string_bytes};
 ghost use Rattle.std.specs.Int.NonZero.{non_zero_u32_get};
 ghost use Rattle.std.specs.Io.KnownBytes.{Appends};
 ghost use Rattle.std.specs.Option.{option_map};
@@ -41,12 +41,6 @@ fn is_closed(race: &Race) -> bool
     race.verdict == Verdict::Closed
 }
 
-fn both(a: bool, b: bool) -> bool
-    ensures { result ≡ (a && b) }
-{
-    a && b
-}
-
 // One race. Where a number is given, its journal is cut behind so many calls of each task.
 fn race_once<R: Threads + Wait + Sync>(
     rt: &R,
@@ -82,7 +76,7 @@ pub fn write_races<R: Threads + Wait + Sync, W: Sink>(
     for run in 0..times {
         let ended = race_once(rt, alloc, script, cut)?;
         write_race(alloc, run, ended, writer)?;
-        closed = both(closed, is_closed(&ended));
+        closed &= is_closed(&ended);
     }
     Ok(closed)
 }
