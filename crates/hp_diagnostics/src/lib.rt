@@ -1,6 +1,6 @@
 //! Why a line isn't allowed in a trace, in words.
 //!
-//! It stands on hp_replay and hp_base. A `Recalling` source gives what its source gives, and keeps what it gave last; so that
+//! It stands on hp_text and hp_base. A `Recalling` source gives what its source gives, and keeps what it gave last; so that
 //! the line that a reader refused can be shown. What is said of a line is for people: `gate/reasons.py` shows it, and nothing rests on it.
 #![tactic(auto)]
 

@@ -1,6 +1,6 @@
 //! What is wrong with a line.
 use hp_base::Config;
-use hp_replay::MOST_EVENTS;
+use hp_text::MOST_EVENTS;
 use std::fmt;
 
 // The longest line, without its end.

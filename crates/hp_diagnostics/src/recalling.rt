@@ -3,11 +3,11 @@ ghost use Rattle.std.specs.Prelude.{◌≡◌};
 ghost use Rattle.hp_diagnostics.specs.Recalling.{source_of};
 
 use crate::reason::LONGEST_LINE;
-use hp_replay::{ReplayFault, Source, Watched};
+use hp_text::{PIECE, ReplayFault, Source, Watched};
 use std::marker::Model;
 
-// As much as hp_replay reads at once, and what may stand before it of a line.
-const KEPT: usize = 4096 + LONGEST_LINE + 1;
+// As much as a reader of traces reads at once, and what may stand before it of a line.
+const KEPT: usize = PIECE + LONGEST_LINE + 1;
 
 /// Gives what its source gives, and keeps the last of it: the line at which a reader of traces stopped is in it.
 #[derive(Drop)]

@@ -14,7 +14,8 @@ use Rattle.hp_core.specs.Readers.{config_of}
 use Rattle.hp_core.specs.Runs.{Row, IsOpening}
 use Rattle.hp_core.specs.State.{CoreState}
 use Rattle.hp_machine.specs.declared.outcome.Outcome.{Outcome}
-use Rattle.hp_draw.specs.Following.{column_of, column_of_task, phase_in, standing_after, stay_in, stay_left}
+use Rattle.hp_text.specs.Columns.{column_of, column_of_task}
+use Rattle.hp_draw.specs.Following.{phase_in, standing_after, stay_in, stay_left}
 use Rattle.hp_draw.specs.Following.{has_moved, next_of, mark_of, mark_with, sign_of}
 use Rattle.hp_draw.specs.Places.{InColumns}
 use Rattle.hp_draw.specs.Sketches.{Happening, Happens, Drawn, IsDrawn, nothing_drawn, after, after_all, listed, stays_in}

@@ -3,9 +3,9 @@ use Rattle.std.specs.Prelude.{◌≡◌, ℕ, List, length, Option, ◌⊎◌}
 use Rattle.std.specs.Io.KnownBytes.{Appends, Keeps}
 use Rattle.hp_base.specs.Text.{Sizes}
 use Rattle.hp_base.specs.declared.event.Event.{Event}
-use Rattle.hp_replay.specs.Collecting.{ReadsTrace, NotRead}
-use Rattle.hp_replay.specs.Writing.{Wrote, IsWriteFault}
-use Rattle.hp_replay.specs.declared.fault.ReplayFault.{ReplayFault}
+use Rattle.hp_text.specs.Collecting.{ReadsTrace, NotRead}
+use Rattle.hp_text.specs.Writing.{Wrote, IsWriteFault}
+use Rattle.hp_text.specs.declared.fault.ReplayFault.{ReplayFault}
 use Rattle.hp_draw.specs.Pictures.{picture_text}
 use Rattle.hp_draw.specs.Places.{HasPlaces}
 use Rattle.hp_draw.specs.Sketches.{Drawn, IsDrawn}

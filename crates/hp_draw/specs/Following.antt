@@ -1,5 +1,5 @@
 -- What an event changes of what is drawn.
-use Rattle.std.specs.Prelude.{ℕ, ◌-◌, ◌==◌, ◌&&◌, nat_le, Bool, true, false, not, Option, Some, None, if◌then◌else◌}
+use Rattle.std.specs.Prelude.{ℕ, ◌-◌, ◌==◌, Bool, true, false, not, Option, Some, None, if◌then◌else◌}
 use Rattle.hp_base.specs.declared.event.Event.{Event}
 use Rattle.hp_base.specs.declared.event.Event.TheVariants.{Begin, Step, Kill, Resize}
 use Rattle.hp_machine.specs.declared.outcome.Outcome.{Outcome}
@@ -15,17 +15,6 @@ use Rattle.hp_draw.specs.declared.following.Next.{Next}
 use Rattle.hp_draw.specs.declared.following.Next.TheVariants as next
 use Rattle.hp_draw.specs.declared.following.Sign.{Sign}
 use Rattle.hp_draw.specs.declared.following.Sign.TheVariants as sign
-
--- the column of a task: its number, or 0 where the pool has no such task
-abbrev pub column_of_task : (tasks task : ℕ) → ℕ
-column_of_task tasks task = if nat_le 1 task && nat_le task tasks then task else 0
-
--- the column of an event: that of its task; a resize is of no task
-abbrev pub column_of : (tasks : ℕ) → Event → ℕ
-column_of tasks (Begin task op) = column_of_task tasks task
-column_of tasks (Step task granted) = column_of_task tasks task
-column_of tasks (Kill task) = column_of_task tasks task
-column_of tasks (Resize frames) = 0
 
 -- the phase in which the call of the task in that column stands
 abbrev pub phase_in : CoreState → (column : ℕ) → Option Phase

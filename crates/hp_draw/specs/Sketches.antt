@@ -7,7 +7,8 @@ use Rattle.hp_core.specs.Readers.{config_of}
 use Rattle.hp_core.specs.Runs.{Row, IsOpening}
 use Rattle.hp_core.specs.State.{CoreState}
 use Rattle.hp_machine.specs.declared.outcome.Outcome.{Outcome}
-use Rattle.hp_draw.specs.Following.{column_of, phase_in, standing_after, stay_left, stay_in, mark_of, numbers_of}
+use Rattle.hp_text.specs.Columns.{column_of}
+use Rattle.hp_draw.specs.Following.{phase_in, standing_after, stay_left, stay_in, mark_of, numbers_of}
 use Rattle.hp_draw.specs.declared.following.Standing.{Standing}
 use Rattle.hp_draw.specs.declared.following.Stay.{Stay}
 use Rattle.hp_draw.specs.declared.following.Mark.{Mark}

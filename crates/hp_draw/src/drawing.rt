@@ -4,9 +4,9 @@ ghost use Rattle.hp_base.specs.Text.{sizes};
 ghost use Rattle.hp_draw.specs.Drawing.{IsDrawing, NotDrawn, PartlyDrawn, PictureOf, WrotePicture};
 ghost use Rattle.hp_draw.specs.Pictures.{picture_text, tasks_text};
 ghost use Rattle.hp_draw.specs.Sketches.{seen};
-ghost use Rattle.hp_replay.specs.Streams.{TellsReads, TellsWrites};
-ghost use Rattle.hp_replay.specs.Traces.{HasFault};
-ghost use Rattle.hp_replay.specs.Writing.{IsWriteFault};
+ghost use Rattle.hp_text.specs.Streams.{TellsReads, TellsWrites};
+ghost use Rattle.hp_text.specs.Traces.{HasFault};
+ghost use Rattle.hp_text.specs.Writing.{IsWriteFault};
 
 use crate::curves::push_curves;
 use crate::frame::{push_head, push_legend, push_lines};
@@ -15,7 +15,7 @@ use crate::layout::{Layout, lay_out};
 use crate::marks::push_marks;
 use crate::sketch::{Sketch, sketch_run};
 use hp_base::Config;
-use hp_replay::{MOST_EVENTS, ReplayFault, Sink, Source, Trace, read_trace, write_text};
+use hp_text::{MOST_EVENTS, ReplayFault, Sink, Source, Trace, read_trace, write_text};
 use std::alloc::{AllocError, Global};
 
 /// Appends the lanes, and what is in them.

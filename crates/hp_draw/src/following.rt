@@ -1,7 +1,7 @@
 //! What an event changes of what is drawn.
 ghost use Rattle.std.specs.Prelude.{◌≡◌, ◌≤◌, ◌++◌, Bool, OnOk};
 ghost use Rattle.hp_core.specs.Readers.{config_of};
-ghost use Rattle.hp_draw.specs.Following.{begun, blocked, column_of, column_of_task, has_moved, held_up, is_holder, mark_of};
+ghost use Rattle.hp_draw.specs.Following.{begun, blocked, has_moved, held_up, is_holder, mark_of};
 ghost use Rattle.hp_draw.specs.Following.{moved, next_of};
 ghost use Rattle.hp_draw.specs.Following.{numbers_of, phase_in, sign_of, standing_after, stay_in, stay_left, stay_of};
 ghost use Rattle.hp_draw.specs.Sketches.{listed};
@@ -73,32 +73,6 @@ pub(crate) struct Numbers {
     pub(crate) bare: u32,
     /// What calls in flight owe to the reserve count.
     pub(crate) owed: i64,
-}
-
-/// The column of a task: its number, or 0 where the pool has no such task.
-fn column_of_task(tasks: u32, task: Task) -> u32
-    ensures is { result ≡ column_of_task tasks task }
-    ensures within { result ≤ tasks }
-{
-    let number = task.number();
-    if 1 <= number && number <= tasks {
-        number
-    } else {
-        0
-    }
-}
-
-/// The column of an event: that of its task. A resize is of no task.
-pub(crate) fn column_of(tasks: u32, event: &Event) -> u32
-    ensures is { result ≡ column_of tasks event.now }
-    ensures within { result ≤ tasks }
-{
-    match event {
-        Event::Begin(task, _op) => column_of_task(tasks, *task),
-        Event::Step(task, _granted) => column_of_task(tasks, *task),
-        Event::Kill(task) => column_of_task(tasks, *task),
-        Event::Resize(_frames) => 0,
-    }
 }
 
 /// The phase in which the call of the task in that column stands.

@@ -7,7 +7,7 @@ ghost use Rattle.hp_draw.specs.Sketches.{seen};
 use crate::following::Numbers;
 use crate::sketch::Sketch;
 use hp_base::Event;
-use hp_replay::MOST_EVENTS;
+use hp_text::MOST_EVENTS;
 use std::alloc::{AllocError, Global};
 
 /// How far from the left the first event stands.

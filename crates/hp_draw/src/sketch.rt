@@ -6,12 +6,12 @@ ghost use Rattle.hp_draw.specs.Following.{stay_in};
 ghost use Rattle.hp_draw.specs.Sketches.{IsDrawn, after, listed, nothing_drawn, seen, stays_in, with_stays_in};
 
 use crate::following::{
-    Mark, Numbers, Standing, Stay, add_mark, add_stay, column_of, mark_of, numbers_of, phase_in,
+    Mark, Numbers, Standing, Stay, add_mark, add_stay, mark_of, numbers_of, phase_in,
     standing_after, stay_in, stay_left,
 };
 use hp_base::{Answer, Event, File, Index, Op, Task, Vpn};
 use hp_core::{Core, Outcome, Phase};
-use hp_replay::{MOST_EVENTS, Trace};
+use hp_text::{MOST_EVENTS, Trace, column_of};
 use std::alloc::{AllocError, Global};
 
 /// What is to be drawn of a run. Moments are counted from 0: each is an event's.

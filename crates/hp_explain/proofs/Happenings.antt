@@ -11,10 +11,10 @@ use Rattle.hp_base.specs.declared.event.Event.{Event}
 use Rattle.hp_core.specs.Runs.{Row}
 use Rattle.hp_core.specs.State.{CoreState}
 use Rattle.hp_machine.specs.declared.outcome.Outcome.{Outcome}
-use Rattle.hp_replay.specs.Writing.{Wrote, IsWriteFault}
-use Rattle.hp_replay.specs.declared.fault.ReplayFault.{ReplayFault}
-use Rattle.hp_replay.specs.declared.fault.ReplayFault.TheVariants.{Write}
-use Rattle.hp_replay.proofs.Writes.{Wrote-behind}
+use Rattle.hp_text.specs.Writing.{Wrote, IsWriteFault}
+use Rattle.hp_text.specs.declared.fault.ReplayFault.{ReplayFault}
+use Rattle.hp_text.specs.declared.fault.ReplayFault.TheVariants.{Write}
+use Rattle.hp_text.proofs.Writes.{Wrote-behind}
 use Rattle.hp_explain.specs.Rows.{Happening, row_text, rows_text}
 use Rattle.hp_explain.specs.Explaining.{events_of, Happens, RowWritten, RowPartlyWritten, RowsWritten, RowsPartlyWritten}
 

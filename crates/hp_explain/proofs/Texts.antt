@@ -9,10 +9,10 @@ use Rattle.hp_base.specs.declared.config.Config.{Config}
 use Rattle.hp_base.specs.declared.event.Event.{Event}
 use Rattle.hp_core.specs.Runs.{IsOpening}
 use Rattle.hp_core.specs.State.{CoreState}
-use Rattle.hp_replay.specs.Collecting.{ReadsTrace}
-use Rattle.hp_replay.specs.Writing.{Wrote, IsWriteFault}
-use Rattle.hp_replay.specs.declared.fault.ReplayFault.{ReplayFault}
-use Rattle.hp_replay.proofs.Writes.{Wrote-behind, Wrote-more}
+use Rattle.hp_text.specs.Collecting.{ReadsTrace}
+use Rattle.hp_text.specs.Writing.{Wrote, IsWriteFault}
+use Rattle.hp_text.specs.declared.fault.ReplayFault.{ReplayFault}
+use Rattle.hp_text.proofs.Writes.{Wrote-behind, Wrote-more}
 use Rattle.hp_explain.specs.Rows.{head_text, rows_text, end_text}
 use Rattle.hp_explain.specs.Explaining.{RowsWritten, RowsPartlyWritten, Explanation, WroteExplanation}
 use Rattle.hp_explain.specs.Explaining.{PartlyExplained, some_rows, to_the_end}

@@ -4,7 +4,7 @@ use Rattle.std.proofs.lemmas.List.Elements.{All-weaker, All-more}
 use Rattle.std.proofs.lemmas.Grind.{common_steps}
 use Rattle.std.proofs.lemmas.List.{take_all}
 use Rattle.hp_base.specs.declared.event.Event.{Event}
-use Rattle.hp_explain.specs.Words.{column_of}
+use Rattle.hp_text.specs.Columns.{column_of}
 use Rattle.hp_explain.specs.Widths.{HasRoom, NoneNarrower}
 
 -- an event that had room in its column has it in a wider one

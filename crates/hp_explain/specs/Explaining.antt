@@ -6,9 +6,9 @@ use Rattle.hp_base.specs.declared.config.Config.{Config}
 use Rattle.hp_base.specs.declared.event.Event.{Event}
 use Rattle.hp_core.specs.Runs.{Row, IsOpening}
 use Rattle.hp_core.specs.State.{CoreState}
-use Rattle.hp_replay.specs.Collecting.{ReadsTrace, NotRead}
-use Rattle.hp_replay.specs.Writing.{Wrote, IsWriteFault}
-use Rattle.hp_replay.specs.declared.fault.ReplayFault.{ReplayFault}
+use Rattle.hp_text.specs.Collecting.{ReadsTrace, NotRead}
+use Rattle.hp_text.specs.Writing.{Wrote, IsWriteFault}
+use Rattle.hp_text.specs.declared.fault.ReplayFault.{ReplayFault}
 use Rattle.hp_explain.specs.Rows.{Happening, head_text, row_text, rows_text, end_text}
 use Rattle.hp_explain.specs.Widths.{HasRoom}
 

@@ -12,7 +12,8 @@ use Rattle.hp_core.specs.Acquiring.{acquired_of, owed_by_of}
 use Rattle.hp_core.specs.declared.holding.Holding.{Holding}
 use Rattle.hp_replay.specs.Outcomes.{state_text}
 use Rattle.hp_explain.specs.Layout.{columns, titles, right, right_signed}
-use Rattle.hp_explain.specs.Words.{cell_text, column_of, lock_text, slot_text, wanted_text}
+use Rattle.hp_text.specs.Columns.{column_of}
+use Rattle.hp_explain.specs.Words.{cell_text, lock_text, slot_text, wanted_text}
 
 -- an event, what came of it, and the core that it led to
 pub record Happening : Type 0 where

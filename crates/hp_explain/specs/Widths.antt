@@ -2,7 +2,7 @@
 use Rattle.std.specs.Prelude.{◌≡◌, ℕ, ◌≤◌, ◌<◌, List, length, slice_index_or}
 use Rattle.hp_base.specs.Text.{event_text}
 use Rattle.hp_base.specs.declared.event.Event.{Event}
-use Rattle.hp_explain.specs.Words.{column_of}
+use Rattle.hp_text.specs.Columns.{column_of}
 
 -- the column of the event is wider than its text: it is shown, with what stands over it, and the event has room in it
 abbrev pub HasRoom : (tasks : ℕ) → (widths : List ℕ) → Event → Type 0

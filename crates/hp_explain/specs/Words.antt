@@ -1,9 +1,9 @@
 -- What is told of an event, in words.
-use Rattle.std.specs.Prelude.{ℕ, ◌==◌, ◌&&◌, nat_le, List, ◌++◌, codes, if◌then◌else◌}
+use Rattle.std.specs.Prelude.{ℕ, ◌==◌, List, ◌++◌, codes, if◌then◌else◌}
 use Rattle.std.specs.Fmt.{decimal}
 use Rattle.hp_base.specs.Text.{event_text}
 use Rattle.hp_base.specs.declared.event.Event.{Event}
-use Rattle.hp_base.specs.declared.event.Event.TheVariants.{Begin, Step, Kill, Resize}
+use Rattle.hp_text.specs.Columns.{column_of}
 use Rattle.hp_machine.specs.State.{slot_of}
 use Rattle.hp_machine.specs.Text.{outcome_text}
 use Rattle.hp_machine.specs.declared.outcome.Outcome.{Outcome}
@@ -14,17 +14,6 @@ use Rattle.hp_core.specs.State.{CoreState}
 use Rattle.hp_core.specs.Acquiring.{acquired_of}
 use Rattle.hp_core.specs.declared.acquiring.Acquired.{Acquired}
 use Rattle.hp_core.specs.declared.acquiring.Acquired.TheVariants as wanted
-
--- the column of a task: its number, or 0 where the pool has no such task
-abbrev pub column_of_task : (tasks task : ℕ) → ℕ
-column_of_task tasks task = if nat_le 1 task && nat_le task tasks then task else 0
-
--- the column of an event: that of its task; a resize is of no task
-abbrev pub column_of : (tasks : ℕ) → Event → ℕ
-column_of tasks (Begin task op) = column_of_task tasks task
-column_of tasks (Step task granted) = column_of_task tasks task
-column_of tasks (Kill task) = column_of_task tasks task
-column_of tasks (Resize frames) = 0
 
 -- `slot 3, file 0 index 0`
 abbrev pub slot_text : CoreState → (file index : ℕ) → List ℕ

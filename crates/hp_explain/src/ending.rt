@@ -2,14 +2,15 @@
 ghost use Rattle.std.specs.Prelude.{◌≡◌, ◌≤◌, ◌++◌, OnOk, IfErr, string_bytes};
 ghost use Rattle.hp_core.specs.Readers.{config_of, phase_of};
 ghost use Rattle.hp_explain.specs.Rows.{calls_text, end_text, holding_text, if_in_flight, in_flight_text};
-ghost use Rattle.hp_replay.specs.Streams.{TellsWrites};
-ghost use Rattle.hp_replay.specs.Writing.{IsWriteFault, Wrote};
+ghost use Rattle.hp_text.specs.Streams.{TellsWrites};
+ghost use Rattle.hp_text.specs.Writing.{IsWriteFault, Wrote};
 ghost use Rattle.std.specs.Io.KnownBytes.{Appends};
 
 use crate::words::{push_acquired, push_slot};
 use hp_base::Task;
 use hp_core::{Core, Holding, Phase};
-use hp_replay::{ReplayFault, Sink, push_state, write_text};
+use hp_replay::push_state;
+use hp_text::{ReplayFault, Sink, write_text};
 use std::alloc::AllocError;
 
 /// Appends what a call holds.

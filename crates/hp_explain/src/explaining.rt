@@ -2,15 +2,15 @@
 ghost use Rattle.std.specs.Prelude.{◌≡◌, ◌≤◌, OnOk, IfErr, IfSome, length};
 ghost use Rattle.hp_base.specs.Text.{sizes};
 ghost use Rattle.hp_explain.specs.Explaining.{Explained, NotExplained, PartlyExplained, WroteExplanation};
-ghost use Rattle.hp_replay.specs.Streams.{TellsReads, TellsWrites};
-ghost use Rattle.hp_replay.specs.Traces.{HasFault};
-ghost use Rattle.hp_replay.specs.Writing.{IsWriteFault};
+ghost use Rattle.hp_text.specs.Streams.{TellsReads, TellsWrites};
+ghost use Rattle.hp_text.specs.Traces.{HasFault};
+ghost use Rattle.hp_text.specs.Writing.{IsWriteFault};
 
 use crate::ending::write_end;
 use crate::measuring::measure;
 use crate::rows::{write_head, write_rows};
 use hp_core::Core;
-use hp_replay::{MOST_EVENTS, ReplayFault, Sink, Source, Trace, read_trace};
+use hp_text::{MOST_EVENTS, ReplayFault, Sink, Source, Trace, read_trace};
 use std::alloc::Global;
 
 /// Writes a row for each event of the trace, with what came of it and the counts behind it, then a line for each call in

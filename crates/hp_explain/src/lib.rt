@@ -1,8 +1,8 @@
 //! Traces in words: for each event a row that a person can follow.
 //!
-//! It stands on hp_replay, which reads traces, and on hp_core, which runs them. It promises that what is written is the
-//! explanation of a run of the trace that was read: a row for each event, in its order, with what came of it and the
-//! pool's counts behind it, then each call in flight, and the state. Each event's column is shown, with what stands over
+//! It stands on hp_text, which reads traces, on hp_core, which runs them, and on hp_replay, which lays out a pool's state.
+//! It promises that what is written is the explanation of a run of the trace that was read: a row for each event, in its
+//! order, with what came of it and the pool's counts behind it, then each call in flight, and the state. Each event's column is shown, with what stands over
 //! it, and is wider than the event; how much wider is found by eye. It knows of the core only its rows and its readers,
 //! and no files: it works over any source and sink.
 #![tactic(auto)]

@@ -2,15 +2,15 @@
 ghost use Rattle.std.specs.Prelude.{◌≡◌, ◌≤◌, ◌++◌, ◌⊎◌, OnOk, IfErr, length, string_bytes};
 ghost use Rattle.hp_explain.specs.Explaining.{RowWritten, RowPartlyWritten, RowsWritten, RowsPartlyWritten};
 ghost use Rattle.hp_explain.specs.Rows.{cells, counts, head_text, row_text};
-ghost use Rattle.hp_replay.specs.Streams.{TellsWrites};
-ghost use Rattle.hp_replay.specs.Writing.{IsWriteFault, Wrote};
+ghost use Rattle.hp_text.specs.Streams.{TellsWrites};
+ghost use Rattle.hp_text.specs.Writing.{IsWriteFault, Wrote};
 ghost use Rattle.std.specs.Io.KnownBytes.{Appends, Keeps};
 
 use crate::layout::{push_columns, push_titles};
-use crate::words::{column_of, lay_cell};
+use crate::words::lay_cell;
 use hp_base::Event;
 use hp_core::{Core, Outcome};
-use hp_replay::{MOST_EVENTS, ReplayFault, Sink, write_text};
+use hp_text::{MOST_EVENTS, ReplayFault, Sink, column_of, write_text};
 use std::alloc::AllocError;
 
 /// Writes what stands over the rows.

@@ -3,38 +3,13 @@ ghost use Rattle.std.specs.Prelude.{◌≡◌, ◌≤◌, ◌++◌, OnOk, string
 ghost use Rattle.hp_base.specs.Text.{sizes};
 ghost use Rattle.hp_core.specs.Readers.{config_of};
 ghost use Rattle.hp_core.specs.Runs.{geometry};
-ghost use Rattle.hp_explain.specs.Words.{cell_text, column_of, column_of_task, lock_text, slot_text, told_text, wanted_in, wanted_text};
+ghost use Rattle.hp_explain.specs.Words.{cell_text, lock_text, slot_text, told_text, wanted_in, wanted_text};
 ghost use Rattle.hp_machine.specs.State.{slot_of};
 
 use hp_base::{Config, Event, File, Index, Task};
 use hp_core::{Acquired, Core, Outcome};
+use hp_text::column_of;
 use std::alloc::AllocError;
-
-/// The column of a task: its number, or 0 where the pool has no such task.
-fn column_of_task(tasks: u32, task: Task) -> u32
-    ensures is { result ≡ column_of_task tasks task }
-    ensures within { result ≤ tasks }
-{
-    let number = task.number();
-    if 1 <= number && number <= tasks {
-        number
-    } else {
-        0
-    }
-}
-
-/// The column of an event: that of its task. A resize is of no task.
-pub(crate) fn column_of(tasks: u32, event: &Event) -> u32
-    ensures is { result ≡ column_of tasks event.now }
-    ensures within { result ≤ tasks }
-{
-    match event {
-        Event::Begin(task, _op) => column_of_task(tasks, *task),
-        Event::Step(task, _granted) => column_of_task(tasks, *task),
-        Event::Kill(task) => column_of_task(tasks, *task),
-        Event::Resize(_frames) => 0,
-    }
-}
 
 /// The slot of an index in the fault mutex table (Linux: `hugetlb_fault_mutex_hash`).
 fn slot_number(config: Config, file: File, index: Index) -> u64

@@ -1,5 +1,5 @@
 -- A step from a start or a want keeps the slot and the lock that its call holds, and may take one.
-use Rattle.std.proofs.Common.{◌≡◌, ℕ, refl, sym, subst, true≢false}
+use Rattle.std.proofs.Common.{◌≡◌, ℕ, refl, sym, subst}
 use Rattle.std.specs.Prelude.{Bool, true, false, Option, Some, None}
 use Rattle.hp_machine.specs.Events.{CallRow, word_of, left}
 use Rattle.hp_machine.specs.State.{Pool, slot_of}
@@ -22,6 +22,7 @@ use Rattle.hp_machine.specs.declared.phase.Phase.TheVariants as word
 use Rattle.hp_machine.specs.declared.call.Call.{Call}
 use Rattle.hp_machine.specs.declared.call.Call.TheVariants as call
 use Rattle.hp_machine.specs.declared.call.Turn.{Turn}
+use Rattle.hp_laws.proofs.Deciding.{never}
 use Rattle.hp_laws.proofs.Shared.{by_test, by_option}
 use Rattle.hp_core.specs.Holding.{held_by}
 use Rattle.hp_core.specs.declared.holding.Holding.{Holding}
@@ -63,9 +64,6 @@ leaf : {P B : Type 0} {wanted turn : Turn P} (call : P → Call) (here : P) → 
 leaf {P} call here e h = subst (λ (m : Turn P). Grows call here m) (sym e.0) h
 
 -- another word
-other_word : {A : Type 0} → false ≡ true → A
-other_word e = absurd (true≢false (sym e))
-
 alloc_grows : (s : Pool) (t : ℕ) (killed grant : Bool) (p : AllocPhase) (turn : Turn AllocPhase) (new : Pool)
     → may_wait (word_of (call.Alloc p)) ≡ true → AllocRow s t killed grant p turn new → Grows call.Alloc p turn
 alloc_grows s t killed grant (alloc.Start p) turn new q row = none_held _
@@ -75,7 +73,7 @@ alloc_grows s t killed grant (alloc.Want p) turn new q row =
     (λ _ r. by_option (s.slots (slot_of s.geometry p.allocation.file p.index)) r
     (λ _ r. leaf call.Alloc (alloc.Want p) r (lock_held p.allocation.file _))
     (λ holder _ r. leaf call.Alloc (alloc.Want p) r (lock_held p.allocation.file _)))
-alloc_grows s t killed grant p turn new q row = other_word q
+alloc_grows s t killed grant p turn new q row = never q
 
 punch_grows : (s : Pool) (t : ℕ) (killed grant : Bool) (p : PunchPhase) (turn : Turn PunchPhase) (new : Pool)
     → may_wait (word_of (call.Punch p)) ≡ true → PunchRow s t killed grant p turn new → Grows call.Punch p turn
@@ -84,7 +82,7 @@ punch_grows s t killed grant (punch.Want p) turn new q row =
     by_option (s.slots (slot_of s.geometry p.hole.file p.index)) row
     (λ _ r. leaf call.Punch (punch.Want p) r (lock_held p.hole.file _))
     (λ holder _ r. leaf call.Punch (punch.Want p) r (lock_held p.hole.file _))
-punch_grows s t killed grant p turn new q row = other_word q
+punch_grows s t killed grant p turn new q row = never q
 
 truncate_grows : (s : Pool) (t : ℕ) (killed grant : Bool) (p : TruncatePhase) (turn : Turn TruncatePhase) (new : Pool)
     → may_wait (word_of (call.Truncate p)) ≡ true → TruncateRow s t killed grant p turn new → Grows call.Truncate p turn
@@ -93,7 +91,7 @@ truncate_grows s t killed grant (truncate.Want p) turn new q row =
     by_option (s.slots (slot_of s.geometry p.truncation.file p.index)) row
     (λ _ r. leaf call.Truncate (truncate.Want p) r (lock_held p.truncation.file _))
     (λ holder _ r. leaf call.Truncate (truncate.Want p) r (lock_held p.truncation.file _))
-truncate_grows s t killed grant p turn new q row = other_word q
+truncate_grows s t killed grant p turn new q row = never q
 
 -- the call that a turn leaves
 of_turn : {P : Type 0} (call : P → Call) (here : P) (turn : Turn P) (next : Option Call) → next ≡ left call turn
@@ -105,9 +103,9 @@ waiting_grows : (s : Pool) (t : ℕ) (killed grant : Bool) (c : Call) (o : Outco
     → may_wait (word_of c) ≡ true → CallRow s t killed grant c o new next → HeldOn (held_by (Some c)) (held_by next)
 unfolding CallRow
 waiting_grows s t killed grant (call.Touch (touch.Want p)) o new next q row = none_held _
-waiting_grows s t killed grant (call.Touch p) o new next q row = other_word q
+waiting_grows s t killed grant (call.Touch p) o new next q row = never q
 waiting_grows s t killed grant (call.Map (map.Start p)) o new next q row = none_held _
-waiting_grows s t killed grant (call.Map p) o new next q row = other_word q
+waiting_grows s t killed grant (call.Map p) o new next q row = never q
 waiting_grows s t killed grant (call.Alloc p) o new next q (turn, row, tells, leaves) =
     of_turn call.Alloc p turn next leaves (alloc_grows s t killed grant p turn new q row)
 waiting_grows s t killed grant (call.Punch p) o new next q (turn, row, tells, leaves) =
@@ -115,9 +113,9 @@ waiting_grows s t killed grant (call.Punch p) o new next q (turn, row, tells, le
 waiting_grows s t killed grant (call.Truncate p) o new next q (turn, row, tells, leaves) =
     of_turn call.Truncate p turn next leaves (truncate_grows s t killed grant p turn new q row)
 waiting_grows s t killed grant (call.Unmap (unmap.Start p)) o new next q row = none_held _
-waiting_grows s t killed grant (call.Unmap p) o new next q row = other_word q
+waiting_grows s t killed grant (call.Unmap p) o new next q row = never q
 waiting_grows s t killed grant (call.Exit exit.Start) o new next q row = none_held _
-waiting_grows s t killed grant (call.Exit p) o new next q row = other_word q
+waiting_grows s t killed grant (call.Exit p) o new next q row = never q
 
 -- what leaves nothing begins a call, waits, or passes nothing
 waits_or_quiet : (w : Phase) → may_leave w ≡ false → may_wait w ≡ false → may_pass w ≡ false

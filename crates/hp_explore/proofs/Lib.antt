@@ -11,3 +11,4 @@ pub mod Retained
 pub mod Runnable
 pub mod Runs
 pub mod Twins
+pub mod WrittenLines

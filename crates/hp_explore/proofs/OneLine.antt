@@ -21,7 +21,7 @@ use Rattle.hp_core.proofs.Audited.{right_of}
 use Rattle.hp_explore.specs.declared.line.Finish.{Finish}
 use Rattle.hp_explore.specs.declared.line.Finish.TheVariants.{Finished, Stuck}
 use Rattle.hp_explore.specs.declared.line.RunLine.{RunLine}
-use Rattle.hp_explore.specs.declared.script.Script.{Script}
+use Rattle.hp_text.specs.declared.script.Script.{Script}
 use Rattle.hp_explore.specs.Schedule.{Plan, World, IsStart, Turn, Choice, CanTurn, AreRunnable, AreRunnableOf, in_call, next_call}
 use Rattle.hp_explore.specs.Schedule.{choice_of, task_choice, picked, drawn, plan_of}
 use Rattle.hp_explore.specs.Explored.{Finds, IsFirst, IsRun, IsExplored, line_of, all_done, idle_finish, last_finish, turn_limit}

@@ -31,6 +31,7 @@ use Rattle.hp_laws.proofs.Reading.{begin_cases, step_cases, kill_cases}
 use Rattle.hp_laws.proofs.Resizing.{resize_cases}
 use Rattle.hp_laws.proofs.Telling.{call_steps_on}
 use Rattle.hp_laws.proofs.Waiting.{moved_tells}
+use Rattle.hp_laws.proofs.Deciding.{never}
 use Rattle.hp_parts.specs.State.{PartsState}
 use Rattle.hp_core.specs.Blockers.{call_blocker, task_state_call_blocker}
 use Rattle.hp_core.specs.Holding.{held_by, holding_of}
@@ -207,9 +208,9 @@ no_phases config s n phases opens none = subst (ArePhases s) (sym none) all
 
 -- the holder that a reader names
 pub some_holder : (o : Option ℕ) → is_some o ≡ true → (holder : ℕ) × (o ≡ Some holder)
-some_holder None e = (let d : false ≡ true = e in absurd (cc))
+some_holder None e = never e
 some_holder (Some h) e = (h, refl)
 
 pub not_so : (b : Bool) → not b ≡ true → b ≡ false
-not_so true e = (let d : false ≡ true = e in absurd (cc))
+not_so true e = never e
 not_so false e = refl

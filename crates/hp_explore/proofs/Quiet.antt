@@ -1,5 +1,5 @@
 -- A step from a phase whose word doesn't say otherwise leaves the slot and the lock that its call holds.
-use Rattle.std.proofs.Common.{◌≡◌, ℕ, ◌+◌, ◌-◌, refl, ap, sym, ◌∙◌, subst, true≢false}
+use Rattle.std.proofs.Common.{◌≡◌, ℕ, ◌+◌, ◌-◌, refl, ap, sym, ◌∙◌, subst}
 use Rattle.std.specs.Prelude.{Bool, true, false, not, ◌&&◌, ◌==◌, nat_le, nat_lt, max, is_some, Option, Some}
 use Rattle.hp_base.specs.Indices.{missing, splits}
 use Rattle.hp_base.specs.Mappings.{find, first_base, without}
@@ -36,6 +36,7 @@ use Rattle.hp_machine.specs.declared.call.Call.TheVariants as call
 use Rattle.hp_machine.specs.declared.call.Turn.{Turn}
 use Rattle.hp_machine.specs.declared.call.Turn.TheVariants.{Moved}
 use Rattle.hp_laws.proofs.Shared.{by_test, by_option}
+use Rattle.hp_laws.proofs.Deciding.{never}
 use Rattle.hp_core.specs.Holding.{held_by}
 use Rattle.hp_explore.specs.Passing.{may_pass}
 
@@ -49,9 +50,6 @@ leaf : {P B : Type 0} {wanted turn : Turn P} (call : P → Call) (here : P) → 
 leaf {P} call here e h = subst (λ (m : Turn P). Keeps call here m) (sym e.0) h
 
 -- a word that says otherwise
-other_word : {A : Type 0} → true ≡ false → A
-other_word e = absurd (true≢false e)
-
 -- what the rows that operations share do: where a change is begun
 change_keeps : {P : Type 0} (call : P → Call) (here : P) (s : Pool) (grant : Bool) (f from to : ℕ) (denied : P) (changed : Change → P)
     (turn : Turn P) (new : Pool) → ChangeRow s grant f from to denied changed turn new
@@ -93,7 +91,7 @@ touch_keeps s t killed grant (touch.Look p) turn new q row =
     (λ place _ r. by_option (s.entries t p.vpn) r
     (λ _ r. leaf call.Touch (touch.Look p) r refl)
     (λ x _ r. leaf call.Touch (touch.Look p) r.2 refl))
-touch_keeps s t killed grant (touch.Want p) turn new q row = other_word q
+touch_keeps s t killed grant (touch.Want p) turn new q row = never (sym q)
 touch_keeps s t killed grant (touch.Locked p) turn new q row =
     by_test (nat_le (s.size p.touch.file) p.touch.index) row
     (λ _ r. leaf call.Touch (touch.Locked p) r refl)
@@ -123,12 +121,12 @@ touch_keeps s t killed grant (touch.Found p) turn new q row =
     (λ _ r. leaf call.Touch (touch.Found p) r refl)
     (λ _ r. by_test grant r
     (λ _ r. leaf call.Touch (touch.Found p) r.4 refl) (λ _ r. leaf call.Touch (touch.Found p) r refl))
-touch_keeps s t killed grant (touch.Leave p) turn new q row = other_word q
+touch_keeps s t killed grant (touch.Leave p) turn new q row = never (sym q)
 
 -- a map
 map_keeps : (s : Pool) (t : ℕ) (killed grant : Bool) (p : MapPhase) (turn : Turn MapPhase) (new : Pool)
     → may_pass (word_of (call.Map p)) ≡ false → MapRow s t killed grant p turn new → Keeps call.Map p turn
-map_keeps s t killed grant (map.Start p) turn new q row = other_word q
+map_keeps s t killed grant (map.Start p) turn new q row = never (sym q)
 map_keeps s t killed grant (map.Room p) turn new q row =
     by_option row.0 row.2
     (λ _ r. leaf call.Map (map.Room p) r refl)
@@ -151,15 +149,15 @@ map_keeps s t killed grant (map.Accounted p) turn new q row =
     (λ _ r. leaf call.Map (map.Accounted p) r refl) (λ _ r. leaf call.Map (map.Accounted p) r refl)
 map_keeps s t killed grant (map.Settle p) turn new q row = leaf call.Map (map.Settle p) row.2 refl
 map_keeps s t killed grant (map.Enter p) turn new q row = leaf call.Map (map.Enter p) row refl
-map_keeps s t killed grant (map.Leave p) turn new q row = other_word q
+map_keeps s t killed grant (map.Leave p) turn new q row = never (sym q)
 
 -- an allocation
 alloc_keeps : (s : Pool) (t : ℕ) (killed grant : Bool) (p : AllocPhase) (turn : Turn AllocPhase) (new : Pool)
     → may_pass (word_of (call.Alloc p)) ≡ false → AllocRow s t killed grant p turn new → Keeps call.Alloc p turn
-alloc_keeps s t killed grant (alloc.Start p) turn new q row = other_word q
+alloc_keeps s t killed grant (alloc.Start p) turn new q row = never (sym q)
 alloc_keeps s t killed grant (alloc.Head p) turn new q row =
     by_test killed row (λ _ r. leaf call.Alloc (alloc.Head p) r refl) (λ _ r. leaf call.Alloc (alloc.Head p) r refl)
-alloc_keeps s t killed grant (alloc.Want p) turn new q row = other_word q
+alloc_keeps s t killed grant (alloc.Want p) turn new q row = never (sym q)
 alloc_keeps s t killed grant (alloc.Locked p) turn new q row =
     by_test (is_some (s.pages p.allocation.file p.index)) row
     (λ _ r. leaf call.Alloc (alloc.Locked p) r refl) (λ _ r. leaf call.Alloc (alloc.Locked p) r refl)
@@ -180,15 +178,15 @@ alloc_keeps s t killed grant (alloc.Settle p) turn new q row = leaf call.Alloc (
 alloc_keeps s t killed grant (alloc.Committed p) turn new q row =
     by_test grant row (λ _ r. leaf call.Alloc (alloc.Committed p) r refl) (λ _ r. leaf call.Alloc (alloc.Committed p) r refl)
 alloc_keeps s t killed grant (alloc.Restore p) turn new q row = leaf call.Alloc (alloc.Restore p) row refl
-alloc_keeps s t killed grant (alloc.Unslot p) turn new q row = other_word q
+alloc_keeps s t killed grant (alloc.Unslot p) turn new q row = never (sym q)
 alloc_keeps s t killed grant (alloc.Extend p) turn new q row = leaf call.Alloc (alloc.Extend p) row refl
-alloc_keeps s t killed grant (alloc.Leave p) turn new q row = other_word q
+alloc_keeps s t killed grant (alloc.Leave p) turn new q row = never (sym q)
 
 -- a punch
 punch_keeps : (s : Pool) (t : ℕ) (killed grant : Bool) (p : PunchPhase) (turn : Turn PunchPhase) (new : Pool)
     → may_pass (word_of (call.Punch p)) ≡ false → PunchRow s t killed grant p turn new → Keeps call.Punch p turn
-punch_keeps s t killed grant (punch.Start p) turn new q row = other_word q
-punch_keeps s t killed grant (punch.Want p) turn new q row = other_word q
+punch_keeps s t killed grant (punch.Start p) turn new q row = never (sym q)
+punch_keeps s t killed grant (punch.Want p) turn new q row = never (sym q)
 punch_keeps s t killed grant (punch.Locked p) turn new q row =
     by_test (is_some (s.pages p.hole.file p.index)) row
     (λ _ r. leaf call.Punch (punch.Locked p) r refl) (λ _ r. leaf call.Punch (punch.Locked p) r refl)
@@ -200,17 +198,17 @@ punch_keeps s t killed grant (punch.Delete p) turn new q row =
     (λ _ r. leaf call.Punch (punch.Delete p) r refl) (λ _ r. leaf call.Punch (punch.Delete p) r refl)
 punch_keeps s t killed grant (punch.Free p) turn new q row =
     by_test p.denied row (λ _ r. leaf call.Punch (punch.Free p) r refl) (λ _ r. leaf call.Punch (punch.Free p) r.1 refl)
-punch_keeps s t killed grant (punch.Unslot p) turn new q row = other_word q
-punch_keeps s t killed grant (punch.Leave p) turn new q row = other_word q
+punch_keeps s t killed grant (punch.Unslot p) turn new q row = never (sym q)
+punch_keeps s t killed grant (punch.Leave p) turn new q row = never (sym q)
 
 -- a truncation
 truncate_keeps : (s : Pool) (t : ℕ) (killed grant : Bool) (p : TruncatePhase) (turn : Turn TruncatePhase) (new : Pool)
     → may_pass (word_of (call.Truncate p)) ≡ false → TruncateRow s t killed grant p turn new → Keeps call.Truncate p turn
-truncate_keeps s t killed grant (truncate.Start p) turn new q row = other_word q
+truncate_keeps s t killed grant (truncate.Start p) turn new q row = never (sym q)
 truncate_keeps s t killed grant (truncate.Size p) turn new q row =
     by_test (nat_lt p.truncation.new (max (s.size p.truncation.file) row.0)) row.2
     (λ _ r. leaf call.Truncate (truncate.Size p) r refl) (λ _ r. leaf call.Truncate (truncate.Size p) r refl)
-truncate_keeps s t killed grant (truncate.Want p) turn new q row = other_word q
+truncate_keeps s t killed grant (truncate.Want p) turn new q row = never (sym q)
 truncate_keeps s t killed grant (truncate.Locked p) turn new q row =
     by_test (is_some (s.pages p.truncation.file p.index)) row
     (λ _ r. leaf call.Truncate (truncate.Locked p) r refl) (λ _ r. leaf call.Truncate (truncate.Locked p) r refl)
@@ -218,27 +216,27 @@ truncate_keeps s t killed grant (truncate.Unmap p) turn new q row =
     unmap_index_keeps call.Truncate (truncate.Unmap p) s p.task _ _ _ _ turn new row refl refl
 truncate_keeps s t killed grant (truncate.Evict p) turn new q row = leaf call.Truncate (truncate.Evict p) row.2 refl
 truncate_keeps s t killed grant (truncate.Free p) turn new q row = leaf call.Truncate (truncate.Free p) row refl
-truncate_keeps s t killed grant (truncate.Unslot p) turn new q row = other_word q
+truncate_keeps s t killed grant (truncate.Unslot p) turn new q row = never (sym q)
 truncate_keeps s t killed grant (truncate.Tail p) turn new q row = leaf call.Truncate (truncate.Tail p) row refl
 truncate_keeps s t killed grant (truncate.Settle p) turn new q row = leaf call.Truncate (truncate.Settle p) row.2 refl
-truncate_keeps s t killed grant (truncate.Leave p) turn new q row = other_word q
+truncate_keeps s t killed grant (truncate.Leave p) turn new q row = never (sym q)
 
 -- an unmap, which holds nothing
 unmap_keeps : (s : Pool) (t : ℕ) (killed grant : Bool) (p : UnmapPhase) (turn : Turn UnmapPhase) (new : Pool)
     → may_pass (word_of (call.Unmap p)) ≡ false → UnmapRow s t killed grant p turn new → Keeps call.Unmap p turn
-unmap_keeps s t killed grant (unmap.Start p) turn new q row = other_word q
+unmap_keeps s t killed grant (unmap.Start p) turn new q row = never (sym q)
 unmap_keeps s t killed grant (unmap.Clear p) turn new q row = leaf call.Unmap (unmap.Clear p) row refl
 unmap_keeps s t killed grant (unmap.Drop p) turn new q row = leaf call.Unmap (unmap.Drop p) row refl
 
 -- an exit, which holds nothing
 exit_keeps : (s : Pool) (t : ℕ) (killed grant : Bool) (p : ExitPhase) (turn : Turn ExitPhase) (new : Pool)
     → may_pass (word_of (call.Exit p)) ≡ false → ExitRow s t killed grant p turn new → Keeps call.Exit p turn
-exit_keeps s t killed grant exit.Start turn new q row = other_word q
+exit_keeps s t killed grant exit.Start turn new q row = never (sym q)
 exit_keeps s t killed grant (exit.Clear p) turn new q row = leaf call.Exit (exit.Clear p) row refl
 exit_keeps s t killed grant (exit.Drop p) turn new q row =
     by_option (first_base (without (s.mappings t) p.base)) row
     (λ _ r. leaf call.Exit (exit.Drop p) r refl) (λ base _ r. leaf call.Exit (exit.Drop p) r refl)
-exit_keeps s t killed grant exit.Leave turn new q row = other_word q
+exit_keeps s t killed grant exit.Leave turn new q row = never (sym q)
 
 -- the call that a turn leaves
 of_turn : {P : Type 0} (call : P → Call) (here : P) (turn : Turn P) (next : Option Call) → next ≡ left call turn

@@ -23,6 +23,7 @@ use Rattle.hp_machine.specs.declared.outcome.Life.{Life}
 use Rattle.hp_machine.specs.declared.outcome.Outcome.{Outcome}
 use Rattle.hp_laws.specs.Laws.{IsOf}
 use Rattle.hp_laws.proofs.Nearing.{others_stay}
+use Rattle.hp_laws.proofs.Deciding.{never}
 use Rattle.hp_parts.specs.State.{PartsState}
 use Rattle.hp_parts.specs.View.{holders_of}
 use Rattle.hp_slots.specs.Holders.{slot_number}
@@ -121,7 +122,7 @@ by_word false c d first second = second
 
 is_nobody : (o : Option ℕ) → is_none o ≡ true → o ≡ None
 is_nobody None e = refl
-is_nobody (Some h) e = (let d : false ≡ true = e in absurd (cc))
+is_nobody (Some h) e = never e
 
 -- The test is true exactly where the task may take a turn,
 pub tells_can : (plan : Plan) (w : World) (t : ℕ) → (can_now plan w t ≡ true → CanTurn plan w t) × (CanTurn plan w t → can_now plan w t ≡ true)

@@ -1,12 +1,13 @@
 -- How a run begins, goes on, and ends.
 use Rattle.std.proofs.Common.{◌≡◌, ℕ, zero, suc, ◌+◌, ◌%◌, ◌^◌, ◌<◌, List, [], ◌∷◌, refl, ap}
-use Rattle.std.proofs.Common.{◌∙◌, subst, arith, inl, inr}
+use Rattle.std.proofs.Common.{◌∙◌, sym, subst, arith, inl, inr}
 use Rattle.std.specs.Prelude.{true, false, Option, None, Some, is_some}
 use Rattle.std.proofs.lemmas.Grind.{common_steps}
 use Rattle.hp_base.specs.declared.event.Event.{Event}
+use Rattle.hp_laws.proofs.Deciding.{never}
 use Rattle.hp_explore.specs.declared.line.Finish.{Finish}
 use Rattle.hp_explore.specs.declared.line.RunLine.{RunLine}
-use Rattle.hp_explore.specs.declared.script.Script.{Script}
+use Rattle.hp_text.specs.declared.script.Script.{Script}
 use Rattle.hp_explore.specs.Schedule.{Plan, World, IsStart, Turn, AreRunnable, plan_of}
 use Rattle.hp_explore.specs.Explored.{IsClean, IsRun, IsExplored, line_of, idle_finish, last_finish, turn_limit}
 
@@ -46,10 +47,10 @@ explored script seed deny kill run first left plan w events line planned seeded 
 -- a turn's answer: nothing, or its event
 pub none_told : (o : Option Event) → is_some o ≡ false → o ≡ None
 none_told None e = refl
-none_told (Some x) e = (let d : true ≡ false = e in absurd (cc))
+none_told (Some x) e = never (sym e)
 
 pub some_told : (o : Option Event) → is_some o ≡ true → (x : Event) × (o ≡ Some x)
-some_told None e = (let d : false ≡ true = e in absurd (cc))
+some_told None e = never e
 some_told (Some x) e = (x, refl)
 
 -- the line of a run that ends where its turn finds nobody

@@ -10,7 +10,7 @@ use Rattle.hp_audit.specs.Findings.{IsShaped, Agrees, IsOnePlace, IsBelow, IsCou
 use Rattle.hp_core.specs.State.{CoreState}
 use Rattle.hp_core.specs.Pictures.{IsPicture}
 use Rattle.hp_core.specs.Readers.{free_of, resv_of}
-use Rattle.hp_explore.specs.declared.script.Script.{Script}
+use Rattle.hp_text.specs.declared.script.Script.{Script}
 use Rattle.hp_explore.specs.declared.line.Finish.{Finish}
 use Rattle.hp_explore.specs.declared.line.Finish.TheVariants.{Finished, Stuck, Limit, Found}
 use Rattle.hp_explore.specs.declared.line.RunLine.{RunLine}

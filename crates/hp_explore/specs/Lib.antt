@@ -3,5 +3,6 @@ pub mod Explored
 pub mod Inverses
 pub mod Leaving
 pub mod Passing
+pub mod RunLines
 pub mod Schedule
 pub mod Text

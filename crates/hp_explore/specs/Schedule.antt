@@ -1,7 +1,7 @@
 -- A run of a script, turn by turn: the words of a generator pick the tasks, the denials and the kills.
 use Rattle.std.specs.Prelude.{◌≡◌, ◌==◌, ◌+◌, ◌-◌, ◌%◌, ◌&&◌, ◌⊎◌, ◌<◌, ℕ, zero, suc}
 use Rattle.std.specs.Prelude.{Bool, true, false, List, [], ◌∷◌, ◌++◌}
-use Rattle.std.specs.Prelude.{Option, None, Some, IsSome, length, map, filter, replicate, slice_get, slice_index}
+use Rattle.std.specs.Prelude.{Option, None, Some, IsSome, length, map, replicate, slice_get, slice_index}
 use Rattle.std.specs.Prelude.{slice_index_or, slice_set}
 use Rattle.std.specs.Prelude.{nat_lt, nat_le, is_some, if◌then◌else◌, MatchBool}
 use Rattle.std.specs.List.{range_with_len}
@@ -17,11 +17,8 @@ use Rattle.hp_core.specs.State.{CoreState}
 use Rattle.hp_core.specs.Readers.{phase_of, life_of}
 use Rattle.hp_core.specs.Runs.{Row, IsOpening}
 use Rattle.hp_core.specs.Waiting.{WaitsFor}
-use Rattle.hp_explore.specs.declared.script.Script.{Script}
-
--- the calls of a task, in the order of the script's lines
-abbrev pub calls_of : List (ℕ × Op) → (task : ℕ) → List Op
-calls_of lines t = map (λ line. line.1) (filter (λ line. line.0 == t) lines)
+use Rattle.hp_text.specs.Scripts.{calls_of}
+use Rattle.hp_text.specs.declared.script.Script.{Script}
 
 -- the calls of each task, from task 1; lines of a task that isn't there are no calls
 abbrev pub queues_of : List (ℕ × Op) → (tasks : ℕ) → List (List Op)

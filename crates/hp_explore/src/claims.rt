@@ -6,10 +6,10 @@
 ghost use Rattle.std.specs.Prelude.{◌≡◌, ◌+◌, ◌<◌, None, Ok, IfOk, IfSome, All, replicate};
 ghost use Rattle.hp_explore.specs.Claims.{AreClaimed, AreLinesOf, AreRuns, AreSlots, IsLineOf};
 
-use crate::exploring::explore_one;
+use crate::exploring::{Audit, explore_one};
 use crate::line::RunLine;
 use crate::plan::Plan;
-use crate::script::Script;
+use hp_text::Script;
 use rayon::current_num_threads;
 use rayon::prelude::*;
 use std::alloc::{AllocError, Global};
@@ -24,7 +24,7 @@ pub(crate) struct RunRange<'a> {
     pub(crate) seed: u64,
     pub(crate) first: u32,
     pub(crate) count: u32,
-    pub(crate) audited: bool,
+    pub(crate) audit: Audit,
 }
 
 /// A run by its place among those that are explored, from 0, and its line.
@@ -46,7 +46,7 @@ fn explore_at(alloc: Global, runs: RunRange, place: u32) -> Result<RunLine, Allo
         runs.plan,
         runs.seed,
         runs.first + place,
-        runs.audited,
+        runs.audit,
     )
 }
 

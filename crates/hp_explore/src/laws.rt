@@ -7,7 +7,7 @@ ghost use Rattle.hp_core.specs.Readers.{free_of, resv_of};
 ghost use Rattle.hp_core.specs.Runs.{IsOpening, Run};
 ghost use Rattle.hp_explore.specs.Explored.{IsExplored, IsLine};
 ghost use Rattle.hp_explore.specs.declared.line.RunLine.{RunLine};
-ghost use Rattle.hp_explore.specs.declared.script.Script.{Script};
+ghost use Rattle.hp_text.specs.declared.script.Script.{Script};
 
 /// A take may give any free frame, and yet a run has one line, and makes the same events each time.
 pub fn a_line_is_one()

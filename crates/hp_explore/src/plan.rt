@@ -1,10 +1,11 @@
 //! What every run of an exploration goes by.
 ghost use Rattle.std.specs.Prelude.{◌≡◌, ◌+◌, ◌-◌, ◌<◌, ◌≤◌, ◌^◌, IsSome, [], IfOk, slice_get, slice_index_or, map};
-ghost use Rattle.hp_explore.specs.Schedule.{calls_of, plan_of, queues_of};
+ghost use Rattle.hp_text.specs.Scripts.{calls_of};
+ghost use Rattle.hp_explore.specs.Schedule.{plan_of, queues_of};
 
 use crate::remainders::Remainders;
-use crate::script::Script;
 use hp_base::{Op, Task};
+use hp_text::Script;
 use std::alloc::{AllocError, Global};
 use std::marker::Model;
 
@@ -40,7 +41,7 @@ impl Plan {
     pub(crate) fn new(alloc: Global, script: &Script, chances: Chances) -> Result<Plan, AllocError>
         ensures { IfOk result (λ plan. plan ≡ plan_of script.now chances.deny chances.kill) }
     {
-        let queues = queues_of(alloc, script.calls.as_slice(), script.config.tasks)?;
+        let queues = queues_of(alloc, script)?;
         Ok(Plan {
             queues,
             chances,
@@ -60,27 +61,12 @@ impl Plan {
     }
 }
 
-fn queues_of(alloc: Global, lines: &[(Task, Op)], tasks: u32) -> Result<Vec<Vec<Op>>, AllocError>
-    requires { tasks ≤ 64 }
-    ensures { IfOk result (λ v. map (λ q. q.items) v.items ≡ queues_of lines.now tasks) }
+fn queues_of(alloc: Global, script: &Script) -> Result<Vec<Vec<Op>>, AllocError>
+    ensures { IfOk result (λ v. map (λ q. q.items) v.items ≡ queues_of script.now.calls.items script.now.config.tasks) }
 {
     let mut queues = Vec::new(alloc);
-    for task in 1..tasks + 1 {
-        queues.push(calls_of(alloc, lines, Task::new(task))?)?;
+    for task in 1..script.config.tasks + 1 {
+        queues.push(script.calls_of(alloc, Task::new(task))?)?;
     }
     Ok(queues)
-}
-
-pub(crate) fn calls_of(
-    alloc: Global,
-    lines: &[(Task, Op)],
-    task: Task,
-) -> Result<Vec<Op>, AllocError>
-    ensures { IfOk result (λ v. v.items ≡ calls_of lines.now task) }
-{
-    lines
-        .iter()
-        .filter(|line| line.0 == task)
-        .map(|line| line.1)
-        .collect(alloc)
 }

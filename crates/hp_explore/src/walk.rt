@@ -16,10 +16,10 @@ ghost use Rattle.hp_explore.specs.Explored.{EndsWell, IsClean, idle_finish, last
 use crate::line::{Finish, RunLine};
 use crate::plan::Plan;
 use crate::runnable_tasks::RunnableTasks;
-use crate::script::Script;
 use hp_audit::{Finding, audit};
 use hp_base::{Event, Op, Task};
 use hp_core::{Answer, Core, Life, Outcome, Phase};
+use hp_text::Script;
 use rand_core::SeedableRng;
 use rand_core::utils::NextWord;
 use rand_pcg::Lcg64Xsh32;

@@ -6,14 +6,14 @@ use Rattle.std.specs.Io.KnownBytes.{Appends, Keeps, append_known}
 use Rattle.std.specs.declared.io.buffered.BufWriter.{BufWriter}
 use Rattle.std.proofs.KnownBytes.{Appends-kept, Keeps-trans}
 use Rattle.std.proofs.lemmas.List.{append-nil}
-use Rattle.hp_replay.specs.declared.fault.ReplayFault.{ReplayFault}
-use Rattle.hp_replay.specs.declared.fault.ReplayFault.TheVariants.{BadLine, BadHeader, Read, Write, Memory}
+use Rattle.hp_text.specs.declared.fault.ReplayFault.{ReplayFault}
+use Rattle.hp_text.specs.declared.fault.ReplayFault.TheVariants.{BadLine, BadHeader, Read, Write, Memory}
 use Rattle.hp_replay.specs.Outcomes.{outcomes_text, state_text}
 use Rattle.hp_replay.specs.Replaying.{Replayed, Stopped, StoppedEarly}
 use Rattle.hp_replay.specs.Replaying.{AllRunWrites, RunWrites, nothing, so_far, to_the_end, no_line, each_line}
-use Rattle.hp_replay.specs.Streams.{TellsReads, TellsWrites}
-use Rattle.hp_replay.specs.Traces.{trace_text}
-use Rattle.hp_replay.specs.Writing.{Wrote}
+use Rattle.hp_text.specs.Streams.{TellsReads, TellsWrites}
+use Rattle.hp_text.specs.Traces.{trace_text}
+use Rattle.hp_text.specs.Writing.{Wrote}
 use Rattle.hp_program.specs.Endings.{HoldsFront, CutShort, DidReplay}
 
 -- an empty buffer adds nothing

@@ -1,6 +1,6 @@
 //! The lines of a fault.
 use hp_diagnostics::{Recalls, line_told};
-use hp_replay::ReplayFault;
+use hp_text::ReplayFault;
 use std::io;
 use std::io::Write;
 

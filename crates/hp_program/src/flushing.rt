@@ -3,7 +3,7 @@ ghost use Rattle.std.specs.Prelude.{◌≡◌, [], Ok, Err, true, false, IsOk, O
 ghost use Rattle.std.specs.Io.Buffered.{writer_buffer, writer_contents};
 ghost use Rattle.std.specs.Io.KnownBytes.{Keeps};
 
-use hp_replay::ReplayFault;
+use hp_text::ReplayFault;
 use std::io;
 use std::io::{BufWriter, Write};
 

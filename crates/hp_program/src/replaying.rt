@@ -3,7 +3,8 @@ ghost use Rattle.std.specs.Option.{option_map};
 ghost use Rattle.hp_program.specs.Endings.{DidReplay};
 
 use crate::flushing::{flush_unless, flushed_answer};
-use hp_replay::{ReplayFault, Source, Watched, replay};
+use hp_replay::replay;
+use hp_text::{ReplayFault, Source, Watched};
 use std::alloc::Global;
 use std::io::{BufWriter, Write};
 

@@ -8,9 +8,9 @@ use Rattle.std.proofs.KnownBytes.{Appends-nil, Appends-trans}
 use Rattle.std.proofs.lemmas.List.{append-nil}
 use Rattle.std.proofs.lemmas.List.Elements.{All-nil, All-push}
 use Rattle.std.proofs.lemmas.List.Folds.{list_all-append}
-use Rattle.hp_explore.specs.declared.script.Script.{Script}
-use Rattle.hp_replay.specs.Writing.{Wrote}
-use Rattle.hp_replay.proofs.Writes.{Wrote-behind}
+use Rattle.hp_text.specs.declared.script.Script.{Script}
+use Rattle.hp_text.specs.Writing.{Wrote}
+use Rattle.hp_text.proofs.Writes.{Wrote-behind}
 use Rattle.hp_race.specs.declared.line.Race.{Race}
 use Rattle.hp_race.specs.Parts.{IsToldBy}
 use Rattle.hp_race.specs.Text.{lines_text, run_line}

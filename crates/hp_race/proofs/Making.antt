@@ -10,8 +10,8 @@ use Rattle.std.proofs.lemmas.Option.{get_or_from_slice_get}
 use Rattle.std.proofs.lemmas.List.Elements.{All-head, All-push, All-tail, All-weaker}
 use Rattle.std.proofs.lemmas.List.Quantifiers.{Any-push}
 use Rattle.hp_base.specs.declared.event.Op.{Op}
-use Rattle.hp_explore.specs.Schedule.{calls_of}
-use Rattle.hp_explore.specs.declared.script.Script.{Script}
+use Rattle.hp_text.specs.Scripts.{calls_of}
+use Rattle.hp_text.specs.declared.script.Script.{Script}
 use Rattle.hp_shared.specs.declared.entry.Entry.{Entry}
 use Rattle.hp_shared.specs.declared.fault.Reply.{Reply}
 use Rattle.hp_shared.specs.declared.fault.Reply.TheVariants.{Ended, Refused}
@@ -19,7 +19,8 @@ use Rattle.hp_shared.specs.Calls.{AllMoved, BegunThen, Gained}
 use Rattle.hp_shared.specs.Replies.{IsCall}
 use Rattle.hp_shared.specs.Seats.{new_seat}
 use Rattle.hp_shared.specs.States.{SeatState}
-use Rattle.hp_race.specs.Calls.{CallMade, CallsMade, CallsStrayed, EndsBy, is_exit, is_not_alive, may_end}
+use Rattle.hp_machine.specs.Events.{is_exit}
+use Rattle.hp_race.specs.Calls.{CallMade, CallsMade, CallsStrayed, EndsBy, is_not_alive, may_end}
 use Rattle.hp_race.specs.Racers.{HasMade, HasMadeIn, HasRun, HasStrayed, HasStrayedIn, IsNew, SomeStrayed, SomeStrayedIn, calls_in, is_gone}
 use Rattle.hp_race.specs.Parts.{call_range}
 use Rattle.hp_race.specs.declared.call_range.CallRange.{CallRange}

@@ -9,8 +9,8 @@ use Rattle.hp_base.specs.declared.event.Op.{Op}
 use Rattle.hp_core.specs.Runs.{IsOpening, Row}
 use Rattle.hp_core.specs.State.{CoreState}
 use Rattle.hp_core.specs.declared.readers.Tally.{Tally}
-use Rattle.hp_explore.specs.Schedule.{calls_of}
-use Rattle.hp_explore.specs.declared.script.Script.{Script}
+use Rattle.hp_text.specs.Scripts.{calls_of}
+use Rattle.hp_text.specs.declared.script.Script.{Script}
 use Rattle.hp_machine.specs.declared.outcome.Outcome.{Outcome}
 use Rattle.hp_shared.proofs.Runs.{follows_more}
 use Rattle.hp_shared.specs.Closing.{ClosesWith, RefusesClose}

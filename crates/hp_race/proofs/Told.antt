@@ -11,9 +11,9 @@ use Rattle.hp_core.specs.Runs.{IsOpening, Run, geometry}
 use Rattle.hp_core.specs.State.{CoreState, as_state}
 use Rattle.hp_core.specs.declared.readers.Tally.{Tally}
 use Rattle.hp_machine.specs.Events.{opening}
-use Rattle.hp_explore.specs.declared.script.Script.{Script}
-use Rattle.hp_replay.specs.declared.trace.TheConstants.{MOST_EVENTS}
-use Rattle.hp_replay.specs.declared.trace.Trace.{Trace}
+use Rattle.hp_text.specs.declared.script.Script.{Script}
+use Rattle.hp_text.specs.declared.trace.TheConstants.{MOST_EVENTS}
+use Rattle.hp_text.specs.declared.trace.Trace.{Trace}
 use Rattle.hp_shared.proofs.Runs.{came_to, follows_on}
 use Rattle.hp_shared.specs.Closing.{ClosesWith, RefusesClose}
 use Rattle.hp_shared.specs.Journal.{events_of, Follows, Interleaves, IsCameTo}

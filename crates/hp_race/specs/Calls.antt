@@ -2,7 +2,7 @@
 use Rattle.std.specs.Prelude.{◌≡◌, ◌==◌, ◌&&◌, ◌||◌, ◌⊎◌, ℕ, Bool, true, false, not, List, [], ◌∷◌, length}
 use Rattle.hp_base.specs.declared.answer.Answer.{Answer}
 use Rattle.hp_base.specs.declared.event.Op.{Op}
-use Rattle.hp_base.specs.declared.event.Op.TheVariants.{Map, MapNoReserve, Unmap, Load, Store, Alloc, Punch, Truncate, Exit}
+use Rattle.hp_machine.specs.Events.{is_exit}
 use Rattle.hp_machine.specs.declared.outcome.Refusal.{Refusal}
 use Rattle.hp_machine.specs.declared.outcome.Refusal.TheVariants.{NotAlive, InCall, Idle, BadSize}
 use Rattle.hp_shared.specs.declared.entry.Entry.{Entry}
@@ -11,17 +11,6 @@ use Rattle.hp_shared.specs.declared.fault.Reply.TheVariants.{Ended, Refused}
 use Rattle.hp_shared.specs.Replies.{IsCall}
 use Rattle.hp_race.specs.declared.racer.Ending.{Ending}
 use Rattle.hp_race.specs.declared.racer.Ending.TheVariants.{Made, Astray, Memory}
-
-abbrev pub is_exit : Op → Bool
-is_exit (Map file from len) = false
-is_exit (MapNoReserve file from len) = false
-is_exit (Unmap base) = false
-is_exit (Load vpn) = false
-is_exit (Store vpn word) = false
-is_exit (Alloc file from len keep) = false
-is_exit (Punch file from len) = false
-is_exit (Truncate file new) = false
-is_exit Exit = true
 
 -- whether a call of a task that isn't there any more may be refused so
 abbrev pub is_not_alive : Refusal → Bool

@@ -3,8 +3,8 @@ use Rattle.std.specs.Prelude.{◌≡◌, ◌+◌, ◌≤◌, ◌⊎◌, ℕ, Boo
 use Rattle.hp_core.specs.Readers.{free_of, resv_of}
 use Rattle.hp_core.specs.Runs.{IsOpening}
 use Rattle.hp_core.specs.State.{CoreState}
-use Rattle.hp_explore.specs.declared.script.Script.{Script}
-use Rattle.hp_explore.specs.Schedule.{calls_of}
+use Rattle.hp_text.specs.declared.script.Script.{Script}
+use Rattle.hp_text.specs.Scripts.{calls_of}
 use Rattle.hp_shared.specs.declared.entry.Entry.{Entry}
 use Rattle.hp_shared.specs.Closing.{ClosesWith}
 use Rattle.hp_shared.specs.Journal.{Follows, Interleaves, IsCameTo}

@@ -2,10 +2,11 @@
 use Rattle.std.specs.Prelude.{◌≡◌, Bool, false, List, [], take, drop}
 use Rattle.std.specs.List.{Any, list_any}
 use Rattle.hp_base.specs.declared.event.Op.{Op}
-use Rattle.hp_explore.specs.declared.script.Script.{Script}
-use Rattle.hp_explore.specs.Schedule.{calls_of}
+use Rattle.hp_text.specs.declared.script.Script.{Script}
+use Rattle.hp_text.specs.Scripts.{calls_of}
 use Rattle.hp_shared.specs.States.{SeatState}
-use Rattle.hp_race.specs.Calls.{CallsMade, CallsStrayed, EndsBy, is_exit}
+use Rattle.hp_machine.specs.Events.{is_exit}
+use Rattle.hp_race.specs.Calls.{CallsMade, CallsStrayed, EndsBy}
 use Rattle.hp_race.specs.declared.racer.Ending.{Ending}
 use Rattle.hp_race.specs.declared.call_range.CallRange.{CallRange}
 

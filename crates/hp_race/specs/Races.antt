@@ -5,10 +5,10 @@ use Rattle.hp_base.specs.declared.event.Event.{Event}
 use Rattle.hp_core.specs.Readers.{config_of, free_of, resv_of}
 use Rattle.hp_core.specs.Runs.{IsOpening}
 use Rattle.hp_core.specs.State.{CoreState}
-use Rattle.hp_explore.specs.declared.script.Script.{Script}
+use Rattle.hp_text.specs.declared.script.Script.{Script}
 use Rattle.hp_core.specs.declared.readers.Tally.{Tally}
-use Rattle.hp_replay.specs.declared.trace.TheConstants.{MOST_EVENTS}
-use Rattle.hp_replay.specs.declared.trace.Trace.{Trace}
+use Rattle.hp_text.specs.declared.trace.TheConstants.{MOST_EVENTS}
+use Rattle.hp_text.specs.declared.trace.Trace.{Trace}
 use Rattle.hp_shared.specs.declared.entry.Entry.{Entry}
 use Rattle.hp_shared.specs.declared.fault.CloseFault.{CloseFault}
 use Rattle.hp_shared.specs.declared.fault.CloseFault.TheVariants as fault

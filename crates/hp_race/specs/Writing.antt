@@ -4,15 +4,15 @@ use Rattle.std.specs.List.{list_all}
 use Rattle.std.specs.Io.KnownBytes.{Appends, Keeps}
 use Rattle.hp_base.specs.Text.{sizes}
 use Rattle.hp_base.specs.declared.event.Event.{Event}
-use Rattle.hp_explore.specs.declared.script.Script.{Script}
+use Rattle.hp_text.specs.declared.script.Script.{Script}
 use Rattle.hp_race.specs.declared.line.Race.{Race}
 use Rattle.hp_race.specs.declared.line.Verdict.{Verdict}
 use Rattle.hp_race.specs.declared.line.Verdict.TheVariants.{Closed, Disagree, Astray}
 use Rattle.hp_race.specs.Parts.{IsToldBy}
 use Rattle.hp_race.specs.Races.{IsTraceOf, IsUnclosed}
 use Rattle.hp_race.specs.Text.{lines_text}
-use Rattle.hp_replay.specs.Traces.{trace_text}
-use Rattle.hp_replay.specs.Writing.{Wrote}
+use Rattle.hp_text.specs.Traces.{trace_text}
+use Rattle.hp_text.specs.Writing.{Wrote}
 
 abbrev pub is_verdict_closed : Verdict → Bool
 is_verdict_closed Closed = true

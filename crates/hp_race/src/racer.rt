@@ -1,16 +1,17 @@
 //! A task's place in a race: its seat, and the calls that it is to make.
-ghost use Rattle.std.specs.Prelude.{◌≡◌, ◌+◌, ◌||◌, IfOk, All, true, false, length, [], MatchBool};
+ghost use Rattle.std.specs.Prelude.{◌≡◌, ◌+◌, IfOk, All, true, false, length, [], MatchBool};
 ghost use Rattle.std.specs.List.{list_any};
-ghost use Rattle.hp_explore.specs.Schedule.{calls_of};
-ghost use Rattle.hp_race.specs.Calls.{EndsBy, is_exit, may_end};
+ghost use Rattle.hp_text.specs.Scripts.{calls_of};
+ghost use Rattle.hp_machine.specs.Events.{is_exit};
+ghost use Rattle.hp_race.specs.Calls.{EndsBy, may_end};
 ghost use Rattle.hp_race.specs.Racers.{HasMadeIn, HasRun, HasStrayedIn, IsNew, IsSet, SomeStrayedIn, calls_in, is_gone};
 
 use crate::call_range::CallRange;
 use crate::starting_line::StartingLine;
 use hp_base::Op;
 use hp_core::Refusal;
-use hp_explore::Script;
 use hp_shared::{Halting, Reply, Seat, Shared, call};
+use hp_text::Script;
 use std::alloc::{AllocError, Global};
 use std::sync::Wait;
 use std::sync::ledger::Ledger;
@@ -34,12 +35,6 @@ pub(crate) struct Racer<L: Ledger> {
     pub(crate) seat: Seat<L>,
     pub(crate) calls: Vec<Op>,
     pub(crate) ending: Ending,
-}
-
-fn either(a: bool, b: bool) -> bool
-    ensures { result ≡ (a || b) }
-{
-    a || b
 }
 
 fn is_exit(op: &Op) -> bool
@@ -88,7 +83,7 @@ fn make_calls<L: Ledger, R: Wait>(
         if !may_end(gone, reply, before, seat.list().len()) {
             return Ending::Astray;
         }
-        gone = either(gone, is_exit(op));
+        gone |= is_exit(op);
     }
     Ending::Made
 }

@@ -1,19 +1,18 @@
 //! Writes a line for each race.
-ghost use Rattle.std.specs.Prelude.{◌≡◌, ◌&&◌, [], OnOk, IfErr, IfOk, string_bytes};
+ghost use Rattle.std.specs.Prelude.{◌≡◌, [], OnOk, IfErr, IfOk, string_bytes};
 ghost use Rattle.std.specs.Int.NonZero.{non_zero_u32_get};
 ghost use Rattle.std.specs.Io.KnownBytes.{Appends};
 ghost use Rattle.std.specs.Option.{option_map};
 ghost use Rattle.hp_race.specs.Parts.{IsToldBy};
 ghost use Rattle.hp_race.specs.Text.{run_line};
 ghost use Rattle.hp_race.specs.Writing.{WroteRaces, WroteSomeRaces, WroteSomeTrace, WroteTrace, is_closed};
-ghost use Rattle.hp_replay.specs.Streams.{TellsWrites};
-ghost use Rattle.hp_replay.specs.Writing.{IsWriteFault, Wrote};
+ghost use Rattle.hp_text.specs.Streams.{TellsWrites};
+ghost use Rattle.hp_text.specs.Writing.{IsWriteFault, Wrote};
 
 use crate::line::{Race, Verdict};
 use crate::parts::race_in_parts;
 use crate::racing::{race, race_trace};
-use hp_explore::Script;
-use hp_replay::{ReplayFault, Sink, write_text, write_trace};
+use hp_text::{ReplayFault, Script, Sink, write_text, write_trace};
 use std::alloc::{AllocError, Global};
 use std::num::NonZeroU32;
 use std::sync::Wait;
@@ -40,12 +39,6 @@ fn is_closed(race: &Race) -> bool
     ensures { result ≡ is_closed race.now }
 {
     race.verdict == Verdict::Closed
-}
-
-fn both(a: bool, b: bool) -> bool
-    ensures { result ≡ (a && b) }
-{
-    a && b
 }
 
 // One race. Where a number is given, its journal is cut behind so many calls of each task.
@@ -83,7 +76,7 @@ pub fn write_races<R: Threads + Wait + Sync, W: Sink>(
     for run in 0..times {
         let ended = race_once(rt, alloc, script, cut)?;
         write_race(alloc, run, ended, writer)?;
-        closed = both(closed, is_closed(&ended));
+        closed &= is_closed(&ended);
     }
     Ok(closed)
 }

@@ -9,21 +9,22 @@ use Rattle.hp_base.specs.Text.{Sizes}
 use Rattle.hp_base.specs.declared.event.Event.{Event}
 use Rattle.hp_machine.specs.declared.outcome.Outcome.{Outcome}
 use Rattle.hp_core.specs.State.{CoreState}
-use Rattle.hp_replay.specs.declared.fault.ReplayFault.{ReplayFault}
-use Rattle.hp_replay.specs.declared.fault.ReplayFault.TheVariants.{BadLine, BadHeader, Read, Write, Memory}
-use Rattle.hp_replay.specs.Lines.{FeedState, opening_feed, Line, header, event, fault_at, feed_after, lines_after, end_of, end_at}
-use Rattle.hp_replay.specs.Traces.{IsTrace, HasNoEnd, IsLineFault, trace_text}
+use Rattle.hp_text.specs.declared.fault.ReplayFault.{ReplayFault}
+use Rattle.hp_text.specs.declared.fault.ReplayFault.TheVariants.{BadLine, BadHeader, Read, Write, Memory}
+use Rattle.hp_text.specs.Lines.{FeedState, opening_feed, Line, header, event, fault_at, feed_after, lines_after, end_of, end_at}
+use Rattle.hp_text.specs.Traces.{IsTrace, HasNoEnd, IsLineFault, trace_text}
 use Rattle.hp_replay.specs.Outcomes.{Run, RunOf, outcomes_text, outcome_line, state_text}
-use Rattle.hp_replay.specs.Writing.{Wrote, IsWriteFault}
+use Rattle.hp_text.specs.Writing.{Wrote, IsWriteFault}
 use Rattle.hp_replay.specs.Running.{LinesRun, PieceRan, PieceRanPartly, PieceStopped, IsOpened}
 use Rattle.hp_replay.specs.Replaying.{Replayed, StoppedEarly, StoppedAtRead, RunWrites, nothing, so_far, to_the_end, AllRunWrites}
 use Rattle.hp_replay.specs.Replaying.{no_line, each_line, Stopped}
-use Rattle.hp_replay.proofs.Writes.{Wrote-behind, Wrote-more}
-use Rattle.hp_replay.proofs.Bytes.{IsHeld, room}
-use Rattle.hp_replay.proofs.BadLines.{NoLine, stops, cut}
+use Rattle.hp_text.proofs.Writes.{Wrote-behind, Wrote-more}
+use Rattle.hp_text.proofs.Bytes.{IsHeld, room}
+use Rattle.hp_text.proofs.BadLines.{NoLine, stops, cut}
 use Rattle.hp_replay.proofs.Running.{PieceRan-append, PieceRanPartly-behind}
-use Rattle.hp_replay.proofs.Whole.{opening_is, holds, taken, TraceLines, TakenTrace}
-use Rattle.hp_replay.proofs.Fronts.{Front, unbegun, begun, front_of, no_header, bad_rest}
+use Rattle.hp_text.proofs.Whole.{opening_is, holds, taken, TraceLines, TakenTrace}
+use Rattle.hp_text.proofs.LastLines.{for_some, good, with_error, err_is, err_ok, ok_err, end_cases, cut_at_end}
+use Rattle.hp_text.proofs.Fronts.{Front, unbegun, begun, front_of, no_header, bad_rest}
 
 -- ---- the run of a trace
 
@@ -140,10 +141,6 @@ line_stopped from to o o' front back text core reads ok runs wrote some bad = by
           run = run.run;
           wrote = subst (λ (x : List ℕ). Appends o o' x) run.text_is wrote;
         })
-
-pub for_some : (o : Option (List ℕ)) (P : List ℕ → Type 0) → ((xs : List ℕ) → P xs) → IfSome o P
-for_some None P all = tt
-for_some (Some xs) P all = all xs
 
 early : (fault : ReplayFault) (from to o o' : Option (List ℕ)) → IsWriteFault fault → StoppedEarly from to o o' → Stopped fault from to o o'
 early BadHeader from to o o' is stopped = absurd is
@@ -394,28 +391,6 @@ read_failed from mid to h core o o' g kept =
 
 -- ---- the end of the bytes
 
-abbrev pub good : Result (Unit {0}) ReplayFault
-good = Ok tt
-
-abbrev pub with_error : ReplayFault → Result (Unit {0}) ReplayFault
-with_error fault = Err fault
-
--- what the end says where no fault is held
-pub end_cases : (h : FeedState) (r : Result (Unit {0}) ReplayFault) → h.fault ≡ None → end_of h ≡ r
-    → ((r ≡ Ok tt) × (h.rest ≡ []) × (0 < h.lines)) ⊎ ((r ≡ Err (fault_at h.lines)) × (0 < h.lines → 0 < length h.rest))
-end_cases h r ok e = by h.fault h.lines h.rest refl refl refl ok e
-  where
-    some_none : (f : ReplayFault) → Some f ≡ None → ⊥
-    some_none f e = cc
-
-    by : (f : Option ReplayFault) (n : ℕ) (rest : List ℕ) → h.fault ≡ f → h.lines ≡ n → h.rest ≡ rest → f ≡ None
-        → end_at f n rest ≡ r
-        → ((r ≡ Ok tt) × (h.rest ≡ []) × (0 < h.lines)) ⊎ ((r ≡ Err (fault_at h.lines)) × (0 < h.lines → 0 < length h.rest))
-    by (Some f) n rest p q s ok e = absurd (some_none f ok)
-    by None zero rest p q s ok e = inr (sym e ∙ ap (λ (k : ℕ). (with_error (fault_at k))) (sym q), λ more. absurd (omega arith))
-    by None (suc n) [] p q s ok e = inl (sym e, s, omega arith)
-    by None (suc n) (b ∷ rest) p q s ok e = inr (sym e ∙ ap (λ (k : ℕ). (with_error (fault_at k))) (sym q), λ _. rw s (omega arith))
-
 -- the trace that was read
 pub record EndRan (from to : Option (List ℕ)) (core : Option CoreState) (o o' : Option (List ℕ)) : Type 0 where
   pub sizes : Sizes
@@ -432,9 +407,6 @@ end_ran : (from mid to : Option (List ℕ)) (h : FeedState) (core : Option CoreS
     → Going from mid h core o o' → Consumes mid to [] → end_of h ≡ Ok tt → EndRan from to core o o'
 end_ran from mid to h core o o' g read e = by (end_cases h (Ok tt) g.no_fault e)
   where
-    ok_err : (f : ReplayFault) → good ≡ Err f → ⊥
-    ok_err f e = cc
-
     by_ran : h.rest ≡ [] → 0 < h.lines → Ran g.bytes [] g.piece.text core → EndRan from to core o o'
     by_ran none some (before zero_is empty is) =
         absurd (let same : h.lines ≡ (feed_after opening_feed g.bytes).lines = ap (λ (x : FeedState). x.lines)
@@ -489,25 +461,11 @@ NotFinished fault h core o o' =
     ((end_of h ≡ Err fault) × IsLineFault fault × Keeps o o')
     ⊎ (IsWriteFault fault × (end_of h ≡ Ok tt) × IfSome core (λ c. Wrote o o' (state_text c)))
 
--- no line stands at the end
-pub cut_at_end : (to : Option (List ℕ)) (n : ℕ) (rest : List ℕ) → IsAtEnd to → NoLine n rest
-    → IfSome to (λ left. NoLine n (rest ++ ([] ++ left)))
-cut_at_end None n rest e bad = tt
-cut_at_end (Some left) n rest e bad =
-    subst (λ (x : List ℕ). NoLine n (rest ++ ([] ++ x))) (sym e)
-    (subst (λ (x : List ℕ). NoLine n x) (sym (append-nil rest)) bad)
-
 not_finished : (from mid to : Option (List ℕ)) (h : FeedState) (core : Option CoreState) (o o' o'' : Option (List ℕ))
     (fault : ReplayFault) → Going from mid h core o o' → Consumes mid to [] → IsAtEnd to
     → NotFinished fault h core o' o'' → Stopped fault from to o o''
 not_finished from mid to h core o o' o'' fault g read all (inl (ended, line, kept)) = by (end_cases h (Err fault) g.no_fault ended)
   where
-    err_ok : (f : ReplayFault) → (with_error f) ≡ Ok tt → ⊥
-    err_ok f e = cc
-
-    err_is : (f f' : ReplayFault) → (with_error f) ≡ Err f' → f' ≡ f
-    err_is f f' e = cc
-
     kept_writes : (a b c : Option (List ℕ)) (text : List ℕ) → Appends a b text → Keeps b c → Appends a c text
     kept_writes None b c text p k = tt
     kept_writes (Some a) None c text p k = absurd p
@@ -522,7 +480,7 @@ not_finished from mid to h core o o' o'' fault g read all (inl (ended, line, kep
         let now = feed_after opening_feed g.bytes in
         let no_end = (taken g.bytes (held_is from mid h core o o' g)).held.no_end in
         subst (λ (f : ReplayFault). Stopped f from to o o'')
-        (ap (λ (x : FeedState). fault_at x.lines) (sym held) ∙ err_is fault (fault_at h.lines) is)
+        (ap (λ (x : FeedState). fault_at x.lines) (sym held) ∙ sym (err_is fault (fault_at h.lines) is))
         (line_stopped from to o o'' g.bytes [] g.piece.text core (Consumes-trans from mid to g.bytes [] g.reads read)
         (held_is from mid h core o o' g) g.piece.runs (kept_writes o o' o'' g.piece.text g.piece.wrote kept)
         (λ more. subst (λ (x : List ℕ). 0 < length x) (sym (append-nil now.rest))
@@ -556,7 +514,3 @@ pub finish_stopped : (from mid to : Option (List ℕ)) (h : FeedState) (core : O
     → IfErr r (λ fault. NotFinished fault h core o' o'') → IfErr r (λ fault. Stopped fault from to o o'')
 finish_stopped from mid to h core o o' o'' (Ok x) g read all not = tt
 finish_stopped from mid to h core o o' o'' (Err fault) g read all not = not_finished from mid to h core o o' o'' fault g read all not
-
--- a read of nothing
-pub read_none : (mid to : Option (List ℕ)) (buf : List ℕ) (n : ℕ) → n ≡ 0 → Consumes mid to (take n buf) → Consumes mid to []
-read_none mid to buf n none read = subst (λ (k : ℕ). Consumes mid to (take k buf)) none read

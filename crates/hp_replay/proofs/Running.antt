@@ -11,18 +11,19 @@ use Rattle.hp_base.specs.declared.event.Event.{Event}
 use Rattle.hp_machine.specs.declared.outcome.Outcome.{Outcome}
 use Rattle.hp_core.specs.Runs.{Row, IsOpening}
 use Rattle.hp_core.specs.State.{CoreState}
-use Rattle.hp_replay.specs.declared.fault.ReplayFault.{ReplayFault}
-use Rattle.hp_replay.specs.declared.fault.ReplayFault.TheVariants.{Memory}
-use Rattle.hp_replay.specs.declared.feed.TraceLine.{TraceLine}
-use Rattle.hp_replay.specs.declared.feed.TraceLine.TheVariants as lines
-use Rattle.hp_replay.specs.Lines.{FeedState, Line, header, event, line_of, feed_after, lines_after, listed, AreLines}
+use Rattle.hp_text.specs.declared.fault.ReplayFault.{ReplayFault}
+use Rattle.hp_text.specs.declared.fault.ReplayFault.TheVariants.{Memory}
+use Rattle.hp_text.specs.declared.feed.TraceLine.{TraceLine}
+use Rattle.hp_text.specs.declared.feed.TraceLine.TheVariants as lines
+use Rattle.hp_text.specs.Lines.{FeedState, Line, header, event, line_of, feed_after, lines_after, listed, AreLines}
 use Rattle.hp_replay.specs.Outcomes.{outcome_line}
-use Rattle.hp_replay.specs.Traces.{IsLineFault}
+use Rattle.hp_text.specs.Traces.{IsLineFault}
 use Rattle.hp_replay.specs.Running.{LineRuns, LinesRun, LinesRan, PieceRan, PieceRanPartly}
 use Rattle.hp_replay.specs.Running.{PieceStopped, CanRun, CanRunIfSome, IsOpened}
-use Rattle.hp_replay.proofs.Feeding.{feed_after-append, lines_after-append, stays}
-use Rattle.hp_replay.proofs.Spelled.{spelled}
-use Rattle.hp_replay.proofs.Writes.{Wrote-behind}
+use Rattle.hp_text.proofs.Feeding.{feed_after-append, lines_after-append, stays}
+use Rattle.hp_text.proofs.Spelled.{spelled}
+use Rattle.hp_text.proofs.FirstLines.{TookLine, through_parts}
+use Rattle.hp_text.proofs.Writes.{Wrote-behind}
 
 pub LinesRun-append : (a : Option CoreState) (xs : List Line) (b : Option CoreState) (s : List ℕ) (ys : List Line)
     (c : Option CoreState) (t : List ℕ) → LinesRun a xs b s → LinesRun b ys c t → LinesRun a (xs ++ ys) c (s ++ t)
@@ -129,39 +130,6 @@ PieceRanPartly-behind h h' a b c c' o o' o'' p q =
         wrote = Wrote-behind o o' o'' p.text q.ran.text p.wrote q.ran.wrote;
       };
     }
-
--- the first line of some bytes, and what is behind it
-pub through_parts : (xs : List ℕ) → xs ≡ take_through 10 xs ++ drop (length (take_through 10 xs)) xs
-through_parts [] = refl
-through_parts (x ∷ xs) = by (eqb x 10) refl (through_parts xs)
-  where
-    by : (end : Bool) → eqb x 10 ≡ end → xs ≡ take_through 10 xs ++ drop (length (take_through 10 xs)) xs
-        → x ∷ xs ≡ take_through 10 (x ∷ xs) ++ drop (length (take_through 10 (x ∷ xs))) (x ∷ xs)
-    by true e later = rw e refl
-    by false e later = rw e (ap (λ (t : List ℕ). x ∷ t) later)
-
-pub through_within : (xs : List ℕ) → length (take_through 10 xs) ≤ length xs
-through_within xs =
-    omega (
-      arith,
-      ap (λ (t : List ℕ). length t) (through_parts xs),
-      length-append (take_through 10 xs) (drop (length (take_through 10 xs)) xs),
-    )
-
-pub through_some : (xs : List ℕ) → 0 < length xs → 0 < length (take_through 10 xs)
-through_some [] lt = absurd (omega arith)
-through_some (x ∷ xs) lt = by (eqb x 10) refl
-  where
-    by : (end : Bool) → eqb x 10 ≡ end → 0 < length (take_through 10 (x ∷ xs))
-    by true e = rw e (omega arith)
-    by false e = rw e (omega arith)
-
--- what feed.take told of the line that the rest begins with
-pub record TookLine (h next : FeedState) (line : Option Line) (rest left : List ℕ) : Type 0 where
-  pub held : next ≡ feed_after h (take_through 10 rest)
-  pub lines : listed line [] ≡ lines_after h (take_through 10 rest)
-  pub left_is : left ≡ drop (length (take_through 10 rest)) rest
-  pub ok : next.fault ≡ None
 
 can_run : (n : ℕ) (line : Line) (core : Option CoreState) → AreLines n (line ∷ []) → (0 < n → IsSome core) → CanRun core line
 can_run zero (header s) core are opened = tt

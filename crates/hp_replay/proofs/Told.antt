@@ -1,48 +1,15 @@
--- A fault of a stream is told where that stream failures, and nowhere else.
+-- A fault of a stream is answered where that stream failed, and nowhere else.
 use Rattle.std.proofs.Common.{◌≡◌, ℕ, List, Option, refl, sym, subst, ◌∙◌, inl, inr}
 use Rattle.std.specs.Prelude.{IfErr, Result, Ok, Err}
 use Rattle.hp_core.specs.State.{CoreState}
-use Rattle.hp_replay.specs.declared.fault.ReplayFault.{ReplayFault}
-use Rattle.hp_replay.specs.declared.fault.ReplayFault.TheVariants.{BadLine, BadHeader, Read, Write, Memory}
-use Rattle.hp_replay.specs.Lines.{FeedState}
-use Rattle.hp_replay.specs.Traces.{IsLineFault}
-use Rattle.hp_replay.specs.Writing.{IsWriteFault}
+use Rattle.hp_text.specs.declared.fault.ReplayFault.{ReplayFault}
+use Rattle.hp_text.specs.Lines.{FeedState}
 use Rattle.hp_replay.specs.Running.{PieceStopped}
-use Rattle.hp_replay.specs.Collecting.{PieceNotKept}
-use Rattle.hp_replay.specs.Streams.{source_at, sink_at, TellsReads}
+use Rattle.hp_text.specs.Streams.{source_at, sink_at, TellsReads}
+use Rattle.hp_text.proofs.StreamFaults.{line_no_read, line_no_write, write_no_read}
 use Rattle.hp_replay.proofs.Replays.{NotFinished}
 
--- a line's fault is none of a stream
-pub line_no_read : (fault : ReplayFault) (failures : ℕ) → IsLineFault fault → failures ≡ source_at fault failures
-line_no_read BadHeader failures is = refl
-line_no_read (BadLine n) failures is = refl
-line_no_read Read failures is = absurd is
-line_no_read Write failures is = absurd is
-line_no_read Memory failures is = absurd is
-
-pub line_no_write : (fault : ReplayFault) (failures : ℕ) → IsLineFault fault → failures ≡ sink_at fault failures
-line_no_write BadHeader failures is = refl
-line_no_write (BadLine n) failures is = refl
-line_no_write Read failures is = absurd is
-line_no_write Write failures is = absurd is
-line_no_write Memory failures is = absurd is
-
--- nor is a fault of writing one of reading
-pub write_no_read : (fault : ReplayFault) (failures : ℕ) → IsWriteFault fault → failures ≡ source_at fault failures
-write_no_read BadHeader failures is = absurd is
-write_no_read (BadLine n) failures is = absurd is
-write_no_read Read failures is = absurd is
-write_no_read Write failures is = refl
-write_no_read Memory failures is = refl
-
--- a line of a piece that is bad, or was not kept
-pub not_kept_no_read : (fault : ReplayFault) (held : FeedState) (piece : List ℕ) (next : FeedState) (failures : ℕ)
-    → PieceNotKept fault held piece next → failures ≡ source_at fault failures
-not_kept_no_read fault held piece next failures (inl (bad, is, taken)) = line_no_read fault failures is
-not_kept_no_read fault held piece next failures (inr (is, none)) =
-    subst (λ (f : ReplayFault). failures ≡ source_at f failures) (sym is) refl
-
--- or did not run
+-- a line of a piece that is bad, or did not run, is no fault of reading
 pub stopped_no_read : (fault : ReplayFault) (held : FeedState) (piece : List ℕ) (next : FeedState) (old new : Option CoreState)
     (before after : Option (List ℕ)) (failures : ℕ) → PieceStopped fault held piece next old new before after
     → failures ≡ source_at fault failures

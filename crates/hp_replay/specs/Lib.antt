@@ -1,13 +1,3 @@
-pub mod Fits
-pub mod Reading
-pub mod Lines
-pub mod Streams
-pub mod Traces
 pub mod Outcomes
-pub mod Writing
 pub mod Running
 pub mod Replaying
-pub mod Collecting
-pub mod Scripts
-pub mod Checking
-pub mod RunLines

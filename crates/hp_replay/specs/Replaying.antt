@@ -5,11 +5,11 @@ use Rattle.hp_base.specs.Text.{Sizes}
 use Rattle.hp_base.specs.declared.event.Event.{Event}
 use Rattle.hp_machine.specs.declared.outcome.Outcome.{Outcome}
 use Rattle.hp_core.specs.State.{CoreState}
-use Rattle.hp_replay.specs.declared.fault.ReplayFault.{ReplayFault}
-use Rattle.hp_replay.specs.declared.fault.ReplayFault.TheVariants.{BadLine, BadHeader, Read, Write, Memory}
-use Rattle.hp_replay.specs.Traces.{IsTrace, HasNoEnd, trace_text, BeginsNoHeader, IsBadRest}
+use Rattle.hp_text.specs.declared.fault.ReplayFault.{ReplayFault}
+use Rattle.hp_text.specs.declared.fault.ReplayFault.TheVariants.{BadLine, BadHeader, Read, Write, Memory}
+use Rattle.hp_text.specs.Traces.{IsTrace, HasNoEnd, trace_text, BeginsNoHeader, IsBadRest}
 use Rattle.hp_replay.specs.Outcomes.{RunOf, outcomes_text, state_text}
-use Rattle.hp_replay.specs.Writing.{Wrote}
+use Rattle.hp_text.specs.Writing.{Wrote}
 
 -- A reader had the bytes `from` left, and now has `to`; a writer held `before`, and now holds `after`.
 -- Where they tell their bytes, each field is an equation of lists.

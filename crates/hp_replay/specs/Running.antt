@@ -6,12 +6,12 @@ use Rattle.hp_base.specs.declared.config.Config.{Config}
 use Rattle.hp_machine.specs.declared.outcome.Outcome.{Outcome}
 use Rattle.hp_core.specs.Runs.{Row, IsOpening}
 use Rattle.hp_core.specs.State.{CoreState}
-use Rattle.hp_replay.specs.declared.fault.ReplayFault.{ReplayFault}
-use Rattle.hp_replay.specs.declared.fault.ReplayFault.TheVariants.{Memory}
-use Rattle.hp_replay.specs.Lines.{FeedState, Line, header, event, feed_after, lines_after}
+use Rattle.hp_text.specs.declared.fault.ReplayFault.{ReplayFault}
+use Rattle.hp_text.specs.declared.fault.ReplayFault.TheVariants.{Memory}
+use Rattle.hp_text.specs.Lines.{FeedState, Line, header, event, feed_after, lines_after}
 use Rattle.hp_replay.specs.Outcomes.{outcome_line}
-use Rattle.hp_replay.specs.Traces.{IsLineFault}
-use Rattle.hp_replay.specs.Writing.{Wrote}
+use Rattle.hp_text.specs.Traces.{IsLineFault}
+use Rattle.hp_text.specs.Writing.{Wrote}
 
 -- what one line does: the first opens the core, another is one event of it, with its outcome's line
 abbrev pub LineRuns : Option CoreState → Line → Option CoreState → List ℕ → Type 0

@@ -2,14 +2,12 @@
 ghost use Rattle.std.specs.Prelude.{◌≡◌, ◌++◌, [], OnOk, OnErr, IfErr};
 ghost use Rattle.std.specs.Io.KnownBytes.{Appends};
 ghost use Rattle.hp_replay.specs.Outcomes.{outcome_line};
-ghost use Rattle.hp_replay.specs.Streams.{TellsWrites};
-ghost use Rattle.hp_replay.specs.Writing.{Wrote};
+ghost use Rattle.hp_text.specs.Streams.{TellsWrites};
+ghost use Rattle.hp_text.specs.Writing.{Wrote};
 
-use crate::fault::ReplayFault;
-use crate::streams::Sink;
-use crate::writing::write_text;
 use arrayvec::ArrayVec;
 use hp_machine::Outcome;
+use hp_text::{ReplayFault, Sink, write_text};
 use std::alloc::{AllocError, Global};
 use std::marker::Model;
 

@@ -6,24 +6,21 @@ ghost use Rattle.std.specs.Io.BufRead.{take_through};
 ghost use Rattle.std.specs.Io.KnownBytes.{Appends, Keeps};
 ghost use Rattle.hp_base.specs.declared.event.Event.TheVariants.{Step};
 ghost use Rattle.hp_core.specs.Runs.{Row, IsIdle};
-ghost use Rattle.hp_replay.specs.Lines.{line_of, event, listed, end_of};
+ghost use Rattle.hp_text.specs.Lines.{line_of, event, listed, end_of};
 ghost use Rattle.hp_replay.specs.Outcomes.{state_text};
-ghost use Rattle.hp_replay.specs.Traces.{IsLineFault};
-ghost use Rattle.hp_replay.specs.Writing.{Wrote, IsWriteFault};
+ghost use Rattle.hp_text.specs.Traces.{IsLineFault};
+ghost use Rattle.hp_text.specs.Writing.{Wrote, IsWriteFault};
 ghost use Rattle.hp_replay.specs.Running.{CanRun, CanRunIfSome, IsOpened, LinesRan, PieceRan, PieceStopped};
 ghost use Rattle.hp_replay.specs.Replaying.{Replayed, Stopped};
-ghost use Rattle.hp_replay.specs.Streams.{TellsReads, TellsWrites};
+ghost use Rattle.hp_text.specs.Streams.{TellsReads, TellsWrites};
 
-use crate::fault::ReplayFault;
-use crate::feed::{TraceFeed, TraceLine};
 use crate::line_buffer::LineBuffer;
 use crate::outcomes::push_outcome;
 use crate::state::push_state;
-use crate::streams::{PIECE, Sink, Source};
-use crate::writing::write_text;
 use hp_base::{Answer, Event, Op, Task};
 use hp_core::Core;
 use hp_machine::Outcome;
+use hp_text::{PIECE, ReplayFault, Sink, Source, TraceFeed, TraceLine, write_text};
 use std::alloc::{AllocError, Global};
 
 /// What an event is told that is held back, where it is looked for. Such an event changes nothing.

@@ -221,7 +221,7 @@ fn write_explored_to(
 fn ends_with(
     rt: &(impl Threads + Sync + Abort),
     alloc: Global,
-    audited: bool,
+    audit: Audit,
     told: &[u8],
 ) -> Result<(), ReplayFault> {
     let script = script_of(alloc, MAP)?;
@@ -229,7 +229,7 @@ fn ends_with(
         seed: 1,
         runs: 700,
         chances: Chances { deny: 0, kill: 0 },
-        audited,
+        audit,
     };
     let mut out = Vec::new(alloc);
     assert!(rt; write_explored_to(rt, alloc, &script, exploration, &mut out)?);
@@ -240,8 +240,8 @@ fn ends_with(
 #[test]
 fn lines_come_in_parts(rt: HostRuntime) -> Result<(), Fail> {
     let told = b"\nrun 699 finished turns 8 free 4 resv 4\n";
-    for audited in [false, true] {
-        ends_with(&rt, rt.alloc(), audited, told)?;
+    for audit in [Audit::LeftOut, Audit::EachTurn] {
+        ends_with(&rt, rt.alloc(), audit, told)?;
     }
     Ok(())
 }

@@ -45,7 +45,7 @@ const EXPLORATION: Exploration = Exploration {
         deny: 0,
         kill: 1000,
     },
-    audited: false,
+    audit: Audit::LeftOut,
 };
 
 /// Each, with its text.

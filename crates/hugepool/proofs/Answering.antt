@@ -4,17 +4,17 @@ use Rattle.std.specs.Prelude.{OnOk, OnErr, IfErr, IfOk, IfSome, Result, Ok, Err,
 use Rattle.std.specs.Io.KnownBytes.{Keeps}
 use Rattle.std.proofs.KnownBytes.{Appends-kept, Keeps-trans}
 use Rattle.hp_base.specs.Text.{sizes}
-use Rattle.hp_explore.specs.declared.script.Script.{Script}
+use Rattle.hp_text.specs.declared.script.Script.{Script}
 use Rattle.hp_race.specs.Text.{lines_text as race_lines}
-use Rattle.hp_replay.specs.Collecting.{ReadsTrace}
-use Rattle.hp_replay.specs.declared.exploring.Exploration.{Exploration}
-use Rattle.hp_replay.specs.declared.fault.ReplayFault.{ReplayFault}
-use Rattle.hp_replay.specs.declared.fault.ReplayFault.TheVariants.{BadLine, BadHeader, Read, Write, Memory}
-use Rattle.hp_replay.specs.RunLines.{lines_text, WroteRuns, WroteSomeRuns}
-use Rattle.hp_replay.specs.Scripts.{begin_of, HasScriptFault}
-use Rattle.hp_replay.specs.Streams.{source_at, TellsReads, TellsWrites}
-use Rattle.hp_replay.specs.Traces.{HasFault, trace_text}
-use Rattle.hp_replay.specs.Writing.{IsWriteFault, Wrote}
+use Rattle.hp_text.specs.Collecting.{ReadsTrace}
+use Rattle.hp_explore.specs.declared.exploration.Exploration.{Exploration}
+use Rattle.hp_text.specs.declared.fault.ReplayFault.{ReplayFault}
+use Rattle.hp_text.specs.declared.fault.ReplayFault.TheVariants.{BadLine, BadHeader, Read, Write, Memory}
+use Rattle.hp_explore.specs.RunLines.{lines_text, WroteRuns, WroteSomeRuns}
+use Rattle.hp_text.specs.Scripts.{begin_of, HasScriptFault}
+use Rattle.hp_text.specs.Streams.{source_at, TellsReads, TellsWrites}
+use Rattle.hp_text.specs.Traces.{HasFault, trace_text}
+use Rattle.hp_text.specs.Writing.{IsWriteFault, Wrote}
 use Rattle.hp_program.specs.Endings.{ReaderAt}
 use Rattle.hugepool.specs.Racing.{Races, RacesPartly, WroteRacing, WroteSomeRacing}
 use Rattle.hugepool.specs.Requests.{Explores, ExploresPartly, NotDone, PartAt, AnsweredExplore, AnsweredRace, AnsweredRuns}

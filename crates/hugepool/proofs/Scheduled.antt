@@ -7,15 +7,15 @@ use Rattle.hp_base.specs.Text.{Sizes, sizes}
 use Rattle.hp_base.specs.declared.event.Event.{Event}
 use Rattle.hp_explore.specs.Explored.{IsExplored}
 use Rattle.hp_explore.specs.declared.line.RunLine.{RunLine}
-use Rattle.hp_explore.specs.declared.script.Script.{Script}
-use Rattle.hp_replay.specs.Checking.{ReadsEvents, count_line}
-use Rattle.hp_replay.specs.Collecting.{ReadsTrace}
-use Rattle.hp_replay.specs.Scripts.{begin_of}
-use Rattle.hp_replay.specs.Streams.{TellsReads, TellsWrites}
-use Rattle.hp_replay.specs.Traces.{HasFault, trace_text}
-use Rattle.hp_replay.specs.Writing.{IsWriteFault, Wrote}
-use Rattle.hp_replay.specs.declared.fault.ReplayFault.{ReplayFault}
-use Rattle.hp_replay.specs.declared.fault.ReplayFault.TheVariants.{Write}
+use Rattle.hp_text.specs.declared.script.Script.{Script}
+use Rattle.hp_text.specs.Checking.{ReadsEvents, count_line}
+use Rattle.hp_text.specs.Collecting.{ReadsTrace}
+use Rattle.hp_text.specs.Scripts.{begin_of}
+use Rattle.hp_text.specs.Streams.{TellsReads, TellsWrites}
+use Rattle.hp_text.specs.Traces.{HasFault, trace_text}
+use Rattle.hp_text.specs.Writing.{IsWriteFault, Wrote}
+use Rattle.hp_text.specs.declared.fault.ReplayFault.{ReplayFault}
+use Rattle.hp_text.specs.declared.fault.ReplayFault.TheVariants.{Write}
 use Rattle.hugepool.specs.Requests.{AnsweredCheck, Checks, ChecksPartly, IsCount, IsScheduled, NotDone, Schedules, SchedulesPartly}
 use Rattle.hugepool.specs.declared.command.Scheduling.{Scheduling}
 use Rattle.hugepool.specs.declared.program.Stop.{Stop}

@@ -7,12 +7,12 @@ use Rattle.hp_base.specs.Text.{Sizes}
 use Rattle.hp_base.specs.declared.event.Event.{Event}
 use Rattle.hp_draw.specs.Drawing.{IsDrawing, IsPartOfDrawing, NotDrawn, PartlyDrawn, PictureOf}
 use Rattle.hp_explain.specs.Explaining.{Explained, ExplainedPartly, NotExplained, PartlyExplained, nothing, some_rows, to_the_end}
-use Rattle.hp_replay.specs.Collecting.{NotRead, ReadsTrace}
-use Rattle.hp_replay.specs.Streams.{sink_at, TellsReads, TellsWrites}
-use Rattle.hp_replay.specs.Traces.{HasFault}
-use Rattle.hp_replay.specs.Writing.{IsWriteFault}
-use Rattle.hp_replay.specs.declared.fault.ReplayFault.{ReplayFault}
-use Rattle.hp_replay.specs.declared.fault.ReplayFault.TheVariants.{BadLine, BadHeader, Read, Write, Memory}
+use Rattle.hp_text.specs.Collecting.{NotRead, ReadsTrace}
+use Rattle.hp_text.specs.Streams.{sink_at, TellsReads, TellsWrites}
+use Rattle.hp_text.specs.Traces.{HasFault}
+use Rattle.hp_text.specs.Writing.{IsWriteFault}
+use Rattle.hp_text.specs.declared.fault.ReplayFault.{ReplayFault}
+use Rattle.hp_text.specs.declared.fault.ReplayFault.TheVariants.{BadLine, BadHeader, Read, Write, Memory}
 use Rattle.hp_program.specs.Endings.{HoldsFront}
 use Rattle.hugepool.specs.Requests.{AnsweredDraw, AnsweredExplain, AnsweredText, IsExplaining, NotDone, TextIn, TextShort}
 use Rattle.hugepool.specs.declared.program.Stop.{Stop}

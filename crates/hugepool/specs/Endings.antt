@@ -5,7 +5,7 @@ use Rattle.clap.specs.Values.{kind_of}
 use Rattle.clap.specs.declared.error.Error.{Error}
 use Rattle.clap.specs.declared.error.kind.ErrorKind.TheVariants.{OutOfMemory, DisplayHelp, DisplayVersion}
 use Rattle.hp_program.specs.Endings.{DidReplay}
-use Rattle.hp_replay.specs.declared.fault.ReplayFault.TheVariants.{Write, Memory}
+use Rattle.hp_text.specs.declared.fault.ReplayFault.TheVariants.{Write, Memory}
 use Rattle.hugepool.specs.declared.program.Stop.{Stop}
 use Rattle.hugepool.specs.declared.program.Stop.TheVariants as stop
 

@@ -3,10 +3,10 @@ use Rattle.std.specs.Prelude.{ℕ, List, Option, Bool, map}
 use Rattle.std.specs.Int.NonZero.{non_zero_u32_get}
 use Rattle.std.specs.Option.{option_map}
 use Rattle.hp_base.specs.Text.{sizes}
-use Rattle.hp_explore.specs.declared.script.Script.{Script}
+use Rattle.hp_text.specs.declared.script.Script.{Script}
 use Rattle.hp_race.specs.Writing.{WroteRaces, WroteSomeRaces, WroteSomeTrace, WroteTrace}
-use Rattle.hp_replay.specs.Collecting.{ReadsTrace}
-use Rattle.hp_replay.specs.Scripts.{begin_of}
+use Rattle.hp_text.specs.Collecting.{ReadsTrace}
+use Rattle.hp_text.specs.Scripts.{begin_of}
 use Rattle.hugepool.specs.declared.racing.Racing.{Racing}
 use Rattle.hugepool.specs.declared.racing.Racing.TheVariants.{Times, Trace}
 

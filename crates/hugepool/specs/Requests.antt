@@ -7,18 +7,18 @@ use Rattle.hp_draw.specs.Drawing.{IsDrawing, PictureOf}
 use Rattle.hp_explain.specs.Explaining.{Beginning, Explained, Explanation}
 use Rattle.hp_explore.specs.Explored.{IsExplored}
 use Rattle.hp_explore.specs.declared.line.RunLine.{RunLine}
-use Rattle.hp_explore.specs.declared.script.Script.{Script}
+use Rattle.hp_text.specs.declared.script.Script.{Script}
 use Rattle.hp_program.specs.Endings.{HoldsFront, ReaderAt}
-use Rattle.hp_replay.specs.declared.fault.ReplayFault.{ReplayFault}
-use Rattle.hp_replay.specs.declared.fault.ReplayFault.TheVariants.{BadLine, BadHeader, Read, Write, Memory}
-use Rattle.hp_replay.specs.Checking.{ReadsEvents, count_line}
-use Rattle.hp_replay.specs.Collecting.{ReadsTrace}
-use Rattle.hp_replay.specs.RunLines.{WroteRuns, WroteSomeRuns}
-use Rattle.hp_replay.specs.Scripts.{begin_of, HasScriptFault}
-use Rattle.hp_replay.specs.Streams.{sink_at}
-use Rattle.hp_replay.specs.Traces.{HasFault, trace_text}
-use Rattle.hp_replay.specs.Writing.{IsWriteFault, Wrote}
-use Rattle.hp_replay.specs.declared.exploring.Exploration.{Exploration}
+use Rattle.hp_text.specs.declared.fault.ReplayFault.{ReplayFault}
+use Rattle.hp_text.specs.declared.fault.ReplayFault.TheVariants.{BadLine, BadHeader, Read, Write, Memory}
+use Rattle.hp_text.specs.Checking.{ReadsEvents, count_line}
+use Rattle.hp_text.specs.Collecting.{ReadsTrace}
+use Rattle.hp_explore.specs.RunLines.{WroteRuns, WroteSomeRuns}
+use Rattle.hp_text.specs.Scripts.{begin_of, HasScriptFault}
+use Rattle.hp_text.specs.Streams.{sink_at}
+use Rattle.hp_text.specs.Traces.{HasFault, trace_text}
+use Rattle.hp_text.specs.Writing.{IsWriteFault, Wrote}
+use Rattle.hp_explore.specs.declared.exploration.Exploration.{Exploration}
 use Rattle.hugepool.specs.Endings.{AnsweredElse, AnsweredReplay}
 use Rattle.hugepool.specs.Racing.{Races, RacesPartly}
 use Rattle.hugepool.specs.Status.{status_at}

@@ -8,8 +8,8 @@ use Rattle.hp_client.specs.declared.fault.ClientFault.{ClientFault}
 use Rattle.hp_client.specs.declared.fault.ClientFault.TheVariants.{Memory}
 use Rattle.hp_client.specs.declared.table.Workload.{Workload}
 use Rattle.hp_client.specs.declared.work.Report.{Report}
-use Rattle.hp_replay.specs.Writing.{Wrote}
-use Rattle.hp_replay.specs.declared.fault.ReplayFault.TheVariants.{Write}
+use Rattle.hp_text.specs.Writing.{Wrote}
+use Rattle.hp_text.specs.declared.fault.ReplayFault.TheVariants.{Write}
 use Rattle.hugepool.specs.declared.program.Stop.{Stop}
 use Rattle.hugepool.specs.declared.program.Stop.TheVariants as stop
 use Rattle.hugepool.specs.declared.carrying.Carrier.{Carrier}

@@ -1,13 +1,13 @@
 //! `hugepool check`: how many events a trace has.
 ghost use Rattle.std.specs.Prelude.{◌≡◌, Ok, Err, IfOk, IfErr, OnErr, OnOk, Some, IfSome};
 ghost use Rattle.std.specs.Option.{option_map};
-ghost use Rattle.hp_replay.specs.Traces.{HasFault};
-ghost use Rattle.hp_replay.specs.Streams.{TellsReads};
+ghost use Rattle.hp_text.specs.Traces.{HasFault};
+ghost use Rattle.hp_text.specs.Streams.{TellsReads};
 ghost use Rattle.hugepool.specs.Requests.{AnsweredCheck, Checks, ChecksPartly, NotDone};
 
 use crate::program::{Stop, flush_out, stopped};
 use hp_program::flushed_answer;
-use hp_replay::{ReplayFault, Sink, Source, Watched, check_trace, write_count};
+use hp_text::{ReplayFault, Sink, Source, Watched, check_trace, write_count};
 use std::alloc::Global;
 use std::io::Write;
 

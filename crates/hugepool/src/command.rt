@@ -2,7 +2,7 @@
 use crate::racing::{Racing, race_command, race_words};
 use crate::working::{WorkWords, work_command, work_words};
 use clap::{Arg, ArgAction, ArgMatches, Command, Error};
-use hp_replay::{Chances, Exploration};
+use hp_explore::{Audit, Chances, Exploration};
 use std::alloc::{AllocError, Global};
 use std::convert::AsStr;
 
@@ -65,7 +65,15 @@ fn exploration(given: &ArgMatches) -> Exploration {
         seed: seed(given),
         runs: given.get_one::<u32>("runs").unwrap_or(10),
         chances: chances(given),
-        audited: given.get_flag("audit"),
+        audit: audit_of(given),
+    }
+}
+
+fn audit_of(given: &ArgMatches) -> Audit {
+    if given.get_flag("audit") {
+        Audit::EachTurn
+    } else {
+        Audit::LeftOut
     }
 }
 

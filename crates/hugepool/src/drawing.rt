@@ -6,7 +6,7 @@ ghost use Rattle.hugepool.specs.Requests.{AnsweredDraw};
 use crate::program::{Stop, stopped};
 use hp_draw::draw;
 use hp_program::{flush_unless, flushed_answer};
-use hp_replay::{ReplayFault, Source, Watched};
+use hp_text::{ReplayFault, Source, Watched};
 use std::alloc::Global;
 use std::io::{BufWriter, Write};
 

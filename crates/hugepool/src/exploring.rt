@@ -2,12 +2,13 @@
 ghost use Rattle.std.specs.Prelude.{◌≡◌, Ok, Err, true, false, IfOk, IfErr, OnErr, OnOk, Some, IfSome};
 ghost use Rattle.std.specs.Io.KnownBytes.{Keeps};
 ghost use Rattle.std.specs.Option.{option_map};
-ghost use Rattle.hp_replay.specs.Scripts.{HasScriptFault};
-ghost use Rattle.hp_replay.specs.Streams.{TellsReads};
+ghost use Rattle.hp_text.specs.Scripts.{HasScriptFault};
+ghost use Rattle.hp_text.specs.Streams.{TellsReads};
 ghost use Rattle.hugepool.specs.Requests.{AnsweredExplore, Explores, ExploresPartly, NotDone};
 
 use crate::program::{Stop, flush_out};
-use hp_replay::{Exploration, ReplayFault, Sink, Source, Watched, read_script, write_explored};
+use hp_explore::{Exploration, write_explored};
+use hp_text::{ReplayFault, Sink, Source, Watched, read_script};
 use std::alloc::Global;
 use std::io;
 use std::io::Write;

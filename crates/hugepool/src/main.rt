@@ -1,7 +1,7 @@
 //! The program `hugepool`: a pool of huge pages on the command line.
 //!
-//! It stands on hp_replay and hp_client, and reads its words with clap. It promises of what is read and written what hp_replay's
-//! contracts say, and a status that tells which (`EndsWith`); which words ask for what, and the texts, are shown by
+//! It stands on hp_program, on hp_client, and on the crates that do what a command asks for; it reads its words with clap. It
+//! promises of what is read and written what their contracts say, and a status that tells which (`EndsWith`); which words ask for what, and the texts, are shown by
 //! the rows of `examples/commands`. It knows nothing of pools.
 #![tactic(auto)]
 
@@ -18,7 +18,7 @@ mod words;
 mod working;
 
 use hp_diagnostics::Recalling;
-use hp_replay::Watched;
+use hp_text::Watched;
 use program::program;
 use std::io;
 use std::process::ExitCode;

@@ -18,7 +18,7 @@ use crate::working::{WorkFault, run_work};
 use clap::error::ErrorKind;
 use hp_diagnostics::Recalls;
 use hp_program::{run_replay, write_fault};
-use hp_replay::{ReplayFault, Source};
+use hp_text::{ReplayFault, Source};
 use std::alloc::Global;
 use std::convert::AsStr;
 use std::io;

@@ -1,18 +1,17 @@
 //! `hugepool race`: a line for each race of a script.
 ghost use Rattle.std.specs.Prelude.{◌≡◌, IfOk, IfErr, Some, IfSome};
 ghost use Rattle.std.specs.Option.{option_map};
-ghost use Rattle.hp_replay.specs.Scripts.{HasScriptFault};
-ghost use Rattle.hp_replay.specs.Streams.{TellsReads, TellsWrites};
-ghost use Rattle.hp_replay.specs.Writing.{IsWriteFault};
+ghost use Rattle.hp_text.specs.Scripts.{HasScriptFault};
+ghost use Rattle.hp_text.specs.Streams.{TellsReads, TellsWrites};
+ghost use Rattle.hp_text.specs.Writing.{IsWriteFault};
 ghost use Rattle.hugepool.specs.Racing.{Races, RacesPartly, WroteRacing, WroteSomeRacing};
 ghost use Rattle.hugepool.specs.Requests.{AnsweredRace, NotDone};
 
 use crate::exploring::explored_answer;
 use crate::program::{Stop, flush_out};
 use clap::{Arg, ArgAction, ArgMatches, Command};
-use hp_explore::Script;
 use hp_race::{write_race_trace, write_races};
-use hp_replay::{ReplayFault, Sink, Source, Watched, read_script};
+use hp_text::{ReplayFault, Script, Sink, Source, Watched, read_script};
 use std::alloc::{AllocError, Global};
 use std::io::Write;
 use std::num::NonZeroU32;

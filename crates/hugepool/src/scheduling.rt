@@ -1,14 +1,15 @@
 //! `hugepool schedule`: one run of a script as a trace.
 ghost use Rattle.std.specs.Prelude.{◌≡◌, Ok, Err, OnOk, IfOk, Some, IfErr, IfSome};
 ghost use Rattle.std.specs.Option.{option_map};
-ghost use Rattle.hp_replay.specs.Scripts.{HasScriptFault};
-ghost use Rattle.hp_replay.specs.Streams.{TellsReads};
+ghost use Rattle.hp_text.specs.Scripts.{HasScriptFault};
+ghost use Rattle.hp_text.specs.Streams.{TellsReads};
 ghost use Rattle.hugepool.specs.Requests.{AnsweredSchedule, NotDone, Schedules, SchedulesPartly};
 
 use crate::command::Scheduling;
 use crate::program::{Stop, stopped};
+use hp_explore::schedule;
 use hp_program::{flush_unless, flushed_answer};
-use hp_replay::{ReplayFault, Sink, Source, Watched, read_script, schedule, write_trace};
+use hp_text::{ReplayFault, Sink, Source, Watched, read_script, write_trace};
 use std::alloc::Global;
 use std::io::{BufWriter, Write};
 

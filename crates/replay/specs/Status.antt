@@ -1,7 +1,7 @@
 -- What the program has done where it ends, and its status.
 use Rattle.std.specs.Prelude.{◌≡◌, ℕ, List, Option, Result, Ok, Err}
 use Rattle.hp_program.specs.Endings.{DidReplay}
-use Rattle.hp_replay.specs.declared.fault.ReplayFault.{ReplayFault}
+use Rattle.hp_text.specs.declared.fault.ReplayFault.{ReplayFault}
 
 -- A reader had the bytes `from` left, and now has `to`; an output held `before`, and now holds `after`.
 

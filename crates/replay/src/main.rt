@@ -7,7 +7,7 @@
 mod program;
 
 use hp_diagnostics::Recalling;
-use hp_replay::Watched;
+use hp_text::Watched;
 use program::program;
 use std::io;
 use std::process::ExitCode;

@@ -5,7 +5,7 @@ ghost use Rattle.replay.specs.Status.{EndsWith, status_at};
 
 use hp_diagnostics::Recalls;
 use hp_program::{run_replay, write_fault};
-use hp_replay::{ReplayFault, Source};
+use hp_text::{ReplayFault, Source};
 use std::alloc::Global;
 use std::io::Write;
 

@@ -1,6 +1,6 @@
 use Rattle.std.proofs.Common.{ap, arith, refl, ◌∙◌}
 use Rattle.std.proofs.lemmas.Result.{err_from_is_err_and}
-use Rattle.hp_replay.specs.Streams.{sink_at}
+use Rattle.hp_text.specs.Streams.{sink_at}
 use Rattle.hp_explain.proofs.Happenings.{no_row, one_row, all_rows, stopped_at}
 use Rattle.hp_explain.proofs.rows.write_rows.Goals as goal
 

@@ -1,6 +1,6 @@
 use Rattle.std.proofs.Common.{ℕ, subst}
 use Rattle.std.specs.Io.Buffered.{writer_buffer}
-use Rattle.hp_replay.specs.Streams.{TellsWrites, failures_of}
+use Rattle.hp_text.specs.Streams.{TellsWrites, failures_of}
 use Rattle.hp_program.proofs.Buffered.{opens, did_replay}
 use Rattle.hp_program.proofs.replaying.run_replay.Goals as goal
 

@@ -1,5 +1,5 @@
 use Rattle.std.proofs.Common.{◌≡◌, ◌+◌, ◌∙◌, ap, arith, length}
-use Rattle.hp_explore.specs.Schedule.{calls_of}
+use Rattle.hp_text.specs.Scripts.{calls_of}
 use Rattle.hp_race.proofs.Making.{few_calls}
 use Rattle.hp_race.proofs.Parting.{most_of}
 use Rattle.hp_race.proofs.parts.longest.Goals as goal

@@ -1,5 +1,5 @@
 use Rattle.std.proofs.Common.{◌≤◌, ℕ, length}
-use Rattle.hp_explore.specs.Schedule.{calls_of}
+use Rattle.hp_text.specs.Scripts.{calls_of}
 use Rattle.hp_race.proofs.parts.longest.Given as goal
 
 abbrev pub invariant-loop-number : goal.invariant-loop-number

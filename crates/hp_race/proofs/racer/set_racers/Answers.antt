@@ -1,5 +1,5 @@
 use Rattle.std.proofs.Common.{◌∷◌, [], ap, ◌∙◌, length, length-append, arith}
-use Rattle.hp_explore.specs.Schedule.{calls_of}
+use Rattle.hp_text.specs.Scripts.{calls_of}
 use Rattle.hp_race.specs.Racers.{HasMadeIn, IsNew, IsSet}
 use Rattle.hp_race.proofs.Making.{idle_made, one_longer, one_more, taken_apart}
 use Rattle.hp_race.proofs.racer.set_racers.Goals as goal

@@ -1,5 +1,5 @@
 use Rattle.std.proofs.lemmas.Result.{err_from_is_err_and}
-use Rattle.hp_replay.proofs.Told.{line_no_write}
+use Rattle.hp_text.proofs.StreamFaults.{line_no_write}
 use Rattle.hp_replay.proofs.replaying.finish.Goals as goal
 
 pub returns-in_err-end-clause-writes : goal.returns-in_err-end-clause-writes

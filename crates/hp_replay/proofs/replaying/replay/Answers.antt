@@ -1,9 +1,10 @@
 use Rattle.std.proofs.Common.{ℕ, arith, rules, ◌<◌, length, take, refl, subst, ◌∙◌}
 use Rattle.std.proofs.lemmas.Result.{err_from_is_err_and}
 use Rattle.std.proofs.lemmas.List.{length-take-le}
-use Rattle.hp_replay.specs.Streams.{TellsWrites}
+use Rattle.hp_text.specs.Streams.{TellsWrites}
 use Rattle.hp_replay.proofs.Told.{stopped_no_read, stopped_no_write, finish_no_read}
-use Rattle.hp_replay.proofs.Replays.{begins, goes_on, smaller, piece_stopped, read_failed, finished, finish_stopped, read_none}
+use Rattle.hp_replay.proofs.Replays.{begins, goes_on, smaller, piece_stopped, read_failed, finished, finish_stopped}
+use Rattle.hp_text.proofs.LastLines.{read_none}
 use Rattle.hp_replay.proofs.Replays.{ran_written, stopped_written, came, unwritten}
 use Rattle.hp_replay.proofs.replaying.replay.Goals as goal
 

@@ -1,5 +1,5 @@
 use Rattle.std.proofs.Common.{◌≡◌}
-use Rattle.hp_replay.proofs.Bytes.{room}
+use Rattle.hp_text.proofs.Bytes.{room}
 use Rattle.hp_replay.proofs.Replays.{Going}
 use Rattle.hp_replay.proofs.replaying.replay.Given as goal
 

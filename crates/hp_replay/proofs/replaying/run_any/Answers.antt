@@ -3,8 +3,9 @@ use Rattle.std.specs.Prelude.{Some}
 use Rattle.std.specs.Option.{option_map}
 use Rattle.std.specs.Io.BufRead.{take_through}
 use Rattle.std.proofs.lemmas.Result.{err_from_is_err_and}
-use Rattle.hp_replay.specs.Lines.{line_of}
-use Rattle.hp_replay.proofs.Running.{TookLine, line_can_run, line_opened, line_unrun, fails}
+use Rattle.hp_text.specs.Lines.{line_of}
+use Rattle.hp_text.proofs.FirstLines.{TookLine}
+use Rattle.hp_replay.proofs.Running.{line_can_run, line_opened, line_unrun, fails}
 use Rattle.hp_replay.proofs.replaying.run_any.Goals as goal
 
 pub returns-in_err-used-clause-err : goal.returns-in_err-used-clause-err

@@ -1,5 +1,5 @@
 use Rattle.std.proofs.Common.{refl}
-use Rattle.hp_replay.specs.declared.feed.TraceLine.TheVariants as lines
+use Rattle.hp_text.specs.declared.feed.TraceLine.TheVariants as lines
 use Rattle.hp_replay.proofs.Running.{event_ran}
 use Rattle.hp_replay.proofs.replaying.run_event.Goals as goal
 

@@ -2,7 +2,8 @@ use Rattle.std.proofs.Common.{arith, rules, length, ◌<◌, ◌≡◌, drop, �
 use Rattle.std.specs.Prelude.{Some}
 use Rattle.std.specs.Io.BufRead.{take_through}
 use Rattle.std.proofs.lemmas.Result.{err_from_is_err_and}
-use Rattle.hp_replay.proofs.Running.{starts, through_within, through_some, piece_moves, piece_stops}
+use Rattle.hp_text.proofs.FirstLines.{through_within, through_some}
+use Rattle.hp_replay.proofs.Running.{starts, piece_moves, piece_stops}
 use Rattle.hp_replay.proofs.replaying.run_piece.Goals as goal
 
 pub loop-rest-init : goal.loop-rest-init

@@ -1,5 +1,5 @@
 use Rattle.std.proofs.Common.{ap}
-use Rattle.hp_replay.specs.Streams.{failures_of}
+use Rattle.hp_text.specs.Streams.{failures_of}
 use Rattle.hugepool.proofs.Scheduled.{answered_check}
 use Rattle.hugepool.proofs.checking.run_check.Goals as goal
 

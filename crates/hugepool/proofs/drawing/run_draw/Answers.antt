@@ -1,6 +1,6 @@
 use Rattle.std.proofs.Common.{ℕ, subst}
 use Rattle.std.specs.Io.Buffered.{writer_buffer}
-use Rattle.hp_replay.specs.Streams.{TellsWrites, failures_of}
+use Rattle.hp_text.specs.Streams.{TellsWrites, failures_of}
 use Rattle.hp_program.proofs.Buffered.{opens}
 use Rattle.hugepool.proofs.Texts.{answered_draw}
 use Rattle.hugepool.proofs.drawing.run_draw.Goals as goal

@@ -1,7 +1,7 @@
 use Rattle.std.specs.Io.Buffered.{writer_buffer}
-use Rattle.hp_replay.specs.Scripts.{HasScriptFault}
-use Rattle.hp_replay.specs.Streams.{failures_of}
-use Rattle.hp_replay.specs.declared.fault.ReplayFault.TheVariants.{Write}
+use Rattle.hp_text.specs.Scripts.{HasScriptFault}
+use Rattle.hp_text.specs.Streams.{failures_of}
+use Rattle.hp_text.specs.declared.fault.ReplayFault.TheVariants.{Write}
 use Rattle.hugepool.specs.Requests.{Schedules, SchedulesPartly, IsScheduled}
 use Rattle.hugepool.proofs.Answering.{no_script_fault}
 use Rattle.hp_program.proofs.Buffered.{opens}

@@ -1,5 +1,5 @@
 use Rattle.std.proofs.Common.{ap}
-use Rattle.hp_replay.specs.Streams.{stream_of}
+use Rattle.hp_text.specs.Streams.{stream_of}
 use Rattle.hugepool.proofs.Reporting.{line_cut}
 use Rattle.hugepool.proofs.working.write_line.Goals as goal
 

@@ -1,0 +1,73 @@
+use Rattle.std.proofs.Common.{arith, rules, length, ◌<◌, ◌≡◌, drop, ◌∙◌, ap, refl}
+use Rattle.std.specs.Option.{option_map}
+use Rattle.std.specs.Io.BufRead.{take_through}
+use Rattle.std.proofs.lemmas.Result.{err_from_is_err_and}
+use Rattle.hp_text.specs.Lines.{line_of}
+use Rattle.hp_text.specs.Scripts.{no_memory}
+use Rattle.hp_text.proofs.FirstLines.{TookLine, through_within, through_some}
+use Rattle.hp_text.proofs.Drafts.{starts, line_can_follow, adds}
+use Rattle.hp_text.proofs.Calls.{one_more, bad_line, other_event}
+use Rattle.hp_text.proofs.script.add_calls.Goals as goal
+
+pub loop-rest-init : goal.loop-rest-init
+loop-rest-init c =
+    (starts c.args.feed.now c.args.draft.now c.args.piece.now c.requires.no_fault c.requires.lines, c.requires.calls)
+
+pub returns-in_err-used-clause-err : goal.returns-in_err-used-clause-err
+returns-in_err-used-clause-err c =
+    let p = err_from_is_err_and c.from_residual.result c.from_residual.ensures.1 in
+    rw (p.1, p.2) (bad_line c.args.feed.now c.loop-rest.feed c.take.new.self c.args.draft.now c.loop-rest.draft
+    c.args.piece.now c.loop-rest.rest.now c.in_err-used.field-0.0 c.loop-rest.invariant.0 c.loop-rest.invariant.1 c.take.ensures.held
+    c.in_err-used.ensures.none c.in_err-used.ensures.err c.in_err-used.ensures.kind)
+
+pub split_at-requires : goal.split_at-requires
+split_at-requires c = omega (arith, c.in_ok-used.ensures.used, through_within c.loop-rest.rest.now)
+
+pub returns-then-not-is_call_line-clause-err : goal.returns-then-not-is_call_line-clause-err
+returns-then-not-is_call_line-clause-err c =
+    let left : c.split_at.result.1.now ≡ drop (length (take_through 10 c.loop-rest.rest.now)) c.loop-rest.rest.now =
+    c.split_at.ensures.back ∙ ap (λ n. drop n c.loop-rest.rest.now) c.in_ok-used.ensures.used in
+    let took : TookLine c.loop-rest.feed c.take.new.self (option_map line_of c.in_ok-used.line) c.loop-rest.rest.now
+    c.split_at.result.1.now = record {
+      held = c.take.ensures.held;
+      lines = c.in_ok-used.ensures.line;
+      left_is = left;
+      ok = c.in_ok-used.ensures.ok;
+    } in
+    other_event c.args.feed.now c.loop-rest.feed c.take.new.self c.args.draft.now c.loop-rest.draft c.args.piece.now
+    c.loop-rest.rest.now c.split_at.result.1.now (option_map line_of c.in_ok-used.line) c.line.result
+    c.loop-rest.invariant.0 c.loop-rest.invariant.1 took (c.is_call_line.ensures.cannot c.if-not-is_call_line.true) c.line.ensures
+
+pub add_taken-requires : goal.add_taken-requires
+add_taken-requires c =
+    line_can_follow c.loop-rest.feed c.take.new.self (option_map line_of c.in_ok-used.line) c.loop-rest.rest.now
+    c.loop-rest.draft c.take.ensures.held c.in_ok-used.ensures.line c.in_ok-used.ensures.ok c.loop-rest.invariant.0.count
+
+pub loop-rest-preserved : goal.loop-rest-preserved
+loop-rest-preserved c =
+    let left : c.split_at.result.1.now ≡ drop (length (take_through 10 c.loop-rest.rest.now)) c.loop-rest.rest.now =
+    c.split_at.ensures.back ∙ ap (λ n. drop n c.loop-rest.rest.now) c.in_ok-used.ensures.used in
+    let took : TookLine c.loop-rest.feed c.take.new.self (option_map line_of c.in_ok-used.line) c.loop-rest.rest.now
+    c.split_at.result.1.now = record {
+      held = c.take.ensures.held;
+      lines = c.in_ok-used.ensures.line;
+      left_is = left;
+      ok = c.in_ok-used.ensures.ok;
+    } in (
+      adds c.args.feed.now c.loop-rest.feed c.take.new.self c.args.draft.now c.loop-rest.draft c.add_taken.new.self
+          c.args.piece.now c.loop-rest.rest.now c.split_at.result.1.now (option_map line_of c.in_ok-used.line)
+          c.loop-rest.invariant.0 took c.in_ok-add_taken.ensures.ok,
+      one_more c.loop-rest.draft c.add_taken.new.self (option_map line_of c.in_ok-used.line) c.loop-rest.invariant.1
+          (c.is_call_line.ensures.can c.if-not-is_call_line.false) c.in_ok-add_taken.ensures.ok,
+    )
+
+pub returns-in_err-add_taken-clause-err : goal.returns-in_err-add_taken-clause-err
+returns-in_err-add_taken-clause-err c =
+    let p = err_from_is_err_and c.from_residual-in_err-add_taken.result c.from_residual-in_err-add_taken.ensures.1 in
+    rw (p.1, p.2) (no_memory refl)
+
+pub loop-rest-smaller : goal.loop-rest-smaller
+loop-rest-smaller c =
+    let some : 0 < length c.loop-rest.rest.now = first_of (omega arith, search rules) in
+    let within = through_within c.loop-rest.rest.now in
+    omega (arith, through_some c.loop-rest.rest.now some, c.split_at.ensures.back_len, c.in_ok-used.ensures.used)

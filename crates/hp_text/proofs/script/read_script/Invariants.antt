@@ -1,0 +1,13 @@
+use Rattle.std.proofs.Common.{◌≡◌}
+use Rattle.hp_text.specs.Scripts.{AreCalls}
+use Rattle.hp_text.proofs.Bytes.{room}
+use Rattle.hp_text.proofs.Drafts.{Drafting}
+use Rattle.hp_text.proofs.script.read_script.Given as goal
+
+abbrev pub invariant-loop-draft : goal.invariant-loop-draft
+invariant-loop-draft g l =
+    Drafting (g.R.Source.remaining l.fn.reader) (g.R.Source.remaining l.reader) l.feed l.draft
+    × AreCalls l.draft × (g.R.Source.failures l.reader ≡ g.R.Source.failures l.fn.reader)
+
+abbrev pub decreases-loop-draft : goal.decreases-loop-draft
+decreases-loop-draft g l = room l.feed

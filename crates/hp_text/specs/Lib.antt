@@ -1,0 +1,10 @@
+pub mod Fits
+pub mod Reading
+pub mod Lines
+pub mod Streams
+pub mod Traces
+pub mod Writing
+pub mod Collecting
+pub mod Scripts
+pub mod Checking
+pub mod Columns

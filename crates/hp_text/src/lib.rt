@@ -1,0 +1,28 @@
+//! Traces and scripts as text: lines are read and written, and what is wrong with them is named.
+//!
+//! It stands on hp_base alone. A trace is read by one engine, the feed, which takes bytes cut anywhere and needs no
+//! memory; reading and checking a trace, and reading a script, are loops over it. It promises that what is read is what the
+//! bytes spell, that the first bad line is named, and that a fault of a stream is returned exactly where that stream
+//! failed. It knows no pool, and no files: it works over any source and sink.
+#![tactic(auto)]
+
+mod checking;
+mod columns;
+mod fault;
+mod feed;
+mod laws;
+mod reading;
+mod script;
+mod streams;
+mod trace;
+mod writing;
+
+pub use checking::{check_trace, write_count};
+pub use columns::column_of;
+pub use fault::ReplayFault;
+pub use feed::{TraceFeed, TraceLine};
+pub use laws::{bytes_have_one_reading, pieces_do_not_show, what_is_held_is_spelled};
+pub use script::{Script, read_script};
+pub use streams::{PIECE, Sink, Source, Watched};
+pub use trace::{MOST_EVENTS, Trace, read_trace, write_trace};
+pub use writing::write_text;
