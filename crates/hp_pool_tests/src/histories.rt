@@ -78,7 +78,10 @@ fn resizes_and_kills_are_refused(rt: HostRuntime) -> Result<(), Fail> {
     let told = resizes_and_kills::<Brand, _>(&rt, rt.alloc(), Blank::new(2), config)?;
     let not_alive = Outcome::Refused(Refusal::NotAlive);
     let bad_size = Outcome::Refused(Refusal::BadSize);
-    assert_eq!(rt; told, [bad_size, bad_size, not_alive, Outcome::Marked, not_alive]);
+    assert_eq!(rt;
+        told,
+        [bad_size, bad_size, not_alive, Outcome::Marked, not_alive]
+    );
     Ok(())
 }
 

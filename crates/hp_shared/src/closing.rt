@@ -56,7 +56,11 @@ impl<L: Ledger> Pool<L> {
     }
 
     // The same of seats that are all there.
-    pub(crate) fn close_seated(self, alloc: Global, seats: Vec<Seat<L>>) -> Result<Closed, KeptOpen<L>>
+    pub(crate) fn close_seated(
+        self,
+        alloc: Global,
+        seats: Vec<Seat<L>>,
+    ) -> Result<Closed, KeptOpen<L>>
         ensures closed { IfOk result (λ closed. IsClosed self seats.items closed) }
         ensures run { IfOk result (λ closed. ClosesWith seats.items closed.core closed.last.first closed.last.entries.items) }
         ensures sum { IfOk result (λ closed. 0 < length seats.items → length seats.items ≡ L.parts → closed.entries ≡ entries_of seats.items) }
