@@ -2,7 +2,7 @@
 use crate::texts::{add_lines, checked, is_written, replayed};
 use hp_base::{Event, Task};
 use hp_replay::{
-    Chances, Exploration, Finish, ReplayFault, RunLine, Script, Trace, Watched, explore,
+    Audit, Chances, Exploration, Finish, ReplayFault, RunLine, Script, Trace, Watched, explore,
     explore_hostile, read_script, schedule, write_count, write_explored, write_lines,
 };
 use std::alloc::Global;

@@ -11,7 +11,7 @@ returns-in_err-plan-clause-err g c =
 
 pub returns-in_err-lines-clause-err : goal.returns-in_err-lines-clause-err
 returns-in_err-lines-clause-err g c =
-    let p = err_from_is_err_and c.from_residual.result c.from_residual.ensures.1 in
+    let p = err_from_is_err_and c.from_residual-in_err-lines.result c.from_residual-in_err-lines.ensures.1 in
     rw (p.1, p.2) (tt, none_written _ _ _)
 
 pub returns-in_err-lines-2-clause-err : goal.returns-in_err-lines-2-clause-err
