@@ -14,7 +14,7 @@ use Rattle.hp_client.specs.declared.fault.ClientFault.{ClientFault}
 use Rattle.hp_client.specs.declared.table.Line.{Line}
 use Rattle.hp_client.specs.declared.table.Line.TheVariants.{Call, Race, Fallocate}
 use Rattle.hp_client.specs.declared.table.Row.{Row}
-use Rattle.hp_client.specs.declared.table.Wanted.{Wanted}
+use Rattle.hp_client.specs.declared.table.Allowed.{Allowed}
 use Rattle.hp_client.specs.declared.work.Judged.{Judged}
 
 one_right : (t : Answer × Answer) → IsRight t → All IsRight (t ∷ [])
@@ -133,12 +133,12 @@ module _ {D : Type 0} (makes : Rounds D) where
       subst (λ (l : Line). LineRuns makes l old ((one, answer_of first.2) ∷ (two, answer_of second.2) ∷ []) new) (sym is)
       (one, two, refl, made)
 
-  pub fallocate_runs : (line : Line) (task file bits offset len : ℕ) (wanted : Wanted) (old new : D) (given : Answer)
-      → line ≡ Fallocate task file bits offset len wanted
+  pub fallocate_runs : (line : Line) (task file bits offset len : ℕ) (allowed : Allowed) (old new : D) (given : Answer)
+      → line ≡ Fallocate task file bits offset len allowed
       → IsAnswered makes (fallocate_plan bits file offset len) task old given new
-      → LineRuns makes line old ((given, answer_of wanted) ∷ []) new
-  fallocate_runs line task file bits offset len wanted old new given is done =
-      subst (λ (l : Line). LineRuns makes l old ((given, answer_of wanted) ∷ []) new) (sym is) (given, refl, done)
+      → LineRuns makes line old ((given, answer_of allowed) ∷ []) new
+  fallocate_runs line task file bits offset len allowed old new given is done =
+      subst (λ (l : Line). LineRuns makes l old ((given, answer_of allowed) ∷ []) new) (sym is) (given, refl, done)
 
   -- a front of the lines ran, and the next one stopped
   pub front_runs : (stops : Stops D) (fault : ClientFault) (i : ℕ) (lines : List Line) (d : Line) (old mid new : D) (tried : Tried)

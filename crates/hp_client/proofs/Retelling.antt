@@ -26,7 +26,7 @@ module _ {D E : Type 0} (seen : D → E) (makes : Rounds D) (made : Rounds E)
       → LineRuns made line (seen old) tried (seen new)
   line_as (Call row) old new tried (given, is, h) = (given, is, makes_as old _ _ new h)
   line_as (Race first second) old new tried (one, two, is, h) = (one, two, is, makes_as old _ _ new h)
-  line_as (Fallocate task file bits offset len wanted) old new tried (given, is, h) =
+  line_as (Fallocate task file bits offset len allowed) old new tried (given, is, h) =
       (given, is, answered_as (fallocate_plan bits file offset len) task old new given h)
 
   lines_as : (lines : List Line) (old new : D) (tried : Tried) → LinesRun makes lines old tried new
@@ -36,9 +36,9 @@ module _ {D E : Type 0} (seen : D → E) (makes : Rounds D) (made : Rounds E)
       (seen mid, first, others, line_as line old mid first one, lines_as lines mid new others more, is)
 
   -- a workload ran
-  pub report_as : (lines : List Line) (wanted : Tally) (old new : D) (report : Report) → IsReport makes lines wanted old new report
-      → IsReport made lines wanted (seen old) (seen new) report
-  report_as lines wanted old new report is = record {
+  pub report_as : (lines : List Line) (allowed : Tally) (old new : D) (report : Report) → IsReport makes lines allowed old new report
+      → IsReport made lines allowed (seen old) (seen new) report
+  report_as lines allowed old new report is = record {
     tried = is.tried;
     runs = lines_as lines old new is.tried is.runs;
     each = is.each;
@@ -59,7 +59,7 @@ module _ {D E : Type 0} (seen : D → E) (makes : Rounds D) (made : Rounds E)
         → LineStops stopped fault line (seen old) (seen new)
     stop_as fault (Call row) old new h = stops_as fault old _ new h
     stop_as fault (Race first second) old new h = stops_as fault old _ new h
-    stop_as fault (Fallocate task file bits offset len wanted) old new h =
+    stop_as fault (Fallocate task file bits offset len allowed) old new h =
         unanswered_as (fallocate_plan bits file offset len) task old new fault h
 
     -- a front of it ran, and its next line stopped

@@ -152,7 +152,7 @@ blocked_all s new i before past blocked = subst (λ (xs : List Asked). AreBlocke
 -- it stopped the turn, and changed nothing
 pub turn_stops : (s new : CoreState) (i : ℕ) (before asked : List Asked) (d : Asked) → i < length before
     → drop i asked ≡ drop i before → Turn s (take i before) new (take i asked)
-    → WantsGrowth new.parts new.seats (Step (get_or asked i d).task true) → TurnStops s before new
+    → WantsGrowth new.parts new.task_states (Step (get_or asked i d).task true) → TurnStops s before new
 turn_stops s new i before asked d within same turn wants = record {
   front = take i before;
   call = get_or asked i d;

@@ -84,7 +84,7 @@ pub record TurnStops (s : CoreState) (asked : List Asked) (new : CoreState) : Ty
   pub next : List Asked
   pub parts : asked ≡ front ++ call ∷ back
   pub made : Turn s front new next
-  pub wants : WantsGrowth new.parts new.seats (Step call.task true)
+  pub wants : WantsGrowth new.parts new.task_states (Step call.task true)
 
 -- every call that hasn't ended was blocked
 abbrev pub AreBlocked : CoreState → List Asked → CoreState → Type 0

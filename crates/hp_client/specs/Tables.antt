@@ -12,8 +12,8 @@ use Rattle.hp_client.specs.Driving.{Rounds, Stops}
 use Rattle.hp_client.specs.declared.fault.ClientFault.{ClientFault}
 use Rattle.hp_client.specs.declared.table.Ask.{Ask}
 use Rattle.hp_client.specs.declared.table.Ask.TheVariants.{Map, MapNoReserve, Unmap, Load, Store, Alloc, Punch, Truncate}
-use Rattle.hp_client.specs.declared.table.Wanted.{Wanted}
-use Rattle.hp_client.specs.declared.table.Wanted.TheVariants.{Mapped, Word, Done, Beyond, NoFrame}
+use Rattle.hp_client.specs.declared.table.Allowed.{Allowed}
+use Rattle.hp_client.specs.declared.table.Allowed.TheVariants.{Mapped, Word, Done, Beyond, NoFrame}
 use Rattle.hp_client.specs.declared.table.Row.{Row}
 use Rattle.hp_client.specs.declared.table.Line.{Line}
 use Rattle.hp_client.specs.declared.table.Line.TheVariants.{Call, Race, Fallocate}
@@ -23,12 +23,12 @@ use Rattle.hp_client.specs.declared.table.Workload.TheVariants as work
 use Rattle.hp_client.specs.declared.work.Report.{Report}
 
 -- a task's call, with the one answer that is allowed
-abbrev pub row : (task : ℕ) → Ask → Wanted → Row
-row task ask wanted = record { 0 = task; 1 = ask; 2 = wanted }
+abbrev pub row : (task : ℕ) → Ask → Allowed → Row
+row task ask allowed = record { 0 = task; 1 = ask; 2 = allowed }
 
 -- a round of it alone
-abbrev pub call : (task : ℕ) → Ask → Wanted → Line
-call task ask wanted = Call (row task ask wanted)
+abbrev pub call : (task : ℕ) → Ask → Allowed → Line
+call task ask allowed = Call (row task ask allowed)
 
 -- frames, files and tasks
 abbrev pub pool : (frames files tasks : ℕ) → Pool
@@ -195,7 +195,7 @@ op_of (Alloc file from len keep) = op.Alloc file from len keep
 op_of (Punch file from len) = op.Punch file from len
 op_of (Truncate file new) = op.Truncate file new
 
-abbrev pub answer_of : Wanted → Answer
+abbrev pub answer_of : Allowed → Answer
 answer_of (Mapped base) = answer.Mapped base
 answer_of (Word word) = answer.Word word
 answer_of Done = answer.Done
@@ -206,13 +206,13 @@ answer_of NoFrame = answer.NoFrame
 abbrev pub IsApart : Line → Type 0
 IsApart (Call row) = Unit {0}
 IsApart (Race first second) = first.0 ≢ second.0
-IsApart (Fallocate task file bits offset len wanted) = Unit {0}
+IsApart (Fallocate task file bits offset len allowed) = Unit {0}
 
 -- how many calls a line has, and how many the lines have
 abbrev pub calls_of : Line → ℕ
 calls_of (Call row) = 1
 calls_of (Race first second) = 2
-calls_of (Fallocate task file bits offset len wanted) = 1
+calls_of (Fallocate task file bits offset len allowed) = 1
 
 abbrev pub calls_in : List Line → ℕ
 calls_in lines = sum_by calls_of lines
@@ -229,8 +229,8 @@ LineRuns makes (Call row) old tried new =
 LineRuns makes (Race first second) old tried new =
     (one : Answer) × (two : Answer) × (tried ≡ (one, answer_of first.2) ∷ (two, answer_of second.2) ∷ [])
     × makes old ((first.0, op_of first.1) ∷ (second.0, op_of second.1) ∷ []) (one ∷ two ∷ []) new
-LineRuns makes (Fallocate task file bits offset len wanted) old tried new =
-    (given : Answer) × (tried ≡ (given, answer_of wanted) ∷ [])
+LineRuns makes (Fallocate task file bits offset len allowed) old tried new =
+    (given : Answer) × (tried ≡ (given, answer_of allowed) ∷ [])
     × IsAnswered makes (fallocate_plan bits file offset len) task old given new
 
 -- line after line
@@ -245,7 +245,7 @@ abbrev pub LineStops : {D : Type 0} → Stops D → ClientFault → Line → (ol
 LineStops stops fault (Call row) old new = stops fault old ((row.0, op_of row.1) ∷ []) new
 LineStops stops fault (Race first second) old new =
     stops fault old ((first.0, op_of first.1) ∷ (second.0, op_of second.1) ∷ []) new
-LineStops stops fault (Fallocate task file bits offset len wanted) old new =
+LineStops stops fault (Fallocate task file bits offset len allowed) old new =
     IsUnanswered stops (fallocate_plan bits file offset len) task old fault new
 
 -- a front of the lines ran, and the next one stopped with this fault
@@ -272,15 +272,15 @@ IsFirstWrong tried (Some k) =
 
 -- None where all answers and the tally are the table's. Else the number, from 1, of the first call with another
 -- answer, or one more than there are where only the tally differs
-abbrev pub IsBad : Tried → (told wanted : Tally) → Option ℕ → Type 0
-IsBad tried told wanted None = All IsRight tried × (told ≡ wanted)
-IsBad tried told wanted (Some k) =
-    IsFirstWrong tried (Some k) ⊎ (All IsRight tried × (told ≢ wanted) × (k ≡ length tried + 1))
+abbrev pub IsBad : Tried → (told allowed : Tally) → Option ℕ → Type 0
+IsBad tried told allowed None = All IsRight tried × (told ≡ allowed)
+IsBad tried told allowed (Some k) =
+    IsFirstWrong tried (Some k) ⊎ (All IsRight tried × (told ≢ allowed) × (k ≡ length tried + 1))
 
 -- what came of a workload: its lines ran, all its calls are counted, and `bad` is what these answers make it
-pub record IsReport {D : Type 0} (makes : Rounds D) (lines : List Line) (wanted : Tally) (old new : D) (report : Report) : Type 0 where
+pub record IsReport {D : Type 0} (makes : Rounds D) (lines : List Line) (allowed : Tally) (old new : D) (report : Report) : Type 0 where
   pub tried : Tried
   pub runs : LinesRun makes lines old tried new
   pub each : length tried ≡ calls_in lines
   pub calls : report.calls ≡ calls_in lines
-  pub bad : IsBad tried report.tally wanted report.bad
+  pub bad : IsBad tried report.tally allowed report.bad

@@ -56,7 +56,7 @@ returns-in_ok-given-in-Fallocate-clause-run g c =
     let of_task =
     subst (λ (t : ℕ). IsAnswered rounds (fallocate_plan x.bits x.file x.offset x.len) t old given new)
     c.new-task.ensures of_file in (
-      (given, answer_of x.wanted) ∷ [],
-      fallocate_runs rounds c.args.line x.task x.file x.bits x.offset x.len x.wanted old new given x.is of_task,
+      (given, answer_of x.allowed) ∷ [],
+      fallocate_runs rounds c.args.line x.task x.file x.bits x.offset x.len x.allowed old new given x.is of_task,
       c.judge-in-Fallocate.ensures.judges,
     )
