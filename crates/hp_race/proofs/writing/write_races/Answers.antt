@@ -14,7 +14,7 @@ returns-in_err-write_race-clause-err g c =
 
 pub loop-run-preserved : goal.loop-run-preserved
 loop-run-preserved g c = (
-  line_written _ _ _ c.loop-run.closed c.is_closed.result _ _ _ _ c.in_ok-ended.ended c.loop-run.invariant.0
-      c.in_ok-ended.ensures c.in_ok-write_race.ensures.ok c.is_closed.ensures refl,
+  line_written _ _ _ c.loop-run.closed c.is_closed-closed.result _ _ _ _ c.in_ok-ended.ended c.loop-run.invariant.0
+      c.in_ok-ended.ensures c.in_ok-write_race.ensures.ok c.is_closed-closed.ensures refl,
   c.in_ok-write_race.ensures.writes ∙ c.loop-run.invariant.1,
 )
