@@ -1,5 +1,5 @@
 -- The fault of a replay is that of the bytes.
-use Rattle.std.proofs.Common.{◌≡◌, ℕ, List, Option, Some, sym, subst, ◌∙◌, append_assoc}
+use Rattle.std.proofs.Common.{ℕ, List, ◌++◌, Option, Some, sym, subst, ◌∙◌, append_assoc}
 use Rattle.hp_text.specs.declared.fault.ReplayFault.{ReplayFault}
 use Rattle.hp_text.specs.declared.fault.ReplayFault.TheVariants.{BadLine, BadHeader, Read, Write, Memory}
 use Rattle.hp_text.specs.Traces.{BeginsNoHeader, HasFault, IsLineFault, trace_text}
