@@ -2,8 +2,8 @@
 use crate::sample_texts::{EXPLORED, REPLAYED, SCRIPT, TRACE};
 use crate::streams::{Break, SmallWriter};
 use hp_replay::{
-    Audit, Chances, Exploration, Finish, ReplayFault, RunLine, Watched, read_script, read_trace, replay,
-    write_count, write_explored, write_lines, write_text, write_trace,
+    Audit, Chances, Exploration, Finish, ReplayFault, RunLine, Watched, read_script, read_trace,
+    replay, write_count, write_explored, write_lines, write_text, write_trace,
 };
 use std::alloc::{AllocError, Global};
 use std::io::ErrorKind;
