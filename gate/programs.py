@@ -1,15 +1,41 @@
-"""Programs of the repository, proved and built."""
+"""Programs of the repository, proved and built; their runs, and the report of what was tried with them."""
 from __future__ import annotations
 
 import os
+import shlex
 import subprocess
 from pathlib import Path
+from typing import Iterable, NamedTuple
 
 from scratch import TOP
 
 # when the `rt ci` began that this call of ./check made, in seconds, once it has ended well
 BEGAN = "CHECK_BEGAN"
 PARTS = ("src", "specs", "proofs")
+
+
+class Ran(NamedTuple):
+    """A run's status and both streams."""
+
+    status: int
+    out: str
+    err: str
+
+
+def run(program: Path, words: str, read: str | bytes = b"", **how) -> Ran:
+    """Runs a program with these words and this input."""
+    given = read.encode() if isinstance(read, str) else read
+    ran = subprocess.run([program, *shlex.split(words)], input=given, capture_output=True, check=False, **how)
+    return Ran(ran.returncode, ran.stdout.decode(errors="replace"), ran.stderr.decode(errors="replace"))
+
+
+def report(name: str, tries: Iterable[tuple[str, bool]]) -> int:
+    """Prints what did not go as it should, and the counts. The status is 1 where anything didn't, or where nothing was tried."""
+    tried = list(tries)
+    wrong = [f"  not so: {what}\n" for what, is_so in tried if not is_so] if tried else ["  nothing was tried\n"]
+    print("".join(wrong), end="")
+    print(f"{name}: {max(0, len(tried) - len(wrong))} passed, {len(wrong)} failed")
+    return 1 if wrong else 0
 
 
 def is_built(top: Path, program: Path) -> bool:
