@@ -59,7 +59,7 @@ SCRIPTS = {
         "gate/documents.py",
         "bench/fuzz.sh 10 1",
     ),
-    "refusals": ("gate/growths.py", "gate/refusals.py", "gate/failing.py"),
+    "refusals": ("gate/growths.py",),
     "linux": (
         "conformance/compare.py",
         "conformance/races.py",

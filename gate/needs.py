@@ -26,11 +26,7 @@ NEEDS = (
     Need("rt", PROVER),
     Need("python3", "python3"),
     Need("find", "findutils"),
-    Need(
-        "cc",
-        "gcc",
-        ("gate/growths.py", "gate/refusals.py", "gate/failing.py", "conformance/test_record.py", "conformance/test_kernel.py"),
-    ),
+    Need("cc", "gcc", ("gate/growths.py", "conformance/test_record.py", "conformance/test_kernel.py")),
     Need("cargo", "cargo", ("bench/fuzz.sh", "conformance/test_kernel.py", "conformance/test_peers.py", "conformance/test_versions.py")),
     # without it two calls of ./hugepool at once may both build the program
     Need("flock", "util-linux", ("gate/test_launcher.py",)),
