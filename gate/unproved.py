@@ -9,12 +9,12 @@ from __future__ import annotations
 
 import os
 import shutil
-import subprocess
 import sys
 import tempfile
 from pathlib import Path
-from typing import Iterable, NamedTuple
+from typing import Iterable
 
+from programs import Ran, report, run
 from scratch import TOP
 
 NOTICE = "hugepool: not proved yet: the same sources, compiled without proof; ./hugepool build proves them\n"
@@ -25,26 +25,16 @@ WRONG = """#!/bin/sh
 """
 
 
-class Answer(NamedTuple):
-    """What a call wrote to both streams, and its status."""
-
-    out: str
-    err: str
-    status: int
-
-
-def answer(launcher: Path, command: str, trace: Path, **more: str) -> Answer:
+def answer(launcher: Path, command: str, trace: Path, **more: str) -> Ran:
     own = {it: value for it, value in os.environ.items() if it != "HUGEPOOL"}
-    with open(trace, "rb") as read:
-        ran = subprocess.run([launcher, command], stdin=read, capture_output=True, text=True, env={**own, **more}, check=False)
-    return Answer(ran.stdout, ran.stderr, ran.returncode)
+    return run(launcher, command, trace.read_bytes(), env={**own, **more})
 
 
 def traces() -> list[Path]:
     return sorted((TOP / "examples").rglob("*.trace"))
 
 
-def differences(copy: Path, command: str, proved: dict[Path, Answer]) -> list[str]:
+def differences(copy: Path, command: str, proved: dict[Path, Ran]) -> list[str]:
     """The traces on which the copy's unproved program answers otherwise than the proved one."""
     found = []
     for trace, wanted in proved.items():
@@ -58,7 +48,7 @@ def compiled(copy: Path) -> list[str]:
     return sorted(it.parent.parent.name for it in copy.glob("crates/*/out/unproved"))
 
 
-def notices_wrong(copy: Path, proved: dict[Path, Answer]) -> bool:
+def notices_wrong(copy: Path, proved: dict[Path, Ran]) -> bool:
     """Whether a program that changes a word of its output is noticed on each trace that has that word."""
     program = copy / "crates" / "hugepool" / "out" / "unproved"
     right = program.with_name("unproved.right")
@@ -90,11 +80,7 @@ def tries(copy: Path) -> Iterable[tuple[str, bool]]:
 def main() -> int:
     with tempfile.TemporaryDirectory(prefix="unproved-") as room:
         copy = Path(shutil.copytree(TOP, Path(room) / "copy", ignore=LEFT_OUT))
-        tried = list(tries(copy))
-    print("".join(f"  not so: {what}\n" for what, is_so in tried if not is_so), end="")
-    failed = sum(not is_so for _, is_so in tried)
-    print(f"unproved: {len(tried) - failed} passed, {failed} failed")
-    return 1 if failed else 0
+        return report("unproved", tries(copy))
 
 
 if __name__ == "__main__":
