@@ -7,31 +7,16 @@ computes none, nothing is stamped, and later checks build the libraries anew.
 """
 from __future__ import annotations
 
-import functools
-import importlib.util
-import os
-import shutil
-import sys
 from pathlib import Path
-from types import ModuleType
 
-
-def toolchain_of(command: str) -> ModuleType:
-    """The toolchain's own module, which knows the crates of a repository and their stamps."""
-    beside = Path(os.path.realpath(shutil.which(command) or command)).with_name("rtlib.py")
-    spec = importlib.util.spec_from_file_location("rtlib", beside)
-    module = importlib.util.module_from_spec(spec)
-    sys.dont_write_bytecode = True
-    spec.loader.exec_module(module)
-    # it would compute a crate's stamp anew for each crate above it
-    module.Crate.stamp = functools.cache(module.Crate.stamp)
-    return module
+import scratch  # noqa: F401 (it makes the launcher's modules known)
+import toolchain
 
 
 def stamps_of(top: Path, command: str = "rt") -> dict[str, str]:
     """The stamp of each crate as the toolchain computes it from the texts; empty where it computes none."""
     try:
-        return {it.name: it.stamp() for it in toolchain_of(command).crates_below(str(top))}
+        return {it.name: it.stamp() for it in toolchain.load(command).rtlib.crates_below(str(top))}
     except (Exception, SystemExit):
         return {}
 

@@ -1,9 +1,10 @@
 #!/usr/bin/env python3
-"""Tests ./check itself: what it counts, which scripts it runs, what is due, what it leaves out, and its statuses."""
+"""Tests what would pass ./check unnoticed where it were wrong itself: counts, statuses, what is due, what is left out, what no step runs."""
 from __future__ import annotations
 
 import contextlib
 import io
+import os
 import re
 import sys
 import tempfile
@@ -12,9 +13,8 @@ from typing import Iterator
 
 import check
 import libraries
-import needs
 from marks import PROOFS, TESTS, Marks, MutantMarks
-from progress import Progress
+from programs import report
 from scratch import TOP
 
 IS_RUN = '\nif __name__ == "__main__":\n'
@@ -33,16 +33,13 @@ COMMANDS = [
 # the toolchain's module, as far as libraries.py uses it
 TOOLCHAIN = '''
 import os
-
-class Crate:
-    def __init__(self, folder):
-        self.name, self.folder = os.path.basename(folder), folder
-
-    def stamp(self):
-        return "stamp of " + open(f"{self.folder}/src/lib.rt").read()
+from types import SimpleNamespace
 
 def crates_below(top):
-    return [Crate(f"{top}/crates/{it}") for it in sorted(os.listdir(f"{top}/crates"))]
+    read = lambda it: lambda: "stamp of " + open(f"{top}/crates/{it}/src/lib.rt").read()
+    return [SimpleNamespace(name=it, stamp=read(it)) for it in sorted(os.listdir(f"{top}/crates"))]
+
+rtlib = SimpleNamespace(crates_below=crates_below)
 '''
 
 
@@ -132,48 +129,34 @@ def dues(top: Path) -> Iterator[tuple[str, bool]]:
 
 def stamps(room: Path) -> Iterator[tuple[str, bool]]:
     """The libraries of `rt ci` get their stamps only where nothing is in doubt."""
-    write(room / "kit/rtlib.py", TOOLCHAIN)
+    command = room / "rt"
     for case in ("nothing changed", "a text changed", "one has a stamp", "the toolchain computes none"):
         top = room / case
+        write(command, TOOLCHAIN)
+        command.chmod(0o755)
         for name in ("high", "low"):
             write(top / f"crates/{name}/src/lib.rt", name)
             write(top / f"crates/{name}/out/rlib/{name}.rlib/part", "")
-        before = libraries.stamps_of(top, str(room / "kit/rt"))
+        before = libraries.stamps_of(top, str(command))
         if case == "a text changed":
             write(top / "crates/low/src/lib.rt", "another")
         if case == "one has a stamp":
             write(top / "crates/low/out/rlib/stamp", "stamp of low")
         if case == "the toolchain computes none":
-            write(room / "kit/rtlib.py", TOOLCHAIN.replace("def stamp(", "def other("))
-        is_stamped = libraries.stamp(top, before, str(room / "kit/rt"))
+            write(command, "")
+        is_stamped = libraries.stamp(top, before, str(command))
         files = {it.read_text(encoding="utf-8") for it in top.rglob("high/out/rlib/stamp")}
         yield f"stamps: {case}", (is_stamped, files) == ((True, {"stamp of high"}) if case == "nothing changed" else (False, set()))
 
 
-def commands(room: Path) -> Iterator[tuple[str, bool]]:
+def left_out(room: Path) -> Iterator[tuple[str, bool]]:
     """What is missing, and what is left out because of it."""
-    lacking = needs.missing(str(room))
-    yield "all commands are missing from an empty folder", [it.command for it in lacking] == [it.command for it in needs.NEEDS]
-    yield "the required ones are listed first", "required" in needs.listed(lacking)[0] and "required" not in needs.listed(lacking)[-1]
-    known = {it.split(" ")[0] for several in check.SCRIPTS.values() for it in several}
-    yield "only scripts of ./check are left out", all(set(it.left_out) <= known for it in needs.NEEDS)
-    write(room / "crates/low/src/lib.rt", "fn  low( ) {}\n")
-    yield "a file in another format is refused", not silently(check.Gate([]).follow, check.format_check(room))
-    gate = check.Gate(["refusals"], [it for it in needs.NEEDS if it.command == "cc"])
+    gate, own = check.Gate(["refusals"], ["cc"]), os.environ["PATH"]
     silently(check.STEPS["refusals"], gate, [])
     yield "without cc the refusals are left out and listed", (gate.passed, gate.failed, len(gate.left_out)) == (0, 0, len(check.SCRIPTS["refusals"]))
-
-
-def progress(room: Path) -> Iterator[tuple[str, bool]]:
-    file = room / "times.json"
-    write(file, '{"one": 600, "two": 1200}')
-    it = Progress([("a", "one"), ("b", "two")], file)
-    yield "the time left is that of all scripts at first", it.minutes_left() == "30 min"
-    silently(it.begin, "a", "one")
-    silently(it.line, "hp_low: 3 of 3 mutants refused, 1 controls proved, in 2 checks and 42 s of processor time\n")
-    it.end("a", "one")
-    yield "then that of the others", it.minutes_left() == "20 min"
-    yield "the dearest crates are listed", it.table()[-1] == "dearest mutants: hp_low 42 s"
+    os.environ["PATH"] = str(room)
+    yield "where all commands are missing nothing runs", (check.missing(), silently(check.main, ["quick"])) == ([*check.NEEDS], 127)
+    os.environ["PATH"] = own
 
 
 def records() -> set[int]:
@@ -191,24 +174,16 @@ def tries() -> Iterator[tuple[str, bool]]:
     yield "a step that passes ends with 0", status(["linux"], 3, 0) == 0
     yield "one that fails doesn't", status(["linux"], 3, 1) == 1
     yield "a word that is no step is refused", status(["linus"], 3, 0) == 2 and status(["linux", "more"], 3, 0) == 2
-    for part in (dues, stamps, commands, progress):
+    for part in (dues, stamps, left_out):
         with tempfile.TemporaryDirectory(prefix="check-") as room:
             yield from part(Path(room))
     yield "all recorded scripts are there", len(records()) == 1 and 0 not in records()
     listed = {Path(it.split(" ")[0]).name for several in check.SCRIPTS.values() for it in several}
     own = {it.name for it in (TOP / "gate").glob("*.py") if IS_RUN in it.read_text(encoding="utf-8")}
     tests = {it.name for it in (TOP / "conformance").glob("test_*.py")} | {"compare.py", "races.py"}
-    for name in sorted({*own, *tests} - {"check.py", "needs.py"}):
+    for name in sorted({*own, *tests} - {"check.py"}):
         yield f"{name} is run by a step", name in listed
 
 
-def main() -> int:
-    tried = list(tries())
-    print("".join(f"  not so: {what}\n" for what, is_so in tried if not is_so), end="")
-    failed = sum(not is_so for _, is_so in tried)
-    print(f"check: {len(tried) - failed} passed, {failed} failed")
-    return 1 if failed else 0
-
-
 if __name__ == "__main__":
-    sys.exit(main())
+    sys.exit(report("check", tries()))

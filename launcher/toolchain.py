@@ -13,12 +13,12 @@ class Unusable(Exception):
     """The toolchain's module isn't there, or isn't what this code knows."""
 
 
-def load() -> ModuleType:
+def load(command: str = "rt") -> ModuleType:
     """The module behind the command `rt`. Loading it does nothing else."""
-    command = shutil.which("rt")
-    if command is None:
-        raise Unusable("'rt' is not on the PATH")
-    loader = SourceFileLoader("rt_command", os.path.realpath(command))
+    path = shutil.which(command)
+    if path is None:
+        raise Unusable(f"'{command}' is not on the PATH")
+    loader = SourceFileLoader("rt_command", os.path.realpath(path))
     module = module_from_spec(spec_from_loader("rt_command", loader))
     sys.dont_write_bytecode = True
     try:
