@@ -26,7 +26,7 @@ from scratch import TOP
 
 # the status of a run that does not end
 HANGS = -1
-SECONDS = 60
+SECONDS = 300
 # no line of words has so many growths, reads or writes
 MOST = 20_000
 # the number by which the library tells of each thread, and refuses nothing

@@ -18,7 +18,7 @@ from typing import Iterable
 from building import SIGNALS
 from progress import Line
 
-ONE = Path(__file__).with_name("prove_library.py")
+ONE = Path(__file__).with_name("toolchain.py")
 # the seconds by which an urgent library's chain may be shorter than the longest
 SLACK = 15.0
 # what another job adds to the memory of the first, since it is a copy that shares most of it, and how much faster it makes the first

@@ -1,4 +1,11 @@
-"""The toolchain's command `rt` as a module."""
+#!/usr/bin/env python3
+"""The toolchain's command `rt` as a module; and one library proved and built by it, over libraries that are built.
+
+usage: toolchain.py CRATE-FOLDER JOBS
+
+This does what `rt lib` does, but takes no locks: `rt lib` locks all crates below its own, and all stand on one, so that two could never run
+side by side. prove.py, which starts one such process for each library, holds these locks meanwhile.
+"""
 from __future__ import annotations
 
 import os
@@ -26,3 +33,15 @@ def load(command: str = "rt") -> ModuleType:
     except (Exception, SystemExit) as error:
         raise Unusable(str(error)) from error
     return module
+
+
+def prove_library(folder: str, jobs: str) -> int:
+    os.chdir(folder)
+    rt = load()
+    rt.share_work(True)
+    crate = rt.rtlib.Crate(folder, rt.rtlib.root_above(folder), {})
+    return crate.build_rlib(["--jobs", jobs], anew=False)
+
+
+if __name__ == "__main__":
+    sys.exit(prove_library(*sys.argv[1:]))
