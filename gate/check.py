@@ -37,10 +37,9 @@ from itertools import groupby
 from pathlib import Path
 from typing import Callable, Iterable
 
-import libraries
 import programs
 from edit import PARTS, mutants_of
-from marks import PROOFS, TESTS, Marks
+from marks import PROOFS, TESTS, Marks, stamp, stamps_of
 from scratch import TOP, below, crates_of
 from times import Times
 
@@ -158,14 +157,16 @@ class Gate:
 
 def ci(gate: Gate, _: list[str]) -> bool:
     """Where it ends well, the other steps run the programs that were proved and built by it, and later checks prove only what changes."""
-    seen, stamps = Marks(), libraries.stamps_of(TOP)
+    seen, stamps = Marks(), stamps_of(TOP)
     with tempfile.NamedTemporaryFile(prefix="check-began-") as began:
         if not gate.run("ci", "rt ci", ["rt", "ci"]):
             return False
-        os.environ[programs.BEGAN] = str(os.stat(began.name).st_mtime)
         own = {**os.environ, "HUGEPOOL_BUILT_SINCE": began.name}
         subprocess.run([TOP / "hugepool", "--help"], env=own, stdout=subprocess.DEVNULL, check=True)
-    libraries.stamp(TOP, stamps)
+        is_new = lambda it: it.is_file() and it.stat().st_mtime >= os.stat(began.name).st_mtime
+        for name in filter(lambda it: is_new(programs.program_of(it)), seen.known):
+            programs.note(seen, name)
+    stamp(TOP, stamps)
     for name in seen.known:
         seen.note(name, PROOFS)
         seen.note(name, TESTS)

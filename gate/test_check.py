@@ -12,7 +12,8 @@ from pathlib import Path
 from typing import Iterator
 
 import check
-import libraries
+import marks
+import programs
 from marks import PROOFS, TESTS, Marks, MutantMarks
 from programs import report
 from scratch import TOP
@@ -30,7 +31,7 @@ COMMANDS = [
     ("echo 'it: 3 passed, 2 failed' >&2; exit 1", (3, 2, False)),
     ("echo 'of these 3 passed, 2 failed or so'", (1, 0, True)),
 ]
-# the toolchain's module, as far as libraries.py uses it
+# the toolchain's module, as far as marks.py uses it
 TOOLCHAIN = '''
 import os
 from types import SimpleNamespace
@@ -127,6 +128,21 @@ def dues(top: Path) -> Iterator[tuple[str, bool]]:
     yield "a damaged record makes all due", noted(top)[1] == BOTH
 
 
+def builds(top: Path) -> Iterator[tuple[str, bool]]:
+    """Whether a program is taken for the one that was built of the texts as they are."""
+    files, program = repository(top), programs.program_of("high", top)
+    yield "a program that isn't there isn't built", not programs.is_built(Marks(top), "high")
+    write(program, "")
+    yield "nor is one of which nothing is noted", not programs.is_built(Marks(top), "high")
+    programs.note(Marks(top), "high")
+    yield "one that is noted is", programs.is_built(Marks(top), "high")
+    for name, file in {"low/src/lib.rt": files["low/src/lib.rt"], "the program": program}.items():
+        before = file.read_text(encoding="utf-8")
+        write(file, "another")
+        yield f"but not where {name} is another", not programs.is_built(Marks(top), "high")
+        write(file, before)
+
+
 def stamps(room: Path) -> Iterator[tuple[str, bool]]:
     """The libraries of `rt ci` get their stamps only where nothing is in doubt."""
     command = room / "rt"
@@ -137,23 +153,25 @@ def stamps(room: Path) -> Iterator[tuple[str, bool]]:
         for name in ("high", "low"):
             write(top / f"crates/{name}/src/lib.rt", name)
             write(top / f"crates/{name}/out/rlib/{name}.rlib/part", "")
-        before = libraries.stamps_of(top, str(command))
+        before = marks.stamps_of(top, str(command))
         if case == "a text changed":
             write(top / "crates/low/src/lib.rt", "another")
         if case == "one has a stamp":
             write(top / "crates/low/out/rlib/stamp", "stamp of low")
         if case == "the toolchain computes none":
             write(command, "")
-        is_stamped = libraries.stamp(top, before, str(command))
+        is_stamped = marks.stamp(top, before, str(command))
         files = {it.read_text(encoding="utf-8") for it in top.rglob("high/out/rlib/stamp")}
         yield f"stamps: {case}", (is_stamped, files) == ((True, {"stamp of high"}) if case == "nothing changed" else (False, set()))
 
 
-def left_out(room: Path) -> Iterator[tuple[str, bool]]:
-    """What is missing, and what is left out because of it."""
+def refused(room: Path) -> Iterator[tuple[str, bool]]:
+    """What is left out or refused because of what is missing, and for its format."""
     gate, own = check.Gate(["refusals"], ["cc"]), os.environ["PATH"]
     silently(check.STEPS["refusals"], gate, [])
     yield "without cc the refusals are left out and listed", (gate.passed, gate.failed, len(gate.left_out)) == (0, 0, len(check.SCRIPTS["refusals"]))
+    write(room / "crates/low/src/lib.rt", "fn  low( ) {}\n")
+    yield "a file in another format is refused", not silently(check.Gate([]).follow, check.format_check(room))
     os.environ["PATH"] = str(room)
     yield "where all commands are missing nothing runs", (check.missing(), silently(check.main, ["quick"])) == ([*check.NEEDS], 127)
     os.environ["PATH"] = own
@@ -174,7 +192,7 @@ def tries() -> Iterator[tuple[str, bool]]:
     yield "a step that passes ends with 0", status(["linux"], 3, 0) == 0
     yield "one that fails doesn't", status(["linux"], 3, 1) == 1
     yield "a word that is no step is refused", status(["linus"], 3, 0) == 2 and status(["linux", "more"], 3, 0) == 2
-    for part in (dues, stamps, left_out):
+    for part in (dues, builds, stamps, refused):
         with tempfile.TemporaryDirectory(prefix="check-") as room:
             yield from part(Path(room))
     yield "all recorded scripts are there", len(records()) == 1 and 0 not in records()

@@ -2,8 +2,7 @@
 """Tests which program ./hugepool runs, and when it compiles or proves one, in a small repository with a stand-in for `rt`.
 
 The stand-in counts its calls, and builds programs that print how they were built. Of the repository itself it is tested from which crates
-./hugepool takes its programs to be built. Besides: that ./check and .ci/run pass on words and status, and which programs of `rt ci` the
-gate takes over.
+./hugepool takes its programs to be built. Besides: that ./check and .ci/run pass on words and status.
 """
 from __future__ import annotations
 
@@ -18,7 +17,6 @@ from concurrent.futures import ThreadPoolExecutor
 from pathlib import Path
 from typing import Iterable, Iterator
 
-import programs
 from programs import Ran, report
 from scratch import TOP, below, crates_of
 
@@ -277,30 +275,8 @@ def passes_on(room: Room) -> Iterator[tuple[str, bool]]:
     yield ".ci/run asks for all of it, and ends as that does", room.call((), launcher=".ci/run")[:2] == (3, "")
 
 
-def takes_over(room: Room) -> Iterator[tuple[str, bool]]:
-    """Which programs stand for those of `rt ci`, where it began at the second 100, the sources being written before and the program after."""
-    top = room.top
-    program, folder = top / "crates/b/out/b", top / "crates/a/src"
-    for path in ("crates/a/src/deep/main.rt", "crates/b/out/b"):
-        room.write(path)
-    for path in (top / "crates.txt", *(top / "crates").rglob("*")):
-        os.utime(path, (50, 50))
-    os.utime(program, (150, 150))
-    yield "without ./check none does", not programs.is_built(top, program)
-    os.environ[programs.BEGAN] = "100"
-    yield "one that was built since, of older sources, does", programs.is_built(top, program)
-    yield "one that isn't there doesn't", not programs.is_built(top, program.with_name("c"))
-    for path in (top / "crates.txt", folder, folder / "deep", folder / "deep/main.rt"):
-        os.utime(path, (120, 120))
-        yield f"nor where {path.name} was written since", not programs.is_built(top, program)
-        os.utime(path, (50, 50))
-    os.utime(program, (99, 99))
-    yield "nor does one that was built before", not programs.is_built(top, program)
-    del os.environ[programs.BEGAN]
-
-
 def tries() -> Iterator[tuple[str, bool]]:
-    for part in (unproved, proofs, staleness, stands_on, passes_on, takes_over):
+    for part in (unproved, proofs, staleness, stands_on, passes_on):
         with tempfile.TemporaryDirectory(prefix="launcher-") as name:
             yield from part(Room(Path(name), crates_of(TOP) if part is stands_on else None))
 

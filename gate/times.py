@@ -11,7 +11,7 @@ from pathlib import Path
 from typing import Iterable, Iterator
 
 from scratch import TOP
-from progress import Line
+from progress import Line  # (of the launcher, which scratch makes known)
 
 # the seconds that each script took the last time on this machine
 TIMES = TOP / "out" / "check-times.json"
