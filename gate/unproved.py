@@ -2,8 +2,8 @@
 """Compares the programs that ./hugepool compiles without proof with the proved one, on each trace of examples/ and of the folders in it.
 
 A copy of the repository in which nothing is built compiles both through its launcher: the one that only replays, and the whole one. Output,
-status and, behind the line that says that nothing is proved yet, standard error have to be the same. A program that changes its output has to
-be noticed. It takes some 150 seconds of a processor, since both are compiled from nothing.
+status and, behind the line that says that nothing is proved yet, standard error have to be the same. Answers in which a word is changed have
+to be noticed. It takes some 150 seconds of a processor, since both are compiled from nothing.
 """
 from __future__ import annotations
 
@@ -19,10 +19,6 @@ from scratch import TOP
 
 NOTICE = "hugepool: not proved yet: the same sources, compiled without proof; ./hugepool build proves them\n"
 LEFT_OUT = shutil.ignore_patterns("out", ".git", "target", "__pycache__")
-# a program that answers as the one beside it, but one word
-WRONG = """#!/bin/sh
-"$0.right" "$@" | sed 's/begun/began/'
-"""
 
 
 def answer(launcher: Path, command: str, trace: Path, **more: str) -> Ran:
@@ -48,18 +44,6 @@ def compiled(copy: Path) -> list[str]:
     return sorted(it.parent.parent.name for it in copy.glob("crates/*/out/unproved"))
 
 
-def notices_wrong(copy: Path, proved: dict[Path, Ran]) -> bool:
-    """Whether a program that changes a word of its output is noticed on each trace that has that word."""
-    program = copy / "crates" / "hugepool" / "out" / "unproved"
-    right = program.with_name("unproved.right")
-    program.rename(right)
-    program.write_text(WRONG, encoding="utf-8")
-    program.chmod(0o755)
-    wrong = differences(copy, "replay", proved)
-    right.replace(program)
-    return len(wrong) == sum("begun" in it.out for it in proved.values()) > 0
-
-
 def tries(copy: Path) -> Iterable[tuple[str, bool]]:
     """What is tried, and whether it went as it should."""
     proved = {command: {it: answer(TOP / "hugepool", command, it, HUGEPOOL="proved") for it in traces()} for command in ("replay", "explain")}
@@ -74,7 +58,9 @@ def tries(copy: Path) -> Iterable[tuple[str, bool]]:
         for it in differences(copy, command, answers):
             yield f"the whole program answers otherwise: {it}", False
         yield f"{command} was compared", True
-    yield "a wrong program is noticed", notices_wrong(copy, proved["replay"])
+    other = {it: told._replace(out=told.out.replace("begun", "began")) for it, told in proved["replay"].items()}
+    changed = [it for it, told in other.items() if told != proved["replay"][it]]
+    yield "each other answer is noticed", len(differences(copy, "replay", other)) == len(changed) > 0
 
 
 def main() -> int:

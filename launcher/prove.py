@@ -106,7 +106,7 @@ def build_alone(logs: Path) -> None:
 
 def write_measured(proving: Proving) -> None:
     """Writes what each proof took, in the form of launcher/weights.txt."""
-    lines = [f"{name} {took.seconds:.0f} {took.memory // MIB}\n" for name, took in proving.took.items()]
+    lines = [f"{name} {seconds:.0f} {memory // MIB}\n" for name, (seconds, memory) in proving.took.items()]
     (proving.logs / "measured").write_text("".join(lines), encoding="utf-8")
 
 
