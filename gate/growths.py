@@ -416,7 +416,7 @@ def tries(room: Room, pool: ThreadPoolExecutor) -> Iterator[tuple[str, bool]]:
     for runner, judge, several in ((program, fault, cases()), (teller, story_fault, told.values()), (teller, driver_fault, [driver])):
         for case in several:
             counts[runner.name, case.words, case.read], found = faults(Program(runner, room.library), case, pool, judge)
-            yield f"{found[:3]}", not found
+            yield "; ".join(found[:3]), not found
     print(f"growths: {sum(counts.values())} calls failed, one a run")
     # an audit takes memory for a picture after each turn: there are several times as many growths with it (the word itself takes some, too)
     with_audit, without = (counts[program.name, f"explore --runs 2{it}", crowd(6)] for it in (" --audit", ""))
