@@ -72,7 +72,7 @@ def session_rows(document: str) -> Iterator[tuple[str, Row]]:
 
 
 def unlisted(listing: str) -> list[str]:
-    """The traces and scripts whose names stand in no row of the tables of examples/README.md (those of needed/ have a page of their own)."""
+    """The traces and scripts that no table of examples/README.md names (those of needed/ have a page of their own)."""
     listed = set(re.findall(r"^\| `([\w-]+)` \|", listing, re.MULTILINE))
     return sorted(it for it in names(".trace") | names(".script") if Path(it).name not in listed and not it.startswith("needed/"))
 

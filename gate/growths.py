@@ -369,10 +369,13 @@ WRONG_STORES = {
 }
 
 
-def noticed(room: Room, program: Path, case: Case, judge: Judge, wrong: dict[str, str], pool: ThreadPoolExecutor) -> Iterator[tuple[str, bool]]:
+def noticed(
+    room: Room, program: Path, case: Case, judge: Judge, wrong: dict[str, str], pool: ThreadPoolExecutor
+) -> Iterator[tuple[str, bool]]:
     """Whether a fault is found in the runs of each wrong program."""
     for name, text in wrong.items():
-        yield f"around {program.name} {case.words} one that {name} is noticed", bool(faults(room.around(program, text), case, pool, judge)[1])
+        _, found = faults(room.around(program, text), case, pool, judge)
+        yield f"around {program.name} {case.words} one that {name} is noticed", bool(found)
     yield f"of {program.name} {case.words} nothing fails without the library", not faults(Program(program, None), case, pool, judge)[0]
 
 

@@ -1,5 +1,5 @@
 #!/usr/bin/env python3
-"""Tests what would pass ./check unnoticed where it were wrong itself: counts, statuses, what is due, what is left out, what no step runs."""
+"""Tests where ./check could be wrong without failing: counts, statuses, what is due, what is left out, what no step runs."""
 from __future__ import annotations
 
 import contextlib
@@ -169,7 +169,8 @@ def refused(room: Path) -> Iterator[tuple[str, bool]]:
     """What is left out or refused because of what is missing, and for its format."""
     gate, own = check.Gate(["refusals"], ["cc"]), os.environ["PATH"]
     silently(check.STEPS["refusals"], gate, [])
-    yield "without cc the refusals are left out and listed", (gate.passed, gate.failed, len(gate.left_out)) == (0, 0, len(check.SCRIPTS["refusals"]))
+    counts = gate.passed, gate.failed, len(gate.left_out)
+    yield "without cc the refusals are left out and listed", counts == (0, 0, len(check.SCRIPTS["refusals"]))
     write(room / "crates/low/src/lib.rt", "fn  low( ) {}\n")
     yield "a file in another format is refused", not silently(check.Gate([]).follow, check.format_check(room))
     os.environ["PATH"] = str(room)

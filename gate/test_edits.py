@@ -60,7 +60,8 @@ def reported(fixtures: Path) -> dict[str, str]:
 def compared(told: dict[str, str], expected: dict[str, str]) -> Iterator[tuple[str, bool]]:
     """Whether of each mutant is reported what is expected."""
     for name in sorted({*told, *expected}):
-        yield f"{name}: reported {told.get(name)!r}, expected {expected.get(name)!r}", told.get(name, "").startswith(expected.get(name, "?"))
+        is_so = told.get(name, "").startswith(expected.get(name, "?"))
+        yield f"{name}: reported {told.get(name)!r}, expected {expected.get(name)!r}", is_so
 
 
 def tries() -> Iterator[tuple[str, bool]]:
