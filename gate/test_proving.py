@@ -15,8 +15,8 @@ from typing import Iterator
 from programs import report
 from test_launcher import Room
 
-# As a module it has what launcher/ asks for; as a command it is `rt run`. At the top, the file `free` says how much memory there is, `broken`
-# names a library that isn't proved, and with `stuck` none is.
+# As a module it has what launcher/ asks for; as a command it is `rt run`. At the top, the file `free` says how much memory there is,
+# `broken` names a library that isn't proved, and with `stuck` none is.
 RT = '''#!/usr/bin/env python3
 import os, sys, time
 from pathlib import Path

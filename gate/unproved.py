@@ -2,8 +2,8 @@
 """Compares the programs that ./hugepool compiles without proof with the proved one, on each trace of examples/ and of the folders in it.
 
 A copy of the repository in which nothing is built compiles both through its launcher: the one that only replays, and the whole one. Output,
-status and, behind the line that says that nothing is proved yet, standard error have to be the same. Answers in which a word is changed have
-to be noticed. It takes some 150 seconds of a processor, since both are compiled from nothing.
+status and, behind the line that says that nothing is proved yet, standard error have to be the same. Answers in which a word is changed
+have to be noticed. It takes some 150 seconds of a processor, since both are compiled from nothing.
 """
 from __future__ import annotations
 
