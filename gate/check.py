@@ -5,11 +5,11 @@ usage: ./check [STEP] [..]
   ./check            all steps but quick: what has to pass before a change lands
   ./check all        the same, with every mutant, whether or not its crate changed
   ./check ci         every proof from nothing, all tests and programs, and the mutants of must-fail/ (rt ci)
-  ./check edits [CRATE ..] [--all] [--due] [--each]
+  ./check edits [CRATE ..] [--all] [--each]
                      the mutants: wrong bodies that the prover must refuse. With no crate named, those of each crate that changed, or
                      that stands on one that did, since they were refused; where few are due, those of some other crates, too
                      (--all: all); then faulty mutants that must be reported, and docs/INDEX.md.
-                     Of crates that are named all mutants, or with --due those that are due
+                     Of crates that are named all mutants; --each prints a line for each
   ./check examples   the output of the traces of examples/, which no single output shows, of each command's help, and of each wrong
                      field of a line; a long race, and its trace; that the programs compiled without proof print the same; when ./hugepool
                      builds; what ./check itself counts; the names in documents; with cargo, some seconds of random and damaged
@@ -27,23 +27,21 @@ from __future__ import annotations
 
 import os
 import re
+import shlex
 import shutil
 import subprocess
 import sys
 import tempfile
-import threading
 from concurrent.futures import ThreadPoolExecutor
 from itertools import groupby
 from pathlib import Path
 from typing import Callable, Iterable
 
-import libraries
-import needs
 import programs
 from edit import PARTS, mutants_of
-from marks import PROOFS, TESTS, Marks
-from progress import Progress
+from marks import PROOFS, TESTS, Marks, stamp, stamps_of
 from scratch import TOP, below, crates_of
+from times import Times
 
 # the scripts of each step, with their words; ci and quick run more than scripts
 SCRIPTS = {
@@ -55,11 +53,12 @@ SCRIPTS = {
         "gate/soak.py",
         "gate/unproved.py",
         "gate/test_launcher.py",
+        "gate/test_proving.py",
         "gate/test_check.py",
         "gate/documents.py",
         "bench/fuzz.sh 10 1",
     ),
-    "refusals": ("gate/growths.py", "gate/refusals.py", "gate/failing.py"),
+    "refusals": ("gate/growths.py",),
     "linux": (
         "conformance/compare.py",
         "conformance/races.py",
@@ -73,6 +72,13 @@ SCRIPTS = {
     ),
     "quick": ("rt check and test", "gate/documents.py"),
 }
+# the commands that scripts need, each with its Debian package and what is left out without it; without the first two nothing runs
+NEEDS = {
+    "rt": ("the Rattle toolchain, which is no package of Debian's", ()),
+    "find": ("findutils", ()),
+    "cc": ("gcc", ("gate/growths.py", "conformance/test_record.py", "conformance/test_kernel.py")),
+    "cargo": ("cargo", ("bench/fuzz.sh", "conformance/test_kernel.py", "conformance/test_peers.py", "conformance/test_versions.py")),
+}
 WHOLE = ("ci", "edits", "examples", "refusals", "linux")
 # of more crates than these the toolchain proves all; of fewer so many are begun at a time, since one may take several processors
 MANY, AT_A_TIME = 12, 2
@@ -84,21 +90,33 @@ def path_of(script: str) -> str:
     return script.split(" ")[0]
 
 
+def missing() -> list[str]:
+    """The commands that aren't there; CC may name another C compiler."""
+    command = lambda it: shlex.split(os.environ.get("CC", it))[0] if it == "cc" else it
+    return [it for it in NEEDS if not shutil.which(command(it))]
+
+
+def told_missing(command: str) -> str:
+    package, scripts = NEEDS[command]
+    effect = f"left out without it: {', '.join(scripts)}" if scripts else "required"
+    return f"check: '{command}' is missing (package: {package}): {effect}"
+
+
 class Gate:
     """The steps of this call: what passed and failed so far, and what was left out."""
 
-    def __init__(self, steps: Iterable[str], lacking: Iterable[needs.Need] = ()) -> None:
-        self.steps, self.lacking = list(steps), list(lacking)
+    def __init__(self, steps: Iterable[str], lacking: Iterable[str] = ()) -> None:
+        self.steps, self.lacking = list(steps), {script: command for command in lacking for script in NEEDS[command][1]}
         self.passed, self.failed, self.left_out = 0, 0, []
         each = ((step, script) for step in self.steps for script in SCRIPTS[step])
-        self.progress = Progress(it for it in each if not needs.left_out(path_of(it[1]), self.lacking))
+        self.times = Times(it for it in each if path_of(it[1]) not in self.lacking)
 
     def script(self, step: str, script: str, *more: str) -> bool:
         """Runs a script of the repository, unless a command that it needs is missing, and returns whether it ended well."""
         path, words = path_of(script), script.split(" ")[1:]
-        if lacking := needs.left_out(path, self.lacking):
-            self.left_out.append(f"check: {step}: {path} is left out, since '{lacking}' is missing")
-            self.progress.line(f"{self.left_out[-1]}\n")
+        if path in self.lacking:
+            self.left_out.append(f"check: {step}: {path} is left out, since '{self.lacking[path]}' is missing")
+            self.times.line(f"{self.left_out[-1]}\n")
             return True
         first = [sys.executable] if path.endswith(".py") else []
         return self.run(step, script, [*first, str(TOP / path), *words, *more])
@@ -108,16 +126,8 @@ class Gate:
         return self.timed(step, script, lambda: self.follow(words))
 
     def timed(self, step: str, script: str, does: Callable[[], bool]) -> bool:
-        ended = threading.Event()
-        self.progress.begin(step, script)
-        watching = threading.Thread(target=self.progress.watch, args=(ended,), daemon=True)
-        watching.start()
-        try:
+        with self.times.running(step, script):
             return does()
-        finally:
-            ended.set()
-            watching.join()
-            self.progress.end(step, script)
 
     def follow(self, words: list[str]) -> bool:
         """Passes a command's lines on, and adds up its lines 'N passed, M failed'. A command that counts nothing is one that passed or
@@ -125,7 +135,7 @@ class Gate:
         counts = []
         with subprocess.Popen(words, cwd=TOP, **PIPED) as ran:
             for line in ran.stdout:
-                self.progress.line(line)
+                self.times.line(line)
                 if made := COUNTS.match(line.rstrip("\n")):
                     counts.append((int(made[1]), int(made[2])))
         failed = sum(it for _, it in counts)
@@ -141,20 +151,22 @@ class Gate:
 
     def tell(self) -> int:
         """Prints what the steps took, what was left out, and the counts, and returns the status."""
-        self.progress.line("".join(f"{it}\n" for it in [*self.progress.table(), *self.left_out, f"{self.passed} passed, {self.failed} failed"]))
+        self.times.line("".join(f"{it}\n" for it in [*self.times.table(), *self.left_out, f"{self.passed} passed, {self.failed} failed"]))
         return 1 if self.failed else 0
 
 
 def ci(gate: Gate, _: list[str]) -> bool:
     """Where it ends well, the other steps run the programs that were proved and built by it, and later checks prove only what changes."""
-    seen, stamps = Marks(), libraries.stamps_of(TOP)
+    seen, stamps = Marks(), stamps_of(TOP)
     with tempfile.NamedTemporaryFile(prefix="check-began-") as began:
         if not gate.run("ci", "rt ci", ["rt", "ci"]):
             return False
-        os.environ[programs.BEGAN] = str(os.stat(began.name).st_mtime)
         own = {**os.environ, "HUGEPOOL_BUILT_SINCE": began.name}
         subprocess.run([TOP / "hugepool", "--help"], env=own, stdout=subprocess.DEVNULL, check=True)
-    libraries.stamp(TOP, stamps)
+        is_new = lambda it: it.is_file() and it.stat().st_mtime >= os.stat(began.name).st_mtime
+        for name in filter(lambda it: is_new(programs.program_of(it)), seen.known):
+            programs.note(seen, name)
+    stamp(TOP, stamps)
     for name in seen.known:
         seen.note(name, PROOFS)
         seen.note(name, TESTS)
@@ -181,7 +193,7 @@ def proofs_and_tests(gate: Gate) -> bool:
         return False
     have_passed = gate.count(at_once(os.cpu_count() or 1, sorted(tests), lambda name: run_rt(gate, "test", name, seen, [PROOFS, TESTS])))
     bad = [f"  {name}/{it.name}: {it.why}\n" for name in seen.known for it in mutants_of(TOP / "crates" / name)[1]]
-    gate.progress.line("".join(bad))
+    gate.times.line("".join(bad))
     gate.failed += len(bad)
     return have_passed and not bad
 
@@ -203,7 +215,7 @@ def due(seen: Marks) -> tuple[set[str], set[str]]:
 
 def prove(gate: Gate, seen: Marks, names: set[str]) -> bool:
     """Proves crates, low ones first. Where most have to be proved, the toolchain proves all: it knows how many fit into memory."""
-    gate.progress.line(f"{len(names)} of {len(seen.known)} crates are to be proved{': ' if names else ''}{' '.join(sorted(names))}\n")
+    gate.times.line(f"{len(names)} of {len(seen.known)} crates are to be proved{': ' if names else ''}{' '.join(sorted(names))}\n")
     if len(names) > MANY:
         have_passed = gate.follow(["rt", "all", "check", "--jobs", str(os.cpu_count() or 1)])
         for name in names if have_passed else ():
@@ -223,7 +235,7 @@ def at_once(most: int, names: Iterable[str], does: Callable[[str], bool]) -> lis
 def run_rt(gate: Gate, command: str, name: str, seen: Marks, shown: list[str]) -> bool:
     """Has the toolchain check a crate, or run its tests, and returns whether that passed. Then it has shown this of the crate."""
     ran = subprocess.run(["rt", command], cwd=TOP / "crates" / name, **PIPED)
-    gate.progress.line(f"== {name}: {' and '.join(shown)}\n{ran.stdout}")
+    gate.times.line(f"== {name}: {' and '.join(shown)}\n{ran.stdout}")
     for what in shown if ran.returncode == 0 else ():
         seen.note(name, what)
     return ran.returncode == 0
@@ -253,9 +265,9 @@ def main(words: list[str]) -> int:
     if words and words[0] not in [*STEPS, "all"] or words[1:] and words[0] != "edits":
         print(__doc__.split("\n\n", 1)[1], end="", file=sys.stderr)
         return 2
-    lacking = needs.missing()
-    print("".join(f"{it}\n" for it in needs.listed(lacking)), end="", flush=True)
-    if any(it.is_required for it in lacking):
+    lacking = missing()
+    print("".join(f"{told_missing(it)}\n" for it in lacking), end="", flush=True)
+    if not all(NEEDS[it][1] for it in lacking):
         return 127
     # (no step may judge by a program that isn't proved)
     os.environ["HUGEPOOL"] = "proved"

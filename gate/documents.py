@@ -17,6 +17,7 @@ from pathlib import Path
 from typing import Iterator
 
 import check
+from programs import report
 from scratch import TOP, crates_of
 
 # what documents tell of the kernel's sources, and of the machine
@@ -135,15 +136,14 @@ WRONG = """`docs/NOT_THERE.md` `hp_frames::Bank::not_there` `hp_not_there::Bank`
 """
 
 
-def main() -> int:
-    documents = [file for file in map(TOP.joinpath, paths()) if file.suffix == ".md" and "crates" not in file.relative_to(TOP).parts]
-    faults = [f"{file.relative_to(TOP)}: {it}" for file in sorted(documents) for it in faults_in(file.read_text(encoding="utf-8"))]
+def tries() -> Iterator[tuple[str, bool]]:
+    """What is tried, and whether it went as it should."""
+    for file in sorted(TOP / it for it in paths() if it.endswith(".md") and not it.startswith("crates/")):
+        faults = list(faults_in(file.read_text(encoding="utf-8")))
+        yield f"{file.relative_to(TOP)}: {'; '.join(faults)}", not faults
     noticed = len(list(faults_in(WRONG)))
-    faults += [] if noticed == 11 else [f"of eleven wrong names {noticed} are noticed"]
-    print("".join(f"  {it}\n" for it in faults), end="")
-    print(f"documents: {len(documents) + 1 - len({it.split(':')[0] for it in faults})} passed, {len(faults)} failed")
-    return 1 if faults else 0
+    yield f"of eleven wrong names {noticed} are noticed", noticed == 11
 
 
 if __name__ == "__main__":
-    sys.exit(main())
+    sys.exit(report("documents", tries()))

@@ -1,33 +1,38 @@
 #!/usr/bin/env python3
-"""Refuses each growth of memory of the built programs, one a run, and compares the output with the right one.
+"""Has one call of the built programs fail, each in turn, one a run, and compares the output with the right one.
 
-A library that is loaded before the program refuses the growth (faults.c). For each line of words below it refuses the 1st, 2nd, ..
-growth, up to a run that meets none. Where memory is refused, hugepool must say so and end with status 1, and its output must be a front
-of the right one; where a thread is refused, or nothing is, the output must be right. hp_memory_tests runs stories, which print each refusal
-and try again: everything else must be as with ample memory, to the end. In two of them threads meet at a gate, and where the second
-thread is refused, the story must say that they don't. Wrong programs, and a library that refuses nothing, have to be noticed. At last
-it counts the threads that a command starts: one for each racing task and each call of a round on a running pool, anew behind each cut of
-a journal, and no other.
+A library that is loaded before the program (faults.c) refuses the 1st, 2nd, .. growth of memory, up to a run that meets none; of some
+lines of words it fails each read and each write instead, while all others are made. hugepool must say so and end with status 1, and its
+output must be a front of the right one; where a thread is refused, or nothing fails, the output must be right. hp_memory_tests runs
+stories, which print each refusal and try again: everything else must be as with ample memory, to the end. In two of them threads meet at
+a gate, and where the second thread is refused, the story must say that they don't; of two stores over a driver each says how it ended.
+Wrong programs, and a library that refuses nothing, have to be noticed. At last it counts the threads that a command starts: one for each
+racing task and each call of a round on a running pool, anew behind each cut of a journal, and no other.
 """
 from __future__ import annotations
 
 import os
 import re
+import shlex
+import subprocess
 import sys
 import tempfile
 from concurrent.futures import ThreadPoolExecutor
 from pathlib import Path
 from typing import Callable, Iterator, NamedTuple
 
-from faults import WRONG, Program, Room, Told
-from programs import built
+from programs import Ran, built, report, run
 from scratch import TOP
 
-# no line of words has so many growths
+# the status of a run that does not end
+HANGS = -1
+SECONDS = 300
+# no line of words has so many growths, reads or writes
 MOST = 20_000
 # the number by which the library tells of each thread, and refuses nothing
 TELL_THREADS = -1
-REFUSED = (1, "hugepool: out of memory\n")
+# what hugepool ends with and says, by the letter of the fault
+FAILED = {it: (1, f"hugepool: {what}\n") for it, what in {"m": "out of memory", "r": "reading failed", "w": "writing failed"}.items()}
 WORKLOADS = [
     *("readback", "shared", "truncate", "alloc-instantiate-race", "chunk-overcommit", "noresv-preserve-resv-page"),
     *("noresv-regarded-as-resv", "truncate_reserve_wraparound", "fallocate_basic", "fallocate_align", "counters"),
@@ -62,6 +67,18 @@ APART = {
     "g": two_stores("no second thread", 41, "entries 42 free 2 resv 0"),
     "w": two_stores("no second thread", 41, "entries 34 free 3 resv 1"),
 }
+# of two stores over a driver: how the first ended, the numbers of the pool then, and how the second ended; where both are made, ..
+BOTH_DONE = ("done", "tally 1 0 1 1", "done")
+# .. and where memory is refused to one of them. (Not each refused growth shows: a list that is collected is begun anew with less room.)
+STORES = [
+    ("out of memory", "tally 2 0 0 0", "done"),  # a round without room to answer: nothing happened
+    ("out of memory", "tally 2 0 0 0", "stuck"),  # the change, with nothing taken
+    ("out of memory", "tally 1 0 1 0", "stuck"),  # the page, with a frame in the call's hand and its index reserved
+    ("out of memory", "tally 1 0 1 1", "stuck"),  # the table entry, with the page placed
+    ("done", "tally 1 0 1 1", "out of memory"),  # the second store
+]
+# how that story goes on, whatever was refused
+END = "tally 1 0 1 1\nexit of 1: done\nload of 1: refused\n"
 # what is told of something that was refused memory; where that was a call in flight, the journal isn't cut then
 RETRIED = re.compile(r"^(?:.* of (?P<task>\d)|\w+): out of memory\n(?:cut: task (?P=task) has a call in flight\n)?", re.MULTILINE)
 # of stories, what the refusals have to bring about in some of the runs
@@ -78,6 +95,53 @@ BROUGHT = {
 RACED = re.compile(r"run \d+ closed entries \d+ free \d+ resv \d+")
 
 
+class Told(NamedTuple):
+    """A run's status, both streams, and a letter for each fault (faults.c)."""
+
+    status: int
+    out: str
+    err: str
+    faults: str
+
+
+class Program:
+    """A program, and the library that is loaded before it, if any."""
+
+    def __init__(self, path: Path, library: Path | None) -> None:
+        self.path, self.library = path, library
+
+    def told(self, words: str, given: str, **faults: int) -> Told:
+        """A run with these words and this input, in which the call of this number fails, as GROWTH=3."""
+        read, write = os.pipe()
+        own = {"PATH": os.environ["PATH"], "FAULT_TOLD": str(write), **{f"FAULT_{kind}": str(number) for kind, number in faults.items()}}
+        own |= {"LD_PRELOAD": str(self.library)} if self.library else {}
+        try:
+            ran = run(self.path, words, given, env=own, pass_fds=[write], timeout=SECONDS)
+        except subprocess.TimeoutExpired:
+            ran = Ran(HANGS, "", f"it hasn't ended after {SECONDS} seconds")
+        os.close(write)
+        # (what a wrong program has begun may still hold the other end)
+        os.set_blocking(read, False)
+        with open(read, "rb", buffering=0) as said:
+            return Told(*ran, (said.read() or b"").decode())
+
+
+class Room:
+    """A folder for the library, which the C compiler builds, and for wrong programs."""
+
+    def __init__(self, folder: Path) -> None:
+        self.folder, self.library = folder, folder / "faults.so"
+        words = [*shlex.split(os.environ.get("CC", "cc")), "-O2", "-Wall", "-Wextra", "-Werror", "-shared", "-fPIC"]
+        subprocess.run([*words, "-o", self.library, TOP / "gate" / "faults.c"], check=True)
+
+    def around(self, program: Path, text: str) -> Program:
+        """A program that does this around another."""
+        path = self.folder / "wrong"
+        path.write_text(f'#!/bin/bash\nprogram="env LD_PRELOAD={self.library} {program}"\n{text}\n', encoding="utf-8")
+        path.chmod(0o755)
+        return Program(path, None)
+
+
 class Case(NamedTuple):
     """Words, what is read, and whether an output is right, or the front of one that is."""
 
@@ -85,6 +149,8 @@ class Case(NamedTuple):
     read: str
     is_right: Callable[[str, str], bool]
     is_front: Callable[[str, str], bool]
+    # the calls that fail, each in turn
+    fails: tuple[str, ...] = ("GROWTH",)
     # of a story, what it tells, what where it has no second thread, and what refusals bring about in it
     right: str = ""
     apart: str | None = None
@@ -112,6 +178,12 @@ def is_race_front(out: str, right: str) -> bool:
 
 def is_race(out: str, right: str) -> bool:
     return is_race_front(out, right) and out.count("\n") == right.count("\n")
+
+
+def begins_alike(out: str, right: str) -> bool:
+    """Whether both begin with the same line, as far as it is there: the traces of two races are alike in that alone."""
+    header = right.split("\n")[0]
+    return header.startswith(out[: len(header)])
 
 
 def plain_words(words: str, read: str) -> Case:
@@ -146,14 +218,27 @@ def cases() -> list[Case]:
         *(plain(words, wide) for words in ("explain", "draw", "check", "--help", "replay --help", "nothing", "replay --all")),
         plain("replay", example("a-bad-line.trace")),
         explored("explore --seed 7 --runs 3 --deny 100 --kill 10", script),
-        explored("explore --runs 2 --audit", crowd(6)),
+        *(explored(f"explore --runs 2{audit}", crowd(6)) for audit in ("", " --audit")),
         # (the lines of the first part are written while the second is explored)
         explored("explore --runs 513", "pool 1 1 1 1\n")._replace(lines=513),
         plain("schedule --seed 7", script),
         raced("race --times 2", script)._replace(lines=2),
         raced("race --times 1 --cut 2", script),
         raced("race --times 1", crowd(12)),
+        *stream_cases(),
     ]
+
+
+def stream_cases() -> list[Case]:
+    """What is run with one read or write that fails."""
+    calls = "begin 1 map 0 0 1\nbegin 1 unmap 0\n"
+    trace, script, short = "pool 4 1 4 2\n" + "step 1\n" * 2_000, "pool 4 1 4 2\n" + calls * 400, "pool 4 1 4 2\n" + calls * 10
+    found = [plain_words(words, trace) for words in ("replay", "explain", "draw", "check")]
+    found += [plain_words(words, script) for words in ("schedule", "explore --runs 600")]
+    # (a race writes each line by itself)
+    found += [Case("race --times 3", short, is_race, is_race_front), Case("race --trace", short, begins_alike, begins_alike)]
+    writes = [plain_words(words, "")._replace(fails=("WRITE",)) for words in ("work readback", "--help")]
+    return [*(it._replace(fails=("READ", "WRITE")) for it in found), *writes]
 
 
 def stories() -> list[Case]:
@@ -161,7 +246,7 @@ def stories() -> list[Case]:
     traces = [it for it in sorted((TOP / "examples").rglob("*.trace")) if not it.with_suffix(".err").exists()]
     told = {it.read_text(encoding="utf-8"): it.with_suffix(".out").read_text(encoding="utf-8") for it in traces}
     every = {**STORIES, **told}
-    return [Case("", it, is_same, is_front, right, APART.get(it), tuple(BROUGHT.get(it, ()))) for it, right in every.items()]
+    return [Case("", it, is_same, is_front, ("GROWTH",), right, APART.get(it), tuple(BROUGHT.get(it, ()))) for it, right in every.items()]
 
 
 def is_whole(case: Case, right: Told, told: Told) -> bool:
@@ -171,20 +256,21 @@ def is_whole(case: Case, right: Told, told: Told) -> bool:
 
 def fault(case: Case, right: Told, told: Told) -> str | None:
     """What is wrong with a run beside the right one, if anything is."""
-    if told.faults not in ("", "m", "t"):
-        return f"more than one growth was refused: {told.faults}"
-    if told.faults == "m" and not is_whole(case, right, told):
-        if (told.status, told.err) != REFUSED:
+    if len(told.faults) > 1:
+        return f"more than one call failed: {told.faults}"
+    if told.faults in FAILED and not (told.faults == "m" and is_whole(case, right, told)):
+        if (told.status, told.err) != FAILED[told.faults]:
             return f"status {told.status}, and on standard error {told.err!r}"
-        return None if case.is_front(told.out, right.out) else f"its output is no front of the right one: {told.out[-100:]!r}"
+        is_short = case.is_front(told.out, right.out) and (told.faults == "m" or told.out != right.out)
+        return None if is_short else f"its output is no front of the right one: {told.out[-100:]!r}"
     if (told.status, told.err) != (right.status, right.err):
-        return f"status {told.status}, and on standard error {told.err!r}, though nothing was refused"
+        return f"status {told.status}, and on standard error {told.err!r}, though nothing failed"
     return None if case.is_right(told.out, right.out) else f"its output isn't right: {told.out[-100:]!r}"
 
 
 def story_fault(case: Case, right: Told, told: Told) -> str | None:
     """The same of a story."""
-    if told.faults not in ("", "m", "t"):
+    if len(told.faults) > 1:
         return f"more than one growth was refused: {told.faults}"
     if (told.status, told.err) != (0, ""):
         return f"status {told.status}, and on standard error {told.err!r}"
@@ -196,36 +282,74 @@ def story_fault(case: Case, right: Told, told: Told) -> str | None:
     return None if kept in allowed else f"its output isn't right: {told.out[-100:]!r}"
 
 
+def stores_told(first: str, numbers: str, second: str) -> str:
+    return f"store of 1: {first}\n{numbers}\nstore of 2: {second}\n"
+
+
+def driver_fault(_: Case, right: Told, told: Told) -> str | None:
+    """The same of the two stores over a driver, which aren't made again."""
+    if len(told.faults) > 1 or (told.status, told.err) != (0, ""):
+        return f"status {told.status}, on standard error {told.err!r}, faults {told.faults!r}"
+    if told.out.count("out of memory") > len(told.faults):
+        return f"it tells of what wasn't refused: {told.out!r}"
+    kept = re.sub(r"^(?!store ).*: out of memory\n", "", told.out[told.out.find("store of 1: ") :], flags=re.MULTILINE)
+    allowed = [BOTH_DONE, *(STORES if told.faults else [])]
+    return None if kept in [stores_told(*it) + END for it in allowed] else f"its stores and its end are {kept!r}"
+
+
 Judge = Callable[[Case, Told, Told], "str | None"]
 
 
-def faults(program: Program, case: Case, pool: ThreadPoolExecutor, judge: Judge = fault) -> tuple[int, list[str]]:
-    """How many growths were refused, and what was wrong with the runs."""
-    name = f"{program.path.name} {case.words}".strip() or case.read[:20]
-    right = program.told(case.words, case.read)
-    if right.faults or judge(case, right, right) or judge is story_fault and right.out != case.right:
-        return 0, [f"{name}: with all memory it tells {right.out[-100:]!r}"]
-    found, step, whole = [], os.cpu_count() or 1, 0
-    brought, has_started, has_shown = set(case.brought), False, False
+def runs(program: Program, case: Case, kind: str, pool: ThreadPoolExecutor) -> Iterator[tuple[int, Told]]:
+    """The runs in which the 1st call of this kind fails, the 2nd, and so on, up to one in which none does."""
+    step = os.cpu_count() or 1
     for first in range(1, MOST, step):
         numbers = range(first, first + step)
-        for number, told in zip(numbers, pool.map(lambda n: program.told(case.words, case.read, GROWTH=n), numbers)):
-            if wrong := judge(case, right, told):
-                found.append(f"{name}: growth {number}: {wrong}")
-            brought = {it for it in brought if it not in told.out}
-            has_started = has_started or told.faults == "t"
-            has_shown = has_shown or (told.status, told.err) == REFUSED and 0 < told.out.count("\n") < case.lines
+        for number, told in zip(numbers, pool.map(lambda n: program.told(case.words, case.read, **{kind: n}), numbers)):
+            yield number, told
             if not told.faults:
-                found += [f"{name}: in no run is told {it!r}" for it in sorted(brought)]
-                found += [f"{name}: it starts no thread"] if case.starts and not has_started else []
-                found += [f"{name}: where it lacks memory it never shows what came before"] if case.lines and not has_shown else []
-                many = judge is fault and whole * 3 > number - 1
-                return number - 1, [*found, *([f"{name}: of {number - 1} refused growths {whole} are not told"] if many else [])]
+                return
+
+
+def faults(program: Program, case: Case, pool: ThreadPoolExecutor, judge: Judge = fault) -> tuple[int, list[str]]:
+    """How many calls failed, and what was wrong with the runs."""
+    name = f"{program.path.name} {case.words}".strip() or case.read[:20]
+    right = program.told(case.words, case.read)
+    if right.faults or judge(case, right, right) or case.right and right.out != case.right:
+        return 0, [f"{name}: where nothing fails it tells {right.out[-100:]!r}, and on standard error {right.err!r}"]
+    found, missing = [], {*case.brought}
+    failed = whole = shown = threads = 0
+    for kind in case.fails:
+        number, told = 0, right
+        for number, told in runs(program, case, kind, pool):
+            if wrong := judge(case, right, told):
+                found.append(f"{name}: {kind} {number}: {wrong}")
+            missing = {it for it in missing if it not in told.out}
+            failed, threads = failed + bool(told.faults), threads + (told.faults == "t")
+            shown += (told.status, told.err) == FAILED["m"] and 0 < told.out.count("\n") < case.lines
             whole += told.faults == "m" and is_whole(case, right, told)
-    return MOST, [*found, f"{name}: it has {MOST} growths or more"]
+        if number == 1 or told.faults:
+            found.append(f"{name}: of its calls {kind} {number - 1} failed")
+    found += [f"{name}: in no run is told {it!r}" for it in sorted(missing)]
+    found += [f"{name}: it starts no thread"] if case.starts and not threads else []
+    found += [f"{name}: where it lacks memory it never shows what came before"] if case.lines and not shown else []
+    found += [f"{name}: of {failed} failures {whole} are not told"] if judge is fault and whole * 3 > failed else []
+    return failed, found
 
 
-# Wrong programs around hp_memory_tests (faults.py has those around hugepool), which tells of a journal that is cut, ..
+# Wrong programs, by what they do around the right one, which they run by $program: around hugepool, ..
+WRONG = {
+    "says nothing of it": '$program "$@" 2> /dev/null',
+    "ends well": '$program "$@" || true',
+    "goes on": '$program "$@" || { echo more; exit 1; }',
+    "tries again": 'tee "$0.$$" | $program "$@" 2> /dev/null || FAULT_GROWTH=0 FAULT_READ=0 FAULT_WRITE=0 $program "$@" < "$0.$$"',
+    "is ended by a signal": '$program "$@" || kill -ABRT $$',
+}
+# .. around hp_memory_tests where it tells of two stores over a driver, ..
+WRONG_DRIVERS = {
+    "tries again": 'told=$($program); case $told in *"out of memory"*) FAULT_GROWTH=0 $program < /dev/null ;; *) echo "$told" ;; esac',
+}
+# .. of a journal that is cut, ..
 WRONG_STORIES = {
     "loses its last line": '$program | head -n -1',
     "begins again": '$program; [ "$FAULT_GROWTH" = 0 ] || FAULT_GROWTH=0 $program < /dev/null',
@@ -245,11 +369,14 @@ WRONG_STORES = {
 }
 
 
-def unnoticed(room: Room, program: Path, case: Case, judge: Judge, wrong: dict[str, str], pool: ThreadPoolExecutor) -> list[str]:
-    """The wrong programs in whose runs no fault was found."""
-    let = [name for name, text in wrong.items() if not faults(room.around(program, text), case, pool, judge)[1]]
-    let += ["refuses nothing"] if faults(Program(program, None), case, pool, judge)[0] else []
-    return [f"around {program.name} one that {name} isn't noticed" for name in let]
+def noticed(
+    room: Room, program: Path, case: Case, judge: Judge, wrong: dict[str, str], pool: ThreadPoolExecutor
+) -> Iterator[tuple[str, bool]]:
+    """Whether a fault is found in the runs of each wrong program."""
+    for name, text in wrong.items():
+        _, found = faults(room.around(program, text), case, pool, judge)
+        yield f"around {program.name} {case.words} one that {name} is noticed", bool(found)
+    yield f"of {program.name} {case.words} nothing fails without the library", not faults(Program(program, None), case, pool, judge)[0]
 
 
 def even(tasks: int, calls: int) -> str:
@@ -284,48 +411,32 @@ def threads_tried(program: Program) -> Iterator[tuple[str, bool]]:
     yield "a trace starts none", not any(threads(program, words, trace) for words in ("replay", "explain", "draw", "check"))
 
 
-class Tried:
-    """What came of the runs so far."""
-
-    def __init__(self) -> None:
-        self.passed, self.refused, self.faults = 0, 0, []
-
-    def add(self, program: Program, tried: list[Case], judge: Judge, pool: ThreadPoolExecutor) -> None:
-        for case in tried:
-            growths, found = faults(program, case, pool, judge)
-            if not growths and not found:
-                found = [f"{program.path.name} {case.words}: no growth was refused"]
-            self.refused += growths
-            self.passed += not found
-            self.faults += found[:3]
-
-    def add_wrong(self, tried: int, let: list[str]) -> None:
-        self.passed += tried - len(let)
-        self.faults += let
+def tries(room: Room, pool: ThreadPoolExecutor) -> Iterator[tuple[str, bool]]:
+    """What is tried, and whether it went as it should."""
+    program, teller = built("hugepool"), built("hp_memory_tests")
+    told, counts = {it.read: it for it in stories()}, {}
+    driver = Case("", "", is_same, is_front, brought=tuple(stores_told(*it) for it in STORES))
+    for runner, judge, several in ((program, fault, cases()), (teller, story_fault, told.values()), (teller, driver_fault, [driver])):
+        for case in several:
+            counts[runner.name, case.words, case.read], found = faults(Program(runner, room.library), case, pool, judge)
+            yield "; ".join(found[:3]), not found
+    print(f"growths: {sum(counts.values())} calls failed, one a run")
+    # an audit takes memory for a picture after each turn: there are several times as many growths with it (the word itself takes some, too)
+    with_audit, without = (counts[program.name, f"explore --runs 2{it}", crowd(6)] for it in (" --audit", ""))
+    yield f"explore --audit takes memory of its own ({with_audit} growths, {without} without it)", with_audit > 2 * without
+    yield from threads_tried(Program(program, room.library))
+    replay = Case("replay", example("map-four-of-four.trace"), is_same, is_front)
+    for runner, case, judge, wrong in (
+        *((program, it, fault, WRONG) for it in (replay, stream_cases()[0])),
+        *((teller, told[it], story_fault, several) for it, several in (("c", WRONG_STORIES), ("g", WRONG_STORES))),
+        (teller, driver, driver_fault, WRONG_DRIVERS),
+    ):
+        yield from noticed(room, runner, case, judge, wrong, pool)
 
 
 def main() -> int:
-    tried = Tried()
-    program, teller = built("hugepool"), built("hp_memory_tests")
-    replay, told = Case("replay", example("map-four-of-four.trace"), is_same, is_front), {it.read: it for it in stories()}
     with tempfile.TemporaryDirectory(prefix="growths-") as name, ThreadPoolExecutor(os.cpu_count() or 1) as pool:
-        room = Room(Path(name))
-        tried.add(Program(program, room.library), cases(), fault, pool)
-        tried.add(Program(teller, room.library), stories(), story_fault, pool)
-        # an audit takes memory for a picture after each turn: there are several times as many growths with it (the word itself takes some, too)
-        audit, right = plain_words("explore --runs 2 --audit", crowd(6)), Program(program, room.library)
-        without = audit._replace(words="explore --runs 2")
-        is_audited = faults(right, audit, pool)[0] > 2 * faults(right, without, pool)[0]
-        tried.add_wrong(1, [] if is_audited else ["explore --audit takes no more memory than without it: nothing is audited"])
-        started = list(threads_tried(right))
-        tried.add_wrong(len(started), [f"not so: {what}" for what, is_so in started if not is_so])
-        tried.add_wrong(len(WRONG) + 1, unnoticed(room, program, replay, fault, WRONG, pool))
-        for read, wrong in (("c", WRONG_STORIES), ("g", WRONG_STORES)):
-            tried.add_wrong(len(wrong) + 1, unnoticed(room, teller, told[read], story_fault, wrong, pool))
-    print("".join(f"  {it}\n" for it in tried.faults), end="")
-    print(f"growths: {tried.refused} were refused, one a run")
-    print(f"growths: {tried.passed} passed, {len(tried.faults)} failed")
-    return 1 if tried.faults else 0
+        return report("growths", tries(Room(Path(name)), pool))
 
 
 if __name__ == "__main__":

@@ -6,6 +6,11 @@ Mutants belong to the repository: the file tried.txt beside this one has a line 
 mutants were refused. That mark counts the texts and the mutants of the crate, sources and definitions of the crates below it, and the
 logic of the toolchain. It leaves out the proofs of the crates below: a wrong body is refused since its contract doesn't hold, and no
 proof of something else changes that.
+
+The toolchain marks libraries, too: a check builds each library below its crate whose stamp isn't current, which proves it. `rt ci` leaves
+its own libraries without stamps, since they fit only one another; in a repository where all of them are its own they fit. So where no
+library has a stamp, and no text changed while `rt ci` ran, each gets the stamp that the toolchain's own code computes. In any other case,
+and with a toolchain that computes none, nothing is stamped, and later checks build the libraries anew.
 """
 from __future__ import annotations
 
@@ -18,6 +23,7 @@ from typing import Iterable
 
 from edit import FOLDERS, PARTS
 from scratch import TOP, below, crates_of
+import toolchain  # (of the launcher, which scratch makes known)
 
 PROOFS, TESTS = "proved", "tested"
 # what neither a proof nor a test reads
@@ -28,14 +34,14 @@ SAMPLE = 60
 
 
 @functools.cache
-def toolchain() -> str:
+def version() -> str:
     return subprocess.run(["rt", "--version"], stdin=subprocess.DEVNULL, stdout=subprocess.PIPE, text=True, check=True).stdout
 
 
-def logic_of(version: str) -> str:
+def logic_of(told: str) -> str:
     """The logic in which a version of the toolchain proves. A version that names none stands for itself."""
-    found = re.search(r"\blogic [0-9a-f]+", version)
-    return found[0] if found else version
+    found = re.search(r"\blogic [0-9a-f]+", told)
+    return found[0] if found else told
 
 
 def hash_of(crate: Path, names: Iterable[str]) -> str:
@@ -63,7 +69,7 @@ class Marks:
 
     def mark(self, name: str) -> str:
         """A hash of the toolchain, and of the files of a crate and of those below it."""
-        said = [toolchain(), *(f"{it}: {self.known[it]} {self.own[it]}" for it in sorted({name, *below(name, self.known)}))]
+        said = [version(), *(f"{it}: {self.known[it]} {self.own[it]}" for it in sorted({name, *below(name, self.known)}))]
         return hashlib.sha256("\n".join(said).encode()).hexdigest()
 
     def is_due(self, name: str, what: str) -> bool:
@@ -81,8 +87,8 @@ class Marks:
 class MutantMarks:
     """The marks of all crates that have mutants, as they are when this is made, and the number of each crate's mutants."""
 
-    def __init__(self, top: Path = TOP, version: str | None = None) -> None:
-        crates, logic = crates_of(top), logic_of(toolchain() if version is None else version)
+    def __init__(self, top: Path = TOP, toolchain_version: str | None = None) -> None:
+        crates, logic = crates_of(top), logic_of(toolchain_version or version())
         own = {it: hash_of(top / "crates" / it, (*PARTS, *FOLDERS)) for it in crates}
         seen = {it: f"{it}: {crates[it]} {hash_of(top / 'crates' / it, ('src', 'specs'))}" for it in crates}
         self.numbers = {it: sum(len(list((top / "crates" / it / folder).glob("*.edit"))) for folder in FOLDERS) for it in crates}
@@ -113,3 +119,21 @@ class MutantMarks:
                 break
             taken.add(it)
         return taken
+
+
+def stamps_of(top: Path, command: str = "rt") -> dict[str, str]:
+    """The stamp of each crate as the toolchain computes it from the texts; empty where it computes none."""
+    try:
+        return {it.name: it.stamp() for it in toolchain.load(command).rtlib.crates_below(str(top))}
+    except (Exception, SystemExit):
+        return {}
+
+
+def stamp(top: Path, before: dict[str, str], command: str = "rt") -> bool:
+    """Stamps the libraries that `rt ci` left, unless a text changed since these stamps were computed, and returns whether it did."""
+    libraries = {it.stem: it.with_name("stamp") for it in (top / "crates").glob("*/out/rlib/*.rlib")}
+    if stamps_of(top, command) != before or not libraries.keys() <= before.keys() or any(it.exists() for it in libraries.values()):
+        return False
+    for name, file in libraries.items():
+        file.write_text(before[name], encoding="utf-8")
+    return True

@@ -16,20 +16,14 @@ import tempfile
 import tomllib
 from dataclasses import dataclass, field, replace
 from pathlib import Path
-from typing import IO, Callable, Iterator, NamedTuple
+from typing import IO, Callable, Iterator
+
+from programs import Ran
 
 # a run that takes longer hangs
 SECONDS = 600
 # `LINE x12` stands for twelve lines
 REPEATED = re.compile(r"^(.*) x(\d+)$", re.MULTILINE)
-
-
-class Ran(NamedTuple):
-    """What a run came to."""
-
-    status: int
-    out: str
-    err: str
 
 
 @dataclass(frozen=True)
@@ -223,12 +217,11 @@ def rows_below(folder: Path) -> list[tuple[str, Row]]:
     return [(f"{file.name}: {row.name}", row) for file in sorted(folder.glob("*.toml")) for row in rows_of(file)]
 
 
-def compared(program: Path, folder: Path) -> tuple[int, list[str]]:
-    """How many command lines of a folder's rows do what these say, and what is wrong with the others."""
-    tried = [(name, row, words) for name, row in rows_below(folder) for words in row.words]
-    found = [(f"{name}: hugepool {words}", row_fault(program, words, row)) for name, row, words in tried]
-    faults = [f"{what}: {wrong}" for what, wrong in found if wrong]
-    return len(found) - len(faults), faults
+def tries(program: Path, name: str, row: Row) -> Iterator[tuple[str, bool]]:
+    """Each command line of a row, and whether it does what the row says."""
+    for words in row.words:
+        wrong = row_fault(program, words, row)
+        yield f"{name}: {program.name} {words}: {wrong}", not wrong
 
 
 # a program that runs the right one and changes what comes of it: {change} has its output, its complaint and its status
@@ -281,9 +274,3 @@ def wrongs_noticed(right: Path, wrong: Path, folder: Path) -> Iterator[tuple[str
         wrong.chmod(0o755)
         for name, row in ((name, row) for name, row in rows_below(folder) if concerns(row)):
             yield f"{name}: a program that {what} is noticed", row_fault(wrong, row.words[0], row) is not None
-
-
-def noticed(program: Path, folder: Path) -> Iterator[tuple[str, bool]]:
-    """What is tried with wrong programs, and whether it went as it should."""
-    with tempfile.TemporaryDirectory(prefix="rows-") as room:
-        yield from wrongs_noticed(program, Path(room) / "hugepool", folder)

@@ -4,7 +4,9 @@ from __future__ import annotations
 import os
 import shutil
 import subprocess
+import sys
 import tempfile
+from itertools import product
 from pathlib import Path
 from typing import Callable
 
@@ -12,6 +14,8 @@ import verdicts
 from edit import PARTS, Texts
 
 TOP = Path(__file__).resolve().parent.parent
+# (the gate shares the launcher's modules for progress and for the toolchain)
+sys.path.append(str(TOP / "launcher"))
 
 
 def crates_of(top: Path) -> dict[str, list[str]]:
@@ -25,6 +29,15 @@ def below(crate: str, crates: dict[str, list[str]]) -> set[str]:
     """The crates of the repository on which this one stands, at any remove."""
     own = [it for it in crates[crate] if it in crates]
     return {*own, *(low for it in own for low in below(it, crates))}
+
+
+def begin_copy(top: Path, name: str, room: Path) -> list[str]:
+    """Begins a copy of a repository: its list of a crate and of those below it, which it returns, the crate last."""
+    crates = crates_of(top)
+    names = [*sorted(below(name, crates)), name]
+    (room / "crates.txt").write_text("".join(f"{it}: {' '.join(crates[it])}\n" for it in names), encoding="utf-8")
+    shutil.copyfile(top / "HANDLES", room / "HANDLES")
+    return names
 
 
 def link_or_copy(source: str, to: str) -> None:
@@ -42,16 +55,12 @@ class Scratch:
         """`kept` is the folder of kept work to begin with; without it, the crate's own."""
         self.name, self.crate, self.folder = name, top / "crates" / name, room / "crates" / name
         self.changed, self.seconds, self.checks = {}, 0.0, 0
-        crates = crates_of(top)
-        low = below(name, crates)
-        lines = [f"{it}: {' '.join(crates[it])}\n" for it in sorted({*low, name})]
-        (room / "crates.txt").write_text("".join(lines), encoding="utf-8")
-        shutil.copyfile(top / "HANDLES", room / "HANDLES")
-        for it in [*low, name]:
-            bring_texts(top / "crates" / it, room / "crates" / it)
+        *low, _ = names = begin_copy(top, name, room)
+        for it, part in product(names, PARTS):
+            bring(top / "crates" / it / part, room / "crates" / it / part)
         for it in low:
             bring(top / "crates" / it / "out" / "rlib", room / "crates" / it / "out" / "rlib", link_or_copy)
-        bring(kept or self.crate / "out" / "incremental", self.kept, shutil.copy2)
+        bring(kept or self.crate / "out" / "incremental", self.kept)
 
     @property
     def kept(self) -> Path:
@@ -81,12 +90,6 @@ class Scratch:
             return verdicts.read(self.name, said.read())
 
 
-def bring_texts(source: Path, to: Path) -> None:
-    for part in PARTS:
-        if (source / part).is_dir():
-            shutil.copytree(source / part, to / part)
-
-
-def bring(source: Path, to: Path, copy: Callable[[str, str], object]) -> None:
+def bring(source: Path, to: Path, copy: Callable[[str, str], object] = shutil.copy2) -> None:
     if source.is_dir():
         shutil.copytree(source, to, copy_function=copy)

@@ -20,7 +20,7 @@ from pathlib import Path
 from typing import Iterator
 
 import reasons
-from programs import built
+from programs import built, report, run
 from scratch import TOP
 
 BOX = re.compile(r"<rect class='([^']*)' x='(\d+)' y='(\d+)' width='(\d+)' height='(\d+)'/>")
@@ -54,7 +54,8 @@ def example(name: str) -> str:
 
 
 def output(words: str, read: str) -> str:
-    return subprocess.run([TOP / "hugepool", *words.split()], input=read, text=True, capture_output=True, check=True).stdout
+    ran = run(TOP / "hugepool", words, read)
+    return ran.out if ran.status == 0 else f"status {ran.status}: {ran.err}"
 
 
 def writes(words: str, read: str) -> list[int]:
@@ -183,7 +184,7 @@ def helps() -> Iterator[tuple[str, bool]]:
     yield "and of its options", len(runs) == 2 and lines_of("schedule") == lines_of("explore") - runs != set()
 
 
-def tries() -> Iterator[tuple[str, bool]]:
+def tries(program: Path) -> Iterator[tuple[str, bool]]:
     """What is tried, and whether it went as it should."""
     yield "runs are written a part at a time, of 512 first", writes("explore --runs 513", EMPTY) == [512, 1]
     yield "the next part has four times as many", writes("explore --runs 2561", EMPTY) == [512, 2048, 1]
@@ -199,7 +200,7 @@ def tries() -> Iterator[tuple[str, bool]]:
     yield "65,536 runs may be asked for", output("explore --runs 65536", EMPTY).count("\n") == 65_536
     yield "and as many races", output("race --times 65536", EMPTY).count("\n") == 65_536
     yield from helps()
-    yield from reasons.tries(built("hugepool"))
+    yield from reasons.tries(program)
     yield "a race is written before the next begins", writes("race --times 3", EMPTY) == [1, 1, 1]
     yield "races of one script differ", do_races_differ(example("truncate-against-store.script"))
     for trace, has in ((OUTCOMES, f"step 2: ended word {WORD}"), (example("calls-in-flight.trace"), "blocked by")):
@@ -219,12 +220,7 @@ def tries() -> Iterator[tuple[str, bool]]:
 
 
 def main() -> int:
-    built("hugepool")
-    tried = list(tries())
-    print("".join(f"  not so: {what}\n" for what, is_so in tried if not is_so), end="")
-    failed = sum(not is_so for _, is_so in tried)
-    print(f"showing: {len(tried) - failed} passed, {failed} failed")
-    return 1 if failed else 0
+    return report("showing", tries(built("hugepool")))
 
 
 if __name__ == "__main__":

@@ -10,10 +10,10 @@ from __future__ import annotations
 
 import random
 import re
-import subprocess
 import sys
+from typing import Iterator
 
-from programs import built
+from programs import built, report, run
 from scratch import TOP
 
 TASKS, FILES, PAGES, ADDRESSES = 8, 3, 12, 40
@@ -56,17 +56,10 @@ def by_task(lines: list[str]) -> dict[str, list[str]]:
     return found
 
 
-def run(words: list[str], lines: list[str]) -> list[str]:
+def output(words: str, lines: list[str]) -> list[str]:
     """What the program writes of these lines."""
-    text = "".join(f"{line}\n" for line in lines)
-    ran = subprocess.run([TOP / "hugepool", *words], input=text, capture_output=True, text=True, check=True)
-    return ran.stdout.splitlines()
-
-
-def race_fault(asked: list[str], cut: list[str]) -> str | None:
-    """What is wrong with the line of a race, cut or not, if anything is."""
-    lines = run(["race", "--times", "1", *cut], asked)
-    return None if len(lines) == 1 and RACED.fullmatch(lines[0]) else f"race {' '.join(cut)}: {lines!r}"
+    ran = run(TOP / "hugepool", words, "".join(f"{line}\n" for line in lines))
+    return ran.out.splitlines() if ran.status == 0 else [f"status {ran.status}: {ran.err}"]
 
 
 def trace_fault(asked: list[str], trace: list[str]) -> str | None:
@@ -77,7 +70,7 @@ def trace_fault(asked: list[str], trace: list[str]) -> str | None:
         return f"the trace begins with {trace[:1]!r}"
     if by_task(trace) != by_task(asked):
         return "the trace has other calls than the script"
-    told = run(["replay"], trace)
+    told = output("replay", trace)
     outcomes = told[: len(trace) - 1]
     for at, line in enumerate(outcomes):
         if line.startswith(("blocked", "refused")):
@@ -94,18 +87,22 @@ def damaged(trace: list[str]) -> list[list[str]]:
     return [[*trace[:at], *trace[at + 1 :]] for at in (step, begin)] + [behind]
 
 
+def tries() -> Iterator[tuple[str, bool]]:
+    """What is tried, and whether it went as it should."""
+    asked = script()
+    for cut in ("", " --cut 1000"):
+        lines = output(f"race --times 1{cut}", asked)
+        yield f"race{cut}: {lines}", len(lines) == 1 and bool(RACED.fullmatch(lines[0]))
+    trace = output("race --trace", asked)
+    fault = trace_fault(asked, trace)
+    yield f"the trace is a race of the script ({fault})", not fault
+    for it in damaged(trace) if not fault else ():
+        yield "a damaged trace is noticed", bool(trace_fault(asked, it))
+
+
 def main() -> int:
     built("hugepool")
-    asked = script()
-    faults = [fault for fault in [race_fault(asked, []), race_fault(asked, ["--cut", "1000"])] if fault]
-    trace = run(["race", "--trace"], asked)
-    if fault := trace_fault(asked, trace):
-        faults.append(fault)
-    else:
-        faults += ["a damaged trace passes" for it in damaged(trace) if not trace_fault(asked, it)]
-    print("".join(f"  {it}\n" for it in faults), end="")
-    print(f"soak: {6 - len(faults)} passed, {len(faults)} failed")
-    return 1 if faults else 0
+    return report("soak", tries())
 
 
 if __name__ == "__main__":

@@ -1,9 +1,10 @@
 #!/usr/bin/env python3
-"""Tests ./check itself: what it counts, which scripts it runs, what is due, what it leaves out, and its statuses."""
+"""Tests where ./check could be wrong without failing: counts, statuses, what is due, what is left out, what no step runs."""
 from __future__ import annotations
 
 import contextlib
 import io
+import os
 import re
 import sys
 import tempfile
@@ -11,10 +12,10 @@ from pathlib import Path
 from typing import Iterator
 
 import check
-import libraries
-import needs
+import marks
+import programs
 from marks import PROOFS, TESTS, Marks, MutantMarks
-from progress import Progress
+from programs import report
 from scratch import TOP
 
 IS_RUN = '\nif __name__ == "__main__":\n'
@@ -30,19 +31,16 @@ COMMANDS = [
     ("echo 'it: 3 passed, 2 failed' >&2; exit 1", (3, 2, False)),
     ("echo 'of these 3 passed, 2 failed or so'", (1, 0, True)),
 ]
-# the toolchain's module, as far as libraries.py uses it
+# the toolchain's module, as far as marks.py uses it
 TOOLCHAIN = '''
 import os
-
-class Crate:
-    def __init__(self, folder):
-        self.name, self.folder = os.path.basename(folder), folder
-
-    def stamp(self):
-        return "stamp of " + open(f"{self.folder}/src/lib.rt").read()
+from types import SimpleNamespace
 
 def crates_below(top):
-    return [Crate(f"{top}/crates/{it}") for it in sorted(os.listdir(f"{top}/crates"))]
+    read = lambda it: lambda: "stamp of " + open(f"{top}/crates/{it}/src/lib.rt").read()
+    return [SimpleNamespace(name=it, stamp=read(it)) for it in sorted(os.listdir(f"{top}/crates"))]
+
+rtlib = SimpleNamespace(crates_below=crates_below)
 '''
 
 
@@ -130,50 +128,54 @@ def dues(top: Path) -> Iterator[tuple[str, bool]]:
     yield "a damaged record makes all due", noted(top)[1] == BOTH
 
 
+def builds(top: Path) -> Iterator[tuple[str, bool]]:
+    """Whether a program is taken for the one that was built of the texts as they are."""
+    files, program = repository(top), programs.program_of("high", top)
+    yield "a program that isn't there isn't built", not programs.is_built(Marks(top), "high")
+    write(program, "")
+    yield "nor is one of which nothing is noted", not programs.is_built(Marks(top), "high")
+    programs.note(Marks(top), "high")
+    yield "one that is noted is", programs.is_built(Marks(top), "high")
+    for name, file in {"low/src/lib.rt": files["low/src/lib.rt"], "the program": program}.items():
+        before = file.read_text(encoding="utf-8")
+        write(file, "another")
+        yield f"but not where {name} is another", not programs.is_built(Marks(top), "high")
+        write(file, before)
+
+
 def stamps(room: Path) -> Iterator[tuple[str, bool]]:
     """The libraries of `rt ci` get their stamps only where nothing is in doubt."""
-    write(room / "kit/rtlib.py", TOOLCHAIN)
+    command = room / "rt"
     for case in ("nothing changed", "a text changed", "one has a stamp", "the toolchain computes none"):
         top = room / case
+        write(command, TOOLCHAIN)
+        command.chmod(0o755)
         for name in ("high", "low"):
             write(top / f"crates/{name}/src/lib.rt", name)
             write(top / f"crates/{name}/out/rlib/{name}.rlib/part", "")
-        before = libraries.stamps_of(top, str(room / "kit/rt"))
+        before = marks.stamps_of(top, str(command))
         if case == "a text changed":
             write(top / "crates/low/src/lib.rt", "another")
         if case == "one has a stamp":
             write(top / "crates/low/out/rlib/stamp", "stamp of low")
         if case == "the toolchain computes none":
-            write(room / "kit/rtlib.py", TOOLCHAIN.replace("def stamp(", "def other("))
-        is_stamped = libraries.stamp(top, before, str(room / "kit/rt"))
+            write(command, "")
+        is_stamped = marks.stamp(top, before, str(command))
         files = {it.read_text(encoding="utf-8") for it in top.rglob("high/out/rlib/stamp")}
         yield f"stamps: {case}", (is_stamped, files) == ((True, {"stamp of high"}) if case == "nothing changed" else (False, set()))
 
 
-def commands(room: Path) -> Iterator[tuple[str, bool]]:
-    """What is missing, and what is left out because of it."""
-    lacking = needs.missing(str(room))
-    yield "all commands are missing from an empty folder", [it.command for it in lacking] == [it.command for it in needs.NEEDS]
-    yield "the required ones are listed first", "required" in needs.listed(lacking)[0] and "required" not in needs.listed(lacking)[-1]
-    known = {it.split(" ")[0] for several in check.SCRIPTS.values() for it in several}
-    yield "only scripts of ./check are left out", all(set(it.left_out) <= known for it in needs.NEEDS)
+def refused(room: Path) -> Iterator[tuple[str, bool]]:
+    """What is left out or refused because of what is missing, and for its format."""
+    gate, own = check.Gate(["refusals"], ["cc"]), os.environ["PATH"]
+    silently(check.STEPS["refusals"], gate, [])
+    counts = gate.passed, gate.failed, len(gate.left_out)
+    yield "without cc the refusals are left out and listed", counts == (0, 0, len(check.SCRIPTS["refusals"]))
     write(room / "crates/low/src/lib.rt", "fn  low( ) {}\n")
     yield "a file in another format is refused", not silently(check.Gate([]).follow, check.format_check(room))
-    gate = check.Gate(["refusals"], [it for it in needs.NEEDS if it.command == "cc"])
-    silently(check.STEPS["refusals"], gate, [])
-    yield "without cc the refusals are left out and listed", (gate.passed, gate.failed, len(gate.left_out)) == (0, 0, len(check.SCRIPTS["refusals"]))
-
-
-def progress(room: Path) -> Iterator[tuple[str, bool]]:
-    file = room / "times.json"
-    write(file, '{"one": 600, "two": 1200}')
-    it = Progress([("a", "one"), ("b", "two")], file)
-    yield "the time left is that of all scripts at first", it.minutes_left() == "30 min"
-    silently(it.begin, "a", "one")
-    silently(it.line, "hp_low: 3 of 3 mutants refused, 1 controls proved, in 2 checks and 42 s of processor time\n")
-    it.end("a", "one")
-    yield "then that of the others", it.minutes_left() == "20 min"
-    yield "the dearest crates are listed", it.table()[-1] == "dearest mutants: hp_low 42 s"
+    os.environ["PATH"] = str(room)
+    yield "where all commands are missing nothing runs", (check.missing(), silently(check.main, ["quick"])) == ([*check.NEEDS], 127)
+    os.environ["PATH"] = own
 
 
 def records() -> set[int]:
@@ -191,24 +193,16 @@ def tries() -> Iterator[tuple[str, bool]]:
     yield "a step that passes ends with 0", status(["linux"], 3, 0) == 0
     yield "one that fails doesn't", status(["linux"], 3, 1) == 1
     yield "a word that is no step is refused", status(["linus"], 3, 0) == 2 and status(["linux", "more"], 3, 0) == 2
-    for part in (dues, stamps, commands, progress):
+    for part in (dues, builds, stamps, refused):
         with tempfile.TemporaryDirectory(prefix="check-") as room:
             yield from part(Path(room))
     yield "all recorded scripts are there", len(records()) == 1 and 0 not in records()
     listed = {Path(it.split(" ")[0]).name for several in check.SCRIPTS.values() for it in several}
     own = {it.name for it in (TOP / "gate").glob("*.py") if IS_RUN in it.read_text(encoding="utf-8")}
     tests = {it.name for it in (TOP / "conformance").glob("test_*.py")} | {"compare.py", "races.py"}
-    for name in sorted({*own, *tests} - {"check.py", "needs.py"}):
+    for name in sorted({*own, *tests} - {"check.py"}):
         yield f"{name} is run by a step", name in listed
 
 
-def main() -> int:
-    tried = list(tries())
-    print("".join(f"  not so: {what}\n" for what, is_so in tried if not is_so), end="")
-    failed = sum(not is_so for _, is_so in tried)
-    print(f"check: {len(tried) - failed} passed, {failed} failed")
-    return 1 if failed else 0
-
-
 if __name__ == "__main__":
-    sys.exit(main())
+    sys.exit(report("check", tries()))

@@ -9,10 +9,12 @@ import shutil
 import sys
 import tempfile
 from pathlib import Path
+from typing import Iterator
 
 import siblings
 import verdicts
-from scratch import TOP, below, crates_of
+from programs import report
+from scratch import TOP, begin_copy
 from try_edits import NotProved, Trial, build_libraries
 from verdicts import Verdict
 
@@ -32,8 +34,6 @@ EXPECTED = {
 }
 # where the proof of a function isn't copied with it; its own mutant is tried in its place then
 WITHOUT_PROOFS = {"Bank::frames": "CONTROL REFUSED: ", "frames_without_the_free_ones": "refused"}
-
-
 # the lines of functions, and what they mean
 PROVED = ("proved", "proved, may wait", "proved where its callers give what it asks", "proved where its callers give what it asks, may wait")
 UNPROVED = ("no proof: it calls `c::g`, which is not proved",)
@@ -41,11 +41,7 @@ UNPROVED = ("no proof: it calls `c::g`, which is not proved",)
 
 def repository(room: Path, fixtures: Path) -> Path:
     """A repository of that crate alone, with these folders of mutants."""
-    crates = crates_of(TOP)
-    shutil.copyfile(TOP / "HANDLES", room / "HANDLES")
-    own = [*sorted(below(CRATE, crates)), CRATE]
-    (room / "crates.txt").write_text("".join(f"{it}: {' '.join(crates[it])}\n" for it in own), encoding="utf-8")
-    for it in own:
+    for it in begin_copy(TOP, CRATE, room):
         shutil.copytree(TOP / "crates" / it, room / "crates" / it, ignore=shutil.ignore_patterns("must-fail", "edits", "must-not-compile"))
     for folder in fixtures.iterdir():
         shutil.copytree(folder, room / "crates" / CRATE / folder.name)
@@ -61,32 +57,27 @@ def reported(fixtures: Path) -> dict[str, str]:
         return {it.name: it.why for it in Trial(repository(top, fixtures), CRATE, room, 1).run().results}
 
 
-def misread() -> list[str]:
-    """The lines of functions that are read wrongly."""
-    lines = {**dict.fromkeys(PROVED, Verdict.PROVED), **dict.fromkeys(UNPROVED, Verdict.BY_A_CALLEE)}
-    told = {line: verdicts.read("c", f"fn c::f: {line}\n").functions["f"].verdict() for line in lines}
-    return [f"'{line}' is read as: {told[line].value}" for line in lines if told[line] is not lines[line]]
+def compared(told: dict[str, str], expected: dict[str, str]) -> Iterator[tuple[str, bool]]:
+    """Whether of each mutant is reported what is expected."""
+    for name in sorted({*told, *expected}):
+        is_so = told.get(name, "").startswith(expected.get(name, "?"))
+        yield f"{name}: reported {told.get(name)!r}, expected {expected.get(name)!r}", is_so
 
 
-def differences(told: dict[str, str], expected: dict[str, str]) -> list[str]:
-    wrong = [name for name in sorted({*told, *expected}) if not told.get(name, "").startswith(expected.get(name, "?"))]
-    return [f"{name}: reported {told.get(name)!r}, expected {expected.get(name)!r}" for name in wrong]
-
-
-def main() -> int:
+def tries() -> Iterator[tuple[str, bool]]:
+    """What is tried, and whether it went as it should."""
+    for line, wanted in {**dict.fromkeys(PROVED, Verdict.PROVED), **dict.fromkeys(UNPROVED, Verdict.BY_A_CALLEE)}.items():
+        told = verdicts.read("c", f"fn c::f: {line}\n").functions["f"].verdict()
+        yield f"'{line}' is read as: {told.value}", told is wanted
     try:
         build_libraries(TOP, [CRATE])
     except NotProved:
-        print(f"check: the libraries below {CRATE} aren't proved, so no mutant was tried")
-        return 1
-    wrong = misread() + differences(reported(FIXTURES / "mutants"), EXPECTED)
+        yield f"the libraries below {CRATE} aren't proved, so no mutant was tried", False
+        return
+    yield from compared(reported(FIXTURES / "mutants"), EXPECTED)
     siblings.copied_proofs = lambda *_: iter(())
-    wrong += differences(reported(FIXTURES / "controls"), WITHOUT_PROOFS)
-    print("".join(f"  {it}\n" for it in wrong), end="")
-    number = len(PROVED) + len(UNPROVED) + len(EXPECTED) + len(WITHOUT_PROOFS)
-    print(f"mutants told apart: {number - len(wrong)} passed, {len(wrong)} failed")
-    return 1 if wrong else 0
+    yield from compared(reported(FIXTURES / "controls"), WITHOUT_PROOFS)
 
 
 if __name__ == "__main__":
-    sys.exit(main())
+    sys.exit(report("mutants told apart", tries()))

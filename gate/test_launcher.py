@@ -2,8 +2,7 @@
 """Tests which program ./hugepool runs, and when it compiles or proves one, in a small repository with a stand-in for `rt`.
 
 The stand-in counts its calls, and builds programs that print how they were built. Of the repository itself it is tested from which crates
-./hugepool takes its programs to be built. Besides: how libraries are proved side by side (test_proving.py), that ./check and .ci/run pass
-on words and status, which programs of `rt ci` the gate takes over, and what ./check counts (test_check.py).
+./hugepool takes its programs to be built. Besides: that ./check and .ci/run pass on words and status.
 """
 from __future__ import annotations
 
@@ -16,11 +15,9 @@ import tempfile
 import time
 from concurrent.futures import ThreadPoolExecutor
 from pathlib import Path
-from typing import Iterable, Iterator, NamedTuple
+from typing import Iterable, Iterator
 
-import programs
-import test_check
-import test_proving
+from programs import Ran, report
 from scratch import TOP, below, crates_of
 
 NOTICE = "hugepool: not proved yet: the same sources, compiled without proof; ./hugepool build proves them\n"
@@ -60,24 +57,16 @@ exit $status
 WORDS = ("a", "b")
 
 
-class Call(NamedTuple):
-    """What a call of the launcher ended with and wrote."""
-
-    status: int
-    out: str
-    err: str
-
-
 class Room:
     """The small repository, and calls of its launcher."""
 
-    def __init__(self, top: Path, crates: dict[str, list[str]] | None = None) -> None:
+    def __init__(self, top: Path, crates: dict[str, list[str]] | None = None, rt: str = RT) -> None:
         self.top = top
         crates = crates or {"a": [], "a_tests": ["a"], "hugepool": ["a"], "replay": []}
         for path in ("HANDLES", *(f"crates/{name}/{part}/main.rt" for name in crates for part in ("src", "specs", "proofs"))):
             self.write(path, "")
         self.write("crates.txt", "".join(f"{name}: {' '.join(low)}\n" for name, low in crates.items()))
-        self.write("bin/rt", RT)
+        self.write("bin/rt", rt)
         (top / "bin/rt").chmod(0o755)
         shutil.copy(TOP / "hugepool", top / "hugepool")
         shutil.copytree(TOP / "launcher", top / "launcher", ignore=shutil.ignore_patterns("__pycache__"))
@@ -95,10 +84,10 @@ class Room:
         pipes = {it: subprocess.PIPE for it in ("stdin", "stdout", "stderr")}
         return subprocess.Popen([self.top / launcher, *words], **pipes, **how)
 
-    def call(self, words: Iterable[str] = WORDS, read: str = "", **how: str) -> Call:
+    def call(self, words: Iterable[str] = WORDS, read: str = "", **how: str) -> Ran:
         ran = self.begin(words, **how)
         out, err = ran.communicate(read)
-        return Call(ran.returncode, out, err)
+        return Ran(ran.returncode, out, err)
 
     def proved(self, number: int, **how: str) -> bool:
         """Whether a call runs the program of this proof, and prints nothing that isn't its own."""
@@ -119,21 +108,21 @@ def unproved(room: Room) -> Iterator[tuple[str, bool]]:
     first = room.call(("replay",), "a line\n")
     yield "a replay is compiled alone", first[:2] == (0, "replay by replay try 1\na line\n") and first.err.endswith(NOTICE)
     yield "it says once that it isn't proved", first.err.count("not proved") == 1
-    yield "it is kept", room.call(("replay",)) == Call(0, "replay by replay try 1\n", NOTICE)
+    yield "it is kept", room.call(("replay",)) == Ran(0, "replay by replay try 1\n", NOTICE)
     first = room.call(read="a line\n")
     yield "other words compile the whole program", first[:2] == (0, "a b by hugepool try 2\na line\n") and first.err.endswith(NOTICE)
-    yield "that is kept, too", room.call() == Call(0, "a b by hugepool try 2\n", NOTICE)
-    yield "then it replays", room.call(("replay",)) == Call(0, "replay by hugepool try 2\n", NOTICE)
+    yield "that is kept, too", room.call() == Ran(0, "a b by hugepool try 2\n", NOTICE)
+    yield "then it replays", room.call(("replay",)) == Ran(0, "replay by hugepool try 2\n", NOTICE)
     yield "a word is passed as it is", room.call(("a  *", "", "b")).out == "a  *  b by hugepool try 2\n"
     room.write("status")
     yield "the status is the program's", room.call().status == 3
     room.remove("status")
     room.write("crates/a_tests/src/main.rt", "new")
-    yield "a crate of tests isn't looked at", room.call() == Call(0, "a b by hugepool try 2\n", NOTICE)
+    yield "a crate of tests isn't looked at", room.call() == Ran(0, "a b by hugepool try 2\n", NOTICE)
     room.write("crates/a/src/main.rt", "new")
     yield "a file that changed is compiled", room.call()[:2] == (0, "a b by hugepool try 3\n")
     room.write("crates/a/src/main.rt", "newer")
-    yield "a replay doesn't stand on it", room.call(("replay",)) == Call(0, "replay by replay try 1\n", NOTICE)
+    yield "a replay doesn't stand on it", room.call(("replay",)) == Ran(0, "replay by replay try 1\n", NOTICE)
     with ThreadPoolExecutor(3) as pool:
         outs = [it.out for it in pool.map(lambda _: room.call(), range(3))]
     yield "of three calls at once one compiles", outs == ["a b by hugepool try 4\n"] * 3 and room.calls("try") == 4
@@ -155,7 +144,7 @@ def unproved(room: Room) -> Iterator[tuple[str, bool]]:
 def proofs(room: Room) -> Iterator[tuple[str, bool]]:
     """Calls around a proof."""
     yield "HUGEPOOL=proved proves", room.proved(1, HUGEPOOL="proved") and room.calls("try") == 0
-    yield "then each call runs that", room.call(read="a line\n") == Call(0, "a b by hugepool run 1\na line\n", "")
+    yield "then each call runs that", room.call(read="a line\n") == Ran(0, "a b by hugepool run 1\na line\n", "")
     told = room.call(("build",))
     yield "what is proved isn't built again", told[:2] == (0, "") and "proved" in told.err and room.calls("run") == 1
     (room.top / "other").mkdir()
@@ -163,7 +152,7 @@ def proofs(room: Room) -> Iterator[tuple[str, bool]]:
     (room.top / "link").symlink_to("other/link")
     yield "a link to a link leads to it", room.proved(1, launcher="link")
     room.write("crates/a/src/main.rt", "new")
-    yield "an edit after a proof is proved", room.proved(2) and room.call() == Call(0, "a b by hugepool run 2\n", "")
+    yield "an edit after a proof is proved", room.proved(2) and room.call() == Ran(0, "a b by hugepool run 2\n", "")
     room.write("crates/a/src/main.rt", "newer")
     told = room.call(("build",))
     yield "build proves, and runs nothing", told[:2] == (0, "") and room.calls("run") == 3 and room.proved(3)
@@ -263,7 +252,7 @@ def stands_on(room: Room) -> Iterator[tuple[str, bool]]:
     yield "the program of this repository is proved", room.proved(1, HUGEPOOL="proved")
     for name in sorted(crates.keys() - needed):
         room.write(f"crates/{name}/src/main.rt", "new")
-    yield "it doesn't stand on the other crates", room.call() == Call(0, "a b by hugepool run 1\n", "")
+    yield "it doesn't stand on the other crates", room.call() == Ran(0, "a b by hugepool run 1\n", "")
     for number, name in enumerate(sorted(needed), 2):
         room.write(f"crates/{name}/src/main.rt", "new")
         yield f"it stands on {name}", room.proved(number)
@@ -283,44 +272,14 @@ def passes_on(room: Room) -> Iterator[tuple[str, bool]]:
     for path in ("check", ".ci/run"):
         shutil.copy(TOP / path, room.top / path)
     yield "./check passes words and status", room.call(("a  *", "", "b"), launcher="check")[:2] == (3, "a  *\n\nb\n")
-    yield "without rt it says so", room.call(launcher="check", path="none").status == 127
     yield ".ci/run asks for all of it, and ends as that does", room.call((), launcher=".ci/run")[:2] == (3, "")
 
 
-def takes_over(room: Room) -> Iterator[tuple[str, bool]]:
-    """Which programs stand for those of `rt ci`, where it began at the second 100, the sources being written before and the program after."""
-    top = room.top
-    program, folder = top / "crates/b/out/b", top / "crates/a/src"
-    for path in ("crates/a/src/deep/main.rt", "crates/b/out/b"):
-        room.write(path)
-    for path in (top / "crates.txt", *(top / "crates").rglob("*")):
-        os.utime(path, (50, 50))
-    os.utime(program, (150, 150))
-    yield "without ./check none does", not programs.is_built(top, program)
-    os.environ[programs.BEGAN] = "100"
-    yield "one that was built since, of older sources, does", programs.is_built(top, program)
-    yield "one that isn't there doesn't", not programs.is_built(top, program.with_name("c"))
-    for path in (top / "crates.txt", folder, folder / "deep", folder / "deep/main.rt"):
-        os.utime(path, (120, 120))
-        yield f"nor where {path.name} was written since", not programs.is_built(top, program)
-        os.utime(path, (50, 50))
-    os.utime(program, (99, 99))
-    yield "nor does one that was built before", not programs.is_built(top, program)
-    del os.environ[programs.BEGAN]
-
-
-def main() -> int:
-    tried = []
-    for tries in (unproved, proofs, staleness, stands_on, passes_on, takes_over):
+def tries() -> Iterator[tuple[str, bool]]:
+    for part in (unproved, proofs, staleness, stands_on, passes_on):
         with tempfile.TemporaryDirectory(prefix="launcher-") as name:
-            tried += tries(Room(Path(name), crates_of(TOP) if tries is stands_on else None))
-    tried += test_proving.tries()
-    tried += test_check.tries()
-    print("".join(f"  not so: {what}\n" for what, is_so in tried if not is_so), end="")
-    failed = sum(not is_so for _, is_so in tried)
-    print(f"launcher: {len(tried) - failed} passed, {failed} failed")
-    return 1 if failed else 0
+            yield from part(Room(Path(name), crates_of(TOP) if part is stands_on else None))
 
 
 if __name__ == "__main__":
-    sys.exit(main())
+    sys.exit(report("launcher", tries()))

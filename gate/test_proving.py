@@ -1,22 +1,22 @@
-"""Tests how libraries are proved side by side (launcher/proving.py), over a stand-in for the toolchain's module; test_launcher.py runs it.
+#!/usr/bin/env python3
+"""Tests how libraries are proved side by side (launcher/proving.py), over a stand-in for the toolchain's module.
 
 The stand-in notes when each library is begun and built, and refuses one that is begun before those below it are built.
 """
 from __future__ import annotations
 
-import os
-import shutil
 import signal
-import subprocess
+import sys
 import tempfile
 import time
 from pathlib import Path
 from typing import Iterator
 
-from scratch import TOP
+from programs import report
+from test_launcher import Room
 
-# As a module it has what launcher/ asks for; as a command it is `rt run`. The file `free` at the top says how much memory there is, `broken`
-# names a library that isn't proved, and with `stuck` none is.
+# As a module it has what launcher/ asks for; as a command it is `rt run`. At the top, the file `free` says how much memory there is,
+# `broken` names a library that isn't proved, and with `stuck` none is.
 RT = '''#!/usr/bin/env python3
 import os, sys, time
 from pathlib import Path
@@ -52,7 +52,7 @@ def closure(name, own):
 
 rtlib = SimpleNamespace(Crate=Crate, lock=lambda crates: [], root_above=lambda folder: str(Path(folder).parent.parent))
 share_work, processors = lambda is_alone: None, lambda: 3
-free = lambda: int(Path(__file__).with_name("free").read_text())
+free = lambda: int(Path(__file__).parents[1].joinpath("free").read_text())
 if __name__ == '__main__':
     if not all(low.is_built() for low in Crate(os.getcwd(), rtlib.root_above(os.getcwd()), {}).below()):
         sys.exit(1)
@@ -60,91 +60,71 @@ if __name__ == '__main__':
     program.write_text("#!/bin/sh\\\\necho proved")
     program.chmod(0o755)
 '''
-CRATES = "low:\nleft: low\nright: low\nhugepool: left right\n"
+# two libraries stand on the third, and the program on both
+CRATES = {"low": [], "left": ["low"], "right": ["low"], "hugepool": ["left", "right"]}
 
 
-class Room:
-    """A repository of a program and three libraries, two of which stand on the third."""
+def build(room: Room, *built: str):
+    """Begins to build all but these libraries."""
+    for file in (*room.top.glob("crates/*/built"), *room.top.glob("crates/hugepool/out/hugepool*")):
+        file.unlink()
+    for path in ("notes", *(f"crates/{name}/built" for name in built)):
+        room.write(path)
+    return room.begin(("build",))
 
-    def __init__(self, top: Path) -> None:
-        self.top = top
-        for path, text in {"crates.txt": CRATES, "HANDLES": "", "broken": "", "rt": RT, "free": "100000"}.items():
-            (top / path).write_text(text, encoding="utf-8")
-        (top / "rt").chmod(0o755)
-        for name in ("low", "left", "right", "hugepool"):
-            (top / "crates" / name / "src").mkdir(parents=True)
-        shutil.copy(TOP / "hugepool", top / "hugepool")
-        shutil.copytree(TOP / "launcher", top / "launcher", ignore=shutil.ignore_patterns("__pycache__"))
 
-    def begin(self, *built: str) -> subprocess.Popen:
-        """Begins to build all but these libraries."""
-        self.forget()
-        for name in built:
-            (self.top / "crates" / name / "built").touch()
-        own = {**os.environ, "PATH": f"{self.top}:{os.environ['PATH']}"}
-        pipes = {"stdin": subprocess.DEVNULL, "stdout": subprocess.PIPE, "stderr": subprocess.PIPE}
-        return subprocess.Popen([self.top / "hugepool", "build"], env=own, text=True, **pipes)
+def built(room: Room) -> tuple[int, str]:
+    """The status of a build, and what it says."""
+    ran = build(room)
+    err = ran.communicate()[1]
+    return ran.returncode, err
 
-    def forget(self) -> None:
-        """Has nothing built."""
-        (self.top / "notes").write_text("", encoding="utf-8")
-        for file in (*self.top.glob("crates/*/built"), *self.top.glob("crates/hugepool/out/hugepool*")):
-            file.unlink()
 
-    def build(self) -> tuple[int, str]:
-        ran = self.begin()
-        err = ran.communicate()[1]
-        return ran.returncode, err
+def notes(room: Room) -> list[list[str]]:
+    """What was begun and built, in order, and by which process."""
+    return [line.rsplit(" ", 1) for line in (room.top / "notes").read_text(encoding="utf-8").splitlines()]
 
-    def notes(self) -> list[str]:
-        """What was begun and built, in order."""
-        return [" ".join(line.split()[:2]) for line in (self.top / "notes").read_text(encoding="utf-8").splitlines()]
 
-    def running(self) -> int:
-        """How many of the processes that were begun are still there."""
-        pids = {line.split()[2] for line in (self.top / "notes").read_text(encoding="utf-8").splitlines()}
-        return sum(Path("/proc", pid).exists() for pid in pids)
-
-    def is_current(self) -> bool:
-        out = self.top / "crates" / "hugepool" / "out"
-        return (out / "hugepool").exists() and (out / "hugepool.begun").exists()
+def running(room: Room) -> int:
+    """How many of the processes that were begun are still there."""
+    return sum(Path("/proc", pid).exists() for pid in {pid for _, pid in notes(room)})
 
 
 def interrupted(room: Room) -> tuple[int, int, bool]:
     """The status of a build that is interrupted while two libraries are being proved, how many processes it leaves, and whether it ended
     before those would have ended by themselves."""
-    (room.top / "stuck").touch()
-    ran = room.begin("low")
-    while ran.poll() is None and len(room.notes()) < 2:
+    room.write("stuck")
+    ran = build(room, "low")
+    while ran.poll() is None and len(notes(room)) < 2:
         time.sleep(0.05)
     ran.send_signal(signal.SIGINT)
     sent = time.monotonic()
     ran.communicate()
-    (room.top / "stuck").unlink()
-    return ran.returncode, room.running(), time.monotonic() - sent < 30
+    room.remove("stuck")
+    return ran.returncode, running(room), time.monotonic() - sent < 30
 
 
-def tries_in(room: Room) -> Iterator[tuple[str, bool]]:
+def tries(room: Room) -> Iterator[tuple[str, bool]]:
     """What is tried, and whether it went as it should."""
-    status, _ = room.build()
-    notes = room.notes()
-    yield "all libraries are proved, and the program is built", status == 0 and room.is_current() and len(notes) == 6
-    yield "what the others stand on comes first", notes[:2] == ["begin low", "end low"]
-    yield "the others are proved side by side", sorted(notes[2:4]) == ["begin left", "begin right"]
-    (room.top / "free").write_text("1500", encoding="utf-8")
-    yield "where memory is short one follows the other", room.build()[0] == 0 and room.notes()[3].startswith("end")
-    (room.top / "free").write_text("10", encoding="utf-8")
-    yield "where there is none, too", room.build()[0] == 0 and room.notes()[3].startswith("end")
-    (room.top / "free").write_text("100000", encoding="utf-8")
-    (room.top / "broken").write_text("right", encoding="utf-8")
-    status, err = room.build()
+    room.write("free", "100000")
+    room.write("broken")
+    status, told = built(room)[0], [what for what, _ in notes(room)]
+    yield "all libraries are proved, and the program is built", status == 0 and room.is_current() and len(told) == 6
+    yield "what the others stand on comes first", told[:2] == ["begin low", "end low"]
+    yield "the others are proved side by side", sorted(told[2:4]) == ["begin left", "begin right"]
+    for free in ("1500", "10"):
+        room.write("free", free)
+        yield f"with {free} bytes one follows the other", built(room)[0] == 0 and notes(room)[3][0].startswith("end")
+    room.write("free", "100000")
+    room.write("broken", "right")
+    status, err = built(room)
     yield "one that isn't proved is named, with what the prover said", status == 126 and "right is not proved" in err and "this is why" in err
-    yield "then nothing is current, and nothing runs", not room.is_current() and room.running() == 0
-    (room.top / "broken").write_text("", encoding="utf-8")
+    yield "then nothing is current, and nothing runs", not room.is_current() and running(room) == 0
+    room.write("broken")
     yield "an interrupt ends all", interrupted(room) == (130, 0, True) and not room.is_current()
-    yield "afterwards all is proved", room.build()[0] == 0 and room.is_current()
+    yield "afterwards all is proved", built(room)[0] == 0 and room.is_current()
 
 
-def tries() -> list[tuple[str, bool]]:
+if __name__ == "__main__":
     with tempfile.TemporaryDirectory(prefix="proving-") as name:
-        return list(tries_in(Room(Path(name))))
+        sys.exit(report("proving", tries(Room(Path(name), CRATES, RT))))

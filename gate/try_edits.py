@@ -1,11 +1,11 @@
 #!/usr/bin/env python3
 """Tries the mutants: the prover must refuse each wrong body for its own sake.
 
-usage: ./check edits [CRATE ..] [--all] [--due] [--each]
+usage: ./check edits [CRATE ..] [--all] [--each]
 
 Without a word it tries the mutants of each crate that changed, or that stands on one that did, since all its mutants were refused
 (gate/tried.txt has the marks), and a rotating sample of other crates where few are due. --all tries all, with the right body of each
-function as a control. Of crates that are named it tries all mutants, with --due only where they are due.
+function as a control. Of crates that are named it tries all mutants.
 
 The mutants of a crate stand in its folders must-fail/ (those that the toolchain's gate tries too), edits/ and must-not-compile/
 (those that the compiler refuses, with the error that they name). One check tries all wrong bodies of plain functions, as siblings of
@@ -169,8 +169,9 @@ class Trial:
         return found
 
 
-def try_crates(top: Path, names: Iterable[str], lanes: int, is_each_controlled: bool) -> Iterator[Tried]:
+def try_crates(top: Path, names: Iterable[str], is_each_controlled: bool) -> Iterator[Tried]:
     """Tries the mutants of these crates side by side, those with the most first, and gives each crate's results as it ends."""
+    lanes = os.cpu_count() or 1
     numbers = {it: len(mutants_of(top / "crates" / it)[0]) for it in names}
     jobs = max(1, min(MOST_JOBS, lanes // max(1, len(numbers))))
     with tempfile.TemporaryDirectory(prefix="edits-") as name, ThreadPoolExecutor(max(1, lanes // jobs)) as pool:
@@ -216,23 +217,20 @@ def main() -> int:
     words = argparse.ArgumentParser(prog="./check edits", description=__doc__.split("\n")[0])
     words.add_argument("crates", nargs="*", metavar="CRATE", help="the crates whose mutants are tried; none: those that are due")
     words.add_argument("--all", action="store_true", help="try the mutants of all crates")
-    words.add_argument("--due", action="store_true", help="of the named crates, try those alone that are due")
     words.add_argument("--each", action="store_true", help="print a line for each mutant, not for faults alone")
-    words.add_argument("--lanes", type=int, default=os.cpu_count() or 1, metavar="N", help="how many checks side by side")
     given = words.parse_args()
     unknown = [it for it in given.crates if it not in crates_of(TOP)]
     if unknown:
         words.error(f"crates.txt has no crate {unknown[0]}")
     marks = MutantMarks()
-    named = set(given.crates) & (marks.due() if given.due else set(marks.marks))
-    picked = named if given.crates else chosen(marks, given.all)
+    picked = set(given.crates) & set(marks.marks) if given.crates else chosen(marks, given.all)
     refused = faults = 0
     try:
         build_libraries(TOP, picked)
     except NotProved as error:
         print(f"check: the libraries below {error} aren't proved, so no mutant was tried")
         return 1
-    for tried in try_crates(TOP, picked, max(1, given.lanes), given.all):
+    for tried in try_crates(TOP, picked, given.all):
         report(tried, given.each)
         wrong = sum(not it.is_refused for it in tried.results)
         refused, faults = refused + len(tried.results) - wrong, faults + wrong

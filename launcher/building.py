@@ -92,19 +92,18 @@ def alone(program: Path) -> Iterator[None]:
 
 
 @contextmanager
-def marked(program: Path, sources: str) -> Iterator[None]:
-    """Marks the program as built from these sources where the block ends well. What is written meanwhile is newer than the mark."""
-    marker = marker_of(program)
-    beginning = marker.with_suffix(".next")
-    marker.unlink(missing_ok=True)
-    beginning.write_text(f"{sources}\n", encoding="utf-8")
-    try:
-        yield
-        beginning.replace(marker)
-    finally:
-        beginning.unlink(missing_ok=True)
-
-
-def look_again(words: list[str]) -> None:
-    """Begins anew with the launcher, which finds out whether what another call has built is current."""
-    os.execv(TOP / "hugepool", [str(TOP / "hugepool"), *words])
+def marked(program: Path, moment: float, sources: str, words: list[str]) -> Iterator[None]:
+    """Marks the program as built from these sources where the block ends well. What is written meanwhile is newer than the mark. Where
+    another call has built it since that moment, it begins anew with the launcher, which finds out whether that is current."""
+    with alone(program):
+        if is_built_since(program, moment):
+            os.execv(TOP / "hugepool", [str(TOP / "hugepool"), *words])
+        marker = marker_of(program)
+        beginning = marker.with_suffix(".next")
+        marker.unlink(missing_ok=True)
+        beginning.write_text(f"{sources}\n", encoding="utf-8")
+        try:
+            yield
+            beginning.replace(marker)
+        finally:
+            beginning.unlink(missing_ok=True)

@@ -100,20 +100,13 @@ class NotKept(Exception):
     """The program was compiled, but can't be kept."""
 
 
-def build(crate: str, program: Path, moment: float, sources: str, words: list[str]) -> None:
-    with building.alone(program):
-        if building.is_built_since(program, moment):
-            building.look_again(words)
-        with building.marked(program, sources):
-            if not keep(crate, program):
-                raise NotKept
-
-
 def main(crate: str, moment: str, sources: str, notice: str, *words: str) -> int:
     program = TOP / "crates" / crate / "out" / "unproved"
     SIGNALS.catch()
     try:
-        build(crate, program, float(moment), sources, list(words))
+        with building.marked(program, float(moment), sources, list(words)):
+            if not keep(crate, program):
+                raise NotKept
     except Interrupted:
         return building.INTERRUPTED
     except BuildFailed as why:

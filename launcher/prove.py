@@ -106,7 +106,7 @@ def build_alone(logs: Path) -> None:
 
 def write_measured(proving: Proving) -> None:
     """Writes what each proof took, in the form of launcher/weights.txt."""
-    lines = [f"{name} {took.seconds:.0f} {took.memory // MIB}\n" for name, took in proving.took.items()]
+    lines = [f"{name} {seconds:.0f} {memory // MIB}\n" for name, (seconds, memory) in proving.took.items()]
     (proving.logs / "measured").write_text("".join(lines), encoding="utf-8")
 
 
@@ -126,25 +126,22 @@ def build(logs: Path) -> None:
     write_measured(proving)
 
 
-def build_unless_built(moment: float, sources: str, words: list[str]) -> None:
+def build_marked(moment: float, sources: str, words: list[str]) -> None:
     """Builds the program, unless another call did so since this one looked."""
     logs = CRATE / "out" / "proving"
-    with building.alone(PROGRAM):
-        if building.is_built_since(PROGRAM, moment):
-            building.look_again(words)
-        with building.marked(PROGRAM, sources):
-            try:
-                build(logs)
-            except NotProved as name:
-                said = (logs / f"{name}.log").read_text(encoding="utf-8", errors="replace")
-                raise BuildFailed(f"{said}hugepool: the build failed: {name} is not proved") from name
+    with building.marked(PROGRAM, moment, sources, words):
+        try:
+            build(logs)
+        except NotProved as name:
+            said = (logs / f"{name}.log").read_text(encoding="utf-8", errors="replace")
+            raise BuildFailed(f"{said}hugepool: the build failed: {name} is not proved") from name
 
 
 def main(moment: str, sources: str, *words: str) -> int:
     began = time.monotonic()
     SIGNALS.catch()
     try:
-        build_unless_built(float(moment), sources, list(words))
+        build_marked(float(moment), sources, list(words))
     except Interrupted:
         say("the build was interrupted; what is proved is kept")
         return building.INTERRUPTED

@@ -18,7 +18,7 @@ from typing import Iterable
 from building import SIGNALS
 from progress import Line
 
-ONE = Path(__file__).with_name("prove_library.py")
+ONE = Path(__file__).with_name("toolchain.py")
 # the seconds by which an urgent library's chain may be shorter than the longest
 SLACK = 15.0
 # what another job adds to the memory of the first, since it is a copy that shares most of it, and how much faster it makes the first
@@ -63,14 +63,6 @@ class Run:
         return self.library.memory * (1 + MORE_MEMORY * (self.jobs - 1))
 
 
-@dataclass(frozen=True)
-class Took:
-    """What the proof of a library took: processor seconds, and the bytes of its largest process."""
-
-    seconds: float
-    memory: int
-
-
 class NotProved(Exception):
     """The library of this name is not proved."""
 
@@ -106,7 +98,8 @@ class Proving:
         self.libraries, self.built, self.processors, self.memory, self.logs = libraries, built, processors, memory, logs
         self.left = [it for it in libraries if it.name not in built]
         self.runs: dict[int, Run] = {}
-        self.took: dict[str, Took] = {}
+        # what each proof took: processor seconds, and the bytes of its largest process
+        self.took: dict[str, tuple[float, int]] = {}
         self.line, self.began, self.whole = Line(), time.monotonic(), self.ideal()
 
     def ready(self) -> list[Library]:
@@ -148,7 +141,7 @@ class Proving:
                 SIGNALS.look()
                 raise NotProved(run.library.name)
             self.built.add(run.library.name)
-            self.took[run.library.name] = Took(used.ru_utime + used.ru_stime, used.ru_maxrss * 1024)
+            self.took[run.library.name] = used.ru_utime + used.ru_stime, used.ru_maxrss * 1024
 
     def prove(self) -> None:
         """Proves all that is left. Whatever ends it, no process is left behind."""

@@ -1,4 +1,11 @@
-"""The toolchain's command `rt` as a module."""
+#!/usr/bin/env python3
+"""The toolchain's command `rt` as a module; and one library proved and built by it, over libraries that are built.
+
+usage: toolchain.py CRATE-FOLDER JOBS
+
+This does what `rt lib` does, but takes no locks: `rt lib` locks all crates below its own, and all stand on one, so that two could never run
+side by side. prove.py, which starts one such process for each library, holds these locks meanwhile.
+"""
 from __future__ import annotations
 
 import os
@@ -13,12 +20,12 @@ class Unusable(Exception):
     """The toolchain's module isn't there, or isn't what this code knows."""
 
 
-def load() -> ModuleType:
+def load(command: str = "rt") -> ModuleType:
     """The module behind the command `rt`. Loading it does nothing else."""
-    command = shutil.which("rt")
-    if command is None:
-        raise Unusable("'rt' is not on the PATH")
-    loader = SourceFileLoader("rt_command", os.path.realpath(command))
+    path = shutil.which(command)
+    if path is None:
+        raise Unusable(f"'{command}' is not on the PATH")
+    loader = SourceFileLoader("rt_command", os.path.realpath(path))
     module = module_from_spec(spec_from_loader("rt_command", loader))
     sys.dont_write_bytecode = True
     try:
@@ -26,3 +33,15 @@ def load() -> ModuleType:
     except (Exception, SystemExit) as error:
         raise Unusable(str(error)) from error
     return module
+
+
+def prove_library(folder: str, jobs: str) -> int:
+    os.chdir(folder)
+    rt = load()
+    rt.share_work(True)
+    crate = rt.rtlib.Crate(folder, rt.rtlib.root_above(folder), {})
+    return crate.build_rlib(["--jobs", jobs], anew=False)
+
+
+if __name__ == "__main__":
+    sys.exit(prove_library(*sys.argv[1:]))
