@@ -4,7 +4,7 @@
 //! begins, that trace on a core; `c` a journal that is cut; `r` a running pool that is resized; `g` and `w` two stores in threads, of
 //! which a gate holds the first until the second has ended, and until it waits for the first; else two stores over a driver. Before
 //! those it takes memory as many times as its input has bytes: so in runs whose Nth growth is refused, a shorter input has it
-//! refused later in the story. `gate/refusals.py` and `gate/growths.py` have it refused everywhere, and compare what is told.
+//! refused later in the story. `gate/growths.py` has it refused everywhere, and compares what is told.
 #![tactic(auto)]
 
 ghost use Rattle.std.specs.Prelude.{◌≡◌, ◌≤◌};
