@@ -7,7 +7,7 @@ else the task's end: until then a killed task does what any other does.
 from __future__ import annotations
 
 from machine import Call, Outcome
-from placing import Divergence, NotUnderstood, Racer
+from placing import MAPS, Divergence, NotUnderstood, Racer
 from recordings import Event
 from removals import Removals
 
@@ -74,9 +74,14 @@ class Pools(Removals):
             self.put_by[event.thread] = 0
 
     def check_leak(self, racer: Racer) -> None:
-        """A call that was refused a frame has given back what it took of the quota. (conformance/known/quota-leak.toml: some kernels don't.)"""
-        if self.machine.quota is not None and racer.charged:
+        """A call that was refused a frame has given back what it took of the quota. By the rule L it keeps that, unless it is a map."""
+        if self.machine.quota is None or not racer.charged:
+            return
+        if "L" not in self.rules or racer.letter in MAPS:
             raise Divergence("quota leaked", f"task {racer.number} found no free page, and keeps what it took of the quota")
+        self.machine.leak(racer.charged)
+        racer.charged = 0
+        self.notes["a page of the quota leaked"] += 1
 
     def short(self, racer: Racer) -> str:
         """What it means if Linux and the machine differ on whether a count suffices."""

@@ -122,11 +122,18 @@ def is_noticed(given: tuple[Recording, int, type[Attempt]]) -> bool:
     return attempt.fault is not None and not (is_blind and attempt.fault.kind == "no row")
 
 
+def is_held_noticed(number: int) -> bool:
+    return is_noticed(check.HELD[number])
+
+
+def noticed_of(given: list[tuple[Recording, int, type[Attempt]]], processes: int) -> list[bool]:
+    with Pool(processes, check.hold, (given,)) as pool:
+        return pool.map(is_held_noticed, range(len(given)), chunksize=20)
+
+
 def how_often(runs: list[Recording], numbers: Iterable[int], comparison: type[Attempt], processes: int) -> Counter[int]:
     given = [(run, number, comparison) for number in numbers for run in runs]
-    with Pool(processes) as pool:
-        noticed = pool.map(is_noticed, given, chunksize=50)
-    return Counter(number for (_, number, _), it in zip(given, noticed) if it)
+    return Counter(number for (_, number, _), it in zip(given, noticed_of(given, processes)) if it)
 
 
 def swap(run: Recording, rng: random.Random, kinds: tuple[str, ...]) -> Recording | None:
@@ -152,12 +159,12 @@ def may_be_swapped(run: Recording, one: int, other: int, kinds: tuple[str, ...])
     return meet and any(it.kind != "change" and it.c > 0 for it in (first, second))
 
 
-def swaps(runs: list[Recording]) -> Iterator[tuple[bool, str]]:
+def swaps(runs: list[Recording], processes: int) -> Iterator[tuple[bool, str]]:
     """Of nearly all recordings a swap has to be noticed. Some change nothing that anybody can see."""
     rng = random.Random(1)
     for what, kinds in SWAPPED.items():
         swapped = [it for it in (swap(run, rng, kinds) for run in runs) if it]
-        noticed = sum(is_noticed((it, -1, Attempt)) for it in swapped)
+        noticed = sum(noticed_of([(it, -1, Attempt) for it in swapped], processes))
         yield len(swapped) > 5 and noticed >= 0.8 * len(swapped), f"two events swapped, {what}: {noticed} of {len(swapped)} are noticed"
 
 
@@ -268,7 +275,7 @@ def results(program: Path | None, processes: int) -> Iterator[tuple[bool, str]]:
     for it in EXPECTED:
         yield from replayed(it, program, processes)
     yield from wrong_machines(processes)
-    yield from swaps(runs_of(Base.tried))
+    yield from swaps(runs_of(Base.tried), processes)
     yield from same_answers(program, 300)
 
 
