@@ -6,6 +6,8 @@ else the task's end: until then a killed task does what any other does.
 """
 from __future__ import annotations
 
+from typing import Callable
+
 from machine import Call, Outcome
 from placing import MAPS, Divergence, NotUnderstood, Racer
 from recordings import Event
@@ -91,12 +93,17 @@ class Pools(Removals):
 
     # resizes
 
-    def resize(self, frames: int, told: int) -> None:
+    def retire(self, line: str, wanted: str, act: Callable[[], Outcome]) -> str:
+        """A row behind which frames may be gone: their pages are no longer those of frames."""
         before = set(self.machine.free)
-        line, wanted = f"resize {frames}", f"resized {told}"
-        outcome = self.make(None, line, (wanted,), lambda: self.machine.resize(frames))
+        outcome = self.make(None, line, (wanted,), act)
         for gone in before - self.machine.free:
             self.page_of.pop(gone, None)
+        return outcome
+
+    def resize(self, frames: int, told: int) -> None:
+        line, wanted = f"resize {frames}", f"resized {told}"
+        outcome = self.retire(line, wanted, lambda: self.machine.resize(frames))
         if outcome != wanted:
             raise Divergence("resize", f"{line}: the machine {outcome!r}, Linux as {wanted!r}")
 
@@ -124,7 +131,7 @@ class Pools(Removals):
             return
         if event.a > self.machine.active - self.machine.surplus:
             self.machine.surplus = self.machine.active - event.a
-        outcome = self.make(None, f"resize {event.a}", (f"resized {event.b}",), lambda: self.machine.shrink(event.a))
+        outcome = self.retire(f"resize {event.a}", f"resized {event.b}", lambda: self.machine.shrink(event.a))
         self.same("size of the pool", outcome, f"resized {event.b}")
         self.same("pages over the size", self.machine.surplus, event.c)
 
@@ -139,7 +146,7 @@ class Pools(Removals):
         if "R" not in self.rules:
             raise Divergence("pages over the size", f"pfn {event.a} becomes free, and leaves the pool")
         self.make_free(racer, event)
-        self.make(None, f"resize {self.machine.active - 1}", (f"resized {event.c}",), self.leave_the_pool)
+        self.retire(f"resize {self.machine.active - 1}", f"resized {event.c}", self.leave_the_pool)
         self.same("size of the pool", self.machine.active, event.c)
         self.same_counts(event)
 

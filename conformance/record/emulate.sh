@@ -20,7 +20,7 @@ output. The kernel of the machine that it runs on is left alone, and nobody has 
   --cpus N      that many processors (2)
   --memory MIB  that much memory (768)
   --seconds N   ends a machine that isn't done by then (900)
-  --boot-seconds N  ends a machine on which the recorder hasn't begun by then (180)
+  --boot-seconds N  ends a machine on which the recorder hasn't begun by then (120)
   --accel NAME  kvm or tcg (kvm where /dev/kvm may be used and this machine isn't a virtual one)
 
 A kernel that panics or hangs before the recorder begins is booted again, three times in all. A script that leaves the
@@ -30,7 +30,7 @@ Status: 0 all is recorded; 1 something failed, or differs; 2 a wrong word or scr
 here=$(cd "$(dirname "$(readlink -f "${BASH_SOURCE[0]}")")" && pwd)
 cache=${KIRVESSA_CACHE:-${XDG_CACHE_HOME:-$HOME/.cache}/kirvessa}
 package=linux-image-cloud-amd64
-kernel='' cpus=2 memory=768 seconds=900 boot_seconds=180 accel='' is_again='' is_install='' program=''
+kernel='' cpus=2 memory=768 seconds=900 boot_seconds=120 accel='' is_again='' is_install='' program=''
 files=()
 
 say() { echo "emulate: $*" >&2; }
