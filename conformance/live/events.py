@@ -419,6 +419,7 @@ class Attempt(Pools):
         then = self.next_of(racer)
         if not (then and then.kind == "account" and then.b != 0):
             self.on_account(racer, event._replace(kind="account", a=-event.a, b=0))
+        self.drop_unused(event)
 
     def on_take(self, racer: Racer, event: Event) -> None:
         call, resv = self.call(racer), self.machine.resv

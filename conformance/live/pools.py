@@ -10,10 +10,12 @@ from typing import Callable
 
 from machine import Call, Outcome
 from placing import MAPS, Divergence, NotUnderstood, Racer
-from recordings import Event
+from recordings import NONE, Event
 from removals import Removals
 
 INTERRUPTED = -4
+# by how much an event changes the number of free pages
+CHANGES_FREE = {"take": -1, "free": 1, "grow": 1}
 
 
 class Pools(Removals):
@@ -105,7 +107,7 @@ class Pools(Removals):
         line, wanted = f"resize {frames}", f"resized {told}"
         outcome = self.retire(line, wanted, lambda: self.machine.resize(frames))
         if outcome != wanted:
-            raise Divergence("resize", f"{line}: the machine {outcome!r}, Linux as {wanted!r}")
+            raise Divergence(f"resize{self.because()}", f"{line}: the machine {outcome!r}, Linux as {wanted!r}")
 
     def on_grow(self, racer: Racer | None, event: Event) -> None:
         """One more page."""
@@ -149,6 +151,14 @@ class Pools(Removals):
         self.retire(f"resize {self.machine.active - 1}", f"resized {event.c}", self.leave_the_pool)
         self.same("size of the pool", self.machine.active, event.c)
         self.same_counts(event)
+
+    def drop_unused(self, event: Event) -> None:
+        """By the rule R free pages over the size leave the pool with the reservations that are given back. Linux logs nothing of it, but
+        the next event has fewer free pages. (A resize that grows the pool begins by taking the pages over the size in, unlogged, too.)"""
+        then = self.run[event.number - self.run[0].number + 1]
+        gone = event.free + CHANGES_FREE.get(then.kind, 0) * (then.b != NONE) - then.free
+        for _ in range(gone if "R" in self.rules and 0 < gone <= min(event.a, self.machine.surplus) else 0):
+            self.retire(f"resize {self.machine.active - 1}", f"resized {self.machine.active - 1}", self.leave_the_pool)
 
     def leave_the_pool(self) -> Outcome:
         self.machine.retire()

@@ -24,6 +24,7 @@ RULE_OF = {
     "bare index not waited for": "B", "short, a frame is freed late": "F", "page found at or above the size": "P", "size looked at once": "S",
     "bare index not waited for, of a truncation": "T", "raise refused": "N", "denied change": "D", "denied delete": "D", "backed out": "U",
     "quota asked apart": "Q", "quota given back apart": "Q", "quota leaked": "L", "interrupted and extended": "I", "pages over the size": "R",
+    "resize, a frame is freed late": "F",
 }  # fmt: skip
 HEAD = f"{'workload':<10} {'recordings':>10} {'calls':>8} {'events':>9} {'overlaps':>8} {'alone':>6} {'rules':<11} {'whole':>6} {'wrong count at rest':>19}"
 

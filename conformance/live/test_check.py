@@ -70,6 +70,7 @@ EXPECTED = (
     Expected("6.12: truncations, Linux's rows", ("6.12/trunc", "6.12/bug", "6.12/wide"), "BFPSTN", False, 106, 106),
     Expected("6.12: refused memory, Linux's rows", ("6.12/inject", "6.12/backed"), "BFUDN", False, 36, 36),
     *of_the_pool("6.1", "", OF_THE_POOL | {"pools": "BFPSTNQR"}, {"quota": 164, "kills": 140, "resizes": 120, "denied": 120, "pools": 144}, 487),
+    *of_the_pool("7.3-rc7", "7.3/", OF_THE_POOL | {"quota": "BFPSTNQL"}, {"quota": 164, "kills": 140, "resizes": 120, "denied": 120}, 374),
     *of_the_pool("6.12", "6.12/", OF_THE_POOL, {"quota": 114, "kills": 91, "resizes": 70, "denied": 58}, 257),
 )
 # wrong machines are tried on every so many of the recordings that they name
