@@ -127,7 +127,7 @@ def emulated(kernel: Path, name: str, cpus: int, seconds: int) -> Kernel:
 
 
 def accelerator() -> str:
-    """QEMU's: KVM where it may be used and this machine isn't a virtual one, else none, so that the processor is emulated (as emulate.sh)."""
+    """As emulate.sh chooses: KVM where it may be used and this machine isn't a virtual one, else the processor is emulated."""
     is_virtual = "hypervisor" in Path("/proc/cpuinfo").read_text(encoding="utf-8").split()
     return "kvm" if os.access("/dev/kvm", os.R_OK | os.W_OK) and not is_virtual else "tcg"
 

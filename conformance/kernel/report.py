@@ -20,8 +20,8 @@ LEGEND = (
     "known rule: scripts that end at one, with a difference or without",
 )
 RACE_LEGEND = (
-    "right: scripts whose counts are right at rest, which is all that is compared; calls of a task: in each race, at most; as written: in the",
-    "scripts. How a race ends is by chance, and one with fewer calls shows less.",
+    "right: scripts whose counts are right at rest, which is all that is compared; calls of a task: in each race, at most; as written:",
+    "in the scripts. How a race ends is by chance, and one with fewer calls shows less.",
 )
 # so many new differences are printed in full, and so many spoiled calls of each
 MOST, SPOILED = 20, 5
@@ -147,11 +147,12 @@ def suite_data(it: Tested) -> dict[str, object]:
     differences = [difference_data(one.difference) for one in it.results if one.difference]
     counts = [{"script": one.name, "rests": one.rests, "known": one.known and one.known.name} for one in it.wrong]
     broken = [{"script": one.broken.script, "assertion": str(one.broken), "known": one.known and one.known.name} for result in it.results for one in result.broken]
-    return {
+    raced = {"races": it.rounds.races, "race_calls": it.rounds.calls, "race_calls_written": it.rounds.written} if it.rounds else {}
+    return raced | {
         "suite": it.name, "scripts": len(it.results), "calls": it.calls, "agree": it.agreed, "differ": it.differ, "known": it.known,
         "new": it.new, "seconds": round(it.seconds, 1), "differences": differences, "wrong_counts": counts,
         "broken_assertions": broken,
-    } | ({"races": it.rounds.races, "race_calls": it.rounds.calls, "race_calls_written": it.rounds.written} if it.rounds else {})  # fmt: skip
+    }  # fmt: skip
 
 
 def json_text(all_of_them: list[Tested], basis: str) -> str:

@@ -39,8 +39,8 @@
 #define MAPPED 64
 #define ALL 256
 
-/* where both processes meet: how far the one in the cgroup is, the round that may begin, the round whose touch has ended, how long that took,
- * and whether it was refused */
+/* where both processes meet: how far the one in the cgroup is, the round that may begin, the round whose touch has ended, how long that
+ * took, and whether it was refused */
 enum { STARTED, MAPPED_ALL, HAS_NO_MEMORY };
 struct meeting {
 	volatile long state, begun, ended, took, refused;
@@ -261,7 +261,8 @@ int main(int words, char **word)
 		usual = (7 * usual + race(++round, random() % usual)) / 8 + 1000;
 		refused += meeting->refused;
 	} while (nanoseconds() < end);
-	printf("after %ld rounds, in %ld of which the touch was refused: expected reserve count 0, seen %ld\n", round, refused, count("resv_hugepages"));
+	printf("after %ld rounds, in %ld of which the touch was refused: expected reserve count 0, seen %ld\n", round, refused,
+	       count("resv_hugepages"));
 	fflush(stdout);
 	finish(0);
 }
