@@ -10,9 +10,11 @@ from __future__ import annotations
 import errno
 import os
 import re
+import signal
 import subprocess
 import sys
 import tempfile
+import time
 from dataclasses import dataclass, replace
 from pathlib import Path
 from typing import Callable, Iterator
@@ -20,6 +22,7 @@ from unittest.mock import patch
 
 import compare
 import packages
+import races
 from compare import Script
 from kernel import kernels, machine, minimize, report, reproduce, suites, testing
 from kernel.differences import Comparison, Result
@@ -332,13 +335,14 @@ def faults_of_commands() -> Iterator[tuple[str, object]]:
         yield str(words), (ran.returncode, ran.stdout, why in ran.stderr.splitlines()[-1]) == (2, "", True) or (ran.returncode, ran.stderr)
 
 
-def boots(room: Path, begins: int, works: int) -> tuple[int, int]:
+def boots(room: Path, begins: int, works: int, is_hanging: bool = False) -> tuple[int, int]:
     """The status of emulate.sh with a made-up QEMU, and how often that ran: from boot `begins` on its kernel runs the recorder, and from
-    boot `works` on the recorder ends."""
+    boot `works` on the recorder ends. Before that its kernel panics, or hangs."""
     qemu = f"""#!/bin/bash
     echo boot >> {room}/boots
     at=$(wc -l < {room}/boots)
     for word in "$@"; do case $word in file:*/recorded) recorded=${{word#file:}} ;; file:*/told) told=${{word#file:}} ;; esac done
+    if [ "$at" -lt {begins} ] && {str(is_hanging).lower()}; then exec sleep 99; fi
     if [ "$at" -ge {begins} ]; then echo "record: this kernel has 0 huge pages" > "$told"; fi
     if [ "$at" -ge {works} ]; then echo "script a" > "$recorded"; printf 'record: 1 scripts recorded, 1 lines\nstatus 0\n' >> "$told"; fi
     """
@@ -347,10 +351,36 @@ def boots(room: Path, begins: int, works: int) -> tuple[int, int]:
         (room / name).write_text(text, encoding="utf-8")
         (room / name).chmod(0o755)
     (room / "scripts").write_text("script a\npool 1 1 1 1\nend\n", encoding="utf-8")
-    words = [TOP / "conformance" / "record" / "emulate.sh", "--kernel", "/dev/null", room / "scripts"]
+    words = [TOP / "conformance" / "record" / "emulate.sh", "--kernel", "/dev/null", "--boot-seconds", "1", room / "scripts"]
     environment = {**os.environ, "PATH": f"{room}:{os.environ['PATH']}"}
     ran = subprocess.run(words, env=environment, stdin=subprocess.DEVNULL, capture_output=True, check=False)
     return ran.returncode, len((room / "boots").read_text(encoding="utf-8").splitlines())
+
+
+def faults_of_interrupts() -> Iterator[tuple[str, object]]:
+    """That Ctrl-C prints nothing, whenever it comes: while Python begins, while it imports, and later."""
+    for milliseconds in (0, 20, 50, 80, 120, 200):
+        ran = subprocess.Popen([TOP / "kernel", "known"], stdin=subprocess.DEVNULL, stdout=subprocess.PIPE, stderr=subprocess.PIPE)
+        time.sleep(milliseconds / 1000)
+        ran.send_signal(signal.SIGINT)
+        _, said = ran.communicate()
+        yield f"Ctrl-C after {milliseconds} ms", said == b"" or said
+
+
+def faults_of_races() -> Iterator[tuple[str, object]]:
+    """That a suite of races is shortened where that is asked for, that scripts with truncations come last, and that the table has both."""
+    some = suites.scripts_of(suites.SUITES["races"])
+    whole, short = (testing.Work("races", some, True, [], most).asked() for most in (None, 100))
+    yield "no race is shortened", sorted(it.lines for it in whole) == sorted(it.lines for it in some)
+    yield "each race is shortened", set(suites.race_calls(short)) == {100} and len(suites.race_calls(short)) == 52
+    has = [races.has_truncations(it) for it in short]
+    yield "truncations come last", has == sorted(has) and 0 < sum(has) < len(has)
+    raced = Script("r", "pool 4 1 4 2", ["race 1 900 4 mst = rest | 4 0 | 0 0 | 0 0", "begin 1 trunc 0 0 = done | 4 -1 | 0 0 | 0 0"])
+    work = testing.Work("made", [Script("r", raced.header, ["race 1 900 4 mst", "begin 1 trunc 0 0"])], True, [], 70)
+    found = testing.judged(Comparison(PROGRAM, "7", known_issues()), work, [raced])
+    told = report.tables([found])
+    yield "the table of races", told[1].split() == ["made", "1", "0", "1", "0", "1", "70", "900", "0"] or told
+    yield "JSON of races", '"race_calls": 70' in report.json_text([found], "x")
 
 
 def faults_of_saying() -> Iterator[tuple[str, object]]:
@@ -368,6 +398,9 @@ def faults_of_boots() -> Iterator[tuple[str, object]]:
         for (begins, works), ends in expected.items():
             found = boots(Path(name) / f"{begins}-{works}", begins, works)
             yield f"a kernel that begins at boot {begins} and works at {works}", found == ends or found
+        for begins, ends in ((2, (0, 2)), (4, (1, 3))):
+            found = boots(Path(name) / f"hangs-{begins}", begins, begins, is_hanging=True)
+            yield f"a kernel that hangs before boot {begins}", found == ends or found
 
 
 def faults_of_minimizing() -> Iterator[tuple[str, object]]:
@@ -536,7 +569,7 @@ def decided() -> list[str]:
 def main() -> int:
     parts = (faults_of_known, faults_of_files, faults_of_reading, faults_of_report, faults_of_commands, faults_of_recorded, faults_of_document)
     parts += (faults_of_lacks, faults_of_reproducing)
-    parts += (faults_of_saying, faults_of_whole, faults_of_basis, faults_of_again, faults_of_boots, faults_of_minimizing)
+    parts += (faults_of_saying, faults_of_interrupts, faults_of_races, faults_of_whole, faults_of_basis, faults_of_again, faults_of_boots, faults_of_minimizing)
     tried = [it for part in parts for it in part()]
     wrong = [(what, found) for what, found in tried if found is not True]
     print("".join(f"  {what}: {found}\n" for what, found in wrong), end="")

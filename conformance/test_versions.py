@@ -37,7 +37,7 @@ class Recorded:
 
 RECORDINGS = (
     Recorded("6.12.107", ("fixed", "random", "quota", "resize")),
-    Recorded("7.3~rc7", ("fixed", "quota", "resize"), {"quota-leak": 6}),
+    Recorded("7.3~rc7", ("fixed", "random", "quota", "resize"), {"quota-leak": 6}),
 )
 
 

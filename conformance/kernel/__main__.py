@@ -1,6 +1,8 @@
 """The command line: ./kernel test, minimize, reproduce, scripts and known."""
 from __future__ import annotations
 
+import kernel.quiet  # (first: it says what Ctrl-C does meanwhile)
+
 import argparse
 import signal
 import subprocess
@@ -34,6 +36,8 @@ ABOUT = """Finds the calls in which a Linux kernel differs from the machine of t
 AFTER = """Status: 0 no new difference; 1 new differences; 2 could not run.
 Fetched kernels are kept in KIRVESSA_CACHE (~/.cache/kirvessa). Without /dev/kvm the processor is emulated, and a suite takes
 about a minute. conformance/README.md describes the suites, the scripts and the known issues."""
+# so many calls a task makes in a race at most where the processor is emulated
+RACE_CALLS = 300
 RAW = argparse.RawDescriptionHelpFormatter
 
 
@@ -71,6 +75,8 @@ def parser() -> argparse.ArgumentParser:
     names = f"of {', '.join(suites.SUITES)} ({' '.join(suites.SEQUENTIAL)} unless named; the races take minutes)"
     test.add_argument("--suites", nargs="+", default=None, metavar="NAME", help=names)
     test.add_argument("--scripts", nargs="+", type=Path, default=[], metavar="FILE", help="files of scripts, as a suite each")
+    few = f"calls of a task in a race, at most ({RACE_CALLS} where the processor is emulated, else as the scripts have it)"
+    test.add_argument("--race-calls", type=positive, metavar="N", help=few)
     test.add_argument("--junit", metavar="FILE", help="writes the results as JUnit's XML, too")
     test.add_argument("--json", metavar="FILE", help="writes the results as JSON, too")
     about = "Makes a new difference smaller: leaves out calls and lowers numbers until nothing smaller differs in the same way."
@@ -106,10 +112,11 @@ def run_test(options: argparse.Namespace) -> int:
     issues = known_issues(options.known, tuple(options.without))
     default = [] if options.scripts else list(suites.SEQUENTIAL)
     chosen = [suites.suite_of(name) for name in (default if options.suites is None else options.suites)]
-    work = [Work(it.name, suites.scripts_of(it), it.has_races, peer_scripts() if it.name == suites.PEERS else []) for it in chosen]
     files = [(path.name, suites.read_scripts(path)) for path in options.scripts]
-    work += [Work(name, some, suites.has_races(some)) for name, some in files]
     answering, kernel = machine(options.program), kernel_of(options)
+    most = options.race_calls or (RACE_CALLS if kernel.is_slow else None)
+    work = [Work(it.name, suites.scripts_of(it), it.has_races, peer_scripts() if it.name == suites.PEERS else [], most) for it in chosen]
+    work += [Work(name, some, suites.has_races(some), [], most) for name, some in files]
     found: list[Tested] = []
     try:
         for number, it in enumerate(work, 1):

@@ -43,6 +43,8 @@ class Kernel:
 
     name: str
     command: Callable[[Path, bool], list[str | Path]]
+    # whether its processor is emulated, too, so that races take long
+    is_slow: bool = False
 
     def record(self, text: str, lines: int, has_races: bool = False) -> str:
         """What the kernel answers to the scripts of a text, which has so many lines to be answered."""
@@ -119,8 +121,15 @@ def emulated(kernel: Path, name: str, cpus: int, seconds: int) -> Kernel:
     """A kernel in an emulated machine."""
     need("qemu-system-x86_64", "cpio", "cc")
     readable(kernel)
-    options = ["--kernel", kernel, "--cpus", str(cpus), "--seconds", str(seconds)]
-    return Kernel(name, lambda scripts, _: [RECORD / "emulate.sh", *options, scripts])
+    accel = accelerator()
+    options = ["--kernel", kernel, "--cpus", str(cpus), "--seconds", str(seconds), "--accel", accel]
+    return Kernel(name, lambda scripts, _: [RECORD / "emulate.sh", *options, scripts], accel == "tcg")
+
+
+def accelerator() -> str:
+    """As emulate.sh chooses: KVM where it may be used and this machine isn't a virtual one, else the processor is emulated."""
+    is_virtual = "hypervisor" in Path("/proc/cpuinfo").read_text(encoding="utf-8").split()
+    return "kvm" if os.access("/dev/kvm", os.R_OK | os.W_OK) and not is_virtual else "tcg"
 
 
 def readable(kernel: Path) -> Path:

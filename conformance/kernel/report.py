@@ -14,9 +14,14 @@ from kernel.problem import Problem
 from kernel.testing import Tested, WrongCount
 
 HEADS = ("suite", "scripts", "calls", "agree", "not compared", "differ", "known rule", "new", "seconds")
+RACE_HEADS = ("races", "scripts", "right", "known rule", "new", "races of all", "calls of a task", "as written", "seconds")
 LEGEND = (
     "not compared: calls from the first difference, byte call or end of a known rule on; differ: scripts, each known or new;",
     "known rule: scripts that end at one, with a difference or without",
+)
+RACE_LEGEND = (
+    "right: scripts whose counts are right at rest, which is all that is compared; calls of a task: in each race, at most; as written:",
+    "in the scripts. How a race ends is by chance, and one with fewer calls shows less.",
 )
 # so many new differences are printed in full, and so many spoiled calls of each
 MOST, SPOILED = 20, 5
@@ -33,10 +38,27 @@ def total(all_of_them: list[Tested]) -> Tested:
     return Tested("all", all_of_them[0].version, results, wrong, sum(it.seconds for it in all_of_them))
 
 
+def race_row(it: Tested) -> tuple[str, ...]:
+    """A suite of races in numbers: of its calls only the counts at rest are compared."""
+    numbers = (len(it.results), len(it.results) - len(it.wrong), it.known, it.new, it.rounds.races, it.rounds.calls, it.rounds.written)
+    return (it.name, *map(str, numbers), f"{it.seconds:.0f}")
+
+
 def table(all_of_them: list[Tested]) -> list[str]:
-    """A line for each suite, and one for all."""
-    rows = [HEADS, *map(row, all_of_them)] + ([row(total(all_of_them))] if len(all_of_them) > 1 else [])
-    widths = [max(len(cells[k]) for cells in rows) for k in range(len(HEADS))]
+    """A line for each suite whose calls are compared, and one for all of these."""
+    return aligned([HEADS, *map(row, all_of_them)] + ([row(total(all_of_them))] if len(all_of_them) > 1 else []))
+
+
+def tables(all_of_them: list[Tested]) -> list[str]:
+    """The suites whose calls are compared, then those of races."""
+    calls, raced = ([it for it in all_of_them if (it.rounds is not None) == is_raced] for is_raced in (False, True))
+    lines = [*table(calls), *LEGEND] if calls else []
+    lines += [""] if calls and raced else []
+    return lines + ([*aligned([RACE_HEADS, *map(race_row, raced)]), *RACE_LEGEND] if raced else [])
+
+
+def aligned(rows: list[tuple[str, ...]]) -> list[str]:
+    widths = [max(len(cells[k]) for cells in rows) for k in range(len(rows[0]))]
     return ["  ".join([cells[0].ljust(widths[0]), *(it.rjust(width) for it, width in zip(cells[1:], widths[1:]))]) for cells in rows]
 
 
@@ -102,7 +124,7 @@ def known_text(known: Known, count: int, version: str) -> str:
 def text(all_of_them: list[Tested], basis: str) -> str:
     """The whole report."""
     version, new = all_of_them[0].version, new_differences(all_of_them)
-    lines = [f"kernel {version}; the machine's answers: {basis}", "", *table(all_of_them), *LEGEND, ""]
+    lines = [f"kernel {version}; the machine's answers: {basis}", "", *tables(all_of_them), ""]
     if known := known_of(all_of_them):
         lines += ["known:", *(known_text(it, count, version) for it, count in known), ""]
     lines += [f"{it.name}: wrong counts without truncations: {it.rests}" for it in new_wrong_counts(all_of_them)]
@@ -125,7 +147,8 @@ def suite_data(it: Tested) -> dict[str, object]:
     differences = [difference_data(one.difference) for one in it.results if one.difference]
     counts = [{"script": one.name, "rests": one.rests, "known": one.known and one.known.name} for one in it.wrong]
     broken = [{"script": one.broken.script, "assertion": str(one.broken), "known": one.known and one.known.name} for result in it.results for one in result.broken]
-    return {
+    raced = {"races": it.rounds.races, "race_calls": it.rounds.calls, "race_calls_written": it.rounds.written} if it.rounds else {}
+    return raced | {
         "suite": it.name, "scripts": len(it.results), "calls": it.calls, "agree": it.agreed, "differ": it.differ, "known": it.known,
         "new": it.new, "seconds": round(it.seconds, 1), "differences": differences, "wrong_counts": counts,
         "broken_assertions": broken,

@@ -28,12 +28,15 @@ class Finding:
     name: str
     source: str
     words: tuple[str, ...] = ()
+    # whether it is told for how many seconds to try
+    is_race: bool = True
 
 
 FINDINGS = (
-    Finding("used-pages-leak", "used-pages-leak"),
+    Finding("used-pages-leak", "used-pages-leak", is_race=False),
     Finding("reserve-count-race commit", "reserve-count-race", ("commit",)),
     Finding("reserve-count-race raise", "reserve-count-race", ("raise",)),
+    Finding("reserve-count-back-out", "reserve-count-back-out"),
 )
 
 
@@ -72,7 +75,7 @@ def version_of(told: str) -> str:
 def show(finding: Finding, kernel: Path, seconds: int, limit: int, room: Path) -> Shown:
     """Boots a kernel, and runs a reproducer on it."""
     program = built(finding, room)
-    words = (*finding.words, str(seconds)) if finding.words else ()
+    words = (*finding.words, *([str(seconds)] if finding.is_race else []))
     command = [RECORD / "emulate.sh", "--kernel", kernel, "--seconds", str(limit), "--run", program, *words]
     status, printed, told = outcome(command, room)
     version = version_of(told)

@@ -4,6 +4,7 @@ from __future__ import annotations
 from dataclasses import dataclass
 from pathlib import Path
 
+import races
 from compare import Script, scripts
 from kernel.problem import Problem
 
@@ -60,6 +61,26 @@ def scripts_of(suite: Suite) -> list[Script]:
 def has_races(some: list[Script]) -> bool:
     """Whether tasks race in some of the scripts, which then are judged by their counts at rest."""
     return any(line.startswith("race ") for it in some for line in it.lines)
+
+
+def race_calls(some: list[Script]) -> list[int]:
+    """How many calls a task makes in each race of some scripts."""
+    return [int(line.split()[2]) for it in some for line in it.lines if line.startswith("race ")]
+
+
+def shortened(some: list[Script], most: int) -> list[Script]:
+    """The scripts with at most so many calls of a task in a race."""
+    return [Script(it.name, it.header, [short_line(line, most) for line in it.lines]) for it in some]
+
+
+def short_line(line: str, most: int) -> str:
+    word, *rest = line.split()
+    return " ".join([word, rest[0], str(min(int(rest[1]), most)), *rest[2:]]) if word == "race" else line
+
+
+def in_order(some: list[Script]) -> list[Script]:
+    """The scripts of races, those with truncations last: only these can leave a wrong count, behind which the kernel is booted anew."""
+    return sorted(some, key=races.has_truncations)
 
 
 def has_overlaps(some: list[Script]) -> bool:

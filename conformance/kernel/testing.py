@@ -16,7 +16,7 @@ from kernel.known import Known, race_rule
 from kernel.machine import Machine
 from kernel.peers import broken_by
 from kernel.problem import Problem
-from kernel.suites import call_of, text_of
+from kernel.suites import call_of, in_order, race_calls, shortened, text_of
 
 # so many scripts are compared at a time
 AT_A_TIME = 2
@@ -31,6 +31,15 @@ class WrongCount:
     known: Known | None
 
 
+@dataclass(frozen=True)
+class Rounds:
+    """How much was raced: the races of all scripts, how many calls a task made in each at most, and how many the scripts have."""
+
+    races: int
+    calls: int
+    written: int
+
+
 @dataclass
 class Tested:
     """What a suite showed."""
@@ -40,6 +49,8 @@ class Tested:
     results: list[Result] = field(default_factory=list)
     wrong: list[WrongCount] = field(default_factory=list)
     seconds: float = 0.0
+    # of a suite of races, which is judged by its counts alone
+    rounds: Rounds | None = None
 
     @property
     def calls(self) -> int:
@@ -105,12 +116,20 @@ class Work:
     scripts: list[Script]
     has_races: bool
     asserted: list[Script] = field(default_factory=list)
+    # of races: at most so many calls of a task in each
+    most_calls: int | None = None
+
+    def asked(self) -> list[Script]:
+        """The scripts as they are made."""
+        if not self.has_races:
+            return self.scripts
+        return in_order(self.scripts if self.most_calls is None else shortened(self.scripts, self.most_calls))
 
 
 def tested(kernel: Kernel, machine: Machine, known: list[Known], work: Work) -> Tested:
     """What one suite shows."""
     began = time.monotonic()
-    version, answered = recorded(kernel, work.name, work.scripts, work.has_races)
+    version, answered = recorded(kernel, work.name, work.asked(), work.has_races)
     found = judged(Comparison(machine.program, version, known), work, answered)
     found.seconds = time.monotonic() - began
     name = work.name
@@ -123,12 +142,18 @@ def judged(comparison: Comparison, work: Work, answered: list[Script]) -> Tested
     found = Tested(work.name, comparison.version)
     if work.has_races:
         found.wrong = wrong_counts(answered, comparison.known)
+        found.rounds = rounds_of(work)
         found.results = [Result(it.name, len(it.lines), len(it.lines)) for it in answered]
         return found
     results = compared(comparison, answered)
     asserted = {it.name: it for it in work.asserted}
     found.results = [it.with_broken(broken_by(asserted.get(it.name), script)) for it, script in zip(results, answered)]
     return found
+
+
+def rounds_of(work: Work) -> Rounds:
+    made = race_calls(work.asked())
+    return Rounds(len(made), max(made, default=0), max(race_calls(work.scripts), default=0))
 
 
 def compared(comparison: Comparison, answered: list[Script]) -> list[Result]:

@@ -43,7 +43,7 @@ for pair in cc:build-essential qemu-system-x86_64:qemu-system-x86 cpio:cpio time
 done
 
 # (the guest's memory is a file, so that the log can be read out of it afterwards. On a host under load its timer may seem dead to its
-# kernel, hence no_timer_check)
+# kernel, hence no_timer_check. Without erms the kernel doesn't clear pages by rep stosb, at which an emulated processor is slow)
 work=$(mktemp -d "$([ -w /dev/shm ] && echo /dev/shm || echo "${TMPDIR:-/tmp}")/live-XXXXXX")
 machine=''
 clean() {
@@ -58,7 +58,7 @@ mkdir -p "$work/root/dev"
 cp "${words[0]}" "$work/root/workload"
 (cd "$work/root" && find . | cpio -o -H newc --quiet) > "$work/initramfs"
 status=0
-timeout "$seconds" qemu-system-x86_64 -accel tcg,thread=multi -cpu max -smp "$cpus" -m 1024M \
+timeout "$seconds" qemu-system-x86_64 -accel tcg,thread=multi -cpu max,-erms -smp "$cpus" -m 1024M \
     -object memory-backend-file,id=ram,size=1024M,mem-path="$work/ram",share=on -machine pc,memory-backend=ram \
     -nodefaults -no-user-config -display none -no-reboot -kernel "$kernel" -initrd "$work/initramfs" \
     -append 'console=ttyS0 quiet loglevel=4 panic=-1 no_timer_check memmap=480M$512M hugepages=0' \

@@ -42,6 +42,8 @@ class Job:
     rules: str
     is_split: bool
     program: Path | None
+    # whether its trace and its account are wanted, too
+    is_told: bool = False
 
 
 @dataclass
@@ -82,19 +84,36 @@ def check(job: Job) -> Checked:
 
 
 def summary(job: Job, placement: Attempt) -> Checked:
-    return Checked(
+    done = Checked(
         job.file, job.number, job.workload, len(job.run), sum(it.kind == "return" for it in job.run),
         placement.overlaps, placement.met, placement.visited, placement.notes, tuple(placement.defects),
-        error_at_rest(job.run), min(it.resv for it in job.run) < 0, trace=verdict.trace_of(placement), account=list(account(placement)),
+        error_at_rest(job.run), min(it.resv for it in job.run) < 0,
     )
+    if job.is_told:
+        done.trace, done.account = verdict.trace_of(placement), list(account(placement))
+    return done
 
 
 def jobs_of(given: argparse.Namespace) -> Iterator[Job]:
+    is_told = any(getattr(given, it, None) for it in ("account", "write", "trace"))
     for file in given.recordings:
         workloads = workload_of(file)
         for number, run in enumerate(recordings(file)):
             if given.only is None or given.only == number:
-                yield Job(file, number, run, workloads.get(run[0].about, file.name.split(".")[0]), given.rules, given.split, given.program)
+                workload = workloads.get(run[0].about, file.name.split(".")[0])
+                yield Job(file, number, run, workload, given.rules, given.split, given.program, is_told)
+
+
+# what the processes of a pool work on: they have it by the fork, since handing on each recording would take longer than to place it
+HELD: list = []
+
+
+def hold(given: list) -> None:
+    HELD[:] = given
+
+
+def check_held(number: int) -> Checked:
+    return check(HELD[number])
 
 
 def check_all(jobs: list[Job], processes: int) -> Iterator[Checked]:
@@ -102,8 +121,8 @@ def check_all(jobs: list[Job], processes: int) -> Iterator[Checked]:
     if len(jobs) < 8 or processes < 2:
         yield from map(check, jobs)
         return
-    with Pool(processes) as pool:
-        for number, it in enumerate(pool.imap(check, jobs, chunksize=8), 1):
+    with Pool(processes, hold, (jobs,)) as pool:
+        for number, it in enumerate(pool.imap(check_held, range(len(jobs)), chunksize=8), 1):
             if sys.stderr.isatty() and (number % 50 == 0 or number == len(jobs)):
                 print(f"\r\033[K{number} of {len(jobs)} recordings", end="" if number < len(jobs) else "\r\033[K", file=sys.stderr, flush=True)
             yield it

@@ -108,14 +108,19 @@ class Attempt(Pools):
             self.begin(racer, f"{CALLS[letter]} {event.a} {event.b} {event.c}")
         elif letter == "t":
             self.begin(racer, f"trunc {event.a} {event.b}")
-        elif letter == "u":
+        elif letter == "u" and not self.is_unmade(racer):
             self.begin(racer, f"unmap {event.a}")
         if racer.removes:
             racer.batches, racer.looked, racer.is_seen = self.batches_of(racer), 0, False
 
+    def is_unmade(self, racer: Racer) -> bool:
+        """Whether a task doesn't make its unmap, since the map before it was refused and there is none with that base."""
+        then = self.next_of(racer)
+        return then is not None and then.kind == "return" and chr(then.about) == "x"
+
     def on_return(self, racer: Racer, event: Event) -> None:
         kind = chr(event.about)
-        if racer.letter == "u":
+        if racer.letter == "u" and kind != "x":
             for outcome in ("moved clear", "moved drop", "ended done"):
                 self.step(racer, "unmap", outcome)
         if kind == "g":
@@ -414,6 +419,7 @@ class Attempt(Pools):
         then = self.next_of(racer)
         if not (then and then.kind == "account" and then.b != 0):
             self.on_account(racer, event._replace(kind="account", a=-event.a, b=0))
+        self.drop_unused(event)
 
     def on_take(self, racer: Racer, event: Event) -> None:
         call, resv = self.call(racer), self.machine.resv
@@ -533,7 +539,7 @@ def answer_of(racer: Racer, kind: str, number: int) -> str:
     if kind == "e":
         known = (racer.answer, number) in (("nomemory", 12), *((answer, one) for answer in ("noframe", "noquota") for one in (12, 28)))
         return racer.answer if known else f"errno {number}"
-    return {"d": "done", "g": "segv"}.get(kind, f"?{kind}")
+    return {"d": "done", "g": "segv", "x": ""}.get(kind, f"?{kind}")
 
 
 def placed(run: Recording, machine: type[Machine] = Machine, is_split: bool = False, policies: tuple[str, ...] = POLICIES) -> Attempt:

@@ -14,6 +14,7 @@ RULES = {
     "U": "an unreserved page that is backed out takes its index out of the map again",
     "Q": "the quota has a lock of its own: it is asked before the reserve count, and given back apart from it",
     "I": "an allocation that is interrupted extends the file as one that was done",
+    "L": "a touch or an allocation that finds no page keeps what it took of the quota",
     "R": "pages over a pool's size stay until they become free, and a resize counts those first",
 }
 # so many pages Linux 6.1 looks up at once; later versions log their number
@@ -50,6 +51,12 @@ class LinuxRows(Machine):
 
     def give_up(self, number: int) -> None:
         self.use(-number)
+
+    # L: the quota of a page that wasn't had (by Q it is used already)
+
+    def leak(self, number: int) -> None:
+        if not self.has("Q"):
+            self.used += number
 
     def is_refused(self, call: Call) -> bool:
         return call.is_over_quota or self.exceeds_quota(call.missing)

@@ -6,12 +6,16 @@ else the task's end: until then a killed task does what any other does.
 """
 from __future__ import annotations
 
+from typing import Callable
+
 from machine import Call, Outcome
-from placing import Divergence, NotUnderstood, Racer
-from recordings import Event
+from placing import MAPS, Divergence, NotUnderstood, Racer
+from recordings import NONE, Event
 from removals import Removals
 
 INTERRUPTED = -4
+# by how much an event changes the number of free pages
+CHANGES_FREE = {"take": -1, "free": 1, "grow": 1}
 
 
 class Pools(Removals):
@@ -74,9 +78,14 @@ class Pools(Removals):
             self.put_by[event.thread] = 0
 
     def check_leak(self, racer: Racer) -> None:
-        """A call that was refused a frame has given back what it took of the quota. (conformance/known/quota-leak.toml: some kernels don't.)"""
-        if self.machine.quota is not None and racer.charged:
+        """A call that was refused a frame has given back what it took of the quota. By the rule L it keeps that, unless it is a map."""
+        if self.machine.quota is None or not racer.charged:
+            return
+        if "L" not in self.rules or racer.letter in MAPS:
             raise Divergence("quota leaked", f"task {racer.number} found no free page, and keeps what it took of the quota")
+        self.machine.leak(racer.charged)
+        racer.charged = 0
+        self.notes["a page of the quota leaked"] += 1
 
     def short(self, racer: Racer) -> str:
         """What it means if Linux and the machine differ on whether a count suffices."""
@@ -86,14 +95,19 @@ class Pools(Removals):
 
     # resizes
 
-    def resize(self, frames: int, told: int) -> None:
+    def retire(self, line: str, wanted: str, act: Callable[[], Outcome]) -> str:
+        """A row behind which frames may be gone: their pages are no longer those of frames."""
         before = set(self.machine.free)
-        line, wanted = f"resize {frames}", f"resized {told}"
-        outcome = self.make(None, line, (wanted,), lambda: self.machine.resize(frames))
+        outcome = self.make(None, line, (wanted,), act)
         for gone in before - self.machine.free:
             self.page_of.pop(gone, None)
+        return outcome
+
+    def resize(self, frames: int, told: int) -> None:
+        line, wanted = f"resize {frames}", f"resized {told}"
+        outcome = self.retire(line, wanted, lambda: self.machine.resize(frames))
         if outcome != wanted:
-            raise Divergence("resize", f"{line}: the machine {outcome!r}, Linux as {wanted!r}")
+            raise Divergence(f"resize{self.because()}", f"{line}: the machine {outcome!r}, Linux as {wanted!r}")
 
     def on_grow(self, racer: Racer | None, event: Event) -> None:
         """One more page."""
@@ -119,7 +133,7 @@ class Pools(Removals):
             return
         if event.a > self.machine.active - self.machine.surplus:
             self.machine.surplus = self.machine.active - event.a
-        outcome = self.make(None, f"resize {event.a}", (f"resized {event.b}",), lambda: self.machine.shrink(event.a))
+        outcome = self.retire(f"resize {event.a}", f"resized {event.b}", lambda: self.machine.shrink(event.a))
         self.same("size of the pool", outcome, f"resized {event.b}")
         self.same("pages over the size", self.machine.surplus, event.c)
 
@@ -134,9 +148,17 @@ class Pools(Removals):
         if "R" not in self.rules:
             raise Divergence("pages over the size", f"pfn {event.a} becomes free, and leaves the pool")
         self.make_free(racer, event)
-        self.make(None, f"resize {self.machine.active - 1}", (f"resized {event.c}",), self.leave_the_pool)
+        self.retire(f"resize {self.machine.active - 1}", f"resized {event.c}", self.leave_the_pool)
         self.same("size of the pool", self.machine.active, event.c)
         self.same_counts(event)
+
+    def drop_unused(self, event: Event) -> None:
+        """By the rule R free pages over the size leave the pool with the reservations that are given back. Linux logs nothing of it, but
+        the next event has fewer free pages. (A resize that grows the pool begins by taking the pages over the size in, unlogged, too.)"""
+        then = self.run[event.number - self.run[0].number + 1]
+        gone = event.free + CHANGES_FREE.get(then.kind, 0) * (then.b != NONE) - then.free
+        for _ in range(gone if "R" in self.rules and 0 < gone <= min(event.a, self.machine.surplus) else 0):
+            self.retire(f"resize {self.machine.active - 1}", f"resized {self.machine.active - 1}", self.leave_the_pool)
 
     def leave_the_pool(self) -> Outcome:
         self.machine.retire()

@@ -9,7 +9,7 @@ in an emulated machine, and compares each recording with the machine. At the end
 each workload how many recordings are whole, by the machine alone and with Linux's own rows (check.py --help lists these), and by what
 the others leave the machine.
 
-  --workloads N ..  the workloads to run, of workloads/ (plain trunc bug quota kills resizes denied)
+  --workloads N ..  the workloads to run, of workloads/ (plain trunc bug quota kills resizes denied pools)
   --share N         make one in N of each workload's recordings (1)
   --cpus N          processors of the emulated machine (4)
   --jobs N          processes that build and check (all processors)
@@ -24,7 +24,7 @@ built; 127 something is missing."
 
 here=$(cd "$(dirname "$(readlink -f "${BASH_SOURCE[0]}")")" && pwd)
 version='' cpus=4 jobs=$(nproc) program='' only='' folder='' share=1
-workloads=(plain trunc bug quota kills resizes denied)
+workloads=(plain trunc bug quota kills resizes denied pools)
 
 say() { echo "race: $*" >&2; }
 

@@ -19,6 +19,13 @@ from pathlib import Path
 import check
 from recordings import workload_file
 
+# the rule of Linux's (check.py --help) that shows in each way to leave the machine
+RULE_OF = {
+    "bare index not waited for": "B", "short, a frame is freed late": "F", "page found at or above the size": "P", "size looked at once": "S",
+    "bare index not waited for, of a truncation": "T", "raise refused": "N", "denied change": "D", "denied delete": "D", "backed out": "U",
+    "quota asked apart": "Q", "quota given back apart": "Q", "quota leaked": "L", "interrupted and extended": "I", "pages over the size": "R",
+    "resize, a frame is freed late": "F",
+}  # fmt: skip
 HEAD = f"{'workload':<10} {'recordings':>10} {'calls':>8} {'events':>9} {'overlaps':>8} {'alone':>6} {'rules':<11} {'whole':>6} {'wrong count at rest':>19}"
 
 
@@ -61,7 +68,15 @@ def are_whole(done: list[check.Checked]) -> int:
 def show_kinds(what: str, done: list[check.Checked]) -> None:
     for kind, number in Counter(it.kind for it in done if it.kind).most_common():
         least = min((it for it in done if it.kind == kind), key=lambda it: it.at)
-        print(f"{what}: {number} first leave it by: {kind} (smallest: {least.file.name} #{least.number}, after {least.at} events)")
+        rule = f"rule {RULE_OF[kind]}; " if kind in RULE_OF else ""
+        print(f"{what}: {number} first leave it by: {kind} ({rule}smallest: {least.file.name} #{least.number}, after {least.at} events)")
+
+
+def show_rules(done: list[check.Checked]) -> None:
+    """How many recordings first leave the machine by each rule."""
+    counts = Counter(RULE_OF.get(it.kind, "no rule") for it in done if it.kind)
+    if counts:
+        print("the machine is first left by rule:", ", ".join(f"{rule} {number}" for rule, number in sorted(counts.items())))
 
 
 def show(lines: list[Line], kernel: str, program: Path | None) -> None:
@@ -72,6 +87,7 @@ def show(lines: list[Line], kernel: str, program: Path | None) -> None:
     alone, whole = ([one for it in lines for one in getattr(it, side)] for side in ("alone", "whole"))
     print(row("all", "", alone, whole))
     show_kinds("the machine", alone)
+    show_rules(alone)
     show_kinds("Linux's rows", whole)
     for it in alone:
         if it.disagreement:

@@ -48,7 +48,18 @@ class Expected(NamedTuple):
 UNTRUNCATED = ("plain", "settle", "settles")
 UNTRUNCATED_612 = tuple(f"6.12/{it}" for it in UNTRUNCATED)
 WITHOUT_REMOVALS = ("p.touches2", "p.touches3", "p.touches4", "p.maps", "p.alloc3")
-OF_THE_POOL = ("6.12/quota", "6.12/kills", "6.12/resizes", "6.12/denied")
+# workloads of the pool, with Linux's own rows for each
+OF_THE_POOL = {"quota": "BFPSTNQ", "kills": "BFPSTNI", "resizes": "BFPSTNR", "denied": "BFND"}
+
+
+def of_the_pool(kernel: str, folder: str, rules: dict[str, str], numbers: dict[str, int], alone: int) -> Iterator[Expected]:
+    """What one kernel's recordings of the pool have to be: so many of each workload, all whole with Linux's rows, and so many without."""
+    every = tuple(f"{folder}{name}" for name in numbers)
+    yield Expected(f"{kernel}: {', '.join(numbers)}; punches split", every, "", True, sum(numbers.values()), alone)
+    for name, number in numbers.items():
+        yield Expected(f"{kernel}: {name}, Linux's rows", (f"{folder}{name}",), rules[name], False, number, number)
+
+
 EXPECTED = (
     Expected("no truncation, punches split", UNTRUNCATED, "", True, 3300, 3273, 950),
     Expected("no truncation, Linux's rows", UNTRUNCATED, "BF", False, 3300, 3300),
@@ -58,11 +69,9 @@ EXPECTED = (
     Expected("6.12: no truncation, Linux's rows", UNTRUNCATED_612, "BF", False, 708, 708),
     Expected("6.12: truncations, Linux's rows", ("6.12/trunc", "6.12/bug", "6.12/wide"), "BFPSTN", False, 106, 106),
     Expected("6.12: refused memory, Linux's rows", ("6.12/inject", "6.12/backed"), "BFUDN", False, 36, 36),
-    Expected("6.12: quotas, kills, resizes, denied deletions; punches split", OF_THE_POOL, "", True, 333, 257),
-    Expected("6.12: quotas, Linux's rows", ("6.12/quota",), "BFPSTNQ", False, 114, 114),
-    Expected("6.12: kills and exits, Linux's rows", ("6.12/kills",), "BFPSTNI", False, 91, 91),
-    Expected("6.12: resizes, Linux's rows", ("6.12/resizes",), "BFPSTNR", False, 70, 70),
-    Expected("6.12: denied deletions, Linux's rows", ("6.12/denied",), "BFND", False, 58, 58),
+    *of_the_pool("6.1", "", OF_THE_POOL | {"pools": "BFPSTNQR"}, {"quota": 164, "kills": 140, "resizes": 120, "denied": 120, "pools": 144}, 487),
+    *of_the_pool("7.3-rc7", "7.3/", OF_THE_POOL | {"quota": "BFPSTNQL"}, {"quota": 164, "kills": 140, "resizes": 120, "denied": 120}, 374),
+    *of_the_pool("6.12", "6.12/", OF_THE_POOL, {"quota": 114, "kills": 91, "resizes": 70, "denied": 58}, 257),
 )
 # wrong machines are tried on every so many of the recordings that they name
 EVERY = 4
@@ -122,11 +131,18 @@ def is_noticed(given: tuple[Recording, int, type[Attempt]]) -> bool:
     return attempt.fault is not None and not (is_blind and attempt.fault.kind == "no row")
 
 
+def is_held_noticed(number: int) -> bool:
+    return is_noticed(check.HELD[number])
+
+
+def noticed_of(given: list[tuple[Recording, int, type[Attempt]]], processes: int) -> list[bool]:
+    with Pool(processes, check.hold, (given,)) as pool:
+        return pool.map(is_held_noticed, range(len(given)), chunksize=20)
+
+
 def how_often(runs: list[Recording], numbers: Iterable[int], comparison: type[Attempt], processes: int) -> Counter[int]:
     given = [(run, number, comparison) for number in numbers for run in runs]
-    with Pool(processes) as pool:
-        noticed = pool.map(is_noticed, given, chunksize=50)
-    return Counter(number for (_, number, _), it in zip(given, noticed) if it)
+    return Counter(number for (_, number, _), it in zip(given, noticed_of(given, processes)) if it)
 
 
 def swap(run: Recording, rng: random.Random, kinds: tuple[str, ...]) -> Recording | None:
@@ -152,12 +168,12 @@ def may_be_swapped(run: Recording, one: int, other: int, kinds: tuple[str, ...])
     return meet and any(it.kind != "change" and it.c > 0 for it in (first, second))
 
 
-def swaps(runs: list[Recording]) -> Iterator[tuple[bool, str]]:
+def swaps(runs: list[Recording], processes: int) -> Iterator[tuple[bool, str]]:
     """Of nearly all recordings a swap has to be noticed. Some change nothing that anybody can see."""
     rng = random.Random(1)
     for what, kinds in SWAPPED.items():
         swapped = [it for it in (swap(run, rng, kinds) for run in runs) if it]
-        noticed = sum(is_noticed((it, -1, Attempt)) for it in swapped)
+        noticed = sum(noticed_of([(it, -1, Attempt) for it in swapped], processes))
         yield len(swapped) > 5 and noticed >= 0.8 * len(swapped), f"two events swapped, {what}: {noticed} of {len(swapped)} are noticed"
 
 
@@ -268,7 +284,7 @@ def results(program: Path | None, processes: int) -> Iterator[tuple[bool, str]]:
     for it in EXPECTED:
         yield from replayed(it, program, processes)
     yield from wrong_machines(processes)
-    yield from swaps(runs_of(Base.tried))
+    yield from swaps(runs_of(Base.tried), processes)
     yield from same_answers(program, 300)
 
 

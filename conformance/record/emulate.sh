@@ -20,16 +20,17 @@ output. The kernel of the machine that it runs on is left alone, and nobody has 
   --cpus N      that many processors (2)
   --memory MIB  that much memory (768)
   --seconds N   ends a machine that isn't done by then (900)
+  --boot-seconds N  ends a machine on which the recorder hasn't begun by then (120)
   --accel NAME  kvm or tcg (kvm where /dev/kvm may be used and this machine isn't a virtual one)
 
-A script that leaves the kernel's own reserve count wrong is the last one of its machine: another one is booted for
-the rest. KIRVESSA_CACHE is where kernels are kept (~/.cache/kirvessa).
+A kernel that panics or hangs before the recorder begins is booted again, three times in all. A script that leaves the
+kernel's own reserve count wrong is the last one of its machine: another one is booted for the rest. KIRVESSA_CACHE is where kernels are kept (~/.cache/kirvessa).
 Status: 0 all is recorded; 1 something failed, or differs; 2 a wrong word or script; 127 something is missing."
 
 here=$(cd "$(dirname "$(readlink -f "${BASH_SOURCE[0]}")")" && pwd)
 cache=${KIRVESSA_CACHE:-${XDG_CACHE_HOME:-$HOME/.cache}/kirvessa}
 package=linux-image-cloud-amd64
-kernel='' cpus=2 memory=768 seconds=900 accel='' is_again='' is_install='' program=''
+kernel='' cpus=2 memory=768 seconds=900 boot_seconds=120 accel='' is_again='' is_install='' program=''
 files=()
 
 say() { echo "emulate: $*" >&2; }
@@ -45,8 +46,8 @@ number() { [[ $2 =~ ^[1-9][0-9]*$ ]] || misuse "$1 wants a number, not '$2'"; }
 read_words() {
     while [ $# -gt 0 ]; do
         case $1 in
-        --kernel | --package | --cpus | --memory | --seconds | --accel | --run) [ $# -gt 1 ] || misuse "$1 wants a word behind it" ;;&
-        --cpus | --memory | --seconds) number "$1" "$2" ;;&
+        --kernel | --package | --cpus | --memory | --seconds | --boot-seconds | --accel | --run) [ $# -gt 1 ] || misuse "$1 wants a word behind it" ;;&
+        --cpus | --memory | --seconds | --boot-seconds) number "$1" "$2" ;;&
         --again) is_again=1 ;;
         --install) is_install=1 ;;
         --kernel) kernel=$2; shift ;;
@@ -54,6 +55,7 @@ read_words() {
         --cpus) cpus=$2; shift ;;
         --memory) memory=$2; shift ;;
         --seconds) seconds=$2; shift ;;
+        --boot-seconds) boot_seconds=$2; shift ;;
         --accel) accel=$2; shift ;;
         --run) program=$2; shift ;;
         -h | --help) echo "$usage"; exit 0 ;;
@@ -136,40 +138,66 @@ pack() {
         (cd "$root" && find . | cpio -o -H newc --quiet) > "$work/initramfs"
 }
 
-# Whether the kernel stopped before it ran the program, so that no call was made.
-is_unbegun() { [ "$ended" = 0 ] && ! grep -q '^record: \|^reproducer: ' "$work/told"; }
+# Whether the recorder runs, or has run, so that calls were made.
+has_begun() { grep -q '^record: \|^reproducer: ' "$work/told"; }
 
-# Boots a machine in which the recorder runs with these words. A kernel that stops before it runs the recorder is booted again, twice at
-# most: emulated, Linux 6.12 panics in one of four boots or so while it patches its own text (do_sync_core). Behind the first call
-# nothing is tried again.
+# Whether the kernel stopped or hung before it ran the recorder.
+is_unbegun() { [ "$ended" = 0 ] || [ "$ended" = hung ] && ! has_begun; }
+
+# Boots a machine in which the recorder runs with these words. A kernel that stops or hangs before it runs the recorder is booted again,
+# twice at most: emulated, Linux 6.12 panics in one of four boots or so while it patches its own text (do_sync_core), and now and then
+# one hangs. Behind the first call nothing is tried again.
 boot() {
     local attempt
     for attempt in 1 2; do
         if boot_once "$@"; then return 0; fi
         is_unbegun || return 1
-        say "the kernel stopped before it ran the recorder: booting it again, attempt $((attempt + 1)) of 3"
+        say "the kernel $([ "$ended" = 0 ] && echo stopped || echo hung) before it ran the recorder: booting it again, attempt $((attempt + 1)) of 3"
     done
     boot_once "$@"
 }
 
-# What is recorded is in $work/recorded then, what the recorder told in $work/told, what the kernel told in $work/console.
+# Waits until the machine has ended. One on which the recorder doesn't begin in time is ended.
+await_machine() {
+    local last=$((SECONDS + (boot_seconds < seconds ? boot_seconds : seconds)))
+    ended=0
+    while kill -0 "$machine" 2> /dev/null && ! has_begun; do
+        if [ "$SECONDS" -ge "$last" ]; then
+            kill "$machine"
+            ended=hung
+            break
+        fi
+        sleep 0.2
+    done
+    if [ "$ended" = hung ]; then
+        wait "$machine" || true
+    else
+        wait "$machine" || ended=$?
+    fi
+    machine=''
+}
+
+# (Where rep stosb is announced as fast (erms), the kernel clears pages with it, and an emulated processor is slow at that: without it a
+# race takes a third of the time.) What is recorded is in $work/recorded then, what the recorder told in $work/told, what the kernel told in $work/console.
 boot_once() {
-    local status=0
     rm -f "$work"/{recorded,told,console}
     touch "$work"/{recorded,told,console}
-    timeout "$seconds" qemu-system-x86_64 -machine pc -accel "$accel" -cpu max -m "$memory" -smp "$cpus" \
+    timeout "$seconds" qemu-system-x86_64 -machine pc -accel "$accel" -cpu max,-erms -m "$memory" -smp "$cpus" \
         -nodefaults -no-user-config -display none -no-reboot -kernel "$kernel" -initrd "$work/initramfs" \
         -append "console=ttyS0 quiet panic=-1 no_timer_check -- $*" \
         -serial file:"$work/console" -serial file:"$work/recorded" -serial file:"$work/told" < /dev/null >&2 &
     machine=$!
-    wait "$machine" || status=$?
-    machine='' ended=$status
+    await_machine
     grep -v '^status ' "$work/told" >&2 || true
-    if [ "$status" = 124 ]; then
+    if [ "$ended" = hung ]; then
+        say "the recorder hadn't begun after $((boot_seconds < seconds ? boot_seconds : seconds)) seconds; its console's last lines:"
+        tail -n 20 "$work/console" >&2
+        return 1
+    elif [ "$ended" = 124 ]; then
         say "the machine wasn't done after $seconds seconds"
         return 1
-    elif [ "$status" != 0 ] || ! grep -qx 'status [0-9]*' "$work/told"; then
-        say "the machine ended before the recorder did (status $status); its console's last lines:"
+    elif [ "$ended" != 0 ] || ! grep -qx 'status [0-9]*' "$work/told"; then
+        say "the machine ended before the recorder did (status $ended); its console's last lines:"
         tail -n 20 "$work/console" >&2
         return 1
     fi

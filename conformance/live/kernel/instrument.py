@@ -97,6 +97,10 @@ def quotas(file: Source) -> None:
               r"hp_log(HP_QUOTA, 0, delta, spool->used_hpages, ret < 0); \g<0> hp_pause(40);")
     file.edit("hugepage_subpool_put_pages", r"unlock_or_release_subpool\(spool, flags\);",
               r"hp_log(HP_QUOTA, 0, -delta, spool->used_hpages, 0); \g<0> hp_pause(41);")
+    if file.has("spool->used_hpages -= gbl_reserve;"):
+        # (a refused map of later versions gives its pages back by itself)
+        file.edit("hugetlb_reserve_pages", r"unlock_or_release_subpool\(spool, flags\);",
+                  r"hp_log(HP_QUOTA, 0, -gbl_reserve, spool->used_hpages, 0); \g<0> hp_pause(42);")
 
 
 def resizes(file: Source, page: str) -> None:
