@@ -10,6 +10,7 @@ from typing import Iterable, NamedTuple
 from marks import Marks, hash_of
 from scratch import TOP
 
+
 class Ran(NamedTuple):
     """A run's status and both streams."""
 
