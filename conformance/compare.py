@@ -3,7 +3,7 @@
 
 usage: compare.py [FILE ..]
 
-Reads the files, which may be packed (.xz), or all calls-*.txt beside this program.
+Reads the files, which may be packed (.xz), or all calls-*.txt beside this program, of which none may lack a script or a call.
 Each line of a script is one call that ran to its end, or a resize of the pool, with what the kernel said then:
 `begin T OP = ANSWER | FREE RESV | SIZE PAGES, .. | ENTRIES ..` (one `SIZE PAGES` a file, one number of
 translations a task), and behind it ` | used U` where the pool has a quota, or ` | total T surplus S` once it was
@@ -31,6 +31,9 @@ LIMIT = 4096
 KNOWN = "known"
 # a resize that leaves more pages than were asked for, or asks for none
 SURPLUS = "surplus"
+
+# how many scripts and calls the files beside this program have, so that none is lost unnoticed
+RECORDED = {"calls-fixed.txt": (33, 177), "calls-random.txt": (200, 6737), "calls-quota.txt": (31, 878), "calls-resize.txt": (31, 968)}
 
 # a byte call, which the machine doesn't have, and a call beside others, whose order isn't told
 NO_TRACE = re.compile(r"begin \d+ x|start ")
@@ -226,6 +229,12 @@ def compare(program: Program, script: Script) -> tuple[int, str | None]:
     return len(script.lines), None
 
 
+def lost(name: str, file: list[Script]) -> list[str]:
+    """That this file of ours hasn't the scripts and calls that were recorded, if it hasn't."""
+    has, had = (len(file), sum(len(script.lines) for script in file)), RECORDED[name]
+    return [] if has == had else [f"{name} has {has[0]} scripts of {has[1]} calls, and not {had[0]} of {had[1]}"]
+
+
 def build() -> None:
     """Builds the program, which proves it."""
     subprocess.run([TOP / "hugepool", "--help"], env={**os.environ, "HUGEPOOL": "proved"}, stdout=subprocess.DEVNULL, check=True)
@@ -233,10 +242,11 @@ def build() -> None:
 
 def main(paths: list[Path]) -> int:
     # (a file that can't be read is reported before the program is built, which may take long)
-    files = [list(scripts(path)) for path in paths or sorted(Path(__file__).parent.glob("calls-*.txt"))]
+    files = [(path.name, list(scripts(path))) for path in paths or map(Path(__file__).with_name, RECORDED)]
     build()
-    total, asked, calls, known, surplus, different = 0, 0, 0, 0, 0, []
-    for file in files:
+    total, asked, calls, known, surplus = 0, 0, 0, 0, 0
+    different = [] if paths else [it for name, file in files for it in lost(name, file)]
+    for _, file in files:
         for script in file:
             agreed, difference = compare(replayed, script)
             total, asked, calls = total + 1, asked + len(script.lines), calls + agreed
