@@ -20,7 +20,7 @@ machine() {
 
 {
     printf '# Benchmarks\n\nWritten by `bench/all.sh`, in one run.\n%s\n' "$(machine)"
-    for bench in replay steps explore pool; do
+    for bench in replay steps explore pool library; do
         echo "bench/$bench.sh" >&2
         printf '\n## `bench/%s.sh`\n\n%s\n\n```text\n' "$bench" "$(told "bench/$bench.sh")"
         "bench/$bench.sh"

@@ -11,13 +11,16 @@ usage: ./check [STEP] [..]
                      (--all: all); then faulty mutants that must be reported, and docs/INDEX.md.
                      Of crates that are named all mutants; --each prints a line for each
   ./check examples   the output of the traces of examples/, which no single output shows, of each command's help, and of each wrong
-                     field of a line; a long race, and its trace; that the programs compiled without proof print the same; when ./hugepool
-                     builds; what ./check itself counts; the names in documents; with cargo, some seconds of random and damaged
-                     traces beside a plain program
+                     field of a line; a long race, and its trace; that the programs compiled without proof print the same, that a
+                     journal that goes wrong and a flush that fails are found (needs cc); when ./hugepool builds; what ./check
+                     itself counts; the names in documents; with cargo, each size beside plain programs, and some seconds of random
+                     and damaged traces
   ./check refusals   a failed allocation, read or write at each place where programs and drivers make one, one a run, and how many
-                     threads the commands start (needs cc)
-  ./check linux      what Linux kernels answered (conformance/), peers' tests, recordings of races, and the recorder, as far as it
-                     needs no kernel (needs cc)
+                     threads the commands start, and that those of a race meet (needs cc)
+  ./check linux      what Linux kernels answered (conformance/), peers' tests, recordings of races, those that hp_linux follows, a few
+                     races in every schedule, and the recorder, as far as it needs no kernel (needs cc)
+  ./check library    libhugepool: its header beside definitions and sources, and programs in C, Rust and Python that call it, with
+                     sanitizers and with each growth of memory refused (needs cc; for Rust cargo, for Python pytest)
   ./check quick      before a commit: the format of changed texts; proofs and tests of what changed; whether each mutant applies
 
 First it lists the commands that are missing. At the end it prints what each step took, and what was left out.
@@ -49,6 +52,7 @@ SCRIPTS = {
     "edits": ("gate/try_edits.py", "gate/test_edits.py", "gate/index.py"),
     "examples": (
         "gate/examples.py",
+        "gate/sweep.py",
         "gate/showing.py",
         "gate/soak.py",
         "gate/unproved.py",
@@ -63,6 +67,9 @@ SCRIPTS = {
         "conformance/compare.py",
         "conformance/races.py",
         "conformance/live/test_check.py",
+        "conformance/live/lines.py",
+        "conformance/live/lost.py",
+        "conformance/live/repairs.py",
         "conformance/live/test_instrument.py",
         "conformance/test_compare.py",
         "conformance/test_record.py",
@@ -70,16 +77,30 @@ SCRIPTS = {
         "conformance/test_peers.py",
         "conformance/test_versions.py",
     ),
+    "library": ("library/header.py", "library/check.py"),
     "quick": ("rt check and test", "gate/documents.py"),
 }
 # the commands that scripts need, each with its Debian package and what is left out without it; without the first two nothing runs
 NEEDS = {
     "rt": ("the Rattle toolchain, which is no package of Debian's", ()),
     "find": ("findutils", ()),
-    "cc": ("gcc", ("gate/growths.py", "conformance/test_record.py", "conformance/test_kernel.py")),
-    "cargo": ("cargo", ("bench/fuzz.sh", "conformance/test_kernel.py", "conformance/test_peers.py", "conformance/test_versions.py")),
+    "cc": (
+        "gcc",
+        (
+            "gate/growths.py",
+            "gate/unproved.py",
+            "conformance/test_record.py",
+            "conformance/test_kernel.py",
+            "library/header.py",
+            "library/check.py",
+        ),
+    ),
+    "cargo": (
+        "cargo",
+        ("gate/sweep.py", "bench/fuzz.sh", "conformance/test_kernel.py", "conformance/test_peers.py", "conformance/test_versions.py"),
+    ),
 }
-WHOLE = ("ci", "edits", "examples", "refusals", "linux")
+WHOLE = ("ci", "edits", "examples", "refusals", "linux", "library")
 # of more crates than these the toolchain proves all; of fewer so many are begun at a time, since one may take several processors
 MANY, AT_A_TIME = 12, 2
 PIPED = {"stdin": subprocess.DEVNULL, "stdout": subprocess.PIPE, "stderr": subprocess.STDOUT, "text": True, "errors": "replace"}
@@ -246,7 +267,7 @@ def scripts(name: str) -> Callable[[Gate, list[str]], bool]:
     return lambda gate, _: all([gate.script(name, it) for it in SCRIPTS[name]])
 
 
-STEPS = {"ci": ci, "edits": edits, **{it: scripts(it) for it in ("examples", "refusals", "linux")}, "quick": quick}
+STEPS = {"ci": ci, "edits": edits, **{it: scripts(it) for it in ("examples", "refusals", "linux", "library")}, "quick": quick}
 
 
 def run_steps(gate: Gate, words: list[str]) -> None:

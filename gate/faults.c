@@ -5,6 +5,9 @@
  * FAULT_READ, FAULT_WRITE: the Nth read of standard input or write to standard output fails; all others are made.
  * FAULT_TOLD: a file descriptor that gets one byte for the fault: 'm' for memory, 't' for a thread, 'r' for a read, 'w' for a write.
  * Where FAULT_GROWTH is -1 it gets 's' for each thread that is started.
+ * FAULT_MEET: so many threads meet, three times: where each but the one that is started last, which doesn't begin before, has let others go
+ * first (sched_yield) TURNS times, and twice where each of all does so again. FAULT_TOLD gets 'm' when they have, and 'x' where some don't
+ * come within SECONDS; nobody is held any more then. FAULT_AFTER: so many threads are started before.
  */
 #define _GNU_SOURCE
 #include <dlfcn.h>
@@ -13,6 +16,8 @@
 #include <stdatomic.h>
 #include <stddef.h>
 #include <stdlib.h>
+#include <sys/syscall.h>
+#include <time.h>
 #include <unistd.h>
 
 typedef int make_thread(pthread_t *, const pthread_attr_t *, void *(*)(void *), void *);
@@ -30,6 +35,8 @@ static make_thread *thread_of_the_system;
 static atomic_long calls[KINDS];
 static long failing[KINDS];
 static int told = -1;
+/* how many threads meet, and how many are started before */
+static long meeting, after;
 static _Thread_local int is_inside;
 
 static long number(const char *name, long otherwise) {
@@ -45,6 +52,8 @@ __attribute__((constructor)) static void begin(void) {
     failing[READ] = number("FAULT_READ", 0);
     failing[WRITE] = number("FAULT_WRITE", 0);
     failing[GROWTH] = number("FAULT_GROWTH", 0);
+    meeting = number("FAULT_MEET", 0);
+    after = number("FAULT_AFTER", 0);
 }
 
 static void tell(char letter) {
@@ -100,6 +109,82 @@ ssize_t write(int file, const void *bytes, size_t count) {
     return file == STDOUT_FILENO && fails(WRITE, 'w', ENOSPC) ? -1 : __write(file, bytes, count);
 }
 
+enum { TURNS = 100, SECONDS = 10 };
+
+/* How many threads were started, how many are at this meeting, how many meetings were and how many are left. */
+static long started, there, met, left = 3;
+static pthread_mutex_t lock = PTHREAD_MUTEX_INITIALIZER;
+static pthread_cond_t all_met = PTHREAD_COND_INITIALIZER;
+/* how often this thread let others go first */
+static _Thread_local int turns;
+
+/* Waits until all have come to this meeting. The lock is held. */
+static void meet(void) {
+    struct timespec end;
+    clock_gettime(CLOCK_REALTIME, &end);
+    end.tv_sec += SECONDS;
+    long before = met;
+    there += 1;
+    if (there == meeting) {
+        there = 0;
+        met += 1;
+        left -= 1;
+        pthread_cond_broadcast(&all_met);
+    }
+    if (met != before && left == 0) {
+        tell('m');
+    }
+    while (met == before && left > 0) {
+        if (pthread_cond_timedwait(&all_met, &lock, &end) == ETIMEDOUT && met == before && left > 0) {
+            left = 0;
+            tell('x');
+            pthread_cond_broadcast(&all_met);
+        }
+    }
+}
+
+int sched_yield(void) {
+    pthread_mutex_lock(&lock);
+    if (meeting > 0 && started > after && left > 0) {
+        turns += 1;
+        if (turns >= TURNS) {
+            meet();
+        }
+    }
+    pthread_mutex_unlock(&lock);
+    return (int)syscall(SYS_sched_yield);
+}
+
+/* What the thread that is started last does. */
+struct last {
+    void *(*run)(void *);
+    void *with;
+};
+
+static struct last last;
+
+static void *run_last(void *with) {
+    (void)with;
+    pthread_mutex_lock(&lock);
+    turns = TURNS;
+    meet();
+    pthread_mutex_unlock(&lock);
+    return last.run(last.with);
+}
+
+/* Starts a thread, which waits for the others where it is the last of those that meet. */
+static int start(pthread_t *thread, const pthread_attr_t *how, void *(*run)(void *), void *with) {
+    pthread_mutex_lock(&lock);
+    started += 1;
+    int is_last = meeting > 0 && started == after + meeting - 1;
+    pthread_mutex_unlock(&lock);
+    if (!is_last) {
+        return thread_of_the_system(thread, how, run, with);
+    }
+    last = (struct last){run, with};
+    return thread_of_the_system(thread, how, run_last, NULL);
+}
+
 int pthread_create(pthread_t *thread, const pthread_attr_t *how, void *(*run)(void *), void *with) {
     if (fails(GROWTH, 't', EAGAIN)) {
         return EAGAIN;
@@ -108,7 +193,7 @@ int pthread_create(pthread_t *thread, const pthread_attr_t *how, void *(*run)(vo
         tell('s');
     }
     is_inside = 1;
-    int answer = thread_of_the_system(thread, how, run, with);
+    int answer = start(thread, how, run, with);
     is_inside = 0;
     return answer;
 }

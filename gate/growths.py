@@ -7,7 +7,8 @@ output must be a front of the right one; where a thread is refused, or nothing f
 stories, which print each refusal and try again: everything else must be as with ample memory, to the end. In two of them threads meet at
 a gate, and where the second thread is refused, the story must say that they don't; of two stores over a driver each says how it ended.
 Wrong programs, and a library that refuses nothing, have to be noticed. At last it counts the threads that a command starts: one for each
-racing task and each call of a round on a running pool, anew behind each cut of a journal, and no other.
+racing task and each call of a round on a running pool, anew behind each cut of a journal, and no other. And it has the threads of a race
+meet: the one that is started last doesn't begin before all others wait for it, and then each is held in its call until all are in theirs.
 """
 from __future__ import annotations
 
@@ -18,6 +19,7 @@ import subprocess
 import sys
 import tempfile
 from concurrent.futures import ThreadPoolExecutor
+from itertools import count
 from pathlib import Path
 from typing import Callable, Iterator, NamedTuple
 
@@ -78,7 +80,7 @@ STORES = [
     ("done", "tally 1 0 1 1", "out of memory"),  # the second store
 ]
 # how that story goes on, whatever was refused
-END = "tally 1 0 1 1\nexit of 1: done\nload of 1: refused\n"
+END = "tally 1 0 1 1\nexit of 1: done\nload of 1: refused notalive\n"
 # what is told of something that was refused memory; where that was a call in flight, the journal isn't cut then
 RETRIED = re.compile(r"^(?:.* of (?P<task>\d)|\w+): out of memory\n(?:cut: task (?P=task) has a call in flight\n)?", re.MULTILINE)
 # of stories, what the refusals have to bring about in some of the runs
@@ -130,13 +132,13 @@ class Room:
     """A folder for the library, which the C compiler builds, and for wrong programs."""
 
     def __init__(self, folder: Path) -> None:
-        self.folder, self.library = folder, folder / "faults.so"
+        self.folder, self.library, self.numbers = folder, folder / "faults.so", count()
         words = [*shlex.split(os.environ.get("CC", "cc")), "-O2", "-Wall", "-Wextra", "-Werror", "-shared", "-fPIC"]
         subprocess.run([*words, "-o", self.library, TOP / "gate" / "faults.c"], check=True)
 
     def around(self, program: Path, text: str) -> Program:
-        """A program that does this around another."""
-        path = self.folder / "wrong"
+        """A program that does this around another. (Each has a file of its own: the one before may still be run.)"""
+        path = self.folder / f"wrong-{next(self.numbers)}"
         path.write_text(f'#!/bin/bash\nprogram="env LD_PRELOAD={self.library} {program}"\n{text}\n', encoding="utf-8")
         path.chmod(0o755)
         return Program(path, None)
@@ -241,11 +243,28 @@ def stream_cases() -> list[Case]:
     return [*(it._replace(fails=("READ", "WRITE")) for it in found), *writes]
 
 
+def lines_of(*several: tuple[str, int]) -> str:
+    """Each of these lines so many times."""
+    return "".join(f"{line}\n" * times for line, times in several)
+
+
+def truncated_from_the_top() -> tuple[str, str]:
+    """A truncation that visits each index of a file, from the last one, which has a page, down to 1; and what its replay writes."""
+    begins = lines_of(("pool 2 1 1 1", 1), ("begin 1 allock 0 4095 1", 1), ("step 1", 10), ("begin 1 mapn 0 0 1", 1), ("step 1", 4))
+    placed = "head want locked missing changed taken committed unslot leave".split()
+    mapped, swept = "room enter leave".split(), ["size", "want", "locked", "unmap", "evict", "free", "unslot"]
+    visited = [*swept, *["want", "locked", "unslot"] * 4094, "tail", "settle", "leave"]
+    told = [("done", placed), ("mapped 0", mapped), ("done", visited)]
+    moves = "".join(f"begun\n{''.join(f'moved {it}{chr(10)}' for it in phases)}ended {answer}\n" for answer, phases in told)
+    state = "free 2 resv 0 calls 0\nfile 0 size 1 reserved 0 regions 0 pages 0 changes 0 spare 0\ntask 1 alive mappings 1 entries 0\n"
+    return begins + lines_of(("begin 1 trunc 0 1", 1), ("step 1", len(visited) + 1)), moves + state
+
+
 def stories() -> list[Case]:
     """What hp_memory_tests reads."""
     traces = [it for it in sorted((TOP / "examples").rglob("*.trace")) if not it.with_suffix(".err").exists()]
     told = {it.read_text(encoding="utf-8"): it.with_suffix(".out").read_text(encoding="utf-8") for it in traces}
-    every = {**STORIES, **told}
+    every = {**STORIES, **told, **dict([truncated_from_the_top()])}
     return [Case("", it, is_same, is_front, ("GROWTH",), right, APART.get(it), tuple(BROUGHT.get(it, ()))) for it, right in every.items()]
 
 
@@ -403,12 +422,40 @@ def threads_tried(program: Program) -> Iterator[tuple[str, bool]]:
     for cut in (1, 2, 4, calls - 1, calls, 65_536):
         parts, started = -(-calls // cut), race(f"--times 1 --cut {cut}")
         yield f"by --cut {cut} each makes its {calls} calls in {parts} parts ({started} are started)", started == parts * once
+    most = threads(program, "race --times 1", even(64, 1))
+    yield f"each of 64 tasks races in a thread of its own ({most} are started)", most in (63, 64)
+    two, long = (threads(program, f"race --times 1 --cut {cut}", even(2, 2_002)) for cut in (2_002, 1_001))
+    yield f"by --cut 1001 each of two tasks makes its 2,002 calls in two parts ({long} threads are started)", long == 2 * two > 0
     for name, several in (("readback", 3), ("shared", 6), ("alloc-instantiate-race", 4), ("counters", 6)):
         own, on_core, on_pool = (threads(program, f"work {name}{more}", "") for more in ("", " --on core", " --on pool"))
         yield f"work {name} starts no thread, unless it is told to", own == on_core == 0
         yield f"work {name} --on pool makes each of {several} calls in a thread of its own ({on_pool} are started)", on_pool == several
     trace = example("calls-in-flight.trace")
     yield "a trace starts none", not any(threads(program, words, trace) for words in ("replay", "explain", "draw", "check"))
+
+
+def meetings(tasks: int, files: int) -> tuple[str, str, int]:
+    """The words of a race in which all tasks can meet in calls that wait for nobody, its script, and how many threads it starts before.
+    Where each maps a page of a file of its own they meet in that; else each stores to a page and by a slot of its own in a second part."""
+    maps = [f"begin {task} mapn {task - 1 if files > 1 else 0} {task} 1\n" for task in range(1, tasks + 1)]
+    stores = [f"begin {task} store 0 7\n" for task in range(1, tasks + 1)]
+    if files > 1:
+        return "race --times 1", f"pool 1 {files} 1 {tasks}\n" + "".join(maps), 0
+    return "race --times 1 --cut 1", f"pool {tasks} 1 64 {tasks}\n" + "".join(maps + stores), tasks - 1
+
+
+def is_met(program: Program, tasks: int, files: int, more: int = 0) -> bool:
+    """Whether the threads of a race meet, as many as it has tasks, or more."""
+    words, script, before = meetings(tasks, files)
+    told = program.told(words, script, GROWTH=TELL_THREADS, MEET=tasks + more, AFTER=before)
+    return told.status == 0 and bool(RACED.fullmatch(told.out.strip())) and told.faults == "s" * (before + tasks - 1) + "m"
+
+
+def meetings_tried(program: Program) -> Iterator[tuple[str, bool]]:
+    """Whether the threads of a race begin together, and are in their calls together."""
+    for tasks, files in ((2, 16), (3, 16), (16, 16), (2, 1), (17, 1), (33, 1), (64, 1)):
+        yield f"{tasks} tasks, on {files} files, wait for the last, and are in their calls at once", is_met(program, tasks, files)
+    yield "four threads of three never meet", not is_met(program, 3, 16, 1)
 
 
 def tries(room: Room, pool: ThreadPoolExecutor) -> Iterator[tuple[str, bool]]:
@@ -425,6 +472,7 @@ def tries(room: Room, pool: ThreadPoolExecutor) -> Iterator[tuple[str, bool]]:
     with_audit, without = (counts[program.name, f"explore --runs 2{it}", crowd(6)] for it in (" --audit", ""))
     yield f"explore --audit takes memory of its own ({with_audit} growths, {without} without it)", with_audit > 2 * without
     yield from threads_tried(Program(program, room.library))
+    yield from meetings_tried(Program(program, room.library))
     replay = Case("replay", example("map-four-of-four.trace"), is_same, is_front)
     for runner, case, judge, wrong in (
         *((program, it, fault, WRONG) for it in (replay, stream_cases()[0])),

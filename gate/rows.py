@@ -46,14 +46,13 @@ class Row:
     stdout_starts: str = ""
     stdout_ends: str = ""
     stdout_holds: list[str] = field(default_factory=list)
-    stdout_tail: list[str] = field(default_factory=list)
     stdout_lines: int | None = None
     stderr: str = ""
     stderr_starts: str = ""
 
     def is_partly_said(self) -> bool:
         """Whether the row says something of its output, but not all of it."""
-        return bool(self.stdout_starts or self.stdout_ends or self.stdout_holds or self.stdout_tail or self.stdout_lines)
+        return bool(self.stdout_starts or self.stdout_ends or self.stdout_holds or self.stdout_lines)
 
     def read(self) -> bytes:
         """The input."""
@@ -83,13 +82,6 @@ def first_difference(printed: list[str], wanted: list[str]) -> str:
     return f"line {at + 1}: {of(printed)}, and not {of(wanted)}"
 
 
-def tail_fault(out: str, fronts: list[str]) -> str | None:
-    """What is wrong with the last lines of an output, which begin with these, in their order."""
-    last = out.splitlines()[-len(fronts) :] if fronts else []
-    wrong = len(last) != len(fronts) or not all(line.startswith(front) for line, front in zip(last, fronts))
-    return f"its last lines are {last}" if wrong else None
-
-
 def output_fault(row: Row, out: str) -> str | None:
     """What is wrong with the output of a run, if anything is."""
     wanted = row.stdout if row.stdout is not None or row.is_partly_said() else ""
@@ -102,7 +94,7 @@ def output_fault(row: Row, out: str) -> str | None:
     if row.stdout_lines is not None and out.count("\n") != row.stdout_lines:
         return f"it has {out.count(chr(10))} lines"
     absent = [it for it in row.stdout_holds if out.count(it) != 1]
-    return f"{absent[0]!r} stands in it {out.count(absent[0])} times" if absent else tail_fault(out, row.stdout_tail)
+    return f"{absent[0]!r} stands in it {out.count(absent[0])} times" if absent else None
 
 
 def fault(row: Row, ran: Ran) -> str | None:
@@ -175,7 +167,7 @@ def front_fault(program: Path, words: str, row: Row) -> str | None:
 
 def has_end(row: Row) -> bool:
     """Whether the row says how its output ends."""
-    return bool(row.stdout_ends or row.stdout_tail or row.stdout_lines is not None) or not row.is_partly_said()
+    return bool(row.stdout_ends or row.stdout_lines is not None) or not row.is_partly_said()
 
 
 # what a run may come to instead, and which rows have to notice it

@@ -16,7 +16,7 @@ from progress import Line  # (of the launcher, which scratch makes known)
 # the seconds that each script took the last time on this machine
 TIMES = TOP / "out" / "check-times.json"
 # what they took on four processors, in minutes; any other script takes seconds
-USUAL = {"rt ci": 60, "gate/try_edits.py": 15, "gate/test_edits.py": 2, "gate/growths.py": 2, "gate/soak.py": 1}
+USUAL = {"rt ci": 60, "gate/try_edits.py": 15, "gate/test_edits.py": 2, "gate/growths.py": 2, "gate/soak.py": 1, "gate/sweep.py": 2}
 
 
 def processor_seconds() -> float:

@@ -24,7 +24,7 @@ from proving import PAUSE, Library, NotProved, Proving, Run, begin, with_chains
 
 CRATE = TOP / "crates" / "hugepool"
 PROGRAM = CRATE / "out" / "hugepool"
-# what each crate's first proof takes, as measured (estimated for hp_text, hp_explore and hp_replay): processor seconds, and MiB of its
+# what each crate's first proof takes, as measured: processor seconds, and MiB of its
 # largest process
 WEIGHTS = Path(__file__).with_name("weights.txt")
 # processor seconds of a crate of which nothing is known, and the share of the free memory that is planned on

@@ -38,7 +38,9 @@ def load(command: str = "rt") -> ModuleType:
 def prove_library(folder: str, jobs: str) -> int:
     os.chdir(folder)
     rt = load()
-    rt.share_work(True)
+    # (versions of the toolchain from 13f on share what copies of a repository on one machine have proved)
+    if hasattr(rt, "share_work"):
+        rt.share_work(True)
     crate = rt.rtlib.Crate(folder, rt.rtlib.root_above(folder), {})
     return crate.build_rlib(["--jobs", jobs], anew=False)
 

@@ -119,8 +119,8 @@ def reason(said: str, status: int) -> str:
 
 def emulated(kernel: Path, name: str, cpus: int, seconds: int) -> Kernel:
     """A kernel in an emulated machine."""
-    need("qemu-system-x86_64", "cpio", "cc")
     readable(kernel)
+    need("qemu-system-x86_64", "cpio", "cc")
     accel = accelerator()
     options = ["--kernel", kernel, "--cpus", str(cpus), "--seconds", str(seconds), "--accel", accel]
     return Kernel(name, lambda scripts, _: [RECORD / "emulate.sh", *options, scripts], accel == "tcg")

@@ -69,6 +69,7 @@ WORDS: dict[str, Callable[[Event], str]] = {
     "surplus": lambda it: f"pfn {it.a} is free, and leaves the pool of {it.c}",
     "resized": lambda it: f"of {it.b} pages {it.c} are over the size",
     "dead": lambda it: f"task {it.about} has ended",
+    "last_reserved": lambda it: f"the highest reserved index of the tail: {'none' if it.a < 0 else it.a}",
 }
 
 

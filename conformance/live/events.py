@@ -257,7 +257,7 @@ class Attempt(Pools):
             self.step(racer, "slot left", "moved head", "moved extend", "moved leave")
         elif racer.letter == "t":
             if "T" in self.rules:
-                self.step(racer, "slot left", "moved want", "moved tail")
+                self.step(racer, "slot left", "moved want", "moved tail", "moved last")
         elif "F" in self.rules:
             self.step(racer, "slot left", "moved want", "moved leave")
         elif self.is_split and self.policy == "late":
@@ -315,9 +315,20 @@ class Attempt(Pools):
             self.step(racer, "account", "moved accounted")
         call = self.call(racer)
         if call.phase == "restore":
-            raise Divergence("backed out", "an unreserved touch is backed out by a commit")
+            self.enter_again(racer, event)
+            return
         self.step(racer, "commit", "moved settle", "moved enter", "moved committed")
         self.same("added", call.added, event.c)
+        racer.gain = max(0, call.added - call.missing) if "A" in self.rules else 0
+
+    def enter_again(self, racer: Racer, event: Event) -> None:
+        """A reserved page that is backed out: where a truncation has taken its index out of the map meanwhile, the index enters it again."""
+        if "U" not in self.rules:
+            raise Divergence("backed out", "a touch that is backed out enters its index again, which a truncation has taken out")
+        reserved = self.machine.files[self.call(racer).file].reserved
+        self.same("added", int(event.a not in reserved), event.c)
+        reserved.add(event.a)
+        self.notes["a page was backed out, and its index entered again"] += 1
 
     def on_abort(self, racer: Racer, event: Event) -> None:
         if self.phase(racer) == "restore":
@@ -334,6 +345,8 @@ class Attempt(Pools):
                 self.later(racer, Due("delete", event.a, None, delete))
             else:
                 delete()
+        elif racer.letter == "t" and "V" in self.rules:
+            self.take_out(racer, event)
         elif racer.letter == "t":
             if "T" in self.rules:
                 self.must_look_up(racer)
@@ -344,7 +357,26 @@ class Attempt(Pools):
         elif self.phase(racer) == "restore":
             self.back_out(racer, event)
 
+    def take_out(self, racer: Racer, event: Event) -> None:
+        """A repaired truncation takes one index out of the map."""
+        if self.phase(racer) == "locked":
+            self.step(racer, "no page", "moved delete")
+        self.step(racer, "delete", "moved unslot")
+        self.same("index", self.call(racer).index, event.a)
+        self.same("removed", self.call(racer).removed, event.c)
+
+    def on_last_reserved(self, racer: Racer, event: Event) -> None:
+        """A repaired truncation looks for the next index to take out."""
+        if self.phase(racer) == "want":
+            self.must_look_up(racer)
+        self.step(racer, "last reserved", "moved want" if event.a >= 0 else "moved leave")
+        if event.a >= 0:
+            self.same("last reserved", self.call(racer).index, event.a)
+
     def on_delete_refused(self, racer: Racer, event: Event) -> None:
+        if racer.letter == "t" and "V" in self.rules:
+            self.step(racer, "denied delete", "moved unslot", is_granted=False)
+            self.same("denied delete", self.call(racer).is_denied, True)
         if racer.letter != "p":
             return
         refused = lambda: self.delete_refused(racer)
@@ -374,10 +406,23 @@ class Attempt(Pools):
 
     # the counts
 
+    def refuse_early(self) -> None:
+        """The kernel leaves its lock between finding that too few pages are free and our event of it. So a map is refused before pages
+        become free, or the count is lowered, if it was to be refused then."""
+        for it in self.racers.values():
+            call, then = self.call(it), self.next_of(it)
+            is_refused = it.letter == "m" and self.phase(it) == "changed" and then is not None and then.kind == "account" and then.b != 0
+            if is_refused and not it.is_settled_early and call.missing > len(self.machine.free) - self.machine.resv:
+                self.step(it, self.short(it), "moved abort")
+                it.is_settled_early = True
+                self.notes["a map refused before its event"] += 1
+
     def on_account(self, racer: Racer, event: Event) -> None:
         if racer.is_settled_early:
             racer.is_settled_early = False
             return
+        if event.a < 0:
+            self.refuse_early()
         letter, phase, call, is_refused = racer.letter, self.phase(racer), self.call(racer), event.b != 0
         if letter == "m" and phase == "changed":
             self.same("accounted", call.missing, event.a)
@@ -388,6 +433,12 @@ class Attempt(Pools):
         elif letter in "lsak" and phase == "settle":
             self.same("accounted", -1, event.a)
             self.step(racer, "settle", "moved committed")
+        elif racer.gain:
+            self.same("accounted", racer.gain, event.a)
+            self.machine.resv, racer.gain = self.machine.resv + racer.gain, 0
+        elif letter == "t" and "V" in self.rules and phase == "unslot":
+            self.same("accounted", call.evicted - call.removed, event.a)
+            self.machine.resv += event.a
         elif letter == "t" and phase == "settle":
             self.settle_truncation(racer, call, event.a, is_refused)
         elif letter == "p" and "N" in self.rules and not call.removed:
@@ -437,6 +488,7 @@ class Attempt(Pools):
             self.same_counts(event)
 
     def make_free(self, racer: Racer | None, event: Event) -> None:
+        self.refuse_early()
         self.check_quota(event)
         for it in self.racers.values():
             if it.is_freeing and it.page == event.a:
@@ -454,6 +506,7 @@ class Attempt(Pools):
         if frame is None:
             return False
         limbo.discard(frame)
+        self.freed_late[self.event.number] = frame
         self.machine.free.add(frame)
         self.machine.give_up(1)
         return True
@@ -496,7 +549,7 @@ class Attempt(Pools):
     def on_evict(self, racer: Racer, event: Event) -> None:
         if racer.letter == "t":
             if "T" in self.rules:
-                self.evict(racer, event, "moved unslot")
+                self.evict(racer, event, "moved delete" if "V" in self.rules else "moved unslot")
             elif self.policy != "lazy":
                 self.sweep(racer, event.a, must=False)
         elif self.is_split:

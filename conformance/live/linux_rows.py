@@ -11,12 +11,16 @@ RULES = {
     "T": "a truncation looks the pages up like a punch, upwards from the new size",
     "N": "counts are whole numbers, which may fall below zero, and the tests of them are Linux's",
     "D": "a change, or a deletion that splits a region, may be refused memory although a spare descriptor is there for it",
-    "U": "an unreserved page that is backed out takes its index out of the map again",
+    "U": "an unreserved page that is backed out takes its index out of the map again, and a reserved one enters it where it is gone",
     "Q": "the quota has a lock of its own: it is asked before the reserve count, and given back apart from it",
     "I": "an allocation that is interrupted extends the file as one that was done",
     "L": "a touch or an allocation that finds no page keeps what it took of the quota",
     "R": "pages over a pool's size stay until they become free, and a resize counts those first",
+    "A": "repaired: what a change of a reserve map returns is accounted once, a raise asks for no frame, and a backed-out page leaves the map",
+    "V": "repaired: a truncation takes each reserved index out of the map under its slot, those with a page first and then from the top down",
 }
+# the letters that only repaired kernels have (kernel/repair.py)
+REPAIRED = "AV"
 # so many pages Linux 6.1 looks up at once; later versions log their number
 BATCH = 15
 
@@ -188,10 +192,14 @@ class LinuxRows(Machine):
         if call.has_more:
             call.batch, call.index = None, call.index + 1
             return moved("want")
-        return moved("tail") if call.table == "truncate" else call.go("leave", "done")
+        if call.table != "truncate":
+            return call.go("leave", "done")
+        return moved("last" if self.has("V") else "tail")
 
     def leave_page(self, call: Call) -> Outcome:
         self.leave_slot(call)
+        if not call.batch:
+            return moved("last")
         call.batch.pop(0)
         return self.next_page(call)
 
@@ -227,13 +235,37 @@ class LinuxRows(Machine):
     def truncate_want(self, call: Call) -> Outcome:
         return self.look_up(call, LIMIT) if self.has("T") and call.batch is None else super().truncate_want(call)
 
+    # V: a truncation that takes each index out under its slot
+
+    def truncate_last(self, call: Call) -> Outcome:
+        """The highest reserved index of the tail is the next to go; where there is none, all are gone."""
+        left = [it for it in self.files[call.file].reserved if it >= call.numbers[1]]
+        if not left:
+            return call.go("leave", "done")
+        call.index = max(left)
+        return moved("want")
+
+    def truncate_delete(self, call: Call) -> Outcome:
+        removed = self.delete(call)
+        call.is_denied, call.removed, call.evicted = removed is None, removed or 0, int(call.frame is not None)
+        if call.frame is not None:
+            self.limbo.add(call.frame)
+            call.frame = None
+        return moved("unslot")
+
     def truncate_locked(self, call: Call) -> Outcome:
-        require(not self.has("T") or call.index in self.files[call.file].pages, "a page that was looked up is gone")
+        has_page = call.index in self.files[call.file].pages
+        if self.has("V") and not call.batch:
+            return moved("unmap" if has_page else "delete")
+        require(not self.has("T") or has_page, "a page that was looked up is gone")
         return super().truncate_locked(call)
 
     def truncate_evict(self, call: Call) -> Outcome:
         if not self.has("T"):
             return super().truncate_evict(call)
+        if self.has("V"):
+            call.frame = self.files[call.file].pages.pop(call.index)
+            return moved("delete")
         self.limbo.add(self.files[call.file].pages.pop(call.index))
         call.evicted += 1
         return moved("unslot")

@@ -92,6 +92,8 @@ class Racer:
         self.is_settled_early = self.is_placed_early = False
         # pages that its call has taken of the quota and not given back
         self.charged = 0
+        # by a repair: what its commit added beyond its change, and the count isn't raised for yet
+        self.gain = 0
 
     @property
     def visits(self) -> list[int]:
@@ -116,6 +118,8 @@ class Placement:
         self.freed_here: set[int] = set()
         self.freed_there: set[int] = set()
         self.page_of: dict[int, int] = {}
+        # by the rule F, the frame that becomes free with an event, by the event's number
+        self.freed_late: dict[int, int] = {}
         # what the files have used of the quota in Linux, and how many pages a thread that frees one has given back to it
         self.used_there = 0
         self.put_by: Counter[int] = Counter()
@@ -215,15 +219,23 @@ class Placement:
         self.counts.append(Counts(len(self.rows), event.free + lag, event.resv))
 
     def settle_early(self, event: Event) -> None:
-        """The kernel leaves its lock between lowering the count and our event of it."""
+        """The kernel leaves its lock between changing the count and our event of it: where it lowers the count, and where it raises it after
+        it had to look for free pages a second time."""
         for it in self.racers.values():
             then = next((self.run[at] for at in it.events if self.run[at].number > event.number), None)
-            is_lowered = then and then.kind == "account" and then.a < 0 and self.machine.resv + then.a == event.resv
-            if is_lowered and self.phase(it) == "settle" and not it.is_settled_early:
+            if then is None or then.kind != "account" or then.b or self.machine.resv + then.a != event.resv or it.is_settled_early:
+                continue
+            if then.a < 0 and self.phase(it) == "settle":
                 self.step(it, "settle", "moved enter", "moved committed", "moved leave")
-                it.is_settled_early = True
                 self.notes["a count lowered before its event"] += 1
-                return
+            elif then.a > 0 and it.letter == "m" and self.phase(it) == "changed":
+                self.same("accounted", self.call(it).missing, then.a)
+                self.step(it, "account", "moved accounted")
+                self.notes["a count raised before its event"] += 1
+            else:
+                continue
+            it.is_settled_early = True
+            return
 
     def same_frame(self, frame: int, page: int) -> None:
         self.same("frame", self.page_of[frame], page)

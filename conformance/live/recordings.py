@@ -22,6 +22,8 @@ KINDS = {
     47: "delete_refused", 48: "restore", 49: "enter", 50: "unused",
     # the quota, the pool's size, and a task that is gone
     51: "quota", 52: "grow", 53: "shrink", 54: "surplus", 55: "resized", 56: "dead",
+    # a repaired truncation: the highest index of its tail that is reserved
+    57: "last_reserved",
 }
 CODES = {kind: code for code, kind in KINDS.items()}
 # the calls by their letters in a workload and in the log

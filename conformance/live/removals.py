@@ -61,7 +61,7 @@ class Removals(Placement):
         found: list[list[int]] = []
         for position in racer.events[racer.at + 1 :]:
             event = self.run[position]
-            if event.kind == "return":
+            if event.kind in ("return", "last_reserved"):
                 break
             if event.kind == "batch":
                 found.append([])
@@ -88,7 +88,7 @@ class Removals(Placement):
         end = call.range[1] if racer.letter == "p" else LIMIT
         if sorted(it for it in self.machine.files[call.file].pages if call.index <= it < end)[: self.batch] == self.batch_of(racer):
             racer.looked += 1
-            self.step(racer, "lookup", "moved want", "moved leave", "moved tail")
+            self.step(racer, "lookup", "moved want", "moved leave", "moved tail", "moved last")
 
     def is_looking(self, racer: Racer) -> bool:
         """Whether the pages that Linux found are yet to be looked up."""

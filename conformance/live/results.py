@@ -17,6 +17,8 @@ from dataclasses import dataclass
 from pathlib import Path
 
 import check
+from kernel.repair import REPAIRS
+from linux_rows import REPAIRED
 from recordings import workload_file
 
 # the rule of Linux's (check.py --help) that shows in each way to leave the machine
@@ -26,6 +28,9 @@ RULE_OF = {
     "quota asked apart": "Q", "quota given back apart": "Q", "quota leaked": "L", "interrupted and extended": "I", "pages over the size": "R",
     "resize, a frame is freed late": "F",
 }  # fmt: skip
+# of a repaired kernel: the rules that it has besides, and the one that it lacks
+RULES_OF_REPAIR = dict(zip(REPAIRS, ("A", REPAIRED), strict=True))
+LACKED = "U"
 HEAD = f"{'workload':<10} {'recordings':>10} {'calls':>8} {'events':>9} {'overlaps':>8} {'alone':>6} {'rules':<11} {'whole':>6} {'wrong count at rest':>19}"
 
 
@@ -39,26 +44,28 @@ class Line:
     whole: list[check.Checked]
 
 
-def rules_of(recording: Path) -> str:
-    """The rules that the workload names, or all there are."""
+def rules_of(recording: Path, repaired: str | None) -> str:
+    """The rules that the workload names, or all that Linux has, and those of a repair."""
     file = workload_file(recording)
     lines = file.read_text(encoding="utf-8").splitlines() if file else []
     named = next((line.split()[1] for line in lines if line.startswith("rules ")), None)
-    return check.letters(named) if named else "".join(check.RULES)
+    rules = check.letters(named) if named else "".join(it for it in check.RULES if it not in REPAIRED)
+    return rules.replace(LACKED, "") + RULES_OF_REPAIR[repaired] if repaired else rules
 
 
-def compared(recording: Path, rules: str, program: Path | None, jobs: int) -> Line:
-    words = argparse.Namespace(recordings=[recording], only=None, rules="", split=True, program=program)
-    alone = list(check.check_all(list(check.jobs_of(words)), jobs))
+def compared(recording: Path, rules: str, given: argparse.Namespace) -> Line:
+    """A repaired kernel has rows of its own, so that it is not compared with the machine alone."""
+    words = argparse.Namespace(recordings=[recording], only=None, rules="", split=True, program=given.program)
+    alone = [] if given.repair else list(check.check_all(list(check.jobs_of(words)), given.jobs))
     words.rules, words.split = rules, False
-    whole = list(check.check_all(list(check.jobs_of(words)), jobs))
+    whole = list(check.check_all(list(check.jobs_of(words)), given.jobs))
     return Line(recording.name.split(".")[0], rules, alone, whole)
 
 
 def row(name: str, rules: str, alone: list[check.Checked], whole: list[check.Checked]) -> str:
-    return (f"{name:<10} {len(alone):>10} {sum(it.calls for it in alone):>8} {sum(it.events for it in alone):>9} "
-            f"{sum(it.overlaps.total() for it in alone):>8} {are_whole(alone):>6} {rules:<11} {are_whole(whole):>6} "
-            f"{sum(bool(it.error) for it in alone):>19}")
+    return (f"{name:<10} {len(whole):>10} {sum(it.calls for it in whole):>8} {sum(it.events for it in whole):>9} "
+            f"{sum(it.overlaps.total() for it in whole):>8} {are_whole(alone) if alone else '':>6} {rules:<11} {are_whole(whole):>6} "
+            f"{sum(bool(it.error) for it in whole):>19}")
 
 
 def are_whole(done: list[check.Checked]) -> int:
@@ -79,8 +86,9 @@ def show_rules(done: list[check.Checked]) -> None:
         print("the machine is first left by rule:", ", ".join(f"{rule} {number}" for rule, number in sorted(counts.items())))
 
 
-def show(lines: list[Line], kernel: str, program: Path | None) -> None:
-    print(f"{kernel}: recordings that are whole, by the machine alone and with Linux's own rows")
+def show(lines: list[Line], kernel: str, program: Path | None, repaired: str | None) -> None:
+    whose, how = ("its", "with its own rows") if repaired else ("Linux's", "by the machine alone and with Linux's own rows")
+    print(f"{kernel}: recordings that are whole, {how}")
     print(HEAD)
     for it in lines:
         print(row(it.name, it.rules, it.alone, it.whole))
@@ -88,11 +96,11 @@ def show(lines: list[Line], kernel: str, program: Path | None) -> None:
     print(row("all", "", alone, whole))
     show_kinds("the machine", alone)
     show_rules(alone)
-    show_kinds("Linux's rows", whole)
+    show_kinds(f"{whose} rows", whole)
     for it in alone:
         if it.disagreement:
             print(f"{it.file} #{it.number}: THE PROGRAM DIFFERS from the Python machine: {it.disagreement}")
-    if not program:
+    if not program and any(it.alone for it in lines):
         print("no program was asked (--program): the Python machine alone says this, and nothing is proved of it")
 
 
@@ -101,6 +109,7 @@ def read_words() -> argparse.Namespace:
     words.add_argument("recordings", nargs="+", type=Path, metavar="RECORDING")
     words.add_argument("--program", type=Path, help="the program that replays the traces of the machine alone")
     words.add_argument("--kernel", default="Linux", metavar="NAME", help="what the table is of")
+    words.add_argument("--repair", choices=REPAIRS, help="the repair that was put into this kernel")
     words.add_argument("--jobs", type=int, default=os.cpu_count() or 1, metavar="N", help="processes side by side (%(default)s)")
     return words.parse_args()
 
@@ -108,11 +117,11 @@ def read_words() -> argparse.Namespace:
 def main() -> int:
     given = read_words()
     try:
-        lines = [compared(it, rules_of(it), given.program, given.jobs) for it in given.recordings]
+        lines = [compared(it, rules_of(it, given.repair), given) for it in given.recordings]
     except (OSError, argparse.ArgumentTypeError) as error:
         print(f"results.py: {error}", file=sys.stderr)
         return 2
-    show(lines, given.kernel, given.program)
+    show(lines, given.kernel, given.program, given.repair)
     if any(one.disagreement for it in lines for one in it.alone):
         return 2
     return int(any(one.kind for it in lines for one in it.whole))

@@ -26,7 +26,7 @@ import rows
 from events import Attempt
 from placing import Racer
 from recordings import Recording, recordings
-from wrong_machines import WRONG, AsksNoQuota, Base, MapLeavesTheSize, NewPageKeepsItsWord, TouchAsksNoQuota
+from wrong_machines import WRONG, AsksNoQuota, Base, MapLeavesTheSize, NewPageKeepsItsWord, Repaired, TouchAsksNoQuota
 
 FOLDER = Path(__file__).resolve().parent / "recordings"
 TOP = Path(__file__).resolve().parents[2]
@@ -52,6 +52,10 @@ WITHOUT_REMOVALS = ("p.touches2", "p.touches3", "p.touches4", "p.maps", "p.alloc
 OF_THE_POOL = {"quota": "BFPSTNQ", "kills": "BFPSTNI", "resizes": "BFPSTNR", "denied": "BFND"}
 
 
+# recordings of repaired kernels
+REPAIRED = (("trunc", "BFPSTNAV", 150), ("refused", "BFPSTDNAV", 138))
+
+
 def of_the_pool(kernel: str, folder: str, rules: dict[str, str], numbers: dict[str, int], alone: int) -> Iterator[Expected]:
     """What one kernel's recordings of the pool have to be: so many of each workload, all whole with Linux's rows, and so many without."""
     every = tuple(f"{folder}{name}" for name in numbers)
@@ -69,12 +73,16 @@ EXPECTED = (
     Expected("6.12: no truncation, Linux's rows", UNTRUNCATED_612, "BF", False, 708, 708),
     Expected("6.12: truncations, Linux's rows", ("6.12/trunc", "6.12/bug", "6.12/wide"), "BFPSTN", False, 106, 106),
     Expected("6.12: refused memory, Linux's rows", ("6.12/inject", "6.12/backed"), "BFUDN", False, 36, 36),
+    *(Expected(f"repaired, truncations: {name}", (f"repaired/{name}",), rules, False, number, number)
+      for name, rules, number in REPAIRED),
     *of_the_pool("6.1", "", OF_THE_POOL | {"pools": "BFPSTNQR"}, {"quota": 164, "kills": 140, "resizes": 120, "denied": 120, "pools": 144}, 487),
     *of_the_pool("7.3-rc7", "7.3/", OF_THE_POOL | {"quota": "BFPSTNQL"}, {"quota": 164, "kills": 140, "resizes": 120, "denied": 120}, 374),
     *of_the_pool("6.12", "6.12/", OF_THE_POOL, {"quota": 114, "kills": 91, "resizes": 70, "denied": 58}, 257),
 )
 # wrong machines are tried on every so many of the recordings that they name
 EVERY = 4
+# the machines that are tried, and where the right ones stand behind the wrong ones
+MACHINES = (*WRONG, Base, Repaired)
 # wrong machines that nothing but the comparison notices
 BY_COMPARISON = tuple(map(WRONG.index, (MapLeavesTheSize, NewPageKeepsItsWord, AsksNoQuota, TouchAsksNoQuota)))
 # events that may be swapped with a neighbour about the same thing, and what they are about
@@ -119,11 +127,11 @@ def are_whole(done: list[check.Checked]) -> int:
 
 
 def is_noticed(given: tuple[Recording, int, type[Attempt]]) -> bool:
-    """Whether an attempt notices a wrong machine, or (number -1) the right one. One that is blind doesn't notice a dead end: there the
+    """Whether an attempt notices a machine of MACHINES. One that is blind doesn't notice a dead end: there the
     machine has no next step, which needs no comparison."""
     run, number, attempt_type = given
     is_blind = attempt_type is Blind
-    attempt = attempt_type(run, "middle", WRONG[number] if number >= 0 else Base)
+    attempt = attempt_type(run, "middle", MACHINES[number])
     try:
         attempt.place()
     except (ArithmeticError, AttributeError, LookupError, TypeError):
@@ -186,8 +194,9 @@ def wrong_machines(processes: int) -> Iterator[tuple[bool, str]]:
     blind: Counter[int] = Counter()
     for files in dict.fromkeys(it.tried for it in WRONG):
         runs, numbers = runs_of(files)[::EVERY], [number for number, it in enumerate(WRONG) if it.tried == files]
-        right = how_often(runs, range(-1, 0), Attempt, processes)
-        yield not right, f"the right machine with Linux's rows: {len(runs) - right.total()} of {len(runs)} recordings are whole ({', '.join(files)})"
+        own = Repaired if issubclass(WRONG[numbers[0]], Repaired) else Base
+        right = how_often(runs, [MACHINES.index(own)], Attempt, processes)
+        yield not right, f"the right machine with {'a repaired kernel' if own is Repaired else 'Linux'}'s rows: {len(runs) - right.total()} of {len(runs)} recordings are whole ({', '.join(files)})"
         noticed = how_often(runs, numbers, Attempt, processes)
         for number in numbers:
             yield noticed[number] > 0, f"wrong machine noticed {noticed[number]} times in {len(runs)}: {WRONG[number].__doc__}"

@@ -34,6 +34,11 @@ WANTED = (
     "mm/hugetlb.c: there is no function region_del, for the line ",
     "fs/hugetlbfs/inode.c: there is no function hugetlbfs_punch_hole, for the line ",
 )
+# and of a repair: a raise that is conditional, and a truncation's last step
+REPAIR_WANTED = (
+    "mm/hugetlb.c: there is no function hugetlb_fix_reserve_counts, for the line hp_raise(h, 1);",
+    "fs/hugetlbfs/inode.c: there is no function remove_inode_hugepages, for the line hp_remove_tail(",
+)
 
 
 def make_tree(tree: Path) -> None:
@@ -53,8 +58,13 @@ def results(tree: Path) -> Iterator[tuple[bool, str]]:
     yield known not in ran.stderr, "a place that is as it has to be isn't named"
     written = [name for name, text in FILES.items() if (tree / name).read_text(encoding="utf-8") != text]
     yield not written and not (tree / "mm" / "hplive.c").exists(), f"nothing is written ({', '.join(written) or 'none of the files'})"
+    ran = subprocess.run([sys.executable, INSTRUMENT, tree, "slots"], capture_output=True, text=True, check=False)
+    for it in REPAIR_WANTED:
+        yield ran.returncode == 1 and it in ran.stderr, f"said of a repair is: {it}"
     ran = subprocess.run([sys.executable, INSTRUMENT, tree / "mm"], capture_output=True, text=True, check=False)
     yield ran.returncode == 2 and "usage" in ran.stderr, "a folder that is no kernel has status 2"
+    ran = subprocess.run([sys.executable, INSTRUMENT, tree, "half"], capture_output=True, text=True, check=False)
+    yield ran.returncode == 2 and "usage" in ran.stderr, "a repair that there isn't has status 2"
 
 
 def main() -> int:

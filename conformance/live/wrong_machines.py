@@ -1,6 +1,8 @@
 """Wrong machines, each with one wrong row beside Linux's own ones. A comparison that passes them compares nothing."""
 from __future__ import annotations
 
+from typing import Iterator
+
 from linux_rows import LinuxRows
 from machine import Call, Outcome, moved
 
@@ -64,6 +66,15 @@ class MapAccountsAgainstFree(Base):
             return super().map_changed(call)
         self.resv += call.missing
         return moved("accounted")
+
+
+class MapWantsOneMore(Base):
+    """map: it wants one more free frame than it lacks"""
+
+    def map_changed(self, call: Call) -> Outcome:
+        if call.missing and call.missing == len(self.free) - self.resv:
+            return call.go("abort", "noframe")
+        return super().map_changed(call)
 
 
 class MapBelievesItsChange(Base):
@@ -288,4 +299,56 @@ class KillIsNotNoticed(Base):
         return moved("want")
 
 
-WRONG: tuple[type[Base], ...] = tuple(Base.__subclasses__())
+class Repaired(Base):
+    """The rows of a repaired kernel, with which its recordings are whole, those with refused memory among them."""
+
+    rules = "BFPSTDNAV"
+    tried = ("repaired/trunc", "repaired/refused")
+
+
+class RepairedTailGoesAtOnce(Repaired):
+    """repaired truncation: the indices that are left go at once, and not each under its slot"""
+
+    def truncate_last(self, call: Call) -> Outcome:
+        file = self.files[call.file]
+        self.resv -= file.delete_tail(call.numbers[1])
+        return super().truncate_last(call)
+
+
+class RepairedTailGoesUpwards(Repaired):
+    """repaired truncation: the indices that are left go from the lowest up"""
+
+    def truncate_last(self, call: Call) -> Outcome:
+        outcome = super().truncate_last(call)
+        if outcome.value == "want":
+            call.index = min(it for it in self.files[call.file].reserved if it >= call.numbers[1])
+        return outcome
+
+
+class RepairedTruncationLeavesIndices(Repaired):
+    """repaired truncation: an index whose page it removed stays in the reserve map"""
+
+    def truncate_delete(self, call: Call) -> Outcome:
+        has_page, reserved = call.frame is not None, set(self.files[call.file].reserved)
+        outcome = super().truncate_delete(call)
+        if has_page:
+            self.files[call.file].reserved = reserved
+        return outcome
+
+
+class RepairedTouchIsBackedOutOfTheMap(Repaired):
+    """repaired touch: one that is backed out takes its index out of the reserve map"""
+
+    def restore(self, call: Call) -> None:
+        self.files[call.file].reserved.discard(call.index)
+        super().restore(call)
+
+
+def all_below(kind: type[Base]) -> Iterator[type[Base]]:
+    for it in kind.__subclasses__():
+        yield it
+        yield from all_below(it)
+
+
+# (a repaired kernel's own rows are right)
+WRONG: tuple[type[Base], ...] = tuple(it for it in all_below(Base) if it is not Repaired)

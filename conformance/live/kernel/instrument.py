@@ -1,7 +1,9 @@
 #!/usr/bin/env python3
 """Puts log lines of ours into a source tree of Linux: mm/hugetlb.c and fs/hugetlbfs/inode.c of 6.1, 6.12 or 7.3.
 
-usage: instrument.py TREE
+usage: instrument.py TREE [REPAIR]
+
+REPAIR puts a repair of the reserve count in, too: `accounting`, or `slots`, which has `accounting` in it (repair.py says what they do).
 
 A line is put before or behind a statement that a short pattern finds in a named function. Each pattern has to be found just so often as
 is said; one that isn't is printed with its function, and nothing is written. Nothing of the kernel's text is kept here. A tree can be
@@ -13,6 +15,8 @@ import re
 import shutil
 import sys
 from pathlib import Path
+
+import repair
 
 HERE = Path(__file__).resolve().parent
 LOCK = r"mutex_lock\(&hugetlb_fault_mutex_table\[hash\]\);"
@@ -178,12 +182,14 @@ def removals(file: Source) -> None:
                 "hp_log(HP_CLR, (u64)mm, address, vma_hugecache_offset(h, vma, address), pte_pfn(pte));")
 
 
-def hugetlb(tree: Path) -> Source:
+def hugetlb(tree: Path, repaired: str) -> Source:
     file = Source(tree, "mm/hugetlb.c")
     is_old = file.has("dequeue_huge_page_vma(")      # pages where later versions have folios
     page = "page_to_pfn(page)" if is_old else "folio_pfn(folio)"
     include = r"#include <linux/hugetlb\.h>" if file.has("#include <linux/hugetlb.h>") else r"#include \"hugetlb_internal\.h\""
     file.behind(None, include, "\n#include <linux/hplive.h>")
+    if repaired:
+        repair.accounting(file)
     region_map(file)
     counts(file)
     quotas(file)
@@ -236,10 +242,12 @@ def allocations(file: Source, is_old: bool) -> None:
     file.before(function, r"folio_zero_user\(folio, addr|clear_huge_page\(page, addr", "hp_pause(35);")
 
 
-def hugetlbfs(tree: Path) -> Source:
+def hugetlbfs(tree: Path, repaired: str) -> Source:
     file = Source(tree, "fs/hugetlbfs/inode.c")
     is_old = file.has("find_get_page(mapping, index)")
     file.behind(None, r"#include <linux/hugetlb\.h>", "\n#define HP_WRAP_SIZE\n#include <linux/hplive.h>")
+    if repaired == "slots":
+        repair.slots(file, is_old)
     maps(file)
     punches_and_truncations(file, is_old)
     allocations(file, is_old)
@@ -247,13 +255,15 @@ def hugetlbfs(tree: Path) -> Source:
 
 
 def main() -> int:
-    if len(sys.argv) != 2 or not (Path(sys.argv[1]) / "mm/hugetlb.c").is_file():
-        print("usage: instrument.py TREE    (TREE: the source of a Linux kernel)", file=sys.stderr)
+    words = sys.argv[1:]
+    repaired = words[1] if len(words) == 2 else ""
+    if len(words) not in (1, 2) or repaired not in ("", *repair.REPAIRS) or not (Path(words[0]) / "mm/hugetlb.c").is_file():
+        print(f"usage: instrument.py TREE [{'|'.join(repair.REPAIRS)}]    (TREE: the source of a Linux kernel)", file=sys.stderr)
         return 2
-    tree = Path(sys.argv[1])
+    tree = Path(words[0])
     makefile = Source(tree, "mm/Makefile")
     makefile.text += "\nobj-y += hplive.o\n"
-    files = [hugetlb(tree), hugetlbfs(tree), makefile]
+    files = [hugetlb(tree, repaired), hugetlbfs(tree, repaired), makefile]
     if found := [fault for it in files for fault in it.faults]:
         print("instrument.py: this kernel isn't as it has to be, and nothing is written:", *found, sep="\n  ", file=sys.stderr)
         return 1

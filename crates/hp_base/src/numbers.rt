@@ -1,5 +1,5 @@
 //! Numbers that are not to be mixed up. A contract sees each as the number itself.
-ghost use Rattle.std.specs.Prelude.{◌≡◌, Some};
+ghost use Rattle.std.specs.Prelude.{◌≡◌, ◌≤◌, ◌-◌, Some};
 ghost use Rattle.std.specs.Fmt.{decimal};
 
 use std::fmt;
@@ -108,6 +108,14 @@ impl Task {
         ensures { result ≡ self }
     {
         self.number
+    }
+
+    /// The place of the task in a list of all tasks, which begins with the first of them.
+    pub const fn place(self) -> usize
+        requires { 1 ≤ self }
+        ensures { result ≡ self - 1 }
+    {
+        (self.number - 1) as usize
     }
 }
 

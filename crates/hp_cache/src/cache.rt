@@ -26,14 +26,14 @@ impl Model for PageCache {
 
     ghost coded = { cached_code };
 
-    ghost view = { λ c. record { pages = c.frames.frames; room = c.frames.room } };
+    ghost view = { λ c. record { pages = c.frames.frames; capacity = c.frames.capacity } };
 }
 
 impl PageCache {
     /// The cache of a file with no page.
     pub fn new(alloc: Global) -> Self
         ensures pages { result.pages ≡ map.empty }
-        ensures room { result.room ≡ no_chunks }
+        ensures capacity { result.capacity ≡ no_chunks }
     {
         PageCache {
             frames: FrameMap::new(alloc),
@@ -63,7 +63,7 @@ impl PageCache {
         requires present { IsSome (map.get self.old.pages index) }
         ensures frame { map.get self.old.pages index ≡ Some result }
         ensures pages { self.new.pages ≡ map.remove self.old.pages index }
-        ensures room { NoMoreChunks self.new.room self.old.room }
+        ensures capacity { NoMoreChunks self.new.capacity self.old.capacity }
     {
         self.frames.remove(index.number())
     }

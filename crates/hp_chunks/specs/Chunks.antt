@@ -7,7 +7,7 @@ use Rattle.std.specs.Ordering.{nat_cmp}
 use Rattle.std.specs.FinMap as finite
 use Rattle.std.specs.Option.{option_map}
 use Rattle.hp_chunks.specs.declared.chunk.TheConstants.{PLACES}
-use Rattle.hp_chunks.specs.Framed.{ChunkRoom, Framed}
+use Rattle.hp_chunks.specs.Framed.{ChunkCapacity, Framed}
 
 -- the frame of each place of a chunk, where it has one
 abbrev pub Places : Type 0
@@ -53,8 +53,8 @@ unfoldable pub frame_of : List Slot → ℕ → Option ℕ
 frame_of chunks number = frame_in (slice_index_or chunks (number / PLACES) None) (number % PLACES)
 
 -- the memory of the chunks that are there, and of their list
-abbrev pub room_of : List Slot → (capacity : ℕ) → ChunkRoom
-room_of chunks capacity = record { chunks = count_by is_some chunks; listed = capacity }
+abbrev pub capacity_of : List Slot → (listed : ℕ) → ChunkCapacity
+capacity_of chunks listed = record { chunks = count_by is_some chunks; listed = listed }
 
 -- a map with the value of a key, where it has one
 abbrev pub with_value : finite.FinMap nat_cmp ℕ → ℕ → Option ℕ → finite.FinMap nat_cmp ℕ
@@ -67,5 +67,5 @@ map_below values zero = finite.empty
 map_below values (suc limit) = with_value (map_below values limit) limit (values limit)
 
 -- what a map with these chunks is seen as, where there can be n of them, and memory to list so many
-abbrev pub seen_as : ℕ → List Slot → (capacity : ℕ) → Framed
-seen_as n chunks capacity = record { frames = map_below (frame_of chunks) (n * PLACES); room = room_of chunks capacity }
+abbrev pub seen_as : ℕ → List Slot → (listed : ℕ) → Framed
+seen_as n chunks listed = record { frames = map_below (frame_of chunks) (n * PLACES); capacity = capacity_of chunks listed }

@@ -5,33 +5,33 @@ use Rattle.std.specs.FinMap.{FinMap, code}
 use Rattle.std.specs.Coded.{Coded, code_by, coded×, coded_ℕ}
 
 -- the memory that a map has taken: how many chunks are there, and for how many there is memory to list them
-pub record ChunkRoom : Type 0 where
+pub record ChunkCapacity : Type 0 where
   pub chunks : ℕ
   pub listed : ℕ
 
 -- how a proof tells two of them apart
-abbrev pub chunk_room_code : Coded ChunkRoom
-chunk_room_code =
+abbrev pub chunk_capacity_code : Coded ChunkCapacity
+chunk_capacity_code =
     code_by (ℕ × ℕ) (coded× coded_ℕ coded_ℕ) (λ r. (r.chunks, r.listed)) (λ p. record { chunks = p.0; listed = p.1 }) (λ _. refl)
 
 -- no memory
-abbrev pub no_chunks : ChunkRoom
+abbrev pub no_chunks : ChunkCapacity
 no_chunks = record { chunks = 0; listed = 0 }
 
 -- chunks may have been given back, and as many can be listed as before
-abbrev pub NoMoreChunks : (new old : ChunkRoom) → Type 0
+abbrev pub NoMoreChunks : (new old : ChunkCapacity) → Type 0
 NoMoreChunks new old = (new.chunks ≤ old.chunks) × (new.listed ≡ old.listed)
 
 -- the frame of each number that has one, and the memory that is taken
 pub record Framed : Type 0 where
   pub frames : FinMap nat_cmp ℕ
-  pub room : ChunkRoom
+  pub capacity : ChunkCapacity
 
 -- how a proof tells two of them apart
 abbrev pub framed_code : Coded Framed
 framed_code =
-    code_by (FinMap nat_cmp ℕ × ChunkRoom) (coded× (code coded_ℕ coded_ℕ) chunk_room_code) (λ c. (c.frames, c.room))
-    (λ p. record { frames = p.0; room = p.1 }) (λ _. refl)
+    code_by (FinMap nat_cmp ℕ × ChunkCapacity) (coded× (code coded_ℕ coded_ℕ) chunk_capacity_code) (λ c. (c.frames, c.capacity))
+    (λ p. record { frames = p.0; capacity = p.1 }) (λ _. refl)
 
 -- a number with its frame, where it has one
 abbrev pub entry_at : ℕ → Option ℕ → List (ℕ × ℕ)

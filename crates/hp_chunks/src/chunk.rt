@@ -157,7 +157,7 @@ pub(crate) fn take_from(slot: &mut Option<Box<Chunk>>, place: usize) -> Frame
     ensures frame { frame_in slot.old place ≡ Some result }
     ensures kept { IsKept slot.new }
     ensures rest { (k : ℕ) → k < PLACES → frame_in slot.new k ≡ put (frame_in slot.old) place None k }
-    ensures room { IsSome slot.new → IsSome slot.old }
+    ensures capacity { IsSome slot.new → IsSome slot.old }
 {
     let chunk = slot.as_mut().unwrap();
     let frame = chunk.take(place);

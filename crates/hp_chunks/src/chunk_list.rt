@@ -23,7 +23,7 @@ fn put_behind(
     ensures frames { OnOk result
         ((k : ℕ) → frame_of chunks.new.items k ≡ put (frame_of chunks.old.items) (at * PLACES + place) (Some frame) k) }
     ensures err { OnErr result (chunks.new.items ≡ chunks.old.items) }
-    ensures room { OnErr result (vec_capacity chunks.new ≡ vec_capacity chunks.old) }
+    ensures capacity { OnErr result (vec_capacity chunks.new ≡ vec_capacity chunks.old) }
 {
     let mut slot = None;
     put_into(alloc, &mut slot, place, frame)?;
@@ -52,7 +52,7 @@ pub(crate) fn put_at(
     ensures frames { OnOk result
         ((k : ℕ) → frame_of chunks.new.items k ≡ put (frame_of chunks.old.items) (at * PLACES + place) (Some frame) k) }
     ensures err { OnErr result (chunks.new.items ≡ chunks.old.items) }
-    ensures room { OnErr result (vec_capacity chunks.new ≡ vec_capacity chunks.old) }
+    ensures capacity { OnErr result (vec_capacity chunks.new ≡ vec_capacity chunks.old) }
 {
     if at >= chunks.len() {
         return put_behind(alloc, chunks, at, place, frame);

@@ -50,7 +50,7 @@ impl<const CHUNKS: usize> FrameMap<CHUNKS> {
     pub fn new(alloc: Global) -> Self
         requires { CHUNKS * PLACES ≤ 2 ^ 31 }
         ensures frames { result.frames ≡ map.empty }
-        ensures room { result.room ≡ no_chunks }
+        ensures capacity { result.capacity ≡ no_chunks }
     {
         FrameMap {
             chunks: Vec::new(alloc),
@@ -86,7 +86,7 @@ impl<const CHUNKS: usize> FrameMap<CHUNKS> {
         requires present { IsSome (map.get self.old.frames number) }
         ensures frame { map.get self.old.frames number ≡ Some result }
         ensures frames { self.new.frames ≡ map.remove self.old.frames number }
-        ensures room { NoMoreChunks self.new.room self.old.room }
+        ensures capacity { NoMoreChunks self.new.capacity self.old.capacity }
     {
         let number = number as usize;
         let frame = take_from(&mut self.chunks[number / PLACES], number % PLACES);

@@ -110,7 +110,8 @@ only_asked stay s new (call ∷ calls) t (mid, row, rest) there = elim (only_ask
 ]
 
 -- so after the begins from no call in flight every call in flight is one of them
-pub asked_all : AllStay → (s new : CoreState) (calls : List (ℕ × Op)) → Begins s calls new → CallersLive (as_state s) → readers.calls_of s ≡ 0
+pub asked_all : AllStay → (s new : CoreState) (calls : List (ℕ × Op)) → Begins s calls new → CallersLive (as_state s)
+    → readers.calls_of s ≡ 0
     → AreAll new (asked_of calls)
 unfolding AreAll asked_of
 asked_all stay s new calls begins live none t there = elim (only_asked stay s new calls t begins there) [

@@ -19,8 +19,8 @@ pub answered_more : (members : List MemberState) (calls : List (ℕ × Op)) (ans
     → more ≡ answers ++ answer ∷ [] → AreAnswers members (take i calls) answers → AreAnswers members (take (i + 1) calls) more
 answered_more members calls answers more i d answer within answered longer before =
     subst (λ (front : List (ℕ × Op)). AreAnswers members front more) (sym (take_more calls i d within))
-    (subst (λ (told : List Answer). AreAnswers members (take i calls ++ get_or calls i d ∷ []) told) (sym longer)
-    (all_zipped_more (λ (call : ℕ × Op) told. answer_of (work_at call.0 members) ≡ Ok told) (take i calls) answers
+    (subst (λ (given : List Answer). AreAnswers members (take i calls ++ get_or calls i d ∷ []) given) (sym longer)
+    (all_zipped_more (λ (call : ℕ × Op) given. answer_of (work_at call.0 members) ≡ Ok given) (take i calls) answers
     (get_or calls i d) answer before answered))
 
 -- the first without an answer is among those that are left

@@ -9,7 +9,8 @@ use Rattle.hp_base.specs.declared.answer.Answer.{Answer}
 use Rattle.hp_client.specs.Bytes.{IsAnswered, fallocate_plan}
 use Rattle.hp_client.specs.Driving.{Rounds, Stops}
 use Rattle.hp_client.specs.Judging.{Judges}
-use Rattle.hp_client.specs.Tables.{Tried, IsRight, IsFirstWrong, LineRuns, LinesRun, LineStops, FrontRuns, answer_of, calls_in, calls_of, op_of}
+use Rattle.hp_client.specs.Tables.{Tried, IsRight, IsFirstWrong, LineRuns, LinesRun, LineStops, FrontRuns, answer_of, calls_in}
+use Rattle.hp_client.specs.Tables.{calls_of, op_of}
 use Rattle.hp_client.specs.declared.fault.ClientFault.{ClientFault}
 use Rattle.hp_client.specs.declared.table.Line.{Line}
 use Rattle.hp_client.specs.declared.table.Line.TheVariants.{Call, Race, Fallocate}

@@ -1,5 +1,5 @@
 -- What is said of a workload over one driver, said of what is seen of that driver.
-use Rattle.std.proofs.Common.{◌≡◌, ℕ, List, [], ◌∷◌, Result, Ok, Err, ap}
+use Rattle.std.proofs.Common.{ℕ, List, [], ◌∷◌, Result, Ok, Err, ap}
 use Rattle.hp_base.specs.declared.answer.Answer.{Answer}
 use Rattle.hp_base.specs.declared.event.Op.{Op}
 use Rattle.hp_core.specs.declared.readers.Tally.{Tally}

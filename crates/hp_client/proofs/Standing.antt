@@ -91,7 +91,7 @@ pub advance_follows : (s new : CoreState) (call next : Asked) → OthersStay (as
 advance_follows s new call next others steps there made = by_answer call.answer refl made
   where
     by_answer : (o : Option Answer) → call.answer ≡ o
-        → MatchOption o ((told : Outcome) × Row s (Step call.task true) told new × Leaves told call next)
+        → MatchOption o ((outcome : Outcome) × Row s (Step call.task true) outcome new × Leaves outcome call next)
         (λ answer. (new ≡ s) × (next ≡ call)) → Follows s call new next
     by_answer None is m =
         told_follows s new call next m.0 is (there is) (others_of s new call.task true m.0 others m.1) m.2

@@ -25,12 +25,12 @@ pub record MemberState : Type 0 where
 
 -- what the seat's list gained by a call that came to this
 abbrev pub CallCame : (task : ℕ) → Op → Result Reply CallFault → List Entry → List Entry → Type 0
-CallCame task op (Ok told) old new = IsCall task op told old new
+CallCame task op (Ok reply) old new = IsCall task op reply old new
 CallCame task op (Err fault) old new = StoppedCall task op fault old new
 
 -- what it gained where a call that was in flight went on, and came to this
 abbrev pub ResumeCame : (task : ℕ) → Result Reply CallFault → List Entry → List Entry → Type 0
-ResumeCame task (Ok told) old new = Gained old new (Steps task told)
+ResumeCame task (Ok reply) old new = Gained old new (Steps task reply)
 ResumeCame task (Err fault) old new = (fault ≡ lacks.Memory true) × Gained old new (AllMoved task)
 
 -- A seat made this call, which came to that. Where it has a call in flight, it is refused.

@@ -35,7 +35,7 @@ Leaves (outcome.Refused why) asked next = ⊥
 abbrev pub Advance : CoreState → Asked → CoreState → Asked → Type 0
 Advance s asked new next =
     MatchOption asked.answer
-    ((told : Outcome) × Row s (Step asked.task true) told new × Leaves told asked next)
+    ((outcome : Outcome) × Row s (Step asked.task true) outcome new × Leaves outcome asked next)
     (λ answer. (new ≡ s) × (next ≡ asked))
 
 -- one step of each in turn, in the list's order

@@ -272,10 +272,10 @@ IsFirstWrong tried (Some k) =
 
 -- None where all answers and the tally are the table's. Else the number, from 1, of the first call with another
 -- answer, or one more than there are where only the tally differs
-abbrev pub IsBad : Tried → (told allowed : Tally) → Option ℕ → Type 0
-IsBad tried told allowed None = All IsRight tried × (told ≡ allowed)
-IsBad tried told allowed (Some k) =
-    IsFirstWrong tried (Some k) ⊎ (All IsRight tried × (told ≢ allowed) × (k ≡ length tried + 1))
+abbrev pub IsBad : Tried → (tally allowed : Tally) → Option ℕ → Type 0
+IsBad tried tally allowed None = All IsRight tried × (tally ≡ allowed)
+IsBad tried tally allowed (Some k) =
+    IsFirstWrong tried (Some k) ⊎ (All IsRight tried × (tally ≢ allowed) × (k ≡ length tried + 1))
 
 -- what came of a workload: its lines ran, all its calls are counted, and `bad` is what these answers make it
 pub record IsReport {D : Type 0} (makes : Rounds D) (lines : List Line) (allowed : Tally) (old new : D) (report : Report) : Type 0 where

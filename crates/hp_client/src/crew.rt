@@ -254,9 +254,9 @@ impl<L: Ledger, G: Drop> Crew<L, G> {
         seats: Vec<Seat<L>>,
         gate: G,
     ) -> Result<Crew<L, G>, AllocError>
-        requires { AllSeated shared.tasks seats.items }
+        requires { AllSeated shared.config.tasks seats.items }
         ensures members { IfOk result (λ crew. crew.members.items ≡ members_of seats.items) }
-        ensures tasks { IfOk result (λ crew. crew.shared.tasks ≡ shared.tasks) }
+        ensures config { IfOk result (λ crew. crew.shared.config ≡ shared.config) }
         ensures gate { IfOk result (λ crew. crew.gate ≡ gate) }
     {
         let members = members_of(alloc, seats)?;
@@ -276,7 +276,7 @@ impl<L: Ledger, G: Drop> Crew<L, G> {
     ) -> Result<Crew<L, G>, AllocError>
         requires name { blank.name ≡ L.name }
         requires parts { (blank.parts ≡ L.parts) × (blank.parts ≡ config.tasks) }
-        ensures tasks { IfOk result (λ crew. crew.shared.tasks ≡ config.tasks) }
+        ensures config { IfOk result (λ crew. crew.shared.config ≡ config) }
         ensures members { IfOk result (λ crew. crew.members.items ≡ members_of (new_seats config.tasks)) }
         ensures gate { IfOk result (λ crew. crew.gate ≡ gate) }
     {

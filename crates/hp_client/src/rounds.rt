@@ -138,7 +138,7 @@ fn tell_answers(asked: &[Asked], answers: &mut Vec<Answer>)
     requires ended { All (λ call. IsSome call.answer) asked.now }
     requires empty { answers.old.items ≡ [] }
     requires room { length asked.now ≤ vec_capacity answers.old }
-    ensures told { AreEnded asked.now answers.new.items }
+    ensures answers { AreEnded asked.now answers.new.items }
     ensures each { length answers.new.items ≡ length asked.now }
 {
     for call in asked {

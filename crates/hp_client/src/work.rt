@@ -166,13 +166,13 @@ fn run_lines<D: Driver>(
 }
 
 // The first call with another answer than the table's, or one more than there are where only the tally differs.
-fn first_bad(judged: Judged, told: Tally, allowed: Tally) -> Option<u32>
+fn first_bad(judged: Judged, tally: Tally, allowed: Tally) -> Option<u32>
     requires { judged.calls ≤ 100 }
-    ensures { (tried : Tried) → Judges tried judged → IsBad tried told allowed result }
+    ensures { (tried : Tried) → Judges tried judged → IsBad tried tally allowed result }
 {
     match judged.bad {
         Some(number) => Some(number),
-        None if told != allowed => Some(judged.calls + 1),
+        None if tally != allowed => Some(judged.calls + 1),
         None => None,
     }
 }

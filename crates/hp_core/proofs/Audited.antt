@@ -32,7 +32,8 @@ use Rattle.hp_laws.proofs.Moves.{Placing, same_place, other_hand, other_page}
 use Rattle.hp_laws.proofs.Runs.{always}
 use Rattle.hp_audit.specs.declared.picture.FilePicture.{FilePicture}
 use Rattle.hp_audit.specs.declared.picture.Picture.{Picture}
-use Rattle.hp_audit.specs.Findings.{IsFileShaped, IsShaped, Agrees, IsOnePlace, IsBelow, IsCounted, IsUsedCounted, IsRight, times_in, pages_in}
+use Rattle.hp_audit.specs.Findings.{IsFileShaped, IsShaped, Agrees, IsOnePlace, IsBelow, IsCounted, IsUsedCounted, IsRight}
+use Rattle.hp_audit.specs.Findings.{times_in, pages_in}
 use Rattle.hp_audit.specs.Findings.{place_count, is_vacant, vacant_of, vacant_in, reserved_of, reserved_in, has_page}
 use Rattle.hp_audit.proofs.Counts.{counts as passed, counted, counted_in}
 use Rattle.hp_parts.specs.View.{no_file, pages_of}
@@ -213,8 +214,8 @@ vacant_all s p is =
     ∙ ap (λ (n : ℕ). total n of_files) is.as_many
 
 -- a sum on both sides is a difference, with its sign
-signed : (r v less more : ℕ) → r + less ≡ v + more → pos r ≡ pos v +ℤ (pos more -ℤ pos less)
-signed r v less more h = grind (arith, ints, h)
+signed : (r v behind ahead : ℕ) → r + behind ≡ v + ahead → pos r ≡ pos v +ℤ (pos ahead -ℤ pos behind)
+signed r v behind ahead h = grind (arith, ints, h)
 
 -- the reserve count that is told is right, and at most the free frames
 counts : (s : CoreState) (p : Picture) → IsReached (as_state s) → IsPicture s p → IsCounted p
@@ -224,8 +225,8 @@ counts s p h is =
     record {
       exact =
           ap (λ (n : ℕ). pos n) is.resv
-          ∙ (signed (as_state s).resv (vacant_in p) (head.all_less (as_state s)) (head.all_more (as_state s))
-          (top.count ∙ ap (λ (n : ℕ). n + head.all_more (as_state s)) (sym (vacant_all s p is)))
+          ∙ (signed (as_state s).resv (vacant_in p) (head.all_behind (as_state s)) (head.all_ahead (as_state s))
+          (top.count ∙ ap (λ (n : ℕ). n + head.all_ahead (as_state s)) (sym (vacant_all s p is)))
           ∙ ap (λ (z : ℤ). pos (vacant_in p) +ℤ z) (sym is.owed));
       enough = omega (arith, is.resv, top.enough, is.frees);
     }
@@ -251,7 +252,7 @@ uses_counted s p h is =
     let top = head_of s h in
     record {
       exact =
-          ap (λ (n : ℕ). pos n) (is.used ∙ (top.used ∙ ap (λ (n : ℕ). n + head.all_used_owed (as_state s)) (sym (reserved_all s p is))))
+          ap (λ (n : ℕ). pos n) (is.used ∙ (top.used ∙ ap (λ (n : ℕ). n + head.all_used_ahead (as_state s)) (sym (reserved_all s p is))))
           ∙ ap (λ (z : ℤ). pos (reserved_in p) +ℤ z) (sym is.used_owed);
       within =
           subst (λ (quota : Option ℕ). IfSome quota (λ most. p.used ≤ most)) (sym is.quota)
@@ -298,7 +299,8 @@ hand_at s p x is some =
     (at.0, that_is x (hand ((as_state s).calls at.0)) (is_one (is_that x (hand ((as_state s).calls at.0))) at.2))
 
 -- each frame has its place, as the machine's invariant says it
-placing : (s : CoreState) → IsReached (as_state s) → Placing (as_state s).frames (as_state s).frame (λ t. hand ((as_state s).calls t)) (as_state s).pages
+placing : (s : CoreState) → IsReached (as_state s) → Placing (as_state s).frames (as_state s).frame (λ t. hand ((as_state s).calls t))
+    (as_state s).pages
 placing s h = (always (as_state s) h).inv.place
 
 -- and in a hand once at most

@@ -55,7 +55,7 @@ at_place {X} R xs ys d same all k = elim (cases_lt k (length xs)) [
 
 -- the same parts, whatever memory they have taken
 pub record AreSame (p q : PartsState) : Type 0 where
-  pub bank : q.bank ≡ record p.bank { room = q.bank.room }
+  pub bank : q.bank ≡ record p.bank { capacity = q.bank.capacity }
   pub files : AllZip IsSameFile p.files q.files
   pub slots : q.slots ≡ p.slots
   pub locks : q.locks ≡ p.locks
@@ -137,7 +137,7 @@ module _ (p q : PartsState) (same : AreSame p q) where
   }
 
 -- told part by part
-pub are_same : (p q : PartsState) (files : List FileState) (spaces : List Table) → q.bank ≡ record p.bank { room = q.bank.room }
+pub are_same : (p q : PartsState) (files : List FileState) (spaces : List Table) → q.bank ≡ record p.bank { capacity = q.bank.capacity }
     → files ≡ p.files → AllZip IsSameFile files q.files → q.slots ≡ p.slots → q.locks ≡ p.locks
     → spaces ≡ p.spaces → AllZip IsSameTable spaces q.spaces → AreSame p q
 are_same p q files spaces bank all_files each_file slots locks all_spaces each_space = record {
@@ -164,7 +164,8 @@ still_sound s c sound same task_states sizes_are =
     let kept = sound.1 in
     let P : Sizes → Type 0 = λ z. IsReachedFrom z.frames (as_state c) × IsKept (record c { sizes = z }) in (
       subst (λ (z : Sizes). IsReachedFrom z.frames (as_state c)) (sym sizes_are)
-          (subst (λ (m : State). IsReachedFrom s.sizes.frames m) (sym (state_same s.parts c.parts s.task_states c.task_states same task_states)) sound.0),
+          (subst (λ (m : State). IsReachedFrom s.sizes.frames m)
+          (sym (state_same s.parts c.parts s.task_states c.task_states same task_states)) sound.0),
       subst (λ (z : Sizes). IsKept (record c { sizes = z })) (sym sizes_are) (record {
         locks = ap (λ (xs : List (Option ℕ)). length xs) same.locks ∙ kept.locks ∙ sym (files_long s.parts c.parts same);
         files = files_long s.parts c.parts same ∙ kept.files;
@@ -177,12 +178,14 @@ still_sound s c sound same task_states sizes_are =
     )
 
 -- where no task's call is counted there is none
-pub no_calls : (task_states : List TaskState) → count_by (λ task_state. is_some task_state.call) task_states ≡ 0 → All (λ task_state. task_state.call ≡ None) task_states
+pub no_calls : (task_states : List TaskState) → count_by (λ task_state. is_some task_state.call) task_states ≡ 0
+    → All (λ task_state. task_state.call ≡ None) task_states
 no_calls [] none = All-nil _
 no_calls (x ∷ xs) none = by_call x.call refl (λ rest. no_calls xs rest)
   where
     by_call : (o : Option Call) → x.call ≡ o
-        → (count_by (λ (task_state : TaskState). is_some task_state.call) xs ≡ 0 → All (λ (task_state : TaskState). task_state.call ≡ None) xs)
+        → (count_by (λ (task_state : TaskState). is_some task_state.call) xs ≡ 0
+        → All (λ (task_state : TaskState). task_state.call ≡ None) xs)
         → All (λ (task_state : TaskState). task_state.call ≡ None) (x ∷ xs)
     by_call None e others = All-cons (λ (task_state : TaskState). task_state.call ≡ None) x xs e (others (grind (arith, common_steps)))
     by_call (Some c) e others = absurd (grind (arith, common_steps))

@@ -24,7 +24,17 @@ headline_of s h = headline_at s (reached_of s h)
 -- its state has the sizes of its config, and was opened so
 pub of_config : (s : CoreState) → IsSound s → IsOfConfig s
 unfolding IsSound
-of_config s h = (λ i. record { files = h.1.files i; slots = h.1.slots i; tasks = h.1.spaces i; limit = LIMIT; space = VPNS; quota = h.1.quota i }, h.0)
+of_config s h = (
+  λ i. record {
+    files = h.1.files i;
+    slots = h.1.slots i;
+    tasks = h.1.spaces i;
+    limit = LIMIT;
+    space = VPNS;
+    quota = h.1.quota i;
+  },
+  h.0,
+)
 
 -- what is a law of states that a run reached holds of the state of a core
 pub law_of : (P : State → Type 0) → ((s : State) → IsReached s → P s) → (inside seen : CoreState) → inside ≡ seen → IsSound inside

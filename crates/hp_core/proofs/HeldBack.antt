@@ -1,11 +1,10 @@
 -- Which events change nothing.
-use Rattle.std.proofs.Common.{◌≡◌, ℕ, ◌-◌, refl, sym, ap, subst, ◌∙◌}
-use Rattle.std.specs.Prelude.{Bool, true, false, Option, Some, None, MatchBool, MatchOption, nat_lt, if◌then◌else◌}
+use Rattle.std.proofs.Common.{◌≡◌, ℕ, refl, sym, subst}
+use Rattle.std.specs.Prelude.{Bool, Option, Some, None}
 use Rattle.hp_base.specs.declared.event.Event.{Event}
 use Rattle.hp_base.specs.declared.event.Event.TheVariants.{Begin, Step, Kill, Resize}
-use Rattle.hp_machine.specs.State.{Pool, State, actives, pool_of as pool_in}
+use Rattle.hp_machine.specs.State.{Pool, pool_of as pool_in}
 use Rattle.hp_machine.specs.Events as rows
-use Rattle.hp_machine.specs.Resizes.{ResizeRow, is_size, surplus}
 use Rattle.hp_machine.specs.declared.call.Call.{Call}
 use Rattle.hp_machine.specs.declared.call.Call.TheVariants as call
 use Rattle.hp_machine.specs.declared.call.Turn.{Turn}
@@ -13,77 +12,17 @@ use Rattle.hp_machine.specs.declared.call.Turn.TheVariants.{Moved, Blocked, Ende
 use Rattle.hp_machine.specs.declared.outcome.Outcome.{Outcome}
 use Rattle.hp_machine.specs.declared.outcome.Outcome.TheVariants as outcome
 use Rattle.hp_machine.specs.declared.outcome.Refusal.{Refusal}
-use Rattle.hp_machine.specs.declared.outcome.Refusal.TheVariants.{NotAlive, InCall, Idle, BadSize}
-use Rattle.hp_laws.proofs.Deciding.{some_same}
 use Rattle.hp_core.specs.State.{CoreState, as_state, calls_of, lives_of}
-use Rattle.hp_core.specs.HeldBack.{HeldBack, refusal_beside, idle_unless, refusal_of, event_blocker, told_back}
+use Rattle.hp_core.specs.HeldBack.{HeldBack, event_blocker, idle_outcome}
+use Rattle.hp_core.specs.Refusals.{refusal_of}
 use Rattle.hp_core.specs.Runs.{Row, IsIdle}
 use Rattle.hp_core.specs.Waiting.{WaitsFor}
 use Rattle.hp_core.specs.Sound.{IsSound}
-use Rattle.hp_core.proofs.TaskStates.{by_test}
+use Rattle.hp_core.proofs.Refusals.{begin_admitted, kill_admitted, step_admitted, resize_admitted, refused_is}
 use Rattle.hp_core.proofs.Waits.{waits}
 
--- nothing is something
-never : {A X : Type 0} (x : A) → ◌≡◌ {A = Option A} (Some x) None → X
-never {A} x e = (let d : ◌≡◌ {A = Option A} (Some x) None = e in absurd (cc))
-
--- the same refusal is told
-tells : (s : State) (a b : Refusal) → ◌≡◌ {A = Option Refusal} (Some a) (Some b) → rows.Refuses a s (outcome.Refused b) s
-tells s a b e = (ap (λ (r : Refusal). outcome.Refused r) (sym (some_same e)), refl)
-
--- a begin that is refused, by its tests
-begin_refused : (s begun : State) (dead killed : Bool) (c : Option Call) (why : Refusal)
-    → (if dead then Some NotAlive else refusal_beside c killed) ≡ Some why
-    → MatchBool dead (rows.Refuses NotAlive s (outcome.Refused why) s)
-    (MatchOption c (MatchBool killed (rows.Refuses NotAlive s (outcome.Refused why) s)
-    (rows.Tells outcome.Begun begun (outcome.Refused why) s)) (λ (inflight : Call). rows.Refuses InCall s (outcome.Refused why) s))
-begin_refused s begun true killed c why e = tells s NotAlive why e
-begin_refused s begun false killed (Some c) why e = tells s InCall why e
-begin_refused s begun false true None why e = tells s NotAlive why e
-begin_refused s begun false false None why e = (let d : ◌≡◌ {A = Option Refusal} None (Some why) = e in absurd (cc))
-
--- and one that isn't has begun
-begin_admitted : (s begun new : State) (dead killed : Bool) (c : Option Call) (told : Outcome)
-    → (if dead then Some NotAlive else refusal_beside c killed) ≡ None
-    → MatchBool dead (rows.Refuses NotAlive s told new)
-    (MatchOption c (MatchBool killed (rows.Refuses NotAlive s told new) (rows.Tells outcome.Begun begun told new))
-    (λ (inflight : Call). rows.Refuses InCall s told new)) → told ≡ outcome.Begun
-begin_admitted s begun new true killed c told e row = never NotAlive e
-begin_admitted s begun new false killed (Some c) told e row = never InCall e
-begin_admitted s begun new false true None told e row = never NotAlive e
-begin_admitted s begun new false false None told e row = row.0
-
--- so with a kill
-kill_refused : (s marked : State) (alive : Bool) (why : Refusal) → (if alive then None else Some NotAlive) ≡ Some why
-    → MatchBool alive (rows.Tells outcome.Marked marked (outcome.Refused why) s) (rows.Refuses NotAlive s (outcome.Refused why) s)
-kill_refused s marked true why e = (let d : ◌≡◌ {A = Option Refusal} None (Some why) = e in absurd (cc))
-kill_refused s marked false why e = tells s NotAlive why e
-
-kill_admitted : (s marked new : State) (alive : Bool) (told : Outcome)
-    → ◌≡◌ {A = Option Refusal} (if alive then None else Some NotAlive) None
-    → MatchBool alive (rows.Tells outcome.Marked marked told new) (rows.Refuses NotAlive s told new) → told ≡ outcome.Marked
-kill_admitted s marked new true told e row = row.0
-kill_admitted s marked new false told e row = never NotAlive e
-
--- a step that is refused, by its tests
-step_refused : (s : State) (dead : Bool) (c : Option Call) (Rows : Call → Type 0) (why : Refusal)
-    → (if dead then Some NotAlive else idle_unless c) ≡ Some why
-    → MatchBool dead (rows.Refuses NotAlive s (outcome.Refused why) s) (MatchOption c (rows.Refuses Idle s (outcome.Refused why) s) Rows)
-step_refused s true c Rows why e = tells s NotAlive why e
-step_refused s false None Rows why e = tells s Idle why e
-step_refused s false (Some c) Rows why e = (let d : ◌≡◌ {A = Option Refusal} None (Some why) = e in absurd (cc))
-
--- and one that isn't is one of a call
-step_admitted : (s new : State) (dead : Bool) (c : Option Call) (Rows : Call → Type 0) (told : Outcome)
-    → (if dead then Some NotAlive else idle_unless c) ≡ None
-    → MatchBool dead (rows.Refuses NotAlive s told new) (MatchOption c (rows.Refuses Idle s told new) Rows)
-    → (inflight : Call) × Rows inflight
-step_admitted s new true c Rows told e row = never NotAlive e
-step_admitted s new false None Rows told e row = never Idle e
-step_admitted s new false (Some c) Rows told e row = (c, row)
-
 -- no turn is told as a refusal
-turn_told : {P : Type 0} (call : P → Call) (turn : Turn P) (why : Refusal) → outcome.Refused why ≡ rows.told call turn → ⊥
+turn_told : {P : Type 0} (call : P → Call) (turn : Turn P) (why : Refusal) → outcome.Refused why ≡ rows.outcome_of call turn → ⊥
 turn_told call (Moved p) why e = absurd (cc)
 turn_told call (Blocked p holder) why e = absurd (cc)
 turn_told call (Ended a) why e = absurd (cc)
@@ -106,16 +45,8 @@ busy told wanted e not_idle idle = not_idle (subst (λ (o : Outcome). IsIdle o) 
 -- a refused event may do nothing
 pub refused_row : (s : CoreState) (event : Event) (why : Refusal) → refusal_of s.task_states event ≡ Some why
     → HeldBack s event (Some (outcome.Refused why))
-unfolding HeldBack Row rows.BeginRow rows.StepRow rows.KillRow ResizeRow lives_of calls_of
-refused_row s (Begin t op) why e = (tt, (begin_refused (as_state s) _ _ _ _ why e, refl))
-refused_row s (Step t grant) why e = (tt, (step_refused (as_state s) _ _ _ why e, refl))
-refused_row s (Kill t) why e = (tt, (kill_refused (as_state s) _ _ why e, refl))
-refused_row s (Resize n) why e = (tt, ((pool_in (as_state s), by_size _ (is_size n) e, refl), refl))
-  where
-    by_size : (Resizes : Type 0) (b : Bool) → ◌≡◌ {A = Option Refusal} (if b then None else Some BadSize) (Some why)
-        → MatchBool b Resizes ((outcome.Refused why ≡ outcome.Refused BadSize) × (pool_in (as_state s) ≡ pool_in (as_state s)))
-    by_size Resizes true d = (let z : ◌≡◌ {A = Option Refusal} None (Some why) = d in absurd (cc))
-    by_size Resizes false d = (ap (λ (r : Refusal). outcome.Refused r) (sym (some_same d)), refl)
+unfolding HeldBack Row
+refused_row s event why e = (tt, (refused_is s.parts s.task_states event why e, refl))
 
 -- nobody holds up the event, or that task does
 abbrev pub IsFree : CoreState → Event → Type 0
@@ -144,14 +75,6 @@ step_busy s new t grant (outcome.Refused why) e waits row idle =
     let found = step_admitted (as_state s) (as_state new) _ _ _ _ e row.0 in
     call_told _ t _ grant found.0 why found.1.0 found.1.1 found.1.2
 
--- a resize that isn't refused tells how many frames there are
-resize_admitted : (p new : Pool) (n : ℕ) (told : Outcome) → (if is_size n then None else Some BadSize) ≡ None
-    → ResizeRow p n told new → (m : ℕ) × (told ≡ outcome.Resized m)
-unfolding ResizeRow
-resize_admitted p new n told e row = by_test (is_size n) row
-    (λ is r. by_test (nat_lt (actives p) n) r.1 (λ more q. (n, q.1)) (λ fewer q. (actives p - surplus p n, q.1)))
-    (λ isnt r. never BadSize (sym (ap (λ (b : Bool). if b then None else Some BadSize) isnt) ∙ e))
-
 -- an event that isn't refused, and no step that is blocked, changes something
 pub admitted_row : (s : CoreState) (event : Event) → refusal_of s.task_states event ≡ None → IsFree s event → HeldBack s event None
 unfolding HeldBack Row rows.BeginRow rows.KillRow lives_of calls_of
@@ -174,9 +97,9 @@ blocked_row s (Resize n) holder waits = absurd waits
 -- what the readers of the task states find, of the core that they belong to
 pub read_back : (inside seen : CoreState) (event : Event) (why : Option Refusal) (holder : Option ℕ) → inside ≡ seen → IsSound inside
     → why ≡ refusal_of inside.task_states event → holder ≡ event_blocker inside.parts inside.task_states event
-    → HeldBack seen event (told_back why holder)
+    → HeldBack seen event (idle_outcome why holder)
 read_back inside seen event why holder same sound refused blocked =
-    subst (λ (s : CoreState). HeldBack s event (told_back why holder)) same (by_refusal why (sym refused) holder (sym blocked))
+    subst (λ (s : CoreState). HeldBack s event (idle_outcome why holder)) same (by_refusal why (sym refused) holder (sym blocked))
   where
     free : (e : Event) → event_blocker inside.parts inside.task_states e ≡ None → IsFree inside e
     free (Begin t op) none = tt
@@ -191,7 +114,7 @@ read_back inside seen event why holder same sound refused blocked =
     stuck (Resize n) h is = (let d : ◌≡◌ {A = Option ℕ} None (Some h) = is in absurd (cc))
 
     by_refusal : (r : Option Refusal) → refusal_of inside.task_states event ≡ r → (h : Option ℕ)
-        → event_blocker inside.parts inside.task_states event ≡ h → HeldBack inside event (told_back r h)
+        → event_blocker inside.parts inside.task_states event ≡ h → HeldBack inside event (idle_outcome r h)
     by_refusal (Some r) e h is = refused_row inside event r e
     by_refusal None e (Some h) is = blocked_row inside event h (stuck event h is)
     by_refusal None e None is = admitted_row inside event e (free event is)

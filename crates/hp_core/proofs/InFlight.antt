@@ -1,5 +1,5 @@
 -- Where no call is counted none is in flight, and the other way round.
-use Rattle.std.proofs.Common.{◌≡◌, ℕ, ◌+◌, ◌≤◌, Bool, true, false, Option, Some, None, IsSome, is_some, refl, sym, ap, ◌∙◌, arith}
+use Rattle.std.proofs.Common.{◌≡◌, ℕ, ◌+◌, Bool, true, false, Option, Some, None, IsSome, is_some, refl, ap, arith}
 use Rattle.hp_base.specs.Numbers.{bit}
 use Rattle.hp_base.proofs.Counting.{count_below_none}
 use Rattle.hp_base.proofs.Totals.{count_below-total, total_has}

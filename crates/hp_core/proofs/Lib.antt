@@ -12,6 +12,7 @@ pub mod Opens
 pub mod Order
 pub mod Pictures
 pub mod Reading
+pub mod Refusals
 pub mod Resizes
 pub mod Rows
 pub mod RunsOn
@@ -21,3 +22,6 @@ pub mod Sums
 pub mod Tallies
 pub mod Translations
 pub mod Waits
+pub mod Growing
+pub mod Holds
+pub mod Quiet

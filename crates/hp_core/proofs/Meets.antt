@@ -79,7 +79,8 @@ touch_fits s t (touch.Found p) reached few e =
 touch_fits s t (touch.Leave p) reached few e = (stands s t _ reached e).slot
 
 -- so does a map's
-map_fits : (s : State) (t : ℕ) (phase : MapPhase) → IsReached s → FewUsed s → s.calls t ≡ Some (call.Map phase) → MapFits (pool_of s) t phase
+map_fits : (s : State) (t : ℕ) (phase : MapPhase) → IsReached s → FewUsed s → s.calls t ≡ Some (call.Map phase)
+    → MapFits (pool_of s) t phase
 map_fits s t (map.Start p) reached few e = tt
 map_fits s t (map.Room p) reached few e = caller_there s t _ reached e
 map_fits s t (map.Missing p) reached few e = let h = stands s t _ reached e in (h.facts.range.file, h.facts.range.some, h.facts.range.limit)

@@ -1,5 +1,5 @@
 -- A core that nothing has happened to is the machine's opening, and sound.
-use Rattle.std.proofs.Common.{◌≡◌, ℕ, suc, ◌-◌, List, [], ◌∷◌, length, get_or, refl, sym, ◌∙◌, ap, subst, arith, inl, inr}
+use Rattle.std.proofs.Common.{◌≡◌, ℕ, ◌-◌, List, [], length, get_or, refl, sym, ◌∙◌, ap, subst, arith, inl, inr}
 use Rattle.std.proofs.Math.Path.{fun_ext}
 use Rattle.std.proofs.Math.ListN.{get_or-eq_default}
 use Rattle.std.proofs.lemmas.Bool.{cases_lt, ne_eqb}
@@ -199,10 +199,10 @@ module _ (z : Sizes) (p : PartsState) (task_states : List TaskState) (h : AreFre
     calls = calls_are i;
   }
 
-  pub are_sound : (room : ℕ) → IsWithinLimits z.frames z.files z.slots z.tasks
-      → IsSound (record { sizes = z; parts = p; task_states = task_states; room = room })
+  pub are_sound : (capacity : ℕ) → IsWithinLimits z.frames z.files z.slots z.tasks
+      → IsSound (record { sizes = z; parts = p; task_states = task_states; capacity = capacity })
   unfolding IsSound
-  are_sound room within = (
+  are_sound capacity within = (
     ([], is_opening ∙ λ i. rows.opening (sym geometry_is i) z.frames),
     record {
       locks = ap (λ (ss : List (Option ℕ)). length ss) h.all_locks ∙ (length-replicate z.files None ∙ sym h.files_long);
@@ -216,10 +216,10 @@ module _ (z : Sizes) (p : PartsState) (task_states : List TaskState) (h : AreFre
   )
 
 -- so it opens the machine
-pub opens_as : (config : Config) (p : PartsState) (task_states : List TaskState) (room : ℕ) → AreFresh (sizes config) p task_states
-    → IsOpening config (record { sizes = sizes config; parts = p; task_states = task_states; room = room })
+pub opens_as : (config : Config) (p : PartsState) (task_states : List TaskState) (capacity : ℕ) → AreFresh (sizes config) p task_states
+    → IsOpening config (record { sizes = sizes config; parts = p; task_states = task_states; capacity = capacity })
 unfolding IsOpening
-opens_as config p task_states room h = (refl, is_opening (sizes config) p task_states h)
+opens_as config p task_states capacity h = (refl, is_opening (sizes config) p task_states h)
 
 no_call : (o : Option Call) → o ≡ None → IsSome o → ⊥
 no_call o none there =
@@ -227,9 +227,9 @@ no_call o none there =
     cc
 
 -- so no call is in flight at first
-pub none_in_flight : (z : Sizes) (p : PartsState) (task_states : List TaskState) (room : ℕ) → All IsVacant task_states
-    → readers.calls_of (record { sizes = z; parts = p; task_states = task_states; room = room }) ≡ 0
+pub none_in_flight : (z : Sizes) (p : PartsState) (task_states : List TaskState) (capacity : ℕ) → All IsVacant task_states
+    → readers.calls_of (record { sizes = z; parts = p; task_states = task_states; capacity = capacity }) ≡ 0
 unfolding calls_of
-none_in_flight z p task_states room fresh =
-    none_counts (record { sizes = z; parts = p; task_states = task_states; room = room })
+none_in_flight z p task_states capacity fresh =
+    none_counts (record { sizes = z; parts = p; task_states = task_states; capacity = capacity })
     (λ t there. no_call (task_state_at task_states t).call (vacant_call task_states fresh t) there)

@@ -37,8 +37,8 @@ unfolding config_of
 task_in {task = task} same high = subst (λ (s : CoreState). task ≤ s.sizes.tasks) (sym same) high
 
 -- it has a space
-pub space_in : {inside seen : CoreState} {n task : ℕ} → inside ≡ seen → IsSound inside → n ≡ task → 1 ≤ task
-    → task ≤ (config_of seen).tasks → n - 1 < length inside.parts.spaces
+pub space_in : {inside seen : CoreState} {n task : ℕ} → inside ≡ seen → IsSound inside → n ≡ task - 1 → 1 ≤ task
+    → task ≤ (config_of seen).tasks → n < length inside.parts.spaces
 unfolding IsSound
 space_in {task = task} same h e low high =
     let k = h.1.spaces in
@@ -46,17 +46,17 @@ space_in {task = task} same h e low high =
     omega (arith, k, low, within, e)
 
 -- and what is read there is the machine's table of the task
-pub space_read : {inside seen : CoreState} {n task : ℕ} {y : Table} → inside ≡ seen → IsSound inside → n ≡ task → 1 ≤ task
-    → task ≤ (config_of seen).tasks → y ≡ get_or inside.parts.spaces (n - 1) y → y ≡ table_of seen.parts.spaces task
+pub space_read : {inside seen : CoreState} {n task : ℕ} {y : Table} → inside ≡ seen → IsSound inside → n ≡ task - 1 → 1 ≤ task
+    → task ≤ (config_of seen).tasks → y ≡ get_or inside.parts.spaces n y → y ≡ table_of seen.parts.spaces task
 space_read {inside} {n = n} {task = task} {y = y} same h e low high is =
     let q : (task == 0) ≡ false = ne_eqb task 0 (λ z. omega (arith, z, low)) in
-    rw q (is ∙ (get_or_default inside.parts.spaces (n - 1) y no_table (space_in same h e low high)
-    ∙ (ap (λ (k : ℕ). get_or inside.parts.spaces (k - 1) no_table) e
+    rw q (is ∙ (get_or_default inside.parts.spaces n y no_table (space_in same h e low high)
+    ∙ (ap (λ (k : ℕ). get_or inside.parts.spaces k no_table) e
     ∙ ap (λ (s : CoreState). get_or s.parts.spaces (task - 1) no_table) same)))
 
 -- it has a task state
-pub task_state_in : {inside seen : CoreState} {n task : ℕ} → inside ≡ seen → IsSound inside → n ≡ task → 1 ≤ task
-    → task ≤ (config_of seen).tasks → n - 1 < length inside.task_states
+pub task_state_in : {inside seen : CoreState} {n task : ℕ} → inside ≡ seen → IsSound inside → n ≡ task - 1 → 1 ≤ task
+    → task ≤ (config_of seen).tasks → n < length inside.task_states
 unfolding IsSound
 task_state_in {task = task} same h e low high =
     let k = h.1.task_states in
@@ -64,12 +64,13 @@ task_state_in {task = task} same h e low high =
     omega (arith, k, low, within, e)
 
 -- and what is read there is the machine's
-pub task_state_read : {inside seen : CoreState} {n task : ℕ} {y : TaskState} → inside ≡ seen → IsSound inside → n ≡ task → 1 ≤ task
-    → task ≤ (config_of seen).tasks → y ≡ get_or inside.task_states (n - 1) y → y ≡ task_state_at seen.task_states task
+pub task_state_read : {inside seen : CoreState} {n task : ℕ} {y : TaskState} → inside ≡ seen → IsSound inside → n ≡ task - 1 → 1 ≤ task
+    → task ≤ (config_of seen).tasks → y ≡ get_or inside.task_states n y → y ≡ task_state_at seen.task_states task
 task_state_read {inside} {n = n} {task = task} {y = y} same h e low high is =
     let q : (task == 0) ≡ false = ne_eqb task 0 (λ z. omega (arith, z, low)) in
-    rw q (is ∙ (get_or_default inside.task_states (n - 1) y no_task_state (task_state_in same h e low high)
-    ∙ (ap (λ (k : ℕ). get_or inside.task_states (k - 1) no_task_state) e ∙ ap (λ (s : CoreState). get_or s.task_states (task - 1) no_task_state) same)))
+    rw q (is ∙ (get_or_default inside.task_states n y no_task_state (task_state_in same h e low high)
+    ∙ (ap (λ (k : ℕ). get_or inside.task_states k no_task_state) e
+    ∙ ap (λ (s : CoreState). get_or s.task_states (task - 1) no_task_state) same)))
 
 -- a pool may have so many frames as the limits allow
 few_frames : (a b c d : ℕ) → IsWithinLimits a b c d → is_size a ≡ true

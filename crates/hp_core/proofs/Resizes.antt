@@ -11,7 +11,6 @@ use Rattle.hp_frames.specs.declared.frame.FrameState.TheVariants.{Free, Hand, Re
 use Rattle.hp_machine.specs.Resizes.{is_size, ResizeRow, Retires, surplus}
 use Rattle.hp_machine.specs.State.{active_frames, actives}
 use Rattle.hp_machine.specs.declared.outcome.Outcome.TheVariants as outcome
-use Rattle.hp_machine.specs.declared.outcome.Refusal.TheVariants as refusal
 use Rattle.hp_parts.specs.State.{PartsState}
 use Rattle.hp_parts.specs.View.{pool_of}
 use Rattle.hp_parts.proofs.Laws.{free_frames_is}
@@ -31,14 +30,9 @@ past xs x l = get_or-eq_default xs Hand l
 pub sized : (n : ℕ) → 1 ≤ n → n ≤ 4096 → is_size n ≡ true
 sized n low high = grind (arith, nat_tests)
 
--- a size that no pool may have is refused
-pub refused_row : (p : PartsState) (n : ℕ) → is_size n ≡ false → ResizeRow (pool_of p) n (outcome.Refused refusal.BadSize) (pool_of p)
-unfolding ResizeRow
-refused_row p n bad = at_false _ _ (is_size n) bad (refl, refl)
-
 -- a bank that has grown
 pub grown_row : (p : PartsState) (new : BankState) (n k : ℕ) → is_size n ≡ true → n ≡ bank.active_frames p.bank.frames + k → 0 < k
-    → HasGrown p.bank.frames new.frames k → new ≡ record p.bank { frames = new.frames; room = new.room }
+    → HasGrown p.bank.frames new.frames k → new ≡ record p.bank { frames = new.frames; capacity = new.capacity }
     → ResizeRow (pool_of p) n (outcome.Resized n) (pool_of (record p { bank = new }))
 unfolding ResizeRow
 grown_row p new n k size all some h rest =

@@ -7,8 +7,8 @@ use Rattle.std.proofs.lemmas.List.{take_all}
 use Rattle.std.proofs.lemmas.List.Sums.{sum_by_more}
 use Rattle.hp_base.specs.Numbers.{bit, total}
 use Rattle.hp_base.proofs.Totals.{count_below-total, total_same}
-use Rattle.hp_machine.specs.Views.{less, more, used_owed}
-use Rattle.hp_machine.specs.Headline.{all_less, all_more}
+use Rattle.hp_machine.specs.Views.{behind, ahead, used_ahead}
+use Rattle.hp_machine.specs.Headline.{all_behind, all_ahead}
 use Rattle.hp_machine.specs.declared.call.Call.{Call}
 use Rattle.hp_core.specs.declared.task_state.TaskState.{TaskState}
 use Rattle.hp_core.specs.Readers.{owed_of, used_owed_of}
@@ -48,12 +48,12 @@ sum_is f xs n none e =
 
 -- so is what all calls owe to the used count
 pub used_owed_is : (s : CoreState) (task_states : List TaskState) (n : ℕ) → IsSound s → task_states ≡ s.task_states
-    → n ≡ sum_by (λ task_state. used_owed task_state.call) task_states → pos n ≡ used_owed_of s
+    → n ≡ sum_by (λ task_state. used_ahead task_state.call) task_states → pos n ≡ used_owed_of s
 unfolding IsSound used_owed_of
 used_owed_is s task_states n h e uses =
     let many : length s.parts.spaces ≡ length s.task_states = h.1.spaces ∙ sym h.1.task_states in
-    ap (λ (k : ℕ). pos k) (uses ∙ (ap (λ (xs : List TaskState). sum_by (λ (task_state : TaskState). used_owed task_state.call) xs) e
-    ∙ sum_is used_owed s.task_states _ refl many))
+    ap (λ (k : ℕ). pos k) (uses ∙ (ap (λ (xs : List TaskState). sum_by (λ (task_state : TaskState). used_ahead task_state.call) xs) e
+    ∙ sum_is used_ahead s.task_states _ refl many))
 
 as_bit : (o : Option Call) → cond (is_some o) 1 0 ≡ bit (is_some o)
 as_bit None = refl
@@ -72,12 +72,15 @@ calls_are s kept =
 
 -- so is what all calls owe
 pub owed_is : (s : CoreState) (task_states : List TaskState) (a b : ℕ) → IsSound s → task_states ≡ s.task_states
-    → b ≡ sum_by (λ task_state. less task_state.call) task_states → a ≡ sum_by (λ task_state. more task_state.call) task_states → (pos a -ℤ pos b) ≡ owed_of s
+    → b ≡ sum_by (λ task_state. behind task_state.call) task_states → a ≡ sum_by (λ task_state. ahead task_state.call) task_states
+    → (pos a -ℤ pos b) ≡ owed_of s
 unfolding IsSound owed_of
-owed_is s task_states a b h e lesses mores =
+owed_is s task_states a b h e behinds aheads =
     let n : length s.parts.spaces ≡ length s.task_states = h.1.spaces ∙ sym h.1.task_states in
-    let one : b ≡ all_less (as_state s) =
-    lesses ∙ (ap (λ (xs : List TaskState). sum_by (λ (task_state : TaskState). less task_state.call) xs) e ∙ sum_is less s.task_states _ refl n) in
-    let two : a ≡ all_more (as_state s) =
-    mores ∙ (ap (λ (xs : List TaskState). sum_by (λ (task_state : TaskState). more task_state.call) xs) e ∙ sum_is more s.task_states _ refl n) in
+    let one : b ≡ all_behind (as_state s) =
+    behinds ∙ (ap (λ (xs : List TaskState). sum_by (λ (task_state : TaskState). behind task_state.call) xs) e
+    ∙ sum_is behind s.task_states _ refl n) in
+    let two : a ≡ all_ahead (as_state s) =
+    aheads ∙ (ap (λ (xs : List TaskState). sum_by (λ (task_state : TaskState). ahead task_state.call) xs) e
+    ∙ sum_is ahead s.task_states _ refl n) in
     λ i. pos (two i) -ℤ pos (one i)

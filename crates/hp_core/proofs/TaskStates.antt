@@ -2,7 +2,7 @@
 use Rattle.std.proofs.Common.{◌≡◌, ◌≢◌, ℕ, ◌-◌, ◌≤◌, List, length, get_or, refl, sym, ◌∙◌, ap, subst, arith, inl, inr}
 use Rattle.std.proofs.Math.Path.{fun_ext}
 use Rattle.std.proofs.Math.ListN.{get_or-eq_default}
-use Rattle.std.specs.Prelude.{Bool, true, false, not, Option, Some, None, ◌==◌, ◌&&◌, MatchBool, MatchOption}
+use Rattle.std.specs.Prelude.{Bool, true, false, Option, Some, None, ◌==◌, MatchBool, MatchOption}
 use Rattle.std.proofs.lemmas.Bool.{ne_eqb, cases_lt}
 use Rattle.std.proofs.lemmas.Bool.Decides.{nat_tests}
 use Rattle.std.proofs.lemmas.Grind.{common_steps}
@@ -10,25 +10,23 @@ use Rattle.std.proofs.lemmas.List.{get_or-set_same, get_or-set_other}
 use Rattle.hp_base.specs.Numbers.{put}
 use Rattle.hp_base.specs.declared.event.Op.{Op}
 use Rattle.hp_base.proofs.Puts.{put_same, put_other, same_or_other}
-use Rattle.hp_machine.specs.State.{is_alive, is_killed, is_dead}
-use Rattle.hp_machine.specs.Events.{BeginRow, StepRow, KillRow, CallRow, first, is_exit, lives_after}
+use Rattle.hp_machine.specs.State.{is_killed, is_dead}
+use Rattle.hp_machine.specs.Events.{StepRow, CallRow, first, lives_after}
 use Rattle.hp_machine.specs.declared.call.Call.{Call}
 use Rattle.hp_machine.specs.declared.call.Call.TheVariants as call
-use Rattle.hp_machine.specs.declared.outcome.Life.{Life}
-use Rattle.hp_machine.specs.declared.outcome.Life.TheVariants.{Alive, Killed, Dead}
+use Rattle.hp_machine.specs.declared.outcome.Life.TheVariants.{Killed}
 use Rattle.hp_machine.specs.declared.outcome.Outcome.{Outcome}
-use Rattle.hp_machine.specs.declared.outcome.Outcome.TheVariants as outcome
-use Rattle.hp_machine.specs.declared.outcome.Refusal.TheVariants as refusal
 use Rattle.hp_laws.proofs.Invariant.{put_known}
 use Rattle.hp_parts.specs.State.{PartsState}
 use Rattle.hp_parts.specs.View.{pool_of}
 use Rattle.hp_core.specs.declared.task_state.TaskState.{TaskState}
 use Rattle.hp_core.specs.State.{task_state_at, no_task_state, calls_of, lives_of, state_with}
-use Rattle.hp_core.specs.TaskStates.{BeginTaskStates, KillTaskStates, with_task_state}
+use Rattle.hp_core.specs.TaskStates.{with_task_state, with_call, with_kill}
 use Rattle.hp_core.specs.Turns.{life_after}
 
 -- a task that isn't dead has a task state
-pub seated : (task_states : List TaskState) (t : ℕ) → is_dead (task_state_at task_states t).life ≡ false → (1 ≤ t) × (t ≤ length task_states)
+pub seated : (task_states : List TaskState) (t : ℕ) → is_dead (task_state_at task_states t).life ≡ false
+    → (1 ≤ t) × (t ≤ length task_states)
 seated task_states t alive = elim (same_or_other t 0) [
   | inl e ↦ absurd (let d : is_dead (task_state_at task_states t).life ≡ true = ap (λ (k : ℕ). is_dead (task_state_at task_states k).life)
       e in let f : true ≡ false = sym d ∙ alive in cc)
@@ -42,21 +40,25 @@ seated task_states t alive = elim (same_or_other t 0) [
 ]
 
 -- the task state that is written is what was written
-pub at_task_state : (task_states : List TaskState) (t : ℕ) (y : TaskState) → 1 ≤ t → t ≤ length task_states → task_state_at (with_task_state task_states t y) t ≡ y
+pub at_task_state : (task_states : List TaskState) (t : ℕ) (y : TaskState) → 1 ≤ t → t ≤ length task_states
+    → task_state_at (with_task_state task_states t y) t ≡ y
 at_task_state task_states t y low high = grind (arith, common_steps, nat_tests, get_or-set_same)
 
 -- each other task state is as it was
-pub off_task_state : (task_states : List TaskState) (t : ℕ) (y : TaskState) (j : ℕ) → 1 ≤ t → j ≢ t → task_state_at (with_task_state task_states t y) j ≡ task_state_at task_states j
+pub off_task_state : (task_states : List TaskState) (t : ℕ) (y : TaskState) (j : ℕ) → 1 ≤ t → j ≢ t
+    → task_state_at (with_task_state task_states t y) j ≡ task_state_at task_states j
 off_task_state task_states t y j low h = elim (same_or_other j 0) [
   | inl e ↦ rw e refl
-  | inr d ↦ (let q : (j == 0) ≡ false = ne_eqb j 0 d in rw q (get_or-set_other task_states (t - 1) (j - 1) y no_task_state (λ e. h (omega arith))))
+  | inr d ↦ (let q : (j == 0) ≡ false = ne_eqb j 0 d in
+      rw q (get_or-set_other task_states (t - 1) (j - 1) y no_task_state (λ e. h (omega arith))))
 ]
 
 -- a part of one task state changes
 seen_set : {B : Type 0} (v : TaskState → B) (task_states : List TaskState) (t : ℕ) (y : TaskState) → 1 ≤ t → t ≤ length task_states
     → ◌≡◌ {A = ℕ → B} (λ j. v (task_state_at (with_task_state task_states t y) j)) (put (λ j. v (task_state_at task_states j)) t (v y))
 seen_set {B} v task_states t y low high = fun_ext (λ j. elim (same_or_other j t) [
-  | inl e ↦ subst (λ (w : ℕ). v (task_state_at (with_task_state task_states t y) w) ≡ put (λ (k : ℕ). v (task_state_at task_states k)) t (v y) w)
+  | inl e ↦ subst (λ (w : ℕ). v (task_state_at (with_task_state task_states t y) w)
+      ≡ put (λ (k : ℕ). v (task_state_at task_states k)) t (v y) w)
       (sym e) (ap v (at_task_state task_states t y low high) ∙ sym (put_same (λ (k : ℕ). v (task_state_at task_states k)) t (v y)))
   | inr h ↦ ap v (off_task_state task_states t y j low h) ∙ sym (put_other (λ (k : ℕ). v (task_state_at task_states k)) t (v y) j h)
 ])
@@ -74,27 +76,18 @@ unfolding lives_of
 lives_set task_states t y low high = seen_set (λ (s : TaskState). s.life) task_states t y low high
 
 -- a write that keeps the task's life keeps all lives
-pub lives_same : (task_states : List TaskState) (t : ℕ) (y : TaskState) → 1 ≤ t → t ≤ length task_states → y.life ≡ (task_state_at task_states t).life
+pub lives_same : (task_states : List TaskState) (t : ℕ) (y : TaskState) → 1 ≤ t → t ≤ length task_states
+    → y.life ≡ (task_state_at task_states t).life
     → lives_of (with_task_state task_states t y) ≡ lives_of task_states
 unfolding lives_of
 lives_same task_states t y low high same = lives_set task_states t y low high ∙ put_known (lives_of task_states) t y.life (sym same)
 
 -- and one that keeps its call all calls
-pub calls_same : (task_states : List TaskState) (t : ℕ) (y : TaskState) → 1 ≤ t → t ≤ length task_states → y.call ≡ (task_state_at task_states t).call
+pub calls_same : (task_states : List TaskState) (t : ℕ) (y : TaskState) → 1 ≤ t → t ≤ length task_states
+    → y.call ≡ (task_state_at task_states t).call
     → calls_of (with_task_state task_states t y) ≡ calls_of task_states
 unfolding calls_of
 calls_same task_states t y low high same = calls_set task_states t y low high ∙ put_known (calls_of task_states) t y.call (sym same)
-
--- which way a test goes, and what follows there
-map_test : {P Q X Y : Type 0} (b : Bool) → (b ≡ true → P → X) → (b ≡ false → Q → Y) → MatchBool b P Q → MatchBool b X Y
-map_test true first second m = first refl m
-map_test false first second m = second refl m
-
--- so with an option
-map_option : {A P X : Type 0} {Q Y : A → Type 0} (o : Option A) → (o ≡ None → P → X) → ((x : A) → o ≡ Some x → Q x → Y x)
-    → MatchOption o P Q → MatchOption o X Y
-map_option None none some m = none refl m
-map_option (Some x) none some m = some x refl m
 
 -- what follows from a row by a test, from either case
 pub by_test : {P Q X : Type 0} (b : Bool) → MatchBool b P Q → (b ≡ true → P → X) → (b ≡ false → Q → X) → X
@@ -123,68 +116,26 @@ at_none {A} P Q o e p = subst (λ (c : Option A). MatchOption c P Q) (sym e) p
 pub at_some : {A : Type 0} (P : Type 0) (Q : A → Type 0) (o : Option A) (x : A) → o ≡ Some x → Q x → MatchOption o P Q
 at_some {A} P Q o x e q = subst (λ (c : Option A). MatchOption c P Q) (sym e) q
 
--- a begin of the task states is one of the machine
-pub begin_row : (p : PartsState) (task_states new : List TaskState) (t : ℕ) (op : Op) (told : Outcome) → BeginTaskStates task_states t op told new
-    → BeginRow (state_with p task_states) t op told (state_with p new)
-unfolding BeginRow lives_of calls_of
-begin_row p task_states new t op told row =
-    map_test (is_dead (task_state_at task_states t).life)
-    (λ dead r. (r.0, ap (state_with p) r.1))
-    (λ alive rest. map_option (task_state_at task_states t).call
-    (λ none m. map_test (is_killed (task_state_at task_states t).life && not (is_exit op))
-    (λ killed r. (r.0, ap (state_with p) r.1))
-    (λ free r. (r.0, ap (state_with p) r.1 ∙ begun p task_states t op alive)) m)
-    (λ call some r. (r.0, ap (state_with p) r.1)) rest) row
-  where
-    begun : (p : PartsState) (task_states : List TaskState) (t : ℕ) (op : Op) → is_dead (task_state_at task_states t).life ≡ false
-        → state_with p (with_task_state task_states t
-        (record { life = (task_state_at task_states t).life; call = Some (first op) })) ≡ record (state_with p
-        task_states) { calls = put (calls_of task_states) t (Some (first op)) }
-    begun p task_states t op alive =
-        let l = seated task_states t alive in
-        let y : TaskState = record { life = (task_state_at task_states t).life; call = Some (first op) } in
-        let lives = lives_same task_states t y l.0 l.1 refl in
-        let calls = calls_set task_states t y l.0 l.1 in
-        λ i. record (state_with p task_states) { life = lives i; calls = calls i }
+-- a task state with a call, as the machine sees it
+pub call_begun : (p : PartsState) (task_states : List TaskState) (t : ℕ) (op : Op) → is_dead (task_state_at task_states t).life ≡ false
+    → state_with p (with_call task_states t op)
+    ≡ record (state_with p task_states) { calls = put (calls_of task_states) t (Some (first op)) }
+call_begun p task_states t op alive =
+    let l = seated task_states t alive in
+    let y : TaskState = record { life = (task_state_at task_states t).life; call = Some (first op) } in
+    let lives = lives_same task_states t y l.0 l.1 refl in
+    let calls = calls_set task_states t y l.0 l.1 in
+    λ i. record (state_with p task_states) { life = lives i; calls = calls i }
 
--- so is a kill
-pub kill_row : (p : PartsState) (task_states new : List TaskState) (t : ℕ) (told : Outcome) → KillTaskStates task_states t told new
-    → KillRow (state_with p task_states) t told (state_with p new)
-unfolding KillRow lives_of
-kill_row p task_states new t told row =
-    map_test (is_alive (task_state_at task_states t).life)
-    (λ alive r. (r.0, ap (state_with p) r.1 ∙ marked p task_states t alive))
-    (λ gone r. (r.0, ap (state_with p) r.1)) row
-  where
-    lives : (l : Life) → is_alive l ≡ true → is_dead l ≡ false
-    lives Alive e = refl
-    lives Killed e = refl
-    lives Dead e = absurd (let f : false ≡ true = e in cc)
-
-    marked : (p : PartsState) (task_states : List TaskState) (t : ℕ) → is_alive (task_state_at task_states t).life ≡ true
-        → state_with p (with_task_state task_states t
-        (record { life = Killed; call = (task_state_at task_states t).call })) ≡ record (state_with p task_states) {
-          life = put
-              (lives_of task_states) t Killed;
-        }
-    marked p task_states t alive =
-        let l = seated task_states t (lives (task_state_at task_states t).life alive) in
-        let y : TaskState = record { life = Killed; call = (task_state_at task_states t).call } in
-        let life = lives_set task_states t y l.0 l.1 in
-        let calls = calls_same task_states t y l.0 l.1 refl in
-        λ i. record (state_with p task_states) { life = life i; calls = calls i }
-
--- a step of a task that is dead, or has no call, is refused
-pub dead_row : (p : PartsState) (task_states : List TaskState) (t : ℕ) (grant : Bool) → is_dead (task_state_at task_states t).life ≡ true
-    → StepRow (state_with p task_states) t grant (outcome.Refused refusal.NotAlive) (state_with p task_states)
-unfolding StepRow lives_of calls_of
-dead_row p task_states t grant dead = at_true _ _ _ dead (refl, refl)
-
--- and so is that of an alive task without a call
-pub idle_row : (p : PartsState) (task_states : List TaskState) (t : ℕ) (grant : Bool) → is_dead (task_state_at task_states t).life ≡ false
-    → (task_state_at task_states t).call ≡ None → StepRow (state_with p task_states) t grant (outcome.Refused refusal.Idle) (state_with p task_states)
-unfolding StepRow lives_of calls_of
-idle_row p task_states t grant alive none = at_false _ _ _ alive (at_none _ _ _ none (refl, refl))
+-- and one that is killed
+pub kill_marked : (p : PartsState) (task_states : List TaskState) (t : ℕ) → is_dead (task_state_at task_states t).life ≡ false
+    → state_with p (with_kill task_states t) ≡ record (state_with p task_states) { life = put (lives_of task_states) t Killed }
+kill_marked p task_states t alive =
+    let l = seated task_states t alive in
+    let y : TaskState = record { life = Killed; call = (task_state_at task_states t).call } in
+    let life = lives_set task_states t y l.0 l.1 in
+    let calls = calls_same task_states t y l.0 l.1 refl in
+    λ i. record (state_with p task_states) { life = life i; calls = calls i }
 
 -- how tasks live after a step of one of them
 lives_step : (task_states : List TaskState) (t : ℕ) (y : TaskState) (inflight : Call) → 1 ≤ t → t ≤ length task_states
@@ -204,13 +155,13 @@ lives_step task_states t y (call.Exit p) low high e = by_end y.call e
     by_end (Some next) d = lives_same task_states t y low high d
 
 -- a step of a task's call is one of the machine
-pub step_row : (p n : PartsState) (task_states : List TaskState) (t : ℕ) (grant : Bool) (told : Outcome) (inflight : Call) (y : TaskState)
+pub step_row : (p n : PartsState) (task_states : List TaskState) (t : ℕ) (grant : Bool) (o : Outcome) (inflight : Call) (y : TaskState)
     → is_dead (task_state_at task_states t).life ≡ false → (task_state_at task_states t).call ≡ Some inflight
-    → CallRow (pool_of p) t (is_killed (task_state_at task_states t).life) grant inflight told (pool_of n) y.call
+    → CallRow (pool_of p) t (is_killed (task_state_at task_states t).life) grant inflight o (pool_of n) y.call
     → y.life ≡ life_after (task_state_at task_states t).life inflight y.call
-    → StepRow (state_with p task_states) t grant told (state_with n (with_task_state task_states t y))
+    → StepRow (state_with p task_states) t grant o (state_with n (with_task_state task_states t y))
 unfolding StepRow lives_of calls_of
-step_row p n task_states t grant told inflight y alive some row lives =
+step_row p n task_states t grant o inflight y alive some row lives =
     let l = seated task_states t alive in
     let life = lives_step task_states t y inflight l.0 l.1 lives in
     let calls = calls_set task_states t y l.0 l.1 in

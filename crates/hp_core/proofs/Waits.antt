@@ -442,7 +442,7 @@ exit_held p t killed grant (exit.Drop q) turn new row = leads_on _ turn _ new _ 
 exit_held p t killed grant exit.Leave turn new row = ap held_up row.0
 
 -- what a turn tells names the holder that it waits for
-told_held : {P : Type 0} (inflight : P → Call) (turn : Turn P) → told_of (rows.told inflight turn) ≡ held_up turn
+told_held : {P : Type 0} (inflight : P → Call) (turn : Turn P) → told_of (rows.outcome_of inflight turn) ≡ held_up turn
 told_held inflight (Moved p) = refl
 told_held inflight (Blocked p h) = refl
 told_held inflight (Ended a) = refl
@@ -516,7 +516,8 @@ pub step_blocks : (s : CoreState) (t : ℕ) (grant : Bool) (h : ℕ) → task_bl
     → rows.StepRow (as_state s) t grant (outcome.Blocked h) (as_state s)
 unfolding rows.StepRow lives_of calls_of
 step_blocks s t grant h e =
-    let b = blocker_parts s.parts (is_dead (task_state_at s.task_states t).life) (is_killed (task_state_at s.task_states t).life) (task_state_at s.task_states t).call h e in
+    let b = blocker_parts s.parts (is_dead (task_state_at s.task_states t).life) (is_killed (task_state_at s.task_states t).life)
+    (task_state_at s.task_states t).call h e in
     let inflight = b.1.0 in
     let calls = same_calls (calls_of s.task_states) t inflight b.1.1 in
     let lives = lives_on (lives_of s.task_states) t inflight inflight in

@@ -1,13 +1,13 @@
 -- What the next step of a task's call has to take, and what the call owes.
 use Rattle.std.specs.Prelude.{ℕ, ℤ, pos, ◌-ℤ◌, Option}
 use Rattle.hp_machine.specs.Standings.{Want, Nothing, Lock, Slot, standing_of}
-use Rattle.hp_machine.specs.Views.{less, more}
+use Rattle.hp_machine.specs.Views.{behind, ahead}
 use Rattle.hp_machine.specs.declared.call.Call.{Call}
 use Rattle.hp_core.specs.State.{CoreState, as_state}
 use Rattle.hp_core.specs.declared.acquiring.Acquired.{Acquired}
 use Rattle.hp_core.specs.declared.acquiring.Acquired.TheVariants as wanted
 
--- what is told of what a call wants
+-- what a call wants, as the code says it
 abbrev pub acquired_as : Want → Acquired
 acquired_as Nothing = wanted.Nothing
 acquired_as (Lock file) = wanted.Lock file
@@ -23,7 +23,7 @@ acquired_of s t = wanted_by ((as_state s).calls t)
 
 -- what a call in flight owes to the reserve count
 abbrev pub owed_by_call : Option Call → ℤ
-owed_by_call c = pos (more c) -ℤ pos (less c)
+owed_by_call c = pos (ahead c) -ℤ pos (behind c)
 
 -- what the task's call owes to it
 unfoldable pub owed_by_of : CoreState → (task : ℕ) → ℤ

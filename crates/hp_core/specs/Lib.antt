@@ -7,6 +7,7 @@ pub mod Holding
 pub mod Opening
 pub mod Pictures
 pub mod Readers
+pub mod Refusals
 pub mod RunLaws
 pub mod Runs
 pub mod TaskStates
@@ -16,3 +17,4 @@ pub mod State
 pub mod Turns
 pub mod Waiting
 pub mod Acquiring
+pub mod Passing

@@ -7,7 +7,7 @@ use Rattle.hp_base.specs.Text.{Sizes}
 use Rattle.hp_base.specs.declared.limits.TheConstants.{LIMIT, VPNS}
 use Rattle.hp_machine.specs.State.{active_frames, free_frames}
 use Rattle.hp_machine.specs.Events.{word_of}
-use Rattle.hp_machine.specs.Headline.{all_calls, all_less, all_more, all_used_owed}
+use Rattle.hp_machine.specs.Headline.{all_calls, all_behind, all_ahead, all_used_ahead}
 use Rattle.hp_machine.specs.declared.outcome.Life.{Life}
 use Rattle.hp_machine.specs.declared.phase.Phase.{Phase}
 use Rattle.hp_core.specs.State.{CoreState, as_state}
@@ -30,7 +30,7 @@ resv_of s = (as_state s).resv
 
 -- what the calls in flight owe to the reserve count
 unfoldable pub owed_of : CoreState → ℤ
-owed_of s = pos (all_more (as_state s)) -ℤ pos (all_less (as_state s))
+owed_of s = pos (all_ahead (as_state s)) -ℤ pos (all_behind (as_state s))
 
 -- the used count
 unfoldable pub used_of : CoreState → ℕ
@@ -38,7 +38,7 @@ used_of s = (as_state s).used
 
 -- what the calls in flight owe to it
 unfoldable pub used_owed_of : CoreState → ℤ
-used_owed_of s = pos (all_used_owed (as_state s))
+used_owed_of s = pos (all_used_ahead (as_state s))
 
 -- how many pages the files may use, where that is limited
 unfoldable pub quota_of : CoreState → Option ℕ

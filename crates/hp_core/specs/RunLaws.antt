@@ -7,8 +7,8 @@ use Rattle.hp_sequential.specs.Renaming.{Alike}
 use Rattle.hp_core.specs.State.{CoreState, as_state}
 use Rattle.hp_core.specs.Runs.{Run, IsOpening}
 
--- two cores of one config to which the same happened told the same, and are equal up to a renaming of frames
+-- two cores of one config to which the same happened have the same outcomes, and are equal up to a renaming of frames
 abbrev pub FramesDontShow : Config → Type 0
-FramesDontShow config = (a b s n : CoreState) (events : List Event) (told other : List Outcome)
-    → IsOpening config a → IsOpening config b → Run a events told s → Run b events other n
-    → (other ≡ told) × Alike (as_state s) (as_state n)
+FramesDontShow config = (a b s n : CoreState) (events : List Event) (outcomes other : List Outcome)
+    → IsOpening config a → IsOpening config b → Run a events outcomes s → Run b events other n
+    → (other ≡ outcomes) × Alike (as_state s) (as_state n)

@@ -11,9 +11,9 @@ use Rattle.hp_machine.specs.Headline as head
 use Rattle.hp_machine.specs.Resizes.{is_size}
 use Rattle.hp_machine.specs.Wants.{Wants}
 use Rattle.hp_machine.specs.declared.outcome.Outcome.{Outcome}
-use Rattle.hp_machine.specs.declared.outcome.Outcome.TheVariants as outcome
+use Rattle.hp_machine.specs.declared.outcome.Outcome.TheVariants.{Begun, Moved, Blocked, Ended, Marked, Resized, Refused}
 use Rattle.hp_base.specs.declared.limits.TheConstants.{LIMIT, VPNS}
-use Rattle.hp_parts.specs.Room.{RoomStays}
+use Rattle.hp_parts.specs.Capacity.{CapacityStays}
 use Rattle.hp_parts.specs.State.{PartsState}
 use Rattle.hp_parts.specs.View.{pool_of}
 use Rattle.hp_core.specs.declared.task_state.TaskState.{TaskState}
@@ -33,21 +33,22 @@ IsOpening config s = (s.sizes ≡ sizes config) × (as_state s ≡ events.openin
 
 -- the event is a row of the machine, and the config stays
 unfoldable pub Row : CoreState → Event → Outcome → CoreState → Type 0
-Row s event told new = events.Row (as_state s) event told (as_state new) × (new.sizes ≡ s.sizes)
+Row s event outcome new = events.Row (as_state s) event outcome (as_state new) × (new.sizes ≡ s.sizes)
 
 -- the events, one after the other, have these outcomes and lead there: a run of the machine
 unfoldable pub Run : CoreState → List Event → List Outcome → CoreState → Type 0
-Run s list told new = events.Run (as_state s) (zip list told) (as_state new) × (length told ≡ length list) × (new.sizes ≡ s.sizes)
+Run s list outcomes new = events.Run (as_state s) (zip list outcomes) (as_state new) × (length outcomes ≡ length list)
+    × (new.sizes ≡ s.sizes)
 
 -- an outcome of which nothing came: the step was blocked, or the event refused
 abbrev pub IsIdle : Outcome → Type 0
-IsIdle outcome.Begun = ⊥
-IsIdle (outcome.Moved p) = ⊥
-IsIdle (outcome.Blocked holder) = Unit {0}
-IsIdle (outcome.Ended a) = ⊥
-IsIdle outcome.Marked = ⊥
-IsIdle (outcome.Resized frames) = ⊥
-IsIdle (outcome.Refused why) = Unit {0}
+IsIdle Begun = ⊥
+IsIdle (Moved p) = ⊥
+IsIdle (Blocked holder) = Unit {0}
+IsIdle (Ended a) = ⊥
+IsIdle Marked = ⊥
+IsIdle (Resized frames) = ⊥
+IsIdle (Refused why) = Unit {0}
 
 -- the headline of the machine's state
 unfoldable pub Headline : CoreState → Type 0
@@ -64,6 +65,6 @@ WantsGrowth p task_states (Step task grant) = (grant ≡ true) × StepWants p ta
 WantsGrowth p task_states (Kill task) = ⊥
 WantsGrowth p task_states (Resize frames) = (is_size frames ≡ true) × ((pool_of p).frames < frames)
 
--- no memory was taken: no part has more room than before, and the list of task states has as much
+-- no memory was taken: no part has more capacity than before, and the list of task states has as much
 abbrev pub TakesNoMemory : CoreState → CoreState → Type 0
-TakesNoMemory old new = RoomStays old.parts new.parts × (new.room ≡ old.room)
+TakesNoMemory old new = CapacityStays old.parts new.parts × (new.capacity ≡ old.capacity)

@@ -5,4 +5,12 @@ use Rattle.hp_core.specs.declared.standing.Standing.{Standing}
 
 -- the columns of a call's line that are kept in numbers
 abbrev pub standing_as : machine.Standing → Standing
-standing_as s = record { less = s.less; more = s.more; used = s.used; hand = s.hand; lock = s.lock; slot = s.slot; wants = acquired_as s.wants }
+standing_as s = record {
+  behind = s.behind;
+  ahead = s.ahead;
+  used_ahead = s.used_ahead;
+  hand = s.hand;
+  lock = s.lock;
+  slot = s.slot;
+  wants = acquired_as s.wants;
+}

@@ -14,7 +14,7 @@ pub record CoreState : Type 0 where
   pub sizes : Sizes
   pub parts : PartsState
   pub task_states : List TaskState
-  pub room : ℕ
+  pub capacity : ℕ
 
 -- stands for a task that isn't there: it is as good as dead
 abbrev pub no_task_state : TaskState

@@ -1,8 +1,8 @@
--- A step's turn, told as an outcome, with the call that it leaves in flight, and how its task lives on.
+-- The outcome of a step's turn, with the call that it leaves in flight, and how its task lives on.
 use Rattle.std.specs.Prelude.{◌≡◌, Bool, true, false, ◌&&◌, Option, Some, Result, Ok, Err, IsErr, if◌then◌else◌}
 use Rattle.std.specs.declared.alloc.AllocError.{AllocError}
 use Rattle.hp_base.specs.Numbers.{is_none}
-use Rattle.hp_machine.specs.Events.{told, left}
+use Rattle.hp_machine.specs.Events.{outcome_of, left}
 use Rattle.hp_machine.specs.declared.call.Call.{Call}
 use Rattle.hp_machine.specs.declared.call.Call.TheVariants as call
 use Rattle.hp_machine.specs.declared.call.Stopped.{Stopped}
@@ -13,28 +13,18 @@ use Rattle.hp_machine.specs.declared.outcome.Outcome.{Outcome}
 use Rattle.hp_machine.specs.declared.outcome.Outcome.TheVariants as outcome
 
 -- where an outcome is Blocked, that holds
-abbrev pub IfToldBlocked : Outcome → Type 0 → Type 0
-IfToldBlocked outcome.Begun Q = Unit {0}
-IfToldBlocked (outcome.Moved p) Q = Unit {0}
-IfToldBlocked (outcome.Blocked holder) Q = Q
-IfToldBlocked (outcome.Ended a) Q = Unit {0}
-IfToldBlocked outcome.Marked Q = Unit {0}
-IfToldBlocked (outcome.Resized frames) Q = Unit {0}
-IfToldBlocked (outcome.Refused why) Q = Unit {0}
+abbrev pub IfOutcomeBlocked : Outcome → Type 0 → Type 0
+IfOutcomeBlocked outcome.Begun Q = Unit {0}
+IfOutcomeBlocked (outcome.Moved p) Q = Unit {0}
+IfOutcomeBlocked (outcome.Blocked holder) Q = Q
+IfOutcomeBlocked (outcome.Ended a) Q = Unit {0}
+IfOutcomeBlocked outcome.Marked Q = Unit {0}
+IfOutcomeBlocked (outcome.Resized frames) Q = Unit {0}
+IfOutcomeBlocked (outcome.Refused why) Q = Unit {0}
 
--- where an outcome is Refused, that holds
-abbrev pub IfToldRefused : Outcome → Type 0 → Type 0
-IfToldRefused outcome.Begun Q = Unit {0}
-IfToldRefused (outcome.Moved p) Q = Unit {0}
-IfToldRefused (outcome.Blocked holder) Q = Unit {0}
-IfToldRefused (outcome.Ended a) Q = Unit {0}
-IfToldRefused outcome.Marked Q = Unit {0}
-IfToldRefused (outcome.Resized frames) Q = Unit {0}
-IfToldRefused (outcome.Refused why) Q = Q
-
--- a step is told as its turn is, and leaves that turn's call; without memory it leaves the call as it stood
+-- a step has the outcome of its turn, and leaves that turn's call; without memory it leaves the call as it stood
 abbrev pub Settles : {P : Type 0} → (P → Call) → Result (Turn P) (Stopped P) → Result Outcome AllocError → Option Call → Type 0
-Settles call (Ok turn) result next = (result ≡ Ok (told call turn)) × (next ≡ left call turn)
+Settles call (Ok turn) result next = (result ≡ Ok (outcome_of call turn)) × (next ≡ left call turn)
 Settles call (Err stopped) result next = IsErr result × (next ≡ Some (call stopped.phase))
 
 abbrev pub is_exit_call : Call → Bool

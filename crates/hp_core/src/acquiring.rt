@@ -25,6 +25,6 @@ impl Core {
         requires last { task ≤ (config_of self.now).tasks }
         ensures { result ≡ acquired_of self.now task }
     {
-        standing_of(&self.task_states[(task.number() - 1) as usize].call).wants
+        standing_of(&self.task_states[task.place()].call).wants
     }
 }

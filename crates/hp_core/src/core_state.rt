@@ -42,14 +42,14 @@ impl Model for Core {
       sizes = sizes c.config;
       parts = state_of c.parts;
       task_states = c.task_states.items;
-      room = vec_capacity c.task_states;
+      capacity = vec_capacity c.task_states;
     } };
 
     ghost invariant = { λ c. IsSound (record {
       sizes = sizes c.config;
       parts = state_of c.parts;
       task_states = c.task_states.items;
-      room = vec_capacity c.task_states;
+      capacity = vec_capacity c.task_states;
     }) };
 }
 
@@ -79,14 +79,14 @@ impl Core {
     /// growth, and in a resize that brings in new numbers. A step that is blocked and an event that is
     /// refused change nothing either.
     pub fn step(&mut self, event: Event) -> Result<Outcome, AllocError>
-        ensures row { IfOk result (λ told. Row self.old event told self.new) }
+        ensures row { IfOk result (λ outcome. Row self.old event outcome self.new) }
         ensures err { OnErr result (self.new ≡ self.old) }
         ensures growth { OnErr result (WantsGrowth self.old.parts self.old.task_states event) }
-        ensures idle { IfOk result (λ told. IsIdle told → self.new ≡ self.old) }
+        ensures idle { IfOk result (λ outcome. IsIdle outcome → self.new ≡ self.old) }
 
         // A begin, a kill, a step that isn't granted and one whose row wants no growth take no memory, nor
         // does a resize without new numbers.
-        ensures room { ¬ WantsGrowth self.old.parts self.old.task_states event → TakesNoMemory self.old self.new }
+        ensures capacity { ¬ WantsGrowth self.old.parts self.old.task_states event → TakesNoMemory self.old self.new }
         ensures headline { Headline self.new }
         ensures config { config_of self.new ≡ config_of self.old }
     {

@@ -27,7 +27,7 @@ fn copy_files(alloc: Global, files: &[FileState]) -> Result<Vec<FileState>, Allo
     Ok(copies)
 }
 
-// The same space, with room prepared where it is prepared there.
+// The same space, with capacity prepared where it is prepared there.
 fn copy_space(alloc: Global, space: &Space) -> Result<Space, AllocError>
     ensures { IfOk result (λ copy. IsSameTable space.now copy) }
 {

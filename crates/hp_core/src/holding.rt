@@ -23,7 +23,7 @@ impl Core {
         requires last { task ≤ (config_of self.now).tasks }
         ensures { result ≡ holding_of self.now task }
     {
-        let standing = standing_of(&self.task_states[(task.number() - 1) as usize].call);
+        let standing = standing_of(&self.task_states[task.place()].call);
         Holding {
             slot: standing.slot,
             lock: standing.lock,

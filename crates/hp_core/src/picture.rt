@@ -1,5 +1,6 @@
 //! A core as plain data.
-ghost use Rattle.std.specs.Prelude.{◌≡◌, ℕ, ◌<◌, ◌≤◌, ◌++◌, ◌∷◌, [], ◌==◌, cond, IfOk, OnOk, All, HoldsAt, length, count_by, is_some, slice_index_or, map};
+ghost use Rattle.std.specs.Prelude.{◌≡◌, ℕ, ◌<◌, ◌≤◌, ◌++◌, ◌∷◌, [], ◌==◌, cond, IfOk, OnOk, All, HoldsAt, length, count_by};
+ghost use Rattle.std.specs.Prelude.{is_some, slice_index_or, map};
 ghost use Rattle.std.specs.FinMap.{entries};
 ghost use Rattle.hp_base.specs.Numbers.{bit};
 ghost use Rattle.hp_base.specs.declared.limits.TheConstants.{LIMIT};

@@ -4,7 +4,8 @@ ghost use Rattle.hp_base.specs.Numbers.{total};
 ghost use Rattle.hp_base.specs.Indices.{count_below};
 ghost use Rattle.hp_parts.specs.View.{sets_of};
 ghost use Rattle.hp_core.specs.State.{CoreState, task_state_at};
-ghost use Rattle.hp_core.specs.Readers.{config_of, frames_of, free_of, resv_of, used_of, quota_of, calls_of, size_of, reserved_of, regions_of, pages_of};
+ghost use Rattle.hp_core.specs.Readers.{config_of, frames_of, free_of, resv_of, used_of, quota_of, calls_of, size_of};
+ghost use Rattle.hp_core.specs.Readers.{reserved_of, regions_of, pages_of};
 ghost use Rattle.hp_core.specs.Readers.{changes_of, spare_of, life_of, mappings_of, entries_of, translation_of, phase_of};
 ghost use Rattle.hp_core.specs.Readers.{all_reserved_of, all_pages_of};
 ghost use Rattle.hp_core.specs.Runs.{Headline};
@@ -177,7 +178,7 @@ impl Core {
         requires last { task ≤ (config_of self.now).tasks }
         ensures { result ≡ life_of self.now task }
     {
-        self.task_states[(task.number() - 1) as usize].life
+        self.task_states[task.place()].life
     }
 
     /// The number of its mappings.
@@ -186,7 +187,7 @@ impl Core {
         requires last { task ≤ (config_of self.now).tasks }
         ensures { result ≡ mappings_of self.now task }
     {
-        self.parts.spaces[(task.number() - 1) as usize].mappings()
+        self.parts.spaces[task.place()].mappings()
     }
 
     /// How many of its virtual pages are translated.
@@ -195,7 +196,7 @@ impl Core {
         requires last { task ≤ (config_of self.now).tasks }
         ensures { result ≡ entries_of self.now task }
     {
-        self.parts.spaces[(task.number() - 1) as usize].entries()
+        self.parts.spaces[task.place()].entries()
     }
 
     /// The frame that a virtual page of it is translated to, if it is.
@@ -204,7 +205,7 @@ impl Core {
         requires last { task ≤ (config_of self.now).tasks }
         ensures { result ≡ translation_of self.now task vpn }
     {
-        self.parts.spaces[(task.number() - 1) as usize].translate(vpn)
+        self.parts.spaces[task.place()].translate(vpn)
     }
 
     /// The word of the phase in which its call stands, where one is in flight.
@@ -213,7 +214,7 @@ impl Core {
         requires last { task ≤ (config_of self.now).tasks }
         ensures { result ≡ phase_of self.now task }
     {
-        match &self.task_states[(task.number() - 1) as usize].call {
+        match &self.task_states[task.place()].call {
             Some(call) => Some(phase_word(call)),
             None => None,
         }

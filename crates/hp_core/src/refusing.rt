@@ -2,11 +2,12 @@
 ghost use Rattle.std.specs.Prelude.{◌≡◌, MatchOption};
 ghost use Rattle.hp_base.specs.declared.event.Event.TheVariants as event;
 ghost use Rattle.hp_parts.specs.State.{state_of, IsSized};
-ghost use Rattle.hp_core.specs.HeldBack.{HeldBack, refusal_of, event_blocker, told_back};
+ghost use Rattle.hp_machine.specs.Events.{is_exit};
+ghost use Rattle.hp_core.specs.HeldBack.{HeldBack, event_blocker, idle_outcome};
+ghost use Rattle.hp_core.specs.Refusals.{refusal_of};
 ghost use Rattle.hp_core.specs.State.{no_task_state, task_state_at};
 
 use crate::core_state::Core;
-use crate::events::is_exit;
 use crate::task_state::{TaskState, is_dead, is_killed};
 use crate::waiting::task_state_blocker;
 use hp_base::{Config, Event, Op, Task};
@@ -15,10 +16,20 @@ use hp_parts::Parts;
 
 // The state of a task that is there.
 fn task_state_of(task_states: &[TaskState], task: Task) -> Option<&TaskState>
-    ensures { MatchOption result (task_state_at task_states.now task ≡ no_task_state) (λ task_state. task_state.now ≡ task_state_at task_states.now task) }
+    ensures { MatchOption result (task_state_at task_states.now task ≡ no_task_state)
+        (λ task_state. task_state.now ≡ task_state_at task_states.now task) }
 {
-    let before = (task.number() as usize).checked_sub(1)?;
-    task_states.get(before)
+    if task.number() == 0 {
+        return None;
+    }
+    task_states.get(task.place())
+}
+
+// Whether the operation is the end of its task.
+fn is_exit(op: &Op) -> bool
+    ensures { result ≡ is_exit op.now }
+{
+    matches!(op, Op::Exit)
 }
 
 fn begin_refusal(task_states: &[TaskState], task: Task, op: &Op) -> Option<Refusal>
@@ -61,7 +72,8 @@ fn kill_refusal(task_states: &[TaskState], task: Task) -> Option<Refusal>
     }
 }
 
-fn refusal(task_states: &[TaskState], event: &Event) -> Option<Refusal>
+/// Why the event is refused, if it is.
+pub fn refusal(task_states: &[TaskState], event: &Event) -> Option<Refusal>
     ensures { result ≡ refusal_of task_states.now event.now }
 {
     match event {
@@ -85,9 +97,9 @@ fn event_blocker(parts: &Parts, task_states: &[TaskState], event: &Event) -> Opt
     }
 }
 
-// What is told of an event that is refused, or blocked.
-fn told_back(refusal: Option<Refusal>, holder: Option<Task>) -> Option<Outcome>
-    ensures { result ≡ told_back refusal holder }
+// The outcome of an event that is refused, or blocked.
+fn idle_outcome(refusal: Option<Refusal>, holder: Option<Task>) -> Option<Outcome>
+    ensures { result ≡ idle_outcome refusal holder }
 {
     match refusal {
         Some(refusal) => Some(Outcome::Refused(refusal)),
@@ -96,7 +108,7 @@ fn told_back(refusal: Option<Refusal>, holder: Option<Task>) -> Option<Outcome>
 }
 
 impl Core {
-    /// What the event would be told if it changes nothing: that it is refused, or that its step is blocked. An event of
+    /// The outcome of the event if it changes nothing: that it is refused, or that its step is blocked. An event of
     /// which this tells nothing changes the pool, unless it finds no memory. So a caller knows, before it takes memory of
     /// its own for an event, whether it will have one to keep.
     pub fn held_back(&self, event: Event) -> Option<Outcome>
@@ -104,6 +116,6 @@ impl Core {
     {
         let refusal = refusal(&self.task_states, &event);
         let holder = event_blocker(&self.parts, &self.task_states, &event);
-        told_back(refusal, holder)
+        idle_outcome(refusal, holder)
     }
 }

@@ -19,30 +19,32 @@ pub struct RunFault {
 impl Core {
     /// The events, one after the other, with their outcomes.
     pub fn run(&mut self, alloc: Global, events: &[Event]) -> Result<Vec<Outcome>, RunFault>
-        ensures run { IfOk result (λ told. Run self.old events.now told.items self.new) }
+        ensures run { IfOk result (λ outcomes. Run self.old events.now outcomes.items self.new) }
         ensures within { IfErr result (λ fault. fault.done < length events.now) }
-        // There was no room for the outcomes, or the event that didn't happen wants growth.
+        // There was no memory for the outcomes, or the event that didn't happen wants growth.
         ensures wanted { IfErr result (λ fault. (fault.done ≡ 0)
             ⊎ HoldsAt (λ event. WantsGrowth self.new.parts self.new.task_states event) events.now fault.done) }
-        ensures stopped { IfErr result (λ fault. (told : List Outcome) × Run self.old (take fault.done events.now) told self.new) }
+        ensures stopped { IfErr result (λ fault. (outcomes : List Outcome) × Run self.old (take fault.done events.now) outcomes self.new) }
         ensures headline { Headline self.new }
     {
         self.always();
         // The checker of borrows asks for a mention of the type that an outcome may hold.
         let _none: Option<Answer> = None;
-        let mut told = Vec::new(alloc);
+        let mut outcomes = Vec::new(alloc);
         if events.is_empty() {
-            return Ok(told);
+            return Ok(outcomes);
         }
-        if told.reserve(events.len()).is_err() {
+        if outcomes.reserve(events.len()).is_err() {
             return Err(RunFault { done: 0 });
         }
         for event in events {
             match self.step(*event) {
-                Ok(outcome) => told.push_reserved(outcome),
-                Err(_) => return Err(RunFault { done: told.len() }),
+                Ok(outcome) => outcomes.push_reserved(outcome),
+                Err(_) => return Err(RunFault {
+                    done: outcomes.len(),
+                }),
             }
         }
-        Ok(told)
+        Ok(outcomes)
     }
 }

@@ -18,7 +18,7 @@ impl Core {
         let _ = &self.config;
     }
 
-    /// Frames don't show: two cores of one config to which the same events happened told the same outcomes, and are
+    /// Frames don't show: two cores of one config to which the same events happened have the same outcomes, and are
     /// equal up to a renaming of frames.
     pub fn frames_do_not_show()
         ensures { (config : Config) → FramesDontShow config }

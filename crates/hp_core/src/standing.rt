@@ -17,11 +17,11 @@ use hp_machine::truncate::{TruncatePhase, Truncation};
 #[derive(Clone, Copy, Debug, PartialEq, Eq)]
 pub struct Standing {
     // the reservations that are still counted for pages which it took or took away
-    pub less: u32,
+    pub behind: u32,
     // the reservations that it counted for indices which it hasn't entered, or has taken away
-    pub more: u32,
+    pub ahead: u32,
     // the indices that the used count has, and that it hasn't entered, or has taken away
-    pub used: u64,
+    pub used_ahead: u64,
     // the frame in its hand
     pub hand: Option<Frame>,
     // the file whose lock it holds
@@ -37,9 +37,9 @@ fn unencumbered() -> Standing
     ensures { result ≡ standing_as unencumbered }
 {
     Standing {
-        less: 0,
-        more: 0,
-        used: 0,
+        behind: 0,
+        ahead: 0,
+        used_ahead: 0,
         hand: None,
         lock: None,
         slot: None,
@@ -76,7 +76,7 @@ fn in_file_at(file: File, index: Index) -> Standing
 
 fn touch_standing(phase: &TouchPhase) -> Standing
     ensures standing { result ≡ standing_as (standing (Call.Touch phase.now)) }
-    ensures few { result.used ≤ 2 ^ 33 }
+    ensures few { result.used_ahead ≤ 2 ^ 33 }
 {
     match phase {
         TouchPhase::Look(_) => unencumbered(),
@@ -90,23 +90,23 @@ fn touch_standing(phase: &TouchPhase) -> Standing
         TouchPhase::Abort(at) => in_touch(&at.touch),
         TouchPhase::Taken(at) => Standing {
             hand: Some(at.held.frame()),
-            less: u32::from(at.pending.missing() == 0),
-            used: u64::from(at.pending.missing()),
+            behind: u32::from(at.pending.missing() == 0),
+            used_ahead: u64::from(at.pending.missing()),
             ..in_touch(&at.touch)
         },
         TouchPhase::Settle(at) => Standing {
             hand: Some(at.held.frame()),
-            used: 1,
+            used_ahead: 1,
             ..in_touch(&at.touch)
         },
         TouchPhase::Committed(at) => Standing {
             hand: Some(at.held.frame()),
-            less: 1,
+            behind: 1,
             ..in_touch(&at.touch)
         },
         TouchPhase::Restore(at) => Standing {
             hand: Some(at.held.frame()),
-            less: 1,
+            behind: 1,
             ..in_touch(&at.touch)
         },
         TouchPhase::Found(at) => in_touch(&at.touch),
@@ -116,7 +116,7 @@ fn touch_standing(phase: &TouchPhase) -> Standing
 
 fn map_standing(phase: &MapPhase) -> Standing
     ensures standing { result ≡ standing_as (standing (Call.Map phase.now)) }
-    ensures few { result.used ≤ 2 ^ 33 }
+    ensures few { result.used_ahead ≤ 2 ^ 33 }
 {
     match phase {
         MapPhase::Start(at) => Standing {
@@ -128,13 +128,13 @@ fn map_standing(phase: &MapPhase) -> Standing
         MapPhase::Changed(at) => in_file(at.map.file),
         MapPhase::Abort(at) => in_file(at.map.file),
         MapPhase::Accounted(at) => Standing {
-            more: at.pending.missing(),
-            used: u64::from(at.pending.missing()),
+            ahead: at.pending.missing(),
+            used_ahead: u64::from(at.pending.missing()),
             ..in_file(at.map.file)
         },
         MapPhase::Settle(at) => Standing {
-            more: at.excess,
-            used: u64::from(at.excess),
+            ahead: at.excess,
+            used_ahead: u64::from(at.excess),
             ..in_file(at.map.file)
         },
         MapPhase::Enter(at) => in_file(at.map.file),
@@ -144,7 +144,7 @@ fn map_standing(phase: &MapPhase) -> Standing
 
 fn alloc_standing(phase: &AllocPhase) -> Standing
     ensures standing { result ≡ standing_as (standing (Call.Alloc phase.now)) }
-    ensures few { result.used ≤ 2 ^ 33 }
+    ensures few { result.used_ahead ≤ 2 ^ 33 }
 {
     match phase {
         AllocPhase::Start(at) => Standing {
@@ -162,23 +162,23 @@ fn alloc_standing(phase: &AllocPhase) -> Standing
         AllocPhase::Abort(at) => in_file_at(at.allocation.file, at.index),
         AllocPhase::Taken(at) => Standing {
             hand: Some(at.held.frame()),
-            less: u32::from(at.pending.missing() == 0),
-            used: u64::from(at.pending.missing()),
+            behind: u32::from(at.pending.missing() == 0),
+            used_ahead: u64::from(at.pending.missing()),
             ..in_file_at(at.allocation.file, at.index)
         },
         AllocPhase::Settle(at) => Standing {
             hand: Some(at.held.frame()),
-            used: 1,
+            used_ahead: 1,
             ..in_file_at(at.allocation.file, at.index)
         },
         AllocPhase::Committed(at) => Standing {
             hand: Some(at.held.frame()),
-            less: 1,
+            behind: 1,
             ..in_file_at(at.allocation.file, at.index)
         },
         AllocPhase::Restore(at) => Standing {
             hand: Some(at.held.frame()),
-            less: 1,
+            behind: 1,
             ..in_file_at(at.allocation.file, at.index)
         },
         AllocPhase::Unslot(at) => in_file_at(at.allocation.file, at.index),
@@ -189,7 +189,7 @@ fn alloc_standing(phase: &AllocPhase) -> Standing
 
 fn punch_standing(phase: &PunchPhase) -> Standing
     ensures standing { result ≡ standing_as (standing (Call.Punch phase.now)) }
-    ensures few { result.used ≤ 2 ^ 33 }
+    ensures few { result.used_ahead ≤ 2 ^ 33 }
 {
     match phase {
         PunchPhase::Start(at) => Standing {
@@ -205,13 +205,13 @@ fn punch_standing(phase: &PunchPhase) -> Standing
         PunchPhase::Evict(at) => in_file_at(at.hole.file, at.index),
         PunchPhase::Delete(at) => Standing {
             hand: Some(at.held.frame()),
-            less: 1,
+            behind: 1,
             ..in_file_at(at.hole.file, at.index)
         },
         PunchPhase::Free(at) => Standing {
             hand: Some(at.held.frame()),
-            less: u32::from(at.denied),
-            used: u64::from(!at.denied),
+            behind: u32::from(at.denied),
+            used_ahead: u64::from(!at.denied),
             ..in_file_at(at.hole.file, at.index)
         },
         PunchPhase::Unslot(at) => in_file_at(at.hole.file, at.index),
@@ -221,16 +221,16 @@ fn punch_standing(phase: &PunchPhase) -> Standing
 
 // A truncation on its way down still owes what it evicted.
 fn in_sweep(truncation: &Truncation, evicted: u32) -> Standing
-    ensures { result ≡ standing_as (record (in_truncate truncation.now) { less = evicted }) }
+    ensures { result ≡ standing_as (record (in_truncate truncation.now) { behind = evicted }) }
 {
     Standing {
-        less: evicted,
+        behind: evicted,
         ..in_file(truncation.file)
     }
 }
 
 fn in_sweep_at(truncation: &Truncation, index: Index, evicted: u32) -> Standing
-    ensures { result ≡ standing_as (record (in_truncate truncation.now) { less = evicted; slot = Some (truncation.now.file, index) }) }
+    ensures { result ≡ standing_as (record (in_truncate truncation.now) { behind = evicted; slot = Some (truncation.now.file, index) }) }
 {
     Standing {
         slot: Some((truncation.file, index)),
@@ -240,7 +240,7 @@ fn in_sweep_at(truncation: &Truncation, index: Index, evicted: u32) -> Standing
 
 fn truncate_standing(phase: &TruncatePhase) -> Standing
     ensures standing { result ≡ standing_as (standing (Call.Truncate phase.now)) }
-    ensures few { result.used ≤ 2 ^ 33 }
+    ensures few { result.used_ahead ≤ 2 ^ 33 }
 {
     match phase {
         TruncatePhase::Start(at) => Standing {
@@ -262,8 +262,8 @@ fn truncate_standing(phase: &TruncatePhase) -> Standing
         TruncatePhase::Unslot(at) => in_sweep_at(&at.truncation, at.index, at.evicted),
         TruncatePhase::Tail(at) => in_sweep(&at.truncation, at.evicted),
         TruncatePhase::Settle(at) => Standing {
-            more: at.excess,
-            used: u64::from(at.excess) + u64::from(at.evicted),
+            ahead: at.excess,
+            used_ahead: u64::from(at.excess) + u64::from(at.evicted),
             ..in_file(at.truncation.file)
         },
         TruncatePhase::Leave(at) => in_file(at.truncation.file),
@@ -272,7 +272,7 @@ fn truncate_standing(phase: &TruncatePhase) -> Standing
 
 fn call_standing(call: &Call) -> Standing
     ensures standing { result ≡ standing_as (standing call.now) }
-    ensures few { result.used ≤ 2 ^ 33 }
+    ensures few { result.used_ahead ≤ 2 ^ 33 }
 {
     match call {
         Call::Touch(phase) => touch_standing(phase),
@@ -287,7 +287,7 @@ fn call_standing(call: &Call) -> Standing
 /// The standing of a task's call, and of nothing where it has none.
 pub fn standing_of(call: &Option<Call>) -> Standing
     ensures standing { result ≡ standing_as (standing_of call.now) }
-    ensures few { result.used ≤ 2 ^ 33 }
+    ensures few { result.used_ahead ≤ 2 ^ 33 }
 {
     match call {
         Some(call) => call_standing(call),

@@ -1,17 +1,17 @@
 //! A task's life and its call in flight, and one step of it.
-ghost use Rattle.std.specs.Prelude.{◌≡◌, true, IfOk, IfSome, IsSomeAnd, OnErr, MatchOption, IsSome, IfNone, None, Some, ◌≤◌, ◌&&◌};
+ghost use Rattle.std.specs.Prelude.{◌≡◌, true, IfOk, IfSome, IsSomeAnd, OnErr, IsSome, Some, ◌≤◌, ◌&&◌};
 ghost use Rattle.std.specs.Prelude.{if◌then◌else◌};
 ghost use Rattle.hp_base.specs.Numbers.{is_none};
 ghost use Rattle.hp_machine.specs.Events.{CallRow};
 ghost use Rattle.hp_machine.specs.State as machine;
 ghost use Rattle.hp_machine.specs.Wants.{Wants};
 ghost use Rattle.hp_parts.specs.State.{state_of, SizesStay};
-ghost use Rattle.hp_parts.specs.Room.{RoomStaysUnless};
+ghost use Rattle.hp_parts.specs.Capacity.{CapacityStaysUnless};
 ghost use Rattle.hp_parts.specs.View.{view};
 ghost use Rattle.hp_core.specs.Fits.{CallFits};
 ghost use Rattle.hp_machine.specs.Standings.{standing};
 ghost use Rattle.hp_parts.specs.Turns.{IfWanting};
-ghost use Rattle.hp_core.specs.Turns.{life_after, IfToldBlocked, Settles};
+ghost use Rattle.hp_core.specs.Turns.{life_after, IfOutcomeBlocked, Settles};
 
 use crate::in_flight::InFlight;
 use crate::words::phase_word;
@@ -49,7 +49,7 @@ pub fn is_dead(life: Life) -> bool
     }
 }
 
-// What a step makes of the task's call, and what it is told as. It writes the call where it is to stand: a call that were
+// What a step makes of the task's call, and its outcome. It writes the call where it is to stand: a call that were
 // handed on would be copied once more for each hand. A task whose call is its end (`exits`) is dead once that is over.
 fn settle<P: InFlight>(
     task_state: &mut TaskState,
@@ -84,8 +84,8 @@ fn settle<P: InFlight>(
     }
 }
 
-// One step of the task's call, to what it leaves there. Without memory nothing changed, and the call stands as it did.
-fn step_call(
+/// One step of the task's call, to what it leaves there. Without memory nothing changed, and the call stands as it did.
+pub fn step_call(
     parts: &mut Parts,
     task_state: &mut TaskState,
     task: Task,
@@ -93,16 +93,15 @@ fn step_call(
 ) -> Result<Outcome, AllocError>
     requires there { IsSome task_state.old.call }
     requires fits { IfSome task_state.old.call (λ call. CallFits (state_of parts.old) task call) }
-    ensures row { IfOk result (λ told. IfSome task_state.old.call
-        (λ call. CallRow (view parts.old) task (machine.is_killed task_state.old.life) grant call told (view parts.new) task_state.new.call)) }
-    ensures sizes { SizesStay (state_of parts.old) (state_of parts.new) }
-    ensures room { RoomStaysUnless grant (IsSomeAnd task_state.old.call (λ call. Wants (view parts.old) task call))
-        (state_of parts.old) (state_of parts.new) }
-    ensures blocked { IfOk result (λ told. IfToldBlocked told (IfSome task_state.old.call
-        (λ call. IfWanting (standing call).wants ((state_of parts.new ≡ state_of parts.old) × (task_state.new.call ≡ Some call))))) }
+    ensures row { IfOk result (λ outcome. IfSome task_state.old.call (λ call.
+        CallRow (view parts.old) task (machine.is_killed task_state.old.life) grant call outcome (view parts.new) task_state.new.call)) }
+    ensures blocked { IfOk result (λ outcome. IfOutcomeBlocked outcome (IfSome task_state.old.call
+        (λ call. IfWanting (standing call).wants ((state_of parts.new ≡ state_of parts.old) × (task_state.new ≡ task_state.old))))) }
     ensures life { IfSome task_state.old.call (λ call. task_state.new.life ≡ life_after task_state.old.life call task_state.new.call) }
-    ensures call { OnErr result (task_state.new.call ≡ task_state.old.call) }
-    ensures err { OnErr result (state_of parts.new ≡ state_of parts.old) }
+    ensures sizes { SizesStay (state_of parts.old) (state_of parts.new) }
+    ensures capacity { CapacityStaysUnless grant (IsSomeAnd task_state.old.call (λ call. Wants (view parts.old) task call))
+        (state_of parts.old) (state_of parts.new) }
+    ensures err { OnErr result ((state_of parts.new ≡ state_of parts.old) × (task_state.new ≡ task_state.old)) }
     ensures growth { OnErr result (grant ≡ true) }
     ensures wanted { OnErr result (IsSomeAnd task_state.old.call (λ call. Wants (view parts.old) task call)) }
 {
@@ -148,36 +147,4 @@ fn step_call(
         }
         None => unreachable!(),
     }
-}
-
-/// One step of a task's call; none where no call is in flight. Without memory nothing changed.
-pub fn step_task_state(
-    parts: &mut Parts,
-    task_state: &mut TaskState,
-    task: Task,
-    grant: bool,
-) -> Result<Option<Outcome>, AllocError>
-    requires { IfSome task_state.old.call (λ call. CallFits (state_of parts.old) task call) }
-    ensures idle { IfOk result (λ told. MatchOption task_state.old.call (told ≡ None) (λ call. IsSome told)) }
-    ensures row { IfOk result
-        (λ told. IfSome told
-        (λ outcome. IfSome task_state.old.call
-        (λ call. CallRow (view parts.old) task (machine.is_killed task_state.old.life) grant call outcome (view parts.new) task_state.new.call))) }
-    ensures blocked { IfOk result (λ told. IfSome told (λ outcome. IfToldBlocked outcome (IfSome task_state.old.call
-        (λ call. IfWanting (standing call).wants ((state_of parts.new ≡ state_of parts.old) × (task_state.new ≡ task_state.old)))))) }
-    ensures same { IfOk result (λ told. IfNone told ((state_of parts.new ≡ state_of parts.old) × (task_state.new ≡ task_state.old))) }
-    ensures life { IfOk result
-        (λ told. IfSome told (λ outcome. IfSome task_state.old.call (λ call. task_state.new.life ≡ life_after task_state.old.life call task_state.new.call))) }
-    ensures sizes { SizesStay (state_of parts.old) (state_of parts.new) }
-    ensures room { RoomStaysUnless grant (IsSomeAnd task_state.old.call (λ call. Wants (view parts.old) task call))
-        (state_of parts.old) (state_of parts.new) }
-    ensures err { OnErr result ((state_of parts.new ≡ state_of parts.old) × (task_state.new ≡ task_state.old)) }
-    ensures growth { OnErr result (grant ≡ true) }
-    ensures wanted { OnErr result (IsSomeAnd task_state.old.call (λ call. Wants (view parts.old) task call)) }
-{
-    if task_state.call.is_none() {
-        return Ok(None);
-    }
-    let told = step_call(parts, task_state, task, grant)?;
-    Ok(Some(told))
 }

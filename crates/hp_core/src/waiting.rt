@@ -151,7 +151,7 @@ impl Core {
         requires last { task ≤ (config_of self.now).tasks }
         ensures { WaitsFor self.now task result }
     {
-        task_state_blocker(&self.parts, &self.task_states[(task.number() - 1) as usize])
+        task_state_blocker(&self.parts, &self.task_states[task.place()])
     }
 
     /// Whether a call of the task is in flight, and whether its next step is blocked: in one look.

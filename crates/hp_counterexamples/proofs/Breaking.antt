@@ -11,8 +11,8 @@ use Rattle.hp_frames.specs.declared.frame.FrameState.{FrameState}
 use Rattle.hp_frames.specs.declared.frame.FrameState.TheVariants as state
 use Rattle.hp_machine.specs.State.{Geometry, State, free_frames}
 use Rattle.hp_machine.specs.Events.{EventRows, opening}
-use Rattle.hp_machine.specs.Headline.{Headline, Agrees, IsBelow, Place, Hand, Retired, vacant_in, all_less, all_more}
-use Rattle.hp_machine.specs.Headline.{reserved_in, all_used_owed}
+use Rattle.hp_machine.specs.Headline.{Headline, Agrees, IsBelow, Place, Hand, Retired, vacant_in, all_behind, all_ahead}
+use Rattle.hp_machine.specs.Headline.{reserved_in, all_used_ahead}
 use Rattle.hp_machine.specs.Standings.{Progress, NoChange, Counts, GivesUp, standing_of}
 use Rattle.hp_machine.specs.Views.{hand, opens}
 use Rattle.hp_machine.specs.declared.truncate.TruncatePhase.TheVariants as truncate
@@ -27,10 +27,10 @@ use Rattle.hp_counterexamples.proofs.Running.{Ran, Tries, run}
 
 -- ---- what tests say
 
-never : {A : Type 0} → false ≡ true → A
+pub never : {A : Type 0} → false ≡ true → A
 never e = absurd (cc)
 
-both : (a b : Bool) → (a && b) ≡ true → (a ≡ true) × (b ≡ true)
+pub both : (a b : Bool) → (a && b) ≡ true → (a ≡ true) × (b ≡ true)
 both true b e = (refl, e)
 both false b e = never e
 
@@ -42,13 +42,13 @@ either : (a b : Bool) → (a || b) ≡ true → {A : Type 0} → (a ≡ true →
 either true b e f g = f refl
 either false b e f g = g e
 
-equal : (a b : ℕ) → (a == b) ≡ true → a ≡ b
+pub equal : (a b : ℕ) → (a == b) ≡ true → a ≡ b
 equal a b e = grind (arith, nat_tests)
 
 differ : (a b : ℕ) → not (a == b) ≡ true → a ≡ b → ⊥
 differ a b e c = grind (arith, nat_tests)
 
-above : (a b : ℕ) → nat_lt a b ≡ true → b ≤ a → ⊥
+pub above : (a b : ℕ) → nat_lt a b ≡ true → b ≤ a → ⊥
 above a b e l = grind (arith, nat_tests)
 
 not_below : (a b : ℕ) → nat_le a b ≡ true → b < a → ⊥
@@ -59,7 +59,7 @@ abbrev pub any_below : (n : ℕ) → (ℕ → Bool) → Bool
 any_below zero p = false
 any_below (suc n) p = p n || any_below n p
 
-found_below : (n : ℕ) (p : ℕ → Bool) → any_below n p ≡ true → (k : ℕ) × (k < n) × (p k ≡ true)
+pub found_below : (n : ℕ) (p : ℕ → Bool) → any_below n p ≡ true → (k : ℕ) × (k < n) × (p k ≡ true)
 found_below zero p e = never e
 found_below (suc n) p e =
     either (p n) (any_below n p) e (λ d. (n, (omega arith), d))
@@ -83,7 +83,7 @@ abbrev pub is_led : (rows : EventRows) → Tries rows → Geometry → (frames :
 is_led rows tries g frames events test =
     ends rows (opening g frames) events test (run rows tries (opening g frames) events (λ f i l. refl))
 
-leads : (rows : EventRows) (tries : Tries rows) (g : Geometry) (frames : ℕ) (events : List Event) (test : State → Bool)
+pub leads : (rows : EventRows) (tries : Tries rows) (g : Geometry) (frames : ℕ) (events : List Event) (test : State → Bool)
     (end : State → Type 0)
     → ((s : State) → test s ≡ true → end s) → is_led rows tries g frames events test ≡ true → Leads rows g frames events end
 leads rows tries g frames events test end tells e = here (run rows tries (opening g frames) events (λ f i l. refl)) e
@@ -98,7 +98,7 @@ leads rows tries g frames events test end tells e = here (run rows tries (openin
 abbrev pub rests : State → Bool
 rests s = not (any_below (suc s.geometry.tasks) (λ t. is_some (s.calls t)))
 
-at_rest : (s : State) → rests s ≡ true → IsAtRest s
+pub at_rest : (s : State) → rests s ≡ true → IsAtRest s
 at_rest s e t l = no_call (s.calls t) (none_found (suc s.geometry.tasks) (λ t. is_some (s.calls t)) e t (omega arith))
   where
     no_call : (c : Option Call) → not (is_some c) ≡ true → c ≡ None
@@ -107,7 +107,7 @@ at_rest s e t l = no_call (s.calls t) (none_found (suc s.geometry.tasks) (λ t. 
 
 abbrev pub miscounts : (counted waiting : ℕ) → State → Bool
 miscounts counted waiting s =
-    rests s && ((s.resv == counted) && ((vacant_in s == waiting) && not (s.resv + all_less s == vacant_in s + all_more s)))
+    rests s && ((s.resv == counted) && ((vacant_in s == waiting) && not (s.resv + all_behind s == vacant_in s + all_ahead s)))
 
 pub miscounts_so : (rows : EventRows) (tries : Tries rows) (g : Geometry) (frames : ℕ) (events : List Event)
     (counted waiting : ℕ)
@@ -119,7 +119,7 @@ miscounts_so rows tries g frames events counted waiting = leads rows tries g fra
 
 abbrev pub misuses : (counted reserved : ℕ) → State → Bool
 misuses counted reserved s =
-    rests s && ((s.used == counted) && ((reserved_in s == reserved) && not (s.used == reserved_in s + all_used_owed s)))
+    rests s && ((s.used == counted) && ((reserved_in s == reserved) && not (s.used == reserved_in s + all_used_ahead s)))
 
 pub misuses_so : (rows : EventRows) (tries : Tries rows) (g : Geometry) (frames : ℕ) (events : List Event)
     (counted reserved : ℕ)

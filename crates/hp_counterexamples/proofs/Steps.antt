@@ -19,7 +19,7 @@ use Rattle.hp_machine.specs.UnmapRows.{UnmapRow}
 use Rattle.hp_machine.specs.ExitRows.{ExitRow}
 use Rattle.hp_machine.specs.Events.{CallRow}
 use Rattle.hp_machine.specs.Events.{TurnRow}
-use Rattle.hp_machine.specs.Events.{told, left}
+use Rattle.hp_machine.specs.Events.{outcome_of, left}
 use Rattle.hp_machine.specs.declared.touch.TouchPhase.{TouchPhase}
 use Rattle.hp_machine.specs.declared.touch.TouchPhase.TheVariants as touch
 use Rattle.hp_machine.specs.declared.map.MapPhase.{MapPhase}
@@ -274,7 +274,7 @@ Made row = Option ((o : Outcome) × (new : Pool) × (next : Option Call) × row 
 -- so they do where some turn meets the row of its operation
 abbrev pub by : {P : Type 0} (call : P → Call) (row : Turn P → Pool → Type 0) → Tried row → Made (TurnRow call row)
 by call row None = None
-by call row (Some r) = Some (told call r.0, r.1, left call r.0, (r.0, r.2, refl, refl), r.3)
+by call row (Some r) = Some (outcome_of call r.0, r.1, left call r.0, (r.0, r.2, refl, refl), r.3)
 
 -- one step of a call of the right machine
 abbrev pub try_call : (s : Pool) (t : ℕ) (killed grant : Bool) (c : Call) → Clear s.geometry.limit s.pages

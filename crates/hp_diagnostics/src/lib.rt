@@ -6,8 +6,8 @@
 
 mod reason;
 mod recalling;
-mod told;
+mod showing;
 
 pub use reason::{Reason, reason_of};
 pub use recalling::{Line, Recalling, Recalls};
-pub use told::{Told, line_told};
+pub use showing::{WrongLine, wrong_line};

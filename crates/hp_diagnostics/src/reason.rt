@@ -179,11 +179,11 @@ fn wrong_fields<'a>(
     from: usize,
     wanted: usize,
     what: &'a str,
-    told: &'a str,
+    wanted_word: &'a str,
 ) -> Option<Reason<'a>> {
     let count = line.split(' ').count();
     if count != wanted {
-        return Some(Reason::Words(count, what, told));
+        return Some(Reason::Words(count, what, wanted_word));
     }
     line.split(' ')
         .skip(from)

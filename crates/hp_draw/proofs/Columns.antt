@@ -1,5 +1,6 @@
 -- Each stay and each mark of a run stands in a column.
-use Rattle.std.proofs.Common.{◌≡◌, ℕ, zero, suc, ◌+◌, ◌<◌, ◌≤◌, Bool, true, false, List, [], ◌∷◌, ◌++◌, length, Option, All, sym, ap, subst, ◌∙◌}
+use Rattle.std.proofs.Common.{◌≡◌, ℕ, zero, suc, ◌+◌, ◌<◌, ◌≤◌, Bool, true, false, List, [], ◌∷◌, ◌++◌, length, Option, All}
+use Rattle.std.proofs.Common.{sym, ap, subst, ◌∙◌}
 use Rattle.std.proofs.Common.{arith, length-set, get_or}
 use Rattle.std.specs.Prelude.{Some, None, IfSome, if◌then◌else◌}
 use Rattle.std.proofs.lemmas.Bool.Decides.{nat_tests}
@@ -48,11 +49,11 @@ if_stay : (n : ℕ) (b : Bool) (s : Stay) → s.column < n → IfSome (if b then
 if_stay n true s h = h
 if_stay n false s h = tt
 
-left_inside : (n column at : ℕ) (before now : Option Standing) (told : Outcome) → column < n
-    → IfSome (stay_left column at before now told) (λ x. x.column < n)
-left_inside n column at None now told h = tt
-left_inside n column at (Some s) now told h =
-    if_stay n (has_moved s now) (record { column = column; standing = s; until = at; next = next_of told }) h
+left_inside : (n column at : ℕ) (before now : Option Standing) (outcome : Outcome) → column < n
+    → IfSome (stay_left column at before now outcome) (λ x. x.column < n)
+left_inside n column at None now outcome h = tt
+left_inside n column at (Some s) now outcome h =
+    if_stay n (has_moved s now) (record { column = column; standing = s; until = at; next = next_of outcome }) h
 
 in_inside : (n column at : ℕ) (standing : Option Standing) → column < n → IfSome (stay_in column at standing) (λ x. x.column < n)
 in_inside n column at None h = tt
@@ -70,13 +71,13 @@ after_inside tasks at d h same i =
     record {
       count = length-set d.standings column now ∙ i.count;
       stays =
-          All-append (λ s. s.column < tasks + 1) d.stays (listed (stay_left column at before now h.told)) i.stays
-          (listed_all (λ s. s.column < tasks + 1) (stay_left column at before now h.told)
-          (left_inside (tasks + 1) column at before now h.told there));
+          All-append (λ s. s.column < tasks + 1) d.stays (listed (stay_left column at before now h.outcome)) i.stays
+          (listed_all (λ s. s.column < tasks + 1) (stay_left column at before now h.outcome)
+          (left_inside (tasks + 1) column at before now h.outcome there));
       marks =
-          All-append (λ m. m.column < tasks + 1) d.marks (listed (mark_of column at h.event h.told)) i.marks
-          (listed_all (λ m. m.column < tasks + 1) (mark_of column at h.event h.told)
-          (mark_inside (tasks + 1) column at (sign_of h.event h.told) there));
+          All-append (λ m. m.column < tasks + 1) d.marks (listed (mark_of column at h.event h.outcome)) i.marks
+          (listed_all (λ m. m.column < tasks + 1) (mark_of column at h.event h.outcome)
+          (mark_inside (tasks + 1) column at (sign_of h.event h.outcome) there));
     }
   where
     column : ℕ
@@ -86,15 +87,15 @@ after_inside tasks at d h same i =
     before = get_or d.standings column None
 
     now : Option Standing
-    now = standing_after before at h.event h.told (phase_in h.core column)
+    now = standing_after before at h.event h.outcome (phase_in h.core column)
 
     there : column < tasks + 1
     there = subst (λ (n : ℕ). column < n + 1) same (event_inside (config_of h.core).tasks h.event)
 
 -- the config stays
-row_keeps : (old new : CoreState) (e : Event) (told : Outcome) → Row old e told new → config_of new ≡ config_of old
+row_keeps : (old new : CoreState) (e : Event) (outcome : Outcome) → Row old e outcome new → config_of new ≡ config_of old
 unfolding Row config_of
-row_keeps old new e told row = row.1
+row_keeps old new e outcome row = row.1
 
 -- one event after the other
 all_inside : (tasks at : ℕ) (d : Drawn) (old new : CoreState) (list : List Happening) → (config_of old).tasks ≡ tasks
@@ -105,7 +106,7 @@ all_inside tasks at d old new (h ∷ more) same happens i =
     all_inside tasks (suc at) (after at d h) h.core new more kept happens.1 (after_inside tasks at d h kept i)
   where
     kept : (config_of h.core).tasks ≡ tasks
-    kept = ap (λ (s : Sizes). s.tasks) (row_keeps old h.core h.event h.told happens.0) ∙ same
+    kept = ap (λ (s : Sizes). s.tasks) (row_keeps old h.core h.event h.outcome happens.0) ∙ same
 
 -- the calls in flight at the end
 flight_inside : (at : ℕ) (standings : List (Option Standing)) (n : ℕ) → All (λ s. s.column < n) (stays_in at standings n)
@@ -113,7 +114,8 @@ unfolding stays_in
 flight_inside at standings zero = All-nil (λ s. s.column < 0)
 flight_inside at standings (suc n) =
     All-append (λ s. s.column < suc n) (stays_in at standings n) _
-    (All-weaker (λ s. s.column < n) (λ s. s.column < suc n) (λ s lt. omega (arith, lt)) (stays_in at standings n) (flight_inside at standings n))
+    (All-weaker (λ s. s.column < n) (λ s. s.column < suc n) (λ s lt. omega (arith, lt)) (stays_in at standings n)
+    (flight_inside at standings n))
     (listed_all (λ s. s.column < suc n) _ (in_inside (suc n) n at _ (omega arith)))
 
 opened : (config : Config) (first : CoreState) → IsOpening config first → config_of first ≡ sizes config

@@ -1,5 +1,6 @@
 -- Lanes that are placed, column by column, and columns that are found.
-use Rattle.std.proofs.Common.{◌≡◌, ℕ, zero, suc, ◌+◌, ◌<◌, ◌≤◌, Bool, true, false, List, [], ◌∷◌, ◌++◌, length, take, drop, get_or, set, Option, All, refl}
+use Rattle.std.proofs.Common.{◌≡◌, ℕ, zero, suc, ◌+◌, ◌<◌, ◌≤◌, Bool, true, false, List, [], ◌∷◌, ◌++◌, length, take, drop}
+use Rattle.std.proofs.Common.{get_or, set, Option, All, refl}
 use Rattle.std.proofs.Common.{arith, sym, ap, subst, ◌∙◌}
 use Rattle.std.specs.Prelude.{Some, None, IsTrue, is_some, map}
 use Rattle.std.proofs.lemmas.Grind.{common_steps}
@@ -95,5 +96,6 @@ pub one_room : (numbers : List Numbers) (n : ℕ) (x : Numbers) (free resv most_
 one_room numbers n x free resv most_free most_resv lt is upper lower room has =
     All-more (HaveRoom most_free most_resv) numbers n x lt
     (All-weaker (HaveRoom free resv) (HaveRoom most_free most_resv)
-    (λ y h. (omega (arith, h.0, upper), omega (arith, h.1, upper), omega (arith, h.2, lower), omega (arith, h.3, lower))) (take n numbers) has)
+    (λ y h. (omega (arith, h.0, upper), omega (arith, h.1, upper), omega (arith, h.2, lower), omega (arith, h.3, lower)))
+    (take n numbers) has)
     (subst (HaveRoom most_free most_resv) is room)

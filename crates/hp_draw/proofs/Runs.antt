@@ -17,8 +17,8 @@ use Rattle.hp_draw.specs.declared.following.Stay.{Stay}
 
 -- one event more happens
 happens_more : (old mid new : CoreState) (list : List Happening) (h : Happening) → Happens old list mid
-    → Row mid h.event h.told h.core → h.core ≡ new → Happens old (list ++ (h ∷ [])) new
-happens_more old mid new [] h is row to = (subst (λ (s : CoreState). Row s h.event h.told h.core) is row, sym to)
+    → Row mid h.event h.outcome h.core → h.core ≡ new → Happens old (list ++ (h ∷ [])) new
+happens_more old mid new [] h is row to = (subst (λ (s : CoreState). Row s h.event h.outcome h.core) is row, sym to)
 happens_more old mid new (k ∷ list) h is row to = (is.0, happens_more k.core mid new list h is.1 row to)
 
 events_more : (list : List Happening) (h : Happening) → events_of (list ++ (h ∷ [])) ≡ events_of list ++ (h.event ∷ [])
@@ -54,10 +54,10 @@ up_to : (events : List Event) (n : ℕ) (e : Event) → n < length events → e 
     → take (n + 1) events ≡ take n events ++ (e ∷ [])
 up_to events n e lt is = take_more events n e lt ∙ ap (λ (x : Event). take n events ++ (x ∷ [])) (sym is)
 
-pub one_event : (tasks : ℕ) (events slice : List Event) (n at : ℕ) (e : Event) (told : Outcome) (old mid new : CoreState) (d dd : Drawn)
-    → slice ≡ events → n < length slice → e ≡ get_or slice n e → at ≡ n → DrawnSoFar tasks events n old mid d → Row mid e told new
-    → dd ≡ after at d (record { event = e; told = told; core = new }) → DrawnSoFar tasks events (n + 1) old new dd
-one_event tasks events slice n at e told old mid new d dd same lt is number s row drawn =
+pub one_event : (tasks : ℕ) (events slice : List Event) (n at : ℕ) (e : Event) (outcome : Outcome) (old mid new : CoreState) (d dd : Drawn)
+    → slice ≡ events → n < length slice → e ≡ get_or slice n e → at ≡ n → DrawnSoFar tasks events n old mid d → Row mid e outcome new
+    → dd ≡ after at d (record { event = e; outcome = outcome; core = new }) → DrawnSoFar tasks events (n + 1) old new dd
+one_event tasks events slice n at e outcome old mid new d dd same lt is number s row drawn =
     record {
       happenings = s.happenings ++ (h ∷ []);
       are_events =
@@ -68,7 +68,7 @@ one_event tasks events slice n at e told old mid new d dd same lt is number s ro
     }
   where
     h : Happening
-    h = record { event = e; told = told; core = new }
+    h = record { event = e; outcome = outcome; core = new }
 
     there : n < length events
     there = subst (λ (x : List Event). n < length x) same lt

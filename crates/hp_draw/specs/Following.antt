@@ -75,13 +75,13 @@ has_moved s (Some other) = not (other.since == s.since)
 
 -- the stay of a call that stood so, if it doesn't stand so after the event
 abbrev pub stay_of : (column at : ℕ) → Standing → (after : Option Standing) → Outcome → Option Stay
-stay_of column at s after told =
-    if has_moved s after then Some (record { column = column; standing = s; until = at; next = next_of told }) else None
+stay_of column at s after outcome =
+    if has_moved s after then Some (record { column = column; standing = s; until = at; next = next_of outcome }) else None
 
 -- the stay that an event ends, if it ends one
 abbrev pub stay_left : (column at : ℕ) → (before after : Option Standing) → Outcome → Option Stay
-stay_left column at None after told = None
-stay_left column at (Some s) after told = stay_of column at s after told
+stay_left column at None after outcome = None
+stay_left column at (Some s) after outcome = stay_of column at s after outcome
 
 -- the stay of a call that is in flight at the end
 abbrev pub stay_in : (column at : ℕ) → Option Standing → Option Stay
@@ -112,7 +112,7 @@ mark_with column at (Some s) = Some (record { column = column; at = at; sign = s
 
 -- the mark of an event, if it has one
 abbrev pub mark_of : (column at : ℕ) → Event → Outcome → Option Mark
-mark_of column at event told = mark_with column at (sign_of event told)
+mark_of column at event outcome = mark_with column at (sign_of event outcome)
 
 -- the counts of a core; reserved indices without a page are counted, and not made of the others
 abbrev pub numbers_of : CoreState → (at : ℕ) → Numbers

@@ -18,7 +18,7 @@ use Rattle.hp_draw.specs.declared.sketch.Sketch.{Sketch}
 -- an event, what came of it, and the core that it led to
 pub record Happening : Type 0 where
   pub event : Event
-  pub told : Outcome
+  pub outcome : Outcome
   pub core : CoreState
 
 abbrev pub events_of : List Happening → List Event
@@ -27,7 +27,7 @@ events_of list = map (λ h. h.event) list
 -- one after the other they are rows of the machine, and lead from old to new
 abbrev pub Happens : CoreState → List Happening → CoreState → Type 0
 Happens old [] new = new ≡ old
-Happens old (h ∷ more) new = Row old h.event h.told h.core × Happens h.core more new
+Happens old (h ∷ more) new = Row old h.event h.outcome h.core × Happens h.core more new
 
 -- where the call of each column stands, the stays that ended, the marks, and the counts behind each event
 pub record Drawn : Type 0 where
@@ -52,14 +52,14 @@ abbrev pub added : (at column : ℕ) → (before now : Option Standing) → Draw
 added at column before now d h =
     record {
       standings = slice_set d.standings column now;
-      stays = d.stays ++ listed (stay_left column at before now h.told);
-      marks = d.marks ++ listed (mark_of column at h.event h.told);
+      stays = d.stays ++ listed (stay_left column at before now h.outcome);
+      marks = d.marks ++ listed (mark_of column at h.event h.outcome);
       numbers = d.numbers ++ (numbers_of h.core at ∷ []);
     }
 
 abbrev pub after_in : (at column : ℕ) → (before : Option Standing) → Drawn → Happening → Drawn
 after_in at column before d h =
-    added at column before (standing_after before at h.event h.told (phase_in h.core column)) d h
+    added at column before (standing_after before at h.event h.outcome (phase_in h.core column)) d h
 
 -- what is drawn once the event of that moment has happened
 unfoldable pub after : (at : ℕ) → Drawn → Happening → Drawn

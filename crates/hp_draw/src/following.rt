@@ -156,12 +156,12 @@ pub(crate) fn standing_after(
     before: &Option<Standing>,
     at: u32,
     event: &Event,
-    told: &Outcome,
+    outcome: &Outcome,
     phase: Option<Phase>,
 ) -> Option<Standing>
-    ensures { result ≡ standing_after before.now at event.now told.now phase }
+    ensures { result ≡ standing_after before.now at event.now outcome.now phase }
 {
-    match told {
+    match outcome {
         Outcome::Begun => begun(at, event, phase),
         Outcome::Moved(phase) => moved(before, at, *phase),
         Outcome::Blocked(holder) => blocked(before, at, *holder),
@@ -171,10 +171,10 @@ pub(crate) fn standing_after(
 }
 
 /// What comes behind a stay that such an outcome ends.
-fn next_of(told: &Outcome) -> Next
-    ensures { result ≡ next_of told.now }
+fn next_of(outcome: &Outcome) -> Next
+    ensures { result ≡ next_of outcome.now }
 {
-    match told {
+    match outcome {
         Outcome::Ended(answer) => Next::Ended(*answer),
         _ => Next::GoesOn,
     }
@@ -196,9 +196,9 @@ fn stay_of(
     at: u32,
     standing: &Standing,
     after: &Option<Standing>,
-    told: &Outcome,
+    outcome: &Outcome,
 ) -> Option<Stay>
-    ensures { result ≡ stay_of column at standing.now after.now told.now }
+    ensures { result ≡ stay_of column at standing.now after.now outcome.now }
 {
     if !has_moved(standing, after) {
         return None;
@@ -207,7 +207,7 @@ fn stay_of(
         column,
         standing: *standing,
         until: at,
-        next: next_of(told),
+        next: next_of(outcome),
     })
 }
 
@@ -217,12 +217,12 @@ pub(crate) fn stay_left(
     at: u32,
     before: &Option<Standing>,
     after: &Option<Standing>,
-    told: &Outcome,
+    outcome: &Outcome,
 ) -> Option<Stay>
-    ensures { result ≡ stay_left column at before.now after.now told.now }
+    ensures { result ≡ stay_left column at before.now after.now outcome.now }
 {
     match before {
-        Some(standing) => stay_of(column, at, standing, after, told),
+        Some(standing) => stay_of(column, at, standing, after, outcome),
         None => None,
     }
 }
@@ -265,10 +265,10 @@ pub(crate) fn add_mark(marks: &mut Vec<Mark>, mark: Option<Mark>) -> Result<(), 
 }
 
 /// What is marked of an event.
-fn sign_of(event: &Event, told: &Outcome) -> Option<Sign>
-    ensures { result ≡ sign_of event.now told.now }
+fn sign_of(event: &Event, outcome: &Outcome) -> Option<Sign>
+    ensures { result ≡ sign_of event.now outcome.now }
 {
-    match (event, told) {
+    match (event, outcome) {
         (_, Outcome::Refused(why)) => Some(Sign::Refused(*why)),
         (Event::Step(_task, false), _) => Some(Sign::Denied),
         (Event::Kill(_task), _) => Some(Sign::Killed),
@@ -278,10 +278,10 @@ fn sign_of(event: &Event, told: &Outcome) -> Option<Sign>
 }
 
 /// The mark of an event, if it has one.
-pub(crate) fn mark_of(column: usize, at: u32, event: &Event, told: &Outcome) -> Option<Mark>
-    ensures { result ≡ mark_of column at event.now told.now }
+pub(crate) fn mark_of(column: usize, at: u32, event: &Event, outcome: &Outcome) -> Option<Mark>
+    ensures { result ≡ mark_of column at event.now outcome.now }
 {
-    match sign_of(event, told) {
+    match sign_of(event, outcome) {
         Some(sign) => Some(Mark { column, at, sign }),
         None => None,
     }

@@ -79,22 +79,23 @@ fn add_event(
     sketch: &mut Sketch,
     at: u32,
     event: &Event,
-    told: &Outcome,
+    outcome: &Outcome,
     core: &Core,
 ) -> Result<(), AllocError>
-    ensures { OnOk result (seen sketch.new ≡ after at (seen sketch.old) (record { event = event.now; told = told.now; core = core.now })) }
+    ensures { OnOk result (seen sketch.new
+        ≡ after at (seen sketch.old) (record { event = event.now; outcome = outcome.now; core = core.now })) }
 {
     let config = core.config();
     let number = column_of(config.tasks, event);
     let column = number as usize;
     let before = standing_at(sketch.standings.as_slice(), column);
-    let now = standing_after(&before, at, event, told, phase_in(core, number));
+    let now = standing_after(&before, at, event, outcome, phase_in(core, number));
     add_stay(
         &mut sketch.stays,
-        stay_left(column, at, &before, &now, told),
+        stay_left(column, at, &before, &now, outcome),
     )?;
     set_standing(sketch.standings.as_mut_slice(), column, now);
-    add_mark(&mut sketch.marks, mark_of(column, at, event, told))?;
+    add_mark(&mut sketch.marks, mark_of(column, at, event, outcome))?;
     sketch.numbers.push(numbers_of(core, at))?;
     Ok(())
 }
@@ -143,8 +144,8 @@ pub(crate) fn sketch_run(alloc: Global, trace: &Trace) -> Result<Sketch, AllocEr
     for event in &trace.events {
         // The checker of borrows asks for a mention of the types that an outcome may hold.
         let _no_answer: Option<Answer> = None;
-        let told: Outcome = core.step(*event)?;
-        add_event(&mut sketch, at, event, &told, &core)?;
+        let outcome: Outcome = core.step(*event)?;
+        add_event(&mut sketch, at, event, &outcome, &core)?;
         at += 1;
     }
     end_sketch(&mut sketch, at)?;

@@ -20,8 +20,8 @@ use Rattle.hp_explain.specs.Explaining.{events_of, Happens, RowWritten, RowPartl
 
 -- one event more happens
 happens_more : (old mid new : CoreState) (list : List Happening) (h : Happening) → Happens old list mid
-    → Row mid h.event h.told h.core → h.core ≡ new → Happens old (list ++ (h ∷ [])) new
-happens_more old mid new [] h is row to = (subst (λ (s : CoreState). Row s h.event h.told h.core) is row, sym to)
+    → Row mid h.event h.outcome h.core → h.core ≡ new → Happens old (list ++ (h ∷ [])) new
+happens_more old mid new [] h is row to = (subst (λ (s : CoreState). Row s h.event h.outcome h.core) is row, sym to)
 happens_more old mid new (k ∷ list) h is row to = (is.0, happens_more k.core mid new list h is.1 row to)
 
 events_more : (list : List Happening) (h : Happening) → events_of (list ++ (h ∷ [])) ≡ events_of list ++ (h.event ∷ [])
@@ -144,31 +144,31 @@ stopped_in widths events n line e old mid before now after lt is number s r =
 -- ---- one row
 
 -- an event that happened, and whose row was written
-pub row_written : {A : Type 0} (r : Result A ReplayFault) (widths : List ℕ) (line : ℕ) (e : Event) (told : Outcome)
-    (old new : CoreState) (before after : Option (List ℕ)) (text row : List ℕ) → Row old e told new → text ≡ row
-    → row ≡ row_text widths line (record { event = e; told = told; core = new }) → OnOk r (Appends before after text)
+pub row_written : {A : Type 0} (r : Result A ReplayFault) (widths : List ℕ) (line : ℕ) (e : Event) (outcome : Outcome)
+    (old new : CoreState) (before after : Option (List ℕ)) (text row : List ℕ) → Row old e outcome new → text ≡ row
+    → row ≡ row_text widths line (record { event = e; outcome = outcome; core = new }) → OnOk r (Appends before after text)
     → OnOk r (RowWritten widths line e old new before after)
-row_written (Ok x) widths line e told old new before after text row happens same is wrote =
+row_written (Ok x) widths line e outcome old new before after text row happens same is wrote =
     record {
-      happening = record { event = e; told = told; core = new };
+      happening = record { event = e; outcome = outcome; core = new };
       is_event = refl;
       is_core = refl;
       row = happens;
       wrote = subst (λ (x : List ℕ). Appends before after x) (same ∙ is) wrote;
     }
-row_written (Err fault) widths line e told old new before after text row happens same is wrote = tt
+row_written (Err fault) widths line e outcome old new before after text row happens same is wrote = tt
 
 -- or in part
-pub row_stopped : {A : Type 0} (r : Result A ReplayFault) (widths : List ℕ) (line : ℕ) (e : Event) (told : Outcome)
-    (old new : CoreState) (before after : Option (List ℕ)) (text row : List ℕ) → Row old e told new → text ≡ row
-    → row ≡ row_text widths line (record { event = e; told = told; core = new })
+pub row_stopped : {A : Type 0} (r : Result A ReplayFault) (widths : List ℕ) (line : ℕ) (e : Event) (outcome : Outcome)
+    (old new : CoreState) (before after : Option (List ℕ)) (text row : List ℕ) → Row old e outcome new → text ≡ row
+    → row ≡ row_text widths line (record { event = e; outcome = outcome; core = new })
     → IfErr r (λ fault. (fault ≡ Write) × Wrote before after text)
     → IfErr r (λ fault. IsWriteFault fault × (Keeps before after ⊎ RowPartlyWritten widths line e old before after))
-row_stopped (Ok x) widths line e told old new before after text row happens same is wrote = tt
-row_stopped (Err fault) widths line e told old new before after text row happens same is wrote = (
+row_stopped (Ok x) widths line e outcome old new before after text row happens same is wrote = tt
+row_stopped (Err fault) widths line e outcome old new before after text row happens same is wrote = (
   subst (λ (f : ReplayFault). IsWriteFault f) (sym wrote.0) tt,
   inr (record {
-    happening = record { event = e; told = told; core = new };
+    happening = record { event = e; outcome = outcome; core = new };
     is_event = refl;
     row = happens;
     wrote = subst (λ (x : List ℕ). Wrote before after x) (same ∙ is) wrote.1;

@@ -20,32 +20,34 @@ events_of list = map (λ h. h.event) list
 -- one after the other they are rows of the machine, and lead from old to new
 abbrev pub Happens : CoreState → List Happening → CoreState → Type 0
 Happens old [] new = new ≡ old
-Happens old (h ∷ more) new = Row old h.event h.told h.core × Happens h.core more new
+Happens old (h ∷ more) new = Row old h.event h.outcome h.core × Happens h.core more new
 
 -- the event happened, and its row was written
 pub record RowWritten (widths : List ℕ) (line : ℕ) (event : Event) (old new : CoreState) (before after : Option (List ℕ)) : Type 0 where
   pub happening : Happening
   pub is_event : happening.event ≡ event
   pub is_core : happening.core ≡ new
-  pub row : Row old happening.event happening.told happening.core
+  pub row : Row old happening.event happening.outcome happening.core
   pub wrote : Appends before after (row_text widths line happening)
 
 -- the event happened, and a front of its row was written
 pub record RowPartlyWritten (widths : List ℕ) (line : ℕ) (event : Event) (old : CoreState) (before after : Option (List ℕ)) : Type 0 where
   pub happening : Happening
   pub is_event : happening.event ≡ event
-  pub row : Row old happening.event happening.told happening.core
+  pub row : Row old happening.event happening.outcome happening.core
   pub wrote : Wrote before after (row_text widths line happening)
 
 -- these events happened, and their rows were written
-pub record RowsWritten (widths : List ℕ) (line : ℕ) (events : List Event) (old new : CoreState) (before after : Option (List ℕ)) : Type 0 where
+pub record RowsWritten (widths : List ℕ) (line : ℕ) (events : List Event) (old new : CoreState)
+    (before after : Option (List ℕ)) : Type 0 where
   pub happenings : List Happening
   pub are_events : events_of happenings ≡ events
   pub happens : Happens old happenings new
   pub wrote : Appends before after (rows_text widths line happenings)
 
 -- a front of them happened, and a front of their rows was written
-pub record RowsPartlyWritten (widths : List ℕ) (line : ℕ) (events : List Event) (old : CoreState) (before after : Option (List ℕ)) : Type 0 where
+pub record RowsPartlyWritten (widths : List ℕ) (line : ℕ) (events : List Event) (old : CoreState)
+    (before after : Option (List ℕ)) : Type 0 where
   pub happenings : List Happening
   pub rest : List Event
   pub new : CoreState

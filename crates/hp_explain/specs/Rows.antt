@@ -18,7 +18,7 @@ use Rattle.hp_explain.specs.Words.{cell_text, lock_text, slot_text, wanted_text}
 -- an event, what came of it, and the core that it led to
 pub record Happening : Type 0 where
   pub event : Event
-  pub told : Outcome
+  pub outcome : Outcome
   pub core : CoreState
 
 -- `   line  task 1 .. task 2 .. free  resv  owed`
@@ -27,7 +27,7 @@ head_text widths = codes "   line  " ++ (titles widths (length widths) ++ codes 
 
 -- the event in the column of its task
 abbrev pub cells : (widths : List ℕ) → Happening → List ℕ
-cells widths h = columns widths (column_of (config_of h.core).tasks h.event) (cell_text h.core h.event h.told) (length widths)
+cells widths h = columns widths (column_of (config_of h.core).tasks h.event) (cell_text h.core h.event h.outcome) (length widths)
 
 -- free frames, the reserve count, and what is owed to it
 abbrev pub counts : CoreState → List ℕ

@@ -36,17 +36,17 @@ abbrev pub wanted_in : CoreState → (column : ℕ) → Acquired
 wanted_in core column = if column == 0 then wanted.Nothing else acquired_of core column
 
 -- `blocked by 2: slot 3, file 0 index 0`, else the outcome as it is
-abbrev pub told_text : CoreState → Event → Outcome → List ℕ
-told_text core event outcome.Begun = outcome_text outcome.Begun
-told_text core event (outcome.Moved phase) = outcome_text (outcome.Moved phase)
-told_text core event (outcome.Blocked holder) =
+abbrev pub outcome_words : CoreState → Event → Outcome → List ℕ
+outcome_words core event outcome.Begun = outcome_text outcome.Begun
+outcome_words core event (outcome.Moved phase) = outcome_text (outcome.Moved phase)
+outcome_words core event (outcome.Blocked holder) =
     codes "blocked by " ++ (decimal holder
     ++ (codes ": " ++ wanted_text core (wanted_in core (column_of (config_of core).tasks event))))
-told_text core event (outcome.Ended answer) = outcome_text (outcome.Ended answer)
-told_text core event outcome.Marked = outcome_text outcome.Marked
-told_text core event (outcome.Resized frames) = outcome_text (outcome.Resized frames)
-told_text core event (outcome.Refused refusal) = outcome_text (outcome.Refused refusal)
+outcome_words core event (outcome.Ended answer) = outcome_text (outcome.Ended answer)
+outcome_words core event outcome.Marked = outcome_text outcome.Marked
+outcome_words core event (outcome.Resized frames) = outcome_text (outcome.Resized frames)
+outcome_words core event (outcome.Refused refusal) = outcome_text (outcome.Refused refusal)
 
 -- the event, and what came of it: `step 1: moved want`
 abbrev pub cell_text : CoreState → Event → Outcome → List ℕ
-cell_text core event told = event_text event ++ (codes ": " ++ told_text core event told)
+cell_text core event outcome = event_text event ++ (codes ": " ++ outcome_words core event outcome)

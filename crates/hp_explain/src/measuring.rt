@@ -47,8 +47,8 @@ fn measure_event(
 {
     // The checker of borrows asks for a mention of the types that an outcome may hold.
     let _no_answer: Option<Answer> = None;
-    let told: Outcome = core.step(event)?;
-    lay_cell(core, &event, told, cell)?;
+    let outcome: Outcome = core.step(event)?;
+    lay_cell(core, &event, outcome, cell)?;
     let config = core.config();
     widen(
         widths,

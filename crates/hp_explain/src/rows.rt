@@ -43,14 +43,14 @@ fn push_cells(
     widths: &[usize],
     core: &Core,
     event: &Event,
-    told: Outcome,
+    outcome: Outcome,
     cell: &mut String,
     row: &mut String,
 ) -> Result<(), AllocError>
     ensures { OnOk result (string_bytes row.new ≡ string_bytes row.old
-        ++ cells widths.now (record { event = event.now; told = told; core = core.now })) }
+        ++ cells widths.now (record { event = event.now; outcome = outcome; core = core.now })) }
 {
-    lay_cell(core, event, told, cell)?;
+    lay_cell(core, event, outcome, cell)?;
     let config = core.config();
     push_columns(
         widths,
@@ -76,16 +76,16 @@ fn lay_row(
     line: u32,
     core: &Core,
     event: &Event,
-    told: Outcome,
+    outcome: Outcome,
     cell: &mut String,
     row: &mut String,
 ) -> Result<(), AllocError>
     ensures { OnOk result (string_bytes row.new
-        ≡ row_text widths.now line (record { event = event.now; told = told; core = core.now })) }
+        ≡ row_text widths.now line (record { event = event.now; outcome = outcome; core = core.now })) }
 {
     row.clear();
     write!(row, "{line:>7}  ")?;
-    push_cells(widths, core, event, told, cell, row)?;
+    push_cells(widths, core, event, outcome, cell, row)?;
     push_counts(core, row)
 }
 
@@ -104,8 +104,8 @@ fn write_row<W: Sink>(
         ⊎ RowPartlyWritten widths.now line event core.old (W.contents writer.old) (W.contents writer.new))) }
     ensures writes { TellsWrites result (W.failures writer.old) (W.failures writer.new) }
 {
-    let told = core.step(event)?;
-    lay_row(widths, line, core, &event, told, cell, row)?;
+    let outcome = core.step(event)?;
+    lay_row(widths, line, core, &event, outcome, cell, row)?;
     write_text(writer, row.as_bytes())
 }
 

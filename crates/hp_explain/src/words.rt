@@ -1,22 +1,13 @@
 //! What came of an event, in words.
 ghost use Rattle.std.specs.Prelude.{◌≡◌, ◌≤◌, ◌++◌, OnOk, string_bytes};
-ghost use Rattle.hp_base.specs.Text.{sizes};
 ghost use Rattle.hp_core.specs.Readers.{config_of};
-ghost use Rattle.hp_core.specs.Runs.{geometry};
-ghost use Rattle.hp_explain.specs.Words.{cell_text, lock_text, slot_text, told_text, wanted_in, wanted_text};
-ghost use Rattle.hp_machine.specs.State.{slot_of};
+ghost use Rattle.hp_explain.specs.Words.{cell_text, lock_text, slot_text, outcome_words, wanted_in, wanted_text};
 
-use hp_base::{Config, Event, File, Index, Task};
+use hp_base::{Event, File, Index, Task};
 use hp_core::{Acquired, Core, Outcome};
+use hp_slots::slot_number;
 use hp_text::column_of;
 use std::alloc::AllocError;
-
-/// The slot of an index in the fault mutex table (Linux: `hugetlb_fault_mutex_hash`).
-fn slot_number(config: Config, file: File, index: Index) -> u64
-    ensures { result ≡ slot_of (geometry (sizes config)) file index }
-{
-    (u64::from(index.number()) + 31 * u64::from(file.number())) % u64::from(config.slots)
-}
 
 /// Appends the slot of an index, as `slot 3, file 0 index 0`.
 pub(crate) fn push_slot(
@@ -27,7 +18,7 @@ pub(crate) fn push_slot(
 ) -> Result<(), AllocError>
     ensures { OnOk result (string_bytes text.new ≡ string_bytes text.old ++ slot_text core.now file index) }
 {
-    let slot = slot_number(core.config(), file, index);
+    let slot = slot_number(core.config().slots, file, index);
     write!(text, "slot {slot}, file {file} index {index}")
 }
 
@@ -58,17 +49,22 @@ fn wanted_in(core: &Core, column: u32) -> Acquired
 }
 
 /// Appends what came of an event: the outcome, and where a step was blocked, by whom and on what.
-fn push_told(core: &Core, event: &Event, told: Outcome, text: &mut String) -> Result<(), AllocError>
-    ensures { OnOk result (string_bytes text.new ≡ string_bytes text.old ++ told_text core.now event.now told) }
+fn push_outcome(
+    core: &Core,
+    event: &Event,
+    outcome: Outcome,
+    text: &mut String,
+) -> Result<(), AllocError>
+    ensures { OnOk result (string_bytes text.new ≡ string_bytes text.old ++ outcome_words core.now event.now outcome) }
 {
-    match told {
+    match outcome {
         Outcome::Blocked(holder) => {
             let config = core.config();
             let wanted = wanted_in(core, column_of(config.tasks, event));
             write!(text, "blocked by {holder}: ")?;
             push_acquired(core, wanted, text)
         }
-        _ => write!(text, "{told}"),
+        _ => write!(text, "{outcome}"),
     }
 }
 
@@ -76,12 +72,12 @@ fn push_told(core: &Core, event: &Event, told: Outcome, text: &mut String) -> Re
 pub(crate) fn lay_cell(
     core: &Core,
     event: &Event,
-    told: Outcome,
+    outcome: Outcome,
     text: &mut String,
 ) -> Result<(), AllocError>
-    ensures { OnOk result (string_bytes text.new ≡ cell_text core.now event.now told) }
+    ensures { OnOk result (string_bytes text.new ≡ cell_text core.now event.now outcome) }
 {
     text.clear();
     write!(text, "{event}: ")?;
-    push_told(core, event, told, text)
+    push_outcome(core, event, outcome, text)
 }

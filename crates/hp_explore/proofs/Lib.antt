@@ -1,12 +1,10 @@
 pub mod Claimed
 pub mod Collected
-pub mod Growing
 pub mod Inverse
 pub mod OneLine
 pub mod Others
 pub mod Phases
 pub mod Pieces
-pub mod Quiet
 pub mod Retained
 pub mod Runnable
 pub mod Runs

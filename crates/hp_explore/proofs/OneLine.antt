@@ -101,7 +101,8 @@ same_turn plan v w x y e f h a b =
     let choice = same_choice plan v w a.tasks b.tasks h tasks in
     let event : f ≡ e = b.chosen ∙ (ap (λ (c : Choice). c.event) choice ∙ sym a.chosen) in
     let row = subst (λ (g : Event). rows.Row (as_state w.core) g b.outcome (as_state y.core)) event b.row.0 in
-    let cores = told_same (as_state v.core) (as_state w.core) (as_state x.core) (as_state y.core) e a.outcome b.outcome h.cores a.row.0 row in (
+    let cores =
+    told_same (as_state v.core) (as_state w.core) (as_state x.core) (as_state y.core) e a.outcome b.outcome h.cores a.row.0 row in (
       event,
       record {
         cores = cores.1;
@@ -226,7 +227,8 @@ replay_run plan run (suc left) v n x (e ∷ es) (o ∷ os) line h (inr (f, rest,
     let events : rest ≡ es = (cc) in
     let both = told_same (as_state v.core) n (as_state w.core) mid f turn.outcome o h turn.row.0
     (subst (λ (g : Event). rows.Row n g o mid) event row) in
-    let more = replay_run plan run left w mid x es os line both.1 (subst (λ (xs : List Event). IsRun plan run left w xs line) events after.1)
+    let more =
+    replay_run plan run left w mid x es os line both.1 (subst (λ (xs : List Event). IsRun plan run left w xs line) events after.1)
     told (omega (arith, long)) in
     (more.0, more.1, omega (arith, more.2, turn.turns))
 replay_run plan run (suc left) v n x (e ∷ es) (o ∷ os) line h (inr (f, rest, w, is, turn, inr after)) (mid, row, told) long =
@@ -242,5 +244,6 @@ unfolding IsExplored IsOpening Run free_of resv_of Tells
 replayed script seed deny kill run es line first new os (v, start, explored) opens (told, long, same) =
     let twins = opening_twins (geometry (sizes script.config)) script.config.frames (as_state v.core) (as_state first)
     start.core.1 opens.1 in
-    let tells = replay_run (plan_of script deny kill) run turn_limit v (as_state first) (as_state new) es os line twins explored told long in
+    let tells =
+    replay_run (plan_of script deny kill) run turn_limit v (as_state first) (as_state new) es os line twins explored told long in
     (tells.0, tells.1, omega (arith, tells.2, start.turns))

@@ -1,6 +1,6 @@
 -- A turn that leaves what its task's call holds leaves all other tasks as able to take one as they were.
 use Rattle.std.proofs.Common.{◌≡◌, ◌≢◌, ℕ, zero, suc, ◌+◌, ◌-◌, ◌%◌, ◌≤◌, ◌<◌, refl, ap, sym, ◌∙◌, subst, arith, inl, inr}
-use Rattle.std.specs.Prelude.{Bool, true, false, ◌||◌, ◌&&◌, ◌==◌, Option, None, Some, IfSome, IsSome, List, [], ◌∷◌, MatchBool}
+use Rattle.std.specs.Prelude.{Bool, true, false, ◌||◌, ◌&&◌, ◌==◌, Option, None, Some, IsSome, List, [], ◌∷◌, MatchBool}
 use Rattle.std.specs.Prelude.{is_some, length, nat_le, nat_lt, if◌then◌else◌, slice_get, slice_index, slice_index_or}
 use Rattle.std.specs.List.{All}
 use Rattle.std.proofs.lemmas.Grind.{common_steps}
@@ -11,9 +11,8 @@ use Rattle.hp_base.proofs.Puts.{same_or_other}
 use Rattle.hp_base.specs.declared.event.Op.{Op}
 use Rattle.std.specs.Option.{option_map}
 use Rattle.hp_base.specs.declared.event.Event.{Event}
-use Rattle.hp_machine.specs.State.{Geometry, State, slot_of, is_dead, is_killed}
+use Rattle.hp_machine.specs.State.{Geometry, State, is_dead, is_killed}
 use Rattle.hp_machine.specs.Events.{IsReached, word_of}
-use Rattle.hp_machine.specs.Views.{slot_held, locked_file}
 use Rattle.hp_machine.specs.declared.call.Call.{Call}
 use Rattle.hp_machine.specs.declared.call.Call.TheVariants as call
 use Rattle.hp_machine.specs.declared.touch.TouchPhase.TheVariants as touch
@@ -23,57 +22,28 @@ use Rattle.hp_machine.specs.declared.punch.PunchPhase.TheVariants as punch
 use Rattle.hp_machine.specs.declared.truncate.TruncatePhase.TheVariants as truncate
 use Rattle.hp_machine.specs.declared.outcome.Life.{Life}
 use Rattle.hp_machine.specs.declared.outcome.Outcome.{Outcome}
-use Rattle.hp_machine.specs.declared.outcome.Outcome.TheVariants.{Blocked}
 use Rattle.hp_laws.specs.Laws.{IsOf}
 use Rattle.hp_laws.proofs.Nearing.{others_stay}
-use Rattle.hp_laws.proofs.Runs.{always, measures_stay}
-use Rattle.hp_laws.proofs.Standing.{HasSlot, HasLock}
 use Rattle.hp_parts.specs.State.{PartsState}
 use Rattle.hp_parts.specs.View.{holders_of}
 use Rattle.hp_slots.specs.Holders.{slot_number}
-use Rattle.hp_core.specs.Blockers.{slot_blocker, lock_blocker, call_blocker, task_state_call_blocker, task_blocker, is_bad}
+use Rattle.hp_core.specs.Blockers.{slot_blocker, lock_blocker, call_blocker, is_bad}
 use Rattle.hp_core.specs.Holding.{held_by, holding_of}
 use Rattle.hp_core.specs.Readers.{phase_of}
 use Rattle.hp_core.specs.Runs.{Row}
 use Rattle.hp_core.specs.State.{CoreState, as_state, task_state_at, calls_of, lives_of}
 use Rattle.hp_core.specs.Waiting.{WaitsFor}
-use Rattle.hp_core.proofs.Waits.{nobody, step_blocks, step_held}
+use Rattle.hp_core.proofs.Growing.{HeldOn, held_same}
+use Rattle.hp_core.proofs.Holds.{HoldOn, blocker, holds_on_all, lock_kept, names_nobody, slot_kept, waits_for_nobody}
 use Rattle.hp_explore.specs.Schedule.{Plan, World, Choice, CanTurn, AreRunnable, AreRunnableOf, in_call, next_call, word, drawn}
 use Rattle.hp_explore.specs.Schedule.{call_choice, kill_choice, step_choice, task_choice}
-use Rattle.hp_explore.proofs.Growing.{HeldOn, held_same}
-use Rattle.hp_explore.proofs.Twins.{reached_next}
 
--- Two reached states of one geometry, in the second of which the calls hold all that they hold in the first: who holds a slot in
--- the first holds it in the second,
-abbrev pub HoldOn : State → State → Type 0
-HoldOn s v =
-    record {
-      reached : IsReached s;
-      other : IsReached v;
-      geometry : v.geometry ≡ s.geometry;
-      held : (u : ℕ) → HeldOn (held_by (s.calls u)) (held_by (v.calls u));
-    }
-
--- and two in which they hold the same
+-- two states of which the calls hold the same
 abbrev HoldAlike : State → State → Type 0
 HoldAlike s v = HoldOn s v × HoldOn v s
 
 turned : (s v : State) → HoldAlike s v → HoldAlike v s
 turned s v h = (h.1, h.0)
-
-pub slot_kept : (s v : State) → HoldOn s v → (k u : ℕ) → s.slots k ≡ Some u → v.slots k ≡ Some u
-slot_kept s v h k u e =
-    let place = (always s h.reached).inv.holders.slot k u e in
-    let there : slot_held (v.calls u) ≡ Some place.0 = (h.held u).slot place.0 place.1 in
-    let has : v.slots (slot_of v.geometry place.0.0 place.0.1) ≡ Some u =
-    subst (λ (o : Option (ℕ × ℕ)). IfSome o (λ p. HasSlot v.geometry v u p.0 p.1)) there ((always v h.other).inv.stands u).slot in
-    subst (λ (n : ℕ). v.slots n ≡ Some u) (ap (λ (g : Geometry). slot_of g place.0.0 place.0.1) h.geometry ∙ place.2) has
-
--- and so of a lock
-pub lock_kept : (s v : State) → HoldOn s v → (f u : ℕ) → s.locks f ≡ Some u → v.locks f ≡ Some u
-lock_kept s v h f u e =
-    let there : locked_file (v.calls u) ≡ Some f = (h.held u).lock f ((always s h.reached).inv.holders.lock f u e) in
-    subst (λ (o : Option ℕ). IfSome o (λ file. HasLock v u file)) there ((always v h.other).inv.stands u).lock
 
 -- options that have a value where the other has it are the same
 same_option : (a b : Option ℕ) → ((u : ℕ) → a ≡ Some u → b ≡ Some u) → ((u : ℕ) → b ≡ Some u → a ≡ Some u) → b ≡ a
@@ -128,27 +98,9 @@ same_blocker p q h killed (call.Truncate (truncate.Start s)) = same_lock p q h k
 same_blocker p q h killed (call.Truncate (truncate.Want s)) = same_slot p q h s.truncation.file s.index
 same_blocker p q h killed c = refl
 
--- whom a task of this life, with this call, waits for
-abbrev pub blocker : PartsState → Life → Option Call → Option ℕ
-blocker p life o = if is_dead life then None else task_state_call_blocker p (is_killed life) o
-
 same_for : (p q : PartsState) → AreHeldAlike p q → (life : Life) (o : Option Call) → blocker q life o ≡ blocker p life o
 same_for p q h life None = refl
 same_for p q h life (Some c) = ap (λ (o : Option ℕ). if is_dead life then None else o) (same_blocker p q h (is_killed life) c)
-
--- a task waits for nobody exactly where the reader names nobody
-pub names_nobody : (s : CoreState) (t : ℕ) → WaitsFor s t None → task_blocker s.parts (task_state_at s.task_states t) ≡ None
-unfolding WaitsFor Row
-names_nobody s t free = by (task_blocker s.parts (task_state_at s.task_states t)) refl
-  where
-    by : (o : Option ℕ) → task_blocker s.parts (task_state_at s.task_states t) ≡ o → task_blocker s.parts (task_state_at s.task_states t) ≡ None
-    by None e = e
-    by (Some h) e = absurd (free true h s (step_blocks s t true h e, refl))
-
-pub waits_for_nobody : (s : CoreState) (t : ℕ) → task_blocker s.parts (task_state_at s.task_states t) ≡ None → WaitsFor s t None
-unfolding WaitsFor Row
-waits_for_nobody s t e =
-    λ grant holder new row. nobody holder (sym e ∙ sym (step_held s t grant (Blocked holder) (as_state new) row.0))
 
 -- so of two cores whose calls hold the same, a task with the same call and life waits for nobody in both
 waits_alike : (s v : CoreState) (t : ℕ) → HoldAlike (as_state s) (as_state v) → (as_state v).calls t ≡ (as_state s).calls t
@@ -228,20 +180,6 @@ choice_leaves plan busy alive made t rng =
     (call_leaves busy next plan.deny made t rng)
     (either_leaves made t test killed other (leaves_all made t killed refl) (call_leaves busy next plan.deny made t (drawn rng)))
 
--- An event of the task alone, behind which its call holds all that it held: so do all calls.
-pub holds_on_all : (s v : CoreState) (event : Event) (o : Outcome) (t : ℕ) → IsReached (as_state s) → Row s event o v
-    → ((u : ℕ) → IsOf u event → u ≡ t) → HeldOn (holding_of s t) (holding_of v t) → HoldOn (as_state s) (as_state v)
-unfolding Row holding_of
-holds_on_all s v event o t reached row of held = record {
-  reached = reached;
-  other = reached_next (as_state s) (as_state v) event o reached row.0;
-  geometry = measures_stay (as_state s) event o (as_state v) (always (as_state s) reached) row.0;
-  held = λ u. elim (same_or_other u t) [
-    | inl e ↦ subst (λ (k : ℕ). HeldOn (held_by ((as_state s).calls k)) (held_by ((as_state v).calls k))) (sym e) held
-    | inr other ↦ held_same _ _ (ap held_by (others_stay (as_state s) (as_state v) event o u row.0 (λ is. other (of u is))).0)
-  ];
-}
-
 -- and where it holds the same, the calls hold the same
 held_alike : (s v : CoreState) (event : Event) (o : Outcome) (t : ℕ) → IsReached (as_state s) → Row s event o v
     → ((u : ℕ) → IsOf u event → u ≡ t) → holding_of v t ≡ holding_of s t → HoldAlike (as_state s) (as_state v)
@@ -254,7 +192,8 @@ held_alike s v event o t reached row of held =
         other = on.reached;
         geometry = sym on.geometry;
         held = λ u. elim (same_or_other u t) [
-          | inl e ↦ subst (λ (k : ℕ). HeldOn (held_by ((as_state v).calls k)) (held_by ((as_state s).calls k))) (sym e) (held_same _ _ (sym held))
+          | inl e ↦ subst (λ (k : ℕ). HeldOn (held_by ((as_state v).calls k)) (held_by ((as_state s).calls k))) (sym e)
+              (held_same _ _ (sym held))
           | inr other ↦ held_same _ _ (sym (ap held_by (others_stay (as_state s) (as_state v) event o u row.0 (λ is. other (of u is))).0))
         ];
       },
@@ -352,7 +291,8 @@ list_stays plan w v core made event o t busy alive rng tasks same_core same_made
 
     stay : (u : ℕ) → u ≢ t → ((as_state v.core).calls u ≡ (as_state w.core).calls u) × ((as_state v.core).life u ≡ (as_state w.core).life u)
     stay u other =
-        subst (λ (s : CoreState). ((as_state v.core).calls u ≡ (as_state s).calls u) × ((as_state v.core).life u ≡ (as_state s).life u)) same_core
+        subst (λ (s : CoreState). ((as_state v.core).calls u ≡ (as_state s).calls u) × ((as_state v.core).life u ≡ (as_state s).life u))
+        same_core
         (others_stay (as_state core) (as_state v.core) event o u row.0 (λ is. other (of u is)))
 
     on : (u : ℕ) → 1 ≤ u → u ≤ length w.made → CanTurn plan w u → CanTurn plan v u

@@ -5,13 +5,11 @@ use Rattle.std.specs.Prelude.{Bool, true, false, not, is_some, Option, None, Som
 use Rattle.std.specs.Prelude.{slice_set, if◌then◌else◌}
 use Rattle.std.specs.Option.{option_map}
 use Rattle.std.proofs.lemmas.List.{get_or-set_same, get_or-set_other, get_or-replicate, length-replicate, length-set}
-use Rattle.hp_base.proofs.Puts.{put_same, same_or_other}
+use Rattle.hp_base.proofs.Puts.{same_or_other}
 use Rattle.hp_base.specs.declared.config.Config.{Config}
-use Rattle.hp_base.specs.declared.event.Op.{Op}
-use Rattle.hp_base.specs.declared.event.Op.TheVariants as op
 use Rattle.hp_base.specs.declared.event.Event.{Event}
 use Rattle.hp_base.specs.declared.event.Event.TheVariants.{Begin, Step, Kill, Resize}
-use Rattle.hp_machine.specs.State.{Pool, State, pool_of, is_dead, is_killed}
+use Rattle.hp_machine.specs.State.{State, is_dead, is_killed}
 use Rattle.hp_machine.specs.Events as machine
 use Rattle.hp_machine.specs.Events.{IsReached, word_of, first}
 use Rattle.hp_machine.specs.declared.phase.Phase.{Phase}
@@ -34,17 +32,13 @@ use Rattle.hp_laws.proofs.Waiting.{moved_tells}
 use Rattle.hp_laws.proofs.Deciding.{never}
 use Rattle.hp_parts.specs.State.{PartsState}
 use Rattle.hp_core.specs.Blockers.{call_blocker, task_state_call_blocker}
-use Rattle.hp_core.specs.Holding.{held_by, holding_of}
 use Rattle.hp_core.specs.Readers.{phase_of}
 use Rattle.hp_core.specs.Runs.{Row, IsOpening}
 use Rattle.hp_core.specs.State.{CoreState, as_state, task_state_at, calls_of}
 use Rattle.hp_core.specs.Waiting.{WaitsFor}
-use Rattle.hp_explore.specs.Leaving.{task_may_leave}
-use Rattle.hp_explore.specs.Passing.{may_wait, task_may_pass, Agrees, ArePhases}
-use Rattle.hp_core.specs.declared.holding.Holding.{Holding}
-use Rattle.hp_explore.proofs.Growing.{HeldOn, held_same, call_grows}
-use Rattle.hp_explore.proofs.Others.{waits_for_nobody}
-use Rattle.hp_explore.proofs.Quiet.{call_keeps}
+use Rattle.hp_core.specs.Passing.{may_wait}
+use Rattle.hp_explore.specs.Phases.{Agrees, ArePhases}
+use Rattle.hp_core.proofs.Holds.{waits_for_nobody}
 
 -- a call whose word doesn't say otherwise is blocked by nobody
 unblocked : (p : PartsState) (killed : Bool) (c : Call) → may_wait (word_of c) ≡ false → call_blocker p killed c ≡ None
@@ -74,63 +68,6 @@ by_call p life (Some c) w e q = either_none (is_dead life) _ (unblocked p (is_ki
 pub waits_not : (s : CoreState) (t : ℕ) (w : Phase) → phase_of s t ≡ Some w → may_wait w ≡ false → WaitsFor s t None
 unfolding phase_of calls_of
 waits_not s t w e q = waits_for_nobody s t (by_call s.parts (task_state_at s.task_states t).life (task_state_at s.task_states t).call w e q)
-
--- a call that begins holds nothing
-first_holds_nothing : (p : Op) → held_by (Some (first p)) ≡ held_by None
-first_holds_nothing (op.Map f i l) = refl
-first_holds_nothing (op.MapNoReserve f i l) = refl
-first_holds_nothing (op.Unmap b) = refl
-first_holds_nothing (op.Load v) = refl
-first_holds_nothing (op.Store v w) = refl
-first_holds_nothing (op.Alloc f i l k) = refl
-first_holds_nothing (op.Punch f i l) = refl
-first_holds_nothing (op.Truncate f n) = refl
-first_holds_nothing op.Exit = refl
-
--- What holds of what a call holds before and after its step holds of what a task's call holds before and after an event of that task:
--- no other event changes that.
-by_event : (R : Holding → Holding → Type 0) → ((a b : Holding) → b ≡ a → R a b) → (s n : State) (event : Event) (o : Outcome) (t : ℕ)
-    → machine.Row s event o n → ((u : ℕ) → IsOf u event → u ≡ t)
-    → ((killed grant : Bool) (c : Call) (pool : Pool) (next : Option Call) → s.calls t ≡ Some c
-    → machine.CallRow (pool_of s) t killed grant c o pool next → R (held_by (Some c)) (held_by next))
-    → R (held_by (s.calls t)) (held_by (n.calls t))
-by_event R same s n (Begin u p) o t row of step = same _ _ (begin_cases s u p o n (held_by (n.calls t) ≡ held_by (s.calls t)) row
-    (λ why e d. ap (λ (m : State). held_by (m.calls t)) d)
-    (λ lives none may e d. subst (λ (k : ℕ). held_by (n.calls k) ≡ held_by (s.calls k)) (of u refl)
-    (ap (λ (m : State). held_by (m.calls u)) d ∙ (ap held_by (put_same s.calls u (Some (first p)))
-    ∙ (first_holds_nothing p ∙ ap held_by (sym none))))))
-by_event R same s n (Step u grant) o t row of step =
-    subst (λ (k : ℕ). R (held_by (s.calls k)) (held_by (n.calls k))) (of u refl)
-    (step_cases s u grant o n (R (held_by (s.calls u)) (held_by (n.calls u))) row
-    (λ why e d. same _ _ (ap (λ (m : State). held_by (m.calls u)) d))
-    (λ c lives e pool next r d.
-    let after : held_by (n.calls u) ≡ held_by next = ap (λ (m : State). held_by (m.calls u)) d ∙ ap held_by (put_same s.calls u next) in
-    subst (R (held_by (s.calls u))) (sym after)
-    (subst (λ (h : Holding). R h (held_by next)) (ap held_by (sym e))
-    (step _ grant c pool next (ap s.calls (sym (of u refl)) ∙ e)
-    (subst (λ (k : ℕ). machine.CallRow (pool_of s) k (is_killed (s.life u)) grant c o pool next) (of u refl) r)))))
-by_event R same s n (Kill u) o t row of step = same _ _ (kill_cases s u o n (held_by (n.calls t) ≡ held_by (s.calls t)) row
-    (λ why e d. ap (λ (m : State). held_by (m.calls t)) d)
-    (λ alive e d. ap (λ (m : State). held_by (m.calls t)) d))
-by_event R same s n (Resize size) o t row of step = same _ _ (ap held_by (others_stay s n (Resize size) o t row (λ z. z)).0)
-
--- what a task's call holds stays where the word of its phase doesn't say otherwise
-pub holding_stays : (s v : CoreState) (event : Event) (o : Outcome) (t : ℕ) → Row s event o v → ((u : ℕ) → IsOf u event → u ≡ t)
-    → task_may_pass (phase_of s t) ≡ false → holding_of v t ≡ holding_of s t
-unfolding Row holding_of phase_of
-holding_stays s v event o t row of q =
-    by_event (λ a b. b ≡ a) (λ a b e. e) (as_state s) (as_state v) event o t row.0 of
-    (λ killed grant c pool next e r. call_keeps (pool_of (as_state s)) t killed grant c o pool next
-    (ap (λ (x : Option Call). task_may_pass (option_map word_of x)) (sym e) ∙ q) r)
-
--- and what was held is held where its word doesn't say otherwise
-pub holds_on : (s v : CoreState) (event : Event) (o : Outcome) (t : ℕ) → Row s event o v → ((u : ℕ) → IsOf u event → u ≡ t)
-    → task_may_leave (phase_of s t) ≡ false → HeldOn (holding_of s t) (holding_of v t)
-unfolding Row holding_of phase_of
-holds_on s v event o t row of q =
-    by_event HeldOn held_same (as_state s) (as_state v) event o t row.0 of
-    (λ killed grant c pool next e r. call_grows (pool_of (as_state s)) t killed grant c o pool next
-    (ap (λ (x : Option Call). task_may_leave (option_map word_of x)) (sym e) ∙ q) r)
 
 -- what a step's outcome tells of its call
 step_agrees : (s n : State) (u : ℕ) (grant : Bool) (c : Call) (o : Outcome) → IsReached s → s.calls u ≡ Some c

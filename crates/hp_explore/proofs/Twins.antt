@@ -1,21 +1,21 @@
 -- Twins: two states that runs reached and that differ in the names of frames alone. Whatever happens to both tells the same,
 -- and leaves twins.
 use Rattle.std.proofs.Common.{◌≡◌, ℕ, refl, ap, sym, ◌∙◌, subst}
-use Rattle.std.specs.Prelude.{Bool, List, [], ◌∷◌, ◌++◌, Option, None, Some, is_some}
+use Rattle.std.specs.Prelude.{Bool, List, [], ◌∷◌, Option, None, Some, is_some}
 use Rattle.std.specs.Option.{option_map}
 use Rattle.hp_base.specs.declared.event.Event.{Event}
 use Rattle.hp_base.specs.declared.event.Event.TheVariants.{Step}
 use Rattle.hp_machine.specs.State.{State, Geometry, free_frames, pool_of}
-use Rattle.hp_machine.specs.Events.{Row, Run, IsReached, opening}
+use Rattle.hp_machine.specs.Events.{Row, IsReached, opening}
 use Rattle.hp_machine.specs.declared.outcome.Outcome.{Outcome}
 use Rattle.hp_machine.specs.declared.outcome.Outcome.TheVariants.{Blocked}
 use Rattle.hp_laws.proofs.Leads.{no_dead_ends}
-use Rattle.hp_laws.proofs.Runs.{always, measures_stay}
+use Rattle.hp_laws.proofs.Runs.{always}
 use Rattle.hp_laws.proofs.Waiting.{blocked_by_holder}
 use Rattle.hp_sequential.specs.Renaming.{renamed, call_renamed, Alike}
 use Rattle.hp_sequential.proofs.Runs.{run_alike, frames_hidden}
 use Rattle.hp_sequential.proofs.Parts.{frees_renamed}
-use Rattle.hp_core.proofs.Steps.{run_on}
+use Rattle.hp_core.proofs.Holds.{reached_next}
 use Rattle.hp_core.specs.State.{CoreState, as_state}
 use Rattle.hp_core.specs.Runs as core
 use Rattle.hp_core.specs.Waiting.{WaitsFor}
@@ -24,13 +24,6 @@ pub record Twins (s n : State) : Type 0 where
   pub reached : IsReached s
   pub other : IsReached n
   pub alike : Alike s n
-
--- an event leads from a reached state to one
-pub reached_next : (s new : State) (e : Event) (o : Outcome) → IsReached s → Row s e o new → IsReached new
-reached_next s new e o reached row =
-    let same = measures_stay s e o new (always s reached) row in
-    let on = run_on (opening s.geometry reached.0) s new reached.1.0 e o reached.1.1 row in
-    (reached.0, (reached.1.0 ++ (e, o) ∷ [], subst (λ (g : Geometry). Run (opening g reached.0) (reached.1.0 ++ (e, o) ∷ []) new) (sym same) on))
 
 -- a pool that opens is reached
 pub opening_reached : (g : Geometry) (frames : ℕ) → IsReached (opening g frames)

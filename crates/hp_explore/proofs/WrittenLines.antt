@@ -36,7 +36,8 @@ all_laid lines items n text same le is =
     is ∙ ap lines_text (take_all n lines (subst (λ (x : List RunLine). length x ≤ n) same le))
 
 -- the lines of the first runs are written, but for those of the last of them, which are kept
-pub record AllButKept (script : Script) (e : Exploration) (first : ℕ) (finished : Bool) (before now : Option (List ℕ)) (kept : List RunLine) : Type 0 where
+pub record AllButKept (script : Script) (e : Exploration) (first : ℕ) (finished : Bool) (before now : Option (List ℕ))
+    (kept : List RunLine) : Type 0 where
   pub few : first ≤ e.runs
   pub lines : List RunLine
   pub are : AreLinesOf script e first (lines ++ kept)
@@ -105,7 +106,8 @@ part_kept script e first runs finished ended done before now then kept slice nex
     }
 
 -- a front of the lines that were kept is written
-pub part_stopped : (script : Script) (e : Exploration) (first : ℕ) (finished : Bool) (before now then : Option (List ℕ)) (kept slice : List RunLine)
+pub part_stopped : (script : Script) (e : Exploration) (first : ℕ) (finished : Bool) (before now then : Option (List ℕ))
+    (kept slice : List RunLine)
     → AllButKept script e first finished before now kept → slice ≡ kept → Wrote now then (lines_text slice)
     → WroteSomeRuns script e before then
 part_stopped script e first finished before now then kept slice s sliced wrote_slice =
@@ -122,10 +124,17 @@ part_stopped script e first finished before now then kept slice s sliced wrote_s
 
 pub none_written : (script : Script) (e : Exploration) (now : Option (List ℕ)) → WroteSomeRuns script e now now
 none_written script e now =
-    record { runs = 0; few = omega arith; lines = []; are = tt; wrote = record { front = []; back = []; parts = refl; appends = Appends-nil now } }
+    record {
+      runs = 0;
+      few = omega arith;
+      lines = [];
+      are = tt;
+      wrote = record { front = []; back = []; parts = refl; appends = Appends-nil now };
+    }
 
 -- the lines that were kept are written, and there are no more runs
-pub all_written : (script : Script) (e : Exploration) (first : ℕ) (finished : Bool) (before now then : Option (List ℕ)) (kept slice : List RunLine)
+pub all_written : (script : Script) (e : Exploration) (first : ℕ) (finished : Bool) (before now then : Option (List ℕ))
+    (kept slice : List RunLine)
     → AllButKept script e first finished before now kept → e.runs ≤ first → slice ≡ kept → Appends now then (lines_text slice)
     → WroteRuns script e finished before then
 all_written script e first finished before now then kept slice s past sliced wrote =

@@ -1,8 +1,8 @@
 pub mod Claims
 pub mod Explored
 pub mod Inverses
-pub mod Leaving
-pub mod Passing
+pub mod CanNow
+pub mod Phases
 pub mod RunLines
 pub mod Schedule
 pub mod Text

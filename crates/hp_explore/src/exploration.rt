@@ -131,7 +131,8 @@ fn are_shorter(lines: &[RunLine], turns: u32) -> bool
 fn next_part(part: u32, lines: &[RunLine]) -> u32
     requires some { 0 < part }
     requires most { part ≤ MOST_PART }
-    ensures grows { result ≡ (if list_all (λ line. nat_lt line.turns (SOON / part)) lines.now then min (part * GROWTH) MOST_PART else part) }
+    ensures grows { result ≡ (if list_all (λ line. nat_lt line.turns (SOON / part)) lines.now
+        then min (part * GROWTH) MOST_PART else part) }
     ensures some { 0 < result }
     ensures most { result ≤ MOST_PART }
 {

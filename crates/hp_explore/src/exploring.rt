@@ -52,8 +52,8 @@ pub(crate) fn explore_one(
     let mut tasks = RunnableTasks::new();
     walk.list_runnable(plan, &mut tasks);
     for turn in 0..TURN_LIMIT {
-        let told = walk.turn(plan, &mut tasks)?;
-        if told.is_none() {
+        let event = walk.turn(plan, &mut tasks)?;
+        if event.is_none() {
             return Ok(walk.line(run, walk.idle_finish(plan)));
         }
         walk.is_clean();

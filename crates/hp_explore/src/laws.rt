@@ -19,7 +19,8 @@ pub fn a_line_is_one()
 
 /// Whoever replays the events of a run, from a new core on, ends with the counts that its line tells, and made as many turns.
 pub fn a_replayed_run_has_its_line()
-    ensures { (script : Script) (seed deny kill run : ℕ) (events : List Event) (line : RunLine) (first new : CoreState) (told : List Outcome)
-        → IsExplored script seed deny kill run events line → IsOpening script.config first → Run first events told new
+    ensures { (script : Script) (seed deny kill run : ℕ) (events : List Event) (line : RunLine)
+        (first new : CoreState) (outcomes : List Outcome)
+        → IsExplored script seed deny kill run events line → IsOpening script.config first → Run first events outcomes new
         → (line.free ≡ free_of new) × (line.resv ≡ resv_of new) × (line.turns ≡ length events) }
 {}

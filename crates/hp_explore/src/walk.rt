@@ -9,8 +9,9 @@ ghost use Rattle.hp_machine.specs.declared.outcome.Outcome.{Outcome};
 ghost use Rattle.hp_laws.specs.Laws.{IsOf};
 ghost use Rattle.hp_core.specs.Waiting.{WaitsFor};
 ghost use Rattle.hp_explore.specs.Schedule.{IsStart, Turn, CanTurn, AreRunnable, choice_at, next_call, in_call};
-ghost use Rattle.hp_explore.specs.Passing.{may_wait, task_may_pass, Agrees};
-ghost use Rattle.hp_explore.specs.Leaving.{can_now, task_may_leave};
+ghost use Rattle.hp_core.specs.Passing.{may_wait, task_may_leave, task_may_pass};
+ghost use Rattle.hp_explore.specs.CanNow.{can_now};
+ghost use Rattle.hp_explore.specs.Phases.{Agrees};
 ghost use Rattle.hp_explore.specs.Explored.{EndsWell, IsClean, idle_finish, last_finish, line_of};
 
 use crate::line::{Finish, RunLine};
@@ -57,12 +58,12 @@ fn can_leave(at: Option<Phase>) -> bool
 
 /// Where the task's call stands after its event. Most outcomes tell it.
 #[inline(always)]
-fn phase_after(core: &Core, task: u32, told: &Outcome) -> Option<Phase>
+fn phase_after(core: &Core, task: u32, outcome: &Outcome) -> Option<Phase>
     requires there { (1 ≤ task) × (task ≤ (config_of core.now).tasks) }
-    requires agrees { Agrees told.now (phase_of core.now task) }
+    requires agrees { Agrees outcome.now (phase_of core.now task) }
     ensures { result ≡ phase_of core.now task }
 {
-    match told {
+    match outcome {
         Outcome::Moved(at) => Some(*at),
         Outcome::Ended(_) => None,
         _ => core.phase(Task::new(task)),
@@ -97,7 +98,7 @@ impl Model for Walk {
     ghost use Rattle.std.specs.FinMap as map;
     ghost use Rattle.std.specs.Ordering.{nat_cmp};
     ghost use Rattle.hp_core.specs.Readers.{config_of};
-    ghost use Rattle.hp_explore.specs.Passing.{ArePhases};
+    ghost use Rattle.hp_explore.specs.Phases.{ArePhases};
     ghost use Rattle.hp_explore.specs.Schedule.{World};
 
     ghost Value = { World };
@@ -129,7 +130,7 @@ impl Walk {
     }
 
     /// Where the task's call stands, if one is in flight.
-    #[tactic(auto, unfolding(crate::specs::Passing::ArePhases))]
+    #[tactic(auto, unfolding(crate::specs::Phases::ArePhases))]
     #[inline(always)]
     fn phase(&self, task: u32) -> Option<Phase>
         requires { (1 ≤ task) × (task ≤ length self.now.made) }
@@ -273,7 +274,7 @@ impl Walk {
         requires turns { self.old.turns < 1000000 }
         requires task { (1 ≤ task) × (task ≤ length self.old.made) }
         requires alone { (u : ℕ) → IsOf u event.now → u ≡ task }
-        ensures row { OnOk result ((told : Outcome) × Row self.old.core event.now told self.new.core) }
+        ensures row { OnOk result ((outcome : Outcome) × Row self.old.core event.now outcome self.new.core) }
         ensures turns { OnOk result (self.new.turns ≡ self.old.turns + 1) }
         ensures made { OnOk result (self.new.made ≡ self.old.made) }
         ensures rng { OnOk result (self.new.rng ≡ self.old.rng) }
@@ -281,8 +282,8 @@ impl Walk {
         // The checker of borrows asks for a mention of the type that an outcome may hold.
         let _none: Option<Answer> = None;
         self.core.is_reached();
-        let told = self.core.step(*event)?;
-        self.phases[task as usize - 1] = phase_after(&self.core, task, &told);
+        let outcome = self.core.step(*event)?;
+        self.phases[task as usize - 1] = phase_after(&self.core, task, &outcome);
         self.turns += 1;
         Ok(())
     }
@@ -297,9 +298,9 @@ impl Walk {
         requires turns { self.old.turns < 1000000 }
         requires runnable { AreRunnable plan.now self.old tasks.old }
         requires in_range { All (λ t. (1 ≤ t) × (t ≤ length self.old.made)) tasks.old }
-        ensures turn { IfOk result (λ told. IfSome told (λ event. Turn plan.now self.old event self.new)) }
-        ensures idle { IfOk result (λ told. told ≡ None → AreRunnable plan.now self.old []) }
-        ensures stays { IfOk result (λ told. told ≡ None → self.new ≡ self.old) }
+        ensures turn { IfOk result (λ turn. IfSome turn (λ event. Turn plan.now self.old event self.new)) }
+        ensures idle { IfOk result (λ turn. turn ≡ None → AreRunnable plan.now self.old []) }
+        ensures stays { IfOk result (λ turn. turn ≡ None → self.new ≡ self.old) }
         ensures runnable { OnOk result (AreRunnable plan.now self.new tasks.new) }
         ensures in_range { OnOk result (All (λ t. (1 ≤ t) × (t ≤ length self.new.made)) tasks.new) }
     {

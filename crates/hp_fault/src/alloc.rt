@@ -10,7 +10,7 @@ ghost use Rattle.hp_machine.specs.declared.call.Call.TheVariants as call;
 ghost use Rattle.hp_parts.specs.Turns.{IfBlocked, IfWanting};
 ghost use Rattle.hp_parts.specs.View.{view};
 ghost use Rattle.hp_parts.specs.State.{state_of, IsSized, SizesStay};
-ghost use Rattle.hp_parts.specs.Room.{RoomStays, RoomStaysUnless};
+ghost use Rattle.hp_parts.specs.Capacity.{CapacityStays, CapacityStaysUnless};
 ghost use Rattle.hp_fault.specs.Fits.{AllocFits};
 ghost use Rattle.hp_parts.specs.Fits.{IsFileOf, IsHeld};
 
@@ -37,7 +37,7 @@ pub fn step_alloc(
     requires fits { AllocFits (view parts.old) task phase }
     ensures row { IfOk result (λ turn. AllocRow (view parts.old) task killed grant phase turn (view parts.new)) }
     ensures sizes { SizesStay (state_of parts.old) (state_of parts.new) }
-    ensures room { RoomStaysUnless grant (alloc_wants (view parts.old) phase) (state_of parts.old) (state_of parts.new) }
+    ensures capacity { CapacityStaysUnless grant (alloc_wants (view parts.old) phase) (state_of parts.old) (state_of parts.new) }
     ensures blocked { IfOk result (λ turn. IfWanting (standing (call.Alloc phase)).wants
         (IfBlocked turn (λ again. (again ≡ phase) × (state_of parts.new ≡ state_of parts.old)))) }
     ensures phase { IfErr result (λ stopped. stopped.phase ≡ phase) }
@@ -74,7 +74,7 @@ fn from_start(parts: &mut Parts, task: Task, killed: bool, phase: Start) -> Turn
     requires { IsSized (state_of parts.old) }
     ensures row { AllocStartRow (view parts.old) task killed phase result (view parts.new) }
     ensures sizes { SizesStay (state_of parts.old) (state_of parts.new) }
-    ensures room { RoomStays (state_of parts.old) (state_of parts.new) }
+    ensures capacity { CapacityStays (state_of parts.old) (state_of parts.new) }
     ensures same { IfBlocked result (λ again. (again ≡ AllocPhase.Start phase) × (state_of parts.new ≡ state_of parts.old)) }
 {
     let allocation = phase.allocation;
@@ -106,7 +106,7 @@ fn from_head(killed: bool, phase: Head) -> Turn<AllocPhase>
 fn from_want(parts: &mut Parts, task: Task, killed: bool, phase: Want) -> Turn<AllocPhase>
     ensures row { AllocWantRow (view parts.old) task killed phase result (view parts.new) }
     ensures sizes { SizesStay (state_of parts.old) (state_of parts.new) }
-    ensures room { RoomStays (state_of parts.old) (state_of parts.new) }
+    ensures capacity { CapacityStays (state_of parts.old) (state_of parts.new) }
     ensures same { IfBlocked result (λ again. (again ≡ AllocPhase.Want phase) × (state_of parts.new ≡ state_of parts.old)) }
 {
     let (allocation, index) = (phase.allocation, phase.index);
@@ -123,7 +123,7 @@ fn from_locked(parts: &mut Parts, phase: Locked) -> Turn<AllocPhase>
     requires { IsFileOf (view parts.old) phase.allocation.file }
     ensures row { AllocLockedRow (view parts.old) phase result (view parts.new) }
     ensures sizes { SizesStay (state_of parts.old) (state_of parts.new) }
-    ensures room { RoomStays (state_of parts.old) (state_of parts.new) }
+    ensures capacity { CapacityStays (state_of parts.old) (state_of parts.new) }
 {
     let Locked { allocation, index } = phase;
     let file = &parts.files[allocation.file.number() as usize];
@@ -139,7 +139,7 @@ fn from_missing(parts: &mut Parts, grant: bool, phase: Missing) -> Result<Turn<A
     requires in_limit { phase.index < LIMIT }
     ensures row { IfOk result (λ turn. AllocMissingRow (view parts.old) grant phase turn (view parts.new)) }
     ensures sizes { SizesStay (state_of parts.old) (state_of parts.new) }
-    ensures room { RoomStaysUnless grant ((view parts.old).spare phase.allocation.file ≡ (view parts.old).pending phase.allocation.file)
+    ensures capacity { CapacityStaysUnless grant ((view parts.old).spare phase.allocation.file ≡ (view parts.old).pending phase.allocation.file)
         (state_of parts.old) (state_of parts.new) }
     ensures phase { IfErr result (λ again. again ≡ phase) }
     ensures err { OnErr result (state_of parts.new ≡ state_of parts.old) }
@@ -166,7 +166,7 @@ fn from_changed(parts: &mut Parts, killed: bool, phase: Changed) -> Turn<AllocPh
     requires used { (view parts.old).used + 1 < 2 ^ 32 }
     ensures row { AllocChangedRow (view parts.old) killed phase result (view parts.new) }
     ensures sizes { SizesStay (state_of parts.old) (state_of parts.new) }
-    ensures room { RoomStays (state_of parts.old) (state_of parts.new) }
+    ensures capacity { CapacityStays (state_of parts.old) (state_of parts.new) }
 {
     let Changed {
         allocation,
@@ -193,7 +193,7 @@ fn from_abort(parts: &mut Parts, phase: Abort) -> Turn<AllocPhase>
     requires pending { 1 ≤ (view parts.old).pending phase.allocation.file }
     ensures row { AllocAbortRow (view parts.old) phase result (view parts.new) }
     ensures sizes { SizesStay (state_of parts.old) (state_of parts.new) }
-    ensures room { RoomStays (state_of parts.old) (state_of parts.new) }
+    ensures capacity { CapacityStays (state_of parts.old) (state_of parts.new) }
 {
     let Abort {
         allocation,
@@ -213,7 +213,7 @@ fn from_taken(parts: &mut Parts, phase: Taken) -> Turn<AllocPhase>
     requires pending { 1 ≤ (view parts.old).pending phase.allocation.file }
     ensures row { AllocTakenRow (view parts.old) phase result (view parts.new) }
     ensures sizes { SizesStay (state_of parts.old) (state_of parts.new) }
-    ensures room { RoomStays (state_of parts.old) (state_of parts.new) }
+    ensures capacity { CapacityStays (state_of parts.old) (state_of parts.new) }
 {
     let Taken {
         allocation,
@@ -245,7 +245,7 @@ fn from_settle(parts: &mut Parts, phase: Settle) -> Turn<AllocPhase>
     requires used { 1 ≤ (view parts.old).used }
     ensures row { AllocSettleRow (view parts.old) phase result (view parts.new) }
     ensures sizes { SizesStay (state_of parts.old) (state_of parts.new) }
-    ensures room { RoomStays (state_of parts.old) (state_of parts.new) }
+    ensures capacity { CapacityStays (state_of parts.old) (state_of parts.new) }
 {
     let Settle {
         allocation,
@@ -271,7 +271,7 @@ fn from_committed(
     requires held { IsHeld (view parts.old) phase.held }
     ensures row { IfOk result (λ turn. AllocCommittedRow (view parts.old) grant phase turn (view parts.new)) }
     ensures sizes { SizesStay (state_of parts.old) (state_of parts.new) }
-    ensures room { RoomStaysUnless grant (alloc_wants (view parts.old) (AllocPhase.Committed phase))
+    ensures capacity { CapacityStaysUnless grant (alloc_wants (view parts.old) (AllocPhase.Committed phase))
         (state_of parts.old) (state_of parts.new) }
     ensures phase { IfErr result (λ again. again ≡ phase) }
     ensures err { OnErr result (state_of parts.new ≡ state_of parts.old) }
@@ -305,7 +305,7 @@ fn from_restore(parts: &mut Parts, phase: Restore) -> Turn<AllocPhase>
     requires { IsHeld (view parts.old) phase.held }
     ensures row { AllocRestoreRow (view parts.old) phase result (view parts.new) }
     ensures sizes { SizesStay (state_of parts.old) (state_of parts.new) }
-    ensures room { RoomStays (state_of parts.old) (state_of parts.new) }
+    ensures capacity { CapacityStays (state_of parts.old) (state_of parts.new) }
 {
     let Restore {
         allocation,
@@ -323,7 +323,7 @@ fn from_unslot(parts: &mut Parts, task: Task, phase: Unslot) -> Turn<AllocPhase>
     requires index { phase.index < LIMIT }
     ensures row { AllocUnslotRow (view parts.old) phase result (view parts.new) }
     ensures sizes { SizesStay (state_of parts.old) (state_of parts.new) }
-    ensures room { RoomStays (state_of parts.old) (state_of parts.new) }
+    ensures capacity { CapacityStays (state_of parts.old) (state_of parts.new) }
 {
     let Unslot {
         allocation,
@@ -352,7 +352,7 @@ fn from_extend(parts: &mut Parts, phase: Extend) -> Turn<AllocPhase>
     requires in_limit { phase.allocation.from + phase.allocation.len ≤ LIMIT }
     ensures row { AllocExtendRow (view parts.old) phase result (view parts.new) }
     ensures sizes { SizesStay (state_of parts.old) (state_of parts.new) }
-    ensures room { RoomStays (state_of parts.old) (state_of parts.new) }
+    ensures capacity { CapacityStays (state_of parts.old) (state_of parts.new) }
 {
     let Extend { allocation } = phase;
     let file = &mut parts.files[allocation.file.number() as usize];
@@ -364,7 +364,7 @@ fn from_leave(parts: &mut Parts, task: Task, phase: Leave) -> Turn<AllocPhase>
     requires { (view parts.old).locks phase.allocation.file ≡ Some task }
     ensures row { AllocLeaveRow (view parts.old) phase result (view parts.new) }
     ensures sizes { SizesStay (state_of parts.old) (state_of parts.new) }
-    ensures room { RoomStays (state_of parts.old) (state_of parts.new) }
+    ensures capacity { CapacityStays (state_of parts.old) (state_of parts.new) }
 {
     let Leave { allocation, answer } = phase;
     leave_lock(parts, task, allocation.file);

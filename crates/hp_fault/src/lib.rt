@@ -9,7 +9,7 @@
 //! A step is told whether its task was killed (`killed`) and whether it may take memory (`grant`). Where its row
 //! wants growth that isn't granted, the step is denied; where growth is granted and memory runs out all the
 //! same, the step didn't happen (`Stopped`). Where growth isn't both wanted and granted, no part takes memory
-//! (`RoomStays` of hp_parts).
+//! (`CapacityStays` of hp_parts).
 #![tactic(auto)]
 
 pub mod alloc;

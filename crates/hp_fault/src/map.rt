@@ -9,7 +9,7 @@ ghost use Rattle.hp_machine.specs.declared.call.Call.TheVariants as call;
 ghost use Rattle.hp_parts.specs.Turns.{IfBlocked, IfWanting};
 ghost use Rattle.hp_parts.specs.View.{view};
 ghost use Rattle.hp_parts.specs.State.{state_of, IsSized, SizesStay};
-ghost use Rattle.hp_parts.specs.Room.{RoomStays, RoomStaysUnless};
+ghost use Rattle.hp_parts.specs.Capacity.{CapacityStays, CapacityStaysUnless};
 ghost use Rattle.hp_fault.specs.Fits.{MapFits};
 ghost use Rattle.hp_parts.specs.Fits.{IsTaskOf, IsFileOf};
 
@@ -34,7 +34,7 @@ pub fn step_map(
     requires fits { MapFits (view parts.old) task phase }
     ensures row { IfOk result (λ turn. MapRow (view parts.old) task killed grant phase turn (view parts.new)) }
     ensures sizes { SizesStay (state_of parts.old) (state_of parts.new) }
-    ensures room { RoomStaysUnless grant (map_wants (view parts.old) task phase) (state_of parts.old) (state_of parts.new) }
+    ensures capacity { CapacityStaysUnless grant (map_wants (view parts.old) task phase) (state_of parts.old) (state_of parts.new) }
     ensures blocked { IfOk result (λ turn. IfWanting (standing (call.Map phase)).wants
         (IfBlocked turn (λ again. (again ≡ phase) × (state_of parts.new ≡ state_of parts.old)))) }
     ensures phase { IfErr result (λ stopped. stopped.phase ≡ phase) }
@@ -64,7 +64,7 @@ fn from_start(parts: &mut Parts, task: Task, killed: bool, phase: Start) -> Turn
     requires { IsSized (state_of parts.old) }
     ensures row { MapStartRow (view parts.old) task killed phase result (view parts.new) }
     ensures sizes { SizesStay (state_of parts.old) (state_of parts.new) }
-    ensures room { RoomStays (state_of parts.old) (state_of parts.new) }
+    ensures capacity { CapacityStays (state_of parts.old) (state_of parts.new) }
     ensures same { IfBlocked result (λ again. (again ≡ MapPhase.Start phase) × (state_of parts.new ≡ state_of parts.old)) }
 {
     let map = phase.map;
@@ -84,7 +84,7 @@ fn from_room(
     requires { IsTaskOf (view parts.old) task }
     ensures row { IfOk result (λ turn. MapRoomRow (view parts.old) task grant phase turn (view parts.new)) }
     ensures sizes { SizesStay (state_of parts.old) (state_of parts.new) }
-    ensures room { RoomStaysUnless grant (map_wants (view parts.old) task (MapPhase.Room phase))
+    ensures capacity { CapacityStaysUnless grant (map_wants (view parts.old) task (MapPhase.Room phase))
         (state_of parts.old) (state_of parts.new) }
     ensures phase { IfErr result (λ again. again ≡ phase) }
     ensures err { OnErr result (state_of parts.new ≡ state_of parts.old) }
@@ -92,7 +92,7 @@ fn from_room(
     ensures wanted { OnErr result (map_wants (view parts.old) task (MapPhase.Room phase)) }
 {
     let Room { map } = phase;
-    let space = &mut parts.spaces[(task.number() - 1) as usize];
+    let space = &mut parts.spaces[task.place()];
     let Some(base) = space.room(map.len) else {
         return Ok(leave(map, Answer::NoAddress));
     };
@@ -116,7 +116,7 @@ fn from_missing(parts: &mut Parts, grant: bool, phase: Missing) -> Result<Turn<M
     requires in_limit { phase.map.from + phase.map.len ≤ LIMIT }
     ensures row { IfOk result (λ turn. MapMissingRow (view parts.old) grant phase turn (view parts.new)) }
     ensures sizes { SizesStay (state_of parts.old) (state_of parts.new) }
-    ensures room { RoomStaysUnless grant ((view parts.old).spare phase.map.file ≡ (view parts.old).pending phase.map.file)
+    ensures capacity { CapacityStaysUnless grant ((view parts.old).spare phase.map.file ≡ (view parts.old).pending phase.map.file)
         (state_of parts.old) (state_of parts.new) }
     ensures phase { IfErr result (λ again. again ≡ phase) }
     ensures err { OnErr result (state_of parts.new ≡ state_of parts.old) }
@@ -138,7 +138,7 @@ fn from_changed(parts: &mut Parts, killed: bool, phase: Changed) -> Turn<MapPhas
     requires used { (view parts.old).used + phase.pending.missing < 2 ^ 32 }
     ensures row { MapChangedRow (view parts.old) killed phase result (view parts.new) }
     ensures sizes { SizesStay (state_of parts.old) (state_of parts.new) }
-    ensures room { RoomStays (state_of parts.old) (state_of parts.new) }
+    ensures capacity { CapacityStays (state_of parts.old) (state_of parts.new) }
 {
     let Changed { map, base, pending } = phase;
     if killed {
@@ -156,7 +156,7 @@ fn from_abort(parts: &mut Parts, phase: Abort) -> Turn<MapPhase>
     requires pending { 1 ≤ (view parts.old).pending phase.map.file }
     ensures row { MapAbortRow (view parts.old) phase result (view parts.new) }
     ensures sizes { SizesStay (state_of parts.old) (state_of parts.new) }
-    ensures room { RoomStays (state_of parts.old) (state_of parts.new) }
+    ensures capacity { CapacityStays (state_of parts.old) (state_of parts.new) }
 {
     let Abort {
         map,
@@ -173,7 +173,7 @@ fn from_accounted(parts: &mut Parts, phase: Accounted) -> Turn<MapPhase>
     requires pending { 1 ≤ (view parts.old).pending phase.map.file }
     ensures row { MapAccountedRow (view parts.old) phase result (view parts.new) }
     ensures sizes { SizesStay (state_of parts.old) (state_of parts.new) }
-    ensures room { RoomStays (state_of parts.old) (state_of parts.new) }
+    ensures capacity { CapacityStays (state_of parts.old) (state_of parts.new) }
 {
     let Accounted { map, base, pending } = phase;
     let missing = pending.missing();
@@ -191,7 +191,7 @@ fn from_settle(parts: &mut Parts, phase: Settle) -> Turn<MapPhase>
     requires used { phase.excess ≤ (view parts.old).used }
     ensures row { MapSettleRow (view parts.old) phase result (view parts.new) }
     ensures sizes { SizesStay (state_of parts.old) (state_of parts.new) }
-    ensures room { RoomStays (state_of parts.old) (state_of parts.new) }
+    ensures capacity { CapacityStays (state_of parts.old) (state_of parts.new) }
 {
     let Settle { map, base, excess } = phase;
     parts.bank.settle(excess);
@@ -208,10 +208,10 @@ fn from_enter(parts: &mut Parts, task: Task, phase: Enter) -> Turn<MapPhase>
     requires fits { fits VPNS ((view parts.old).mappings task) phase.base phase.map.len ≡ true }
     ensures row { MapEnterRow (view parts.old) task phase result (view parts.new) }
     ensures sizes { SizesStay (state_of parts.old) (state_of parts.new) }
-    ensures room { RoomStays (state_of parts.old) (state_of parts.new) }
+    ensures capacity { CapacityStays (state_of parts.old) (state_of parts.new) }
 {
     let Enter { map, base } = phase;
-    let space = &mut parts.spaces[(task.number() - 1) as usize];
+    let space = &mut parts.spaces[task.place()];
     space.enter(base, map.file, map.from, map.len);
     let file = &mut parts.files[map.file.number() as usize];
     file.size = file.size.max(map.from.number() + map.len);
@@ -222,7 +222,7 @@ fn from_leave(parts: &mut Parts, task: Task, phase: Leave) -> Turn<MapPhase>
     requires { (view parts.old).locks phase.map.file ≡ Some task }
     ensures row { MapLeaveRow (view parts.old) phase result (view parts.new) }
     ensures sizes { SizesStay (state_of parts.old) (state_of parts.new) }
-    ensures room { RoomStays (state_of parts.old) (state_of parts.new) }
+    ensures capacity { CapacityStays (state_of parts.old) (state_of parts.new) }
 {
     let Leave { map, answer } = phase;
     leave_lock(parts, task, map.file);

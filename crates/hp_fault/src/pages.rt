@@ -79,7 +79,7 @@ pub fn use_page(bank: &mut Bank, frame: Frame, access: Access) -> Answer
     ensures resv { bank.new.resv ≡ bank.old.resv }
     ensures used { bank.new.used ≡ bank.old.used }
     ensures quota { bank.new.quota ≡ bank.old.quota }
-    ensures room { bank.new.room ≡ bank.old.room }
+    ensures capacity { bank.new.capacity ≡ bank.old.capacity }
 {
     match access {
         Access::Load => Answer::Word(bank.load(frame)),

@@ -11,7 +11,7 @@ ghost use Rattle.hp_machine.specs.declared.call.Call.TheVariants as call;
 ghost use Rattle.hp_parts.specs.Turns.{IfBlocked, IfWanting};
 ghost use Rattle.hp_parts.specs.View.{view};
 ghost use Rattle.hp_parts.specs.State.{state_of, SizesStay};
-ghost use Rattle.hp_parts.specs.Room.{RoomStays, RoomStaysUnless};
+ghost use Rattle.hp_parts.specs.Capacity.{CapacityStays, CapacityStaysUnless};
 ghost use Rattle.hp_fault.specs.Fits.{TouchFits};
 ghost use Rattle.hp_parts.specs.Fits.{IsTaskOf, IsFileOf, IsHeld, IsPage, HasPage};
 
@@ -38,7 +38,7 @@ pub fn step_touch(
     requires { TouchFits (view parts.old) task phase }
     ensures row { IfOk result (λ turn. TouchRow (view parts.old) task killed grant phase turn (view parts.new)) }
     ensures sizes { SizesStay (state_of parts.old) (state_of parts.new) }
-    ensures room { RoomStaysUnless grant (touch_wants (view parts.old) phase) (state_of parts.old) (state_of parts.new) }
+    ensures capacity { CapacityStaysUnless grant (touch_wants (view parts.old) phase) (state_of parts.old) (state_of parts.new) }
     ensures blocked { IfOk result (λ turn. IfWanting (standing (call.Touch phase)).wants
         (IfBlocked turn (λ again. (again ≡ phase) × (state_of parts.new ≡ state_of parts.old)))) }
     ensures phase { IfErr result (λ stopped. stopped.phase ≡ phase) }
@@ -78,10 +78,10 @@ fn from_look(parts: &mut Parts, task: Task, phase: Look) -> Turn<TouchPhase>
     requires page { IfSome ((view parts.old).entries task phase.vpn) (λ x. IsPage (view parts.old) x) }
     ensures row { TouchLookRow (view parts.old) task phase result (view parts.new) }
     ensures sizes { SizesStay (state_of parts.old) (state_of parts.new) }
-    ensures room { RoomStays (state_of parts.old) (state_of parts.new) }
+    ensures capacity { CapacityStays (state_of parts.old) (state_of parts.new) }
 {
     let Look { vpn, access } = phase;
-    let space = &parts.spaces[(task.number() - 1) as usize];
+    let space = &parts.spaces[task.place()];
     let Some((file, index)) = space.find(vpn) else {
         return Turn::Ended(Answer::Segv);
     };
@@ -102,7 +102,7 @@ fn from_look(parts: &mut Parts, task: Task, phase: Look) -> Turn<TouchPhase>
 fn from_want(parts: &mut Parts, task: Task, killed: bool, phase: Want) -> Turn<TouchPhase>
     ensures row { TouchWantRow (view parts.old) task killed phase result (view parts.new) }
     ensures sizes { SizesStay (state_of parts.old) (state_of parts.new) }
-    ensures room { RoomStays (state_of parts.old) (state_of parts.new) }
+    ensures capacity { CapacityStays (state_of parts.old) (state_of parts.new) }
     ensures same { IfBlocked result (λ again. (again ≡ TouchPhase.Want phase) × (state_of parts.new ≡ state_of parts.old)) }
 {
     if killed {
@@ -119,7 +119,7 @@ fn from_locked(parts: &mut Parts, phase: Locked) -> Turn<TouchPhase>
     requires { IsFileOf (view parts.old) phase.touch.file }
     ensures row { TouchLockedRow (view parts.old) phase result (view parts.new) }
     ensures sizes { SizesStay (state_of parts.old) (state_of parts.new) }
-    ensures room { RoomStays (state_of parts.old) (state_of parts.new) }
+    ensures capacity { CapacityStays (state_of parts.old) (state_of parts.new) }
 {
     let Locked { touch } = phase;
     let file = &parts.files[touch.file.number() as usize];
@@ -138,7 +138,7 @@ fn from_missing(parts: &mut Parts, grant: bool, phase: Missing) -> Result<Turn<T
     requires in_limit { phase.touch.index < LIMIT }
     ensures row { IfOk result (λ turn. TouchMissingRow (view parts.old) grant phase turn (view parts.new)) }
     ensures sizes { SizesStay (state_of parts.old) (state_of parts.new) }
-    ensures room { RoomStaysUnless grant ((view parts.old).spare phase.touch.file ≡ (view parts.old).pending phase.touch.file)
+    ensures capacity { CapacityStaysUnless grant ((view parts.old).spare phase.touch.file ≡ (view parts.old).pending phase.touch.file)
         (state_of parts.old) (state_of parts.new) }
     ensures phase { IfErr result (λ again. again ≡ phase) }
     ensures err { OnErr result (state_of parts.new ≡ state_of parts.old) }
@@ -161,7 +161,7 @@ fn from_changed(parts: &mut Parts, killed: bool, phase: Changed) -> Turn<TouchPh
     requires used { (view parts.old).used + 1 < 2 ^ 32 }
     ensures row { TouchChangedRow (view parts.old) killed phase result (view parts.new) }
     ensures sizes { SizesStay (state_of parts.old) (state_of parts.new) }
-    ensures room { RoomStays (state_of parts.old) (state_of parts.new) }
+    ensures capacity { CapacityStays (state_of parts.old) (state_of parts.new) }
 {
     let Changed { touch, pending } = phase;
     if killed {
@@ -183,7 +183,7 @@ fn from_abort(parts: &mut Parts, phase: Abort) -> Turn<TouchPhase>
     requires pending { 1 ≤ (view parts.old).pending phase.touch.file }
     ensures row { TouchAbortRow (view parts.old) phase result (view parts.new) }
     ensures sizes { SizesStay (state_of parts.old) (state_of parts.new) }
-    ensures room { RoomStays (state_of parts.old) (state_of parts.new) }
+    ensures capacity { CapacityStays (state_of parts.old) (state_of parts.new) }
 {
     let Abort {
         touch,
@@ -200,7 +200,7 @@ fn from_taken(parts: &mut Parts, phase: Taken) -> Turn<TouchPhase>
     requires pending { 1 ≤ (view parts.old).pending phase.touch.file }
     ensures row { TouchTakenRow (view parts.old) phase result (view parts.new) }
     ensures sizes { SizesStay (state_of parts.old) (state_of parts.new) }
-    ensures room { RoomStays (state_of parts.old) (state_of parts.new) }
+    ensures capacity { CapacityStays (state_of parts.old) (state_of parts.new) }
 {
     let Taken {
         touch,
@@ -223,7 +223,7 @@ fn from_settle(parts: &mut Parts, phase: Settle) -> Turn<TouchPhase>
     requires used { 1 ≤ (view parts.old).used }
     ensures row { TouchSettleRow (view parts.old) phase result (view parts.new) }
     ensures sizes { SizesStay (state_of parts.old) (state_of parts.new) }
-    ensures room { RoomStays (state_of parts.old) (state_of parts.new) }
+    ensures capacity { CapacityStays (state_of parts.old) (state_of parts.new) }
 {
     let Settle { touch, held } = phase;
     parts.bank.settle(1);
@@ -242,7 +242,7 @@ fn from_committed(
     requires held { IsHeld (view parts.old) phase.held }
     ensures row { IfOk result (λ turn. TouchCommittedRow (view parts.old) grant phase turn (view parts.new)) }
     ensures sizes { SizesStay (state_of parts.old) (state_of parts.new) }
-    ensures room { RoomStaysUnless grant (phase.touch.index < (view parts.old).size phase.touch.file)
+    ensures capacity { CapacityStaysUnless grant (phase.touch.index < (view parts.old).size phase.touch.file)
         (state_of parts.old) (state_of parts.new) }
     ensures phase { IfErr result (λ again. again ≡ phase) }
     ensures err { OnErr result (state_of parts.new ≡ state_of parts.old) }
@@ -267,7 +267,7 @@ fn from_restore(parts: &mut Parts, phase: Restore) -> Turn<TouchPhase>
     requires { IsHeld (view parts.old) phase.held }
     ensures row { TouchRestoreRow (view parts.old) phase result (view parts.new) }
     ensures sizes { SizesStay (state_of parts.old) (state_of parts.new) }
-    ensures room { RoomStays (state_of parts.old) (state_of parts.new) }
+    ensures capacity { CapacityStays (state_of parts.old) (state_of parts.new) }
 {
     let Restore {
         touch,
@@ -292,7 +292,7 @@ fn from_found(
     requires page { HasPage (view parts.old) phase.touch.file phase.touch.index }
     ensures row { IfOk result (λ turn. TouchFoundRow (view parts.old) task grant phase turn (view parts.new)) }
     ensures sizes { SizesStay (state_of parts.old) (state_of parts.new) }
-    ensures room { RoomStaysUnless grant (phase.touch.index < (view parts.old).size phase.touch.file)
+    ensures capacity { CapacityStaysUnless grant (phase.touch.index < (view parts.old).size phase.touch.file)
         (state_of parts.old) (state_of parts.new) }
     ensures phase { IfErr result (λ again. again ≡ phase) }
     ensures err { OnErr result (state_of parts.new ≡ state_of parts.old) }
@@ -310,7 +310,7 @@ fn from_found(
     let Some(frame) = file.cache.get(touch.index) else {
         unreachable!()
     };
-    let space = &mut parts.spaces[(task.number() - 1) as usize];
+    let space = &mut parts.spaces[task.place()];
     if space.install(touch.vpn, frame).is_err() {
         return Err(Found { touch });
     }
@@ -322,7 +322,7 @@ fn from_leave(parts: &mut Parts, task: Task, phase: Leave) -> Turn<TouchPhase>
     requires { (view parts.old).slots (slot_of (view parts.old).geometry phase.touch.file phase.touch.index) ≡ Some task }
     ensures row { TouchLeaveRow (view parts.old) phase result (view parts.new) }
     ensures sizes { SizesStay (state_of parts.old) (state_of parts.new) }
-    ensures room { RoomStays (state_of parts.old) (state_of parts.new) }
+    ensures capacity { CapacityStays (state_of parts.old) (state_of parts.new) }
 {
     let Leave { touch, answer } = phase;
     leave_slot(parts, task, touch.file, touch.index);

@@ -14,7 +14,7 @@ pub record BankState : Type 0 where
   pub resv : ℕ
   pub used : ℕ
   pub quota : Option ℕ
-  pub room : ℕ
+  pub capacity : ℕ
 
 abbrev pub is_free : FrameState → Bool
 is_free Free = true

@@ -64,7 +64,7 @@ impl Model for Bank {
       resv = b.resv;
       used = b.used;
       quota = b.quota;
-      room = vec_capacity b.records;
+      capacity = vec_capacity b.records;
     } };
 
     ghost invariant = { λ b. record {
@@ -100,7 +100,7 @@ impl Bank {
     /// may be in a hand, since its token could be given back to only one of the two banks.
     pub fn copy(&self, alloc: Global) -> Result<Bank, AllocError>
         requires { hand_count self.now ≡ 0 }
-        ensures { IfOk result (λ copy. copy ≡ record self.now { room = copy.room }) }
+        ensures { IfOk result (λ copy. copy ≡ record self.now { capacity = copy.capacity }) }
     {
         let mut records = Vec::with_capacity(alloc, self.records.len())?;
         records.extend_from_slice(&self.records)?;

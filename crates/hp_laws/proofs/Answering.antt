@@ -21,7 +21,7 @@ use Rattle.hp_machine.specs.PunchRows.{PunchRow}
 use Rattle.hp_machine.specs.TruncateRows.{TruncateRow}
 use Rattle.hp_machine.specs.UnmapRows.{UnmapRow}
 use Rattle.hp_machine.specs.ExitRows.{ExitRow}
-use Rattle.hp_machine.specs.Events.{Row, CallRow, first, told, left, word_of}
+use Rattle.hp_machine.specs.Events.{Row, CallRow, first, outcome_of, left, word_of}
 use Rattle.hp_machine.specs.declared.touch.Access.{Access}
 use Rattle.hp_machine.specs.declared.touch.Access.TheVariants.{Load, Store}
 use Rattle.hp_machine.specs.declared.touch.TouchPhase.{TouchPhase}
@@ -320,7 +320,7 @@ abbrev Tells : Outcome → Option Call → (word : ℕ) → Type 0
 Tells o next w = (o ≡ outcome.Ended (answer.Word w)) ⊎ Carries next w
 
 -- what a turn tells is what it yields
-yielded : {P : Type 0} (call : P → Call) (w : ℕ) (Q : Type 0) (turn : Turn P) → Yields call w Q turn → Tells (told call turn)
+yielded : {P : Type 0} (call : P → Call) (w : ℕ) (Q : Type 0) (turn : Turn P) → Yields call w Q turn → Tells (outcome_of call turn)
     (left call turn) w → Q
 yielded call w Q (Moved p) h tells = elim tells [ inl e ↦ absurd (moved_ended e) | inr c ↦ h c ]
   where
@@ -337,10 +337,10 @@ yielded call w Q (Ended a) h tells = elim tells [ inl e ↦ h (same e) | inr c �
 
 -- the same of an outcome and the call that is left
 by_turn : {P : Type 0} (call : P → Call) (w : ℕ) (Q : Type 0) (turn : Turn P) (o : Outcome) (next : Option Call) → Yields call w Q turn
-    → o ≡ told call turn → next ≡ left call turn → Tells o next w → Q
+    → o ≡ outcome_of call turn → next ≡ left call turn → Tells o next w → Q
 by_turn call w Q turn o next h tells leaves z =
     yielded call w Q turn h (subst
-    (λ (m : Option Call). Tells (told call turn) m w) leaves (subst (λ (m : Outcome). Tells m next w) tells z))
+    (λ (m : Option Call). Tells (outcome_of call turn) m w) leaves (subst (λ (m : Outcome). Tells m next w) tells z))
 
 -- at this step of the task the word is read
 abbrev ReadsNow : State → (t : ℕ) → (grant : Bool) → Outcome → State → (word : ℕ) → Type 0
@@ -348,10 +348,10 @@ ReadsNow s t grant o n w = (f i : ℕ) × Read f i (moment s (Step t grant) o n)
 
 -- the step of a touch that has the word, as one that reads
 of_touch : (s : State) (t : ℕ) (grant : Bool) (phase : TouchPhase) (turn : Turn TouchPhase) (o : Outcome) (n : State) (w : ℕ)
-    → s.calls t ≡ Some (call.Touch phase) → o ≡ told call.Touch turn → n.calls t ≡ left call.Touch turn
+    → s.calls t ≡ Some (call.Touch phase) → o ≡ outcome_of call.Touch turn → n.calls t ≡ left call.Touch turn
     → Source s t w phase turn → Carries (Some (call.Touch phase)) w ⊎ ReadsNow s t grant o n w
 of_touch s t grant (touch.Look p) turn o n w there tells leaves (place, loads, found, ends) =
-    inr (place.0, place.1, inl (t, grant, p, refl, there, loads, found, tells ∙ ap (told call.Touch) ends))
+    inr (place.0, place.1, inl (t, grant, p, refl, there, loads, found, tells ∙ ap (outcome_of call.Touch) ends))
 of_touch s t grant (touch.Found p) turn o n w there tells leaves (loads, moves) =
     inr (p.touch.file, p.touch.index, inr (t, grant, p, refl, there, loads, refl, refl, leaves ∙ ap (left call.Touch) moves))
 of_touch s t grant phase turn o n w there tells leaves source = inl source

@@ -20,7 +20,7 @@ use Rattle.hp_laws.specs.Enough.{CanSettle}
 use Rattle.hp_laws.specs.Protocol.{ChangesAreCalls, SparesSuffice, PagesAreReserved, LiesWithin, is_bare, HandsApart}
 use Rattle.hp_laws.specs.Protocol.{IsAtRest, HoldsNothing}
 use Rattle.hp_laws.specs.Protocol.{BareWhereMade, works_at, PassedIsBare}
-use Rattle.hp_laws.specs.Sweep.{fills, ahead}
+use Rattle.hp_laws.specs.Sweep.{fills, to_pass}
 use Rattle.hp_laws.proofs.Deciding.{some_same}
 use Rattle.hp_laws.proofs.Standing.{Stands}
 use Rattle.hp_laws.proofs.Invariant.{Reached, Inv, page_within}
@@ -70,9 +70,9 @@ hand_slot (Some (call.Exit exit.Start)) x e = (let d : ◌≡◌ {A = Option ℕ
 hand_slot c x e = (let d : ◌≡◌ {A = Option ℕ} None (Some x) = e in absurd (cc))
 
 -- two calls with a frame in hand hold the slots of different indices, for a slot has one holder
-pub hands_apart : (s : State) → IsReached s → HandsApart s
-hands_apart s reached t u x y d a b =
-    let h = (always s reached).inv in
+pub hands_kept_apart : (s : State) → Always s → HandsApart s
+hands_kept_apart s kept t u x y d a b =
+    let h = kept.inv in
     let k = hand_slot (s.calls t) x a in
     let j = hand_slot (s.calls u) y b in (
       k.0,
@@ -82,6 +82,10 @@ hands_apart s reached t u x y d a b =
       λ e. d (same_holder t u (s.slots (slot_of s.geometry k.0.0 k.0.1)) (holds_slot s.geometry s t k.0 h k.1)
           (ap (λ (m : ℕ × ℕ). s.slots (slot_of s.geometry m.0 m.1)) e ∙ holds_slot s.geometry s u j.0 h j.1)),
     )
+
+-- so in every reached state
+pub hands_apart : (s : State) → IsReached s → HandsApart s
+hands_apart s reached = hands_kept_apart s (always s reached)
 
 -- where a call's phase says that the index whose slot it holds has no page, it has none
 bare_at : (g : Geometry) (s : State) (t : ℕ) (c : Option Call) (k : ℕ × ℕ) → Stands g s t c → is_bare c ≡ true
@@ -110,7 +114,7 @@ bare_at g s t (Some (call.Exit exit.Start)) k h b e = (let d : false ≡ true = 
 bare_at g s t c k h b e = (let d : false ≡ true = b in absurd (cc))
 
 -- so in each state that keeps what every event keeps
-bare_made : (s : State) → Always s → BareWhereMade s
+pub bare_made : (s : State) → Always s → BareWhereMade s
 bare_made s h t k b e = bare_at s.geometry s t (s.calls t) k (h.inv.stands t) b e
 
 -- and in every reached one: a page is made, or was taken away, only where there is none
@@ -145,8 +149,8 @@ works g s u c k h e = (let d : ◌≡◌ {A = Option (ℕ × ℕ)} None (Some k)
 
 -- an index which a touch fills is below the size, or a truncation has yet to pass it
 pub reach_of : (g : Geometry) (s : State) (u : ℕ) (k : ℕ × ℕ) → Inv g s → fills (s.calls u) ≡ Some k
-    → Reached s.size (λ w. ahead (s.calls w)) k.0 k.1
-reach_of g s u k h e = subst (λ (o : Option (ℕ × ℕ)). IfSome o (λ k. Reached s.size (λ w. ahead (s.calls w)) k.0 k.1)) e (h.reach u)
+    → Reached s.size (λ w. to_pass (s.calls w)) k.0 k.1
+reach_of g s u k h e = subst (λ (o : Option (ℕ × ℕ)). IfSome o (λ k. Reached s.size (λ w. to_pass (s.calls w)) k.0 k.1)) e (h.reach u)
 
 -- an index that a truncation passed has no page, and no other call works there
 pub passed_bare : (s : State) → Always s → PassedIsBare s

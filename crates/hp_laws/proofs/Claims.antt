@@ -12,7 +12,7 @@ use Rattle.hp_machine.specs.declared.punch.PunchPhase.TheVariants as punch
 use Rattle.hp_machine.specs.declared.truncate.TruncatePhase.TheVariants as truncate
 use Rattle.hp_machine.specs.declared.call.Call.{Call}
 use Rattle.hp_machine.specs.declared.call.Call.TheVariants as call
-use Rattle.hp_laws.specs.Sweep.{fills, ahead, passed}
+use Rattle.hp_laws.specs.Sweep.{fills, to_pass, passed}
 use Rattle.hp_laws.proofs.Deciding.{same_of, never, some_same}
 use Rattle.hp_laws.proofs.Standing.{HasSlot, HasLock, Stands}
 use Rattle.hp_laws.proofs.Invariant.{Reached, Inv}
@@ -235,7 +235,7 @@ fills_not_passed : {P : Type 0} (g : Geometry) (s : State) (t u f j : ℕ) → I
     → passed (s.calls u) f j ≡ true → P
 fills_not_passed g s t u f j h a p =
     absurd (reached_not_passed g s f j h
-    (subst (λ (o : Option (ℕ × ℕ)). IfSome o (λ k. Reached s.size (λ w. ahead (s.calls w)) k.0 k.1)) a (h.reach t)) u p)
+    (subst (λ (o : Option (ℕ × ℕ)). IfSome o (λ k. Reached s.size (λ w. to_pass (s.calls w)) k.0 k.1)) a (h.reach t)) u p)
 
 -- two calls never count on one index
 pub once : (g : Geometry) (s : State) (t u f j : ℕ) → Inv g s → Claimed g s t (s.calls t) f j → Claimed g s u (s.calls u) f j → t ≡ u

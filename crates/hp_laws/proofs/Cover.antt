@@ -7,7 +7,7 @@ use Rattle.hp_base.specs.Indices.{vacant, count_within}
 use Rattle.hp_base.proofs.Totals.{total_same, total_le, total_add, total_has, exchange, at_most_one, count_below-total}
 use Rattle.hp_machine.specs.State.{Geometry, State}
 use Rattle.hp_base.specs.Mappings.{is_there}
-use Rattle.hp_machine.specs.Views.{less, more, used_owed}
+use Rattle.hp_machine.specs.Views.{behind, ahead, used_ahead}
 use Rattle.hp_machine.specs.declared.touch.TouchPhase.TheVariants as touch
 use Rattle.hp_machine.specs.declared.map.MapPhase.TheVariants as map
 use Rattle.hp_machine.specs.declared.alloc.AllocPhase.TheVariants as alloc
@@ -96,82 +96,83 @@ when true f i e = self f i
 when false f i e = (let d : false ≡ true = e in cc)
 
 -- what a call owes is within what it counts on
-less_needs : (g : Geometry) (s : State) (t : ℕ) (c : Option Call) → Stands g s t c → less c ≤ need g s c
-less_needs g s t (Some (call.Touch (touch.Taken p))) h =
+behind_needs : (g : Geometry) (s : State) (t : ℕ) (c : Option Call) → Stands g s t c → behind c ≤ need g s c
+behind_needs g s t (Some (call.Touch (touch.Taken p))) h =
     one_claim g s (Some (call.Touch (touch.Taken p))) p.touch.file p.touch.index (p.pending.missing == 0)
     h.facts.aim.file h.facts.aim.index (λ d. when (p.pending.missing == 0) p.touch.file p.touch.index d)
-less_needs g s t (Some (call.Touch (touch.Committed p))) h =
+behind_needs g s t (Some (call.Touch (touch.Committed p))) h =
     one_claim g s (Some (call.Touch (touch.Committed p))) p.touch.file p.touch.index true h.facts.aim.file h.facts.aim.index
     (λ d. self p.touch.file p.touch.index)
-less_needs g s t (Some (call.Touch (touch.Restore p))) h =
+behind_needs g s t (Some (call.Touch (touch.Restore p))) h =
     one_claim g s (Some (call.Touch (touch.Restore p))) p.touch.file p.touch.index true h.facts.aim.file h.facts.aim.index
     (λ d. self p.touch.file p.touch.index)
-less_needs g s t (Some (call.Alloc (alloc.Taken p))) h =
+behind_needs g s t (Some (call.Alloc (alloc.Taken p))) h =
     one_claim g s (Some (call.Alloc (alloc.Taken p))) p.allocation.file p.index (p.pending.missing == 0)
     h.facts.aim.file (below_limit g _ h.facts.aim)
     (λ d. when (p.pending.missing == 0) p.allocation.file p.index d)
-less_needs g s t (Some (call.Alloc (alloc.Committed p))) h =
+behind_needs g s t (Some (call.Alloc (alloc.Committed p))) h =
     one_claim g s (Some (call.Alloc (alloc.Committed p))) p.allocation.file p.index true h.facts.aim.file
     (below_limit g _ h.facts.aim) (λ d. self p.allocation.file p.index)
-less_needs g s t (Some (call.Alloc (alloc.Restore p))) h =
+behind_needs g s t (Some (call.Alloc (alloc.Restore p))) h =
     one_claim g s (Some (call.Alloc (alloc.Restore p))) p.allocation.file p.index true h.facts.aim.file
     (below_limit g _ h.facts.aim) (λ d. self p.allocation.file p.index)
-less_needs g s t (Some (call.Punch (punch.Delete p))) h =
+behind_needs g s t (Some (call.Punch (punch.Delete p))) h =
     one_claim g s (Some (call.Punch (punch.Delete p))) p.hole.file p.index true h.facts.aim.file
     (below_limit g _ h.facts.aim) (λ d. self p.hole.file p.index)
-less_needs g s t (Some (call.Punch (punch.Free p))) h =
+behind_needs g s t (Some (call.Punch (punch.Free p))) h =
     one_claim g s (Some (call.Punch (punch.Free p))) p.hole.file p.index p.denied h.facts.aim.file
     (below_limit g _ h.facts.aim) (λ d. when p.denied p.hole.file p.index d)
-less_needs g s t (Some (call.Truncate (truncate.Want p))) h =
+behind_needs g s t (Some (call.Truncate (truncate.Want p))) h =
     tail_needs g s (Some (call.Truncate (truncate.Want p))) p.truncation.file (p.index + 1) p.evicted h.facts.aim.file
     h.facts.aim.lost (λ j. refl)
-less_needs g s t (Some (call.Truncate (truncate.Locked p))) h =
+behind_needs g s t (Some (call.Truncate (truncate.Locked p))) h =
     tail_needs g s (Some (call.Truncate (truncate.Locked p))) p.truncation.file (p.index + 1) p.evicted h.facts.aim.file
     h.facts.aim.lost (λ j. refl)
-less_needs g s t (Some (call.Truncate (truncate.Unmap p))) h =
+behind_needs g s t (Some (call.Truncate (truncate.Unmap p))) h =
     tail_needs g s (Some (call.Truncate (truncate.Unmap p))) p.truncation.file (p.index + 1) p.evicted h.facts.aim.file
     h.facts.aim.lost (λ j. refl)
-less_needs g s t (Some (call.Truncate (truncate.Evict p))) h =
+behind_needs g s t (Some (call.Truncate (truncate.Evict p))) h =
     tail_needs g s (Some (call.Truncate (truncate.Evict p))) p.truncation.file (p.index + 1) p.evicted h.facts.aim.file
     h.facts.aim.lost (λ j. refl)
-less_needs g s t (Some (call.Truncate (truncate.Free p))) h =
+behind_needs g s t (Some (call.Truncate (truncate.Free p))) h =
     tail_needs g s (Some (call.Truncate (truncate.Free p))) p.truncation.file (p.index) p.evicted h.facts.aim.file
     h.facts.aim.lost (λ j. refl)
-less_needs g s t (Some (call.Truncate (truncate.Unslot p))) h =
+behind_needs g s t (Some (call.Truncate (truncate.Unslot p))) h =
     tail_needs g s (Some (call.Truncate (truncate.Unslot p))) p.truncation.file (p.index) p.evicted h.facts.aim.file
     h.facts.aim.lost (λ j. refl)
-less_needs g s t (Some (call.Truncate (truncate.Tail p))) h =
+behind_needs g s t (Some (call.Truncate (truncate.Tail p))) h =
     tail_needs g s (Some (call.Truncate (truncate.Tail p))) p.truncation.file (p.truncation.new) p.evicted
     h.facts.file h.facts.lost (λ j. refl)
-less_needs g s t (Some (call.Map (map.Start _))) h = omega arith
-less_needs g s t (Some (call.Unmap (unmap.Start _))) h = omega arith
-less_needs g s t (Some (call.Exit exit.Start)) h = omega arith
-less_needs g s t c h = omega arith
+behind_needs g s t (Some (call.Map (map.Start _))) h = omega arith
+behind_needs g s t (Some (call.Unmap (unmap.Start _))) h = omega arith
+behind_needs g s t (Some (call.Exit exit.Start)) h = omega arith
+behind_needs g s t c h = omega arith
 
 -- there are enough reservations for what a call counted and what it counts on beyond what it owes
 pub enough : (g : Geometry) (s : State) (t : ℕ) (c : Option Call) → Inv g s → t < g.tasks + 1 → s.calls t ≡ c
-    → more c + need g s c ≤ s.resv + less c
+    → ahead c + need g s c ≤ s.resv + behind c
 enough g s t c h l e =
     let n : ℕ = g.tasks + 1 in
     let a : total n (λ u. need g s (s.calls u)) ≤ vacant_of g s.reserved s.pages = all_needs g s h in
-    let d : total n (λ u. need g s (s.calls u)) ≡ total n (λ u. less (s.calls u)) + total n (λ u. need g s (s.calls u) - less (s.calls u))
+    let d : total n (λ u. need g s (s.calls u))
+    ≡ total n (λ u. behind (s.calls u)) + total n (λ u. need g s (s.calls u) - behind (s.calls u))
     =
-    total_add n (λ u. less (s.calls u)) (λ u. need g s (s.calls u) - less (s.calls u)) (λ u. need g s (s.calls u))
-    (λ u. let y : less (s.calls u) ≤ need g s (s.calls u) = less_needs g s u (s.calls u) (h.stands u) in omega arith) in
-    let p : need g s (s.calls t) - less (s.calls t) ≤ total n (λ u. need g s (s.calls u) - less (s.calls u)) =
-    total_has n t (λ u. need g s (s.calls u) - less (s.calls u)) l in
-    let q : more (s.calls t) ≤ total n (λ u. more (s.calls u)) = total_has n t (λ u. more (s.calls u)) l in
+    total_add n (λ u. behind (s.calls u)) (λ u. need g s (s.calls u) - behind (s.calls u)) (λ u. need g s (s.calls u))
+    (λ u. let y : behind (s.calls u) ≤ need g s (s.calls u) = behind_needs g s u (s.calls u) (h.stands u) in omega arith) in
+    let p : need g s (s.calls t) - behind (s.calls t) ≤ total n (λ u. need g s (s.calls u) - behind (s.calls u)) =
+    total_has n t (λ u. need g s (s.calls u) - behind (s.calls u)) l in
+    let q : ahead (s.calls t) ≤ total n (λ u. ahead (s.calls u)) = total_has n t (λ u. ahead (s.calls u)) l in
     let x : need g s (s.calls t) ≡ need g s c = ap (need g s) e in
-    let y : less (s.calls t) ≡ less c = ap less e in
-    let z : more (s.calls t) ≡ more c = ap more e in
-    let w : s.resv + total n (λ u. less (s.calls u)) ≡ vacant_of g s.reserved s.pages + total n (λ u. more (s.calls u)) = h.count in
+    let y : behind (s.calls t) ≡ behind c = ap behind e in
+    let z : ahead (s.calls t) ≡ ahead c = ap ahead e in
+    let w : s.resv + total n (λ u. behind (s.calls u)) ≡ vacant_of g s.reserved s.pages + total n (λ u. ahead (s.calls u)) = h.count in
     omega arith
 
 -- what a call owes to the used count is counted in it
-pub uses : (g : Geometry) (s : State) (t : ℕ) (c : Option Call) → Inv g s → t < g.tasks + 1 → s.calls t ≡ c → used_owed c ≤ s.used
+pub uses : (g : Geometry) (s : State) (t : ℕ) (c : Option Call) → Inv g s → t < g.tasks + 1 → s.calls t ≡ c → used_ahead c ≤ s.used
 uses g s t c h l e =
-    let a : used_owed (s.calls t) ≤ sum_of g used_owed s.calls = total_has (g.tasks + 1) t (λ u. used_owed (s.calls u)) l in
-    let b : used_owed (s.calls t) ≡ used_owed c = ap used_owed e in
+    let a : used_ahead (s.calls t) ≤ sum_of g used_ahead s.calls = total_has (g.tasks + 1) t (λ u. used_ahead (s.calls u)) l in
+    let b : used_ahead (s.calls t) ≡ used_ahead c = ap used_ahead e in
     let d = h.used in
     omega arith
 

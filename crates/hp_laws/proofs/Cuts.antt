@@ -3,16 +3,14 @@ use Rattle.std.proofs.Common.{◌≡◌, ◌≢◌, ℕ, ◌+◌, ◌<◌, ◌�
 use Rattle.std.specs.Prelude.{Bool, true, false, Option, Some, None, IfSome}
 use Rattle.hp_base.specs.Numbers.{put}
 use Rattle.hp_base.specs.Indices.{vacant, count_within, cut_tail}
-use Rattle.hp_base.specs.Mappings.{find}
 use Rattle.hp_base.proofs.Puts.{put_same, put_other, same_or_other, put_tells}
 use Rattle.hp_base.proofs.Totals.{total_change}
 use Rattle.hp_base.proofs.Counting.{count_below-cut_tail}
 use Rattle.hp_base.proofs.Sets.{vacant_cut, cut_below, cut_false, cut_out, cut_above}
 use Rattle.hp_machine.specs.State.{Geometry, State, slot_of}
-use Rattle.hp_machine.specs.Views.{less, more, used_owed, hand, change_in, locked_file, slot_held}
+use Rattle.hp_machine.specs.Views.{behind, ahead, used_ahead, hand, change_in, locked_file, slot_held}
 use Rattle.hp_machine.specs.declared.call.Call.{Call}
-use Rattle.hp_laws.specs.Sweep.{fills, ahead, passed, gone}
-use Rattle.hp_laws.proofs.Deciding.{some_same}
+use Rattle.hp_laws.specs.Sweep.{fills, to_pass, passed, gone}
 use Rattle.hp_laws.proofs.Standing.{HasSlot, HasLock, Stands}
 use Rattle.hp_laws.proofs.Staying.{same_tables, stands_after}
 use Rattle.hp_laws.proofs.Invariant.{Reached, Swept, Holders, Inv, goes_on, put_known, vacant_of, reserved_of, reserved_fewer, same_used, place_same, same_opens, holds}
@@ -21,25 +19,26 @@ use Rattle.hp_laws.proofs.Holding.{left_holders, left_stands}
 use Rattle.hp_laws.proofs.Passing.{locks_file, holds_slot, fills_slot, passed_locked, reached_not_passed, same_holder}
 
 -- what was reached, by who sees to it
-reach_cases : (s : State) (t : ℕ) (b : Option Call) (f j : ℕ) (P : Type 0) → s.calls t ≡ b → Reached s.size (λ u. ahead (s.calls u)) f j
-    → (j < s.size f → P) → ((u : ℕ) → u ≢ t → ahead (s.calls u) f j ≡ true → P) → (ahead b f j ≡ true → P) → P
+reach_cases : (s : State) (t : ℕ) (b : Option Call) (f j : ℕ) (P : Type 0) → s.calls t ≡ b → Reached s.size (λ u. to_pass (s.calls u)) f j
+    → (j < s.size f → P) → ((u : ℕ) → u ≢ t → to_pass (s.calls u) f j ≡ true → P) → (to_pass b f j ≡ true → P) → P
 reach_cases s t b f j P e r low other own = elim r [
   | inl l ↦ low l
   | inr a ↦ elim (same_or_other a.0 t) [
-    | inl d ↦ own (ap (λ (c : Option Call). ahead c f j) (sym (ap s.calls d ∙ e)) ∙ a.1)
+    | inl d ↦ own (ap (λ (c : Option Call). to_pass c f j) (sym (ap s.calls d ∙ e)) ∙ a.1)
     | inr d ↦ other a.0 d a.1
   ]
 ]
 
 -- after a call goes on, another call is ahead of an index as before
-new_other : (calls : ℕ → Option Call) (t u : ℕ) (c : Option Call) (size : ℕ → ℕ) (f j : ℕ) → u ≢ t → ahead (calls u) f j ≡ true
-    → Reached size (put (λ (w : ℕ). ahead (calls w)) t (ahead c)) f j
-new_other calls t u c size f j d p = inr (u, ap (λ (m : ℕ → ℕ → Bool). m f j) (put_other (λ (w : ℕ). ahead (calls w)) t (ahead c) u d) ∙ p)
+new_other : (calls : ℕ → Option Call) (t u : ℕ) (c : Option Call) (size : ℕ → ℕ) (f j : ℕ) → u ≢ t → to_pass (calls u) f j ≡ true
+    → Reached size (put (λ (w : ℕ). to_pass (calls w)) t (to_pass c)) f j
+new_other calls t u c size f j d p =
+    inr (u, ap (λ (m : ℕ → ℕ → Bool). m f j) (put_other (λ (w : ℕ). to_pass (calls w)) t (to_pass c) u d) ∙ p)
 
 -- and the one that went on is where it now stands
-new_own : (calls : ℕ → Option Call) (t : ℕ) (c : Option Call) (size : ℕ → ℕ) (f j : ℕ) → ahead c f j ≡ true
-    → Reached size (put (λ (w : ℕ). ahead (calls w)) t (ahead c)) f j
-new_own calls t c size f j p = inr (t, ap (λ (m : ℕ → ℕ → Bool). m f j) (put_same (λ (w : ℕ). ahead (calls w)) t (ahead c)) ∙ p)
+new_own : (calls : ℕ → Option Call) (t : ℕ) (c : Option Call) (size : ℕ → ℕ) (f j : ℕ) → to_pass c f j ≡ true
+    → Reached size (put (λ (w : ℕ). to_pass (calls w)) t (to_pass c)) f j
+new_own calls t c size f j p = inr (t, ap (λ (m : ℕ → ℕ → Bool). m f j) (put_same (λ (w : ℕ). to_pass (calls w)) t (to_pass c)) ∙ p)
 
 -- what is said of the calls after one goes on is said of another, or of it
 view_cases : (v : Option Call → ℕ → ℕ → Bool) (calls : ℕ → Option Call) (t u : ℕ) (c : Option Call) (f j : ℕ) (P : Type 0)
@@ -70,17 +69,39 @@ other_file g s t u k f h held d e = λ q. d (same_holder u t (s.locks f) (ap s.l
 other_lock : (s : State) (t u k f : ℕ) → HasLock s t f → u ≢ t → s.locks k ≡ Some u → k ≢ f
 other_lock s t u k f held d e = λ q. d (same_holder u t (s.locks f) (ap s.locks (sym q) ∙ e) held)
 
+-- what was reached is reached where the size is lowered
+pub cut_reached : (s : State) (t : ℕ) (b c : Option Call) (f new top : ℕ) → s.calls t ≡ b → s.size f ≤ top
+    → ((k j : ℕ) → to_pass b k j ≡ true → ⊥)
+    → ((j : ℕ) → j < top → (j < new) ⊎ (to_pass c f j ≡ true))
+    → (k j : ℕ) → Reached s.size (λ u. to_pass (s.calls u)) k j
+    → Reached (put s.size f new) (put (λ (w : ℕ). to_pass (s.calls w)) t (to_pass c)) k j
+cut_reached s t b c f new top e size_low none_to_pass covers k j r =
+    reach_cases s t b k j (Reached size (put (λ (w : ℕ). to_pass (s.calls w)) t (to_pass c)) k j) e r
+    (λ low. elim (same_or_other k f) [
+      | inl d ↦ elim (covers j (let y : s.size k ≡ s.size f = ap s.size d in omega arith)) [
+        | inl q ↦ inl (let z : size k ≡ new = ap (put s.size f new) d ∙ put_same s.size f new in omega arith)
+        | inr q ↦ new_own s.calls t c size k j (ap (λ (m : ℕ). to_pass c m j) d ∙ q)
+      ]
+      | inr d ↦ inl (let z : size k ≡ s.size k = put_other s.size f new k d in omega arith)
+    ])
+    (λ u d p. new_other s.calls t u c size k j d p)
+    (λ p. absurd (none_to_pass k j p))
+  where
+    size : ℕ → ℕ
+    size = put s.size f new
+
 -- the size is lowered, and what lay below the old one is ahead
 pub cuts : (g : Geometry) (s : State) (t : ℕ) (b c : Option Call) (f new top : ℕ) → Inv g s → t < g.tasks + 1 → s.calls t ≡ b
-    → holds c ≡ holds b → hand c ≡ hand b → change_in c ≡ change_in b → less c + more b ≡ less b + more c → used_owed c ≡ used_owed b
+    → holds c ≡ holds b → hand c ≡ hand b → change_in c ≡ change_in b → behind c + ahead b ≡ behind b + ahead c
+    → used_ahead c ≡ used_ahead b
     → HasLock s t f → new ≤ g.limit → s.size f ≤ top → ((i : ℕ) → top ≤ i → s.pages f i ≡ None)
-    → ((k j : ℕ) → ahead b k j ≡ true → ⊥)
-    → ((j : ℕ) → j < top → (j < new) ⊎ (ahead c f j ≡ true))
+    → ((k j : ℕ) → to_pass b k j ≡ true → ⊥)
+    → ((j : ℕ) → j < top → (j < new) ⊎ (to_pass c f j ≡ true))
     → ((k j : ℕ) → passed c k j ≡ true → (k ≡ f) × (top ≤ j) × (new ≤ j))
     → fills c ≡ None → ((k j : ℕ) → gone c k j ≡ true → ⊥)
     → Stands g (record s { pool = record s.pool { size = put s.size f new } }) t c
     → Inv g (to (record s { pool = record s.pool { size = put s.size f new } }) t c)
-cuts g s t b c f new top h l e same_held same_hand same_change balance owed held low size_low bare none_ahead covers passes
+cuts g s t b c f new top h l e same_held same_hand same_change balance owed held low size_low bare none_to_pass covers passes
     no_fill none_gone own = goes_on g s n t b c h l e (record {
       layout = h.layout;
       entries = h.entries;
@@ -92,7 +113,6 @@ cuts g s t b c f new top h l e same_held same_hand same_change balance owed held
       quota = h.quota;
       place = place_same g s t b c h e same_hand;
       sweep = record {
-        below = λ w v x k j p q. covered k j (h.sweep.below w v x k j p q);
         past = λ u k j p. view_cases passed s.calls t u c k j ((s.pages k j ≡ None) × (n.size k ≤ j)) p
             (λ d q. let o = h.sweep.past u k j q in (
               o.0,
@@ -110,7 +130,7 @@ cuts g s t b c f new top h l e same_held same_hand same_change balance owed held
       reach = λ w. if_weaker (fills (s.calls w)) (λ k p r. covered k.0 k.1 r) (h.reach w);
       fill =
           subst (λ (o : Option (ℕ × ℕ)). IfSome o
-          (λ k. Reached n.size (put (λ (w : ℕ). ahead (s.calls w)) t (ahead c)) k.0 k.1)) (sym no_fill) tt;
+          (λ k. Reached n.size (put (λ (w : ℕ). to_pass (s.calls w)) t (to_pass c)) k.0 k.1)) (sym no_fill) tt;
       sizes =
           λ k. elim (put_tells s.size f new k) [
             | inl q ↦ (let z = q.1 in omega arith)
@@ -137,30 +157,39 @@ cuts g s t b c f new top h l e same_held same_hand same_change balance owed held
     n : State
     n = record s { pool = record s.pool { size = put s.size f new } }
 
-    covered : (k j : ℕ) → Reached s.size (λ u. ahead (s.calls u)) k j → Reached n.size (put (λ (w : ℕ). ahead (s.calls w)) t (ahead c)) k j
-    covered k j r = reach_cases s t b k j (Reached n.size (put (λ (w : ℕ). ahead (s.calls w)) t (ahead c)) k j) e r
-        (λ low. elim (same_or_other k f) [
-          | inl d ↦ elim (covers j (let y : s.size k ≡ s.size f = ap s.size d in omega arith)) [
-            | inl q ↦ inl (let z : n.size k ≡ new = ap (put s.size f new) d ∙ put_same s.size f new in omega arith)
-            | inr q ↦ new_own s.calls t c n.size k j (ap (λ (m : ℕ). ahead c m j) d ∙ q)
-          ]
-          | inr d ↦ inl (let z : n.size k ≡ s.size k = put_other s.size f new k d in omega arith)
-        ])
-        (λ u d p. new_other s.calls t u c n.size k j d p)
-        (λ p. absurd (none_ahead k j p))
+    covered : (k j : ℕ) → Reached s.size (λ u. to_pass (s.calls u)) k j
+        → Reached n.size (put (λ (w : ℕ). to_pass (s.calls w)) t (to_pass c)) k j
+    covered = cut_reached s t b c f new top e size_low none_to_pass covers
+
+-- so is what is at another index where one is passed
+pub passed_reached : (s : State) (t : ℕ) (b c : Option Call) (f i new : ℕ) → s.calls t ≡ b → s.size f ≡ new
+    → ((k j : ℕ) → to_pass b k j ≡ true → (k ≡ f) × ((j ≡ i) ⊎ ((j < new) ⊎ (to_pass c f j ≡ true))))
+    → (k j : ℕ) → Reached s.size (λ u. to_pass (s.calls u)) k j → (k ≡ f → j ≡ i → ⊥)
+    → Reached s.size (put (λ (w : ℕ). to_pass (s.calls w)) t (to_pass c)) k j
+passed_reached s t b c f i new e sized all_to_pass k j r not_here =
+    reach_cases s t b k j (Reached s.size (put (λ (w : ℕ). to_pass (s.calls w)) t (to_pass c)) k j) e r
+    (λ low. inl low)
+    (λ u d p. new_other s.calls t u c s.size k j d p)
+    (λ p. let o = all_to_pass k j p in elim o.1 [
+      | inl q ↦ absurd (not_here o.0 q)
+      | inr y ↦ elim y [
+        | inl q ↦ inl (let z : s.size k ≡ new = ap s.size o.0 ∙ sized in omega arith)
+        | inr q ↦ new_own s.calls t c s.size k j (ap (λ (m : ℕ). to_pass c m j) o.0 ∙ q)
+      ]
+    ])
 
 -- an index with no page is passed, and its slot left
 pub passes : (g : Geometry) (s : State) (t : ℕ) (b c : Option Call) (f i new : ℕ) → Inv g s → t < g.tasks + 1 → s.calls t ≡ b
     → locked_file c ≡ locked_file b → slot_held b ≡ Some (f, i) → slot_held c ≡ None
-    → hand c ≡ hand b → change_in c ≡ change_in b → less c + more b ≡ less b + more c → used_owed c ≡ used_owed b
+    → hand c ≡ hand b → change_in c ≡ change_in b → behind c + ahead b ≡ behind b + ahead c → used_ahead c ≡ used_ahead b
     → fills b ≡ None → fills c ≡ None
     → HasSlot g s t f i → s.pages f i ≡ None → s.size f ≡ new
-    → ((k j : ℕ) → ahead b k j ≡ true → (k ≡ f) × ((j ≡ i) ⊎ ((j < new) ⊎ (ahead c f j ≡ true))))
+    → ((k j : ℕ) → to_pass b k j ≡ true → (k ≡ f) × ((j ≡ i) ⊎ ((j < new) ⊎ (to_pass c f j ≡ true))))
     → ((k j : ℕ) → passed c k j ≡ true → (passed b k j ≡ true) ⊎ ((k ≡ f) × (j ≡ i) × (new ≤ j)))
     → ((k j : ℕ) → gone c k j ≡ true → ⊥)
     → Stands g (record s { pool = record s.pool { slots = put s.slots (slot_of g f i) None } }) t c
     → Inv g (to (record s { pool = record s.pool { slots = put s.slots (slot_of g f i) None } }) t c)
-passes g s t b c f i new h l e same_lock some none same_hand same_change balance owed no_b no_c held bare sized aheads
+passes g s t b c f i new h l e same_lock some none same_hand same_change balance owed no_b no_c held bare sized all_to_pass
     passing none_gone own = goes_on g s n t b c h l e (record {
       layout = h.layout;
       entries = h.entries;
@@ -173,7 +202,6 @@ passes g s t b c f i new h l e same_lock some none same_hand same_change balance
       quota = h.quota;
       place = place_same g s t b c h e same_hand;
       sweep = record {
-        below = λ w v x k j p q. covered k j (h.sweep.below w v x k j p q) (λ y z. no_entry w v x k j p q y z);
         past = λ u k j p. view_cases passed s.calls t u c k j ((s.pages k j ≡ None) × (s.size k ≤ j)) p
             (λ d q. h.sweep.past u k j q)
             (λ q. elim (passing k j q) [
@@ -190,7 +218,7 @@ passes g s t b c f i new h l e same_lock some none same_hand same_change balance
       reach = λ w. if_weaker (fills (s.calls w)) (λ k p r. covered k.0 k.1 r (λ y z. no_filler w k p y z)) (h.reach w);
       fill =
           subst (λ (o : Option (ℕ × ℕ)). IfSome o
-          (λ k. Reached s.size (put (λ (w : ℕ). ahead (s.calls w)) t (ahead c)) k.0 k.1)) (sym no_c) tt;
+          (λ k. Reached s.size (put (λ (w : ℕ). to_pass (s.calls w)) t (to_pass c)) k.0 k.1)) (sym no_c) tt;
       changes = same_opens s.pending b c same_change;
       holders = left_holders g s t b c f i h e same_lock some none;
       others = left_stands g s t f i h held;
@@ -200,28 +228,9 @@ passes g s t b c f i new h l e same_lock some none same_hand same_change balance
     n : State
     n = record s { pool = record s.pool { slots = put s.slots (slot_of g f i) None } }
 
-    covered : (k j : ℕ) → Reached s.size (λ u. ahead (s.calls u)) k j → (k ≡ f → j ≡ i → ⊥)
-        → Reached s.size (put (λ (w : ℕ). ahead (s.calls w)) t (ahead c)) k j
-    covered k j r not_here = reach_cases s t b k j (Reached s.size (put (λ (w : ℕ). ahead (s.calls w)) t (ahead c)) k j) e r
-        (λ low. inl low)
-        (λ u d p. new_other s.calls t u c s.size k j d p)
-        (λ p. let o = aheads k j p in elim o.1 [
-          | inl q ↦ absurd (not_here o.0 q)
-          | inr y ↦ elim y [
-            | inl q ↦ inl (let z : s.size k ≡ new = ap s.size o.0 ∙ sized in omega arith)
-            | inr q ↦ new_own s.calls t c s.size k j (ap (λ (m : ℕ). ahead c m j) o.0 ∙ q)
-          ]
-        ])
-
-    pair_page : (k : ℕ × ℕ) (y : Option (ℕ × ℕ)) (k' j : ℕ) → y ≡ Some k → y ≡ Some (k', j) → s.pages k.0 k.1 ≡ s.pages k' j
-    pair_page k y k' j p q = ap (λ (m : ℕ × ℕ). s.pages m.0 m.1) (some_same (sym p ∙ q))
-
-    no_entry : (w v x k j : ℕ) → s.entries w v ≡ Some x → find (s.mappings w) v ≡ Some (k, j) → k ≡ f → j ≡ i → ⊥
-    no_entry w v x k j p q y z =
-        let o = h.entries.agree w v x p in
-        let d : ◌≡◌ {A = Option ℕ} None (Some x) =
-        sym bare ∙ (ap (λ (m : ℕ). s.pages m i) (sym y) ∙ (ap (s.pages k) (sym z) ∙ (sym (pair_page o.0 _ k j o.1 q) ∙ o.2))) in
-        absurd (cc)
+    covered : (k j : ℕ) → Reached s.size (λ u. to_pass (s.calls u)) k j → (k ≡ f → j ≡ i → ⊥)
+        → Reached s.size (put (λ (w : ℕ). to_pass (s.calls w)) t (to_pass c)) k j
+    covered = passed_reached s t b c f i new e sized all_to_pass
 
     no_filler : (w : ℕ) (k : ℕ × ℕ) → fills (s.calls w) ≡ Some k → k.0 ≡ f → k.1 ≡ i → ⊥
     no_filler w k p y z =
@@ -239,14 +248,14 @@ was_true false c h e = (let z : false ≡ true = sym (h refl) ∙ e in absurd (c
 
 -- the tail, which has no page, is cut off
 pub cuts_tail : (g : Geometry) (s : State) (t : ℕ) (b c : Option Call) (f new : ℕ) → Inv g s → t < g.tasks + 1 → s.calls t ≡ b → f < g.files
-    → ahead c ≡ ahead b → passed c ≡ passed b → ((k j : ℕ) → gone c k j ≡ true → (k ≡ f) × (new ≤ j)) → holds c ≡ holds b
+    → to_pass c ≡ to_pass b → passed c ≡ passed b → ((k j : ℕ) → gone c k j ≡ true → (k ≡ f) × (new ≤ j)) → holds c ≡ holds b
     → hand c ≡ hand b → change_in c ≡ change_in b → fills c ≡ None
-    → less c + more b + count_within (s.reserved f) new g.limit ≡ less b + more c
-    → used_owed c ≡ used_owed b + count_within (s.reserved f) new g.limit
+    → behind c + ahead b + count_within (s.reserved f) new g.limit ≡ behind b + ahead c
+    → used_ahead c ≡ used_ahead b + count_within (s.reserved f) new g.limit
     → HasLock s t f → ((j : ℕ) → new ≤ j → passed (s.calls t) f j ≡ true)
     → Stands g (record s { pool = record s.pool { reserved = put s.reserved f (cut_tail (s.reserved f) new) } }) t c
     → Inv g (to (record s { pool = record s.pool { reserved = put s.reserved f (cut_tail (s.reserved f) new) } }) t c)
-cuts_tail g s t b c f new h l e in_files same_ahead same_passed goners same_held same_hand same_change no_fill balance owed
+cuts_tail g s t b c f new h l e in_files same_to_pass same_passed goners same_held same_hand same_change no_fill balance owed
     held passing own = goes_on g s n t b c h l e (record {
       layout = h.layout;
       entries = h.entries;
@@ -271,27 +280,22 @@ cuts_tail g s t b c f new h l e in_files same_ahead same_passed goners same_held
         ];
       };
       sweep =
-          subst (λ (a : ℕ → ℕ → ℕ → Bool). Swept s.size n.reserved s.pages s.mappings s.entries a
-          (put (λ (u : ℕ). passed (s.calls u)) t (passed c)) (put (λ (u : ℕ). gone (s.calls u)) t (gone c)))
-          (sym (put_known (λ (u : ℕ). ahead (s.calls u)) t (ahead c) (ap ahead e ∙ sym same_ahead)))
-          (subst (λ (a : ℕ → ℕ → ℕ → Bool). Swept s.size n.reserved s.pages s.mappings s.entries (λ u. ahead (s.calls u)) a
-          (put (λ (u : ℕ). gone (s.calls u)) t (gone c)))
+          subst (λ (a : ℕ → ℕ → ℕ → Bool). Swept s.size n.reserved s.pages a (put (λ (u : ℕ). gone (s.calls u)) t (gone c)))
           (sym (put_known (λ (u : ℕ). passed (s.calls u)) t (passed c) (ap passed e ∙ sym same_passed)))
           (record {
-            below = h.sweep.below;
             past = h.sweep.past;
             gone = λ u k j p. view_cases gone s.calls t u c k j (n.reserved k j ≡ false) p
                 (λ d q. cut_still k j (h.sweep.gone u k j q))
                 (λ q. let o = goners k j q in
                 ap (λ (m : ℕ → Bool). m j) (ap n.reserved o.0 ∙ put_same s.reserved f (cut_tail (s.reserved f) new))
                 ∙ cut_above (s.reserved f) new j o.1);
-          }));
+          });
       reach =
           subst (λ (a : ℕ → ℕ → ℕ → Bool). (w : ℕ) → IfSome (fills (s.calls w)) (λ k. Reached s.size a k.0 k.1))
-          (sym (put_known (λ (u : ℕ). ahead (s.calls u)) t (ahead c) (ap ahead e ∙ sym same_ahead))) h.reach;
+          (sym (put_known (λ (u : ℕ). to_pass (s.calls u)) t (to_pass c) (ap to_pass e ∙ sym same_to_pass))) h.reach;
       fill =
           subst (λ (o : Option (ℕ × ℕ)). IfSome o
-          (λ k. Reached s.size (put (λ (w : ℕ). ahead (s.calls w)) t (ahead c)) k.0 k.1)) (sym no_fill) tt;
+          (λ k. Reached s.size (put (λ (w : ℕ). to_pass (s.calls w)) t (to_pass c)) k.0 k.1)) (sym no_fill) tt;
       changes = same_opens s.pending b c same_change;
       holders = same_holders g s t b c h e same_held;
       others =
@@ -344,7 +348,7 @@ cuts_tail g s t b c f new h l e in_files same_ahead same_passed goners same_held
     not_passed : (u k j : ℕ) → fills (s.calls u) ≡ Some (k, j) → k ≡ f → j < new
     not_passed u k j a y =
         not_above j (λ q. reached_not_passed g s f j h
-        (subst (λ (o : Option (ℕ × ℕ)). IfSome o (λ k. Reached s.size (λ u. ahead (s.calls u)) k.0 k.1))
+        (subst (λ (o : Option (ℕ × ℕ)). IfSome o (λ k. Reached s.size (λ u. to_pass (s.calls u)) k.0 k.1))
         (a ∙ ap (λ (m : ℕ). Some (m, j)) y) (h.reach u)) t (passing j q))
       where
         not_above : (j : ℕ) → (new ≤ j → ⊥) → j < new

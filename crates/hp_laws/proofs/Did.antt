@@ -10,8 +10,8 @@ use Rattle.hp_frames.proofs.Quotas.{one_within}
 use Rattle.hp_region.specs.Change.{Change}
 use Rattle.hp_machine.specs.State.{Pool, State, pool_of, frees, slot_of, quota_is_used_up}
 use Rattle.hp_machine.specs.Parts.{StartRow, WantSlotRow, TakeRow}
-use Rattle.hp_machine.specs.Views.{less, used_owed, hand, locked_file, slot_held, wants_slot, wants_lock}
-use Rattle.hp_machine.specs.Events.{word_of, told, left}
+use Rattle.hp_machine.specs.Views.{behind, used_ahead, hand, locked_file, slot_held, wants_slot, wants_lock}
+use Rattle.hp_machine.specs.Events.{word_of, outcome_of, left}
 use Rattle.hp_machine.specs.declared.outcome.Outcome.{Outcome}
 use Rattle.hp_machine.specs.declared.outcome.Outcome.TheVariants as outcome
 use Rattle.hp_machine.specs.declared.call.Call.{Call}
@@ -64,10 +64,10 @@ pub data Stepped (s : State) (t : ℕ) (c : Call) : Outcome → Pool → Option 
 
 -- so by the turn of its row
 abbrev pub Did : {P : Type 0} → (P → Call) → State → (task : ℕ) → P → Turn P → Pool → Type 0
-Did call s t here turn new = Stepped s t (call here) (told call turn) new (left call turn)
+Did call s t here turn new = Stepped s t (call here) (outcome_of call turn) new (left call turn)
 
 -- a leaf's equations put in
-put_in : {P : Type 0} (D : Turn P → Pool → Type 0) {wanted turn : Turn P} {there new : Pool} → (turn ≡ wanted) × (new ≡ there)
+pub put_in : {P : Type 0} (D : Turn P → Pool → Type 0) {wanted turn : Turn P} {there new : Pool} → (turn ≡ wanted) × (new ≡ there)
     → D wanted there → D turn new
 put_in {P} D {wanted} {turn} {there} {new} e h = subst (λ (p : Turn P × Pool). D p.0 p.1) (pair e.0 e.1) h
   where
@@ -147,13 +147,13 @@ pub take_did : {P : Type 0} (call : P → Call) (s : State) (t m : ℕ) (here : 
       near_lacks : (a : Answer) → Nearer s t Nothing (call here) (Some (call (refused a)));
       near : (x : ℕ) → Nearer s t Nothing (call here) (Some (call (taken x)));
       few : m ≤ 1;
-      unused : used_owed (Some (call here)) ≡ 0;
-      uses : (x : ℕ) → used_owed (Some (call (taken x))) ≡ m;
+      unused : used_ahead (Some (call here)) ≡ 0;
+      uses : (x : ℕ) → used_ahead (Some (call (taken x))) ≡ m;
       same : (x : ℕ) → unhanded (Some (call (taken x))) ≡ unhanded (Some (call here));
       empty : hand (Some (call here)) ≡ None;
       full : (x : ℕ) → hand (Some (call (taken x))) ≡ Some x;
-      owes : (x : ℕ) → less (Some (call (taken x))) ≡ bit (m == 0);
-      free : less (Some (call here)) ≡ 0;
+      owes : (x : ℕ) → behind (Some (call (taken x))) ≡ bit (m == 0);
+      free : behind (Some (call here)) ≡ 0;
       fill : (x : ℕ) → Fills s (Some (call (taken x)));
       own : (x : ℕ) → Own s t Nothing (Some (call (taken x)));
     }
@@ -166,8 +166,8 @@ take_did call s t m here refused taken turn new h row y =
       same = y.same r.0;
       empty = y.empty;
       full = y.full r.0;
-      owes = (let a : less (Some (call (taken r.0))) ≡ 1 = y.owes r.0 ∙ ap bit none in let b = y.free in omega arith);
-      owed = (let a : used_owed (Some (call (taken r.0))) ≡ 0 = y.uses r.0 ∙ is_nil m none in let b = y.unused in omega arith);
+      owes = (let a : behind (Some (call (taken r.0))) ≡ 1 = y.owes r.0 ∙ ap bit none in let b = y.free in omega arith);
+      owed = (let a : used_ahead (Some (call (taken r.0))) ≡ 0 = y.uses r.0 ∙ is_nil m none in let b = y.unused in omega arith);
       fill = y.fill r.0;
       own = y.own r.0;
     }))
@@ -182,9 +182,9 @@ take_did call s t m here refused taken turn new h row y =
       same = y.same r.0;
       empty = y.empty;
       full = y.full r.0;
-      owes = (let a : less (Some (call (taken r.0))) ≡ 0 = y.owes r.0 ∙ ap bit some in let b = y.free in omega arith);
+      owes = (let a : behind (Some (call (taken r.0))) ≡ 0 = y.owes r.0 ∙ ap bit some in let b = y.free in omega arith);
       owed =
-          (let a : used_owed (Some (call (taken r.0))) ≡ m = y.uses r.0 in let b = y.unused in let z = y.few in
+          (let a : used_ahead (Some (call (taken r.0))) ≡ m = y.uses r.0 in let b = y.unused in let z = y.few in
           let w = not_nil m some in omega arith);
       fill = y.fill r.0;
       own = y.own r.0;

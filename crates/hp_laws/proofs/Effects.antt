@@ -15,7 +15,7 @@ use Rattle.hp_region.specs.Change.{Change}
 use Rattle.hp_machine.specs.State.{Geometry, State, slot_of, free_frames}
 use Rattle.hp_machine.specs.Headline.{Free, Hand}
 use Rattle.hp_machine.specs.Parts.{frame_after}
-use Rattle.hp_machine.specs.Views.{less, more, used_owed, hand, change_in, opens}
+use Rattle.hp_machine.specs.Views.{behind, ahead, used_ahead, hand, change_in, opens}
 use Rattle.hp_machine.specs.declared.touch.Access.{Access}
 use Rattle.hp_machine.specs.declared.touch.Access.TheVariants.{Load, Store}
 use Rattle.hp_machine.specs.declared.truncate.TruncatePhase.TheVariants as truncate
@@ -27,7 +27,7 @@ use Rattle.hp_machine.specs.declared.unmap.UnmapPhase.TheVariants as unmap
 use Rattle.hp_machine.specs.declared.exit.ExitPhase.TheVariants as exit
 use Rattle.hp_machine.specs.declared.call.Call.{Call}
 use Rattle.hp_machine.specs.declared.call.Call.TheVariants as call
-use Rattle.hp_laws.specs.Sweep.{fills, ahead, passed, gone}
+use Rattle.hp_laws.specs.Sweep.{fills, to_pass, passed, gone}
 use Rattle.hp_laws.proofs.Deciding.{some_same}
 use Rattle.hp_laws.proofs.Moves.{Placing, takes_frame, gives_frame, places_frame, writes_frame}
 use Rattle.hp_laws.proofs.Standing.{HasSlot, HasLock, Stands}
@@ -78,9 +78,9 @@ touches_word g s (Store new) x word h e = record {
 -- the reservations change with what the call owes
 pub rebalances : (g : Geometry) (s : State) (t : ℕ) (b c : Option Call) (r n : ℕ) → Inv g s → t < g.tasks + 1 → s.calls t ≡ b
     → sweeps c ≡ sweeps b → holds c ≡ holds b → hand c ≡ hand b → change_in c ≡ change_in b
-    → (r + less c) + more b ≡ (s.resv + less b) + more c → r ≤ free_frames s.frame s.frames
-    → n + used_owed b ≡ s.used + used_owed c → IsWithinQuota g.quota n
-    → IfSome (fills c) (λ k. Reached s.size (λ u. ahead (s.calls u)) k.0 k.1) → Stands g s t c
+    → (r + behind c) + ahead b ≡ (s.resv + behind b) + ahead c → r ≤ free_frames s.frame s.frames
+    → n + used_ahead b ≡ s.used + used_ahead c → IsWithinQuota g.quota n
+    → IfSome (fills c) (λ k. Reached s.size (λ u. to_pass (s.calls u)) k.0 k.1) → Stands g s t c
     → Inv g (to (record s { pool = record s.pool { resv = r; used = n } }) t c)
 rebalances g s t b c r n h l e same same_held same_hand same_change balance enough owed quota fill own =
     goes g s (record s { pool = record s.pool { resv = r; used = n } }) t b c h l e same same_held (record {
@@ -114,8 +114,8 @@ opens_some c f k e = ap (λ (o : Option ℕ). elim o [ None ↦ 0 | Some j ↦ b
 -- a change is opened
 pub opened : (g : Geometry) (s : State) (t : ℕ) (b c : Option Call) (f : ℕ) → Inv g s → t < g.tasks + 1 → s.calls t ≡ b
     → sweeps c ≡ sweeps b → holds c ≡ holds b → hand c ≡ hand b → change_in b ≡ None → change_in c ≡ Some f
-    → less c + more b ≡ less b + more c → used_owed c ≡ used_owed b
-    → IfSome (fills c) (λ k. Reached s.size (λ u. ahead (s.calls u)) k.0 k.1) → Stands g s t c
+    → behind c + ahead b ≡ behind b + ahead c → used_ahead c ≡ used_ahead b
+    → IfSome (fills c) (λ k. Reached s.size (λ u. to_pass (s.calls u)) k.0 k.1) → Stands g s t c
     → Inv g (to (record s {
       pool = record s.pool {
         pending = put s.pending f (s.pending f + 1);
@@ -181,8 +181,8 @@ lowered p f k m n l x y = grind (arith, nat_tests, put_tells)
 -- a change is taken back
 pub closed : (g : Geometry) (s : State) (t : ℕ) (b c : Option Call) (f : ℕ) → Inv g s → t < g.tasks + 1 → s.calls t ≡ b
     → sweeps c ≡ sweeps b → holds c ≡ holds b → hand c ≡ hand b → change_in b ≡ Some f → change_in c ≡ None
-    → less c + more b ≡ less b + more c → used_owed c ≡ used_owed b
-    → IfSome (fills c) (λ k. Reached s.size (λ u. ahead (s.calls u)) k.0 k.1) → Stands g s t c
+    → behind c + ahead b ≡ behind b + ahead c → used_ahead c ≡ used_ahead b
+    → IfSome (fills c) (λ k. Reached s.size (λ u. to_pass (s.calls u)) k.0 k.1) → Stands g s t c
     → Inv g (to (record s { pool = record s.pool { pending = put s.pending f (s.pending f - 1) } }) t c)
 closed g s t b c f h l e same same_held same_hand some none balance owed fill own =
     goes g s (record s { pool = record s.pool { pending = put s.pending f (s.pending f - 1) } }) t b c h l e same
@@ -313,9 +313,9 @@ pub commits : (g : Geometry) (s : State) (t : ℕ) (b c : Option Call) (f : ℕ)
     → s.calls t ≡ b → f < g.files → change.to ≤ g.limit → IsSole g s t f change
     → sweeps c ≡ sweeps b → holds c ≡ holds b → hand c ≡ hand b → change_in b ≡ Some f → change_in c ≡ None
     → ((u j : ℕ) → passed (s.calls u) f j ≡ true → is_within change.from change.to j ≡ true → ⊥)
-    → less c + more b ≡ less b + missing (s.reserved f) change.from change.to + more c
-    → used_owed b ≡ missing (s.reserved f) change.from change.to + used_owed c
-    → IfSome (fills c) (λ k. Reached s.size (λ u. ahead (s.calls u)) k.0 k.1) → Stands g (committing s f change) t c
+    → behind c + ahead b ≡ behind b + missing (s.reserved f) change.from change.to + ahead c
+    → used_ahead b ≡ missing (s.reserved f) change.from change.to + used_ahead c
+    → IfSome (fills c) (λ k. Reached s.size (λ u. to_pass (s.calls u)) k.0 k.1) → Stands g (committing s f change) t c
     → Inv g (to (committing s f change) t c)
 commits g s t b c f change h l e in_files low sole same same_held same_hand some none nobody balance owed fill own =
     goes g s (committing s f change) t b c h l e same same_held (record {
@@ -343,7 +343,6 @@ commits g s t b c f change h l e in_files low sole same same_held same_hand some
           };
       sweep =
           record {
-            below = h.sweep.below;
             past = h.sweep.past;
             gone = λ u k j a. still_gone s.reserved f change.from change.to k j
                 (λ d z. nobody u j (ap (λ (m : ℕ). passed (s.calls u) m j) (sym d) ∙ gone_passed (s.calls u) k j a) z)
@@ -390,9 +389,9 @@ commits g s t b c f change h l e in_files low sole same same_held same_hand some
 pub takes : (g : Geometry) (s : State) (t : ℕ) (b c : Option Call) (x r n : ℕ) → Inv g s → t < g.tasks + 1 → s.calls t ≡ b
     → s.frame x ≡ state.Free
     → sweeps c ≡ sweeps b → holds c ≡ holds b → hand b ≡ None → hand c ≡ Some x → change_in c ≡ change_in b
-    → (r + less c) + more b ≡ (s.resv + less b) + more c → r + 1 ≤ free_frames s.frame s.frames
-    → n + used_owed b ≡ s.used + used_owed c → IsWithinQuota g.quota n
-    → IfSome (fills c) (λ k. Reached s.size (λ u. ahead (s.calls u)) k.0 k.1) → Stands g s t c
+    → (r + behind c) + ahead b ≡ (s.resv + behind b) + ahead c → r + 1 ≤ free_frames s.frame s.frames
+    → n + used_ahead b ≡ s.used + used_ahead c → IsWithinQuota g.quota n
+    → IfSome (fills c) (λ k. Reached s.size (λ u. to_pass (s.calls u)) k.0 k.1) → Stands g s t c
     → Inv g (to (record s { pool = record s.pool { frame = put s.frame x state.Hand; resv = r; used = n } }) t c)
 takes g s t b c x r n h l e free same same_held none some same_change balance enough owed quota fill own =
     goes g s (record s { pool = record s.pool { frame = put s.frame x state.Hand; resv = r; used = n } }) t b c h l e same same_held (record {
@@ -423,9 +422,9 @@ takes g s t b c x r n h l e free same same_held none some same_change balance en
 -- the frame in the call's hand is freed
 pub gives : (g : Geometry) (s : State) (t : ℕ) (b c : Option Call) (x r n : ℕ) → Inv g s → t < g.tasks + 1 → s.calls t ≡ b
     → sweeps c ≡ sweeps b → holds c ≡ holds b → hand b ≡ Some x → hand c ≡ None → change_in c ≡ change_in b
-    → (r + less c) + more b ≡ (s.resv + less b) + more c → r ≤ s.resv + 1
-    → n + used_owed b ≡ s.used + used_owed c → IsWithinQuota g.quota n
-    → IfSome (fills c) (λ k. Reached s.size (λ u. ahead (s.calls u)) k.0 k.1) → Stands g s t c
+    → (r + behind c) + ahead b ≡ (s.resv + behind b) + ahead c → r ≤ s.resv + 1
+    → n + used_ahead b ≡ s.used + used_ahead c → IsWithinQuota g.quota n
+    → IfSome (fills c) (λ k. Reached s.size (λ u. to_pass (s.calls u)) k.0 k.1) → Stands g s t c
     → Inv g (to (record s { pool = record s.pool { frame = put s.frame x state.Free; resv = r; used = n } }) t c)
 gives g s t b c x r n h l e same same_held some none same_change balance enough owed quota fill own =
     goes g s (record s { pool = record s.pool { frame = put s.frame x state.Free; resv = r; used = n } }) t b c h l e same same_held (record {
@@ -458,10 +457,10 @@ gives g s t b c x r n h l e same same_held some none same_change balance enough 
 pub places : (g : Geometry) (s : State) (t : ℕ) (b c : Option Call) (f i x : ℕ) → Inv g s → t < g.tasks + 1 → s.calls t ≡ b
     → f < g.files → i < g.limit
     → sweeps c ≡ sweeps b → holds c ≡ holds b → hand b ≡ Some x → hand c ≡ None → change_in c ≡ change_in b
-    → less b + more c ≡ less c + more b + 1 → used_owed c ≡ used_owed b
+    → behind b + ahead c ≡ behind c + ahead b + 1 → used_ahead c ≡ used_ahead b
     → s.reserved f i ≡ true → s.pages f i ≡ None → HasSlot g s t f i
     → ((u : ℕ) → passed (s.calls u) f i ≡ true → ⊥)
-    → IfSome (fills c) (λ k. Reached s.size (λ u. ahead (s.calls u)) k.0 k.1)
+    → IfSome (fills c) (λ k. Reached s.size (λ u. to_pass (s.calls u)) k.0 k.1)
     → Stands g (record s { pool = record s.pool { pages = put2 s.pages f i (Some x); frame = put s.frame x (state.Placed 0) } }) t c
     → Inv g (to (record s { pool = record s.pool { pages = put2 s.pages f i (Some x); frame = put s.frame x (state.Placed 0) } }) t c)
 places g s t b c f i x h l e in_files in_limit same same_held some none same_change balance owed marked bare held nobody fill own =
@@ -494,7 +493,6 @@ places g s t b c f i x h l e in_files in_limit same same_held some none same_cha
       };
       sweep =
           record {
-            below = h.sweep.below;
             gone = h.sweep.gone;
             past = λ u k j a. let o = h.sweep.past u k j a in
                 (free_still u k j a o.0, o.1);

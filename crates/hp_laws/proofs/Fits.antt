@@ -9,13 +9,13 @@ use Rattle.hp_frames.specs.declared.frame.FrameState.TheVariants.{Free, Placed}
 use Rattle.hp_frames.proofs.Quotas.{less_within}
 use Rattle.hp_machine.specs.State.{State, pool_of, with_pool, slot_of, free_frames}
 use Rattle.hp_machine.specs.Parts.{frame_after}
-use Rattle.hp_machine.specs.Views.{less, more, used_owed, hand, change_in, locked_file, slot_held}
+use Rattle.hp_machine.specs.Views.{behind, ahead, used_ahead, hand, change_in, locked_file, slot_held}
 use Rattle.hp_machine.specs.declared.touch.TouchPhase.{TouchPhase}
 use Rattle.hp_machine.specs.declared.touch.TouchPhase.TheVariants as touch
 use Rattle.hp_machine.specs.declared.call.Call.{Call}
 use Rattle.hp_machine.specs.declared.call.Call.TheVariants as call
 use Rattle.hp_laws.specs.Bounds.{sizes}
-use Rattle.hp_laws.specs.Sweep.{fills, ahead, passed, gone}
+use Rattle.hp_laws.specs.Sweep.{fills, to_pass, passed, gone}
 use Rattle.hp_laws.proofs.Standing.{HasSlot, HasLock, Stands}
 use Rattle.hp_laws.proofs.Invariant.{Reached, Inv, seen, stays, sweeps, holds, to}
 use Rattle.hp_laws.proofs.Holding.{shown, takes_slot, leaves_slot, takes_lock, leaves_lock}
@@ -36,7 +36,7 @@ wrote s t w = with_pool s (written (pool_of s) t w)
 
 -- what the call fills is reached
 abbrev pub Fills : State → Option Call → Type 0
-Fills s c = IfSome (fills c) (λ k. Reached s.size (λ u. ahead (s.calls u)) k.0 k.1)
+Fills s c = IfSome (fills c) (λ k. Reached s.size (λ u. to_pass (s.calls u)) k.0 k.1)
 
 -- what holds of the call after the write
 abbrev pub Own : State → (task : ℕ) → Write → Option Call → Type 0
@@ -54,7 +54,12 @@ is_reader other = false
 
 -- what a call owes, holds in its hand and changes: all that stays where a truncation goes on, or a call leaves its lock
 abbrev pub unswept : Option Call → Option ℕ × Option ℕ × ℕ × ℕ × ℕ
-unswept c = (hand c, change_in c, less c, more c, used_owed c)
+unswept c = (hand c, change_in c, behind c, ahead c, used_ahead c)
+
+-- the file and index at which a touch has found a page, to translate it
+abbrev pub to_translate : Option Call → Option (ℕ × ℕ)
+to_translate (Some (call.Touch (touch.Found p))) = Some (p.touch.file, p.touch.index)
+to_translate other = None
 
 -- a call that is such a touch
 abbrev pub reads : Option Call → Bool
@@ -79,7 +84,7 @@ Fit s t b c (LeavesLock f) = record {
   slot : slot_held b ≡ None;
   lock : locked_file b ≡ Some f;
   held : HasLock s t f;
-  done : (k j : ℕ) → ahead b k j ≡ false;
+  done : (k j : ℕ) → to_pass b k j ≡ false;
 }
 Fit s t b c (TakesSlot f i) = record {
   free : s.slots (slot_of s.geometry f i) ≡ None;
@@ -103,8 +108,8 @@ Fit s t b c (Opens f) = record {
   same : steady c ≡ steady b;
   none : change_in b ≡ None;
   some : change_in c ≡ Some f;
-  balance : less c + more b ≡ less b + more c;
-  owed : used_owed c ≡ used_owed b;
+  balance : behind c + ahead b ≡ behind b + ahead c;
+  owed : used_ahead c ≡ used_ahead b;
   fill : Fills s c;
   own : Own s t Nothing c;
 }
@@ -112,8 +117,8 @@ Fit s t b c (Aborts f) = record {
   same : steady c ≡ steady b;
   some : change_in b ≡ Some f;
   none : change_in c ≡ None;
-  balance : less c + more b ≡ less b + more c;
-  owed : used_owed c ≡ used_owed b;
+  balance : behind c + ahead b ≡ behind b + ahead c;
+  owed : used_ahead c ≡ used_ahead b;
   fill : Fills s c;
   own : Own s t Nothing c;
 }
@@ -125,8 +130,8 @@ Fit s t b c (Commits f change) = record {
   some : change_in b ≡ Some f;
   none : change_in c ≡ None;
   nobody : (u j : ℕ) → passed (s.calls u) f j ≡ true → is_within change.from change.to j ≡ true → ⊥;
-  balance : less c + more b ≡ less b + missing (s.reserved f) change.from change.to + more c;
-  owed : used_owed b ≡ missing (s.reserved f) change.from change.to + used_owed c;
+  balance : behind c + ahead b ≡ behind b + missing (s.reserved f) change.from change.to + ahead c;
+  owed : used_ahead b ≡ missing (s.reserved f) change.from change.to + used_ahead c;
   fill : Fills s c;
   own : Own s t (Commits f change) c;
 }
@@ -136,8 +141,8 @@ Fit s t b c (TakesReserved x) = record {
   same : unhanded c ≡ unhanded b;
   empty : hand b ≡ None;
   full : hand c ≡ Some x;
-  owes : less c ≡ less b + 1;
-  owed : used_owed c ≡ used_owed b;
+  owes : behind c ≡ behind b + 1;
+  owed : used_ahead c ≡ used_ahead b;
   fill : Fills s c;
   own : Own s t Nothing c;
 }
@@ -148,8 +153,8 @@ Fit s t b c (TakesFree x) = record {
   same : unhanded c ≡ unhanded b;
   empty : hand b ≡ None;
   full : hand c ≡ Some x;
-  owes : less c ≡ less b;
-  owed : used_owed c ≡ used_owed b + 1;
+  owes : behind c ≡ behind b;
+  owed : used_ahead c ≡ used_ahead b + 1;
   fill : Fills s c;
   own : Own s t Nothing c;
 }
@@ -158,8 +163,8 @@ Fit s t b c (Settles n m) = record {
   used : m ≤ s.used;
   same : steady c ≡ steady b;
   change : change_in c ≡ change_in b;
-  balance : less c + more b ≡ less b + more c + n;
-  owed : used_owed b ≡ used_owed c + m;
+  balance : behind c + ahead b ≡ behind b + ahead c + n;
+  owed : used_ahead b ≡ used_ahead c + m;
   fill : Fills s c;
   own : Own s t Nothing c;
 }
@@ -169,8 +174,8 @@ Fit s t b c (Places f i x) = record {
   same : unhanded c ≡ unhanded b;
   some : hand b ≡ Some x;
   none : hand c ≡ None;
-  balance : less b ≡ less c + 1;
-  owed : used_owed c ≡ used_owed b;
+  balance : behind b ≡ behind c + 1;
+  owed : used_ahead c ≡ used_ahead b;
   marked : s.reserved f i ≡ true;
   bare : s.pages f i ≡ None;
   held : HasSlot s.geometry s t f i;
@@ -182,8 +187,8 @@ Fit s t b c (Restores x) = record {
   same : unhanded c ≡ unhanded b;
   some : hand b ≡ Some x;
   none : hand c ≡ None;
-  balance : less b ≡ less c + 1;
-  owed : used_owed c ≡ used_owed b;
+  balance : behind b ≡ behind c + 1;
+  owed : used_ahead c ≡ used_ahead b;
   fill : Fills s c;
   own : Own s t Nothing c;
 }
@@ -195,7 +200,7 @@ Fit s t b c (Enters v x access) = record {
   same : seen c ≡ seen b;
   found : find (s.mappings t) v ≡ Some place;
   page : s.pages place.0 place.1 ≡ Some x;
-  below : place.1 < s.size place.0;
+  aim : to_translate b ≡ Some place;
   held : HasSlot s.geometry s t place.0 place.1;
   fill : Fills s c;
   own : Own s t (Enters v x access) c;
@@ -224,8 +229,8 @@ Fit s t b c (Evicts f i x) = record {
   empty : hand b ≡ None;
   full : hand c ≡ Some x;
   change : change_in c ≡ change_in b;
-  balance : less c + more b ≡ less b + more c + 1;
-  owed : used_owed c ≡ used_owed b;
+  balance : behind c + ahead b ≡ behind b + ahead c + 1;
+  owed : used_ahead c ≡ used_ahead b;
   page : s.pages f i ≡ Some x;
   held : HasSlot s.geometry s t f i;
   cleared : (w v y : ℕ) → s.entries w v ≡ Some y → find (s.mappings w) v ≡ Some (f, i) → ⊥;
@@ -237,8 +242,8 @@ Fit s t b c (Deletes f i) = record {
   index : i < s.geometry.limit;
   same : steady c ≡ steady b;
   change : change_in c ≡ change_in b;
-  balance : less b + more c ≡ less c + more b + 1;
-  owed : used_owed c ≡ used_owed b + 1;
+  balance : behind b + ahead c ≡ behind c + ahead b + 1;
+  owed : used_ahead c ≡ used_ahead b + 1;
   marked : s.reserved f i ≡ true;
   bare : s.pages f i ≡ None;
   slot : HasSlot s.geometry s t f i;
@@ -252,8 +257,8 @@ Fit s t b c (FreesUnreserved x) = record {
   same : unhanded c ≡ unhanded b;
   some : hand b ≡ Some x;
   none : hand c ≡ None;
-  balance : less b ≡ less c;
-  owed : used_owed b ≡ used_owed c + 1;
+  balance : behind b ≡ behind c;
+  owed : used_ahead b ≡ used_ahead c + 1;
   fill : Fills s c;
   own : Own s t Nothing c;
 }
@@ -261,8 +266,8 @@ Fit s t b c (Frees x) = record {
   same : unhanded c ≡ unhanded b;
   some : hand b ≡ Some x;
   none : hand c ≡ None;
-  balance : less b ≡ less c;
-  owed : used_owed c ≡ used_owed b;
+  balance : behind b ≡ behind c;
+  owed : used_ahead c ≡ used_ahead b;
   fill : Fills s c;
   own : Own s t Nothing c;
 }
@@ -275,8 +280,8 @@ Fit s t b c (Cuts f new) = record {
   low : new ≤ s.geometry.limit;
   high : s.size f ≤ top;
   bare : (i : ℕ) → top ≤ i → s.pages f i ≡ None;
-  none_ahead : (k j : ℕ) → ahead b k j ≡ true → ⊥;
-  aheads : (j : ℕ) → j < top → (j < new) ⊎ (ahead c f j ≡ true);
+  none_to_pass : (k j : ℕ) → to_pass b k j ≡ true → ⊥;
+  all_to_pass : (j : ℕ) → j < top → (j < new) ⊎ (to_pass c f j ≡ true);
   passes : (k j : ℕ) → passed c k j ≡ true → (k ≡ f) × (top ≤ j) × (new ≤ j);
   none_gone : (k j : ℕ) → gone c k j ≡ true → ⊥;
   fill : fills c ≡ None;
@@ -290,7 +295,7 @@ Fit s t b c (Passes f i new) = record {
   held : HasSlot s.geometry s t f i;
   bare : s.pages f i ≡ None;
   sized : s.size f ≡ new;
-  aheads : (k j : ℕ) → ahead b k j ≡ true → (k ≡ f) × ((j ≡ i) ⊎ ((j < new) ⊎ (ahead c f j ≡ true)));
+  all_to_pass : (k j : ℕ) → to_pass b k j ≡ true → (k ≡ f) × ((j ≡ i) ⊎ ((j < new) ⊎ (to_pass c f j ≡ true)));
   passes : (k j : ℕ) → passed c k j ≡ true → (passed b k j ≡ true) ⊎ ((k ≡ f) × (j ≡ i) × (new ≤ j));
   none_gone : (k j : ℕ) → gone c k j ≡ true → ⊥;
   no_fill : fills b ≡ None;
@@ -299,14 +304,14 @@ Fit s t b c (Passes f i new) = record {
 }
 Fit s t b c (CutsTail f new) = record {
   file : f < s.geometry.files;
-  same_ahead : ahead c ≡ ahead b;
+  same_to_pass : to_pass c ≡ to_pass b;
   same_passed : passed c ≡ passed b;
   goners : (k j : ℕ) → gone c k j ≡ true → (k ≡ f) × (new ≤ j);
   holds : holds c ≡ holds b;
   hand : hand c ≡ hand b;
   change : change_in c ≡ change_in b;
-  balance : less c + more b + count_within (s.reserved f) new s.geometry.limit ≡ less b + more c;
-  owed : used_owed c ≡ used_owed b + count_within (s.reserved f) new s.geometry.limit;
+  balance : behind c + ahead b + count_within (s.reserved f) new s.geometry.limit ≡ behind b + ahead c;
+  owed : used_ahead c ≡ used_ahead b + count_within (s.reserved f) new s.geometry.limit;
   lock : HasLock s t f;
   all_passed : (j : ℕ) → new ≤ j → passed (s.calls t) f j ≡ true;
   deletes : (j : ℕ) → new ≤ j → deletes b f j ≡ true;
@@ -319,8 +324,8 @@ Fit s t b c (Accounts n) = record {
   quota : IsWithinQuota s.geometry.quota (s.used + n);
   same : steady c ≡ steady b;
   change : change_in c ≡ change_in b;
-  balance : less c + more b + n ≡ less b + more c;
-  owed : used_owed c ≡ used_owed b + n;
+  balance : behind c + ahead b + n ≡ behind b + ahead c;
+  owed : used_ahead c ≡ used_ahead b + n;
   fill : Fills s c;
   own : Own s t Nothing c;
 }
@@ -353,8 +358,8 @@ spare_left true pending spare l = here (nat_lt pending spare) refl
 spare_left false pending spare l = l
 
 -- a truncation that goes on with its sweep owes what it did
-balanced : (b c : Option Call) → unswept c ≡ unswept b → less c + more b ≡ less b + more c
-balanced b c same = let x : less c ≡ less b = ap (λ p. p.2) same in let z : more c ≡ more b = ap (λ p. p.3) same in omega arith
+balanced : (b c : Option Call) → unswept c ≡ unswept b → behind c + ahead b ≡ behind b + ahead c
+balanced b c same = let x : behind c ≡ behind b = ap (λ p. p.2) same in let z : ahead c ≡ ahead b = ap (λ p. p.3) same in omega arith
 
 -- so the invariant is kept
 pub keeps : (s : State) (t : ℕ) (b c : Option Call) (w : Write) → Inv s.geometry s → t < s.geometry.tasks + 1 → s.calls t ≡ b
@@ -380,11 +385,11 @@ keeps s t b c (Commits f change) h l e one y =
 keeps s t b c (TakesReserved x) h l e one y =
     takes s.geometry s t b c x (s.resv - 1) s.used h l e y.free (ap (λ p. p.0) y.same) (ap (λ p. p.1) y.same) y.empty y.full
     (ap (λ p. p.2) y.same)
-    (let a : more c ≡ more b = ap (λ p. p.3) y.same in let d = y.owes in let z = y.low in omega arith)
+    (let a : ahead c ≡ ahead b = ap (λ p. p.3) y.same in let d = y.owes in let z = y.low in omega arith)
     (let z = h.enough in let d = y.low in omega arith) (let a = y.owed in omega arith) h.quota y.fill y.own
 keeps s t b c (TakesFree x) h l e one y =
     takes s.geometry s t b c x s.resv (s.used + 1) h l e y.free (ap (λ p. p.0) y.same) (ap (λ p. p.1) y.same) y.empty y.full
-    (ap (λ p. p.2) y.same) (let a : more c ≡ more b = ap (λ p. p.3) y.same in let d = y.owes in omega arith) y.left
+    (ap (λ p. p.2) y.same) (let a : ahead c ≡ ahead b = ap (λ p. p.3) y.same in let d = y.owes in omega arith) y.left
     (let a = y.owed in omega arith) y.quota y.fill y.own
 keeps s t b c (Settles n m) h l e one y =
     rebalances s.geometry s t b c (s.resv - n) (s.used - m) h l e (ap (λ p. p.0) y.same) (ap (λ p. p.1) y.same) (ap (λ p. p.2) y.same)
@@ -393,15 +398,15 @@ keeps s t b c (Settles n m) h l e one y =
     y.own
 keeps s t b c (Places f i x) h l e one y =
     places s.geometry s t b c f i x h l e y.file y.index (ap (λ p. p.0) y.same) (ap (λ p. p.1) y.same) y.some y.none
-    (ap (λ p. p.2) y.same) (let a : more c ≡ more b = ap (λ p. p.3) y.same in let d = y.balance in omega arith) y.owed y.marked y.bare
+    (ap (λ p. p.2) y.same) (let a : ahead c ≡ ahead b = ap (λ p. p.3) y.same in let d = y.balance in omega arith) y.owed y.marked y.bare
     y.held y.nobody y.fill y.own
 keeps s t b c (Restores x) h l e one y =
     gives s.geometry s t b c x (s.resv + 1) s.used h l e (ap (λ p. p.0) y.same) (ap (λ p. p.1) y.same) y.some y.none
-    (ap (λ p. p.2) y.same) (let a : more c ≡ more b = ap (λ p. p.3) y.same in let d = y.balance in omega arith) (omega arith)
+    (ap (λ p. p.2) y.same) (let a : ahead c ≡ ahead b = ap (λ p. p.3) y.same in let d = y.balance in omega arith) (omega arith)
     (let a = y.owed in omega arith) h.quota y.fill y.own
 keeps s t b c (Enters v x access) h l e one y =
     enters_table s.geometry (record s { pool = record s.pool { frame = frame_after access s.frame x } }) t b c v y.place.0 y.place.1 x
-    (touches_word s.geometry s access x y.word h y.placed) one l e y.same y.found y.page y.below y.held y.fill y.own
+    (touches_word s.geometry s access x y.word h y.placed) one l e y.same y.found y.page y.held y.fill y.own
 keeps s t b c (Accesses x access) h l e one y =
     stays s.geometry (record s { pool = record s.pool { frame = frame_after access s.frame x } }) t b c
     (touches_word s.geometry s access x y.word h y.placed) l e y.same y.fill y.own
@@ -419,21 +424,22 @@ keeps s t b c (Deletes f i) h l e one y =
     y.fill y.own
 keeps s t b c (FreesUnreserved x) h l e one y =
     gives s.geometry s t b c x s.resv (s.used - 1) h l e (ap (λ p. p.0) y.same) (ap (λ p. p.1) y.same) y.some y.none
-    (ap (λ p. p.2) y.same) (let a : more c ≡ more b = ap (λ p. p.3) y.same in let d = y.balance in omega arith) (omega arith)
+    (ap (λ p. p.2) y.same) (let a : ahead c ≡ ahead b = ap (λ p. p.3) y.same in let d = y.balance in omega arith) (omega arith)
     (let a = y.owed in let d = y.used in omega arith) (less_within s.geometry.quota s.used (s.used - 1) (omega arith) h.quota) y.fill
     y.own
 keeps s t b c (Frees x) h l e one y =
     gives s.geometry s t b c x s.resv s.used h l e (ap (λ p. p.0) y.same) (ap (λ p. p.1) y.same) y.some y.none (ap (λ p. p.2) y.same)
-    (let a : more c ≡ more b = ap (λ p. p.3) y.same in let d = y.balance in omega arith) (omega arith) (let a = y.owed in omega arith)
+    (let a : ahead c ≡ ahead b = ap (λ p. p.3) y.same in let d = y.balance in omega arith) (omega arith) (let a = y.owed in omega arith)
     h.quota y.fill y.own
 keeps s t b c (Cuts f new) h l e one y =
     cuts s.geometry s t b c f new y.top h l e y.holds (ap (λ p. p.0) y.same) (ap (λ p. p.1) y.same) (balanced b c y.same)
-    (ap (λ p. p.4) y.same) y.lock y.low y.high y.bare y.none_ahead y.aheads y.passes y.fill y.none_gone y.own
+    (ap (λ p. p.4) y.same) y.lock y.low y.high y.bare y.none_to_pass y.all_to_pass y.passes y.fill y.none_gone y.own
 keeps s t b c (Passes f i new) h l e one y =
     passes s.geometry s t b c f i new h l e y.lock y.some y.none (ap (λ p. p.0) y.same) (ap (λ p. p.1) y.same) (balanced b c y.same)
-    (ap (λ p. p.4) y.same) y.no_fill y.fill y.held y.bare y.sized y.aheads y.passes y.none_gone y.own
+    (ap (λ p. p.4) y.same) y.no_fill y.fill y.held y.bare y.sized y.all_to_pass y.passes y.none_gone y.own
 keeps s t b c (CutsTail f new) h l e one y =
-    cuts_tail s.geometry s t b c f new h l e y.file y.same_ahead y.same_passed y.goners y.holds y.hand y.change y.fill y.balance y.owed y.lock
+    cuts_tail s.geometry s t b c f new h l e y.file y.same_to_pass y.same_passed y.goners y.holds y.hand y.change y.fill y.balance
+    y.owed y.lock
     y.all_passed y.own
 keeps s t b c Prepares h l e one y = prepares s.geometry s t b c h l e y.same y.fill y.own
 keeps s t b c (Accounts n) h l e one y =

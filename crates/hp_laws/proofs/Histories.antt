@@ -9,7 +9,7 @@ use Rattle.hp_base.proofs.Puts.{put_same}
 use Rattle.hp_frames.specs.declared.frame.FrameState.TheVariants as state
 use Rattle.hp_machine.specs.State.{Geometry, Pool, State, pool_of, is_killed}
 use Rattle.hp_machine.specs.Parts.{answer_of}
-use Rattle.hp_machine.specs.Events.{Row, CallRow, Run, opening, told, left}
+use Rattle.hp_machine.specs.Events.{Row, CallRow, Run, opening, outcome_of, left}
 use Rattle.hp_machine.specs.declared.touch.Access.TheVariants.{Load}
 use Rattle.hp_machine.specs.declared.touch.Access.{Access}
 use Rattle.hp_machine.specs.declared.touch.Look.{Look}
@@ -78,11 +78,11 @@ look_reads s t killed grant p o pool next f i w h (turn, row, tells, leaves) loa
     by_option (find (s.mappings t) p.vpn) row
     (λ none r. (let z : ◌≡◌ {A = Option (ℕ × ℕ)} None (Some (f, i)) = sym none ∙ there in absurd (cc)))
     (λ place found r. by_option (s.entries t p.vpn) r
-    (λ none r. absurd (not_moved (sym (tells ∙ ap (told call.Touch) r.0) ∙ ends)))
+    (λ none r. absurd (not_moved (sym (tells ∙ ap (outcome_of call.Touch) r.0) ∙ ends)))
     (λ x entry r. let k = h.entries.agree t p.vpn x entry in
     let same : k.0 ≡ (f, i) = pair_of (sym k.1 ∙ there) in
     let word : r.0 ≡ w =
-    ended_word (sym (tells ∙ (ap (told call.Touch) r.2.0 ∙ ap (λ (a : Access). outcome.Ended (answer_of a r.0)) loads)) ∙ ends) in
+    ended_word (sym (tells ∙ (ap (outcome_of call.Touch) r.2.0 ∙ ap (λ (a : Access). outcome.Ended (answer_of a r.0)) loads)) ∙ ends) in
     (x, subst (λ (m : ℕ × ℕ). s.pages m.0 m.1 ≡ Some x) same k.2, r.1 ∙ ap (λ (m : ℕ). state.Placed m) word)))
   where
     not_moved : {q : Phase} {a : Answer} → outcome.Moved q ≡ outcome.Ended a → ⊥

@@ -4,9 +4,9 @@ use Rattle.std.specs.Prelude.{Bool, true, false, Option, Some, None, IfSome}
 use Rattle.hp_base.specs.Numbers.{put}
 use Rattle.hp_base.proofs.Puts.{put_same, put_other, put_tells}
 use Rattle.hp_machine.specs.State.{Geometry, State, slot_of}
-use Rattle.hp_machine.specs.Views.{less, more, used_owed, hand, change_in, slot_held, locked_file}
+use Rattle.hp_machine.specs.Views.{behind, ahead, used_ahead, hand, change_in, slot_held, locked_file}
 use Rattle.hp_machine.specs.declared.call.Call.{Call}
-use Rattle.hp_laws.specs.Sweep.{fills, ahead, passed, gone}
+use Rattle.hp_laws.specs.Sweep.{fills, to_pass, passed, gone}
 use Rattle.hp_laws.proofs.Deciding.{some_same}
 use Rattle.hp_laws.proofs.Standing.{HasSlot, HasLock, Stands}
 use Rattle.hp_laws.proofs.Staying.{same_files, same_tables, stands_after}
@@ -71,17 +71,17 @@ lock_left_holders g slots locks held locked t f h some = record {
 
 -- all that others see of a call beside what it holds
 abbrev pub shown : Option Call → ℕ × ℕ × Option ℕ × Option ℕ × ((ℕ → ℕ → Bool) × (ℕ → ℕ → Bool) × (ℕ → ℕ → Bool)) × ℕ
-shown c = (less c, more c, hand c, change_in c, sweeps c, used_owed c)
+shown c = (behind c, ahead c, hand c, change_in c, sweeps c, used_ahead c)
 
 -- a slot that is free is taken
 pub takes_slot : (g : Geometry) (s : State) (t : ℕ) (b c : Option Call) (f i : ℕ) → Inv g s → t < g.tasks + 1 → s.calls t ≡ b
     → s.slots (slot_of g f i) ≡ None → shown c ≡ shown b → locked_file c ≡ locked_file b → slot_held b ≡ None → slot_held c ≡ Some (f, i)
-    → IfSome (fills c) (λ k. Reached s.size (λ u. ahead (s.calls u)) k.0 k.1)
+    → IfSome (fills c) (λ k. Reached s.size (λ u. to_pass (s.calls u)) k.0 k.1)
     → Stands g (record s { pool = record s.pool { slots = put s.slots (slot_of g f i) (Some t) } }) t c
     → Inv g (to (record s { pool = record s.pool { slots = put s.slots (slot_of g f i) (Some t) } }) t c)
 takes_slot g s t b c f i h l e free same same_lock none some fill own = goes_as g s n t b c h l e (ap (λ p. p.4) same) (record {
   layout = h.layout;
-  count = (let x : less c ≡ less b = ap (λ p. p.0) same in let y : more c ≡ more b = ap (λ p. p.1) same in omega arith);
+  count = (let x : behind c ≡ behind b = ap (λ p. p.0) same in let y : ahead c ≡ ahead b = ap (λ p. p.1) same in omega arith);
   used = same_used s.used (reserved_of g s.reserved) b c (ap (λ p. p.5) same);
   quota = h.quota;
   enough = h.enough;
@@ -154,12 +154,12 @@ left_stands g s t f i h held u d =
 -- a slot is left
 pub leaves_slot : (g : Geometry) (s : State) (t : ℕ) (b c : Option Call) (f i : ℕ) → Inv g s → t < g.tasks + 1 → s.calls t ≡ b
     → shown c ≡ shown b → locked_file c ≡ locked_file b → slot_held b ≡ Some (f, i) → slot_held c ≡ None → HasSlot g s t f i
-    → IfSome (fills c) (λ k. Reached s.size (λ u. ahead (s.calls u)) k.0 k.1)
+    → IfSome (fills c) (λ k. Reached s.size (λ u. to_pass (s.calls u)) k.0 k.1)
     → Stands g (record s { pool = record s.pool { slots = put s.slots (slot_of g f i) None } }) t c
     → Inv g (to (record s { pool = record s.pool { slots = put s.slots (slot_of g f i) None } }) t c)
 leaves_slot g s t b c f i h l e same same_lock some none held fill own = goes_as g s n t b c h l e (ap (λ p. p.4) same) (record {
   layout = h.layout;
-  count = (let x : less c ≡ less b = ap (λ p. p.0) same in let y : more c ≡ more b = ap (λ p. p.1) same in omega arith);
+  count = (let x : behind c ≡ behind b = ap (λ p. p.0) same in let y : ahead c ≡ ahead b = ap (λ p. p.1) same in omega arith);
   used = same_used s.used (reserved_of g s.reserved) b c (ap (λ p. p.5) same);
   quota = h.quota;
   enough = h.enough;
@@ -187,7 +187,7 @@ pub takes_lock : (g : Geometry) (s : State) (t : ℕ) (b c : Option Call) (f : �
     → Inv g (to (record s { pool = record s.pool { locks = put s.locks f (Some t) } }) t c)
 takes_lock g s t b c f h l e free same same_slot none some fill own = goes_as g s n t b c h l e (ap (λ p. p.4) same) (record {
   layout = h.layout;
-  count = (let x : less c ≡ less b = ap (λ p. p.0) same in let y : more c ≡ more b = ap (λ p. p.1) same in omega arith);
+  count = (let x : behind c ≡ behind b = ap (λ p. p.0) same in let y : ahead c ≡ ahead b = ap (λ p. p.1) same in omega arith);
   used = same_used s.used (reserved_of g s.reserved) b c (ap (λ p. p.5) same);
   quota = h.quota;
   enough = h.enough;
@@ -197,7 +197,7 @@ takes_lock g s t b c f h l e free same same_slot none some fill own = goes_as g 
   sweep = h.sweep;
   reach = h.reach;
   sizes = h.sizes;
-  fill = subst (λ (o : Option (ℕ × ℕ)). IfSome o (λ k. Reached s.size (λ u. ahead (s.calls u)) k.0 k.1)) (sym fill) tt;
+  fill = subst (λ (o : Option (ℕ × ℕ)). IfSome o (λ k. Reached s.size (λ u. to_pass (s.calls u)) k.0 k.1)) (sym fill) tt;
   changes = same_opens s.pending b c (ap (λ p. p.3) same);
   spares = h.spares;
   holders =
@@ -231,11 +231,11 @@ takes_lock g s t b c f h l e free same same_slot none some fill own = goes_as g 
 
 -- a call ends, and leaves its file lock; it has passed every index that it was to pass
 pub leaves_lock : (g : Geometry) (s : State) (t : ℕ) (b : Option Call) (f : ℕ) → Inv g s → t < g.tasks + 1 → s.calls t ≡ b
-    → less b ≡ 0 → more b ≡ 0 → used_owed b ≡ 0 → hand b ≡ None → change_in b ≡ None
+    → behind b ≡ 0 → ahead b ≡ 0 → used_ahead b ≡ 0 → hand b ≡ None → change_in b ≡ None
     → slot_held b ≡ None → locked_file b ≡ Some f → HasLock s t f
-    → ((k j : ℕ) → ahead b k j ≡ false)
+    → ((k j : ℕ) → to_pass b k j ≡ false)
     → Inv g (to (record s { pool = record s.pool { locks = put s.locks f None } }) t None)
-leaves_lock g s t b f h l e no_less no_more none_used no_hand no_change no_slot some held none_ahead = goes_on g s n t b None h l e (record {
+leaves_lock g s t b f h l e no_behind no_ahead none_used no_hand no_change no_slot some held swept = goes_on g s n t b None h l e (record {
   layout = h.layout;
   count = omega arith;
   enough = h.enough;
@@ -246,7 +246,6 @@ leaves_lock g s t b f h l e no_less no_more none_used no_hand no_change no_slot 
   inside = h.inside;
   sizes = h.sizes;
   sweep = record {
-    below = λ w v x k j p q. covered k j (h.sweep.below w v x k j p q);
     past = λ u k j p. elim (put_tells (λ (w : ℕ). passed (s.calls w)) t (passed None) u) [
       | inl q ↦ (let d : false ≡ true = ap (λ (m : ℕ → ℕ → Bool). m k j) (sym q.1) ∙ p in absurd (cc))
       | inr q ↦ h.sweep.past u k j (ap (λ (m : ℕ → ℕ → Bool). m k j) (sym q.1) ∙ p)
@@ -290,20 +289,20 @@ leaves_lock g s t b f h l e no_less no_more none_used no_hand no_change no_slot 
       | inr q ↦ q.1 ∙ a
     ]
 
-    covered : (k j : ℕ) → Reached s.size (λ u. ahead (s.calls u)) k j
-        → Reached s.size (put (λ (u : ℕ). ahead (s.calls u)) t (ahead None)) k j
+    covered : (k j : ℕ) → Reached s.size (λ u. to_pass (s.calls u)) k j
+        → Reached s.size (put (λ (u : ℕ). to_pass (s.calls u)) t (to_pass None)) k j
     covered k j r = elim r [
       | inl a ↦ inl a
       | inr a ↦ inr (
         a.0,
         ap (λ (m : ℕ → ℕ → Bool). m k j)
-            (put_other (λ (u : ℕ). ahead (s.calls u)) t (ahead None) a.0
-            (λ d. (let z : false ≡ true = sym (none_ahead k j)
-            ∙ (ap (λ (c : Option Call). ahead c k j) (sym (ap s.calls d ∙ e)) ∙ a.1) in absurd (cc)))) ∙ a.1,
+            (put_other (λ (u : ℕ). to_pass (s.calls u)) t (to_pass None) a.0
+            (λ d. (let z : false ≡ true = sym (swept k j)
+            ∙ (ap (λ (c : Option Call). to_pass c k j) (sym (ap s.calls d ∙ e)) ∙ a.1) in absurd (cc)))) ∙ a.1,
       )
     ]
 
-    if_reached : (o : Option (ℕ × ℕ)) → IfSome o (λ k. Reached s.size (λ u. ahead (s.calls u)) k.0 k.1)
-        → IfSome o (λ k. Reached s.size (put (λ (u : ℕ). ahead (s.calls u)) t (ahead None)) k.0 k.1)
+    if_reached : (o : Option (ℕ × ℕ)) → IfSome o (λ k. Reached s.size (λ u. to_pass (s.calls u)) k.0 k.1)
+        → IfSome o (λ k. Reached s.size (put (λ (u : ℕ). to_pass (s.calls u)) t (to_pass None)) k.0 k.1)
     if_reached None r = tt
     if_reached (Some k) r = covered k.0 k.1 r

@@ -10,9 +10,9 @@ use Rattle.hp_base.proofs.Puts.{put_same, put_other, same_or_other}
 use Rattle.hp_base.proofs.Totals.{total_change}
 use Rattle.hp_frames.specs.Bank.{IsWithinQuota}
 use Rattle.hp_machine.specs.State.{Geometry, State, slot_of, free_frames}
-use Rattle.hp_machine.specs.Views.{less, more, used_owed, hand, change_in, opens, slot_held, locked_file}
+use Rattle.hp_machine.specs.Views.{behind, ahead, used_ahead, hand, change_in, opens, slot_held, locked_file}
 use Rattle.hp_machine.specs.declared.call.Call.{Call}
-use Rattle.hp_laws.specs.Sweep.{fills, ahead, passed, gone}
+use Rattle.hp_laws.specs.Sweep.{fills, to_pass, passed, gone}
 use Rattle.hp_laws.proofs.Moves.{Placing}
 use Rattle.hp_laws.proofs.Standing.{Stands}
 
@@ -82,13 +82,10 @@ page_within {g} {reserved} {pages} f i x h e = by_mark (reserved f i) refl
 
 -- below the size, or a truncation has yet to pass it
 abbrev pub Reached : (ℕ → ℕ) → (ℕ → ℕ → ℕ → Bool) → (file index : ℕ) → Type 0
-Reached size aheads f i = (i < size f) ⊎ ((u : ℕ) × (aheads u f i ≡ true))
+Reached size all_to_pass f i = (i < size f) ⊎ ((u : ℕ) × (all_to_pass u f i ≡ true))
 
--- what is translated is reached; what a truncation has passed has no page and is above the size, and what it
--- took out of the reserve map is out of it
-pub record Swept (size : ℕ → ℕ) (reserved : ℕ → ℕ → Bool) (pages : ℕ → ℕ → Option ℕ) (mappings : ℕ → List Mapping)
-    (table : ℕ → ℕ → Option ℕ) (aheads passes gones : ℕ → ℕ → ℕ → Bool) : Type 0 where
-  pub below : (t v x f i : ℕ) → table t v ≡ Some x → find (mappings t) v ≡ Some (f, i) → Reached size aheads f i
+-- what a truncation has passed has no page and is above the size, and what it took out of the reserve map is out of it
+pub record Swept (size : ℕ → ℕ) (reserved : ℕ → ℕ → Bool) (pages : ℕ → ℕ → Option ℕ) (passes gones : ℕ → ℕ → ℕ → Bool) : Type 0 where
   pub past : (u f j : ℕ) → passes u f j ≡ true → (pages f j ≡ None) × (size f ≤ j)
   pub gone : (u f j : ℕ) → gones u f j ≡ true → reserved f j ≡ false
 
@@ -107,16 +104,15 @@ pub record Layout (g measures : Geometry) (mappings : ℕ → List Mapping) : Ty
 pub record Inv (g : Geometry) (s : State) : Type 0 where
   pub layout : Layout g s.geometry s.mappings
   pub open layout use *
-  pub count : s.resv + sum_of g less s.calls ≡ vacant_of g s.reserved s.pages + sum_of g more s.calls
+  pub count : s.resv + sum_of g behind s.calls ≡ vacant_of g s.reserved s.pages + sum_of g ahead s.calls
   pub enough : s.resv ≤ free_frames s.frame s.frames
-  pub used : s.used ≡ reserved_of g s.reserved + sum_of g used_owed s.calls
+  pub used : s.used ≡ reserved_of g s.reserved + sum_of g used_ahead s.calls
   pub quota : IsWithinQuota g.quota s.used
   pub place : Placing s.frames s.frame (λ u. hand (s.calls u)) s.pages
   pub entries : Entries g.tasks s.mappings s.entries s.pages
   pub inside : Inside g s.reserved s.pages
-  pub sweep : Swept s.size s.reserved s.pages s.mappings s.entries (λ u. ahead (s.calls u)) (λ u. passed (s.calls u))
-      (λ u. gone (s.calls u))
-  pub reach : (w : ℕ) → IfSome (fills (s.calls w)) (λ k. Reached s.size (λ u. ahead (s.calls u)) k.0 k.1)
+  pub sweep : Swept s.size s.reserved s.pages (λ u. passed (s.calls u)) (λ u. gone (s.calls u))
+  pub reach : (w : ℕ) → IfSome (fills (s.calls w)) (λ k. Reached s.size (λ u. to_pass (s.calls u)) k.0 k.1)
   pub sizes : (f : ℕ) → s.size f ≤ g.limit
   pub changes : (f : ℕ) → s.pending f ≡ sum_of g (opens f) s.calls
   pub spares : (f : ℕ) → s.pending f ≤ s.spare f
@@ -152,27 +148,29 @@ sum_after v n calls t b c l e =
 
 -- the count, after a call goes on and the reservations and vacant indices change
 pub count_after : (n : ℕ) (calls : ℕ → Option Call) (t : ℕ) (b c : Option Call) (resv vac resv' vac' : ℕ) → t < n → calls t ≡ b
-    → resv + total n (λ u. less (calls u)) ≡ vac + total n (λ u. more (calls u))
-    → (resv' + less c) + (vac + more b) ≡ (resv + less b) + (vac' + more c)
-    → resv' + total n (λ u. less (put calls t c u)) ≡ vac' + total n (λ u. more (put calls t c u))
+    → resv + total n (λ u. behind (calls u)) ≡ vac + total n (λ u. ahead (calls u))
+    → (resv' + behind c) + (vac + ahead b) ≡ (resv + behind b) + (vac' + ahead c)
+    → resv' + total n (λ u. behind (put calls t c u)) ≡ vac' + total n (λ u. ahead (put calls t c u))
 count_after n calls t b c resv vac resv' vac' l e h d =
-    let x : total n (λ u. less (put calls t c u)) + less b ≡ total n (λ u. less (calls u)) + less c = sum_after less n calls t b c l e in
-    let y : total n (λ u. more (put calls t c u)) + more b ≡ total n (λ u. more (calls u)) + more c = sum_after more n calls t b c l e in
+    let x : total n (λ u. behind (put calls t c u)) + behind b ≡ total n (λ u. behind (calls u)) + behind c =
+    sum_after behind n calls t b c l e in
+    let y : total n (λ u. ahead (put calls t c u)) + ahead b ≡ total n (λ u. ahead (calls u)) + ahead c =
+    sum_after ahead n calls t b c l e in
     omega arith
 
 -- the used count, after a call goes on and the reserved indices change
 pub used_after : (n : ℕ) (calls : ℕ → Option Call) (t : ℕ) (b c : Option Call) (used marks used' marks' : ℕ) → t < n → calls t ≡ b
-    → used ≡ marks + total n (λ u. used_owed (calls u))
-    → used' + (marks + used_owed b) ≡ used + (marks' + used_owed c)
-    → used' ≡ marks' + total n (λ u. used_owed (put calls t c u))
+    → used ≡ marks + total n (λ u. used_ahead (calls u))
+    → used' + (marks + used_ahead b) ≡ used + (marks' + used_ahead c)
+    → used' ≡ marks' + total n (λ u. used_ahead (put calls t c u))
 used_after n calls t b c used marks used' marks' l e h d =
-    let x : total n (λ u. used_owed (put calls t c u)) + used_owed b ≡ total n (λ u. used_owed (calls u)) + used_owed c =
-    sum_after used_owed n calls t b c l e in
+    let x : total n (λ u. used_ahead (put calls t c u)) + used_ahead b ≡ total n (λ u. used_ahead (calls u)) + used_ahead c =
+    sum_after used_ahead n calls t b c l e in
     omega arith
 
 -- and where neither changes what it is owed
-pub same_used : (used marks : ℕ) (b c : Option Call) → used_owed c ≡ used_owed b
-    → used + (marks + used_owed b) ≡ used + (marks + used_owed c)
+pub same_used : (used marks : ℕ) (b c : Option Call) → used_ahead c ≡ used_ahead b
+    → used + (marks + used_ahead b) ≡ used + (marks + used_ahead c)
 same_used used marks b c e = omega arith
 
 -- what holds of the value, if there is one, may be said more weakly
@@ -192,20 +190,21 @@ abbrev pub to : State → (t : ℕ) → Option Call → State
 to s t c = record s { calls = put s.calls t c }
 
 -- All that has to be shown where the call of task t goes on from b to c, and the rest from s to n, where
--- `aheads` and so on is what is seen of the calls then.
-pub record GoesOn (g : Geometry) (s n : State) (t : ℕ) (b c : Option Call) (aheads passes gones : ℕ → ℕ → ℕ → Bool)
+-- `all_to_pass` and so on is what is seen of the calls then.
+pub record GoesOn (g : Geometry) (s n : State) (t : ℕ) (b c : Option Call) (all_to_pass passes gones : ℕ → ℕ → ℕ → Bool)
     (held : ℕ → Option (ℕ × ℕ)) (locked : ℕ → Option ℕ) : Type 0 where
   pub layout : Layout g n.geometry n.mappings
-  pub count : (n.resv + less c) + (vacant_of g s.reserved s.pages + more b) ≡ (s.resv + less b) + (vacant_of g n.reserved n.pages + more c)
+  pub count : (n.resv + behind c) + (vacant_of g s.reserved s.pages + ahead b)
+      ≡ (s.resv + behind b) + (vacant_of g n.reserved n.pages + ahead c)
   pub enough : n.resv ≤ free_frames n.frame n.frames
-  pub used : n.used + (reserved_of g s.reserved + used_owed b) ≡ s.used + (reserved_of g n.reserved + used_owed c)
+  pub used : n.used + (reserved_of g s.reserved + used_ahead b) ≡ s.used + (reserved_of g n.reserved + used_ahead c)
   pub quota : IsWithinQuota g.quota n.used
   pub place : Placing n.frames n.frame (put (λ (u : ℕ). hand (s.calls u)) t (hand c)) n.pages
   pub entries : Entries g.tasks n.mappings n.entries n.pages
   pub inside : Inside g n.reserved n.pages
-  pub sweep : Swept n.size n.reserved n.pages n.mappings n.entries aheads passes gones
-  pub reach : (w : ℕ) → IfSome (fills (s.calls w)) (λ k. Reached n.size aheads k.0 k.1)
-  pub fill : IfSome (fills c) (λ k. Reached n.size aheads k.0 k.1)
+  pub sweep : Swept n.size n.reserved n.pages passes gones
+  pub reach : (w : ℕ) → IfSome (fills (s.calls w)) (λ k. Reached n.size all_to_pass k.0 k.1)
+  pub fill : IfSome (fills c) (λ k. Reached n.size all_to_pass k.0 k.1)
   pub sizes : (f : ℕ) → n.size f ≤ g.limit
   pub changes : (f : ℕ) → n.pending f + opens f b ≡ s.pending f + opens f c
   pub spares : (f : ℕ) → n.pending f ≤ n.spare f
@@ -215,12 +214,12 @@ pub record GoesOn (g : Geometry) (s n : State) (t : ℕ) (b c : Option Call) (ah
 
 -- where a call goes on and the rest changes as said, the invariant is kept
 pub goes_on : (g : Geometry) (s n : State) (t : ℕ) (b c : Option Call) → Inv g s → t < g.tasks + 1 → s.calls t ≡ b
-    → GoesOn g s n t b c (put (λ (u : ℕ). ahead (s.calls u)) t (ahead c))
+    → GoesOn g s n t b c (put (λ (u : ℕ). to_pass (s.calls u)) t (to_pass c))
     (put (λ (u : ℕ). passed (s.calls u)) t (passed c)) (put (λ (u : ℕ). gone (s.calls u)) t (gone c))
     (put (λ (u : ℕ). slot_held (s.calls u)) t (slot_held c)) (put (λ (u : ℕ). locked_file (s.calls u)) t (locked_file c))
     → Inv g (record n { calls = put s.calls t c })
 goes_on g s n t b c h l e p =
-    let aheads = sym (view_put ahead s.calls t c) in
+    let all_to_pass = sym (view_put to_pass s.calls t c) in
     record {
       layout = p.layout;
       count =
@@ -235,16 +234,13 @@ goes_on g s n t b c h l e p =
       entries = p.entries;
       inside = p.inside;
       sweep =
-          subst (λ (a : ℕ → ℕ → ℕ → Bool). Swept n.size n.reserved n.pages n.mappings n.entries a
-          (λ u. passed (put s.calls t c u)) (λ u. gone (put s.calls t c u))) aheads
-          (subst (λ (a : ℕ → ℕ → ℕ → Bool). Swept n.size n.reserved n.pages n.mappings n.entries
-          (put (λ (u : ℕ). ahead (s.calls u)) t (ahead c)) a (λ u. gone (put s.calls t c u))) (sym (view_put passed s.calls t c))
-          (subst (λ (a : ℕ → ℕ → ℕ → Bool). Swept n.size n.reserved n.pages n.mappings n.entries
-          (put (λ (u : ℕ). ahead (s.calls u)) t (ahead c)) (put (λ (u : ℕ). passed (s.calls u)) t (passed c)) a)
-          (sym (view_put gone s.calls t c)) p.sweep));
-      reach = subst (λ (a : ℕ → ℕ → ℕ → Bool). (w : ℕ) → IfSome (fills (put s.calls t c w)) (λ k. Reached n.size a k.0 k.1)) aheads
+          subst (λ (a : ℕ → ℕ → ℕ → Bool). Swept n.size n.reserved n.pages a (λ u. gone (put s.calls t c u)))
+          (sym (view_put passed s.calls t c))
+          (subst (Swept n.size n.reserved n.pages (put (λ (u : ℕ). passed (s.calls u)) t (passed c))) (sym (view_put gone s.calls t c))
+          p.sweep);
+      reach = subst (λ (a : ℕ → ℕ → ℕ → Bool). (w : ℕ) → IfSome (fills (put s.calls t c w)) (λ k. Reached n.size a k.0 k.1)) all_to_pass
           (each_call (λ w d. IfSome (fills d)
-          (λ k. Reached n.size (put (λ (u : ℕ). ahead (s.calls u)) t (ahead c)) k.0 k.1)) s.calls t c (λ u d. p.reach u) p.fill);
+          (λ k. Reached n.size (put (λ (u : ℕ). to_pass (s.calls u)) t (to_pass c)) k.0 k.1)) s.calls t c (λ u d. p.reach u) p.fill);
       sizes = p.sizes;
       changes = λ f.
           let a : total (g.tasks + 1) (λ u. opens f (put s.calls t c u)) + opens f b ≡ total (g.tasks + 1)
@@ -269,7 +265,7 @@ goes_on g s n t b c h l e p =
 
 -- how the call stands to the indices of its file
 abbrev pub sweeps : Option Call → (ℕ → ℕ → Bool) × (ℕ → ℕ → Bool) × (ℕ → ℕ → Bool)
-sweeps c = (ahead c, passed c, gone c)
+sweeps c = (to_pass c, passed c, gone c)
 
 -- what the call holds
 abbrev pub holds : Option Call → Option (ℕ × ℕ) × Option ℕ
@@ -279,11 +275,11 @@ holds c = (slot_held c, locked_file c)
 abbrev pub seen : Option Call
     → ℕ × ℕ × Option ℕ × Option ℕ × ((ℕ → ℕ → Bool) × (ℕ → ℕ → Bool) × (ℕ → ℕ → Bool))
     × (Option (ℕ × ℕ) × Option ℕ) × ℕ
-seen c = (less c, more c, hand c, change_in c, sweeps c, holds c, used_owed c)
+seen c = (behind c, ahead c, hand c, change_in c, sweeps c, holds c, used_ahead c)
 
 -- the same where the call stands to truncations as it did
 abbrev pub GoesAs : Geometry → State → State → ℕ → Option Call → Option Call → (ℕ → Option (ℕ × ℕ)) → (ℕ → Option ℕ) → Type 0
-GoesAs g s n t b c held locked = GoesOn g s n t b c (λ u. ahead (s.calls u)) (λ u. passed (s.calls u)) (λ u. gone (s.calls u)) held locked
+GoesAs g s n t b c held locked = GoesOn g s n t b c (λ u. to_pass (s.calls u)) (λ u. passed (s.calls u)) (λ u. gone (s.calls u)) held locked
 
 -- so the invariant is kept
 pub goes_as : (g : Geometry) (s n : State) (t : ℕ) (b c : Option Call) → Inv g s → t < g.tasks + 1 → s.calls t ≡ b → sweeps c ≡ sweeps b
@@ -296,11 +292,11 @@ goes_as g s n t b c h l e same p =
     goes_on g s n t b c h l e
     (subst (λ (a : ℕ → ℕ → ℕ → Bool). GoesOn g s n t b c a (put (λ (u : ℕ). passed (s.calls u)) t (passed c))
     (put (λ (u : ℕ). gone (s.calls u)) t (gone c)) held locked)
-    (sym (put_known (λ (u : ℕ). ahead (s.calls u)) t (ahead c) (ap ahead e ∙ sym (ap (λ p. p.0) same))))
-    (subst (λ (a : ℕ → ℕ → ℕ → Bool). GoesOn g s n t b c (λ u. ahead (s.calls u)) a
+    (sym (put_known (λ (u : ℕ). to_pass (s.calls u)) t (to_pass c) (ap to_pass e ∙ sym (ap (λ p. p.0) same))))
+    (subst (λ (a : ℕ → ℕ → ℕ → Bool). GoesOn g s n t b c (λ u. to_pass (s.calls u)) a
     (put (λ (u : ℕ). gone (s.calls u)) t (gone c)) held locked)
     (sym (put_known (λ (u : ℕ). passed (s.calls u)) t (passed c) (ap passed e ∙ sym (ap (λ p. p.1) same))))
-    (subst (λ (a : ℕ → ℕ → ℕ → Bool). GoesOn g s n t b c (λ u. ahead (s.calls u)) (λ u. passed (s.calls u)) a held
+    (subst (λ (a : ℕ → ℕ → ℕ → Bool). GoesOn g s n t b c (λ u. to_pass (s.calls u)) (λ u. passed (s.calls u)) a held
     locked) (sym (put_known (λ (u : ℕ). gone (s.calls u)) t (gone c) (ap gone e ∙ sym (ap (λ p. p.2) same)))) p)))
 
 -- and holds what it did
@@ -332,10 +328,10 @@ same_opens pending b c same f = ap (λ (o : Option ℕ). pending f + elim o [ No
 
 -- only the call goes on
 pub stays : (g : Geometry) (s : State) (t : ℕ) (b c : Option Call) → Inv g s → t < g.tasks + 1 → s.calls t ≡ b → seen c ≡ seen b
-    → IfSome (fills c) (λ k. Reached s.size (λ u. ahead (s.calls u)) k.0 k.1) → Stands g s t c → Inv g (to s t c)
+    → IfSome (fills c) (λ k. Reached s.size (λ u. to_pass (s.calls u)) k.0 k.1) → Stands g s t c → Inv g (to s t c)
 stays g s t b c h l e same fill own = goes g s s t b c h l e (ap (λ p. p.4) same) (ap (λ p. p.5) same) (record {
   layout = h.layout;
-  count = (let x : less c ≡ less b = ap (λ p. p.0) same in let y : more c ≡ more b = ap (λ p. p.1) same in omega arith);
+  count = (let x : behind c ≡ behind b = ap (λ p. p.0) same in let y : ahead c ≡ ahead b = ap (λ p. p.1) same in omega arith);
   enough = h.enough;
   used = same_used s.used (reserved_of g s.reserved) b c (ap (λ p. p.6) same);
   quota = h.quota;

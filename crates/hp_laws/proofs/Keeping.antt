@@ -13,7 +13,7 @@ use Rattle.hp_base.specs.declared.event.Event.TheVariants.{Begin, Step, Kill, Re
 use Rattle.hp_base.proofs.Puts.{put_same, put_other, same_or_other}
 use Rattle.hp_base.proofs.Searches.{true_or}
 use Rattle.hp_machine.specs.State.{Geometry, Pool, State, pool_of, with_pool, is_killed}
-use Rattle.hp_machine.specs.Events.{Row, CallRow, first, told, left, lives_after}
+use Rattle.hp_machine.specs.Events.{Row, CallRow, first, outcome_of, left, lives_after}
 use Rattle.hp_machine.specs.declared.map.Leave.{Leave}
 use Rattle.hp_machine.specs.declared.map.MapPhase.TheVariants as map
 use Rattle.hp_machine.specs.declared.outcome.Outcome.{Outcome}
@@ -64,7 +64,7 @@ mapped_call : (s : State) (t : ℕ) (killed grant : Bool) (p : Leave) (o : Outco
     → (next ≡ None) × (pool.reserved k j ≡ true) × (j < pool.size k) × ((u : ℕ) → u ≢ t → removes (s.calls u) k j ≡ false)
 unfolding CallRow
 mapped_call s t killed grant p o pool next base k j h e (turn, row, tells, leaves) is reserves within =
-    let mapped : p.answer ≡ answer.Mapped base = same (sym (tells ∙ ap (told call.Map) row.0) ∙ is) in
+    let mapped : p.answer ≡ answer.Mapped base = same (sym (tells ∙ ap (outcome_of call.Map) row.0) ∙ is) in
     let place = both_true (p.map.file == k) _ within in
     let x = mapped_at s t p base k j h e mapped reserves (same_of p.map.file k place.0) place.1 in (
       leaves ∙ ap (left call.Map) row.0,

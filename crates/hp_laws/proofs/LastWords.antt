@@ -13,7 +13,7 @@ use Rattle.hp_frames.specs.declared.frame.FrameState.TheVariants as state
 use Rattle.hp_machine.specs.State.{Pool, State, pool_of, is_killed}
 use Rattle.hp_machine.specs.Parts.{answer_of, frame_after}
 use Rattle.hp_machine.specs.TouchRows.{TouchLookRow, TouchFoundRow}
-use Rattle.hp_machine.specs.Events.{Row, CallRow, told, left}
+use Rattle.hp_machine.specs.Events.{Row, CallRow, outcome_of, left}
 use Rattle.hp_machine.specs.declared.touch.Access.{Access}
 use Rattle.hp_machine.specs.declared.touch.Access.TheVariants.{Load, Store}
 use Rattle.hp_machine.specs.declared.touch.Look.{Look}
@@ -172,18 +172,18 @@ self_tells s event o n pages frame quiet = shrinks_tell s event o n (pool_of s) 
 -- a touch that looks
 look_tells : (s : State) (t : ℕ) (killed grant : Bool) (p : Look) (turn : Turn TouchPhase) (pool : Pool) (o : Outcome) (n : State)
     → Inv s.geometry s → s.calls t ≡ Some (call.Touch (touch.Look p)) → TouchLookRow (pool_of s) t p turn pool
-    → o ≡ told call.Touch turn
+    → o ≡ outcome_of call.Touch turn
     → n.pages ≡ pool.pages → n.frame ≡ pool.frame → Tells s (Step t grant) o n
 look_tells s t killed grant p turn pool o n h e row tells pages frame =
     by_option (find (s.mappings t) p.vpn) row
     (λ none r. self_tells s (Step t grant) o n (pages ∙ ap (λ (m : Pool). m.pages) r.1)
     (frame ∙ ap (λ (m : Pool). m.frame) r.1)
     (silent (λ d. (let z : outcome.Ended answer.Segv ≡ outcome.Ended answer.Done = sym
-    (tells ∙ ap (told call.Touch) r.0) ∙ d in cc))))
+    (tells ∙ ap (outcome_of call.Touch) r.0) ∙ d in cc))))
     (λ place there r. by_option (s.entries t p.vpn) r
     (λ none r. self_tells s (Step t grant) o n (pages ∙ ap (λ (m : Pool). m.pages) r.1)
     (frame ∙ ap (λ (m : Pool). m.frame) r.1)
-    (silent (λ d. (let z = sym (tells ∙ ap (told call.Touch) r.0) ∙ d in moved_not_done z))))
+    (silent (λ d. (let z = sym (tells ∙ ap (outcome_of call.Touch) r.0) ∙ d in moved_not_done z))))
     (λ x entry r. reading x entry place there r.0 r.1 r.2 p.access refl))
   where
     moved_not_done : {q : _} → outcome.Moved q ≡ outcome.Ended answer.Done → ⊥
@@ -207,7 +207,7 @@ look_tells s t killed grant p turn pool o n h e row tells pages frame =
         self_tells s (Step t grant) o n (pages ∙ ap (λ (m : Pool). m.pages) r.1)
         (frame ∙ (ap (λ (m : Pool). m.frame) r.1 ∙ ap (λ (a : Access). frame_after a s.frame x) is))
         (silent (λ d. (let z : outcome.Ended (answer.Word word) ≡ outcome.Ended answer.Done = sym
-        (tells ∙ (ap (told call.Touch) r.0 ∙ ap (λ (a : Access). outcome.Ended (answer_of a word)) is)) ∙ d in cc)))
+        (tells ∙ (ap (outcome_of call.Touch) r.0 ∙ ap (λ (a : Access). outcome.Ended (answer_of a word)) is)) ∙ d in cc)))
     reading x entry place there word placed r (Store new) is =
         let k = h.entries.agree t p.vpn x entry in
         let same : k.0 ≡ place = pair_of (sym k.1 ∙ there) in
@@ -222,7 +222,7 @@ look_tells s t killed grant p turn pool o n h e row tells pages frame =
           e,
           is,
           there,
-          tells ∙ (ap (told call.Touch) r.0 ∙ ap (λ (a : Access). outcome.Ended (answer_of a word)) is),
+          tells ∙ (ap (outcome_of call.Touch) r.0 ∙ ap (λ (a : Access). outcome.Ended (answer_of a word)) is),
         ))
         (λ f i v wrote. stored_by s t grant (call.Touch (touch.Look p)) o n e ((f ≡ place.0) × (i ≡ place.1) × (v ≡ new)) f i v wrote
         (λ q d a b z. let same_p = same_look q d in

@@ -24,7 +24,7 @@ use Rattle.hp_base.specs.Pages.{IsPagesEnd}
 use Rattle.hp_machine.specs.TruncateRows.{TruncateRow}
 use Rattle.hp_machine.specs.UnmapRows.{UnmapRow}
 use Rattle.hp_machine.specs.ExitRows.{ExitRow}
-use Rattle.hp_machine.specs.Events.{Row, CallRow, BeginRow, StepRow, KillRow, IsReached, is_exit, told, left}
+use Rattle.hp_machine.specs.Events.{Row, CallRow, BeginRow, StepRow, KillRow, IsReached, is_exit, outcome_of, left}
 use Rattle.hp_machine.specs.declared.touch.TouchPhase.{TouchPhase}
 use Rattle.hp_machine.specs.declared.touch.TouchPhase.TheVariants as touch
 use Rattle.hp_machine.specs.declared.map.MapPhase.{MapPhase}
@@ -282,25 +282,25 @@ call_leads : (s : State) (t : ℕ) (killed grant : Bool) (c : Call) → IsReache
 unfolding CallRow
 call_leads s t killed grant (call.Touch p) reached e =
     let r = touch_leads s t killed grant p reached e in
-    (told call.Touch r.0, r.1, left call.Touch r.0, (r.0, r.2, refl, refl))
+    (outcome_of call.Touch r.0, r.1, left call.Touch r.0, (r.0, r.2, refl, refl))
 call_leads s t killed grant (call.Map p) reached e =
     let r = map_leads s t killed grant p reached e in
-    (told call.Map r.0, r.1, left call.Map r.0, (r.0, r.2, refl, refl))
+    (outcome_of call.Map r.0, r.1, left call.Map r.0, (r.0, r.2, refl, refl))
 call_leads s t killed grant (call.Alloc p) reached e =
     let r = alloc_leads s t killed grant p reached e in
-    (told call.Alloc r.0, r.1, left call.Alloc r.0, (r.0, r.2, refl, refl))
+    (outcome_of call.Alloc r.0, r.1, left call.Alloc r.0, (r.0, r.2, refl, refl))
 call_leads s t killed grant (call.Punch p) reached e =
     let r = punch_leads s t killed grant p reached e in
-    (told call.Punch r.0, r.1, left call.Punch r.0, (r.0, r.2, refl, refl))
+    (outcome_of call.Punch r.0, r.1, left call.Punch r.0, (r.0, r.2, refl, refl))
 call_leads s t killed grant (call.Truncate p) reached e =
     let r = truncate_leads s t killed grant p reached e in
-    (told call.Truncate r.0, r.1, left call.Truncate r.0, (r.0, r.2, refl, refl))
+    (outcome_of call.Truncate r.0, r.1, left call.Truncate r.0, (r.0, r.2, refl, refl))
 call_leads s t killed grant (call.Unmap p) reached e =
     let r = unmap_leads s t killed grant p in
-    (told call.Unmap r.0, r.1, left call.Unmap r.0, (r.0, r.2, refl, refl))
+    (outcome_of call.Unmap r.0, r.1, left call.Unmap r.0, (r.0, r.2, refl, refl))
 call_leads s t killed grant (call.Exit p) reached e =
     let r = exit_leads s t killed grant p in
-    (told call.Exit r.0, r.1, left call.Exit r.0, (r.0, r.2, refl, refl))
+    (outcome_of call.Exit r.0, r.1, left call.Exit r.0, (r.0, r.2, refl, refl))
 
 -- an event's row by a test applies where each of its cases does
 by_bool : {A B : Outcome → State → Type 0} (b : Bool) → (b ≡ true → (o : Outcome) × (n : State) × A o n)

@@ -28,6 +28,7 @@ pub mod Numbered
 pub mod Passing
 pub mod Promising
 pub mod PunchDid
+pub mod Reaching
 pub mod Reading
 pub mod Removals
 pub mod Resizing

@@ -12,7 +12,7 @@ use Rattle.hp_base.specs.declared.event.Event.TheVariants.{Begin, Step, Kill, Re
 use Rattle.hp_machine.specs.State.{Geometry, Pool, State, pool_of, with_pool, slot_of, is_killed}
 use Rattle.hp_machine.specs.Parts.{unlocked}
 use Rattle.hp_machine.specs.TruncateRows.{TruncateRow}
-use Rattle.hp_machine.specs.Events.{Row, CallRow, IsReached, word_of, told}
+use Rattle.hp_machine.specs.Events.{Row, CallRow, IsReached, word_of, outcome_of}
 use Rattle.hp_machine.specs.declared.phase.Phase.TheVariants as word
 use Rattle.hp_machine.specs.declared.outcome.Outcome.{Outcome}
 use Rattle.hp_machine.specs.declared.outcome.Outcome.TheVariants as outcome
@@ -30,15 +30,16 @@ use Rattle.hp_machine.specs.declared.call.Call.TheVariants as call
 use Rattle.hp_machine.specs.declared.call.Turn.{Turn}
 use Rattle.hp_machine.specs.declared.call.Turn.TheVariants.{Moved, Blocked, Ended}
 use Rattle.hp_machine.specs.Views.{locked_file}
-use Rattle.hp_laws.specs.Sweep.{ahead, passed, gone}
+use Rattle.hp_laws.specs.Sweep.{to_pass, passed, gone}
 use Rattle.hp_laws.specs.Protocol.{is_covered, counts_on, works_at, GoesUnderLock, truncation_of, IsCut}
 use Rattle.hp_laws.proofs.Deciding.{from_on, never, clash, some_same}
 use Rattle.hp_laws.proofs.Standing.{HasSlot, HasLock, Stands, IsOne}
 use Rattle.hp_laws.proofs.Invariant.{Inv}
-use Rattle.hp_laws.proofs.Passing.{ahead_locked, locks_file, holds_slot, same_holder}
+use Rattle.hp_laws.proofs.Passing.{to_pass_locked, locks_file, holds_slot, same_holder}
 use Rattle.hp_laws.proofs.Shared.{by_test, by_option, stands_at}
 use Rattle.hp_laws.proofs.Deletes.{deletes}
-use Rattle.hp_laws.proofs.Runs.{Always, always}
+use Rattle.hp_laws.proofs.Reaching.{AllReached}
+use Rattle.hp_laws.proofs.Runs.{Always, always, all_reached}
 use Rattle.hp_laws.proofs.Apart.{works, passed_bare}
 use Rattle.hp_laws.proofs.Reading.{begin_cases, step_cases, kill_cases, call_steps}
 use Rattle.hp_laws.proofs.Resizing.{resize_cases}
@@ -246,26 +247,26 @@ done_row s t killed grant (truncate.Settle p) turn new P (low, used, row) d f = 
 done_row s t killed grant (truncate.Leave p) turn new P row d f = f p refl row.1
 
 -- nothing is left where a truncation leaves
-cut_at : (s : State) (t : ℕ) (p : Leave) → Inv s.geometry s → s.calls t ≡ Some (call.Truncate (truncate.Leave p))
+cut_at : (s : State) (t : ℕ) (p : Leave) → Inv s.geometry s → AllReached s → s.calls t ≡ Some (call.Truncate (truncate.Leave p))
     → IsCut s p.truncation.file p.truncation.new
-cut_at s t p h e =
+cut_at s t p h k e =
     let y = stands_at s t (Some (call.Truncate (truncate.Leave p))) h e in
     let f = p.truncation.file in
     let new = p.truncation.new in
     let sized : s.size f ≡ new = y.facts.sized in
     record {
-      translated = λ u v x j a q. elim (h.sweep.below u v x f j a q) [
+      translated = λ u v x j a q. elim (k.below u v x f j a q) [
         | inl l ↦ omega arith
         | inr w ↦ (let z : w.0 ≡ t = same_holder w.0 t (s.locks f)
-            (locks_file s.geometry s w.0 f h (ahead_locked (s.calls w.0) f j w.1)) y.lock in
-            let c : false ≡ true = sym (ap (λ (k : Option Call). ahead k f j) (ap s.calls z ∙ e)) ∙ w.1 in absurd (cc))
+            (locks_file s.geometry s w.0 f h (to_pass_locked (s.calls w.0) f j w.1)) y.lock in
+            let c : false ≡ true = sym (ap (λ (k : Option Call). to_pass k f j) (ap s.calls z ∙ e)) ∙ w.1 in absurd (cc))
       ];
       cached = λ j l. (h.sweep.past t f j (ap (λ (k : Option Call). passed k f j) e ∙ from_on f new j l)).0;
       reserved = λ j l. h.sweep.gone t f j (ap (λ (k : Option Call). gone k f j) e ∙ from_on f new j l);
     }
 
 -- a truncation that tells done has ended with it
-told_done : (turn : Turn TruncatePhase) → outcome.Ended answer.Done ≡ told call.Truncate turn → turn ≡ Ended answer.Done
+told_done : (turn : Turn TruncatePhase) → outcome.Ended answer.Done ≡ outcome_of call.Truncate turn → turn ≡ Ended answer.Done
 told_done (Moved p) e = (let z : outcome.Ended answer.Done ≡ outcome.Moved (word_of (call.Truncate p)) = e in absurd (cc))
 told_done (Blocked p u) e = (let z : outcome.Ended answer.Done ≡ outcome.Blocked u = e in absurd (cc))
 told_done (Ended a) e = ap (λ (b : Answer). Ended b) (same (sym e))
@@ -275,15 +276,15 @@ told_done (Ended a) e = ap (λ (b : Answer). Ended b) (same (sym e))
 
 -- so the state after is cut at the new size
 done_call : (s : State) (t : ℕ) (killed grant : Bool) (phase : TruncatePhase) (o : Outcome) (pool : Pool) (next : Option Call)
-    → Inv s.geometry s → s.calls t ≡ Some (call.Truncate phase)
+    → Inv s.geometry s → AllReached s → s.calls t ≡ Some (call.Truncate phase)
     → CallRow (pool_of s) t killed grant (call.Truncate phase) o pool next → o ≡ outcome.Ended answer.Done
     → IsCut (with_pool s pool) (truncation_of phase).file (truncation_of phase).new
 unfolding CallRow
-done_call s t killed grant phase o pool next h e (turn, row, tells, leaves) is =
+done_call s t killed grant phase o pool next h k e (turn, row, tells, leaves) is =
     done_row s t killed grant phase turn pool _ row (told_done turn (sym is ∙ tells)) (λ p q d.
     subst (λ (m : TruncatePhase). IsCut (with_pool s pool) (truncation_of m).file (truncation_of m).new) (sym q)
     (subst (λ (m : Pool). IsCut (with_pool s m) p.truncation.file p.truncation.new) (sym d)
-    (cut_at s t p h (e ∙ ap (λ (m : TruncatePhase). Some (call.Truncate m)) q))))
+    (cut_at s t p h k (e ∙ ap (λ (m : TruncatePhase). Some (call.Truncate m)) q))))
 
 -- after a truncation has ended with done nothing is left from its new size on
 pub truncation_leaves_nothing : (s : State) (t : ℕ) (grant : Bool) (phase : TruncatePhase) (n : State) → IsReached s
@@ -294,6 +295,6 @@ truncation_leaves_nothing s t grant phase n reached e row =
     (λ why z d. (let y : outcome.Ended answer.Done ≡ outcome.Refused why = z in absurd (cc)))
     (λ c lives some pool next r d.
     subst (λ (m : State). IsCut m (truncation_of phase).file (truncation_of phase).new) (sym d)
-    (done_call s t (is_killed (s.life t)) grant phase (outcome.Ended answer.Done) pool next (always s reached).inv e
+    (done_call s t (is_killed (s.life t)) grant phase (outcome.Ended answer.Done) pool next (always s reached).inv (all_reached s reached) e
     (subst (λ (m : Call). CallRow (pool_of s) t (is_killed (s.life t)) grant m (outcome.Ended answer.Done) pool
     next) (some_same (sym some ∙ e)) r) refl))

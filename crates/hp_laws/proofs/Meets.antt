@@ -10,7 +10,7 @@ use Rattle.hp_frames.specs.declared.frame.FrameState.TheVariants as state
 use Rattle.hp_machine.specs.State.{Geometry, State, free_frames, is_dead}
 use Rattle.hp_machine.specs.Events.{IsReached}
 use Rattle.hp_machine.specs.Headline.{Hand, Page}
-use Rattle.hp_machine.specs.Views.{used_owed, hand, change_in}
+use Rattle.hp_machine.specs.Views.{used_ahead, hand, change_in}
 use Rattle.hp_machine.specs.declared.touch.TouchPhase.TheVariants as touch
 use Rattle.hp_machine.specs.declared.map.Changed
 use Rattle.hp_machine.specs.declared.map.MapPhase.TheVariants as map
@@ -108,7 +108,7 @@ pub resv_covered : (s : State) → IsReached s → s.resv ≤ free_frames s.fram
 resv_covered s reached = (always s reached).inv.enough
 
 -- no call owes more to the used count than a file has indices
-owes_few : (g : Geometry) (s : State) (t : ℕ) (c : Option Call) → 1 ≤ g.limit → Stands g s t c → used_owed c ≤ g.limit
+owes_few : (g : Geometry) (s : State) (t : ℕ) (c : Option Call) → 1 ≤ g.limit → Stands g s t c → used_ahead c ≤ g.limit
 owes_few g s t (Some (call.Touch (touch.Taken p))) some h = let a = h.facts.one.few in omega arith
 owes_few g s t (Some (call.Touch (touch.Settle p))) some h = some
 owes_few g s t (Some (call.Map (map.Accounted p))) some h =
@@ -133,7 +133,7 @@ used_few s reached some =
     let g : Geometry = s.geometry in
     let h = (always s reached).inv in
     let a = total_few g.files (λ f. count_below (s.reserved f) g.limit) g.limit (λ f. count_below_le (s.reserved f) g.limit) in
-    let b = total_few (g.tasks + 1) (λ u. used_owed (s.calls u)) g.limit (λ u. owes_few g s u (s.calls u) some (h.stands u)) in
+    let b = total_few (g.tasks + 1) (λ u. used_ahead (s.calls u)) g.limit (λ u. owes_few g s u (s.calls u) some (h.stands u)) in
     let c = h.used in
     omega arith
 

@@ -13,7 +13,7 @@ use Rattle.hp_machine.specs.declared.unmap.UnmapPhase.TheVariants as unmap
 use Rattle.hp_machine.specs.declared.exit.ExitPhase.TheVariants as exit
 use Rattle.hp_machine.specs.declared.call.Call.{Call}
 use Rattle.hp_machine.specs.declared.call.Call.TheVariants as call
-use Rattle.hp_laws.specs.Sweep.{fills, ahead, passed}
+use Rattle.hp_laws.specs.Sweep.{fills, to_pass, passed}
 use Rattle.hp_laws.proofs.Deciding.{file_told}
 use Rattle.hp_laws.proofs.Standing.{HasSlot, HasLock}
 use Rattle.hp_laws.proofs.Invariant.{Inv, Reached}
@@ -42,36 +42,36 @@ passed_locked (Some (call.Exit exit.Start)) k j e = let d : false ≡ true = e i
 passed_locked c k j e = let d : false ≡ true = e in cc
 
 -- so does one that has yet to pass it
-pub ahead_locked : (c : Option Call) (k j : ℕ) → ahead c k j ≡ true → locked_file c ≡ Some k
-ahead_locked (Some (call.Truncate (truncate.Want p))) k j e = file_told p.truncation.file k _ e
-ahead_locked (Some (call.Truncate (truncate.Locked p))) k j e = file_told p.truncation.file k _ e
-ahead_locked (Some (call.Truncate (truncate.Unmap p))) k j e = file_told p.truncation.file k _ e
-ahead_locked (Some (call.Truncate (truncate.Evict p))) k j e = file_told p.truncation.file k _ e
-ahead_locked (Some (call.Truncate (truncate.Free p))) k j e = file_told p.truncation.file k _ e
-ahead_locked (Some (call.Truncate (truncate.Unslot p))) k j e = file_told p.truncation.file k _ e
-ahead_locked (Some (call.Touch (touch.Look _))) k j e = let d : false ≡ true = e in cc
-ahead_locked (Some (call.Map (map.Start _))) k j e = let d : false ≡ true = e in cc
-ahead_locked (Some (call.Alloc (alloc.Start _))) k j e = let d : false ≡ true = e in cc
-ahead_locked (Some (call.Punch (punch.Start _))) k j e = let d : false ≡ true = e in cc
-ahead_locked (Some (call.Unmap (unmap.Start _))) k j e = let d : false ≡ true = e in cc
-ahead_locked (Some (call.Exit exit.Start)) k j e = let d : false ≡ true = e in cc
-ahead_locked c k j e = let d : false ≡ true = e in cc
+pub to_pass_locked : (c : Option Call) (k j : ℕ) → to_pass c k j ≡ true → locked_file c ≡ Some k
+to_pass_locked (Some (call.Truncate (truncate.Want p))) k j e = file_told p.truncation.file k _ e
+to_pass_locked (Some (call.Truncate (truncate.Locked p))) k j e = file_told p.truncation.file k _ e
+to_pass_locked (Some (call.Truncate (truncate.Unmap p))) k j e = file_told p.truncation.file k _ e
+to_pass_locked (Some (call.Truncate (truncate.Evict p))) k j e = file_told p.truncation.file k _ e
+to_pass_locked (Some (call.Truncate (truncate.Free p))) k j e = file_told p.truncation.file k _ e
+to_pass_locked (Some (call.Truncate (truncate.Unslot p))) k j e = file_told p.truncation.file k _ e
+to_pass_locked (Some (call.Touch (touch.Look _))) k j e = let d : false ≡ true = e in cc
+to_pass_locked (Some (call.Map (map.Start _))) k j e = let d : false ≡ true = e in cc
+to_pass_locked (Some (call.Alloc (alloc.Start _))) k j e = let d : false ≡ true = e in cc
+to_pass_locked (Some (call.Punch (punch.Start _))) k j e = let d : false ≡ true = e in cc
+to_pass_locked (Some (call.Unmap (unmap.Start _))) k j e = let d : false ≡ true = e in cc
+to_pass_locked (Some (call.Exit exit.Start)) k j e = let d : false ≡ true = e in cc
+to_pass_locked c k j e = let d : false ≡ true = e in cc
 
 -- no truncation has both passed an index and yet to pass it
-pub ahead_or_passed : (c : Option Call) (k j : ℕ) → ahead c k j ≡ true → passed c k j ≡ true → ⊥
-ahead_or_passed (Some (call.Truncate (truncate.Want p))) k j a b = not_both p.truncation.file k p.index j a b
-ahead_or_passed (Some (call.Truncate (truncate.Locked p))) k j a b = not_both p.truncation.file k p.index j a b
-ahead_or_passed (Some (call.Truncate (truncate.Unmap p))) k j a b = not_both p.truncation.file k p.index j a b
-ahead_or_passed (Some (call.Truncate (truncate.Evict p))) k j a b = not_both p.truncation.file k p.index j a b
-ahead_or_passed (Some (call.Truncate (truncate.Free p))) k j a b = not_both p.truncation.file k p.index j a b
-ahead_or_passed (Some (call.Truncate (truncate.Unslot p))) k j a b = not_both p.truncation.file k p.index j a b
-ahead_or_passed (Some (call.Touch (touch.Look _))) k j a b = let d : false ≡ true = a in cc
-ahead_or_passed (Some (call.Map (map.Start _))) k j a b = let d : false ≡ true = a in cc
-ahead_or_passed (Some (call.Alloc (alloc.Start _))) k j a b = let d : false ≡ true = a in cc
-ahead_or_passed (Some (call.Punch (punch.Start _))) k j a b = let d : false ≡ true = a in cc
-ahead_or_passed (Some (call.Unmap (unmap.Start _))) k j a b = let d : false ≡ true = a in cc
-ahead_or_passed (Some (call.Exit exit.Start)) k j a b = let d : false ≡ true = a in cc
-ahead_or_passed c k j a b = let d : false ≡ true = a in cc
+pub to_pass_or_passed : (c : Option Call) (k j : ℕ) → to_pass c k j ≡ true → passed c k j ≡ true → ⊥
+to_pass_or_passed (Some (call.Truncate (truncate.Want p))) k j a b = not_both p.truncation.file k p.index j a b
+to_pass_or_passed (Some (call.Truncate (truncate.Locked p))) k j a b = not_both p.truncation.file k p.index j a b
+to_pass_or_passed (Some (call.Truncate (truncate.Unmap p))) k j a b = not_both p.truncation.file k p.index j a b
+to_pass_or_passed (Some (call.Truncate (truncate.Evict p))) k j a b = not_both p.truncation.file k p.index j a b
+to_pass_or_passed (Some (call.Truncate (truncate.Free p))) k j a b = not_both p.truncation.file k p.index j a b
+to_pass_or_passed (Some (call.Truncate (truncate.Unslot p))) k j a b = not_both p.truncation.file k p.index j a b
+to_pass_or_passed (Some (call.Touch (touch.Look _))) k j a b = let d : false ≡ true = a in cc
+to_pass_or_passed (Some (call.Map (map.Start _))) k j a b = let d : false ≡ true = a in cc
+to_pass_or_passed (Some (call.Alloc (alloc.Start _))) k j a b = let d : false ≡ true = a in cc
+to_pass_or_passed (Some (call.Punch (punch.Start _))) k j a b = let d : false ≡ true = a in cc
+to_pass_or_passed (Some (call.Unmap (unmap.Start _))) k j a b = let d : false ≡ true = a in cc
+to_pass_or_passed (Some (call.Exit exit.Start)) k j a b = let d : false ≡ true = a in cc
+to_pass_or_passed c k j a b = let d : false ≡ true = a in cc
 
 -- a touch that fills an index holds its slot
 pub fills_slot : (c : Option Call) (k : ℕ × ℕ) → fills c ≡ Some k → slot_held c ≡ Some k
@@ -112,11 +112,11 @@ no_passer g s t f h held none u j e =
     cc
 
 -- an index that is reached isn't passed
-pub reached_not_passed : (g : Geometry) (s : State) (f i : ℕ) → Inv g s → Reached s.size (λ u. ahead (s.calls u)) f i → (u : ℕ)
+pub reached_not_passed : (g : Geometry) (s : State) (f i : ℕ) → Inv g s → Reached s.size (λ u. to_pass (s.calls u)) f i → (u : ℕ)
     → passed (s.calls u) f i ≡ true → ⊥
 reached_not_passed g s f i h r u e = elim r [
   | inl l ↦ (let p = h.sweep.past u f i e in let q : s.size f ≤ i = p.1 in absurd (omega arith))
   | inr a ↦ (let d : a.0 ≡ u = same_holder a.0 u (s.locks f)
-      (locks_file g s a.0 f h (ahead_locked (s.calls a.0) f i a.1)) (locks_file g s u f h (passed_locked (s.calls u) f i e)) in
-      ahead_or_passed (s.calls u) f i (ap (λ (w : ℕ). ahead (s.calls w) f i) (sym d) ∙ a.1) e)
+      (locks_file g s a.0 f h (to_pass_locked (s.calls a.0) f i a.1)) (locks_file g s u f h (passed_locked (s.calls u) f i e)) in
+      to_pass_or_passed (s.calls u) f i (ap (λ (w : ℕ). to_pass (s.calls w) f i) (sym d) ∙ a.1) e)
 ]

@@ -9,7 +9,7 @@ use Rattle.hp_base.proofs.Puts.{put_same}
 use Rattle.hp_machine.specs.State.{Pool, State, pool_of, slot_of}
 use Rattle.hp_machine.specs.PunchRows.{PunchRow}
 use Rattle.hp_machine.specs.TruncateRows.{TruncateRow}
-use Rattle.hp_machine.specs.Events.{CallRow, told, left, word_of}
+use Rattle.hp_machine.specs.Events.{CallRow, outcome_of, left, word_of}
 use Rattle.hp_machine.specs.Views.{locked_file}
 use Rattle.hp_machine.specs.declared.punch.Hole.{Hole}
 use Rattle.hp_machine.specs.declared.punch.PunchPhase.{PunchPhase}
@@ -236,8 +236,8 @@ truncate_removes (truncate.Leave p) q k j same e =
 
 -- so by the rows of a punch, where it isn't blocked
 punch_next : (s : State) (t : ℕ) (killed grant : Bool) (phase : PunchPhase) (turn : Turn PunchPhase) (new : Pool) (k j : ℕ)
-    → PunchRow (pool_of s) t killed grant phase turn new → ((u : ℕ) → told call.Punch turn ≡ outcome.Blocked u → ⊥)
-    → removes (left call.Punch turn) k j ≡ true → Removes (call.Punch phase) (told call.Punch turn) k j
+    → PunchRow (pool_of s) t killed grant phase turn new → ((u : ℕ) → outcome_of call.Punch turn ≡ outcome.Blocked u → ⊥)
+    → removes (left call.Punch turn) k j ≡ true → Removes (call.Punch phase) (outcome_of call.Punch turn) k j
 punch_next s t killed grant phase (Moved q) new k j row free e =
     punch_removes phase q k j (punch_hole s t killed grant phase q (Moved q) new row refl) e
 punch_next s t killed grant phase (Blocked q u) new k j row free e = absurd (free u refl)
@@ -245,8 +245,8 @@ punch_next s t killed grant phase (Ended a) new k j row free e = never e
 
 -- and by those of a truncation
 truncate_next : (s : State) (t : ℕ) (killed grant : Bool) (phase : TruncatePhase) (turn : Turn TruncatePhase) (new : Pool) (k j : ℕ)
-    → TruncateRow (pool_of s) t killed grant phase turn new → ((u : ℕ) → told call.Truncate turn ≡ outcome.Blocked u → ⊥)
-    → removes (left call.Truncate turn) k j ≡ true → Removes (call.Truncate phase) (told call.Truncate turn) k j
+    → TruncateRow (pool_of s) t killed grant phase turn new → ((u : ℕ) → outcome_of call.Truncate turn ≡ outcome.Blocked u → ⊥)
+    → removes (left call.Truncate turn) k j ≡ true → Removes (call.Truncate phase) (outcome_of call.Truncate turn) k j
 truncate_next s t killed grant phase (Moved q) new k j row free e =
     truncate_removes phase q k j (truncate_cut s t killed grant phase q (Moved q) new row refl) e
 truncate_next s t killed grant phase (Blocked q u) new k j row free e = absurd (free u refl)

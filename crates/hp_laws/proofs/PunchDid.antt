@@ -6,7 +6,7 @@ use Rattle.hp_base.specs.Numbers.{bit}
 use Rattle.hp_base.specs.Indices.{splits}
 use Rattle.hp_base.specs.declared.answer.Answer.TheVariants as answer
 use Rattle.hp_base.proofs.Puts.{put_same, put2_same}
-use Rattle.hp_machine.specs.Views.{less, used_owed}
+use Rattle.hp_machine.specs.Views.{behind, used_ahead}
 use Rattle.hp_machine.specs.declared.call.Call.{Call}
 use Rattle.hp_machine.specs.PunchRows.{PunchRow}
 use Rattle.hp_machine.specs.declared.punch.PunchPhase.{PunchPhase}
@@ -156,8 +156,8 @@ punch_did s t killed grant (at.Free p) turn new h one l e row =
     let y = stands_at s t _ h e in
     let here : Option Call = Some (call.Punch (at.Free p)) in
     by_test p.denied row
-    (λ denied r. let owes : less here ≡ 1 = ap bit denied in
-    let no_use : used_owed here ≡ 0 = ap (λ (b : Bool). bit (not b)) denied in
+    (λ denied r. let owes : behind here ≡ 1 = ap bit denied in
+    let no_use : used_ahead here ≡ 0 = ap (λ (b : Bool). bit (not b)) denied in
     went call.Punch s t (at.Free p) _ turn new (Restores p.held) r (λ _ _. omega arith) (record {
       same = refl;
       some = refl;
@@ -167,8 +167,8 @@ punch_did s t killed grant (at.Free p) turn new h one l e row =
       fill = tt;
       own = record { slot = y.slot; lock = y.lock; facts = record { aim = y.facts.aim } };
     }))
-    (λ done r. let owes : less here ≡ 0 = ap bit done in
-    let one_use : used_owed here ≡ 1 = ap (λ (b : Bool). bit (not b)) done in
+    (λ done r. let owes : behind here ≡ 0 = ap bit done in
+    let one_use : used_ahead here ≡ 1 = ap (λ (b : Bool). bit (not b)) done in
     went call.Punch s t (at.Free p) _ turn new (FreesUnreserved p.held) r.1 (λ _ _. omega arith) (record {
       used = r.0;
       same = refl;

@@ -11,9 +11,9 @@ use Rattle.hp_base.proofs.Sets.{vacant_evict, vacant_drop}
 use Rattle.hp_frames.specs.declared.frame.FrameState.TheVariants as state
 use Rattle.hp_frames.specs.Bank.{is_free}
 use Rattle.hp_machine.specs.State.{Geometry, State, slot_of, free_frames}
-use Rattle.hp_machine.specs.Views.{less, more, used_owed, hand, change_in}
+use Rattle.hp_machine.specs.Views.{behind, ahead, used_ahead, hand, change_in}
 use Rattle.hp_machine.specs.declared.call.Call.{Call}
-use Rattle.hp_laws.specs.Sweep.{fills, ahead}
+use Rattle.hp_laws.specs.Sweep.{fills, to_pass}
 use Rattle.hp_laws.proofs.Deciding.{some_same}
 use Rattle.hp_laws.proofs.Moves.{Placing, evicts_frame}
 use Rattle.hp_laws.proofs.Standing.{HasSlot, HasLock, Stands}
@@ -32,10 +32,10 @@ page_marked g s f i x h p = is_marked (s.reserved f i) refl
 -- a page goes into the call's hand
 pub evicts : (g : Geometry) (s : State) (t : ℕ) (b c : Option Call) (f i x : ℕ) → Inv g s → t < g.tasks + 1 → s.calls t ≡ b → f < g.files
     → sweeps c ≡ sweeps b → holds c ≡ holds b → hand b ≡ None → hand c ≡ Some x → change_in c ≡ change_in b
-    → less c + more b ≡ less b + more c + 1 → used_owed c ≡ used_owed b
+    → behind c + ahead b ≡ behind b + ahead c + 1 → used_ahead c ≡ used_ahead b
     → s.pages f i ≡ Some x → HasSlot g s t f i
     → ((w v y : ℕ) → s.entries w v ≡ Some y → find (s.mappings w) v ≡ Some (f, i) → ⊥)
-    → IfSome (fills c) (λ k. Reached s.size (λ u. ahead (s.calls u)) k.0 k.1)
+    → IfSome (fills c) (λ k. Reached s.size (λ u. to_pass (s.calls u)) k.0 k.1)
     → Stands g (record s { pool = record s.pool { pages = put2 s.pages f i None; frame = put s.frame x state.Hand } }) t c
     → Inv g (to (record s { pool = record s.pool { pages = put2 s.pages f i None; frame = put s.frame x state.Hand } }) t c)
 evicts g s t b c f i x h l e in_files same same_held none some same_change balance owed page held cleared fill own =
@@ -69,7 +69,6 @@ evicts g s t b c f i x h l e in_files same same_held none some same_change balan
       };
       sweep =
           record {
-            below = h.sweep.below;
             gone = h.sweep.gone;
             past = λ u k j a. let o = h.sweep.past u k j a in
                 (bare_still k j o.0, o.1);
@@ -132,9 +131,9 @@ evicts g s t b c f i x h l e in_files same same_held none some same_change balan
 pub deletes : (g : Geometry) (s : State) (t : ℕ) (b c : Option Call) (f i spare : ℕ) → Inv g s → t < g.tasks + 1 → s.calls t ≡ b
     → f < g.files → i < g.limit
     → sweeps c ≡ sweeps b → holds c ≡ holds b → hand c ≡ hand b → change_in c ≡ change_in b
-    → less b + more c ≡ less c + more b + 1 → used_owed c ≡ used_owed b + 1 → s.pending f ≤ spare
+    → behind b + ahead c ≡ behind c + ahead b + 1 → used_ahead c ≡ used_ahead b + 1 → s.pending f ≤ spare
     → s.reserved f i ≡ true → s.pages f i ≡ None → HasSlot g s t f i → HasLock s t f
-    → IfSome (fills c) (λ k. Reached s.size (λ u. ahead (s.calls u)) k.0 k.1)
+    → IfSome (fills c) (λ k. Reached s.size (λ u. to_pass (s.calls u)) k.0 k.1)
     → Stands g (record s { pool = record s.pool { reserved = put2 s.reserved f i false; spare = put s.spare f spare } }) t c
     → Inv g (to (record s { pool = record s.pool { reserved = put2 s.reserved f i false; spare = put s.spare f spare } }) t c)
 deletes g s t b c f i spare h l e in_files in_limit same same_held same_hand same_change balance owed spares marked bare
@@ -165,7 +164,6 @@ deletes g s t b c f i spare h l e in_files in_limit same same_held same_hand sam
       };
       sweep =
           record {
-            below = h.sweep.below;
             past = h.sweep.past;
             gone = λ u k j a. elim (put2_tells s.reserved f i false k j) [ inl q ↦ q.2 | inr q ↦ q.1 ∙ h.sweep.gone u k j a ];
           };

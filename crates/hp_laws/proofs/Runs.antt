@@ -16,8 +16,8 @@ use Rattle.hp_frames.specs.declared.frame.FrameState.{FrameState}
 use Rattle.hp_frames.specs.declared.frame.FrameState.TheVariants as state
 use Rattle.hp_machine.specs.State.{Geometry, Pool, State, pool_of, with_pool, is_alive, is_killed, is_dead}
 use Rattle.hp_machine.specs.Events.{Row, CallRow, BeginRow, StepRow, KillRow, Run, IsReached, opening, first, is_exit, lives_after}
-use Rattle.hp_machine.specs.Headline.{Headline, Place, Free, Hand, Page, Retired, IsAt, OnePlace}
-use Rattle.hp_machine.specs.Views.{less, more}
+use Rattle.hp_machine.specs.Headline.{Headline, IsBelow, Place, Free, Hand, Page, Retired, IsAt, OnePlace, vacant_in}
+use Rattle.hp_machine.specs.Views.{behind, ahead}
 use Rattle.hp_machine.specs.declared.outcome.Life.{Life}
 use Rattle.hp_machine.specs.declared.outcome.Life.TheVariants as life
 use Rattle.hp_machine.specs.declared.outcome.Outcome.{Outcome}
@@ -26,10 +26,11 @@ use Rattle.hp_machine.specs.declared.call.Call.TheVariants as call
 use Rattle.hp_laws.proofs.Deciding.{never}
 use Rattle.hp_laws.proofs.Invariant
 use Rattle.hp_laws.proofs.Invariant.{Inv, stays}
-use Rattle.hp_laws.proofs.Passing.{ahead_locked, locks_file}
+use Rattle.hp_laws.proofs.Passing.{to_pass_locked, locks_file}
 use Rattle.hp_laws.proofs.Resizing.{reframed, resize_cases, shift_keeps}
 use Rattle.hp_laws.proofs.Shared.{by_test, by_option}
 use Rattle.hp_laws.proofs.ByWrite.{keeps_inv}
+use Rattle.hp_laws.proofs.Reaching.{AllReached, call_finds, goes_first, step_reaches}
 use Rattle.hp_laws.proofs.Steps.{call_did}
 
 -- tasks that aren't there are dead, and a dead task has no call in flight
@@ -43,7 +44,7 @@ pub record Always (s : State) : Type 0 where
   pub lives : Lives s.geometry.tasks s.life s.calls
 
 -- life stands for itself
-life_set : (g : Geometry) (s : State) (lives : ℕ → Life) → Inv g s → Inv g (record s { life = lives })
+pub life_set : (g : Geometry) (s : State) (lives : ℕ → Life) → Inv g s → Inv g (record s { life = lives })
 life_set g s lives h =
     record {
       layout = h.layout;
@@ -84,7 +85,7 @@ call_keeps s t killed grant c o new next h one l e row =
     keeps_inv s t c o new next h one l e (call_did s t killed grant c o new next h one l e row)
 
 -- a task dies only where no call is left
-lives_on : (tasks : ℕ) (lives : ℕ → Life) (calls : ℕ → Option Call) (t : ℕ) (c : Call) (next : Option Call)
+pub lives_on : (tasks : ℕ) (lives : ℕ → Life) (calls : ℕ → Option Call) (t : ℕ) (c : Call) (next : Option Call)
     → Lives tasks lives calls → calls t ≡ Some c → Lives tasks (lives_after lives t c next) (put calls t next)
 lives_on tasks lives calls t c next h e = here c next refl
   where
@@ -192,6 +193,34 @@ row_keeps s (Resize size) o n h row = resize_cases s size o n (Always n) row
       lives = h.lives;
     }))
 
+-- and what is translated stays reached
+pub row_reaches : (s : State) (event : Event) (o : Outcome) (n : State) → Always s → AllReached s → Row s event o n → AllReached n
+unfolding BeginRow StepRow KillRow
+row_reaches s (Begin t p) o n h k row =
+    by_test (is_dead (s.life t)) row
+    (λ dead r. subst AllReached (sym r.1) k)
+    (λ lives r. by_option (s.calls t) r
+    (λ none r. by_test (is_killed (s.life t) && not (is_exit p)) r
+    (λ killed r. subst AllReached (sym r.1) k)
+    (λ may r. subst AllReached (sym r.1) (goes_first s t p none k)))
+    (λ c some r. subst AllReached (sym r.1) k))
+row_reaches s (Step t grant) o n h k row =
+    by_test (is_dead (s.life t)) row
+    (λ dead r. subst AllReached (sym r.1) k)
+    (λ lives r. by_option (s.calls t) r
+    (λ none r. subst AllReached (sym r.1) k)
+    (λ c some r. let is = h.lives.there t lives in
+    let did = call_did s t (is_killed (s.life t)) grant c o r.0 r.1 h.inv is.0 (let a = is.1 in omega arith) some r.2 in
+    let finds = call_finds s t (is_killed (s.life t)) grant c o r.0 r.1 h.inv some r.2 in
+    subst AllReached (sym r.3) (step_reaches s t c o r.0 r.1 h.inv some did finds k)))
+row_reaches s (Kill t) o n h k row =
+    by_test (is_alive (s.life t)) row
+    (λ alive r. subst AllReached (sym r.1) k)
+    (λ not r. subst AllReached (sym r.1) k)
+row_reaches s (Resize size) o n h k row = resize_cases s size o n (AllReached n) row
+    (λ why _ d. subst AllReached (sym d) k)
+    (λ told m frame _ shifts covered d. subst AllReached (sym d) k)
+
 -- and the measures
 pub measures_stay : (s : State) (event : Event) (o : Outcome) (n : State) → Always s → Row s event o n → n.geometry ≡ s.geometry
 unfolding BeginRow StepRow KillRow
@@ -223,6 +252,12 @@ measures_stay s (Resize size) o n h row = resize_cases s size o n (n.geometry �
 pub run_keeps : (s : State) (es : List (Event × Outcome)) (n : State) → Always s → Run s es n → Always n
 run_keeps s [] n h r = subst Always (sym r) h
 run_keeps s (e ∷ es) n h r = run_keeps r.0 es n (row_keeps s e.0 e.1 r.0 h r.1) r.2
+
+-- and it keeps what is translated reached
+pub run_reaches : (s : State) (es : List (Event × Outcome)) (n : State) → Always s → AllReached s → Run s es n → AllReached n
+run_reaches s [] n h k r = subst AllReached (sym r) k
+run_reaches s (e ∷ es) n h k r =
+    run_reaches r.0 es n (row_keeps s e.0 e.1 r.0 h r.1) (row_reaches s e.0 e.1 r.0 h k r.1) r.2
 
 -- nothing is in use at first
 opening_place : (frames : ℕ) → OnePlace frames (λ x. if nat_lt x frames then state.Free else state.Hand) (λ _. None) (λ _ _. None)
@@ -289,7 +324,7 @@ opens_well g frames = record {
     place = record { one = opening_place frames; hands = λ t x d. no_value d; pages = λ f i x d. no_value d };
     entries = record { agree = λ t v x d. no_value d; owners = λ t v x d. no_value d };
     inside = record { bare = λ f i d. refl; within = λ f i d. never d };
-    sweep = record { below = λ t v x f i d e. no_value d; past = λ u f j d. never d; gone = λ u f j d. never d };
+    sweep = record { past = λ u f j d. never d; gone = λ u f j d. never d };
     reach = λ w. tt;
     sizes = λ f. omega arith;
     changes = λ f. sym (total_none (g.tasks + 1));
@@ -305,31 +340,52 @@ opens_well g frames = record {
     here t true e d = (grind (arith, nat_tests), grind (arith, nat_tests))
     here t false e d = (let z : true ≡ false = d in absurd (cc))
 
+-- and translates nothing
+pub opens_reached : (g : Geometry) (frames : ℕ) → AllReached (opening g frames)
+opens_reached g frames = record { below = λ t v x f i d e. no_value d; found = λ w. tt }
+
 -- what holds in every reached state
 pub always : (s : State) → IsReached s → Always s
 always s (frames, (events, run)) = run_keeps (opening s.geometry frames) events s (opens_well s.geometry frames) run
 
--- so the headline holds in every reached state
-pub headline : (s : State) → IsReached s → Headline s
-headline s reached =
-    let h = (always s reached).inv in
+-- and what is translated there is reached
+pub all_reached : (s : State) → IsReached s → AllReached s
+all_reached s (frames, (events, run)) =
+    run_reaches (opening s.geometry frames) events s (opens_well s.geometry frames) (opens_reached s.geometry frames) run
+
+-- so it lies below the size where no truncation is under way
+pub below_of : (s : State) → Always s → AllReached s → IsBelow s
+below_of s kept reached t v x f i d e unlocked = elim (reached.below t v x f i d e) [
+  | inl l ↦ l
+  | inr a ↦ (let y : s.locks f ≡ Some a.0 = locks_file s.geometry s a.0 f kept.inv
+      (to_pass_locked (s.calls a.0) f i a.1) in no_value (sym unlocked ∙ y))
+]
+
+-- where no call owes anything the count is that of the vacant indices
+pub settled_of : (s : State) → Always s → ((t : ℕ) → (behind (s.calls t) ≡ 0) × (ahead (s.calls t) ≡ 0)) → s.resv ≡ vacant_in s
+settled_of s kept none =
+    let a : total (s.geometry.tasks + 1) (λ u. behind (s.calls u)) ≡ 0 =
+    total_same (s.geometry.tasks + 1) (λ _. 0) _ (λ j l. (none j).0) ∙ total_none (s.geometry.tasks + 1) in
+    let b : total (s.geometry.tasks + 1) (λ u. ahead (s.calls u)) ≡ 0 =
+    total_same (s.geometry.tasks + 1) (λ _. 0) _ (λ j l. (none j).1) ∙ total_none (s.geometry.tasks + 1) in
+    let c = kept.inv.count in
+    omega arith
+
+-- so the headline holds of it
+pub headline_of : (s : State) → Always s → AllReached s → Headline s
+headline_of s kept reached =
+    let h = kept.inv in
     record {
       agree = h.entries.agree;
       place = h.place.one;
-      below = λ t v x f i d e unlocked. elim (h.sweep.below t v x f i d e) [
-        | inl l ↦ l
-        | inr a ↦ (let y : s.locks f ≡ Some a.0 = locks_file s.geometry s a.0 f h
-            (ahead_locked (s.calls a.0) f i a.1) in no_value (sym unlocked ∙ y))
-      ];
+      below = below_of s kept reached;
       count = h.count;
       enough = h.enough;
-      settled = λ none.
-          let a : total (s.geometry.tasks + 1) (λ u. less (s.calls u)) ≡ 0 =
-          total_same (s.geometry.tasks + 1) (λ _. 0) _ (λ j l. (none j).0) ∙ total_none (s.geometry.tasks + 1) in
-          let b : total (s.geometry.tasks + 1) (λ u. more (s.calls u)) ≡ 0 =
-          total_same (s.geometry.tasks + 1) (λ _. 0) _ (λ j l. (none j).1) ∙ total_none (s.geometry.tasks + 1) in
-          let c = h.count in
-          omega arith;
+      settled = settled_of s kept;
       used = h.used;
       within = h.quota;
     }
+
+-- and in every reached state
+pub headline : (s : State) → IsReached s → Headline s
+headline s reached = headline_of s (always s reached) (all_reached s reached)

@@ -14,7 +14,7 @@ use Rattle.hp_frames.specs.declared.frame.FrameState.TheVariants as state
 use Rattle.hp_machine.specs.State.{Geometry, Pool, State, pool_of, with_pool, slot_of, is_killed}
 use Rattle.hp_machine.specs.Parts.{answer_of}
 use Rattle.hp_machine.specs.TouchRows.{TouchRow}
-use Rattle.hp_machine.specs.Events.{Row, CallRow, Run, IsReached, first, told, left, lives_after}
+use Rattle.hp_machine.specs.Events.{Row, CallRow, Run, IsReached, first, outcome_of, left, lives_after}
 use Rattle.hp_machine.specs.declared.touch.Access.{Access}
 use Rattle.hp_machine.specs.declared.touch.Access.TheVariants.{Load, Store}
 use Rattle.hp_machine.specs.declared.touch.Touch.{Touch}
@@ -328,7 +328,7 @@ unfolding CallRow
 touch_call_takes s t killed grant p o pool next alive none (turn, row, tells, leaves) = by_test killed row
     (λ is r. clash killed is alive)
     (λ _ r. by_test (p.pending.missing == 0) r
-    (λ _ r. (r.0, r.1, tells ∙ ap (told call.Touch) r.3.0, leaves ∙ ap (left call.Touch) r.3.0))
+    (λ _ r. (r.0, r.1, tells ∙ ap (outcome_of call.Touch) r.3.0, leaves ∙ ap (left call.Touch) r.3.0))
     (λ some r. nil_passes p.pending.missing none some))
 
 -- and so in every reached state
@@ -353,7 +353,7 @@ unfolding CallRow
 alloc_call_takes s t killed grant p o pool next alive none (turn, row, tells, leaves) = by_test killed row
     (λ is r. clash killed is alive)
     (λ _ r. by_test (p.pending.missing == 0) r
-    (λ _ r. (r.0, r.1, tells ∙ ap (told call.Alloc) r.3.0, leaves ∙ ap (left call.Alloc) r.3.0))
+    (λ _ r. (r.0, r.1, tells ∙ ap (outcome_of call.Alloc) r.3.0, leaves ∙ ap (left call.Alloc) r.3.0))
     (λ some r. nil_passes p.pending.missing none some))
 
 -- and so in every reached state

@@ -14,7 +14,7 @@ use Rattle.hp_frames.specs.declared.frame.FrameState.TheVariants as state
 use Rattle.hp_machine.specs.State.{Pool, State, pool_of, with_pool, is_killed}
 use Rattle.hp_machine.specs.Parts.{CommitRow, TakeRow, answer_of}
 use Rattle.hp_machine.specs.TouchRows.{TouchRow}
-use Rattle.hp_machine.specs.Events.{Row, CallRow, first, told, left, word_of, lives_after}
+use Rattle.hp_machine.specs.Events.{Row, CallRow, first, outcome_of, left, word_of, lives_after}
 use Rattle.hp_machine.specs.declared.touch.Access.{Access}
 use Rattle.hp_machine.specs.declared.touch.Access.TheVariants.{Load, Store}
 use Rattle.hp_machine.specs.declared.touch.Missing.{Missing}
@@ -141,7 +141,7 @@ next_well on ends (Ended a) h = tt
 
 -- and of the answer that it tells
 end_well : (on : TouchPhase → Type 0) (ends : Answer → Type 0) (turn : Turn TouchPhase) (b : Answer)
-    → TurnWell TouchPhase on ends turn → outcome.Ended b ≡ told call.Touch turn → ends b
+    → TurnWell TouchPhase on ends turn → outcome.Ended b ≡ outcome_of call.Touch turn → ends b
 end_well on ends (Moved p) b h e = (let z : outcome.Ended b ≡ outcome.Moved (word_of (call.Touch p)) = e in absurd (cc))
 end_well on ends (Blocked p u) b h e = (let z : outcome.Ended b ≡ outcome.Blocked u = e in absurd (cc))
 end_well on ends (Ended a) b h e = subst ends (same (sym e)) h

@@ -9,9 +9,9 @@ use Rattle.hp_base.proofs.Sets.{missing_one, add_range_has}
 use Rattle.hp_region.specs.Change.{Change}
 use Rattle.hp_machine.specs.State.{Geometry, State, pool_of, free_frames, frees}
 use Rattle.hp_machine.specs.Parts.{is_bad_range}
-use Rattle.hp_machine.specs.Views.{more, hand, change_in}
+use Rattle.hp_machine.specs.Views.{ahead, hand, change_in}
 use Rattle.hp_machine.specs.declared.call.Call.{Call}
-use Rattle.hp_laws.specs.Sweep.{fills, ahead}
+use Rattle.hp_laws.specs.Sweep.{fills, to_pass}
 use Rattle.hp_laws.proofs.Deciding.{is_nil, not_nil}
 use Rattle.hp_laws.proofs.Standing.{IsOne, Stands}
 use Rattle.hp_laws.proofs.Invariant.{Reached, Inv, sweeps, holds, stays, to}
@@ -38,16 +38,16 @@ stands_at s t c h e = subst (Stands s.geometry s t) e (h.stands t)
 
 -- the index that the call fills is reached
 pub reach_at : (s : State) (t : ℕ) (c : Option Call) → Inv s.geometry s → s.calls t ≡ c
-    → IfSome (fills c) (λ k. Reached s.size (λ u. ahead (s.calls u)) k.0 k.1)
-reach_at s t c h e = subst (λ d. IfSome (fills d) (λ k. Reached s.size (λ u. ahead (s.calls u)) k.0 k.1)) e (h.reach t)
+    → IfSome (fills c) (λ k. Reached s.size (λ u. to_pass (s.calls u)) k.0 k.1)
+reach_at s t c h e = subst (λ d. IfSome (fills d) (λ k. Reached s.size (λ u. to_pass (s.calls u)) k.0 k.1)) e (h.reach t)
 
 -- a call waits where it stands
 pub waits : (s : State) (t : ℕ) (c : Option Call) → Inv s.geometry s → t < s.geometry.tasks + 1 → s.calls t ≡ c → Inv s.geometry (to s t c)
 waits s t c h l e = stays s.geometry s t c c h l e refl (reach_at s t c h e) (stands_at s t c h e)
 
 -- a call that fills none has nothing to reach
-pub no_fill : (s : State) (c : Option Call) → fills c ≡ None → IfSome (fills c) (λ k. Reached s.size (λ u. ahead (s.calls u)) k.0 k.1)
-no_fill s c e = subst (λ (o : Option (ℕ × ℕ)). IfSome o (λ k. Reached s.size (λ u. ahead (s.calls u)) k.0 k.1)) (sym e) tt
+pub no_fill : (s : State) (c : Option Call) → fills c ≡ None → IfSome (fills c) (λ k. Reached s.size (λ u. to_pass (s.calls u)) k.0 k.1)
+no_fill s c e = subst (λ (o : Option (ℕ × ℕ)). IfSome o (λ k. Reached s.size (λ u. to_pass (s.calls u)) k.0 k.1)) (sym e) tt
 
 -- a range that passes its check is not empty, and lies within the limit
 pub good_range : (s : State) (from len : ℕ) → is_bad_range (pool_of s) from len ≡ false → (1 ≤ len) × (from + len ≤ s.geometry.limit)
@@ -61,7 +61,7 @@ steady c = (sweeps c, holds c, hand c)
 -- and through a take
 abbrev pub unhanded : Option Call
     → ((ℕ → ℕ → Bool) × (ℕ → ℕ → Bool) × (ℕ → ℕ → Bool)) × (Option (ℕ × ℕ) × Option ℕ) × Option ℕ × ℕ
-unhanded c = (sweeps c, holds c, change_in c, more c)
+unhanded c = (sweeps c, holds c, change_in c, ahead c)
 
 -- where the free frames aren't as many as the reserve count, there is one more than that
 pub free_left : (s : State) → Inv s.geometry s → (frees (pool_of s) == s.resv) ≡ false → s.resv + 1 ≤ free_frames s.frame s.frames

@@ -2,7 +2,7 @@
 use Rattle.std.proofs.Common.{◌≡◌, ℕ, ◌+◌, ◌<◌, ◌≤◌, subst}
 use Rattle.std.specs.Prelude.{Bool, Option, Some}
 use Rattle.hp_machine.specs.State.{Pool, State, pool_of}
-use Rattle.hp_machine.specs.Events.{CallRow, told, left}
+use Rattle.hp_machine.specs.Events.{CallRow, outcome_of, left}
 use Rattle.hp_machine.specs.declared.outcome.Outcome.{Outcome}
 use Rattle.hp_machine.specs.declared.call.Call.{Call}
 use Rattle.hp_machine.specs.declared.call.Call.TheVariants as call
@@ -17,8 +17,8 @@ use Rattle.hp_laws.proofs.TruncateDid.{truncate_did}
 use Rattle.hp_laws.proofs.UnmapDid.{unmap_did, exit_did}
 
 -- a turn as it is told, with the call that it leaves
-as_told : {P : Type 0} (call : P → Call) (s : State) (t : ℕ) (here : P) (turn : Turn P) (new : Pool) (o : Outcome) (next : Option Call)
-    → o ≡ told call turn → next ≡ left call turn → Did call s t here turn new → Stepped s t (call here) o new next
+pub as_told : {P : Type 0} (call : P → Call) (s : State) (t : ℕ) (here : P) (turn : Turn P) (new : Pool) (o : Outcome) (next : Option Call)
+    → o ≡ outcome_of call turn → next ≡ left call turn → Did call s t here turn new → Stepped s t (call here) o new next
 as_told call s t here turn new o next tells leaves d =
     subst (λ (p : Outcome × Option Call). Stepped s t (call here) p.0 new p.1) (pair tells leaves) d
   where

@@ -9,9 +9,9 @@ use Rattle.hp_base.specs.declared.mapping.Mapping.{Mapping}
 use Rattle.hp_base.proofs.Puts.{put_same, put_other, same_or_other, put_tells, put2_tells}
 use Rattle.hp_base.proofs.Spaces.{fits_clear, entered_find, entered_spread, without_find, without_spread}
 use Rattle.hp_machine.specs.State.{Geometry, State, slot_of}
-use Rattle.hp_machine.specs.Views.{less, more}
+use Rattle.hp_machine.specs.Views.{behind, ahead}
 use Rattle.hp_machine.specs.declared.call.Call.{Call}
-use Rattle.hp_laws.specs.Sweep.{fills, ahead, passed}
+use Rattle.hp_laws.specs.Sweep.{fills, to_pass, passed}
 use Rattle.hp_laws.proofs.Deciding.{some_same}
 use Rattle.hp_laws.proofs.Standing.{HasSlot, HasLock, ClearedBelow, Stands}
 use Rattle.hp_laws.proofs.Staying.{same_files, same_tables, stands_after}
@@ -19,7 +19,7 @@ use Rattle.hp_laws.proofs.Invariant.{AllWithin, Reached, Inv, goes, reserved_of,
 use Rattle.hp_laws.proofs.Passing.{same_holder}
 
 -- the mappings lie within their files, where one that does is entered
-within_entered : (g : Geometry) (ms : List Mapping) (a : Mapping) → a.file < g.files → a.from + a.len ≤ g.limit → AllWithin g ms
+pub within_entered : (g : Geometry) (ms : List Mapping) (a : Mapping) → a.file < g.files → a.from + a.len ≤ g.limit → AllWithin g ms
     → AllWithin g (entered ms a)
 within_entered g [] a l m h = (l, m, tt)
 within_entered g (b ∷ ms) a l m h = here (nat_lt a.base b.base) (within_entered g ms a l m h.2)
@@ -29,7 +29,7 @@ within_entered g (b ∷ ms) a l m h = here (nat_lt a.base b.base) (within_entere
     here false rest = (h.0, h.1, rest)
 
 -- and where one is taken away
-within_without : (g : Geometry) (ms : List Mapping) (base : ℕ) → AllWithin g ms → AllWithin g (without ms base)
+pub within_without : (g : Geometry) (ms : List Mapping) (base : ℕ) → AllWithin g ms → AllWithin g (without ms base)
 within_without g [] base h = tt
 within_without g (a ∷ ms) base h = here (within_without g ms base h.2) (a.base == base)
   where
@@ -56,17 +56,17 @@ find_within g (a ∷ ms) v k h e = here (covers a v) refl (find_within g ms v k 
     here false d rest p = rest p
 
 -- what is below a size, or ahead of a truncation, is so where sizes have grown
-reached_more : (size more : ℕ → ℕ) (a : ℕ → ℕ → ℕ → Bool) (f i : ℕ) → size f ≤ more f → Reached size a f i → Reached more a f i
+pub reached_more : (size more : ℕ → ℕ) (a : ℕ → ℕ → ℕ → Bool) (f i : ℕ) → size f ≤ more f → Reached size a f i → Reached more a f i
 reached_more size more a f i l r = elim r [ inl d ↦ inl (omega arith) | inr d ↦ inr d ]
 
 -- a table entry is written
 pub enters_table : (g : Geometry) (s : State) (t : ℕ) (b c : Option Call) (v f i x : ℕ) → Inv g s → 1 ≤ t → t < g.tasks + 1
     → s.calls t ≡ b → seen c ≡ seen b
-    → find (s.mappings t) v ≡ Some (f, i) → s.pages f i ≡ Some x → i < s.size f → HasSlot g s t f i
-    → IfSome (fills c) (λ k. Reached s.size (λ u. ahead (s.calls u)) k.0 k.1)
+    → find (s.mappings t) v ≡ Some (f, i) → s.pages f i ≡ Some x → HasSlot g s t f i
+    → IfSome (fills c) (λ k. Reached s.size (λ u. to_pass (s.calls u)) k.0 k.1)
     → Stands g (record s { pool = record s.pool { entries = put2 s.entries t v (Some x) } }) t c
     → Inv g (to (record s { pool = record s.pool { entries = put2 s.entries t v (Some x) } }) t c)
-enters_table g s t b c v f i x h one l e same there page low held fill own =
+enters_table g s t b c v f i x h one l e same there page held fill own =
     goes g s n t b c h l e (ap (λ p. p.4) same) (ap (λ p. p.5) same) (record {
       layout = h.layout;
       inside = h.inside;
@@ -76,7 +76,7 @@ enters_table g s t b c v f i x h one l e same there page low held fill own =
       spares = h.spares;
       holders = h.holders;
       enough = h.enough;
-      count = (let y : less c ≡ less b = ap (λ p. p.0) same in let z : more c ≡ more b = ap (λ p. p.1) same in omega arith);
+      count = (let y : behind c ≡ behind b = ap (λ p. p.0) same in let z : ahead c ≡ ahead b = ap (λ p. p.1) same in omega arith);
       used = same_used s.used (reserved_of g s.reserved) b c (ap (λ p. p.6) same);
       quota = h.quota;
       place = place_same g s t b c h e (ap (λ p. p.2) same);
@@ -90,14 +90,7 @@ enters_table g s t b c v f i x h one l e same there page low held fill own =
           | inr q ↦ h.entries.owners w z y (sym q.1 ∙ a)
         ];
       };
-      sweep = record {
-        past = h.sweep.past;
-        gone = h.sweep.gone;
-        below = λ w z y k j a d. elim (put2_tells s.entries t v (Some x) w z) [
-          | inl q ↦ inl (low_there k j (sym d ∙ (ap (λ (m : ℕ). find (s.mappings m) z) q.0 ∙ (ap (find (s.mappings t)) q.1 ∙ there))))
-          | inr q ↦ h.sweep.below w z y k j (sym q.1 ∙ a) d
-        ];
-      };
+      sweep = h.sweep;
       changes = same_opens s.pending b c (ap (λ p. p.3) same);
       others = λ u d. stands_after g s n u (s.calls u) (record {
         slot = λ k a. a;
@@ -119,16 +112,13 @@ enters_table g s t b c v f i x h one l e same there page low held fill own =
     n : State
     n = record s { pool = record s.pool { entries = put2 s.entries t v (Some x) } }
 
-    low_there : (k j : ℕ) → ◌≡◌ {A = Option (ℕ × ℕ)} (Some (k, j)) (Some (f, i)) → j < s.size k
-    low_there k j d = subst (λ (m : ℕ × ℕ). m.1 < s.size m.0) (sym (some_same d)) low
-
     slot_there : (u : ℕ) (k : ℕ × ℕ) → ◌≡◌ {A = Option (ℕ × ℕ)} (Some k) (Some (f, i))
         → s.slots (slot_of g k.0 k.1) ≡ Some u → u ≡ t
     slot_there u k d a = some_same (sym a ∙ (ap (λ (m : ℕ × ℕ). s.slots (slot_of g m.0 m.1)) (some_same d) ∙ held))
 
 -- room is ready for a mapping
 pub prepares : (g : Geometry) (s : State) (t : ℕ) (b c : Option Call) → Inv g s → t < g.tasks + 1 → s.calls t ≡ b → seen c ≡ seen b
-    → IfSome (fills c) (λ k. Reached s.size (λ u. ahead (s.calls u)) k.0 k.1)
+    → IfSome (fills c) (λ k. Reached s.size (λ u. to_pass (s.calls u)) k.0 k.1)
     → Stands g (record s { pool = record s.pool { ready = put s.ready t true } }) t c
     → Inv g (to (record s { pool = record s.pool { ready = put s.ready t true } }) t c)
 prepares g s t b c h l e same fill own =
@@ -144,7 +134,7 @@ prepares g s t b c h l e same fill own =
       spares = h.spares;
       holders = h.holders;
       enough = h.enough;
-      count = (let y : less c ≡ less b = ap (λ p. p.0) same in let z : more c ≡ more b = ap (λ p. p.1) same in omega arith);
+      count = (let y : behind c ≡ behind b = ap (λ p. p.0) same in let z : ahead c ≡ ahead b = ap (λ p. p.1) same in omega arith);
       used = same_used s.used (reserved_of g s.reserved) b c (ap (λ p. p.6) same);
       quota = h.quota;
       place = place_same g s t b c h e (ap (λ p. p.2) same);
@@ -186,7 +176,7 @@ low_size size f new limit k a b = grind (arith, put_tells)
 pub extends : (g : Geometry) (s : State) (t : ℕ) (b c : Option Call) (f new : ℕ) → Inv g s → t < g.tasks + 1 → s.calls t ≡ b
     → seen c ≡ seen b
     → HasLock s t f → s.size f ≤ new → new ≤ g.limit → ((u j : ℕ) → passed (s.calls u) f j ≡ true → ⊥)
-    → IfSome (fills c) (λ k. Reached s.size (λ u. ahead (s.calls u)) k.0 k.1)
+    → IfSome (fills c) (λ k. Reached s.size (λ u. to_pass (s.calls u)) k.0 k.1)
     → Stands g (record s { pool = record s.pool { size = put s.size f new } }) t c
     → Inv g (to (record s { pool = record s.pool { size = put s.size f new } }) t c)
 extends g s t b c f new h l e same held grows low nobody fill own =
@@ -197,14 +187,11 @@ extends g s t b c f new h l e same held grows low nobody fill own =
       spares = h.spares;
       holders = h.holders;
       enough = h.enough;
-      count = (let y : less c ≡ less b = ap (λ p. p.0) same in let z : more c ≡ more b = ap (λ p. p.1) same in omega arith);
+      count = (let y : behind c ≡ behind b = ap (λ p. p.0) same in let z : ahead c ≡ ahead b = ap (λ p. p.1) same in omega arith);
       used = same_used s.used (reserved_of g s.reserved) b c (ap (λ p. p.6) same);
       quota = h.quota;
       place = place_same g s t b c h e (ap (λ p. p.2) same);
       sweep = record {
-        below =
-            λ w v x k i d y. reached_more s.size n.size (λ u. ahead (s.calls u)) k i (grown_size s.size f new k grows)
-            (h.sweep.below w v x k i d y);
         past = λ u k j d. let o = h.sweep.past u k j d in (
           o.0,
           elim (put_tells s.size f new k) [
@@ -216,9 +203,9 @@ extends g s t b c f new h l e same held grows low nobody fill own =
       };
       reach =
           λ w. if_weaker (fills (s.calls w))
-          (λ k d r. reached_more s.size n.size (λ u. ahead (s.calls u)) k.0 k.1 (grown_size s.size f new k.0 grows) r) (h.reach w);
+          (λ k d r. reached_more s.size n.size (λ u. to_pass (s.calls u)) k.0 k.1 (grown_size s.size f new k.0 grows) r) (h.reach w);
       fill =
-          if_weaker (fills c) (λ k d r. reached_more s.size n.size (λ u. ahead (s.calls u)) k.0 k.1
+          if_weaker (fills c) (λ k d r. reached_more s.size n.size (λ u. to_pass (s.calls u)) k.0 k.1
           (grown_size s.size f new k.0 grows) r) fill;
       sizes = λ k. low_size s.size f new g.limit k low (h.sizes k);
       changes = same_opens s.pending b c (ap (λ p. p.3) same);
@@ -250,12 +237,23 @@ entering s t a = record s {
   };
 }
 
+-- what was found is found where a mapping is entered that fits
+pub still_found : (s : State) (t : ℕ) (a : Mapping) (space : ℕ) → fits space (s.mappings t) a.base a.len ≡ true
+    → (w v : ℕ) (k : ℕ × ℕ) → find (s.mappings w) v ≡ Some k → find (put s.mappings t (entered (s.mappings t) a) w) v ≡ Some k
+still_found s t a space clear w v k d = elim (same_or_other w t) [
+  | inl q ↦ ap (λ (m : List Mapping). find m v)
+      (ap (put s.mappings t (entered (s.mappings t) a)) q ∙ put_same s.mappings t (entered (s.mappings t) a))
+      ∙ entered_find (s.mappings t) a v k (fits_clear space a.base a.len (s.mappings t) clear).1
+      (ap (λ (m : ℕ). find (s.mappings m) v) (sym q) ∙ d)
+  | inr q ↦ ap (λ (m : List Mapping). find m v) (put_other s.mappings t (entered (s.mappings t) a) w q) ∙ d
+]
+
 -- a mapping is entered, and its file grows
 pub enters_area : (g : Geometry) (s : State) (t : ℕ) (b c : Option Call) (a : Mapping) → Inv g s → t < g.tasks + 1 → s.calls t ≡ b
     → seen c ≡ seen b
     → a.file < g.files → 1 ≤ a.len → a.from + a.len ≤ g.limit → fits g.space (s.mappings t) a.base a.len ≡ true → HasLock s t a.file
     → ((u j : ℕ) → passed (s.calls u) a.file j ≡ true → ⊥)
-    → IfSome (fills c) (λ k. Reached s.size (λ u. ahead (s.calls u)) k.0 k.1)
+    → IfSome (fills c) (λ k. Reached s.size (λ u. to_pass (s.calls u)) k.0 k.1)
     → Stands g (entering s t a) t c → Inv g (to (entering s t a) t c)
 enters_area g s t b c a h l e same in_files some in_limit clear held nobody fill own =
     goes g s n t b c h l e (ap (λ p. p.4) same) (ap (λ p. p.5) same) (record {
@@ -276,15 +274,12 @@ enters_area g s t b c a h l e same in_files some in_limit clear held nobody fill
       spares = h.spares;
       holders = h.holders;
       enough = h.enough;
-      count = (let y : less c ≡ less b = ap (λ p. p.0) same in let z : more c ≡ more b = ap (λ p. p.1) same in omega arith);
+      count = (let y : behind c ≡ behind b = ap (λ p. p.0) same in let z : ahead c ≡ ahead b = ap (λ p. p.1) same in omega arith);
       used = same_used s.used (reserved_of g s.reserved) b c (ap (λ p. p.6) same);
       quota = h.quota;
       place = place_same g s t b c h e (ap (λ p. p.2) same);
       entries = record { owners = h.entries.owners; agree = λ w v x d. let o = h.entries.agree w v x d in (o.0, kept w v o.0 o.1, o.2) };
       sweep = record {
-        below = λ w v x f i d y. let o = h.entries.agree w v x d in
-            reached_more s.size n.size (λ u. ahead (s.calls u)) f i (larger f)
-            (h.sweep.below w v x f i d (o.1 ∙ (sym (kept w v o.0 o.1) ∙ y)));
         past = λ u f j d. let o = h.sweep.past u f j d in (
           o.0,
           elim (put_tells s.size a.file (max (s.size a.file) (a.from + a.len)) f) [
@@ -296,8 +291,8 @@ enters_area g s t b c a h l e same in_files some in_limit clear held nobody fill
       };
       reach =
           λ w. if_weaker (fills (s.calls w))
-          (λ k d r. reached_more s.size n.size (λ u. ahead (s.calls u)) k.0 k.1 (larger k.0) r) (h.reach w);
-      fill = if_weaker (fills c) (λ k d r. reached_more s.size n.size (λ u. ahead (s.calls u)) k.0 k.1 (larger k.0) r) fill;
+          (λ k d r. reached_more s.size n.size (λ u. to_pass (s.calls u)) k.0 k.1 (larger k.0) r) (h.reach w);
+      fill = if_weaker (fills c) (λ k d r. reached_more s.size n.size (λ u. to_pass (s.calls u)) k.0 k.1 (larger k.0) r) fill;
       sizes =
           λ k. low_size s.size a.file (max (s.size a.file) (a.from + a.len)) g.limit k
           (let z = h.sizes a.file in omega arith) (h.sizes k);
@@ -327,12 +322,7 @@ enters_area g s t b c a h l e same in_files some in_limit clear held nobody fill
     apart = fits_clear g.space a.base a.len (s.mappings t) clear
 
     kept : (w v : ℕ) (k : ℕ × ℕ) → find (s.mappings w) v ≡ Some k → find (put s.mappings t (entered (s.mappings t) a) w) v ≡ Some k
-    kept w v k d = elim (same_or_other w t) [
-      | inl q ↦ ap (λ (m : List Mapping). find m v)
-          (ap (put s.mappings t (entered (s.mappings t) a)) q ∙ put_same s.mappings t (entered (s.mappings t) a))
-          ∙ entered_find (s.mappings t) a v k apart.1 (ap (λ (m : ℕ). find (s.mappings m) v) (sym q) ∙ d)
-      | inr q ↦ ap (λ (m : List Mapping). find m v) (put_other s.mappings t (entered (s.mappings t) a) w q) ∙ d
-    ]
+    kept = still_found s t a g.space clear
 
     larger : (f : ℕ) → s.size f ≤ put s.size a.file (max (s.size a.file) (a.from + a.len)) f
     larger f = grown_size s.size a.file (max (s.size a.file) (a.from + a.len)) f (omega arith)
@@ -354,7 +344,7 @@ entries_go g s table h kept = record {
   spares = h.spares;
   holders = h.holders;
   entries = record { agree = λ w v x e. h.entries.agree w v x (kept w v x e); owners = λ w v x e. h.entries.owners w v x (kept w v x e) };
-  sweep = record { below = λ w v x j m e. h.sweep.below w v x j m (kept w v x e); past = h.sweep.past; gone = h.sweep.gone };
+  sweep = h.sweep;
   stands =
       λ u. stands_after g s (record s { pool = record s.pool { entries = table } }) u (s.calls u)
       (record {
@@ -445,10 +435,21 @@ pub empties : (g : Geometry) (s : State) (t base : ℕ) → Inv g s
 empties g s t base h =
     entries_go g s (put s.entries t (without_mapping (s.mappings t) (s.entries t) base)) h (λ w v x e. (emptied s t base w v x e).0)
 
+-- what entries stand for stays where a mapping goes that has none
+pub same_found : (s : State) (t base : ℕ) → ((v x : ℕ) → s.entries t v ≡ Some x → in_mapping (s.mappings t) base v ≡ false)
+    → (w v x : ℕ) → s.entries w v ≡ Some x → find (put s.mappings t (without (s.mappings t) base) w) v ≡ find (s.mappings w) v
+same_found s t base clear w v x a = elim (same_or_other w t) [
+  | inl q ↦ ap (λ (m : List Mapping). find m v)
+      (ap (put s.mappings t (without (s.mappings t) base)) q ∙ put_same s.mappings t (without (s.mappings t) base))
+      ∙ (without_find (s.mappings t) base v (clear v x (ap (λ (m : ℕ). s.entries m v) (sym q) ∙ a))
+      ∙ ap (λ (m : ℕ). find (s.mappings m) v) (sym q))
+  | inr q ↦ ap (λ (m : List Mapping). find m v) (put_other s.mappings t (without (s.mappings t) base) w q)
+]
+
 -- a mapping without entries goes
 pub drops : (g : Geometry) (s : State) (t : ℕ) (b c : Option Call) (base : ℕ) → Inv g s → t < g.tasks + 1 → s.calls t ≡ b → seen c ≡ seen b
     → ((v x : ℕ) → s.entries t v ≡ Some x → in_mapping (s.mappings t) base v ≡ false)
-    → IfSome (fills c) (λ k. Reached s.size (λ u. ahead (s.calls u)) k.0 k.1)
+    → IfSome (fills c) (λ k. Reached s.size (λ u. to_pass (s.calls u)) k.0 k.1)
     → Stands g (record s { pool = record s.pool { mappings = put s.mappings t (without (s.mappings t) base) } }) t c
     → Inv g (to (record s { pool = record s.pool { mappings = put s.mappings t (without (s.mappings t) base) } }) t c)
 drops g s t b c base h l e same clear fill own = goes g s n t b c h l e (ap (λ p. p.4) same) (ap (λ p. p.5) same) (record {
@@ -472,17 +473,12 @@ drops g s t b c base h l e same clear fill own = goes g s n t b c h l e (ap (λ 
   spares = h.spares;
   holders = h.holders;
   enough = h.enough;
-  count = (let y : less c ≡ less b = ap (λ p. p.0) same in let z : more c ≡ more b = ap (λ p. p.1) same in omega arith);
+  count = (let y : behind c ≡ behind b = ap (λ p. p.0) same in let z : ahead c ≡ ahead b = ap (λ p. p.1) same in omega arith);
   used = same_used s.used (reserved_of g s.reserved) b c (ap (λ p. p.6) same);
   quota = h.quota;
   place = place_same g s t b c h e (ap (λ p. p.2) same);
   entries = record { owners = h.entries.owners; agree = λ w v x d. let o = h.entries.agree w v x d in (o.0, same_find w v x d ∙ o.1, o.2) };
-  sweep =
-      record {
-        below = λ w v x f i d y. h.sweep.below w v x f i d (sym (same_find w v x d) ∙ y);
-        past = h.sweep.past;
-        gone = h.sweep.gone;
-      };
+  sweep = h.sweep;
   changes = same_opens s.pending b c (ap (λ p. p.3) same);
   others = λ u d. stands_after g s n u (s.calls u) (record {
     slot = λ k a. a;
@@ -501,10 +497,4 @@ drops g s t b c base h l e same clear fill own = goes g s n t b c h l e (ap (λ 
     n = record s { pool = record s.pool { mappings = put s.mappings t (without (s.mappings t) base) } }
 
     same_find : (w v x : ℕ) → s.entries w v ≡ Some x → find (put s.mappings t (without (s.mappings t) base) w) v ≡ find (s.mappings w) v
-    same_find w v x a = elim (same_or_other w t) [
-      | inl q ↦ ap (λ (m : List Mapping). find m v)
-          (ap (put s.mappings t (without (s.mappings t) base)) q ∙ put_same s.mappings t (without (s.mappings t) base))
-          ∙ (without_find (s.mappings t) base v (clear v x (ap (λ (m : ℕ). s.entries m v) (sym q) ∙ a))
-          ∙ ap (λ (m : ℕ). find (s.mappings m) v) (sym q))
-      | inr q ↦ ap (λ (m : List Mapping). find m v) (put_other s.mappings t (without (s.mappings t) base) w q)
-    ]
+    same_find = same_found s t base clear

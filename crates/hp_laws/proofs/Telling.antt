@@ -4,7 +4,7 @@ use Rattle.hp_base.proofs.Puts.{put_same}
 use Rattle.hp_base.specs.declared.event.Op.{Op}
 use Rattle.hp_base.specs.declared.event.Event.TheVariants.{Begin, Step}
 use Rattle.hp_machine.specs.State.{Pool, State, pool_of, is_dead, is_killed}
-use Rattle.hp_machine.specs.Events.{CallRow, IsReached, Row, first, told, left}
+use Rattle.hp_machine.specs.Events.{CallRow, IsReached, Row, first, outcome_of, left}
 use Rattle.hp_machine.specs.declared.call.Call.{Call}
 use Rattle.hp_machine.specs.declared.call.Call.TheVariants as call
 use Rattle.hp_machine.specs.declared.call.Turn.{Turn}
@@ -33,17 +33,17 @@ Leaves (outcome.Refused why) next = ⊥
 Leaves outcome.Marked next = ⊥
 Leaves (outcome.Resized frames) next = ⊥
 
-turn_leaves : {P : Type 0} (call : P → Call) (turn : Turn P) → Leaves (told call turn) (left call turn)
+turn_leaves : {P : Type 0} (call : P → Call) (turn : Turn P) → Leaves (outcome_of call turn) (left call turn)
 turn_leaves call (Moved p) = refl
 turn_leaves call (Blocked p holder) = tt
 turn_leaves call (Ended a) = refl
 
 -- so does the turn of a call
-of_turn : {P : Type 0} (call : P → Call) (turn : Turn P) (o : Outcome) (next : Option Call) → o ≡ told call turn
+of_turn : {P : Type 0} (call : P → Call) (turn : Turn P) (o : Outcome) (next : Option Call) → o ≡ outcome_of call turn
     → next ≡ left call turn → Leaves o next
 of_turn call turn o next e l =
     subst (λ (m : Outcome). Leaves m next) (sym e)
-    (subst (λ (m : Option Call). Leaves (told call turn) m) (sym l) (turn_leaves call turn))
+    (subst (λ (m : Option Call). Leaves (outcome_of call turn) m) (sym l) (turn_leaves call turn))
 
 -- by the rows of each operation
 call_leaves : (s : Pool) (t : ℕ) (killed grant : Bool) (c : Call) (o : Outcome) (new : Pool) (next : Option Call)

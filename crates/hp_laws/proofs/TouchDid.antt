@@ -37,7 +37,7 @@ no_page None e = refl
 no_page (Some x) e = (let q : true ≡ false = e in cc)
 
 -- an index that fails the test for at or above the size is below it
-below_size : (i size : ℕ) → nat_le size i ≡ false → i < size
+pub below_size : (i size : ℕ) → nat_le size i ≡ false → i < size
 below_size i size e = grind (arith, nat_tests)
 
 -- each row of a touch wrote what fits and went on, or waits
@@ -240,7 +240,7 @@ touch_did s t killed grant (at.Found p) turn new h e row =
       same = refl;
       found = y.facts.aim.found;
       page = r.2;
-      below = below_size p.touch.index (s.size p.touch.file) below;
+      aim = refl;
       held = y.slot;
       fill = tt;
       own = record { slot = y.slot; lock = tt; facts = tt };

@@ -41,16 +41,16 @@ is_up_to : (f k i j : ℕ) → ((f == k) && nat_le j i) ≡ true → (k ≡ f) �
 is_up_to f k i j e = (grind (arith, nat_tests), grind (arith, nat_tests))
 
 -- what lies ahead of an index and isn't it
-ahead_next : (f k i j new next : ℕ) → i ≡ next + 1 → ((f == k) && nat_le j i) ≡ true
+to_pass_next : (f k i j new next : ℕ) → i ≡ next + 1 → ((f == k) && nat_le j i) ≡ true
     → (k ≡ f) × ((j ≡ i) ⊎ ((j < new) ⊎ (((f == f) && nat_le j next) ≡ true)))
-ahead_next f k i j new next d e =
+to_pass_next f k i j new next d e =
     let o = is_up_to f k i j e in
     let z : j ≤ i = o.1 in
     (o.0, elim (eqb_tells j i) [ inl q ↦ inl q.1 | inr q ↦ (let y : j ≢ i = q.1 in inr (inr (up_to f next j (omega arith)))) ])
 
 -- what was ahead at the last index is that index, or below the new size
-ahead_tail : (f k i j new : ℕ) → i ≤ new → ((f == k) && nat_le j i) ≡ true → (k ≡ f) × ((j ≡ i) ⊎ ((j < new) ⊎ (false ≡ true)))
-ahead_tail f k i j new d e =
+to_pass_tail : (f k i j new : ℕ) → i ≤ new → ((f == k) && nat_le j i) ≡ true → (k ≡ f) × ((j ≡ i) ⊎ ((j < new) ⊎ (false ≡ true)))
+to_pass_tail f k i j new d e =
     let o = is_up_to f k i j e in
     let z : j ≤ i = o.1 in
     (o.0, elim (eqb_tells j i) [ inl q ↦ inl q.1 | inr q ↦ (let y : j ≢ i = q.1 in inr (inl (omega arith))) ])
@@ -123,8 +123,8 @@ truncate_did s t killed grant (at.Size p) turn new h one l e (end, is_end, row) 
       low = y.facts.new;
       high = omega arith;
       bare = bare;
-      none_ahead = λ k j d. never d;
-      aheads = λ j d. inr (up_to f (high - 1) j (omega arith));
+      none_to_pass = λ k j d. never d;
+      all_to_pass = λ j d. inr (up_to f (high - 1) j (omega arith));
       passes = λ k j d. let o = is_above f k (high - 1) j d in let z : (high - 1) + 1 ≤ j = o.1 in (o.0, omega arith, omega arith);
       none_gone = λ k j d. never d;
       fill = refl;
@@ -152,8 +152,8 @@ truncate_did s t killed grant (at.Size p) turn new h one l e (end, is_end, row) 
       low = y.facts.new;
       high = omega arith;
       bare = bare;
-      none_ahead = λ k j d. never d;
-      aheads = λ j d. inl (omega arith);
+      none_to_pass = λ k j d. never d;
+      all_to_pass = λ j d. inl (omega arith);
       passes = λ k j d. let o = is_up_to f k j to d in let z : to ≤ j = o.1 in (o.0, omega arith, z);
       none_gone = λ k j d. never d;
       fill = refl;
@@ -304,7 +304,7 @@ truncate_did s t killed grant (at.Unslot p) turn new h one l e row =
       held = y.slot;
       bare = y.facts.bare;
       sized = y.facts.aim.sized;
-      aheads = λ k j d. ahead_next f k i j to (i - 1) back d;
+      all_to_pass = λ k j d. to_pass_next f k i j to (i - 1) back d;
       passes = λ k j d. passed_next f k i j to (i - 1) back (omega arith) d;
       none_gone = λ k j d. never d;
       no_fill = refl;
@@ -334,7 +334,7 @@ truncate_did s t killed grant (at.Unslot p) turn new h one l e row =
       held = y.slot;
       bare = y.facts.bare;
       sized = y.facts.aim.sized;
-      aheads = λ k j d. ahead_tail f k i j to all d;
+      all_to_pass = λ k j d. to_pass_tail f k i j to all d;
       passes = λ k j d. passed_tail f k i j to all d;
       none_gone = λ k j d. never d;
       no_fill = refl;
@@ -356,7 +356,7 @@ truncate_did s t killed grant (at.Tail p) turn new h one l e row =
     let z = y.facts.lost in
     went call.Truncate s t (at.Tail p) _ turn new (CutsTail f p.truncation.new) row (λ _ _. omega arith) (record {
       file = y.facts.file;
-      same_ahead = refl;
+      same_to_pass = refl;
       same_passed = refl;
       goners = λ k j d. is_up_to f k j p.truncation.new d;
       holds = refl;

@@ -21,11 +21,11 @@ unlocked (Some f) place = None
 abbrev pub fills : Option Call → Option (ℕ × ℕ)
 fills c = unlocked (standing_of c).lock (made_at (standing_of c).work (standing_of c).slot)
 
-abbrev pub is_ahead : Sweep → (file index : ℕ) → Bool
-is_ahead NoSweep f i = false
-is_ahead (At file at) f i = (file == f) && nat_le i at
-is_ahead (Past file new) f i = false
-is_ahead (Gone file new) f i = false
+abbrev pub is_to_pass : Sweep → (file index : ℕ) → Bool
+is_to_pass NoSweep f i = false
+is_to_pass (At file at) f i = (file == f) && nat_le i at
+is_to_pass (Past file new) f i = false
+is_to_pass (Gone file new) f i = false
 
 abbrev pub is_passed : Sweep → (file index : ℕ) → Bool
 is_passed NoSweep f i = false
@@ -40,8 +40,8 @@ is_gone (Past file new) f i = false
 is_gone (Gone file new) f i = (file == f) && nat_le new i
 
 -- a truncation that set the size has yet to pass that index
-abbrev pub ahead : Option Call → (file index : ℕ) → Bool
-ahead c f i = is_ahead (standing_of c).sweep f i
+abbrev pub to_pass : Option Call → (file index : ℕ) → Bool
+to_pass c f i = is_to_pass (standing_of c).sweep f i
 
 -- or has passed it
 abbrev pub passed : Option Call → (file index : ℕ) → Bool

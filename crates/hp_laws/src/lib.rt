@@ -90,7 +90,7 @@ pub fn nothing_lies_beyond_the_limits()
 
 /// Only a resize brings frames in or retires some: each other event leaves the pool the frames that it has.
 pub fn calls_leave_the_pool_its_frames()
-    ensures { (s : State) (event : Event) (told : Outcome) (after : State) → IsReached s → Row s event told after
+    ensures { (s : State) (event : Event) (outcome : Outcome) (after : State) → IsReached s → Row s event outcome after
         → ((frames : ℕ) → event ≢ Resize frames) → KeepsItsFrames (pool_of s) (pool_of after) }
 {}
 

@@ -120,11 +120,11 @@ word_of (call.Exit (exit.Clear p)) = word.Clear
 word_of (call.Exit (exit.Drop p)) = word.Drop
 word_of (call.Exit exit.Leave) = word.Leave
 
--- what a turn is told as
-abbrev pub told : {P : Type 0} → (P → Call) → Turn P → Outcome
-told call (Moved p) = outcome.Moved (word_of (call p))
-told call (Blocked p holder) = outcome.Blocked holder
-told call (Ended a) = outcome.Ended a
+-- the outcome of a turn
+abbrev pub outcome_of : {P : Type 0} → (P → Call) → Turn P → Outcome
+outcome_of call (Moved p) = outcome.Moved (word_of (call p))
+outcome_of call (Blocked p holder) = outcome.Blocked holder
+outcome_of call (Ended a) = outcome.Ended a
 
 -- the call that a turn leaves in flight
 abbrev pub left : {P : Type 0} → (P → Call) → Turn P → Option Call
@@ -132,9 +132,9 @@ left call (Moved p) = Some (call p)
 left call (Blocked p holder) = Some (call p)
 left call (Ended a) = None
 
--- a turn by the rows of an operation, as it is told, with the call that it leaves
+-- a turn by the rows of an operation: its outcome, and the call that it leaves
 abbrev pub TurnRow : {P : Type 0} → (P → Call) → (Turn P → Pool → Type 0) → Outcome → Pool → Option Call → Type 0
-TurnRow {P} call row tells new next = (turn : Turn P) × row turn new × (tells ≡ told call turn) × (next ≡ left call turn)
+TurnRow {P} call row tells new next = (turn : Turn P) × row turn new × (tells ≡ outcome_of call turn) × (next ≡ left call turn)
 
 -- what a step of a call may do, what a step of a task, what a resize, and what an event: the machine's own are below
 abbrev pub CallRows : Type 1

@@ -7,7 +7,7 @@ use Rattle.hp_frames.specs.Bank.{IsWithinQuota}
 use Rattle.hp_frames.specs.declared.frame.FrameState.{FrameState}
 use Rattle.hp_frames.specs.declared.frame.FrameState.TheVariants as frame
 use Rattle.hp_machine.specs.State.{State, free_frames}
-use Rattle.hp_machine.specs.Views.{less, more, used_owed, hand}
+use Rattle.hp_machine.specs.Views.{behind, ahead, used_ahead, hand}
 
 -- each table entry lies in a mapping of its task, and the file's page at its index is the entry's frame
 abbrev pub Agrees : State → Type 0
@@ -42,19 +42,19 @@ abbrev pub vacant_in : State → ℕ
 vacant_in s = total s.geometry.files (λ f. vacant s.geometry.limit (s.reserved f) (s.pages f))
 
 -- what the calls in flight owe, both ways; tasks are counted from 1
-abbrev pub all_less : State → ℕ
-all_less s = total (s.geometry.tasks + 1) (λ t. less (s.calls t))
+abbrev pub all_behind : State → ℕ
+all_behind s = total (s.geometry.tasks + 1) (λ t. behind (s.calls t))
 
-abbrev pub all_more : State → ℕ
-all_more s = total (s.geometry.tasks + 1) (λ t. more (s.calls t))
+abbrev pub all_ahead : State → ℕ
+all_ahead s = total (s.geometry.tasks + 1) (λ t. ahead (s.calls t))
 
 -- how many indices of all files are reserved
 abbrev pub reserved_in : State → ℕ
 reserved_in s = total s.geometry.files (λ f. count_below (s.reserved f) s.geometry.limit)
 
 -- what the calls in flight owe to the used count
-abbrev pub all_used_owed : State → ℕ
-all_used_owed s = total (s.geometry.tasks + 1) (λ t. used_owed (s.calls t))
+abbrev pub all_used_ahead : State → ℕ
+all_used_ahead s = total (s.geometry.tasks + 1) (λ t. used_ahead (s.calls t))
 
 -- how many calls are in flight
 abbrev pub all_calls : State → ℕ
@@ -68,8 +68,8 @@ pub record Headline (s : State) : Type 0 where
   pub agree : Agrees s
   pub place : OnePlace s.frames s.frame (λ t. hand (s.calls t)) s.pages
   pub below : IsBelow s
-  pub count : s.resv + all_less s ≡ vacant_in s + all_more s
+  pub count : s.resv + all_behind s ≡ vacant_in s + all_ahead s
   pub enough : s.resv ≤ free_frames s.frame s.frames
-  pub settled : ((t : ℕ) → (less (s.calls t) ≡ 0) × (more (s.calls t) ≡ 0)) → s.resv ≡ vacant_in s
-  pub used : s.used ≡ reserved_in s + all_used_owed s
+  pub settled : ((t : ℕ) → (behind (s.calls t) ≡ 0) × (ahead (s.calls t) ≡ 0)) → s.resv ≡ vacant_in s
+  pub used : s.used ≡ reserved_in s + all_used_ahead s
   pub within : IsWithinQuota s.geometry.quota s.used

@@ -46,13 +46,14 @@ pub data Sweep : Type 0 where
   Past : (file new : ℕ) → Sweep
   Gone : (file new : ℕ) → Sweep
 
--- `less` and `more` are what the call owes to the reserve count: the reservations that are still counted for pages
--- which it took or took away, and those that it counted for indices which it hasn't entered, or has taken away.
--- `used` is what it owes to the used count: the indices that are counted and that it hasn't entered, or has taken away
+-- `behind` and `ahead` are what the call owes to the reserve count. It is behind what is vacant by the pages that the call
+-- took or took away on a reservation, and ahead by the reservations that the call counted for indices which it hasn't
+-- entered, or has taken away. The used count is ahead by the indices that are counted and that the call hasn't entered, or
+-- has taken away
 pub record Standing : Type 0 where
-  pub less : ℕ
-  pub more : ℕ
-  pub used : ℕ
+  pub behind : ℕ
+  pub ahead : ℕ
+  pub used_ahead : ℕ
   pub hand : Option ℕ
   pub change : Progress
   pub lock : Option ℕ
@@ -65,9 +66,9 @@ pub record Standing : Type 0 where
 abbrev pub unencumbered : Standing
 unencumbered =
     record {
-      less = 0;
-      more = 0;
-      used = 0;
+      behind = 0;
+      ahead = 0;
+      used_ahead = 0;
       hand = None;
       change = NoChange;
       lock = None;
@@ -101,7 +102,7 @@ in_truncate t = record unencumbered { lock = Some t.file }
 
 -- a truncation on its way down still owes what it evicted
 abbrev pub in_sweep : Truncation → (index evicted : ℕ) → Standing
-in_sweep t i evicted = record (in_truncate t) { less = evicted; sweep = At t.file i }
+in_sweep t i evicted = record (in_truncate t) { behind = evicted; sweep = At t.file i }
 
 abbrev pub in_sweep_at : Truncation → (index evicted : ℕ) → Standing
 in_sweep_at t i evicted = record (in_sweep t i evicted) { slot = Some (t.file, i) }
@@ -118,12 +119,12 @@ standing (call.Touch (touch.Taken p)) =
       work = Makes;
       change = Counts p.touch.file p.pending;
       hand = Some p.held;
-      less = bit (p.pending.missing == 0);
-      used = p.pending.missing;
+      behind = bit (p.pending.missing == 0);
+      used_ahead = p.pending.missing;
     }
-standing (call.Touch (touch.Settle p)) = record (in_touch p.touch) { work = Makes; hand = Some p.held; used = 1 }
-standing (call.Touch (touch.Committed p)) = record (in_touch p.touch) { work = Makes; hand = Some p.held; less = 1 }
-standing (call.Touch (touch.Restore p)) = record (in_touch p.touch) { work = Makes; hand = Some p.held; less = 1 }
+standing (call.Touch (touch.Settle p)) = record (in_touch p.touch) { work = Makes; hand = Some p.held; used_ahead = 1 }
+standing (call.Touch (touch.Committed p)) = record (in_touch p.touch) { work = Makes; hand = Some p.held; behind = 1 }
+standing (call.Touch (touch.Restore p)) = record (in_touch p.touch) { work = Makes; hand = Some p.held; behind = 1 }
 standing (call.Touch (touch.Found p)) = record (in_touch p.touch) { work = Uses }
 standing (call.Touch (touch.Leave p)) = in_touch p.touch
 standing (call.Map (map.Start p)) = record unencumbered { wants = Lock p.map.file }
@@ -132,8 +133,8 @@ standing (call.Map (map.Missing p)) = in_map p.map
 standing (call.Map (map.Changed p)) = record (in_map p.map) { change = Counts p.map.file p.pending }
 standing (call.Map (map.Abort p)) = record (in_map p.map) { change = GivesUp p.map.file }
 standing (call.Map (map.Accounted p)) =
-    record (in_map p.map) { change = Counts p.map.file p.pending; more = p.pending.missing; used = p.pending.missing }
-standing (call.Map (map.Settle p)) = record (in_map p.map) { more = p.excess; used = p.excess }
+    record (in_map p.map) { change = Counts p.map.file p.pending; ahead = p.pending.missing; used_ahead = p.pending.missing }
+standing (call.Map (map.Settle p)) = record (in_map p.map) { ahead = p.excess; used_ahead = p.excess }
 standing (call.Map (map.Enter p)) = in_map p.map
 standing (call.Map (map.Leave p)) = in_map p.map
 standing (call.Alloc (alloc.Start p)) = record unencumbered { wants = Lock p.allocation.file }
@@ -149,12 +150,12 @@ standing (call.Alloc (alloc.Taken p)) =
       work = Makes;
       change = Counts p.allocation.file p.pending;
       hand = Some p.held;
-      less = bit (p.pending.missing == 0);
-      used = p.pending.missing;
+      behind = bit (p.pending.missing == 0);
+      used_ahead = p.pending.missing;
     }
-standing (call.Alloc (alloc.Settle p)) = record (in_alloc_at p.allocation p.index) { work = Makes; hand = Some p.held; used = 1 }
-standing (call.Alloc (alloc.Committed p)) = record (in_alloc_at p.allocation p.index) { work = Makes; hand = Some p.held; less = 1 }
-standing (call.Alloc (alloc.Restore p)) = record (in_alloc_at p.allocation p.index) { work = Makes; hand = Some p.held; less = 1 }
+standing (call.Alloc (alloc.Settle p)) = record (in_alloc_at p.allocation p.index) { work = Makes; hand = Some p.held; used_ahead = 1 }
+standing (call.Alloc (alloc.Committed p)) = record (in_alloc_at p.allocation p.index) { work = Makes; hand = Some p.held; behind = 1 }
+standing (call.Alloc (alloc.Restore p)) = record (in_alloc_at p.allocation p.index) { work = Makes; hand = Some p.held; behind = 1 }
 standing (call.Alloc (alloc.Unslot p)) = in_alloc_at p.allocation p.index
 standing (call.Alloc (alloc.Extend p)) = in_alloc p.allocation
 standing (call.Alloc (alloc.Leave p)) = in_alloc p.allocation
@@ -163,9 +164,9 @@ standing (call.Punch (punch.Want p)) = record (in_punch p.hole) { wants = Slot p
 standing (call.Punch (punch.Locked p)) = in_punch_at p.hole p.index
 standing (call.Punch (punch.Unmap p)) = record (in_punch_at p.hole p.index) { work = Removes }
 standing (call.Punch (punch.Evict p)) = record (in_punch_at p.hole p.index) { work = Removes }
-standing (call.Punch (punch.Delete p)) = record (in_punch_at p.hole p.index) { work = Removed; hand = Some p.held; less = 1 }
+standing (call.Punch (punch.Delete p)) = record (in_punch_at p.hole p.index) { work = Removed; hand = Some p.held; behind = 1 }
 standing (call.Punch (punch.Free p)) =
-    record (in_punch_at p.hole p.index) { work = Removed; hand = Some p.held; less = bit p.denied; used = bit (not p.denied) }
+    record (in_punch_at p.hole p.index) { work = Removed; hand = Some p.held; behind = bit p.denied; used_ahead = bit (not p.denied) }
 standing (call.Punch (punch.Unslot p)) = in_punch_at p.hole p.index
 standing (call.Punch (punch.Leave p)) = in_punch p.hole
 standing (call.Truncate (truncate.Start p)) = record unencumbered { wants = Lock p.truncation.file }
@@ -177,11 +178,11 @@ standing (call.Truncate (truncate.Evict p)) = record (in_sweep_at p.truncation p
 standing (call.Truncate (truncate.Free p)) = record (in_sweep_at p.truncation p.index p.evicted) { work = Removed; hand = Some p.held }
 standing (call.Truncate (truncate.Unslot p)) = record (in_sweep_at p.truncation p.index p.evicted) { work = Removed }
 standing (call.Truncate (truncate.Tail p)) =
-    record (in_truncate p.truncation) { less = p.evicted; sweep = Past p.truncation.file p.truncation.new }
+    record (in_truncate p.truncation) { behind = p.evicted; sweep = Past p.truncation.file p.truncation.new }
 standing (call.Truncate (truncate.Settle p)) =
     record (in_truncate p.truncation) {
-      more = p.excess;
-      used = p.excess + p.evicted;
+      ahead = p.excess;
+      used_ahead = p.excess + p.evicted;
       sweep = Gone p.truncation.file p.truncation.new;
     }
 standing (call.Truncate (truncate.Leave p)) = record (in_truncate p.truncation) { sweep = Gone p.truncation.file p.truncation.new }

@@ -22,7 +22,7 @@ pub record Geometry : Type 0 where
 -- What all calls share. Frames have the numbers below `frames`, those that are retired too. Per frame: where it is;
 -- `resv` is the count of reserved pages, `used` that of used ones. Per slot and per file lock: the task that holds
 -- it. Per file: size, open changes, spare descriptors, the set of reserved indices, and the frame of each page. Per
--- task: whether room for one mapping is ready, its mappings and its translations.
+-- task: whether capacity for one mapping more is ready, its mappings and its translations.
 pub record Pool : Type 0 where
   pub geometry : Geometry
   pub frames : ℕ

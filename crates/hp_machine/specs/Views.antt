@@ -5,16 +5,16 @@ use Rattle.hp_machine.specs.Standings.{Progress, NoChange, Counts, GivesUp, Want
 use Rattle.hp_machine.specs.declared.call.Call.{Call}
 
 -- what the call owes: reservations that are still counted for pages which it took or took away
-abbrev pub less : Option Call → ℕ
-less c = (standing_of c).less
+abbrev pub behind : Option Call → ℕ
+behind c = (standing_of c).behind
 
 -- and reservations that it counted for indices which it hasn't entered, or has taken away
-abbrev pub more : Option Call → ℕ
-more c = (standing_of c).more
+abbrev pub ahead : Option Call → ℕ
+ahead c = (standing_of c).ahead
 
 -- what it owes to the used count: indices that are counted and that it hasn't entered, or has taken away
-abbrev pub used_owed : Option Call → ℕ
-used_owed c = (standing_of c).used
+abbrev pub used_ahead : Option Call → ℕ
+used_ahead c = (standing_of c).used_ahead
 
 -- the frame in its hand
 abbrev pub hand : Option Call → Option ℕ

@@ -18,7 +18,7 @@ pub struct Start {
     pub map: MapRequest,
 }
 
-/// To look for virtual pages, and to make room for the mapping.
+/// To look for virtual pages, and to prepare capacity for the mapping.
 #[derive(Debug, Drop)]
 pub struct Room {
     pub map: MapRequest,

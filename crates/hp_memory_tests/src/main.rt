@@ -82,9 +82,13 @@ fn tell_stores<R: Threads + Wait + Sync + Print>(
 
 fn main(rt: HostRuntime) -> io::Result<()> {
     let mut input = [0; 1000];
-    let read = rt.stdin().read(&mut input)?;
+    let mut reader = rt.stdin();
+    let read = reader.read(&mut input)?;
     match input[0] {
-        b'p' => trace::tell(&rt, rt.alloc(), input.get(..read).unwrap_or(&[])),
+        b'p' => {
+            let first = input.get(..read).unwrap_or(&[]);
+            trace::tell(&rt, rt.alloc(), first, &mut reader)
+        }
         b'c' => tell_cut(&rt, rt.alloc()),
         b'r' => tell_resized(&rt, rt.alloc()),
         b'g' => tell_stores(&rt, rt.alloc(), Phase::Changed, 1),

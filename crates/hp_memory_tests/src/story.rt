@@ -26,6 +26,7 @@ fn open(rt: &impl Print, alloc: Global) -> io::Result<CoreDriver> {
 fn told(rt: &impl Print, name: &str, answer: Result<Answer, ClientFault>) -> io::Result<()> {
     match answer {
         Ok(answer) => println!(rt; "{name}: {answer}"),
+        Err(ClientFault::Refused(refusal)) => println!(rt; "{name}: refused {refusal}"),
         Err(fault) => println!(rt; "{name}: {fault}"),
     }
 }

@@ -4,6 +4,7 @@ use hp_core::{Core, Outcome};
 use hp_replay::{TraceFeed, TraceLine, push_state};
 use std::alloc::Global;
 use std::io;
+use std::io::Read;
 
 /// Makes an event.
 fn step(rt: &impl Print, core: &mut Core, event: Event) -> io::Result<Outcome> {
@@ -63,20 +64,46 @@ fn tell_state(rt: &impl Print, alloc: Global, core: &Core) -> io::Result<()> {
     print!(rt; "{text}")
 }
 
-/// The story that a trace tells: its outcomes, and its state at the end.
-pub(crate) fn tell(rt: &impl Print, alloc: Global, bytes: &[u8]) -> io::Result<()> {
-    let mut feed = TraceFeed::new();
-    let mut core = None;
-    let mut rest = bytes;
-    for _ in 0..bytes.len() {
+/// Runs the lines that a piece ends. Whether all of them are lines of a trace.
+fn run_piece(
+    rt: &impl Print,
+    alloc: Global,
+    feed: &mut TraceFeed,
+    core: &mut Option<Core>,
+    piece: &[u8],
+) -> io::Result<bool> {
+    let mut rest = piece;
+    for _ in 0..piece.len() {
         let Ok((used, line)) = feed.take(rest) else {
-            return println!(rt; "no trace");
+            return Ok(false);
         };
         rest = rest.get(used..).unwrap_or(&[]);
-        run(rt, alloc, &mut core, line)?;
+        run(rt, alloc, core, line)?;
+    }
+    Ok(true)
+}
+
+/// The story that a trace tells: its outcomes, and its state at the end. The first piece of it was read.
+pub(crate) fn tell(
+    rt: &impl Print,
+    alloc: Global,
+    first: &[u8],
+    reader: &mut impl Read,
+) -> io::Result<()> {
+    let mut feed = TraceFeed::new();
+    let mut core = None;
+    let mut is_trace = run_piece(rt, alloc, &mut feed, &mut core, first)?;
+    let mut piece = [0; 1000];
+    for _ in 0..u64::MAX {
+        let read = reader.read(&mut piece)?;
+        if read == 0 || !is_trace {
+            break;
+        }
+        let bytes = piece.get(..read).unwrap_or(&[]);
+        is_trace = run_piece(rt, alloc, &mut feed, &mut core, bytes)?;
     }
     match &core {
-        Some(core) => tell_state(rt, alloc, core),
-        None => Ok(()),
+        Some(core) if is_trace => tell_state(rt, alloc, core),
+        _ => println!(rt; "no trace"),
     }
 }

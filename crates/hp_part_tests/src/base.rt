@@ -202,6 +202,13 @@ fn words_of_numbers(rt: HostRuntime) -> Result<(), AllocError> {
 }
 
 #[test]
+fn places_of_tasks(rt: HostRuntime) {
+    for (number, place) in [(1, 0), (2, 1), (64, 63)] {
+        assert_eq!(rt; Task::new(number).place(), place);
+    }
+}
+
+#[test]
 fn words_of_page_numbers(rt: HostRuntime) -> Result<(), AllocError> {
     for (number, text) in [(7, "7"), (4095, "4095")] {
         reads(&rt, rt.alloc(), &Index::new(number), text)?;

@@ -1,15 +1,25 @@
 //! Places and their holders.
-ghost use Rattle.std.specs.Prelude.{◌≡◌, ◌<◌, length};
+ghost use Rattle.std.specs.Prelude.{◌≡◌, ◌<◌, ◌≤◌, length};
 
 use crate::texts::each_reads;
 use hp_base::{File, Index, Task};
-use hp_slots::{Fault, SlotTable};
+use hp_slots::{Fault, SlotTable, slot_number};
 use std::alloc::AllocError;
 use std::process::Abort;
 
 /// Asserts the place of an index of a file.
 fn slot_is(rt: &impl Abort, table: &SlotTable, file: u32, index: u32, place: u32) {
     assert_eq!(rt; table.slot_of(File::new(file), Index::new(index)), place);
+}
+
+/// Asserts the place of an index of a file among so many.
+fn slot_among(rt: &impl Abort, slots: u32, file: u32, index: u32, place: u32)
+    requires { 1 ≤ slots }
+{
+    assert_eq!(rt;
+        slot_number(slots, File::new(file), Index::new(index)),
+        place
+    );
 }
 
 /// Asserts who holds a place.
@@ -57,6 +67,13 @@ fn slots_of_pages(rt: HostRuntime) -> Result<(), AllocError> {
     slot_is(&rt, &table, 0, 5, 1);
     slot_is(&rt, &table, 2, 3, 1);
     Ok(())
+}
+
+#[test]
+fn slots_among_so_many(rt: HostRuntime) {
+    slot_among(&rt, 1, 9, 9, 0);
+    slot_among(&rt, 3, 2, 3, 2);
+    slot_among(&rt, 64, 15, 4095, 16);
 }
 
 #[test]

@@ -17,11 +17,11 @@ use Rattle.hp_frames.specs.declared.frame.FrameState.{FrameState}
 use Rattle.hp_frames.specs.declared.frame.FrameState.TheVariants.{Hand, Placed}
 use Rattle.hp_region.specs.Regions.{is_member}
 use Rattle.hp_region.specs.declared.region.Region.{Region}
-use Rattle.hp_chunks.specs.Framed.{ChunkRoom, NoMoreChunks}
-use Rattle.hp_table.specs.Table.{SpaceRoom, NoMoreMemory, Table}
+use Rattle.hp_chunks.specs.Framed.{ChunkCapacity, NoMoreChunks}
+use Rattle.hp_table.specs.Table.{SpaceCapacity, NoMoreCapacity, Table}
 use Rattle.hp_machine.specs.State as machine
 use Rattle.hp_parts.specs.declared.parts.FileState.{FileState}
-use Rattle.hp_parts.specs.Room.{map_rooms_of, cache_rooms_of, rooms_by_task}
+use Rattle.hp_parts.specs.Capacity.{map_capacities_of, cache_capacities_of, capacities_by_task}
 use Rattle.hp_parts.specs.View.{no_file, no_table, holders_of, sizes_of, pendings_of, spares_of, sets_of, pages_of, table_of}
 use Rattle.hp_parts.specs.View.{ready_by_task, mappings_by_task, entries_of}
 
@@ -164,29 +164,29 @@ sets_without xs f i y l e =
     at_set {B = ℕ → Bool} (λ file. is_member file.map.regions) no_file xs f y l
     ∙ ap (λ (m : ℕ → Bool). put (λ (k : ℕ). is_member (slice_index_or xs k no_file).map.regions) f m) e
 
--- the room of a file's parts
-pub map_rooms_same : (xs : List FileState) (f : ℕ) (y : FileState) → f < length xs
-    → y.map.room ≡ (slice_index_or xs f no_file).map.room → map_rooms_of (slice_set xs f y) ≡ map_rooms_of xs
-unfolding map_rooms_of
-map_rooms_same xs f y l e = at_same (λ file. file.map.room) no_file xs f y l e
+-- the capacity of a file's parts
+pub map_capacities_same : (xs : List FileState) (f : ℕ) (y : FileState) → f < length xs
+    → y.map.capacity ≡ (slice_index_or xs f no_file).map.capacity → map_capacities_of (slice_set xs f y) ≡ map_capacities_of xs
+unfolding map_capacities_of
+map_capacities_same xs f y l e = at_same (λ file. file.map.capacity) no_file xs f y l e
 
-pub cache_rooms_same : (xs : List FileState) (f : ℕ) (y : FileState) → f < length xs
-    → y.cache.room ≡ (slice_index_or xs f no_file).cache.room → cache_rooms_of (slice_set xs f y) ≡ cache_rooms_of xs
-unfolding cache_rooms_of
-cache_rooms_same xs f y l e = at_same (λ file. file.cache.room) no_file xs f y l e
+pub cache_capacities_same : (xs : List FileState) (f : ℕ) (y : FileState) → f < length xs
+    → y.cache.capacity ≡ (slice_index_or xs f no_file).cache.capacity → cache_capacities_of (slice_set xs f y) ≡ cache_capacities_of xs
+unfolding cache_capacities_of
+cache_capacities_same xs f y l e = at_same (λ file. file.cache.capacity) no_file xs f y l e
 
 -- a cache may give chunks back
-no_more_chunks : (room : ChunkRoom) → NoMoreChunks room room
-no_more_chunks room = (omega arith, refl)
+no_more_chunks : (capacity : ChunkCapacity) → NoMoreChunks capacity capacity
+no_more_chunks capacity = (omega arith, refl)
 
-pub cache_rooms_less : (xs : List FileState) (f : ℕ) (y : FileState) (file : ℕ) → f < length xs
-    → NoMoreChunks y.cache.room (slice_index_or xs f no_file).cache.room
-    → NoMoreChunks (cache_rooms_of (slice_set xs f y) file) (cache_rooms_of xs file)
-unfolding cache_rooms_of
-cache_rooms_less xs f y file l less =
-    let before : ℕ → ChunkRoom = λ (k : ℕ). (slice_index_or xs k no_file).cache.room in
-    subst (λ (after : ℕ → ChunkRoom). NoMoreChunks (after file) (before file)) (sym (at_set (λ x. x.cache.room) no_file xs f y l))
-    (related_put NoMoreChunks before f y.cache.room file no_more_chunks less)
+pub cache_capacities_shrink : (xs : List FileState) (f : ℕ) (y : FileState) (file : ℕ) → f < length xs
+    → NoMoreChunks y.cache.capacity (slice_index_or xs f no_file).cache.capacity
+    → NoMoreChunks (cache_capacities_of (slice_set xs f y) file) (cache_capacities_of xs file)
+unfolding cache_capacities_of
+cache_capacities_shrink xs f y file l less =
+    let before : ℕ → ChunkCapacity = λ (k : ℕ). (slice_index_or xs k no_file).cache.capacity in
+    subst (λ (after : ℕ → ChunkCapacity). NoMoreChunks (after file) (before file)) (sym (at_set (λ x. x.cache.capacity) no_file xs f y l))
+    (related_put NoMoreChunks before f y.cache.capacity file no_more_chunks less)
 
 -- tasks
 pub ready_at : (xs : List Table) (t : ℕ) → ready_by_task xs t ≡ (table_of xs t).ready
@@ -286,16 +286,18 @@ unfolding entries_of
 entries_set xs t y low high = seen_set {B = ℕ → Option ℕ} (λ (d : Table) (w : ℕ). get d.entries w) xs t y low high
 
 -- a space may give some memory back
-no_more_memory : (room : SpaceRoom) → NoMoreMemory room room
-no_more_memory room = record { mappings = refl; gaps = refl; entries = no_more_chunks room.entries; places = omega arith }
+no_more_capacity : (capacity : SpaceCapacity) → NoMoreCapacity capacity capacity
+no_more_capacity capacity = record { mappings = refl; gaps = refl; entries = no_more_chunks capacity.entries; places = omega arith }
 
-pub task_rooms_less : (xs : List Table) (t : ℕ) (y : Table) (task : ℕ) → 1 ≤ t → t ≤ length xs
-    → NoMoreMemory y.room (table_of xs t).room → NoMoreMemory (rooms_by_task (slice_set xs (t - 1) y) task) (rooms_by_task xs task)
-unfolding rooms_by_task
-task_rooms_less xs t y task low high less =
-    let before : ℕ → SpaceRoom = λ (j : ℕ). (table_of xs j).room in
-    subst (λ (after : ℕ → SpaceRoom). NoMoreMemory (after task) (before task)) (sym (seen_set (λ (d : Table). d.room) xs t y low high))
-    (related_put NoMoreMemory before t y.room task no_more_memory less)
+pub task_capacities_shrink : (xs : List Table) (t : ℕ) (y : Table) (task : ℕ) → 1 ≤ t → t ≤ length xs
+    → NoMoreCapacity y.capacity (table_of xs t).capacity
+    → NoMoreCapacity (capacities_by_task (slice_set xs (t - 1) y) task) (capacities_by_task xs task)
+unfolding capacities_by_task
+task_capacities_shrink xs t y task low high less =
+    let before : ℕ → SpaceCapacity = λ (j : ℕ). (table_of xs j).capacity in
+    subst (λ (after : ℕ → SpaceCapacity). NoMoreCapacity (after task) (before task))
+    (sym (seen_set (λ (d : Table). d.capacity) xs t y low high))
+    (related_put NoMoreCapacity before t y.capacity task no_more_capacity less)
 
 -- frames
 pub frame_at_set : (xs : List FrameState) (x : ℕ) (s : FrameState) → x < length xs
@@ -318,7 +320,17 @@ word_of xs x l placed = (placed.0, frame_got xs x (Placed placed.0) l placed.1)
 
 pub ruleset lock_laws = (holders_at, holders_set, get_or_past, length-set)
 
-pub ruleset room_laws = (nat_tests, ne_eqb, set-get_or, mappings_at, mappings_same, ready_set, entries_same, length-set, task_rooms_less)
+pub ruleset room_laws = (
+  nat_tests,
+  ne_eqb,
+  set-get_or,
+  mappings_at,
+  mappings_same,
+  ready_set,
+  entries_same,
+  length-set,
+  task_capacities_shrink,
+)
 
 pub ruleset change_laws = (
   nat_tests,
@@ -333,8 +345,8 @@ pub ruleset change_laws = (
   sets_same,
   pages_same,
   length-set,
-  map_rooms_same,
-  cache_rooms_same,
+  map_capacities_same,
+  cache_capacities_same,
 )
 
 pub ruleset commit_laws = (
@@ -347,8 +359,8 @@ pub ruleset commit_laws = (
   sets_set,
   pages_same,
   length-set,
-  map_rooms_same,
-  cache_rooms_same,
+  map_capacities_same,
+  cache_capacities_same,
 )
 
 pub ruleset enter_laws = (
@@ -366,9 +378,9 @@ pub ruleset enter_laws = (
   ready_set,
   entries_same,
   length-set,
-  map_rooms_same,
-  cache_rooms_same,
-  task_rooms_less,
+  map_capacities_same,
+  cache_capacities_same,
+  task_capacities_shrink,
 )
 
 pub ruleset frame_laws = (frame_at_set, frame_at_is, frame_got, slice_get_within, length-set)
@@ -385,8 +397,8 @@ pub ruleset size_laws = (
   sets_same,
   pages_same,
   length-set,
-  map_rooms_same,
-  cache_rooms_same,
+  map_capacities_same,
+  cache_capacities_same,
 )
 
 pub ruleset page_laws = (sizes_at, pages_at)
@@ -403,8 +415,8 @@ pub ruleset place_laws = (
   frame_at_is,
   frame_got,
   length-set,
-  map_rooms_same,
-  cache_rooms_same,
+  map_capacities_same,
+  cache_capacities_same,
 )
 
 pub ruleset install_laws = (
@@ -420,12 +432,32 @@ pub ruleset install_laws = (
   frame_at_is,
   frame_got,
   length-set,
-  task_rooms_less,
+  task_capacities_shrink,
 )
 
-pub ruleset clear_laws = (nat_tests, ne_eqb, mappings_at, mappings_same, ready_same, entries_are, entries_set, length-set, task_rooms_less)
+pub ruleset clear_laws = (
+  nat_tests,
+  ne_eqb,
+  mappings_at,
+  mappings_same,
+  ready_same,
+  entries_are,
+  entries_set,
+  length-set,
+  task_capacities_shrink,
+)
 
-pub ruleset drop_laws = (nat_tests, ne_eqb, mappings_at, mappings_set, ready_same, entries_at, entries_same, length-set, task_rooms_less)
+pub ruleset drop_laws = (
+  nat_tests,
+  ne_eqb,
+  mappings_at,
+  mappings_set,
+  ready_same,
+  entries_at,
+  entries_same,
+  length-set,
+  task_capacities_shrink,
+)
 
 pub ruleset evict_laws = (
   sizes_same,
@@ -439,8 +471,8 @@ pub ruleset evict_laws = (
   frame_got,
   slice_get_within,
   length-set,
-  map_rooms_same,
-  cache_rooms_less,
+  map_capacities_same,
+  cache_capacities_shrink,
 )
 
 pub ruleset delete_laws = (
@@ -455,8 +487,8 @@ pub ruleset delete_laws = (
   sets_without,
   pages_same,
   length-set,
-  map_rooms_same,
-  cache_rooms_same,
+  map_capacities_same,
+  cache_capacities_same,
 )
 
 pub ruleset tail_laws = (
@@ -470,6 +502,6 @@ pub ruleset tail_laws = (
   sets_set,
   pages_same,
   length-set,
-  map_rooms_same,
-  cache_rooms_same,
+  map_capacities_same,
+  cache_capacities_same,
 )

@@ -1,5 +1,5 @@
 pub mod Fits
-pub mod Room
+pub mod Capacity
 pub mod State
 pub mod Turns
 pub mod View

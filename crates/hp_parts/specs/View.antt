@@ -6,7 +6,7 @@ use Rattle.hp_base.specs.declared.mapping.Mapping.{Mapping}
 use Rattle.hp_frames.specs.Bank.{frame_at}
 use Rattle.hp_region.specs.Regions.{is_member}
 use Rattle.hp_chunks.specs.Framed.{no_chunks}
-use Rattle.hp_table.specs.Table.{no_memory, Table}
+use Rattle.hp_table.specs.Table.{no_capacity, Table}
 use Rattle.hp_machine.specs.State.{Geometry, Pool}
 use Rattle.hp_parts.specs.declared.parts.FileState.{FileState}
 use Rattle.hp_parts.specs.declared.parts.Parts.{Parts}
@@ -16,13 +16,13 @@ use Rattle.hp_parts.specs.State.{PartsState, state_of}
 abbrev pub no_file : FileState
 no_file = record {
   size = 0;
-  map = record { regions = []; pending = 0; spare = 0; room = 0 };
-  cache = record { pages = empty; room = no_chunks };
+  map = record { regions = []; pending = 0; spare = 0; capacity = 0 };
+  cache = record { pages = empty; capacity = no_chunks };
 }
 
 -- stands for the space of a task that isn't there
 abbrev pub no_table : Table
-no_table = record { mappings = []; entries = empty; ready = false; room = no_memory }
+no_table = record { mappings = []; entries = empty; ready = false; capacity = no_capacity }
 
 unfoldable pub holders_of : List (Option ℕ) → ℕ → Option ℕ
 holders_of holders k = slice_index_or holders k None

@@ -19,6 +19,16 @@ const TURNS_TO_SLEEP: u32 = 100;
 
 const SPINS: u32 = 200;
 
+/// Lets others go first so often that one who is about to sleep does.
+pub fn let_sleep() {
+    for _ in 0..TURNS_TO_SLEEP {
+        thread::yield_now();
+        for _ in 0..SPINS {
+            hint::spin_loop();
+        }
+    }
+}
+
 /// What one thread tells another.
 #[derive(Drop)]
 pub struct Signal {
@@ -78,34 +88,6 @@ impl Gate for HeldAt {
         if phase == self.phase {
             self.there.give();
             self.released.wait();
-        }
-    }
-
-    fn grant(&self, _task: Task, _phase: Phase) -> bool {
-        true
-    }
-}
-
-/// Tells when the call came to a phase.
-#[derive(Drop)]
-pub struct SeenAt {
-    pub phase: Phase,
-    pub there: Signal,
-}
-
-impl SeenAt {
-    pub fn new(phase: Phase) -> SeenAt {
-        SeenAt {
-            phase,
-            there: Signal::new(),
-        }
-    }
-}
-
-impl Gate for SeenAt {
-    fn between(&self, _task: Task, phase: Phase) {
-        if phase == self.phase {
-            self.there.give();
         }
     }
 
@@ -226,6 +208,64 @@ impl<'a> Gate for Asked<'a> {
     }
 }
 
+/// Holds each of so many stores, once they are told to, where it is about to take a slot, until all are there.
+#[derive(Drop)]
+pub struct Meeting {
+    all: usize,
+    begun: AtomicBool,
+    there: AtomicUsize,
+    in_vain: AtomicBool,
+}
+
+impl Meeting {
+    pub fn new(all: usize) -> Meeting {
+        Meeting {
+            all,
+            begun: AtomicBool::new(false),
+            there: AtomicUsize::new(0),
+            in_vain: AtomicBool::new(false),
+        }
+    }
+
+    /// From now on calls are held.
+    pub fn begin(&self) {
+        self.begun.store(true, Ordering::SeqCst);
+    }
+
+    /// Whether all were there at once.
+    pub fn met(&self) -> bool {
+        self.is_full() && !self.in_vain.load(Ordering::SeqCst)
+    }
+
+    fn is_full(&self) -> bool {
+        self.there.load(Ordering::SeqCst) >= self.all
+    }
+
+    // Where one waits in vain nobody waits any more.
+    fn wait(&self) {
+        for _ in 0..TURNS {
+            if self.is_full() || self.in_vain.load(Ordering::SeqCst) {
+                return;
+            }
+            thread::yield_now();
+        }
+        self.in_vain.store(true, Ordering::SeqCst);
+    }
+}
+
+impl Gate for Meeting {
+    fn between(&self, _task: Task, phase: Phase) {
+        if phase == Phase::Want && self.begun.load(Ordering::SeqCst) {
+            self.there.fetch_add(1, Ordering::SeqCst);
+            self.wait();
+        }
+    }
+
+    fn grant(&self, _task: Task, _phase: Phase) -> bool {
+        true
+    }
+}
+
 /// Holds a call of several pages where it has the slot of the first, until another call waits for that slot; and again where it
 /// has let the slot go and wants the next, until the other call has ended.
 #[derive(Drop)]
@@ -255,12 +295,7 @@ impl BetweenSlots {
         self.was_held.store(true, Ordering::SeqCst);
         self.there.give();
         self.waiting.wait();
-        for _ in 0..TURNS_TO_SLEEP {
-            thread::yield_now();
-            for _ in 0..SPINS {
-                hint::spin_loop();
-            }
-        }
+        let_sleep();
     }
 }
 

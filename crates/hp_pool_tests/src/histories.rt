@@ -124,6 +124,10 @@ fn why_a_pool_is_not_closed(rt: HostRuntime) -> Result<(), Fail> {
             CloseFault::Disagree(7),
             "the seats' lists and the journal disagree at position 7",
         ),
+        (
+            CloseFault::OtherSizes,
+            "the pool isn't of the sizes that it was opened with",
+        ),
         (CloseFault::Memory, "out of memory"),
     ] {
         assert_eq!(rt; format!(in rt.alloc(); "{fault}")?.as_str(), text);

@@ -1,12 +1,13 @@
-//! Calls that overlap: one that is held between two of its holds, and one that is killed while it waits.
+//! Calls that overlap: one that is held between two of its holds, and one that is killed while it sleeps.
 ghost use Rattle.std.specs.Prelude.{◌≡◌};
 
-use crate::gates::{HeldAt, SeenAt};
-use hp_base::{Answer, Config, File, Index, Op, Task, Vpn};
+use crate::gates::{HeldAt, Signal, Telling, let_sleep};
+use hp_base::{Answer, Config, Event, File, Index, Op, Task, Vpn};
 use hp_core::{Outcome, Phase};
-use hp_shared::{CallFault, Gate, Open, Reply, Seat, Shared, call};
+use hp_shared::{CallFault, Halting, Hold, Open, Reply, Seat, Shared, call};
 use std::alloc::Global;
 use std::marker::Brand;
+use std::process::Abort;
 use std::sync::Wait;
 use std::sync::ledger::{Blank, Ledger};
 use std::test::Fail;
@@ -59,16 +60,15 @@ fn both_map<L: Ledger, R: Wait>(
 }
 
 // A store that is begun once another is held, which goes on when this one has ended.
-fn store_meanwhile<L: Ledger, G: Gate, R: Wait>(
+fn store_meanwhile<L: Ledger, H: Hold<L>, R: Wait>(
     rt: &R,
-    shared: &Shared<L>,
+    hold: &H,
     seat: &mut Seat<L>,
     store: Op,
     held: &HeldAt,
-    gate: &G,
 ) -> Result<Reply, CallFault> {
     held.there.wait();
-    let reply = call(shared, rt, seat, store, gate);
+    let reply = call(hold, rt, seat, store, &Open);
     held.released.give();
     reply
 }
@@ -96,7 +96,7 @@ fn two_stores<L: Ledger + Send + Sync, R: Threads + Wait + Sync>(
     let (one, two) = join(
         rt,
         || call(shared, rt, first, store(0, 41), held),
-        || store_meanwhile(rt, shared, second, store(1, 42), held, &Open),
+        || store_meanwhile(rt, shared, second, store(1, 42), held),
     );
     let came = gate.there.came() && gate.released.came();
     Ok(Stores {
@@ -137,39 +137,44 @@ fn a_gate_between_two_stores(rt: HostRuntime) -> Result<(), Fail> {
     Ok(())
 }
 
-// What came of two stores to one page and of the kill of the task that waits; and whether nobody waited in vain.
+// What came of two stores to one page and of the kill of the task that waits; how often that one was blocked; and whether nobody
+// waited in vain.
 #[derive(Drop)]
 struct Killing {
     holder: Reply,
     waiter: Reply,
     kill: Outcome,
+    blocked: usize,
     came: bool,
 }
 
-// The second task's store waits, and is killed by the third.
-fn wait_and_kill<L: Ledger + Send + Sync, R: Threads + Wait + Sync>(
+// The second task's store waits, and is killed by the third, once it waits.
+fn wait_and_kill<L: Ledger + Send + Sync, H: Hold<L> + Sync, R: Threads + Wait + Sync>(
     rt: &R,
-    shared: &Shared<L>,
+    hold: &H,
+    telling: &Telling<'_, H>,
     second: &mut Seat<L>,
     third: &mut Seat<L>,
     held: &HeldAt,
-    seen: &SeenAt,
+    waiting: &Signal,
 ) -> (Result<Reply, CallFault>, Result<Outcome, CallFault>) {
     join(
         rt,
-        || store_meanwhile(rt, shared, second, store(0, 2), held, seen),
+        || store_meanwhile(rt, telling, second, store(0, 2), held),
         || {
-            seen.there.wait();
-            shared.kill(rt, third, Task::new(2))
+            waiting.wait();
+            let_sleep();
+            hold.attempt(rt, third, Event::Kill(Task::new(2)))
         },
     )
 }
 
 // The first task's store is held where it has the slot, until the second's store has ended, which waits for that slot and
-// is killed by the third.
-fn a_waiter_killed<L: Ledger + Send + Sync, R: Threads + Wait + Sync>(
+// is killed by the third. Nothing but the kill can wake it: the slot is held until it has ended.
+fn a_waiter_killed<L: Ledger + Send + Sync, H: Hold<L> + Sync, R: Threads + Wait + Sync>(
     rt: &R,
     shared: &Shared<L>,
+    hold: &H,
     seats: &mut [Seat<L>],
 ) -> Result<Killing, Fail> {
     let (first, rest) = seats.split_first_mut().ok_or("a seat")?;
@@ -177,23 +182,25 @@ fn a_waiter_killed<L: Ledger + Send + Sync, R: Threads + Wait + Sync>(
     let third = rest.first_mut().ok_or("a seat")?;
     both_map(rt, shared, first, second, 1)?;
     let holding = HeldAt::new(Phase::Locked);
-    let wanting = SeenAt::new(Phase::Want);
-    let (held, seen) = (&holding, &wanting);
+    let waiting = Signal::new();
+    let told = Telling::new(hold, &waiting);
+    let (held, telling) = (&holding, &told);
     let (one, (two, kill)) = join(
         rt,
-        || call(shared, rt, first, store(0, 1), held),
-        || wait_and_kill(rt, shared, second, third, held, seen),
+        || call(hold, rt, first, store(0, 1), held),
+        || wait_and_kill(rt, hold, telling, second, third, held, &waiting),
     );
-    let came = holding.there.came() && holding.released.came() && wanting.there.came();
+    let came = holding.there.came() && holding.released.came() && waiting.came();
     Ok(Killing {
         holder: one?,
         waiter: two?,
         kill: kill?,
+        blocked: told.blocked(),
         came,
     })
 }
 
-// That, and whether the histories agree at the end.
+// That, over the holds of a pool, and whether the histories agree at the end.
 fn a_pool_of_three<L: Ledger + Send + Sync, R: Threads + Wait + Sync>(
     rt: &R,
     alloc: Global,
@@ -204,17 +211,48 @@ fn a_pool_of_three<L: Ledger + Send + Sync, R: Threads + Wait + Sync>(
     requires parts { (blank.parts ≡ L.parts) × (blank.parts ≡ config.tasks) }
 {
     let (shared, mut seats) = Shared::<L>::new(alloc, blank, config)?;
-    let told = a_waiter_killed(rt, &shared, &mut seats)?;
+    let told = a_waiter_killed(rt, &shared, &shared, &mut seats)?;
     Ok((told, shared.close(alloc, seats).is_ok()))
 }
 
+// The same over holds that stop for all once one of them finds no memory.
+fn a_halting_pool_of_three<L: Ledger + Send + Sync, R: Threads + Wait + Sync>(
+    rt: &R,
+    alloc: Global,
+    blank: Blank,
+    config: Config,
+) -> Result<Killing, Fail>
+    requires name { blank.name ≡ L.name }
+    requires parts { (blank.parts ≡ L.parts) × (blank.parts ≡ config.tasks) }
+{
+    let (shared, mut seats) = Shared::<L>::new(alloc, blank, config)?;
+    let hold = Halting::new(&shared);
+    a_waiter_killed(rt, &shared, &hold, &mut seats)
+}
+
+// The store that waited was blocked once, and ended since its task was killed.
+fn woke(rt: &impl Abort, told: &Killing, done: Reply, marked: Outcome) {
+    assert_eq!(rt; told.waiter, Reply::Ended(Answer::Killed));
+    assert_eq!(rt; told.holder, done);
+    assert_eq!(rt; told.kill, marked);
+    assert_eq!(rt; told.blocked, 1);
+    assert!(rt; told.came);
+}
+
 #[test]
-fn a_kill_reaches_a_store_that_waits(rt: HostRuntime) -> Result<(), Fail> {
+fn a_kill_wakes_a_store_that_waits(rt: HostRuntime) -> Result<(), Fail> {
     let config = Config::new(1, 1, 4, 3)?;
     let (told, agree) = a_pool_of_three::<Brand, _>(&rt, rt.alloc(), Blank::new(3), config)?;
-    assert_eq!(rt; told.waiter, Reply::Ended(Answer::Killed));
-    assert_eq!(rt; told.holder, Reply::Ended(Answer::Done));
-    assert_eq!(rt; told.kill, Outcome::Marked);
-    assert!(rt; told.came && agree);
+    woke(&rt, &told, Reply::Ended(Answer::Done), Outcome::Marked);
+    assert!(rt; agree);
+    Ok(())
+}
+
+/// Races and rounds of clients run on such holds alone.
+#[test]
+fn a_kill_wakes_over_holds_that_halt(rt: HostRuntime) -> Result<(), Fail> {
+    let config = Config::new(1, 1, 4, 3)?;
+    let told = a_halting_pool_of_three::<Brand, _>(&rt, rt.alloc(), Blank::new(3), config)?;
+    woke(&rt, &told, Reply::Ended(Answer::Done), Outcome::Marked);
     Ok(())
 }

@@ -22,14 +22,20 @@ mod cuts;
 #[cfg(test)]
 mod dice;
 #[cfg(test)]
+mod each_kill;
+#[cfg(test)]
 mod gates;
 #[cfg(test)]
 mod histories;
 #[cfg(test)]
 mod kills;
+#[cfg(test)]
+mod meetings;
 pub mod numbers;
 #[cfg(test)]
 mod points;
+#[cfg(test)]
+mod quota;
 #[cfg(test)]
 mod races;
 #[cfg(test)]

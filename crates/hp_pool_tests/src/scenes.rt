@@ -1,21 +1,26 @@
 //! Calls as the tables of docs/MACHINE.md tell them: the phases in which each stands, and what comes of it, where growth is
 //! granted and where it is refused.
-use Ask::{Alloc, Map, Punch, Store};
+use Ask::{Alloc, Exit, Map, Punch, Store, Truncate, UnmapFirst};
 use Phase::{
-    Accounted, Changed, Committed, Delete, Enter, Evict, Extend, Found, Free, Head, Leave, Locked,
-    Look, Missing, Restore, Room, Start, Taken, Unmap, Unslot, Want,
+    Abort, Accounted, Changed, Clear, Committed, Delete, Enter, Evict, Extend, Found, Free, Head,
+    Leave, Locked, Look, Missing, Restore, Room, Settle, Size, Start, Tail, Taken, Unmap, Unslot,
+    Want,
 };
-use Wanted::{Done, Mapped, NoMemory};
+use Wanted::{Done, Mapped, NoFrame, NoMemory};
 use hp_base::{Answer, File, Index, Op, Vpn};
 use hp_core::Phase;
 
-/// A map of so many pages from the file's begin on, a store to that virtual page, or an allocation or a punch of that index alone.
+/// A map of so many pages from the file's begin on, a store to that virtual page, an allocation or a punch of that index alone, a
+/// truncation to that size, the end of the mapping at virtual page 0, or the task's end.
 #[derive(Clone, Copy, Debug)]
 pub enum Ask {
     Map(u32),
     Store(u32),
     Alloc(u32),
     Punch(u32),
+    Truncate(u32),
+    UnmapFirst,
+    Exit,
 }
 
 /// What a call has to end with. A map begins at virtual page 0.
@@ -23,6 +28,7 @@ pub enum Ask {
 pub enum Wanted {
     Mapped,
     Done,
+    NoFrame,
     NoMemory,
 }
 
@@ -62,6 +68,9 @@ impl Ask {
                 from: Index::new(index),
                 len: 1,
             },
+            Ask::Truncate(new) => Op::Truncate { file, new },
+            Ask::UnmapFirst => Op::Unmap { base: Vpn::new(0) },
+            Ask::Exit => Op::Exit,
         }
     }
 }
@@ -71,6 +80,7 @@ impl Wanted {
         match self {
             Wanted::Mapped => Answer::Mapped(Vpn::new(0)),
             Wanted::Done => Answer::Done,
+            Wanted::NoFrame => Answer::NoFrame,
             Wanted::NoMemory => Answer::NoMemory,
         }
     }
@@ -87,8 +97,9 @@ const PUNCHING: [Phase; 10] = [
     Start, Want, Locked, Unmap, Unmap, Evict, Delete, Free, Unslot, Leave,
 ];
 
-/// In a pool of four frames, all growth is granted.
-pub const GRANTED: [Scene; 5] = [
+/// In a pool of four frames, all growth is granted. Behind the punch four more pages are one more than are free. The truncation visits
+/// the index without a page, and then the one with it.
+pub const GRANTED: [Scene; 9] = [
     Scene {
         seat: 0,
         ask: Map(2),
@@ -130,6 +141,41 @@ pub const GRANTED: [Scene; 5] = [
         denied: None,
         wanted: Done,
         numbers: (3, 0, 1, 1),
+    },
+    Scene {
+        seat: 0,
+        ask: Map(5),
+        phases: &[Start, Room, Missing, Changed, Abort, Leave],
+        denied: None,
+        wanted: NoFrame,
+        numbers: (3, 0, 1, 1),
+    },
+    Scene {
+        seat: 0,
+        ask: Truncate(0),
+        phases: &[
+            Start, Size, Want, Locked, Unslot, Want, Locked, Unmap, Unmap, Evict, Free, Unslot,
+            Tail, Settle, Leave,
+        ],
+        denied: None,
+        wanted: Done,
+        numbers: (4, 0, 0, 0),
+    },
+    Scene {
+        seat: 1,
+        ask: UnmapFirst,
+        phases: &[Start, Clear, Phase::Drop],
+        denied: None,
+        wanted: Done,
+        numbers: (4, 0, 0, 0),
+    },
+    Scene {
+        seat: 0,
+        ask: Exit,
+        phases: &[Start, Clear, Phase::Drop, Leave],
+        denied: None,
+        wanted: Done,
+        numbers: (4, 0, 0, 0),
     },
 ];
 

@@ -15,8 +15,11 @@ use std::sync::ledger::{Blank, Ledger};
 use std::test::Fail;
 use std::thread::{Threads, for_each_chunk_mut};
 
-/// Calls in all, entries after which the journal is cut, and tasks of a thread: one after the other, where one was killed.
+/// Calls in all, entries after which the journal is cut for the first time and later, and tasks of a thread: one after the other,
+/// where one was killed.
 const CALLS: usize = 100_000;
+
+const FIRST_ENTRIES: usize = 110_000;
 
 const ENTRIES: usize = 10_000;
 
@@ -24,11 +27,13 @@ const TASKS_OF_A_THREAD: usize = 4;
 /// More cuts than there can be.
 const CUTS: u64 = 1_000;
 
-/// How many calls were begun in all and how many entries made since the last cut; and whether memory was wanted.
+/// How many calls were begun in all, how many entries made since the last cut, and how many are made before the next; how many tasks
+/// were killed; and whether memory was wanted.
 #[derive(Drop)]
 struct Soaking {
     calls: AtomicUsize,
     entries: AtomicUsize,
+    most: AtomicUsize,
     kills: AtomicUsize,
     lacked: AtomicBool,
 }
@@ -38,6 +43,7 @@ impl Soaking {
         Soaking {
             calls: AtomicUsize::new(0),
             entries: AtomicUsize::new(0),
+            most: AtomicUsize::new(FIRST_ENTRIES),
             kills: AtomicUsize::new(0),
             lacked: AtomicBool::new(false),
         }
@@ -49,7 +55,7 @@ impl Soaking {
 
     // Whether one call more is to be made before the next cut.
     fn goes_on(&self) -> bool {
-        self.entries.load(Ordering::SeqCst) < ENTRIES
+        self.entries.load(Ordering::SeqCst) < self.most.load(Ordering::SeqCst)
             && self.calls.fetch_add(1, Ordering::SeqCst) < CALLS
     }
 }
@@ -190,7 +196,7 @@ fn damage_is_found(alloc: Global, part: &Part, lists: &[Vec<Entry>]) -> Result<b
     )
 }
 
-// Cuts the journal, and looks at the part; at the first, also whether damage to it is found.
+// Cuts the journal, and looks at the part, and at the numbers that were told before; at the first, also whether damage is found.
 fn cut_and_look<L: Ledger, R: Wait>(
     rt: &R,
     alloc: Global,
@@ -199,6 +205,7 @@ fn cut_and_look<L: Ledger, R: Wait>(
     core: &mut Core,
 ) -> Result<(), Fail> {
     let lists = lists_of(alloc, seats)?;
+    let told = shared.tally(rt);
     let part = shared.cut(rt, alloc, seats)?;
     if agreement(alloc, part.first, part.entries.as_slice(), lists.as_slice())? != Ok(()) {
         return Err("a part that isn't the interleaving of the lists".into());
@@ -206,7 +213,11 @@ fn cut_and_look<L: Ledger, R: Wait>(
     if part.first == 0 && !damage_is_found(alloc, &part, lists.as_slice())? {
         return Err("a damaged part passes".into());
     }
-    replay(core, part.entries.as_slice())
+    replay(core, part.entries.as_slice())?;
+    if told != core.tally() {
+        return Err("other numbers than those of the pool".into());
+    }
+    Ok(())
 }
 
 // Parts, and behind each but the last a cut. Tells how many cuts there were.
@@ -228,6 +239,7 @@ fn run_parts<L: Ledger + Send + Sync, R: Threads + Wait + Sync>(
             return Ok(part);
         }
         cut_and_look(rt, alloc, shared, seats, core)?;
+        soaking.most.store(ENTRIES, Ordering::SeqCst);
     }
     Err("not so many cuts".into())
 }

@@ -87,8 +87,8 @@ fn a_store_waits<L: Ledger + Send + Sync, H: Hold<L> + Sync, R: Threads + Wait +
     })
 }
 
-// That, over the holds of a pool of two tasks.
-fn a_pool_of_two<L: Ledger + Send + Sync, R: Threads + Wait + Sync>(
+// That, over the holds of a pool, by the first of its tasks and the last.
+fn a_pool_waits<L: Ledger + Send + Sync, R: Threads + Wait + Sync>(
     rt: &R,
     alloc: Global,
     blank: Blank,
@@ -98,10 +98,10 @@ fn a_pool_of_two<L: Ledger + Send + Sync, R: Threads + Wait + Sync>(
     requires parts { (blank.parts ≡ L.parts) × (blank.parts ≡ config.tasks) }
 {
     let (shared, mut seats) = Shared::<L>::new(alloc, blank, config)?;
-    let (first, rest) = seats.split_first_mut().ok_or("a seat")?;
-    let second = rest.first_mut().ok_or("a seat")?;
-    two_pages(rt, &shared, first, second)?;
-    a_store_waits(rt, &shared, first, second)
+    let (last, rest) = seats.split_last_mut().ok_or("a seat")?;
+    let first = rest.first_mut().ok_or("a seat")?;
+    two_pages(rt, &shared, first, last)?;
+    a_store_waits(rt, &shared, first, last)
 }
 
 // That, over holds that stop for all once one of them finds no memory.
@@ -133,7 +133,16 @@ fn slept(rt: &impl Abort, told: &Waiting, done: Reply) {
 #[test]
 fn a_store_sleeps_until_its_slot_is_free(rt: HostRuntime) -> Result<(), Fail> {
     let config = Config::new(4, 1, 4, 2)?;
-    let told = a_pool_of_two::<Brand, _>(&rt, rt.alloc(), Blank::new(2), config)?;
+    let told = a_pool_waits::<Brand, _>(&rt, rt.alloc(), Blank::new(2), config)?;
+    slept(&rt, &told, Reply::Ended(Answer::Done));
+    Ok(())
+}
+
+/// So does the last of as many tasks as a pool can have.
+#[test]
+fn a_store_of_the_last_task_sleeps(rt: HostRuntime) -> Result<(), Fail> {
+    let config = Config::new(4, 1, 4, 64)?;
+    let told = a_pool_waits::<Brand, _>(&rt, rt.alloc(), Blank::new(64), config)?;
     slept(&rt, &told, Reply::Ended(Answer::Done));
     Ok(())
 }

@@ -195,7 +195,8 @@ unless_failed from to old new failures before mid after left r ok err reads writ
         → OnOk s (Replayed from to before mid) → IfErr s (λ fault. Stopped fault from to before mid)
         → TellsReads s old new → failures ≡ 0 → DidReplay s from to old new before (Some after)
     emptied s ok err reads good =
-        let whole : Keeps mid (append_known after []) = subst (λ (x : List ℕ). Keeps mid (append_known after x)) (empty (ap (λ (n : ℕ). nat_lt 0 n) good)) kept in
+        let whole : Keeps mid (append_known after []) =
+        subst (λ (x : List ℕ). Keeps mid (append_known after x)) (empty (ap (λ (n : ℕ). nat_lt 0 n) good)) kept in
         flushed_ok from to old new before mid after s ok err reads
         (subst (λ (x : Option (List ℕ)). Keeps mid x) (unbuffered after) whole) whole
 

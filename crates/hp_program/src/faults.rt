@@ -1,5 +1,5 @@
 //! The lines of a fault.
-use hp_diagnostics::{Recalls, line_told};
+use hp_diagnostics::{Recalls, wrong_line};
 use hp_text::ReplayFault;
 use std::io;
 use std::io::Write;
@@ -14,8 +14,8 @@ pub fn write_fault<R: Recalls>(
     let Some(number) = bad_line(fault) else {
         return Ok(());
     };
-    match line_told(reader, number) {
-        Some(told) => writeln!(faults, "hugepool: {told}"),
+    match wrong_line(reader, number) {
+        Some(line) => writeln!(faults, "hugepool: {line}"),
         None => Ok(()),
     }
 }

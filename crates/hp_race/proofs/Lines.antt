@@ -31,13 +31,13 @@ lines_more n (r ∷ rs) race =
 pub record SoFar (script : Script) (cut : Option ℕ) (run : ℕ) (closed : Bool) (before now : Option (List ℕ)) : Type 0 where
   pub races : List Race
   pub count : length races ≡ run
-  pub told : All (IsToldBy script cut) races
+  pub each : All (IsToldBy script cut) races
   pub wrote : Appends before now (lines_text 0 races)
   pub ends : closed ≡ list_all is_closed races
 
 pub nothing_yet : (script : Script) (cut : Option ℕ) (o : Option (List ℕ)) → SoFar script cut 0 true o o
 nothing_yet script cut o =
-    record { races = []; count = refl; told = All-nil (IsToldBy script cut); wrote = Appends-nil o; ends = refl }
+    record { races = []; count = refl; each = All-nil (IsToldBy script cut); wrote = Appends-nil o; ends = refl }
 
 -- the text of one more
 text_more : (run : ℕ) (races : List Race) (race : Race) → length races ≡ run
@@ -47,7 +47,8 @@ text_more run races race count =
     lines_more 0 races race ∙ ap (λ (k : ℕ). lines_text 0 races ++ run_line k race) here
 
 -- one line more is written
-pub line_written : (script : Script) (cut : Option ℕ) (run : ℕ) (closed is now_closed : Bool) (before mid now : Option (List ℕ)) (race : Race)
+pub line_written : (script : Script) (cut : Option ℕ) (run : ℕ) (closed is now_closed : Bool)
+    (before mid now : Option (List ℕ)) (race : Race)
     → SoFar script cut run closed before mid → IsToldBy script cut race → Appends mid now (run_line run race) → is ≡ is_closed race
     → now_closed ≡ (closed && is) → SoFar script cut (run + 1) now_closed before now
 line_written script cut run closed is now_closed before mid now race s told wrote ended both =
@@ -56,7 +57,7 @@ line_written script cut run closed is now_closed before mid now race s told wrot
     record {
       races = s.races ++ race ∷ [];
       count = omega (arith, more, s.count);
-      told = All-push (IsToldBy script cut) s.races race s.told told;
+      each = All-push (IsToldBy script cut) s.races race s.each told;
       wrote =
           subst (λ (x : List ℕ). Appends before now x) (sym (text_more run s.races race s.count))
           (Appends-trans before mid now (lines_text 0 s.races) (run_line run race) s.wrote wrote);
@@ -78,7 +79,7 @@ line_stopped script cut run times closed before mid now race s few told wrote =
     record {
       races = s.races ++ race ∷ [];
       few = omega (arith, more, s.count, few);
-      told = All-push (IsToldBy script cut) s.races race s.told told;
+      each = All-push (IsToldBy script cut) s.races race s.each told;
       wrote =
           subst (λ (x : List ℕ). Wrote before now x) (sym (text_more run s.races race s.count))
           (Wrote-behind before mid now (lines_text 0 s.races) (run_line run race) s.wrote wrote);
@@ -91,7 +92,7 @@ stopped_before script cut run times closed before now s few =
     record {
       races = s.races;
       few = omega (arith, s.count, few);
-      told = s.told;
+      each = s.each;
       wrote = record { front = lines_text 0 s.races; back = []; parts = sym (append-nil (lines_text 0 s.races)); appends = s.wrote };
     }
 
@@ -99,4 +100,4 @@ pub all_raced : (script : Script) (cut : Option ℕ) (run times : ℕ) (closed :
     → SoFar script cut run closed before now
     → run ≡ times → WroteRaces script cut times closed before now
 all_raced script cut run times closed before now s same =
-    record { races = s.races; count = s.count ∙ same; told = s.told; wrote = s.wrote; ends = s.ends }
+    record { races = s.races; count = s.count ∙ same; each = s.each; wrote = s.wrote; ends = s.ends }

@@ -73,7 +73,8 @@ gathered_made : (script : Script) (call_range : CallRange) (made : Bool) (seats 
 gathered_made script call_range true seats now s had is same =
     subst (λ (l : List SeatState). All (HasMadeIn script call_range) l) (sym same) (All-push (HasMadeIn script call_range) seats s had is)
 gathered_made script call_range false seats now s had is same =
-    subst (λ (l : List SeatState). SomeStrayedIn script call_range l) (sym same) (any_before (HasStrayedIn script call_range) seats (s ∷ []) had)
+    subst (λ (l : List SeatState). SomeStrayedIn script call_range l) (sym same)
+    (any_before (HasStrayedIn script call_range) seats (s ∷ []) had)
 
 -- or one that strayed
 gathered_strayed : (script : Script) (call_range : CallRange) (seats now : List SeatState) (s : SeatState)
@@ -82,7 +83,8 @@ gathered_strayed : (script : Script) (call_range : CallRange) (seats now : List 
 gathered_strayed script call_range seats now s is same =
     subst (λ (l : List SeatState). SomeStrayedIn script call_range l) (sym same) (Any-push (HasStrayedIn script call_range) seats s is)
 
-pub made_too : (script : Script) (call_range : CallRange) (made now_made : Bool) (ending : Ending) (seats now : List SeatState) (s : SeatState)
+pub made_too : (script : Script) (call_range : CallRange) (made now_made : Bool) (ending : Ending) (seats now : List SeatState)
+    (s : SeatState)
     → MatchBool made (All (HasMadeIn script call_range) seats) (SomeStrayedIn script call_range seats)
     → HasRun script call_range ending s → ending ≡ Made → now_made ≡ made
     → now ≡ seats ++ s ∷ [] → MatchBool now_made (All (HasMadeIn script call_range) now) (SomeStrayedIn script call_range now)
@@ -90,7 +92,8 @@ made_too script call_range made now_made ending seats now s had ran is same adde
     subst (λ (b : Bool). MatchBool b (All (HasMadeIn script call_range) now) (SomeStrayedIn script call_range now)) (sym same)
     (gathered_made script call_range made seats now s had (subst (λ (e : Ending). HasRun script call_range e s) is ran) added)
 
-pub strayed_too : (script : Script) (call_range : CallRange) (now_made : Bool) (ending : Ending) (seats now : List SeatState) (s : SeatState)
+pub strayed_too : (script : Script) (call_range : CallRange) (now_made : Bool) (ending : Ending) (seats now : List SeatState)
+    (s : SeatState)
     → HasRun script call_range ending s → ending ≡ Astray → now_made ≡ false
     → now ≡ seats ++ s ∷ [] → MatchBool now_made (All (HasMadeIn script call_range) now) (SomeStrayedIn script call_range now)
 strayed_too script call_range now_made ending seats now s ran is same added =
@@ -102,24 +105,28 @@ next_call : (calls : List Op) (k : ℕ) (op : Op) → k < length calls → op �
 next_call calls k op below is = rw add-one (drop-cons calls k op below ∙ ap (λ (x : Op). x ∷ drop (suc k) calls) (sym is))
 
 -- a call that is made of those that are left
-pub made_on : (task t : ℕ) (had gone next may leaves : Bool) (calls : List Op) (k : ℕ) (op : Op) (reply : Reply) (start old new l m : List Entry)
+pub made_on : (task t : ℕ) (had gone next may leaves : Bool) (calls : List Op) (k : ℕ) (op : Op) (reply : Reply)
+    (start old new l m : List Entry)
     → k < length calls → op ≡ get_or calls k op → t ≡ task → l ≡ old → m ≡ new
     → ((end : List Entry) → CallsMade task gone (drop k calls) old end → CallsMade task had calls start end)
     → IsCall t op reply old new → may ≡ may_end gone reply (length l) (length m) → may ≡ true → leaves ≡ is_exit op
     → next ≡ (gone || leaves) → (end : List Entry) → CallsMade task next (drop (k + 1) calls) new end → CallsMade task had calls start end
-made_on task t had gone next may leaves calls k op reply start old new l m below is same is_old is_new h call ends good exits gone_next end rest =
+made_on task t had gone next may leaves calls k op reply start old new l m below is same is_old is_new h call ends good exits
+    gone_next end rest =
     let made : CallMade task gone op old new = made_now task t gone may op reply old new l m same is_old is_new call ends good in
     let after : CallsMade task (gone || is_exit op) (drop (k + 1) calls) new end =
     subst (λ (b : Bool). CallsMade task b (drop (k + 1) calls) new end) (gone_next ∙ ap (λ (b : Bool). gone || b) exits) rest in
     h end (subst (λ (ops : List Op). CallsMade task gone ops old end) (sym (next_call calls k op below is)) (new, made, after))
 
-pub strayed_on : (task t : ℕ) (had gone next may leaves : Bool) (calls : List Op) (k : ℕ) (op : Op) (reply : Reply) (start old new l m : List Entry)
+pub strayed_on : (task t : ℕ) (had gone next may leaves : Bool) (calls : List Op) (k : ℕ) (op : Op) (reply : Reply)
+    (start old new l m : List Entry)
     → k < length calls → op ≡ get_or calls k op → t ≡ task → l ≡ old → m ≡ new
     → ((end : List Entry) → CallsStrayed task gone (drop k calls) old end → CallsStrayed task had calls start end)
     → IsCall t op reply old new → may ≡ may_end gone reply (length l) (length m) → may ≡ true → leaves ≡ is_exit op
     → next ≡ (gone || leaves) → (end : List Entry) → CallsStrayed task next (drop (k + 1) calls) new end
     → CallsStrayed task had calls start end
-strayed_on task t had gone next may leaves calls k op reply start old new l m below is same is_old is_new h call ends good exits gone_next end rest =
+strayed_on task t had gone next may leaves calls k op reply start old new l m below is same is_old is_new h call ends good exits
+    gone_next end rest =
     let made : CallMade task gone op old new = made_now task t gone may op reply old new l m same is_old is_new call ends good in
     let after : CallsStrayed task (gone || is_exit op) (drop (k + 1) calls) new end =
     subst (λ (b : Bool). CallsStrayed task b (drop (k + 1) calls) new end) (gone_next ∙ ap (λ (b : Bool). gone || b) exits) rest in
@@ -157,7 +164,8 @@ idle_made script call_range s calls is few new =
     let mine : List Op = calls_of script.calls.items s.task in
     let short : length mine ≤ call_range.from = omega (arith, ap length is, few) in
     let some : 0 ≤ call_range.most = omega arith in
-    let none : calls_in call_range mine ≡ [] = ap (λ (ops : List Op). take call_range.most ops) (drop_all call_range.from mine short) ∙ take_all call_range.most [] some in
+    let none : calls_in call_range mine ≡ [] =
+    ap (λ (ops : List Op). take call_range.most ops) (drop_all call_range.from mine short) ∙ take_all call_range.most [] some in
     subst (λ (ops : List Op). CallsMade s.task (is_gone call_range mine) ops [] s.list) (sym none) new
 
 -- no task has more calls than the script
@@ -191,7 +199,8 @@ whole script most false seats is had =
     (strayed.0, strayed.1, strayed.2, strayed.3, whole_strayed script strayed.1 strayed.4)
 
 -- what comes of the calls that a range has comes of the range
-pub ran_in : (script : Script) (calls : CallRange) (ending : Ending) (task : ℕ) (gone : Bool) (all before now : List Op) (old new : List Entry)
+pub ran_in : (script : Script) (calls : CallRange) (ending : Ending) (task : ℕ) (gone : Bool) (all before now : List Op)
+    (old new : List Entry)
     → all ≡ calls_of script.calls.items task → before ≡ take calls.from all → now ≡ calls_in calls all
     → gone ≡ list_any is_exit before → old ≡ []
     → EndsBy ending task gone now old new

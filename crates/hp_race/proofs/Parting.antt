@@ -5,6 +5,7 @@ use Rattle.std.specs.Prelude.{true, false, MatchBool, All}
 use Rattle.std.proofs.lemmas.Bool.{cases_lt, false≢true}
 use Rattle.std.proofs.lemmas.List.{append-nil, drop_all, length-map, take_all, take_more}
 use Rattle.std.proofs.lemmas.List.Elements.{All-map}
+use Rattle.hp_base.specs.declared.config.Config.{Config}
 use Rattle.hp_base.specs.declared.event.Op.{Op}
 use Rattle.hp_core.specs.Runs.{IsOpening, Row}
 use Rattle.hp_core.specs.State.{CoreState}
@@ -13,7 +14,7 @@ use Rattle.hp_text.specs.Scripts.{calls_of}
 use Rattle.hp_text.specs.declared.script.Script.{Script}
 use Rattle.hp_machine.specs.declared.outcome.Outcome.{Outcome}
 use Rattle.hp_shared.proofs.Runs.{follows_more}
-use Rattle.hp_shared.specs.Closing.{ClosesWith, RefusesClose}
+use Rattle.hp_shared.specs.Closing.{ClosesPoolOf, ClosesWith, RefusesClose}
 use Rattle.hp_shared.specs.Cutting.{emptied}
 use Rattle.hp_shared.specs.Journal.{Follows, Interleaves, IsCameTo}
 use Rattle.hp_shared.specs.Seats.{AllSeated, lists_of}
@@ -29,7 +30,7 @@ use Rattle.hp_race.specs.declared.line.Race.{Race}
 use Rattle.hp_race.specs.declared.line.Verdict.{Verdict}
 use Rattle.hp_race.specs.declared.line.Verdict.TheVariants.{Closed, Disagree, Astray}
 use Rattle.hp_race.specs.declared.call_range.CallRange.{CallRange}
-use Rattle.hp_race.proofs.Told.{closed_came}
+use Rattle.hp_race.proofs.Told.{pool_came}
 
 -- the most calls of a task, of one task more
 pub most_of : (lines : List (ℕ × Op)) (number most len now : ℕ)
@@ -46,10 +47,10 @@ most_of lines number most len now below is max_is task least last =
     ]
 
 -- one entry more of those that happen again
-pub happens_on : (start core new : CoreState) (entries : List Entry) (i : ℕ) (entry : Entry) (told : Outcome) → i < length entries
-    → entry ≡ get_or entries i entry → Follows start (take i entries) core → Row core entry.event told new → told ≡ entry.outcome
+pub happens_on : (start core new : CoreState) (entries : List Entry) (i : ℕ) (entry : Entry) (outcome : Outcome) → i < length entries
+    → entry ≡ get_or entries i entry → Follows start (take i entries) core → Row core entry.event outcome new → outcome ≡ entry.outcome
     → Follows start (take (i + 1) entries) new
-happens_on start core new entries i entry told below is run row same =
+happens_on start core new entries i entry outcome below is run row same =
     let more : take (i + 1) entries ≡ take i entries ++ entry ∷ [] =
     take_more entries i entry below ∙ ap (λ (e : Entry). take i entries ++ e ∷ []) (sym is) in
     subst (λ (es : List Entry). Follows start es new) (sym more)
@@ -120,11 +121,12 @@ parts_end script most from longest position begun start core before short over =
     before [] position core ((λ task least last. omega (arith, over, short task least last)), refl, refl)
 
 -- what is told of a pool that was closed behind the last part
-told_parts_as : (script : Script) (most : ℕ) (made : Bool) (opened core pool : CoreState) (begun entries first told : ℕ) (journal : List Entry)
+told_parts_as : (script : Script) (most : ℕ) (made : Bool) (opened core pool : CoreState) (begun entries first told : ℕ)
+    (journal : List Entry)
     (seats : List SeatState) (race : Race) (v : Verdict)
     → IsOpening script.config opened → begun ≡ 0
     → (made ≡ true → (parts : List Part) × AreParts script most 0 begun opened parts entries core)
-    → ClosesWith seats pool first journal → told ≡ first + length journal → Counts race told pool
+    → ClosesPoolOf script.config seats pool first journal → told ≡ first + length journal → Counts race told pool
     → IsVerdictOnParts made (IsAgain entries core first journal pool) v → IsToldInPartsAs script most v race
 told_parts_as script most made opened core pool begun entries first told journal seats race Closed opening new parts closes all counts is =
     let are = parts is.0 in
@@ -146,27 +148,32 @@ told_parts_as script most made opened core pool begun entries first told journal
       seats = seats;
       pool = pool;
       rest =
-          subst (λ (n : ℕ). ClosesWith seats pool n []) (is.1.0 ∙ many)
-          (subst (λ (es : List Entry). ClosesWith seats pool first es) is.1.1 closes);
+          subst (λ (n : ℕ). ClosesPoolOf script.config seats pool n []) (is.1.0 ∙ many)
+          (subst (λ (es : List Entry). ClosesPoolOf script.config seats pool first es) is.1.1 closes);
       same = is.1.2;
     }
-told_parts_as script most made opened core pool begun entries first told journal seats race (Disagree position) opening new parts closes all counts is =
+told_parts_as script most made opened core pool begun entries first told journal seats race (Disagree position) opening new parts closes
+    all counts is =
     absurd is
 told_parts_as script most made opened core pool begun entries first told journal seats race Astray opening new parts closes all counts is =
-    record { core = pool; came = closed_came seats pool first journal closes; free = counts.1; resv = counts.2 }
+    record { core = pool; came = pool_came script.config seats pool first journal closes; free = counts.1; resv = counts.2 }
 
-pub told_parts : (script : Script) (most : ℕ) (made : Bool) (opened core pool : CoreState) (begun entries first told : ℕ) (journal : List Entry)
+pub told_parts : (script : Script) (most : ℕ) (made : Bool) (opened core pool : CoreState) (begun entries first told : ℕ)
+    (journal : List Entry)
     (seats : List SeatState) (race : Race)
     → IsOpening script.config opened → begun ≡ 0
     → (made ≡ true → (parts : List Part) × AreParts script most 0 begun opened parts entries core)
-    → ClosesWith seats pool first journal → told ≡ first + length journal → Counts race told pool
+    → (config : Config) → config ≡ script.config → ClosesPoolOf config seats pool first journal
+    → told ≡ first + length journal → Counts race told pool
     → IsVerdictOnParts made (IsAgain entries core first journal pool) race.verdict → IsToldInParts script most race
-told_parts script most made opened core pool begun entries first told journal seats race opening new parts closes all counts is =
-    told_parts_as script most made opened core pool begun entries first told journal seats race race.verdict opening new parts closes all counts is
+told_parts script most made opened core pool begun entries first told journal seats race opening new parts config same closes
+    all counts is =
+    told_parts_as script most made opened core pool begun entries first told journal seats race race.verdict opening new parts
+    (subst (λ (c : Config). ClosesPoolOf c seats pool first journal) same closes) all counts is
 
 -- what is told of one that wasn't
 refused_as : (script : Script) (most : ℕ) (seats : List SeatState) (core : CoreState) (tally : Tally) (race : Race) (why : CloseFault)
-    → IsCameTo core → tally ≡ tally_of core → RefusesClose script.config.tasks seats why → IsToldOfRefused why tally race
+    → IsCameTo core → tally ≡ tally_of core → RefusesClose script.config seats why → IsToldOfRefused why tally race
     → IsToldInParts script most race
 refused_as script most seats core tally race (fault.SeatMissing task) came same refused told =
     subst (λ (r : Race). IsToldInParts script most r) (sym told)
@@ -183,10 +190,13 @@ refused_as script most seats core tally race (fault.Disagree position) came same
       came = came;
       counts = (refl, ap (λ (t : Tally). t.free) same, ap (λ (t : Tally). t.resv) same);
     })
+refused_as script most seats core tally race fault.OtherSizes came same refused told =
+    subst (λ (r : Race). IsToldInParts script most r) (sym told)
+    (record { core = core; came = came; free = ap (λ (t : Tally). t.free) same; resv = ap (λ (t : Tally). t.resv) same })
 refused_as script most seats core tally race fault.Memory came same refused told = absurd told
 
-pub refused_parts : (script : Script) (most tasks : ℕ) (seats : List SeatState) (core : CoreState) (tally : Tally) (race : Race)
-    (why : CloseFault) → IsCameTo core → tally ≡ tally_of core → tasks ≡ script.config.tasks → RefusesClose tasks seats why
+pub refused_parts : (script : Script) (most : ℕ) (config : Config) (seats : List SeatState) (core : CoreState) (tally : Tally)
+    (race : Race) (why : CloseFault) → IsCameTo core → tally ≡ tally_of core → config ≡ script.config → RefusesClose config seats why
     → IsToldOfRefused why tally race → IsToldInParts script most race
-refused_parts script most tasks seats core tally race why came is same refused told =
-    refused_as script most seats core tally race why came is (subst (λ (n : ℕ). RefusesClose n seats why) same refused) told
+refused_parts script most config seats core tally race why came is same refused told =
+    refused_as script most seats core tally race why came is (subst (λ (c : Config). RefusesClose c seats why) same refused) told

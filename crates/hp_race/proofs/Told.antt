@@ -3,19 +3,15 @@ use Rattle.std.proofs.Common.{◌≡◌, ℕ, ◌+◌, List, [], ◌∷◌, ◌+
 use Rattle.std.specs.Prelude.{◌≤◌, ◌≢◌, true, false, IfSome, MatchBool, None, Option, Some, take, All}
 use Rattle.std.proofs.lemmas.List.{length-map, length-take}
 use Rattle.std.proofs.lemmas.Bool.{false≢true, true≢false}
-use Rattle.hp_base.specs.Text.{Sizes, sizes}
 use Rattle.hp_base.specs.declared.event.Event.{Event}
 use Rattle.hp_base.specs.declared.config.Config.{Config}
-use Rattle.hp_core.specs.Readers.{config_of}
-use Rattle.hp_core.specs.Runs.{IsOpening, Run, geometry}
-use Rattle.hp_core.specs.State.{CoreState, as_state}
+use Rattle.hp_core.specs.State.{CoreState}
 use Rattle.hp_core.specs.declared.readers.Tally.{Tally}
-use Rattle.hp_machine.specs.Events.{opening}
 use Rattle.hp_text.specs.declared.script.Script.{Script}
 use Rattle.hp_text.specs.declared.trace.TheConstants.{MOST_EVENTS}
 use Rattle.hp_text.specs.declared.trace.Trace.{Trace}
-use Rattle.hp_shared.proofs.Runs.{came_to, follows_on}
-use Rattle.hp_shared.specs.Closing.{ClosesWith, RefusesClose}
+use Rattle.hp_shared.proofs.Runs.{came_to, closes_with, follows_on}
+use Rattle.hp_shared.specs.Closing.{ClosesPoolOf, ClosesWith, RefusesClose}
 use Rattle.hp_shared.specs.Journal.{events_of, Follows, Interleaves, IsCameTo}
 use Rattle.hp_shared.specs.Seats.{AllSeated, LeastMissing, lists_of}
 use Rattle.hp_shared.specs.States.{SeatState, tally_of}
@@ -23,36 +19,25 @@ use Rattle.hp_shared.specs.declared.entry.Entry.{Entry}
 use Rattle.hp_shared.specs.declared.fault.CloseFault.{CloseFault}
 use Rattle.hp_shared.specs.declared.fault.CloseFault.TheVariants as fault
 use Rattle.hp_race.specs.Racers.{HasMade, SomeStrayed}
-use Rattle.hp_race.specs.Races.{Counts, HasClosedAnother, HaveDisagreed, IsKept, IsKeptOf, IsOfScript, IsTold, IsToldAs}
+use Rattle.hp_race.specs.Races.{Counts, HasClosedAnother, HasOtherSizes, HaveDisagreed, IsKept, IsKeptOf, IsOfScript, IsTold, IsToldAs}
 use Rattle.hp_race.specs.Races.{IsRace, IsToldOfRefused, IsUnclosed, IsVerdictOn}
 use Rattle.hp_race.specs.declared.line.Race.{Race}
 use Rattle.hp_race.specs.declared.line.Verdict.{Verdict}
 use Rattle.hp_race.specs.declared.line.Verdict.TheVariants.{Closed, Disagree, Astray}
-
--- an opening is one of each config with those sizes
-opening_of : (config : Config) (z : Sizes) (s : CoreState) → (config_of s ≡ z) → (as_state s ≡ opening (geometry z) z.frames)
-    → z ≡ sizes config → IsOpening config s
-unfolding IsOpening config_of
-opening_of config z s size is same = (
-  size ∙ same,
-  is ∙ ap (λ (y : Sizes). opening (geometry y) y.frames) same,
-)
-
--- what led from an opening to a core of the script's sizes led there from an opening of the script's pool
-opened_for : (config script : Config) (opened core : CoreState) (journal : List Entry) → IsOpening config opened
-    → Follows opened journal core → config_of core ≡ sizes script → IsOpening script opened
-unfolding IsOpening Run config_of
-opened_for config script opened core journal is run same =
-    opening_of script (sizes config) opened is.0 is.1 (sym is.0 ∙ sym run.2 ∙ same)
 
 none_earlier : (earlier : List Entry) → length earlier ≡ 0 → earlier ≡ []
 none_earlier [] none = refl
 none_earlier (e ∷ es) none = absurd (omega (arith, none))
 
 -- the core that a closed pool gives out is one that a pool came to
-pub closed_came : (seats : List SeatState) (core : CoreState) (first : ℕ) (journal : List Entry) → ClosesWith seats core first journal
+closed_came : (seats : List SeatState) (core : CoreState) (first : ℕ) (journal : List Entry) → ClosesWith seats core first journal
     → IsCameTo core
 closed_came seats core first journal h = came_to first h.1 core journal (h.0, h.2, h.3) h.5
+
+-- so is that of a pool of this config
+pub pool_came : (config : Config) (seats : List SeatState) (core : CoreState) (first : ℕ) (journal : List Entry)
+    → ClosesPoolOf config seats core first journal → IsCameTo core
+pool_came config seats core first journal h = closed_came seats core first journal (closes_with config seats core first journal h)
 
 all_made : (script : Script) (made : Bool) (seats : List SeatState) → made ≡ true
     → MatchBool made (All (HasMade script) seats) (SomeStrayed script seats) → All (HasMade script) seats
@@ -61,32 +46,31 @@ all_made script false seats is calls = absurd (false≢true is)
 
 -- a pool that was closed so had a race of the script
 race_of : (script : Script) (made : Bool) (seats : List SeatState) (core : CoreState) (first : ℕ) (journal : List Entry)
-    → IsVerdictOn script made first core Closed → AllSeated script.config.tasks seats → length seats ≡ script.config.tasks
-    → ClosesWith seats core first journal → MatchBool made (All (HasMade script) seats) (SomeStrayed script seats)
+    → IsVerdictOn made first Closed → AllSeated script.config.tasks seats → length seats ≡ script.config.tasks
+    → ClosesPoolOf script.config seats core first journal → MatchBool made (All (HasMade script) seats) (SomeStrayed script seats)
     → IsRace script journal core
 race_of script made seats core first journal is seated count h calls =
     let start = h.3 in
-    let run : Follows start.1 (h.0 ++ journal) core = follows_on start.1 h.1 core h.0 journal start.3 h.5 in
-    let none : h.0 ≡ [] = none_earlier h.0 (h.2 ∙ is.1.0) in
-    let whole : Follows start.1 journal core = subst (λ (es : List Entry). Follows start.1 (es ++ journal) core) none run in
+    let run : Follows start.0 (h.0 ++ journal) core = follows_on start.0 h.1 core h.0 journal start.2 h.5 in
+    let none : h.0 ≡ [] = none_earlier h.0 (h.2 ∙ is.1) in
     record {
-      opened = start.1;
-      opening = opened_for start.0 script.config start.1 core journal start.2 whole is.1.1;
-      run = whole;
+      opened = start.0;
+      opening = start.1;
+      run = subst (λ (es : List Entry). Follows start.0 (es ++ journal) core) none run;
       seats = seats;
       seated = seated;
       count = count;
       made = all_made script made seats is.0 calls;
-      order = subst (λ (p : ℕ). Interleaves p journal (lists_of seats)) is.1.0 h.4;
+      order = subst (λ (p : ℕ). Interleaves p journal (lists_of seats)) is.1 h.4;
     }
 
 -- what is told of a pool that was closed
 told_closed_as : (script : Script) (made : Bool) (seats : List SeatState) (core : CoreState) (first : ℕ) (journal : List Entry)
-    (race : Race) (v : Verdict) → IsVerdictOn script made first core v → Counts race (first + length journal) core
-    → AllSeated script.config.tasks seats → length seats ≡ script.config.tasks → ClosesWith seats core first journal
+    (race : Race) (v : Verdict) → IsVerdictOn made first v → Counts race (first + length journal) core
+    → AllSeated script.config.tasks seats → length seats ≡ script.config.tasks → ClosesPoolOf script.config seats core first journal
     → MatchBool made (All (HasMade script) seats) (SomeStrayed script seats) → IsToldAs script v race
 told_closed_as script made seats core first journal race Closed is counts seated count h calls =
-    let all : first + length journal ≡ length journal = omega (arith, is.1.0) in
+    let all : first + length journal ≡ length journal = omega (arith, is.1) in
     record {
       journal = journal;
       core = core;
@@ -99,30 +83,33 @@ told_closed_as script made seats core first journal race Astray is counts seated
       seats = seats;
       first = first;
       core = core;
-      came = closed_came seats core first journal h;
+      came = pool_came script.config seats core first journal h;
       why = why_of script made seats first core is calls;
       free = counts.1;
       resv = counts.2;
     }
   where
     why_of : (script : Script) (made : Bool) (seats : List SeatState) (first : ℕ) (core : CoreState)
-        → ((made ≡ false) ⊎ (¬ IsOfScript script first core)) → MatchBool made (All (HasMade script) seats) (SomeStrayed script seats)
-        → SomeStrayed script seats ⊎ ((¬ IsOfScript script first core) ⊎ ((task : ℕ) × LeastMissing script.config.tasks seats task))
+        → ((made ≡ false) ⊎ (¬ (first ≡ 0))) → MatchBool made (All (HasMade script) seats) (SomeStrayed script seats)
+        → SomeStrayed script seats
+        ⊎ ((¬ IsOfScript script first core) ⊎ (((task : ℕ) × LeastMissing script.config.tasks seats task) ⊎ HasOtherSizes script))
     why_of script true seats first core (inl is) calls = absurd (true≢false is)
     why_of script false seats first core (inl is) calls = inl calls
-    why_of script made seats first core (inr is) calls = inr (inl is)
+    why_of script made seats first core (inr is) calls = inr (inl (λ whole. is whole.0))
 
-pub told_closed : (script : Script) (made : Bool) (tasks : ℕ) (seats : List SeatState) (core : CoreState) (first entries : ℕ) (journal : List Entry)
-    (race : Race) → IsVerdictOn script made first core race.verdict → Counts race entries core → entries ≡ first + length journal
-    → AllSeated tasks seats → tasks ≡ script.config.tasks → length seats ≡ script.config.tasks → ClosesWith seats core first journal
+pub told_closed : (script : Script) (made : Bool) (config : Config) (seats : List SeatState) (core : CoreState) (first entries : ℕ)
+    (journal : List Entry) (race : Race) → IsVerdictOn made first race.verdict → Counts race entries core
+    → entries ≡ first + length journal → AllSeated config.tasks seats → config ≡ script.config → length seats ≡ script.config.tasks
+    → ClosesPoolOf config seats core first journal
     → MatchBool made (All (HasMade script) seats) (SomeStrayed script seats) → IsTold script race
-told_closed script made tasks seats core first entries journal race is counts all seated same count h calls =
+told_closed script made config seats core first entries journal race is counts all seated same count h calls =
     told_closed_as script made seats core first journal race race.verdict is (counts.0 ∙ all, counts.1, counts.2)
-    (subst (λ (n : ℕ). AllSeated n seats) same seated) count h calls
+    (subst (λ (c : Config). AllSeated c.tasks seats) same seated) count
+    (subst (λ (c : Config). ClosesPoolOf c seats core first journal) same h) calls
 
 -- what is told of one that wasn't
 told_refused_as : (script : Script) (seats : List SeatState) (core : CoreState) (tally : Tally) (race : Race) (why : CloseFault)
-    → IsCameTo core → tally ≡ tally_of core → RefusesClose script.config.tasks seats why → IsToldOfRefused why tally race
+    → IsCameTo core → tally ≡ tally_of core → RefusesClose script.config seats why → IsToldOfRefused why tally race
     → IsTold script race
 told_refused_as script seats core tally race (fault.SeatMissing task) came same refused told =
     subst (λ (r : Race). IsTold script r) (sym told)
@@ -131,7 +118,7 @@ told_refused_as script seats core tally race (fault.SeatMissing task) came same 
       first = 0;
       core = core;
       came = came;
-      why = inr (inr (task, refused));
+      why = inr (inr (inl (task, refused)));
       free = ap (λ (t : Tally). t.free) same;
       resv = ap (λ (t : Tally). t.resv) same;
     })
@@ -147,52 +134,67 @@ told_refused_as script seats core tally race (fault.Disagree position) came same
       came = came;
       counts = (refl, ap (λ (t : Tally). t.free) same, ap (λ (t : Tally). t.resv) same);
     })
+told_refused_as script seats core tally race fault.OtherSizes came same refused told =
+    subst (λ (r : Race). IsTold script r) (sym told)
+    (record {
+      seats = seats;
+      first = 0;
+      core = core;
+      came = came;
+      why = inr (inr (inr refused.1));
+      free = ap (λ (t : Tally). t.free) same;
+      resv = ap (λ (t : Tally). t.resv) same;
+    })
 told_refused_as script seats core tally race fault.Memory came same refused told = absurd told
 
-pub told_refused : (script : Script) (tasks : ℕ) (seats : List SeatState) (core : CoreState) (tally : Tally) (race : Race) (why : CloseFault)
-    → IsCameTo core → tally ≡ tally_of core → tasks ≡ script.config.tasks → RefusesClose tasks seats why
+pub told_refused : (script : Script) (config : Config) (seats : List SeatState) (core : CoreState) (tally : Tally) (race : Race)
+    (why : CloseFault) → IsCameTo core → tally ≡ tally_of core → config ≡ script.config → RefusesClose config seats why
     → IsToldOfRefused why tally race → IsTold script race
-told_refused script tasks seats core tally race why came is same refused told =
-    told_refused_as script seats core tally race why came is (subst (λ (n : ℕ). RefusesClose n seats why) same refused) told
+told_refused script config seats core tally race why came is same refused told =
+    told_refused_as script seats core tally race why came is (subst (λ (c : Config). RefusesClose c seats why) same refused) told
 
 -- what is kept of a pool that was closed
-pub kept_closed : (script : Script) (made : Bool) (tasks : ℕ) (seats : List SeatState) (core : CoreState) (first : ℕ) (journal : List Entry)
-    → AllSeated tasks seats → tasks ≡ script.config.tasks → length seats ≡ script.config.tasks → ClosesWith seats core first journal
+pub kept_closed : (script : Script) (made : Bool) (config : Config) (seats : List SeatState) (core : CoreState) (first : ℕ)
+    (journal : List Entry) → AllSeated config.tasks seats → config ≡ script.config → length seats ≡ script.config.tasks
+    → ClosesPoolOf config seats core first journal
     → MatchBool made (All (HasMade script) seats) (SomeStrayed script seats) → (kept : Option Trace)
-    → IsKeptOf script made first journal core kept → IsKept script kept
-kept_closed script made tasks seats core first journal all same count h calls None is =
-    record { seats = seats; why = why_not script made seats first core (closed_came seats core first journal h) is calls }
+    → IsKeptOf script made first journal kept → IsKept script kept
+kept_closed script made config seats core first journal all same count h calls None is =
+    record { seats = seats; why = why_not script made seats first core (pool_came config seats core first journal h) is calls }
   where
     why_not : (script : Script) (made : Bool) (seats : List SeatState) (first : ℕ) (core : CoreState) → IsCameTo core
-        → ((made ≡ false) ⊎ (¬ IsOfScript script first core)) → MatchBool made (All (HasMade script) seats) (SomeStrayed script seats)
+        → ((made ≡ false) ⊎ (¬ (first ≡ 0))) → MatchBool made (All (HasMade script) seats) (SomeStrayed script seats)
         → SomeStrayed script seats
         ⊎ (HasClosedAnother script ⊎ (((task : ℕ) × LeastMissing script.config.tasks seats task) ⊎ HaveDisagreed seats))
     why_not script true seats first core came (inl is) calls = absurd (true≢false is)
     why_not script false seats first core came (inl is) calls = inl calls
-    why_not script made seats first core came (inr is) calls = inr (inl (first, core, came, is))
-kept_closed script made tasks seats core first journal all same count h calls (Some trace) is =
+    why_not script made seats first core came (inr is) calls = inr (inl (first, core, came, λ whole. is whole.0))
+kept_closed script made config seats core first journal all same count h calls (Some trace) is =
     record {
       journal = journal;
       core = core;
-      is = race_of script made seats core first journal is.0 (subst (λ (n : ℕ). AllSeated n seats) same all) count h calls;
+      is = race_of script made seats core first journal is.0 (subst (λ (c : Config). AllSeated c.tasks seats) same all) count
+          (subst (λ (c : Config). ClosesPoolOf c seats core first journal) same h) calls;
       config = is.1;
       order = is.2;
     }
 
 -- a pool that wasn't closed had a race that wasn't
 unclosed_as : (script : Script) (seats : List SeatState) (why : CloseFault) → (why ≢ fault.Memory)
-    → RefusesClose script.config.tasks seats why → IsUnclosed script
+    → RefusesClose script.config seats why → IsUnclosed script
 unclosed_as script seats (fault.SeatMissing task) not refused = record { seats = seats; why = inr (inr (inl (task, refused))) }
 unclosed_as script seats (fault.Disagree position) not refused =
     record { seats = seats; why = inr (inr (inr (refused.1.0, refused.1.1, position, refused.1.2))) }
+unclosed_as script seats fault.OtherSizes not refused =
+    record { seats = seats; why = inr (inl (0, refused.1.0, refused.1.1, λ is. refused.1.2 is.1)) }
 unclosed_as script seats fault.Memory not refused = absurd (not refl)
 
 -- so nothing is kept of it
-pub kept_none : (script : Script) (tasks : ℕ) (seats : List SeatState) (why : CloseFault) (kept : Option Trace)
-    → tasks ≡ script.config.tasks → RefusesClose tasks seats why → kept ≡ None → (why ≢ fault.Memory) → IsKept script kept
-kept_none script tasks seats why kept same refused none not =
+pub kept_none : (script : Script) (config : Config) (seats : List SeatState) (why : CloseFault) (kept : Option Trace)
+    → config ≡ script.config → RefusesClose config seats why → kept ≡ None → (why ≢ fault.Memory) → IsKept script kept
+kept_none script config seats why kept same refused none not =
     subst (λ (k : Option Trace). IsKept script k) (sym none)
-    (unclosed_as script seats why not (subst (λ (n : ℕ). RefusesClose n seats why) same refused))
+    (unclosed_as script seats why not (subst (λ (c : Config). RefusesClose c seats why) same refused))
 
 pub none_few : (kept : Option Trace) → kept ≡ None → IfSome kept (λ trace. length trace.events.items ≤ MOST_EVENTS)
 none_few kept none = subst (λ (k : Option Trace). IfSome k (λ trace. length trace.events.items ≤ MOST_EVENTS)) (sym none) tt
@@ -204,7 +206,7 @@ few_taken n journal events is =
     omega (arith, ap length is, many, few)
 
 -- and it is no longer than a trace may be
-pub kept_few : (script : Script) (made : Bool) (core : CoreState) (first : ℕ) (journal : List Entry) (kept : Option Trace)
-    → IsKeptOf script made first journal core kept → IfSome kept (λ trace. length trace.events.items ≤ MOST_EVENTS)
-kept_few script made core first journal None is = tt
-kept_few script made core first journal (Some trace) is = few_taken MOST_EVENTS journal trace.events.items is.2
+pub kept_few : (script : Script) (made : Bool) (first : ℕ) (journal : List Entry) (kept : Option Trace)
+    → IsKeptOf script made first journal kept → IfSome kept (λ trace. length trace.events.items ≤ MOST_EVENTS)
+kept_few script made first journal None is = tt
+kept_few script made first journal (Some trace) is = few_taken MOST_EVENTS journal trace.events.items is.2

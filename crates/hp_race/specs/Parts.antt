@@ -6,7 +6,7 @@ use Rattle.hp_core.specs.State.{CoreState}
 use Rattle.hp_text.specs.declared.script.Script.{Script}
 use Rattle.hp_text.specs.Scripts.{calls_of}
 use Rattle.hp_shared.specs.declared.entry.Entry.{Entry}
-use Rattle.hp_shared.specs.Closing.{ClosesWith}
+use Rattle.hp_shared.specs.Closing.{ClosesPoolOf}
 use Rattle.hp_shared.specs.Journal.{Follows, Interleaves, IsCameTo}
 use Rattle.hp_shared.specs.Seats.{AllSeated, lists_of}
 use Rattle.hp_shared.specs.States.{SeatState, tally_of}
@@ -64,8 +64,8 @@ IsVerdictOnParts made same (Disagree position) = ⊥
 IsVerdictOnParts made same Astray = (made ≡ false) ⊎ (¬ same)
 
 -- The race was closed: its parts, one after the other, are a run from the opening of the script's pool to the core whose numbers are
--- told. Behind the last part the pool that was closed had nothing in its journal, as many entries behind it as are told, and
--- the numbers of that core
+-- told. Behind the last part the pool that was closed, one of the script's config, had nothing in its journal, as many entries
+-- behind it as are told, and the numbers of that core
 pub record IsClosedInParts (script : Script) (most : ℕ) (race : Race) : Type 0 where
   pub opened : CoreState
   pub opening : IsOpening script.config opened
@@ -75,7 +75,7 @@ pub record IsClosedInParts (script : Script) (most : ℕ) (race : Race) : Type 0
   pub counts : Counts race race.entries core
   pub seats : List SeatState
   pub pool : CoreState
-  pub rest : ClosesWith seats pool race.entries []
+  pub rest : ClosesPoolOf script.config seats pool race.entries []
   pub same : tally_of pool ≡ tally_of core
 
 -- The race was given up: a call ended as none may, a cut was refused, or what was cut off or closed isn't what happened to a pool

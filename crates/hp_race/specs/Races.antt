@@ -49,11 +49,11 @@ Counts race entries core = (race.entries ≡ entries) × (race.free ≡ free_of 
 abbrev pub IsOfScript : Script → (first : ℕ) → CoreState → Type 0
 IsOfScript script first core = (first ≡ 0) × (config_of core ≡ sizes script.config)
 
--- the verdict on a pool that was closed, where all calls were made or some weren't
-abbrev pub IsVerdictOn : Script → (made : Bool) → (first : ℕ) → CoreState → Verdict → Type 0
-IsVerdictOn script made first core Closed = (made ≡ true) × IsOfScript script first core
-IsVerdictOn script made first core (Disagree position) = ⊥
-IsVerdictOn script made first core Astray = (made ≡ false) ⊎ (¬ IsOfScript script first core)
+-- the verdict on a pool of the script's sizes that was closed, where all calls were made or some weren't
+abbrev pub IsVerdictOn : (made : Bool) → (first : ℕ) → Verdict → Type 0
+IsVerdictOn made first Closed = (made ≡ true) × (first ≡ 0)
+IsVerdictOn made first (Disagree position) = ⊥
+IsVerdictOn made first Astray = (made ≡ false) ⊎ (¬ (first ≡ 0))
 
 -- the race was closed
 pub record IsClosed (script : Script) (race : Race) : Type 0 where
@@ -73,13 +73,18 @@ pub record IsDisagreed (script : Script) (position : ℕ) (race : Race) : Type 0
   pub came : IsCameTo core
   pub counts : Counts race position core
 
--- a call ended as none may, what was closed isn't what was opened, or a seat is missing
+-- some pool of other sizes than the script's was there to be closed
+abbrev pub HasOtherSizes : Script → Type 0
+HasOtherSizes script = (core : CoreState) × IsCameTo core × (¬ (config_of core ≡ sizes script.config))
+
+-- a call ended as none may, what was closed isn't what was opened, a seat is missing, or there was a pool of other sizes
 pub record IsAstray (script : Script) (race : Race) : Type 0 where
   pub seats : List SeatState
   pub first : ℕ
   pub core : CoreState
   pub came : IsCameTo core
-  pub why : SomeStrayed script seats ⊎ ((¬ IsOfScript script first core) ⊎ ((task : ℕ) × LeastMissing script.config.tasks seats task))
+  pub why : SomeStrayed script seats
+      ⊎ ((¬ IsOfScript script first core) ⊎ (((task : ℕ) × LeastMissing script.config.tasks seats task) ⊎ HasOtherSizes script))
   pub free : race.free ≡ free_of core
   pub resv : race.resv ≡ resv_of core
 
@@ -97,6 +102,7 @@ abbrev pub IsToldOfRefused : CloseFault → Tally → Race → Type 0
 IsToldOfRefused (fault.SeatMissing task) tally race = race ≡ record { verdict = Astray; entries = 0; free = tally.free; resv = tally.resv }
 IsToldOfRefused (fault.Disagree position) tally race =
     race ≡ record { verdict = Disagree position; entries = position; free = tally.free; resv = tally.resv }
+IsToldOfRefused fault.OtherSizes tally race = race ≡ record { verdict = Astray; entries = 0; free = tally.free; resv = tally.resv }
 IsToldOfRefused fault.Memory tally race = ⊥
 
 -- what was closed isn't the pool that was opened for the script, with all its entries
@@ -120,9 +126,9 @@ IsKept script None = IsUnclosed script
 IsKept script (Some trace) = IsTraceOf script (sizes trace.config) trace.events.items
 
 -- what is kept of a pool that was closed with this journal
-abbrev pub IsKeptOf : Script → (made : Bool) → (first : ℕ) → (journal : List Entry) → CoreState → Option Trace → Type 0
-IsKeptOf script made first journal core None = IsVerdictOn script made first core Astray
-IsKeptOf script made first journal core (Some trace) =
-    IsVerdictOn script made first core Closed
+abbrev pub IsKeptOf : Script → (made : Bool) → (first : ℕ) → (journal : List Entry) → Option Trace → Type 0
+IsKeptOf script made first journal None = IsVerdictOn made first Astray
+IsKeptOf script made first journal (Some trace) =
+    IsVerdictOn made first Closed
     × (sizes trace.config ≡ sizes script.config)
     × (trace.events.items ≡ events_of (take MOST_EVENTS journal))

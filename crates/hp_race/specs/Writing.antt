@@ -26,7 +26,7 @@ is_closed race = is_verdict_closed race.verdict
 pub record WroteRaces (script : Script) (cut : Option ℕ) (times : ℕ) (closed : Bool) (before after : Option (List ℕ)) : Type 0 where
   pub races : List Race
   pub count : length races ≡ times
-  pub told : All (IsToldBy script cut) races
+  pub each : All (IsToldBy script cut) races
   pub wrote : Appends before after (lines_text 0 races)
   pub ends : closed ≡ list_all is_closed races
 
@@ -34,7 +34,7 @@ pub record WroteRaces (script : Script) (cut : Option ℕ) (times : ℕ) (closed
 pub record WroteSomeRaces (script : Script) (cut : Option ℕ) (times : ℕ) (before after : Option (List ℕ)) : Type 0 where
   pub races : List Race
   pub few : length races ≤ times
-  pub told : All (IsToldBy script cut) races
+  pub each : All (IsToldBy script cut) races
   pub wrote : Wrote before after (lines_text 0 races)
 
 -- the trace of a race was written where it was closed, and nothing where it wasn't

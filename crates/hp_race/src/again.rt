@@ -16,11 +16,11 @@ pub(crate) struct Again {
     pub(crate) entries: u64,
 }
 
-// Whether the entry tells of this outcome.
-fn is_told(told: Outcome, entry: &Entry) -> bool
-    ensures { result ≡ true → told ≡ entry.now.outcome }
+// Whether the entry has this outcome.
+fn has_outcome(entry: &Entry, outcome: Outcome) -> bool
+    ensures { result ≡ true → outcome ≡ entry.now.outcome }
 {
-    told == entry.outcome
+    outcome == entry.outcome
 }
 
 // Makes the entries' events. Whether each has the outcome that its entry tells.
@@ -28,8 +28,8 @@ fn happens(core: &mut Core, entries: &[Entry]) -> Result<bool, AllocError>
     ensures { IfOk result (λ same. same ≡ true → Follows core.old entries.now core.new) }
 {
     for entry in entries {
-        let told = core.step(entry.event)?;
-        if !is_told(told, entry) {
+        let outcome = core.step(entry.event)?;
+        if !has_outcome(entry, outcome) {
             return Ok(false);
         }
     }

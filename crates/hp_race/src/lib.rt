@@ -1,8 +1,9 @@
 //! Races of a script: its tasks make their calls at once, each in a thread of its own, on a running pool.
 //!
-//! It stands on hp_shared, whose pool the threads use, and on hp_text, whose scripts it races and by which it writes. It promises of a race that was closed that its journal is a run of the script's pool and an interleaving of
-//! the histories of its tasks, each of which made the script's calls of that task, in order and each to its end. Which
-//! race of many it is it doesn't know, nor when a thread goes on.
+//! It stands on hp_shared, whose pool the threads use, and on hp_text, whose scripts it races and by which it writes. It
+//! promises of a race that was closed that its journal is a run of the script's pool and an interleaving of the histories
+//! of its tasks, each of which made the script's calls of that task, in order and each to its end. Which race of many it
+//! is it doesn't know, nor when a thread goes on.
 #![tactic(auto)]
 
 mod again;

@@ -178,9 +178,10 @@ fn gather_seats<L: Ledger>(
 ) -> Result<(bool, Vec<Seat<L>>), AllocError>
     requires ran { All (λ d. HasRun script.now call_range d.ending d.seat) racers.items }
     requires idle { All (HasMadeIn script.now call_range) idle.items }
-    ensures calls { IfOk result (λ told.
-        MatchBool told.0 (All (HasMadeIn script.now call_range) told.1.items) (SomeStrayedIn script.now call_range told.1.items)) }
-    ensures count { IfOk result (λ told. length told.1.items ≡ length racers.items + length idle.items) }
+    ensures calls { IfOk result (λ gathered.
+        MatchBool gathered.0 (All (HasMadeIn script.now call_range) gathered.1.items)
+        (SomeStrayedIn script.now call_range gathered.1.items)) }
+    ensures count { IfOk result (λ gathered. length gathered.1.items ≡ length racers.items + length idle.items) }
 {
     let _ = script;
     let _ = call_range;

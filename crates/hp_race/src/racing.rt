@@ -81,7 +81,7 @@ fn run_by<L: Ledger + Send + Sync, R: Threads + Wait + Sync>(
 ) -> Result<(Shared<L>, bool, Vec<Seat<L>>), AllocError>
     requires name { blank.name ≡ L.name }
     requires parts { (blank.parts ≡ L.parts) × (blank.parts ≡ script.now.config.tasks) }
-    ensures tasks { IfOk result (λ ran. ran.0.tasks ≡ script.now.config.tasks) }
+    ensures config { IfOk result (λ ran. ran.0.config ≡ script.now.config) }
     ensures count { IfOk result (λ ran. length ran.2.items ≡ script.now.config.tasks) }
     ensures calls { IfOk result (λ ran. MatchBool ran.1 (All (HasMade script.now) ran.2.items) (SomeStrayed script.now ran.2.items)) }
 {

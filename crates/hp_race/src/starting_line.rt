@@ -1,4 +1,6 @@
 //! What the threads of a race go by: they begin together, and let others go first.
+ghost use Rattle.std.specs.Prelude.{◌≡◌, true};
+
 use hp_base::Task;
 use hp_machine::Phase;
 use hp_shared::Gate;
@@ -42,7 +44,9 @@ impl Gate for StartingLine {
         thread::yield_now();
     }
 
-    fn grant(&self, _task: Task, _phase: Phase) -> bool {
+    fn grant(&self, _task: Task, _phase: Phase) -> bool
+        ensures { result ≡ true }
+    {
         true
     }
 }

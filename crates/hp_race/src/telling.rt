@@ -1,15 +1,13 @@
 //! What is told of a pool at the end of a race.
 ghost use Rattle.std.specs.Prelude.{◌≡◌, ◌≢◌, ◌≤◌, IfOk, IfSome, MatchBool, All, None, length, take};
-ghost use Rattle.hp_base.specs.Text.{sizes};
-ghost use Rattle.hp_core.specs.State.{CoreState};
 ghost use Rattle.hp_shared.specs.Journal.{events_of};
 ghost use Rattle.hp_race.specs.Racers.{HasMade, SomeStrayed};
 ghost use Rattle.hp_race.specs.Parts.{IsAgain, IsVerdictOnParts};
-ghost use Rattle.hp_race.specs.Races.{Counts, IsKept, IsKeptOf, IsOfScript, IsTold, IsToldOfRefused, IsVerdictOn};
+ghost use Rattle.hp_race.specs.Races.{Counts, IsKept, IsKeptOf, IsTold, IsToldOfRefused, IsVerdictOn};
 
 use crate::again::Again;
 use crate::line::{Race, Verdict};
-use hp_base::{Config, Event};
+use hp_base::Event;
 use hp_core::Tally;
 use hp_shared::{CloseFault, Closed, Entry, Seat, Shared};
 use hp_text::{MOST_EVENTS, Script, Trace};
@@ -17,34 +15,11 @@ use std::alloc::{AllocError, Global};
 use std::sync::Wait;
 use std::sync::ledger::Ledger;
 
-// Whether two pools are of the same sizes.
-fn same_sizes(a: &Config, b: &Config) -> bool
-    ensures { MatchBool result (sizes a.now ≡ sizes b.now) (¬ (sizes a.now ≡ sizes b.now)) }
+// The verdict on a pool that was closed: with all its entries it is the one that was opened, since it has its sizes.
+fn verdict(made: bool, closed: &Closed) -> Verdict
+    ensures { IsVerdictOn made closed.now.last.first result }
 {
-    a.frames == b.frames
-        && a.files == b.files
-        && a.slots == b.slots
-        && a.tasks == b.tasks
-        && a.quota == b.quota
-}
-
-// Whether what was closed is the pool that was opened for the script, with all its entries.
-fn is_of_script(script: &Script, closed: &Closed) -> bool
-    ensures { MatchBool result
-        (IsOfScript script.now closed.now.last.first closed.now.core)
-        (¬ (IsOfScript script.now closed.now.last.first closed.now.core)) }
-{
-    closed.last.first == 0 && same_sizes(&closed.core.config(), &script.config)
-}
-
-// The verdict on a pool that was closed.
-fn verdict(script: &Script, made: bool, closed: &Closed) -> Verdict
-    ensures { IsVerdictOn script.now made closed.now.last.first closed.now.core result }
-{
-    if !made {
-        return Verdict::Astray;
-    }
-    if is_of_script(script, closed) {
+    if made && closed.last.first == 0 {
         Verdict::Closed
     } else {
         Verdict::Astray
@@ -65,11 +40,11 @@ fn race_of(found: Verdict, closed: &Closed) -> Race
 }
 
 // What is told of it.
-fn told_of_closed(script: &Script, made: bool, closed: &Closed) -> Race
-    ensures verdict { IsVerdictOn script.now made closed.now.last.first closed.now.core result.verdict }
+fn told_of_closed(made: bool, closed: &Closed) -> Race
+    ensures verdict { IsVerdictOn made closed.now.last.first result.verdict }
     ensures counts { Counts result closed.now.entries closed.now.core }
 {
-    race_of(verdict(script, made, closed), closed)
+    race_of(verdict(made, closed), closed)
 }
 
 // Whether what was closed is what happened again, with nothing in its journal.
@@ -104,7 +79,7 @@ pub(crate) fn told_of_refused(fault: CloseFault, tally: Tally) -> Result<Race, A
 {
     let (verdict, entries) = match fault {
         CloseFault::Disagree(position) => (Verdict::Disagree(position), position),
-        CloseFault::SeatMissing(_) => (Verdict::Astray, 0),
+        CloseFault::SeatMissing(_) | CloseFault::OtherSizes => (Verdict::Astray, 0),
         CloseFault::Memory => return Err(AllocError),
     };
     Ok(Race {
@@ -124,14 +99,14 @@ pub(crate) fn tell<L: Ledger, R: Wait>(
     made: bool,
     seats: Vec<Seat<L>>,
 ) -> Result<Race, AllocError>
-    requires tasks { shared.tasks ≡ script.now.config.tasks }
+    requires config { shared.config ≡ script.now.config }
     requires count { length seats.items ≡ script.now.config.tasks }
     requires calls { MatchBool made (All (HasMade script.now) seats.items) (SomeStrayed script.now seats.items) }
     ensures { IfOk result (λ race. IsTold script.now race) }
 {
     let tally = shared.tally(rt);
     match shared.close(alloc, seats) {
-        Ok(closed) => Ok(told_of_closed(script, made, &closed)),
+        Ok(closed) => Ok(told_of_closed(made, &closed)),
         Err(refused) => told_of_refused(refused.fault, tally),
     }
 }
@@ -162,7 +137,7 @@ pub(crate) fn keep<L: Ledger>(
     made: bool,
     seats: Vec<Seat<L>>,
 ) -> Result<Option<Trace>, AllocError>
-    requires tasks { shared.tasks ≡ script.now.config.tasks }
+    requires config { shared.config ≡ script.now.config }
     requires count { length seats.items ≡ script.now.config.tasks }
     requires calls { MatchBool made (All (HasMade script.now) seats.items) (SomeStrayed script.now seats.items) }
     ensures race { IfOk result (λ kept. IsKept script.now kept) }
@@ -180,7 +155,7 @@ fn nothing_kept(fault: CloseFault) -> Result<Option<Trace>, AllocError>
 {
     match fault {
         CloseFault::Memory => Err(AllocError),
-        CloseFault::Disagree(_) | CloseFault::SeatMissing(_) => Ok(None),
+        CloseFault::SeatMissing(_) | CloseFault::Disagree(_) | CloseFault::OtherSizes => Ok(None),
     }
 }
 
@@ -191,10 +166,9 @@ fn kept_of(
     made: bool,
     closed: &Closed,
 ) -> Result<Option<Trace>, AllocError>
-    ensures { IfOk result (λ kept.
-        IsKeptOf script.now made closed.now.last.first closed.now.last.entries.items closed.now.core kept) }
+    ensures { IfOk result (λ kept. IsKeptOf script.now made closed.now.last.first closed.now.last.entries.items kept) }
 {
-    match verdict(script, made, closed) {
+    match verdict(made, closed) {
         Verdict::Closed => {
             let events = events_of(alloc, front(closed.last.entries.as_slice()))?;
             Ok(Some(Trace {

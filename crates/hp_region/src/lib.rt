@@ -2,8 +2,8 @@
 //! phases (Linux: `struct resv_map`).
 //!
 //! It stands on hp_base. A map is seen as its sorted list of regions, the changes in progress, the
-//! regions for which room is prepared, and for how many it has taken memory; the set is the test
-//! whether an index lies in a region. `change` prepares room, so that `commit` and `abort` take no
+//! regions for which capacity is prepared, and for how many it has taken memory; the set is the test
+//! whether an index lies in a region. `change` prepares capacity, so that `commit` and `abort` take no
 //! memory and always succeed, whatever comes between. It knows nothing of pages, frames or tasks.
 #![tactic(auto)]
 

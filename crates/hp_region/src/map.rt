@@ -15,7 +15,7 @@ pub mod change;
 mod remove;
 
 /// The indices of a file that have a reservation, as a set that is changed in two phases: `change`
-/// tells what is missing and prepares room, and `commit` adds the range, which takes no memory then,
+/// tells what is missing and prepares capacity, and `commit` adds the range, which takes no memory then,
 /// or `abort` gives the change up. Calls on regions find the first by binary search. The set is kept a
 /// second time, a bit for each index: so what is missing is counted 64 indices at once.
 #[derive(Drop)]
@@ -37,14 +37,14 @@ impl Model for RegionMap {
 
     ghost Value = { Reserved };
 
-    ghost view = { λ m. record { regions = m.regions.items; pending = m.pending; spare = m.spare; room = vec_capacity m.regions } };
+    ghost view = { λ m. record { regions = m.regions.items; pending = m.pending; spare = m.spare; capacity = vec_capacity m.regions } };
 
     ghost invariant = { λ m. record {
       apart : IsApartFrom 0 m.regions.items;
       marked : has_bit m.bits ≡ is_member m.regions.items;
       counted : m.count ≡ count_below (is_member m.regions.items) LIMIT;
       covered : m.pending ≤ m.spare;
-      room : vec_len m.regions + m.spare ≤ vec_capacity m.regions;
+      capacity : vec_len m.regions + m.spare ≤ vec_capacity m.regions;
     } };
 }
 
@@ -54,7 +54,7 @@ impl RegionMap {
         ensures regions { result.regions ≡ [] }
         ensures pending { result.pending ≡ 0 }
         ensures spare { result.spare ≡ 0 }
-        ensures room { result.room ≡ 0 }
+        ensures capacity { result.capacity ≡ 0 }
     {
         RegionMap {
             regions: Vec::new(alloc),
@@ -65,12 +65,12 @@ impl RegionMap {
         }
     }
 
-    /// The same set and the same prepared room in a map of its own, for which memory is taken. It is for a running
+    /// The same set and the same prepared capacity in a map of its own, for which memory is taken. It is for a running
     /// pool whose journal is cut: the pool keeps the core of its last cut, to compare histories from there on. No
     /// change may be in progress, since its token could end it in only one of the two maps.
     pub fn copy(&self, alloc: Global) -> Result<RegionMap, AllocError>
         requires { self.now.pending ≡ 0 }
-        ensures { IfOk result (λ copy. copy ≡ record self.now { room = copy.room }) }
+        ensures { IfOk result (λ copy. copy ≡ record self.now { capacity = copy.capacity }) }
     {
         let mut regions = Vec::with_capacity(alloc, self.regions.len() + self.spare)?;
         regions.extend_from_slice(&self.regions)?;
@@ -130,7 +130,7 @@ impl RegionMap {
         self.pending
     }
 
-    /// The number of regions for which there is room beside those in the map.
+    /// The number of regions for which there is capacity beside those in the map.
     pub fn spare(&self) -> usize
         ensures value { result ≡ self.now.spare }
         ensures covers { self.now.pending ≤ result }

@@ -76,7 +76,7 @@ pub fn add(regions: &mut Vec<Region>, from: Index, to: Index) -> bool
     requires apart { IsApartFrom 0 regions.old.items }
     requires in_order { from < to }
     requires in_limit { to ≤ LIMIT }
-    requires room { vec_len regions.old < vec_capacity regions.old }
+    requires capacity { vec_len regions.old < vec_capacity regions.old }
     ensures apart { IsApartFrom 0 regions.new.items }
     ensures members { is_member regions.new.items ≡ add_range (is_member regions.old.items) from to }
     ensures alone { result ≡ not (touches (is_member regions.old.items) from to) }
@@ -102,7 +102,7 @@ pub fn add(regions: &mut Vec<Region>, from: Index, to: Index) -> bool
 fn replace(regions: &mut Vec<Region>, at: usize, end: usize, region: Region)
     requires in_order { at ≤ end }
     requires in_range { end ≤ vec_len regions.old }
-    requires room { at ≡ end → vec_len regions.old < vec_capacity regions.old }
+    requires capacity { at ≡ end → vec_len regions.old < vec_capacity regions.old }
     ensures items { regions.new.items ≡ take at regions.old.items ++ region ∷ drop end regions.old.items }
     ensures len { vec_len regions.new ≡ vec_len regions.old + 1 - (end - at) }
     ensures capacity { vec_capacity regions.new ≡ vec_capacity regions.old }
@@ -148,7 +148,7 @@ pub fn carve(regions: &mut Vec<Region>, at: usize, index: Index)
     requires in_range { at < vec_len regions.old }
     requires holds { (d : Region)
         → is_within (slice_index_or regions.old.items at d).from (slice_index_or regions.old.items at d).to index ≡ true }
-    requires room { IsTrue (splits (is_member regions.old.items) index) → vec_len regions.old < vec_capacity regions.old }
+    requires capacity { IsTrue (splits (is_member regions.old.items) index) → vec_len regions.old < vec_capacity regions.old }
     ensures apart { IsApartFrom 0 regions.new.items }
     ensures members { is_member regions.new.items ≡ put (is_member regions.old.items) index false }
     ensures len { vec_len regions.new

@@ -6,7 +6,7 @@ ghost use Rattle.hp_frames.specs.declared.frame.FrameState.TheVariants.{Hand};
 ghost use Rattle.hp_machine.specs.Parts.{cleared};
 ghost use Rattle.hp_parts.specs.View.{view};
 ghost use Rattle.hp_parts.specs.State.{state_of, SizesStay};
-ghost use Rattle.hp_parts.specs.Room.{RoomStays};
+ghost use Rattle.hp_parts.specs.Capacity.{CapacityStays};
 ghost use Rattle.hp_parts.specs.Fits.{IsTaskOf, IsFileOf, HasPage};
 ghost use Rattle.hp_remove.specs.Fits.{IsCleared};
 
@@ -23,9 +23,9 @@ pub fn clear_index(parts: &mut Parts, task: Task, file: File, index: Index)
           (without_index ((view parts.old).mappings task) ((view parts.old).entries task) file index);
     } }
     ensures sizes { SizesStay (state_of parts.old) (state_of parts.new) }
-    ensures room { RoomStays (state_of parts.old) (state_of parts.new) }
+    ensures capacity { CapacityStays (state_of parts.old) (state_of parts.new) }
 {
-    parts.spaces[(task.number() - 1) as usize].clear_index(file, index);
+    parts.spaces[task.place()].clear_index(file, index);
 }
 
 /// The page goes from the cache into the call's hand (Linux: `hugetlb_delete_from_page_cache`).
@@ -39,7 +39,7 @@ pub fn evict_page(parts: &mut Parts, file: File, index: Index) -> Held
       frame = put (view parts.old).frame result Hand;
     } }
     ensures sizes { SizesStay (state_of parts.old) (state_of parts.new) }
-    ensures room { RoomStays (state_of parts.old) (state_of parts.new) }
+    ensures capacity { CapacityStays (state_of parts.old) (state_of parts.new) }
 {
     let frame = parts.files[file.number() as usize].cache.evict(index);
     parts.bank.evict(frame)
@@ -51,9 +51,9 @@ pub fn clear_mapping(parts: &mut Parts, task: Task, base: Vpn)
     requires { IsTaskOf (view parts.old) task }
     ensures after { view parts.new ≡ cleared (view parts.old) task base }
     ensures sizes { SizesStay (state_of parts.old) (state_of parts.new) }
-    ensures room { RoomStays (state_of parts.old) (state_of parts.new) }
+    ensures capacity { CapacityStays (state_of parts.old) (state_of parts.new) }
 {
-    parts.spaces[(task.number() - 1) as usize].clear_mapping(base);
+    parts.spaces[task.place()].clear_mapping(base);
 }
 
 /// The mapping goes, once no page of it is translated (Linux: `remove_vma`).
@@ -64,7 +64,7 @@ pub fn drop_mapping(parts: &mut Parts, task: Task, base: Vpn)
     ensures after { view parts.new
         ≡ record (view parts.old) { mappings = put (view parts.old).mappings task (without ((view parts.old).mappings task) base) } }
     ensures sizes { SizesStay (state_of parts.old) (state_of parts.new) }
-    ensures room { RoomStays (state_of parts.old) (state_of parts.new) }
+    ensures capacity { CapacityStays (state_of parts.old) (state_of parts.new) }
 {
-    parts.spaces[(task.number() - 1) as usize].drop_mapping(base);
+    parts.spaces[task.place()].drop_mapping(base);
 }

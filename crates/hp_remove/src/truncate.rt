@@ -12,7 +12,7 @@ ghost use Rattle.hp_machine.specs.declared.call.Call.TheVariants as call;
 ghost use Rattle.hp_parts.specs.Turns.{IfBlocked, IfWanting};
 ghost use Rattle.hp_parts.specs.View.{view};
 ghost use Rattle.hp_parts.specs.State.{state_of, IsSized, SizesStay};
-ghost use Rattle.hp_parts.specs.Room.{RoomStays};
+ghost use Rattle.hp_parts.specs.Capacity.{CapacityStays};
 ghost use Rattle.hp_parts.specs.Fits.{IsTaskOf, IsFileOf, IsHeld, HasPage};
 ghost use Rattle.hp_remove.specs.Fits.{TruncateFits};
 
@@ -37,7 +37,7 @@ pub fn step_truncate(
     requires fits { TruncateFits (view parts.old) task phase }
     ensures row { TruncateRow (view parts.old) task killed grant phase result (view parts.new) }
     ensures sizes { SizesStay (state_of parts.old) (state_of parts.new) }
-    ensures room { RoomStays (state_of parts.old) (state_of parts.new) }
+    ensures capacity { CapacityStays (state_of parts.old) (state_of parts.new) }
     ensures blocked { IfWanting (standing (call.Truncate phase)).wants
         (IfBlocked result (λ again. (again ≡ phase) × (state_of parts.new ≡ state_of parts.old))) }
 {
@@ -62,7 +62,7 @@ fn from_start(parts: &mut Parts, task: Task, killed: bool, phase: Start) -> Turn
     requires { IsSized (state_of parts.old) }
     ensures row { TruncateStartRow (view parts.old) task killed phase result (view parts.new) }
     ensures sizes { SizesStay (state_of parts.old) (state_of parts.new) }
-    ensures room { RoomStays (state_of parts.old) (state_of parts.new) }
+    ensures capacity { CapacityStays (state_of parts.old) (state_of parts.new) }
     ensures same { IfBlocked result (λ again. (again ≡ TruncatePhase.Start phase) × (state_of parts.new ≡ state_of parts.old)) }
 {
     let truncation = phase.truncation;
@@ -77,7 +77,7 @@ fn from_size(parts: &mut Parts, phase: Size) -> Turn<TruncatePhase>
     requires { IsFileOf (view parts.old) phase.truncation.file }
     ensures row { TruncateSizeRow (view parts.old) phase result (view parts.new) }
     ensures sizes { SizesStay (state_of parts.old) (state_of parts.new) }
-    ensures room { RoomStays (state_of parts.old) (state_of parts.new) }
+    ensures capacity { CapacityStays (state_of parts.old) (state_of parts.new) }
 {
     let Size { truncation } = phase;
     let top = set_size(parts, truncation.file, truncation.new);
@@ -103,7 +103,7 @@ fn set_size(parts: &mut Parts, file: File, new: u32) -> u32
     ensures top { (end : ℕ) × IsPagesEnd ((view parts.old).pages file) end × (result ≡ max ((view parts.old).size file) end) }
     ensures after { view parts.new ≡ record (view parts.old) { size = put (view parts.old).size file new } }
     ensures sizes { SizesStay (state_of parts.old) (state_of parts.new) }
-    ensures room { RoomStays (state_of parts.old) (state_of parts.new) }
+    ensures capacity { CapacityStays (state_of parts.old) (state_of parts.new) }
 {
     let file = &mut parts.files[file.number() as usize];
     let top = file.size.max(file.cache.top());
@@ -115,7 +115,7 @@ fn set_size(parts: &mut Parts, file: File, new: u32) -> u32
 fn from_want(parts: &mut Parts, task: Task, phase: Want) -> Turn<TruncatePhase>
     ensures row { TruncateWantRow (view parts.old) task phase result (view parts.new) }
     ensures sizes { SizesStay (state_of parts.old) (state_of parts.new) }
-    ensures room { RoomStays (state_of parts.old) (state_of parts.new) }
+    ensures capacity { CapacityStays (state_of parts.old) (state_of parts.new) }
     ensures same { IfBlocked result (λ again. (again ≡ TruncatePhase.Want phase) × (state_of parts.new ≡ state_of parts.old)) }
 {
     let (truncation, index, evicted) = (phase.truncation, phase.index, phase.evicted);
@@ -133,7 +133,7 @@ fn from_locked(parts: &mut Parts, phase: Locked) -> Turn<TruncatePhase>
     requires { IsFileOf (view parts.old) phase.truncation.file }
     ensures row { TruncateLockedRow (view parts.old) phase result (view parts.new) }
     ensures sizes { SizesStay (state_of parts.old) (state_of parts.new) }
-    ensures room { RoomStays (state_of parts.old) (state_of parts.new) }
+    ensures capacity { CapacityStays (state_of parts.old) (state_of parts.new) }
 {
     let Locked {
         truncation,
@@ -163,7 +163,7 @@ fn from_unmap(parts: &mut Parts, phase: Unmap) -> Turn<TruncatePhase>
     requires few { (view parts.old).geometry.tasks < 2 ^ 32 }
     ensures row { TruncateUnmapRow (view parts.old) phase result (view parts.new) }
     ensures sizes { SizesStay (state_of parts.old) (state_of parts.new) }
-    ensures room { RoomStays (state_of parts.old) (state_of parts.new) }
+    ensures capacity { CapacityStays (state_of parts.old) (state_of parts.new) }
 {
     let Unmap {
         truncation,
@@ -194,7 +194,7 @@ fn from_evict(parts: &mut Parts, phase: Evict) -> Turn<TruncatePhase>
     requires few { phase.evicted ≤ LIMIT }
     ensures row { TruncateEvictRow (view parts.old) phase result (view parts.new) }
     ensures sizes { SizesStay (state_of parts.old) (state_of parts.new) }
-    ensures room { RoomStays (state_of parts.old) (state_of parts.new) }
+    ensures capacity { CapacityStays (state_of parts.old) (state_of parts.new) }
 {
     let Evict {
         truncation,
@@ -215,7 +215,7 @@ fn from_free(parts: &mut Parts, phase: Free) -> Turn<TruncatePhase>
     requires { IsHeld (view parts.old) phase.held }
     ensures row { TruncateFreeRow (view parts.old) phase result (view parts.new) }
     ensures sizes { SizesStay (state_of parts.old) (state_of parts.new) }
-    ensures room { RoomStays (state_of parts.old) (state_of parts.new) }
+    ensures capacity { CapacityStays (state_of parts.old) (state_of parts.new) }
 {
     let Free {
         truncation,
@@ -235,7 +235,7 @@ fn from_unslot(parts: &mut Parts, task: Task, phase: Unslot) -> Turn<TruncatePha
     requires { (view parts.old).slots (slot_of (view parts.old).geometry phase.truncation.file phase.index) ≡ Some task }
     ensures row { TruncateUnslotRow (view parts.old) phase result (view parts.new) }
     ensures sizes { SizesStay (state_of parts.old) (state_of parts.new) }
-    ensures room { RoomStays (state_of parts.old) (state_of parts.new) }
+    ensures capacity { CapacityStays (state_of parts.old) (state_of parts.new) }
 {
     let Unslot {
         truncation,
@@ -263,7 +263,7 @@ fn from_tail(parts: &mut Parts, phase: Tail) -> Turn<TruncatePhase>
     requires evicted { phase.evicted ≤ count_within ((view parts.old).reserved phase.truncation.file) phase.truncation.new LIMIT }
     ensures row { TruncateTailRow (view parts.old) phase result (view parts.new) }
     ensures sizes { SizesStay (state_of parts.old) (state_of parts.new) }
-    ensures room { RoomStays (state_of parts.old) (state_of parts.new) }
+    ensures capacity { CapacityStays (state_of parts.old) (state_of parts.new) }
 {
     let Tail {
         truncation,
@@ -286,7 +286,7 @@ fn from_settle(parts: &mut Parts, phase: Settle) -> Turn<TruncatePhase>
     requires used { phase.excess + phase.evicted ≤ (view parts.old).used }
     ensures row { TruncateSettleRow (view parts.old) phase result (view parts.new) }
     ensures sizes { SizesStay (state_of parts.old) (state_of parts.new) }
-    ensures room { RoomStays (state_of parts.old) (state_of parts.new) }
+    ensures capacity { CapacityStays (state_of parts.old) (state_of parts.new) }
 {
     let Settle {
         truncation,
@@ -302,7 +302,7 @@ fn from_leave(parts: &mut Parts, task: Task, phase: Leave) -> Turn<TruncatePhase
     requires { (view parts.old).locks phase.truncation.file ≡ Some task }
     ensures row { TruncateLeaveRow (view parts.old) phase result (view parts.new) }
     ensures sizes { SizesStay (state_of parts.old) (state_of parts.new) }
-    ensures room { RoomStays (state_of parts.old) (state_of parts.new) }
+    ensures capacity { CapacityStays (state_of parts.old) (state_of parts.new) }
 {
     let Leave { truncation } = phase;
     leave_lock(parts, task, truncation.file);

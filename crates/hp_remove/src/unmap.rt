@@ -2,7 +2,7 @@
 ghost use Rattle.hp_machine.specs.UnmapRows.{UnmapRow, UnmapStartRow, UnmapClearRow, UnmapDropRow};
 ghost use Rattle.hp_parts.specs.View.{view};
 ghost use Rattle.hp_parts.specs.State.{state_of, SizesStay};
-ghost use Rattle.hp_parts.specs.Room.{RoomStays};
+ghost use Rattle.hp_parts.specs.Capacity.{CapacityStays};
 ghost use Rattle.hp_parts.specs.Fits.{IsTaskOf};
 ghost use Rattle.hp_remove.specs.Fits.{UnmapFits, IsCleared};
 
@@ -24,7 +24,7 @@ pub fn step_unmap(
     requires { UnmapFits (view parts.old) task phase }
     ensures row { UnmapRow (view parts.old) task killed grant phase result (view parts.new) }
     ensures sizes { SizesStay (state_of parts.old) (state_of parts.new) }
-    ensures room { RoomStays (state_of parts.old) (state_of parts.new) }
+    ensures capacity { CapacityStays (state_of parts.old) (state_of parts.new) }
 {
     let _ = (killed, grant);
     match phase {
@@ -39,10 +39,10 @@ fn from_start(parts: &mut Parts, task: Task, phase: Start) -> Turn<UnmapPhase>
     requires { IsTaskOf (view parts.old) task }
     ensures row { UnmapStartRow (view parts.old) task phase result (view parts.new) }
     ensures sizes { SizesStay (state_of parts.old) (state_of parts.new) }
-    ensures room { RoomStays (state_of parts.old) (state_of parts.new) }
+    ensures capacity { CapacityStays (state_of parts.old) (state_of parts.new) }
 {
     let Start { base } = phase;
-    let space = &parts.spaces[(task.number() - 1) as usize];
+    let space = &parts.spaces[task.place()];
     if space.base_of(base) == Some(base) {
         Turn::Moved(UnmapPhase::Clear(Clear { base }))
     } else {
@@ -54,7 +54,7 @@ fn from_clear(parts: &mut Parts, task: Task, phase: Clear) -> Turn<UnmapPhase>
     requires { IsTaskOf (view parts.old) task }
     ensures row { UnmapClearRow (view parts.old) task phase result (view parts.new) }
     ensures sizes { SizesStay (state_of parts.old) (state_of parts.new) }
-    ensures room { RoomStays (state_of parts.old) (state_of parts.new) }
+    ensures capacity { CapacityStays (state_of parts.old) (state_of parts.new) }
 {
     let Clear { base } = phase;
     clear_mapping(parts, task, base);
@@ -66,7 +66,7 @@ fn from_drop(parts: &mut Parts, task: Task, phase: Drop) -> Turn<UnmapPhase>
     requires bare { IsCleared (view parts.old) task phase.base }
     ensures row { UnmapDropRow (view parts.old) task phase result (view parts.new) }
     ensures sizes { SizesStay (state_of parts.old) (state_of parts.new) }
-    ensures room { RoomStays (state_of parts.old) (state_of parts.new) }
+    ensures capacity { CapacityStays (state_of parts.old) (state_of parts.new) }
 {
     let Drop { base } = phase;
     drop_mapping(parts, task, base);

@@ -4,3 +4,4 @@ pub mod Running
 pub mod Replays
 pub mod StoppedFaults
 pub mod Told
+pub mod OneText

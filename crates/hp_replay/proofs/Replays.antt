@@ -1,5 +1,5 @@
 -- A replay as a whole: what was read is a trace or has a fault, and what was written is its run.
-use Rattle.std.proofs.Common.{◌≡◌, ℕ, zero, suc, ◌+◌, ◌<◌, List, [], ◌∷◌, ◌++◌, length, take, Option, Some, None, refl, sym, ap}
+use Rattle.std.proofs.Common.{◌≡◌, ℕ, suc, ◌+◌, ◌<◌, List, [], ◌∷◌, ◌++◌, length, Option, Some, None, refl, sym, ap}
 use Rattle.std.proofs.Common.{subst, ◌∙◌, length-append, arith, inl, inr, ◌⊎◌}
 use Rattle.std.specs.Prelude.{map, IfSome, IfErr, OnOk, Result, Ok, Err}
 use Rattle.std.specs.Io.KnownBytes.{Appends, Consumes, Keeps, IsAtEnd}
@@ -11,7 +11,7 @@ use Rattle.hp_machine.specs.declared.outcome.Outcome.{Outcome}
 use Rattle.hp_core.specs.State.{CoreState}
 use Rattle.hp_text.specs.declared.fault.ReplayFault.{ReplayFault}
 use Rattle.hp_text.specs.declared.fault.ReplayFault.TheVariants.{BadLine, BadHeader, Read, Write, Memory}
-use Rattle.hp_text.specs.Lines.{FeedState, opening_feed, Line, header, event, fault_at, feed_after, lines_after, end_of, end_at}
+use Rattle.hp_text.specs.Lines.{FeedState, opening_feed, Line, header, event, fault_at, feed_after, lines_after, end_of}
 use Rattle.hp_text.specs.Traces.{IsTrace, HasNoEnd, IsLineFault, trace_text}
 use Rattle.hp_replay.specs.Outcomes.{Run, RunOf, outcomes_text, outcome_line, state_text}
 use Rattle.hp_text.specs.Writing.{Wrote, IsWriteFault}

@@ -1,6 +1,6 @@
 -- Lines that run one after the other, piece by piece.
-use Rattle.std.proofs.Common.{◌≡◌, ℕ, zero, suc, ◌+◌, ◌<◌, ◌≤◌, Bool, true, false, eqb, List, [], ◌∷◌, ◌++◌, length, drop, Option}
-use Rattle.std.proofs.Common.{Some, None, refl, sym, ap, subst, ◌∙◌, append_assoc, length-append, arith, inl, inr}
+use Rattle.std.proofs.Common.{◌≡◌, ℕ, zero, suc, ◌+◌, ◌<◌, List, [], ◌∷◌, ◌++◌, length, drop, Option}
+use Rattle.std.proofs.Common.{Some, None, refl, sym, ap, subst, ◌∙◌, append_assoc, arith, inl, inr}
 use Rattle.std.specs.Prelude.{IsSome, OnOk, Result, Ok, Err}
 use Rattle.std.specs.declared.alloc.AllocError.{AllocError}
 use Rattle.std.specs.Io.BufRead.{take_through}
@@ -77,7 +77,8 @@ event_ran old core new line e outcome l l' (Ok x) is some row wrote =
 -- ---- pieces
 
 -- the front of the piece has run, and this is left
-pub record Running (held now : FeedState) (core new : Option CoreState) (before after : Option (List ℕ)) (piece rest : List ℕ) : Type 0 where
+pub record Running (held now : FeedState) (core new : Option CoreState) (before after : Option (List ℕ))
+    (piece rest : List ℕ) : Type 0 where
   pub front : List ℕ
   pub parts : piece ≡ front ++ rest
   pub ran : PieceRan held front now core new before after
@@ -122,7 +123,8 @@ PieceRanPartly-behind h h' a b c c' o o' o'' p q =
       front = a ++ q.front;
       back = q.back;
       parts = ap (λ (x : List ℕ). a ++ x) q.parts ∙ sym (append_assoc a q.front q.back);
-      ok = ap (λ (x : FeedState). x.fault) (feed_after-append h a q.front ∙ ap (λ (x : FeedState). feed_after x q.front) (sym p.taken)) ∙ q.ok;
+      ok = ap (λ (x : FeedState). x.fault) (feed_after-append h a q.front ∙ ap (λ (x : FeedState). feed_after x q.front) (sym p.taken))
+          ∙ q.ok;
       ran = record {
         new = q.ran.new;
         text = p.text ++ q.ran.text;

@@ -21,6 +21,6 @@ pub use hp_text::{
     bytes_have_one_reading, check_trace, pieces_do_not_show, read_script, read_trace,
     what_is_held_is_spelled, write_count, write_text, write_trace,
 };
-pub use laws::a_stopped_replay_names_the_fault;
+pub use laws::{a_replay_is_one, a_stopped_replay_names_the_fault};
 pub use replaying::replay;
 pub use state::push_state;

@@ -23,10 +23,10 @@ use hp_machine::Outcome;
 use hp_text::{PIECE, ReplayFault, Sink, Source, TraceFeed, TraceLine, write_text};
 use std::alloc::{AllocError, Global};
 
-/// What an event is told that is held back, where it is looked for. Such an event changes nothing.
+/// The outcome of an event that is held back, where it is looked for. Such an event changes nothing.
 #[inline(always)]
 fn look(core: &Core, event: &Event, is_looked_for: bool) -> Option<Outcome>
-    ensures { IfSome result (λ told. Row core.now event.now told core.now) }
+    ensures { IfSome result (λ outcome. Row core.now event.now outcome core.now) }
 {
     if !is_looked_for {
         return None;
@@ -38,10 +38,10 @@ fn look(core: &Core, event: &Event, is_looked_for: bool) -> Option<Outcome>
 /// was held back, too.
 #[inline(always)]
 fn tell(core: &mut Core, event: Event, was_held_back: bool) -> Result<Outcome, AllocError>
-    ensures { IfOk result (λ told. Row core.old event told core.new) }
+    ensures { IfOk result (λ outcome. Row core.old event outcome core.new) }
 {
-    if let Some(told) = look(core, &event, was_held_back) {
-        return Ok(told);
+    if let Some(outcome) = look(core, &event, was_held_back) {
+        return Ok(outcome);
     }
     core.step(event)
 }

@@ -9,7 +9,7 @@ use Rattle.hp_base.specs.declared.event.Event.{Event}
 use Rattle.hp_base.proofs.Puts.{put_same, put_other, same_or_other}
 use Rattle.hp_machine.specs.State.{Pool, State, pool_of, with_pool, is_dead, is_killed}
 use Rattle.hp_machine.specs.Parts.{Goes, Ends}
-use Rattle.hp_machine.specs.Events.{Row, BeginRow, CallRow, TurnRow, Run, first, is_exit, told, left, lives_after}
+use Rattle.hp_machine.specs.Events.{Row, BeginRow, CallRow, TurnRow, Run, first, is_exit, outcome_of, left, lives_after}
 use Rattle.hp_machine.specs.declared.outcome.Life.{Life}
 use Rattle.hp_machine.specs.declared.outcome.Life.TheVariants.{Alive}
 use Rattle.hp_machine.specs.declared.outcome.Outcome.{Outcome}
@@ -127,7 +127,7 @@ not_over t b o wanted es e moved (inr u) = u.1
 by_turn : {P : Type 0} (call : P → Call) (R : Pool → P → Turn P → Pool → Type 0) (s : State) (t : ℕ) (b : Answer)
     (n : State) (pool new : Pool) (phase : P) (o : Outcome) (next_call : Option Call) (m : State)
     (es : List (Event × Outcome)) (turn : Turn P)
-    → R pool phase turn new → o ≡ told call turn → next_call ≡ left call turn
+    → R pool phase turn new → o ≡ outcome_of call turn → next_call ≡ left call turn
     → m ≡ record (with_pool s new) {
       life = lives_after s.life t (call phase) next_call;
       calls = put (put s.calls t (Some (call phase))) t next_call;

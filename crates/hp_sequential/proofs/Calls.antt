@@ -3,7 +3,7 @@ use Rattle.std.proofs.Common.{◌≡◌, ℕ, refl, ap, sym, ◌∙◌}
 use Rattle.std.specs.Prelude.{Bool, Option, Some, None}
 use Rattle.std.specs.Option.{option_map}
 use Rattle.hp_machine.specs.State.{Pool}
-use Rattle.hp_machine.specs.Events.{CallRow, word_of, told, left}
+use Rattle.hp_machine.specs.Events.{CallRow, word_of, outcome_of, left}
 use Rattle.hp_machine.specs.Views.{hand}
 use Rattle.hp_machine.specs.declared.touch.TouchPhase.TheVariants as touch
 use Rattle.hp_machine.specs.declared.alloc.AllocPhase.TheVariants as alloc
@@ -75,18 +75,18 @@ pub record CallFollows (frames : ℕ) (s : Pool) (r : Renaming frames) (o : Outc
 of_turns : {P : Type 0} {frames : ℕ} {s : Pool} {r : Renaming frames} {turn turn' : Turn P} {o o' : Outcome}
     {new new' : Pool} {next next' : Option Call} (call : P → Call) (rename : (ℕ → ℕ) → P → P)
     → ((to : ℕ → ℕ) (p : P) → call (rename to p) ≡ call_renamed to (call p)) → Follows P rename frames s r turn new turn' new'
-    → (o ≡ told call turn) × (next ≡ left call turn) → (o' ≡ told call turn') × (next' ≡ left call turn')
+    → (o ≡ outcome_of call turn) × (next ≡ left call turn) → (o' ≡ outcome_of call turn') × (next' ≡ left call turn')
     → CallFollows frames s r o new next o' new' next'
 of_turns {P} {turn = turn} call rename same h e d = record {
   names = h.names;
   keeps = h.keeps;
-  tells = d.0 ∙ (ap (told call) h.turns ∙ (tells_same turn ∙ sym e.0));
+  tells = d.0 ∙ (ap (outcome_of call) h.turns ∙ (tells_same turn ∙ sym e.0));
   calls = d.1 ∙ (ap (left call) h.turns ∙ (left_same turn ∙ ap (option_map (call_renamed h.names.to)) (sym e.1)));
   pools = h.pools;
   count = h.count;
 }
   where
-    tells_same : (turn : Turn P) → told call (turn_renamed (rename h.names.to) turn) ≡ told call turn
+    tells_same : (turn : Turn P) → outcome_of call (turn_renamed (rename h.names.to) turn) ≡ outcome_of call turn
     tells_same (Moved p) = ap outcome.Moved (ap word_of (same h.names.to p) ∙ word_renamed h.names.to (call p))
     tells_same (Blocked p holder) = refl
     tells_same (Ended a) = refl

@@ -1,11 +1,10 @@
 -- What a reached state without calls in flight is, and the ends of a call that runs alone in it.
-use Rattle.std.proofs.Common.{◌≡◌, ℕ, ◌+◌, ◌-◌, ◌<◌, refl, ap, sym, ◌∙◌, subst, arith, inl, inr}
+use Rattle.std.proofs.Common.{◌≡◌, ℕ, ◌+◌, ◌-◌, refl, ap, sym, ◌∙◌, subst, arith}
 use Rattle.std.proofs.Math.Path.{fun_ext}
 use Rattle.std.proofs.lemmas.Bool.Decides.{nat_tests}
 use Rattle.std.specs.Prelude.{Bool, true, false, ◌&&◌, nat_le, nat_lt, Option, Some, None, MatchBool, MatchOption}
 use Rattle.hp_base.specs.Numbers.{put, put2}
 use Rattle.hp_base.specs.Indices.{add_range}
-use Rattle.hp_base.specs.Mappings.{find}
 use Rattle.hp_base.specs.declared.answer.Answer.{Answer}
 use Rattle.hp_base.proofs.Puts.{put_same, put_self, put_tells}
 use Rattle.hp_base.proofs.Totals.{total_same, total_none}
@@ -13,10 +12,9 @@ use Rattle.hp_machine.specs.State.{Pool, State, pool_of}
 use Rattle.hp_machine.specs.Parts.{StartRow}
 use Rattle.hp_machine.specs.Events.{lives_after}
 use Rattle.hp_machine.specs.Headline.{reserved_in}
-use Rattle.hp_machine.specs.Views.{used_owed, slot_held, locked_file}
+use Rattle.hp_machine.specs.Views.{used_ahead, slot_held, locked_file}
 use Rattle.hp_machine.specs.declared.call.Call.{Call}
 use Rattle.hp_machine.specs.declared.call.Turn.{Turn}
-use Rattle.hp_laws.specs.Sweep.{ahead}
 use Rattle.hp_laws.proofs.Invariant.{Inv, sum_of, put_known}
 use Rattle.hp_sequential.specs.Meaning.{Looks, UsesAlike, Checked}
 use Rattle.hp_sequential.proofs.Alone.{if_true, if_false, if_none, Leads, goes_on, ends_so, over, put_put}
@@ -54,8 +52,8 @@ idle_again s t e = put_known s.calls t None e
 -- where no call is in flight, the reserved indices are the used ones
 pub settled_used : (s : State) → Inv s.geometry s → ((u : ℕ) → s.calls u ≡ None) → s.used ≡ reserved_in s
 settled_used s h idle =
-    let none : sum_of s.geometry used_owed s.calls ≡ 0 =
-    total_same (s.geometry.tasks + 1) (λ _. 0) _ (λ u l. ap used_owed (idle u)) ∙ total_none (s.geometry.tasks + 1) in
+    let none : sum_of s.geometry used_ahead s.calls ≡ 0 =
+    total_same (s.geometry.tasks + 1) (λ _. 0) _ (λ u l. ap used_ahead (idle u)) ∙ total_none (s.geometry.tasks + 1) in
     let used = h.used in
     omega arith
 
@@ -82,14 +80,6 @@ free_lock s h idle f = here (s.locks f) refl
     here : (o : Option ℕ) → s.locks f ≡ o → s.locks f ≡ None
     here None e = e
     here (Some u) e = (let z : None ≡ Some _ = sym (ap locked_file (idle u)) ∙ h.holders.lock f u e in absurd (cc))
-
--- what is translated lies below the size
-pub translated_low : (s : State) (t v x f i : ℕ) → Inv s.geometry s → ((u : ℕ) → s.calls u ≡ None) → s.entries t v ≡ Some x
-    → find (s.mappings t) v ≡ Some (f, i) → i < s.size f
-translated_low s t v x f i h idle e d = elim (h.sweep.below t v x f i e d) [
-  | inl l ↦ l
-  | inr a ↦ (let z : false ≡ true = sym (ap (λ (c : Option Call). ahead c f i) (idle a.0)) ∙ a.1 in absurd (cc))
-]
 
 -- what is taken and left again is as before
 pub put_back : {A : Type 0} (f : ℕ → A) (k : ℕ) (v w : A) → f k ≡ w → put (put f k v) k w ≡ f

@@ -12,7 +12,7 @@ use Rattle.hp_machine.specs.declared.call.Call.{Call}
 use Rattle.hp_machine.specs.declared.call.Call.TheVariants as call
 use Rattle.hp_machine.specs.declared.call.Turn.{Turn}
 use Rattle.hp_machine.specs.State.{is_dead}
-use Rattle.hp_laws.proofs.Runs.{always, run_keeps}
+use Rattle.hp_laws.proofs.Runs.{always, headline, run_keeps}
 use Rattle.hp_sequential.specs.Meaning.{IsReady, IsCall, Looks, UsesAlike, Means}
 use Rattle.hp_sequential.proofs.Alone.{call_comes, Comes}
 use Rattle.hp_sequential.proofs.Idle.{idle_again, uses_alike}
@@ -58,11 +58,11 @@ plain (op.Unmap base) s t b events n reached ready steps run =
 plain (op.Load v) s t b events n reached ready steps run =
     alike call.Touch (TouchSteps t) s t b events n _ _ _ reached ready run
     (call_comes call.Touch (TouchSteps t) s t (op.Load v) b n events _ (λ pool new phase o next r. r) refl ready steps run)
-    (λ k. touch_means s t v _ b n (always s reached).inv ready k)
+    (λ k. touch_means s t v _ b n (always s reached).inv (headline s reached).below ready k)
 plain (op.Store v w) s t b events n reached ready steps run =
     alike call.Touch (TouchSteps t) s t b events n _ _ _ reached ready run
     (call_comes call.Touch (TouchSteps t) s t (op.Store v w) b n events _ (λ pool new phase o next r. r) refl ready steps run)
-    (λ k. touch_means s t v _ b n (always s reached).inv ready k)
+    (λ k. touch_means s t v _ b n (always s reached).inv (headline s reached).below ready k)
 plain (op.Alloc f from len keep) s t b events n reached ready steps run =
     alike call.Alloc (AllocSteps t) s t b events n _ _ _ reached ready run
     (call_comes call.Alloc (AllocSteps t) s t (op.Alloc f from len keep) b n events _ (λ pool new phase o next r. r)

@@ -14,7 +14,7 @@ use Rattle.hp_frames.specs.declared.frame.FrameState.{FrameState}
 use Rattle.hp_frames.specs.declared.frame.FrameState.TheVariants.{Free, Hand, Placed}
 use Rattle.hp_region.specs.Change.{Change}
 use Rattle.hp_machine.specs.State.{Pool, State, pool_of, slot_of, free_frames}
-use Rattle.hp_machine.specs.Headline.{reserved_in}
+use Rattle.hp_machine.specs.Headline.{IsBelow, reserved_in}
 use Rattle.hp_machine.specs.Parts.{answer_of, frame_after}
 use Rattle.hp_machine.specs.TouchRows.{TouchRow}
 use Rattle.hp_machine.specs.declared.touch.Access.{Access}
@@ -28,7 +28,7 @@ use Rattle.hp_laws.proofs.Shared.{by_test}
 use Rattle.hp_sequential.specs.Meaning.{IsReady, Looks, available, exceeds_quota, PageMade, TouchMeans}
 use Rattle.hp_laws.proofs.Deciding.{some_same}
 use Rattle.hp_sequential.proofs.Alone.{if_true, if_false, if_none, if_some, Leads, next, moves, stops, goes_on, ends_so, over, Comes, put_put}
-use Rattle.hp_sequential.proofs.Idle.{so_true, so_false, so_none, so_some, finish, idle_again, settled_used, free_slot, translated_low, put_back}
+use Rattle.hp_sequential.proofs.Idle.{so_true, so_false, so_none, so_some, finish, idle_again, settled_used, free_slot, free_lock, put_back}
 use Rattle.hp_sequential.proofs.Idle.{pending_back, put2_self, range_one, not_below_itself, and_false}
 
 -- granted steps of a task that isn't killed
@@ -246,10 +246,10 @@ makes_page s t touch b n end last enough settled quota unheld idle low k is = by
         (taken_pages s t touch b r.0 s.resv (s.used + 1) end unheld low (moves z.3 r.2)) is))
 
 -- a touch from its first phase on
-pub touch_means : (s : State) (t v : ℕ) (access : Access) (b : Answer) (n : State) → Inv s.geometry s → IsReady s t
+pub touch_means : (s : State) (t v : ℕ) (access : Access) (b : Answer) (n : State) → Inv s.geometry s → IsBelow s → IsReady s t
     → Comes call.Touch (TouchSteps t) s t b n (pool_of s) (at.Look (record { vpn = v; access = access }))
     → (m : State) × TouchMeans s t v access b m × Looks m n
-touch_means s t v access b n h ready (end, last, k, is) = by_find (find (s.mappings t) v) refl
+touch_means s t v access b n h under ready (end, last, k, is) = by_find (find (s.mappings t) v) refl
   where
     calls : put s.calls t None ≡ s.calls
     calls = idle_again s t (ready.0 t)
@@ -308,7 +308,7 @@ touch_means s t v access b n h ready (end, last, k, is) = by_find (find (s.mappi
         let y = h.entries.agree t v x e in
         let there : y.0 ≡ (f, i) = some_same (sym y.1 ∙ q) in
         let page : s.pages f i ≡ Some x = subst (λ (p : ℕ × ℕ). s.pages p.0 p.1 ≡ Some x) there y.2 in
-        let low = below i (s.size f) (translated_low s t v x f i h ready.0 e q) in
+        let low = below i (s.size f) (under t v x f i e q (free_lock s h ready.0 f)) in
         let table = put2_self s.entries t v (Some x) e in
         finish call.Touch s t last (TouchMeans s t v access) _ (stops z.3 r.2) is
         (so_some _ _ (f, i) q (so_false _ _ low (so_some _ _ x page (r.0, r.1, (refl, refl)))))

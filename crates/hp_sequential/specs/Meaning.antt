@@ -40,7 +40,7 @@ abbrev pub IsCall : (task : ℕ) → Op → Answer → List (Event × Outcome) �
 IsCall t op answer [] = ⊥
 IsCall t op answer (e ∷ es) = (e.0 ≡ Begin t op) × AreSteps t answer es
 
--- n is m; nothing is said of spare descriptors, nor of room made for a mapping, and of the used count below
+-- n is m; nothing is said of spare descriptors, nor of capacity prepared for a mapping, and of the used count below
 abbrev pub Looks : State → State → Type 0
 Looks m n = n ≡ record m { pool = record m.pool { spare = n.spare; ready = n.ready; used = n.used } }
 

@@ -27,7 +27,7 @@ pub fn frames_do_not_show()
 
 /// Where no call is in flight, a call of an alive task, run alone by granted steps to its end, has the
 /// answer and leads to the state that the table tells of its operation. Nothing is said of spare
-/// descriptors, nor of room made for a mapping.
+/// descriptors, nor of capacity prepared for a mapping.
 pub fn a_call_alone_has_its_plain_meaning()
     ensures { (s : State) → IsReached s → CallsAloneMean s }
 {}

@@ -9,3 +9,4 @@ pub mod Mapped
 pub mod Runs
 pub mod Shares
 pub mod Verdicts
+pub mod Waking

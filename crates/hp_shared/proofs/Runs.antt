@@ -3,6 +3,7 @@ use Rattle.std.proofs.Common.{◌≡◌, ℕ, ◌+◌, List, [], ◌∷◌, ◌+
 use Rattle.std.proofs.Common.{length-append}
 use Rattle.std.proofs.lemmas.List.{length-map}
 use Rattle.std.specs.List.{zip}
+use Rattle.hp_base.specs.Text.{Sizes, sizes}
 use Rattle.hp_base.specs.declared.config.Config.{Config}
 use Rattle.hp_base.specs.declared.event.Event.{Event}
 use Rattle.hp_machine.specs.Events as rows
@@ -10,11 +11,12 @@ use Rattle.hp_machine.specs.State.{State}
 use Rattle.hp_machine.specs.declared.outcome.Outcome.{Outcome}
 use Rattle.hp_core.specs.Readers.{config_of}
 use Rattle.hp_core.specs.State.{CoreState, as_state}
-use Rattle.hp_core.specs.Runs.{Row, Run, IsOpening}
+use Rattle.hp_core.specs.Runs.{Row, Run, IsOpening, geometry}
 use Rattle.hp_core.proofs.RunsOn.{run_none, run_more}
 use Rattle.hp_shared.specs.declared.entry.Entry.{Entry}
 use Rattle.hp_shared.specs.Journal.{Follows, IsFromOpening, IsCameTo, entry, events_of, gained, is_made, outcomes_of}
-use Rattle.hp_shared.specs.States.{next}
+use Rattle.hp_shared.specs.Closing.{ClosesPoolOf, ClosesWith}
+use Rattle.hp_shared.specs.States.{SeatState, next}
 
 -- what is taken of each of a list with one more
 map_more : {A B : Type 0} (f : A → B) (xs : List A) (x : A) → map f (xs ++ x ∷ []) ≡ map f xs ++ f x ∷ []
@@ -106,6 +108,41 @@ came_to first start core journal origin run =
       earlier ++ journal,
       (opening.0, opening.1, opening.2, follows_on opening.1 start core earlier journal opening.3 run),
     )
+
+-- an opening is one of each config with those sizes
+opening_of : (config : Config) (z : Sizes) (s : CoreState) → (config_of s ≡ z) → (as_state s ≡ rows.opening (geometry z) z.frames)
+    → z ≡ sizes config → IsOpening config s
+unfolding IsOpening config_of
+opening_of config z s size is same = (
+  size ∙ same,
+  is ∙ ap (λ (y : Sizes). rows.opening (geometry y) y.frames) same,
+)
+
+-- an opening has the sizes of its config
+pub opening_sizes : (config : Config) (s : CoreState) → IsOpening config s → config_of s ≡ sizes config
+unfolding IsOpening config_of
+opening_sizes config s is = is.0
+
+-- what led from an opening to a core of these sizes led there from an opening of them
+pub opened_for : (config other : Config) (opened core : CoreState) (journal : List Entry) → IsOpening config opened
+    → Follows opened journal core → config_of core ≡ sizes other → IsOpening other opened
+unfolding IsOpening Run config_of
+opened_for config other opened core journal is run same =
+    opening_of other (sizes config) opened is.0 is.1 (sym is.0 ∙ sym run.2 ∙ same)
+
+-- so a pool that is closed with a core of these sizes was opened with them
+pub closes_pool_of : (config : Config) (seats : List SeatState) (core : CoreState) (first : ℕ) (journal : List Entry)
+    → config_of core ≡ sizes config → ClosesWith seats core first journal → ClosesPoolOf config seats core first journal
+unfolding Run config_of
+closes_pool_of config seats core first journal same h =
+    let from = h.3 in
+    let start : config_of h.1 ≡ sizes config = sym h.5.2 ∙ same in
+    (h.0, h.1, h.2, (from.1, opened_for from.0 config from.1 h.1 h.0 from.2 from.3 start, from.3), h.4, h.5)
+
+-- and the other way round
+pub closes_with : (config : Config) (seats : List SeatState) (core : CoreState) (first : ℕ) (journal : List Entry)
+    → ClosesPoolOf config seats core first journal → ClosesWith seats core first journal
+closes_with config seats core first journal h = (h.0, h.1, h.2, (config, h.3.0, h.3.1, h.3.2), h.4, h.5)
 
 -- a copy of the opening state is one
 pub opened : (config : Config) (s copy : CoreState) → IsOpening config s → as_state copy ≡ as_state s

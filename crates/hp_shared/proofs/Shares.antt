@@ -1,11 +1,12 @@
 -- The sum of what seats made, seat by seat; and why a pool isn't closed.
-use Rattle.std.proofs.Common.{◌≡◌, ℕ, ◌+◌, List, [], ◌∷◌, ◌++◌, length, refl, ap, ◌∙◌, arith}
+use Rattle.std.proofs.Common.{◌≡◌, ◌+◌, List, [], ◌∷◌, ◌++◌, length, refl, arith}
 use Rattle.std.proofs.lemmas.List.Sums.{sum_by-cons}
+use Rattle.hp_base.specs.declared.config.Config.{Config}
 use Rattle.hp_shared.specs.Closing.{Disagrees, RefusesClose, entries_of}
 use Rattle.hp_shared.specs.Seats.{AllSeated}
 use Rattle.hp_shared.specs.States.{PoolState, SeatState}
 use Rattle.hp_shared.specs.declared.fault.CloseFault.{CloseFault}
-use Rattle.hp_shared.specs.declared.fault.CloseFault.TheVariants.{SeatMissing, Disagree, Memory}
+use Rattle.hp_shared.specs.declared.fault.CloseFault.TheVariants.{SeatMissing, Disagree, OtherSizes, Memory}
 
 pub entries_first : (s : SeatState) (seats : List SeatState) → entries_of (s ∷ seats) ≡ s.entries + entries_of seats
 entries_first s seats = sum_by-cons (λ (x : SeatState). x.entries) s seats
@@ -23,8 +24,9 @@ entries_none [] none = refl
 entries_none (s ∷ seats) none = absurd (omega (arith, none))
 
 -- why a pool with all seats isn't closed, to whoever doesn't see its journal
-pub refuses : (p : PoolState) (tasks : ℕ) (seats : List SeatState) (fault : CloseFault) → AllSeated tasks seats
-    → Disagrees p seats fault → RefusesClose tasks seats fault
-refuses p tasks seats (SeatMissing task) seated why = absurd why
-refuses p tasks seats (Disagree position) seated why = (seated, (p.first, p.journal, why))
-refuses p tasks seats Memory seated why = seated
+pub refuses : (p : PoolState) (config : Config) (seats : List SeatState) (fault : CloseFault) → AllSeated config.tasks seats
+    → Disagrees p seats fault → RefusesClose config seats fault
+refuses p config seats (SeatMissing task) seated why = absurd why
+refuses p config seats (Disagree position) seated why = (seated, (p.first, p.journal, why))
+refuses p config seats OtherSizes seated why = absurd why
+refuses p config seats Memory seated why = seated

@@ -1,10 +1,13 @@
 -- What a pool is closed with, and why one isn't.
 use Rattle.std.specs.Prelude.{◌≡◌, ℕ, List, length, sum_by}
+use Rattle.hp_base.specs.Text.{sizes}
+use Rattle.hp_base.specs.declared.config.Config.{Config}
+use Rattle.hp_core.specs.Readers.{config_of}
 use Rattle.hp_core.specs.State.{CoreState}
 use Rattle.hp_shared.specs.declared.entry.Entry.{Entry}
 use Rattle.hp_shared.specs.declared.fault.CloseFault.{CloseFault}
-use Rattle.hp_shared.specs.declared.fault.CloseFault.TheVariants.{SeatMissing, Disagree, Memory}
-use Rattle.hp_shared.specs.Journal.{Follows, IsFromOpening, Interleaves, FirstFailsAt}
+use Rattle.hp_shared.specs.declared.fault.CloseFault.TheVariants.{SeatMissing, Disagree, OtherSizes, Memory}
+use Rattle.hp_shared.specs.Journal.{Follows, IsCameTo, IsFromOpening, IsFromOpeningOf, Interleaves, FirstFailsAt}
 use Rattle.hp_shared.specs.declared.pool.Closed.{Closed}
 use Rattle.hp_shared.specs.Cutting.{tasks_of}
 use Rattle.hp_shared.specs.States.{PoolState, SeatState, next}
@@ -17,6 +20,15 @@ ClosesWith seats core first journal =
     (earlier : List Entry) × (start : CoreState)
     × (length earlier ≡ first)
     × IsFromOpening earlier start
+    × Interleaves first journal (lists_of seats)
+    × Follows start journal core
+
+-- The same of a pool of this config: as many entries as first says led to the core of the last cut from its opening state
+abbrev pub ClosesPoolOf : Config → List SeatState → CoreState → (first : ℕ) → (journal : List Entry) → Type 0
+ClosesPoolOf config seats core first journal =
+    (earlier : List Entry) × (start : CoreState)
+    × (length earlier ≡ first)
+    × IsFromOpeningOf config earlier start
     × Interleaves first journal (lists_of seats)
     × Follows start journal core
 
@@ -36,6 +48,7 @@ pub record IsClosed (p : PoolState) (seats : List SeatState) (closed : Closed) :
 abbrev pub Disagrees : PoolState → List SeatState → CloseFault → Type 0
 Disagrees p seats (SeatMissing task) = ⊥
 Disagrees p seats (Disagree position) = FirstFailsAt p.first p.journal (lists_of seats) position
+Disagrees p seats OtherSizes = ⊥
 Disagrees p seats Memory = Unit {0}
 
 -- a seat is missing, or none is, and the journal first fails there to be an interleaving of the lists, or memory ran out
@@ -43,16 +56,21 @@ abbrev pub RefusesToClose : PoolState → List SeatState → CloseFault → Type
 RefusesToClose p seats (SeatMissing task) = LeastMissing (tasks_of p) seats task
 RefusesToClose p seats (Disagree position) =
     AllSeated (tasks_of p) seats × FirstFailsAt p.first p.journal (lists_of seats) position
+RefusesToClose p seats OtherSizes = ⊥
 RefusesToClose p seats Memory = AllSeated (tasks_of p) seats
 
--- a seat is missing, or none is, and the lists aren't those of the journal or memory ran out
-abbrev pub RefusesClose : (tasks : ℕ) → List SeatState → CloseFault → Type 0
-RefusesClose tasks seats (SeatMissing task) = LeastMissing tasks seats task
-RefusesClose tasks seats (Disagree position) =
-    AllSeated tasks seats × ((first : ℕ) × (journal : List Entry) × FirstFailsAt first journal (lists_of seats) position)
-RefusesClose tasks seats Memory = AllSeated tasks seats
+-- a seat is missing, or none is, and the pool was of other sizes, the lists aren't those of the journal or memory ran out
+abbrev pub RefusesClose : Config → List SeatState → CloseFault → Type 0
+RefusesClose config seats (SeatMissing task) = LeastMissing config.tasks seats task
+RefusesClose config seats (Disagree position) =
+    AllSeated config.tasks seats × ((first : ℕ) × (journal : List Entry) × FirstFailsAt first journal (lists_of seats) position)
+RefusesClose config seats OtherSizes =
+    AllSeated config.tasks seats × ((core : CoreState) × IsCameTo core × (¬ (config_of core ≡ sizes config)))
+RefusesClose config seats Memory = AllSeated config.tasks seats
 
-abbrev pub IsDisagree : CloseFault → Type 0
-IsDisagree (SeatMissing task) = ⊥
-IsDisagree (Disagree position) = Unit {0}
-IsDisagree Memory = ⊥
+-- after it neither pool nor seats are handed back
+abbrev pub IsForGood : CloseFault → Type 0
+IsForGood (SeatMissing task) = ⊥
+IsForGood (Disagree position) = Unit {0}
+IsForGood OtherSizes = Unit {0}
+IsForGood Memory = ⊥

@@ -9,7 +9,7 @@ use Rattle.hp_machine.specs.declared.outcome.Outcome.TheVariants.{Begun, Moved, 
 use Rattle.hp_machine.specs.declared.outcome.Refusal.{Refusal}
 use Rattle.hp_machine.specs.declared.outcome.Refusal.TheVariants.{NotAlive, InCall, Idle, BadSize}
 use Rattle.hp_core.specs.State.{CoreState}
-use Rattle.hp_core.specs.Runs.{Run, IsOpening}
+use Rattle.hp_core.specs.Runs.{Row, Run, IsOpening}
 use Rattle.hp_shared.specs.declared.entry.Entry.{Entry}
 
 abbrev pub entry : ℕ → Event → Outcome → Entry
@@ -75,13 +75,21 @@ outcomes_of entries = map (λ (e : Entry). e.outcome) entries
 abbrev pub Follows : CoreState → List Entry → CoreState → Type 0
 Follows old entries new = Run old (events_of entries) (outcomes_of entries) new
 
--- the entries lead there from the opening state of some config
+-- the entries lead there from the opening state of this config
+abbrev pub IsFromOpeningOf : Config → List Entry → CoreState → Type 0
+IsFromOpeningOf config entries new = (opened : CoreState) × IsOpening config opened × Follows opened entries new
+
+-- or of some config
 abbrev pub IsFromOpening : List Entry → CoreState → Type 0
 IsFromOpening entries new = (config : Config) × (opened : CoreState) × IsOpening config opened × Follows opened entries new
 
 -- a core that a pool came to: some entries led there
 abbrev pub IsCameTo : CoreState → Type 0
 IsCameTo core = (entries : List Entry) × IsFromOpening entries core
+
+-- some core that a pool came to answers the event so
+abbrev pub IsRowOf : Event → Outcome → Type 0
+IsRowOf event outcome = (core : CoreState) × (new : CoreState) × IsCameTo core × Row core event outcome new
 
 -- the next entry of the list is e
 abbrev pub BeginsWith : Entry → List Entry → Type 0

@@ -1,6 +1,6 @@
 //! Ending a pool.
 ghost use Rattle.std.specs.Prelude.{◌≡◌, ◌<◌, length, IfOk, IfErr, MatchOption};
-ghost use Rattle.hp_shared.specs.Closing.{ClosesWith, Disagrees, IsClosed, IsDisagree, RefusesToClose, entries_of};
+ghost use Rattle.hp_shared.specs.Closing.{ClosesWith, Disagrees, IsClosed, IsForGood, RefusesToClose, entries_of};
 ghost use Rattle.hp_shared.specs.Seats.{AllSeated};
 ghost use Rattle.hp_shared.specs.Cutting.{tasks_of};
 
@@ -41,9 +41,10 @@ impl<L: Ledger> Pool<L> {
     pub fn close(self, alloc: Global, seats: Vec<Seat<L>>) -> Result<Closed, KeptOpen<L>>
         ensures seated { IfOk result (λ _. AllSeated (tasks_of self) seats.items) }
         ensures closed { IfOk result (λ closed. IsClosed self seats.items closed) }
-        ensures sum { IfOk result (λ closed. 0 < length seats.items → length seats.items ≡ L.parts → closed.entries ≡ entries_of seats.items) }
+        ensures sum { IfOk result (λ closed. 0 < length seats.items → length seats.items ≡ L.parts
+            → closed.entries ≡ entries_of seats.items) }
         ensures refused { IfErr result (λ kept. RefusesToClose self seats.items kept.fault) }
-        ensures back { IfErr result (λ kept. MatchOption kept.back (IsDisagree kept.fault) (λ back. (back.0 ≡ self) × (back.1 ≡ seats))) }
+        ensures back { IfErr result (λ kept. MatchOption kept.back (IsForGood kept.fault) (λ back. (back.0 ≡ self) × (back.1 ≡ seats))) }
     {
         let tasks = self.core.config().tasks;
         if let Some(task) = missing_seat(tasks, seats.as_slice()) {
@@ -63,9 +64,10 @@ impl<L: Ledger> Pool<L> {
     ) -> Result<Closed, KeptOpen<L>>
         ensures closed { IfOk result (λ closed. IsClosed self seats.items closed) }
         ensures run { IfOk result (λ closed. ClosesWith seats.items closed.core closed.last.first closed.last.entries.items) }
-        ensures sum { IfOk result (λ closed. 0 < length seats.items → length seats.items ≡ L.parts → closed.entries ≡ entries_of seats.items) }
+        ensures sum { IfOk result (λ closed. 0 < length seats.items → length seats.items ≡ L.parts
+            → closed.entries ≡ entries_of seats.items) }
         ensures refused { IfErr result (λ kept. Disagrees self seats.items kept.fault) }
-        ensures back { IfErr result (λ kept. MatchOption kept.back (IsDisagree kept.fault) (λ back. (back.0 ≡ self) × (back.1 ≡ seats))) }
+        ensures back { IfErr result (λ kept. MatchOption kept.back (IsForGood kept.fault) (λ back. (back.0 ≡ self) × (back.1 ≡ seats))) }
     {
         match self.compare(alloc, seats.as_slice()) {
             Ok(Ok(())) => Ok(self.into_closed(seats)),

@@ -29,6 +29,9 @@ pub enum CloseFault {
     /// The first position at which the journal isn't an interleaving of the seats' lists.
     #[error("the seats' lists and the journal disagree at position {0}")]
     Disagree(u64),
+    /// What lay under the lock isn't of the sizes that the pool was opened with. It can't come to that: no clause can say so.
+    #[error("the pool isn't of the sizes that it was opened with")]
+    OtherSizes,
     #[error("out of memory")]
     Memory,
 }

@@ -33,7 +33,7 @@ impl<'a, L: Ledger> Halting<'a, L> {
     fn halt<R: Wait>(&self, rt: &R) {
         let held = self.shared.pool.lock(rt);
         self.halted.store(true, Ordering::SeqCst);
-        self.shared.moved.notify_all();
+        self.shared.released.notify_all();
         drop(held);
     }
 }
@@ -48,17 +48,17 @@ impl<'a, L: Ledger> Hold<L> for Halting<'a, L> {
         if self.halted.load(Ordering::SeqCst) {
             return Err(CallFault::Memory { begun: false });
         }
-        let told = self.shared.attempt(rt, seat, event);
-        if told.is_err() {
+        let held = self.shared.attempt(rt, seat, event);
+        if held.is_err() {
             self.halt(rt);
         }
-        told
+        held
     }
 
     fn pause<R: Wait>(&self, rt: &R, seat: &Seat<L>) {
         let task = seat.task();
         let halted = &self.halted;
-        self.shared.moved.wait_while(
+        self.shared.released.wait_while(
             rt,
             self.shared.pool.lock(rt),
             |pool| !halted.load(Ordering::SeqCst) && pool.holds_up(task),

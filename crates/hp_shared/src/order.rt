@@ -34,7 +34,7 @@ pub fn interleaved(
     lists: &[Vec<Entry>],
 ) -> Result<Result<(), u64>, AllocError>
     requires { length journal.now < 2 ^ 64 }
-    ensures { IfOk result (λ told. MatchResult told
+    ensures { IfOk result (λ compared. MatchResult compared
         (λ _. Interleaves 0 journal.now (map (λ v. v.items) lists.now))
         (FirstFailsAt 0 journal.now (map (λ v. v.items) lists.now))) }
 {
@@ -49,7 +49,7 @@ pub fn interleaved_from(
     lists: &[Vec<Entry>],
 ) -> Result<Result<(), u64>, AllocError>
     requires { first + length journal.now < 2 ^ 64 }
-    ensures { IfOk result (λ told. MatchResult told
+    ensures { IfOk result (λ compared. MatchResult compared
         (λ _. Interleaves first journal.now (map (λ v. v.items) lists.now))
         (FirstFailsAt first journal.now (map (λ v. v.items) lists.now))) }
 {
@@ -64,7 +64,7 @@ pub fn compare<S: Listed>(
     lists: &[S],
 ) -> Result<Result<(), u64>, AllocError>
     requires { first + length journal.now < 2 ^ 64 }
-    ensures { IfOk result (λ told. MatchResult told
+    ensures { IfOk result (λ compared. MatchResult compared
         (λ _. Interleaves first journal.now (map S.listed lists.now))
         (FirstFailsAt first journal.now (map S.listed lists.now))) }
 {

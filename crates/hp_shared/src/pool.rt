@@ -1,8 +1,9 @@
 //! What lies under the lock.
 ghost use Rattle.std.specs.Prelude.{◌≡◌, ◌+◌, ◌<◌, ◌^◌, ◌≤◌, ◌++◌, [], ℕ, List, IfOk, OnErr, Some, None, MatchResult};
-ghost use Rattle.std.specs.Prelude.{MatchBool, true, false, length};
+ghost use Rattle.std.specs.Prelude.{MatchBool, true, false, ◌&&◌, length};
 ghost use Rattle.hp_base.specs.Text.{sizes};
-ghost use Rattle.hp_core.specs.Readers.{config_of};
+ghost use Rattle.hp_core.specs.Passing.{WaitOn, may_release, task_may_leave};
+ghost use Rattle.hp_core.specs.Readers.{config_of, phase_of};
 ghost use Rattle.hp_core.specs.Runs.{Row, IsOpening, IsIdle, Headline};
 ghost use Rattle.hp_core.specs.State.{CoreState, as_state};
 ghost use Rattle.hp_core.specs.Waiting.{WaitsFor};
@@ -20,7 +21,7 @@ use crate::entry::Entry;
 use crate::order::compare;
 use crate::seat::Seat;
 use hp_base::{Config, Event, Task};
-use hp_core::{Core, Outcome, Tally};
+use hp_core::{Core, Outcome, Phase, Tally};
 use std::alloc::{AllocError, Global};
 use std::marker::Model;
 use std::sync::ledger::{Book, Ledger};
@@ -66,6 +67,13 @@ impl<L: Ledger> Model for Pool<L> {
     } };
 }
 
+// Whether something came of an event.
+fn is_made(outcome: &Outcome) -> bool
+    ensures { result ≡ is_made outcome.now }
+{
+    !matches!(outcome, Outcome::Blocked(_) | Outcome::Refused(_))
+}
+
 impl<L: Ledger> Pool<L> {
     // A pool that nothing has happened to.
     pub(crate) fn new(alloc: Global, config: Config, book: Book<L>) -> Result<Pool<L>, AllocError>
@@ -89,37 +97,25 @@ impl<L: Ledger> Pool<L> {
     /// refused changes nothing, and is told so whatever memory there is; nor does anything change where memory is wanted.
     pub fn advance(&mut self, seat: &mut Seat<L>, event: Event) -> Result<Outcome, AllocError>
         requires { IsOwn seat.old.task event }
-        ensures row { IfOk result (λ told. Row self.old.core event told self.new.core) }
-        ensures pool { IfOk result (λ told. self.new ≡ pool_with self.old event told self.new.core) }
-        ensures seat { IfOk result (λ told. seat.new ≡ seat_with seat.old (next self.old) event told) }
-        ensures held { IfOk result (λ told. is_made told ≡ false → (self.new ≡ self.old) × (seat.new ≡ seat.old)) }
-        ensures kind { IfOk result (λ told. IsOutcomeOf event told) }
+        ensures row { IfOk result (λ outcome. Row self.old.core event outcome self.new.core) }
+        ensures pool { IfOk result (λ outcome. self.new ≡ pool_with self.old event outcome self.new.core) }
+        ensures seat { IfOk result (λ outcome. seat.new ≡ seat_with seat.old (next self.old) event outcome) }
+        ensures held { IfOk result (λ outcome. is_made outcome ≡ false → (self.new ≡ self.old) × (seat.new ≡ seat.old)) }
+        ensures kind { IfOk result (λ outcome. IsOutcomeOf event outcome) }
         ensures err { OnErr result ((self.new ≡ self.old) × (seat.new ≡ seat.old)) }
-        ensures wanted { OnErr result ((told : Outcome) → Row self.old.core event told self.old.core → IsIdle told → ⊥) }
+        ensures wanted { OnErr result ((outcome : Outcome) → Row self.old.core event outcome self.old.core → IsIdle outcome → ⊥) }
     {
-        self.advance_by(seat, &event)
-    }
-
-    // The same of an event that is lent.
-    fn advance_by(&mut self, seat: &mut Seat<L>, event: &Event) -> Result<Outcome, AllocError>
-        requires { IsOwn seat.old.task event.now }
-        ensures row { IfOk result (λ told. Row self.old.core event.now told self.new.core) }
-        ensures pool { IfOk result (λ told. self.new ≡ pool_with self.old event.now told self.new.core) }
-        ensures seat { IfOk result (λ told. seat.new ≡ seat_with seat.old (next self.old) event.now told) }
-        ensures held { IfOk result (λ told. is_made told ≡ false → (self.new ≡ self.old) × (seat.new ≡ seat.old)) }
-        ensures kind { IfOk result (λ told. IsOutcomeOf event.now told) }
-        ensures err { OnErr result ((self.new ≡ self.old) × (seat.new ≡ seat.old)) }
-        ensures wanted { OnErr result ((told : Outcome) → Row self.old.core event.now told self.old.core → IsIdle told → ⊥) }
-    {
-        if let Some(outcome) = self.core.held_back(*event) {
+        // The checker of borrows asks that the event be lent.
+        let lent = &event;
+        if let Some(outcome) = self.core.held_back(*lent) {
             return Ok(outcome);
         }
         self.journal.reserve(1)?;
         seat.list.reserve(1)?;
-        let outcome = self.core.step(*event)?;
+        let outcome = self.core.step(*lent)?;
         let entry = Entry {
             position: self.first + self.journal.len() as u64,
-            event: *event,
+            event: *lent,
             outcome,
         };
         let kept = &entry;
@@ -128,6 +124,55 @@ impl<L: Ledger> Pool<L> {
         seat.progress.note(kept);
         self.book.add(&mut seat.share, 1);
         Ok(kept.outcome)
+    }
+
+    // Whether the next step of the task may leave a slot or a lock.
+    fn may_leave(&self, task: Task) -> bool
+        ensures { result ≡ task_may_leave (phase_of self.now.core task) }
+    {
+        self.core.always();
+        self.core.is_reached();
+        hp_laws::callers_live();
+        let number = task.number();
+        if number == 0 || number > self.core.config().tasks {
+            return false;
+        }
+        matches!(self.core.phase(task), Some(Phase::Unslot | Phase::Leave))
+    }
+
+    // Whether a task that waits may go on behind the event.
+    fn may_release(&self, event: &Event) -> bool
+        ensures { result ≡ may_release self.now.core event.now }
+    {
+        match event {
+            Event::Begin(..) | Event::Resize(_) => false,
+            Event::Step(task, _) => self.may_leave(*task),
+            Event::Kill(_) => true,
+        }
+    }
+
+    // One event, as `advance` makes it, and whether a task that waits may go on behind it: where none may, each that waited for a
+    // holder waits for it still.
+    pub(crate) fn hold(
+        &mut self,
+        seat: &mut Seat<L>,
+        event: Event,
+    ) -> Result<(Outcome, bool), AllocError>
+        requires { IsOwn seat.old.task event }
+        ensures row { IfOk result (λ held. Row self.old.core event held.0 self.new.core) }
+        ensures came { IsCameTo self.old.core }
+        ensures pool { IfOk result (λ held. self.new ≡ pool_with self.old event held.0 self.new.core) }
+        ensures seat { IfOk result (λ held. seat.new ≡ seat_with seat.old (next self.old) event held.0) }
+        ensures kind { IfOk result (λ held. IsOutcomeOf event held.0) }
+        ensures released { IfOk result (λ held. held.1 ≡ (may_release self.old.core event && is_made held.0)) }
+        ensures waiting { IfOk result (λ held. held.1 ≡ false → WaitOn event self.old.core self.new.core) }
+        ensures err { OnErr result ((self.new ≡ self.old) × (seat.new ≡ seat.old)) }
+    {
+        self.always();
+        self.core.is_reached();
+        let may_release = self.may_release(&event);
+        let outcome = self.advance(seat, event)?;
+        Ok((outcome, may_release && is_made(&outcome)))
     }
 
     /// What holds of every pool, whenever its lock is free: the headline of its core; the journal's events, with their
@@ -174,7 +219,7 @@ impl<L: Ledger> Pool<L> {
         alloc: Global,
         seats: &[Seat<L>],
     ) -> Result<Result<(), u64>, AllocError>
-        ensures { IfOk result (λ told. MatchResult told
+        ensures { IfOk result (λ verdict. MatchResult verdict
             (λ _. Interleaves self.now.first self.now.journal (lists_of seats.now))
             (FirstFailsAt self.now.first self.now.journal (lists_of seats.now))) }
     {

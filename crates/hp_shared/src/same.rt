@@ -1,9 +1,10 @@
-//! When two events are one and the same, and two outcomes.
+//! When two events are one and the same, two outcomes, and two pools' sizes.
 ghost use Rattle.std.specs.Bool.{Decides};
-ghost use Rattle.std.specs.Prelude.{◌≡◌};
+ghost use Rattle.std.specs.Prelude.{◌≡◌, MatchBool};
+ghost use Rattle.hp_base.specs.Text.{sizes};
 
 use crate::entry::Entry;
-use hp_base::{Answer, Event, Op};
+use hp_base::{Answer, Config, Event, Op};
 use hp_machine::{Outcome, Phase, Refusal};
 
 fn same_op(a: Op, b: Op) -> bool
@@ -89,4 +90,15 @@ pub fn same_entry(a: &Entry, b: &Entry) -> bool
     a.position == b.position
         && same_event(&a.event, &b.event)
         && same_outcome(&a.outcome, &b.outcome)
+}
+
+/// Whether two pools are of the same sizes.
+pub(crate) fn same_sizes(a: &Config, b: &Config) -> bool
+    ensures { MatchBool result (sizes a.now ≡ sizes b.now) (¬ (sizes a.now ≡ sizes b.now)) }
+{
+    a.frames == b.frames
+        && a.files == b.files
+        && a.slots == b.slots
+        && a.tasks == b.tasks
+        && a.quota == b.quota
 }

@@ -1,11 +1,13 @@
 //! The running pool: one lock, one condition variable, and a seat for each task.
 ghost use Rattle.std.specs.Prelude.{◌≡◌, ◌+◌, ◌<◌, ◌≤◌, ℕ, length, map, IfOk, IfErr, OnOk, OnErr, MatchOption, true, false};
-ghost use Rattle.std.specs.Prelude.{Some, slice_get};
+ghost use Rattle.std.specs.Prelude.{IfSome, Some, None, [], slice_get};
 ghost use Rattle.hp_base.specs.Text.{sizes};
+ghost use Rattle.hp_core.specs.Readers.{config_of};
+ghost use Rattle.hp_core.specs.Runs.{IsOpening};
 ghost use Rattle.hp_core.specs.State.{CoreState};
-ghost use Rattle.hp_shared.specs.Journal.{IsOutcomeOf, IsCameTo};
+ghost use Rattle.hp_shared.specs.Journal.{IsOutcomeOf, IsCameTo, IsRowOf};
 ghost use Rattle.hp_shared.specs.Calls.{IsOwn};
-ghost use Rattle.hp_shared.specs.Closing.{ClosesWith, RefusesClose, IsDisagree, entries_of};
+ghost use Rattle.hp_shared.specs.Closing.{ClosesPoolOf, ClosesWith, RefusesClose, IsForGood, entries_of};
 ghost use Rattle.hp_shared.specs.Cutting.{emptied};
 ghost use Rattle.hp_shared.specs.Seats.{new_seat, has_seat as seated, AllSeated, LeastMissing, lists_of};
 ghost use Rattle.hp_shared.specs.States.{seat_with, tally_of};
@@ -14,6 +16,7 @@ use crate::closing::KeptOpen;
 use crate::cutting::Part;
 use crate::fault::{CallFault, CloseFault, CutFault};
 use crate::pool::{Closed, Pool};
+use crate::same::same_sizes;
 use crate::seat::Seat;
 use hp_base::{Config, Event, Task};
 use hp_core::{Outcome, Tally};
@@ -24,12 +27,14 @@ use std::sync::{Condvar, Mutex, Wait};
 /// A pool that many threads use.
 #[derive(Drop)]
 pub struct Shared<L: Ledger> {
-    pub(crate) tasks: u32,
+    /// The sizes of the pool, as it was opened.
+    pub(crate) config: Config,
     pub(crate) pool: Mutex<Pool<L>>,
-    pub(crate) moved: Condvar,
+    // told where a task that waits may go on
+    pub(crate) released: Condvar,
 }
 
-/// Why a pool wasn't closed, with the pool and the seats. After `Disagree` they aren't handed back.
+/// Why a pool wasn't closed, with the pool and the seats. After `Disagree` and `OtherSizes` they aren't handed back.
 #[derive(Drop)]
 pub struct CloseRefused<L: Ledger> {
     pub fault: CloseFault,
@@ -46,8 +51,9 @@ pub trait Hold<L: Ledger> {
         event: Event,
     ) -> Result<Outcome, CallFault>
         requires { IsOwn seat.old.task event }
-        ensures kind { IfOk result (λ told. IsOutcomeOf event told) }
-        ensures seat { IfOk result (λ told. (position : ℕ) × (seat.new ≡ seat_with seat.old position event told)) }
+        ensures kind { IfOk result (λ outcome. IsOutcomeOf event outcome) }
+        ensures row { IfOk result (λ outcome. IsRowOf event outcome) }
+        ensures seat { IfOk result (λ outcome. (position : ℕ) × (seat.new ≡ seat_with seat.old position event outcome)) }
         ensures err { IfErr result (λ fault. (fault ≡ CallFault.Memory false) × (seat.new ≡ seat.old)) };
 
     /// Waits while another task's call holds up the next step of the seat's task. It makes no step.
@@ -61,18 +67,18 @@ impl<L: Ledger> Hold<L> for Shared<L> {
         seat: &mut Seat<L>,
         event: Event,
     ) -> Result<Outcome, CallFault> {
-        let Ok(outcome) = self.pool.lock(rt).advance(seat, event) else {
+        let Ok((outcome, is_released)) = self.pool.lock(rt).hold(seat, event) else {
             return Err(CallFault::Memory { begun: false });
         };
-        if !matches!(outcome, Outcome::Blocked(_) | Outcome::Refused(_)) {
-            self.moved.notify_all();
+        if is_released {
+            self.released.notify_all();
         }
         Ok(outcome)
     }
 
     fn pause<R: Wait>(&self, rt: &R, seat: &Seat<L>) {
         let task = seat.task();
-        self.moved
+        self.released
             .wait_while(rt, self.pool.lock(rt), |pool| pool.holds_up(task));
     }
 }
@@ -87,7 +93,7 @@ impl<L: Ledger> Shared<L> {
     ) -> Result<(Shared<L>, Vec<Seat<L>>), AllocError>
         requires name { blank.name ≡ L.name }
         requires parts { (blank.parts ≡ L.parts) × (blank.parts ≡ config.tasks) }
-        ensures tasks { IfOk result (λ made. made.0.tasks ≡ config.tasks) }
+        ensures config { IfOk result (λ made. made.0.config ≡ config) }
         ensures count { IfOk result (λ made. length made.1.items ≡ config.tasks) }
         ensures seats { IfOk result (λ made. (k : ℕ) → k < config.tasks → slice_get made.1.items k ≡ Some (new_seat (k + 1))) }
     {
@@ -99,12 +105,28 @@ impl<L: Ledger> Shared<L> {
             let seat = Seat::new(alloc, task, rest.split_off(1, 0));
             seats.push(seat)?;
         }
-        let shared = Shared {
-            tasks: config.tasks,
+        Ok((Shared::opened(config, pool), seats))
+    }
+
+    // A new pool under its lock. It is the opening of that config: no clause can say so later, of what a lock holds.
+    fn opened(config: Config, pool: Pool<L>) -> Shared<L>
+        requires opening { IsOpening config pool.core }
+        requires journal { (pool.first ≡ 0) × (pool.journal ≡ []) }
+        ensures { result.config ≡ config }
+    {
+        Shared::locked(config, pool, Condvar::new())
+    }
+
+    // A pool under a lock, beside its sizes.
+    fn locked(config: Config, pool: Pool<L>, released: Condvar) -> Shared<L>
+        requires { config_of pool.core ≡ sizes config }
+        ensures { result.config ≡ config }
+    {
+        Shared {
+            config,
             pool: Mutex::new(pool),
-            moved: Condvar::new(),
-        };
-        Ok((shared, seats))
+            released,
+        }
     }
 
     /// Kills a task.
@@ -114,8 +136,10 @@ impl<L: Ledger> Shared<L> {
         seat: &mut Seat<L>,
         task: Task,
     ) -> Result<Outcome, CallFault>
-        ensures kind { IfOk result (λ told. IsOutcomeOf (Event.Kill task) told) }
-        ensures seat { IfOk result (λ told. (position : ℕ) × (seat.new ≡ seat_with seat.old position (Event.Kill task) told)) }
+        ensures kind { IfOk result (λ outcome. IsOutcomeOf (Event.Kill task) outcome) }
+        ensures row { IfOk result (λ outcome. IsRowOf (Event.Kill task) outcome) }
+        ensures seat { IfOk result (λ outcome. (position : ℕ) ×
+            (seat.new ≡ seat_with seat.old position (Event.Kill task) outcome)) }
         ensures err { IfErr result (λ fault. (fault ≡ CallFault.Memory false) × (seat.new ≡ seat.old)) }
     {
         self.attempt(rt, seat, Event::Kill(task))
@@ -128,9 +152,10 @@ impl<L: Ledger> Shared<L> {
         seat: &mut Seat<L>,
         frames: u32,
     ) -> Result<Outcome, CallFault>
-        ensures kind { IfOk result (λ told. IsOutcomeOf (Event.Resize frames) told) }
-        ensures seat { IfOk result (λ told. (position : ℕ) ×
-            (seat.new ≡ seat_with seat.old position (Event.Resize frames) told)) }
+        ensures kind { IfOk result (λ outcome. IsOutcomeOf (Event.Resize frames) outcome) }
+        ensures row { IfOk result (λ outcome. IsRowOf (Event.Resize frames) outcome) }
+        ensures seat { IfOk result (λ outcome. (position : ℕ) ×
+            (seat.new ≡ seat_with seat.old position (Event.Resize frames) outcome)) }
         ensures err { IfErr result (λ fault. (fault ≡ CallFault.Memory false) × (seat.new ≡ seat.old)) }
     {
         self.attempt(rt, seat, Event::Resize(frames))
@@ -158,43 +183,60 @@ impl<L: Ledger> Shared<L> {
         self.pool.lock(rt).cut(alloc, seats)
     }
 
-    /// Ends the pool, where the seats are all there and their lists make up one run. It asks first whether a seat is
-    /// missing. The seats that the pool began with have all parts of the ledger: what they made comes to all entries.
+    /// Ends the pool, where the seats are all there and their lists make up one run of a pool of this config. It asks first whether
+    /// a seat is missing. The seats that the pool began with have all parts of the ledger: what they made comes to all entries.
     pub fn close(self, alloc: Global, seats: Vec<Seat<L>>) -> Result<Closed, CloseRefused<L>>
-        ensures seated { OnOk result (AllSeated self.tasks seats.items) }
-        ensures run { IfOk result (λ closed. ClosesWith seats.items closed.core closed.last.first closed.last.entries.items) }
+        ensures seated { OnOk result (AllSeated self.config.tasks seats.items) }
+        ensures config { IfOk result (λ closed. config_of closed.core ≡ sizes self.config) }
+        ensures run { IfOk result (λ closed.
+            ClosesPoolOf self.config seats.items closed.core closed.last.first closed.last.entries.items) }
         ensures entries { IfOk result (λ closed. closed.entries ≡ closed.last.first + length closed.last.entries.items) }
-        ensures sum { IfOk result (λ closed. 0 < length seats.items → length seats.items ≡ L.parts → closed.entries ≡ entries_of seats.items) }
-        ensures refused { IfErr result (λ refused. RefusesClose self.tasks seats.items refused.fault) }
-        ensures back { IfErr result (λ refused. MatchOption refused.back (IsDisagree refused.fault)
-            (λ back. (back.0.tasks ≡ self.tasks) × (back.1 ≡ seats))) }
+        ensures sum { IfOk result (λ closed. 0 < length seats.items → length seats.items ≡ L.parts
+            → closed.entries ≡ entries_of seats.items) }
+        ensures refused { IfErr result (λ refused. RefusesClose self.config seats.items refused.fault) }
+        ensures back { IfErr result (λ refused. MatchOption refused.back (IsForGood refused.fault)
+            (λ back. (back.0.config ≡ self.config) × (back.1 ≡ seats))) }
     {
-        if let Some(task) = missing_seat(self.tasks, seats.as_slice()) {
+        if let Some(task) = missing_seat(self.config.tasks, seats.as_slice()) {
             return Err(CloseRefused {
                 fault: CloseFault::SeatMissing(task),
                 back: Some((self, seats)),
             });
         }
-        let Shared { tasks, pool, moved } = self;
-        match pool.into_inner().close_seated(alloc, seats) {
-            Ok(closed) => Ok(closed),
-            Err(kept) => {
-                let KeptOpen { fault, back } = kept;
-                let Some(back) = back else {
-                    return Err(CloseRefused { fault, back: None });
-                };
-                let (pool, seats) = back;
-                let shared = Shared {
-                    tasks,
-                    pool: Mutex::new(pool),
-                    moved,
-                };
-                Err(CloseRefused {
-                    fault,
-                    back: Some((shared, seats)),
-                })
-            }
+        let Shared {
+            config,
+            pool,
+            released,
+        } = self;
+        let pool = pool.into_inner();
+        if !same_sizes(&pool.core.config(), &config) {
+            return Err(CloseRefused {
+                fault: CloseFault::OtherSizes,
+                back: None,
+            });
         }
+        match pool.close_seated(alloc, seats) {
+            Ok(closed) => Ok(closed),
+            Err(kept) => Err(reopened(config, released, kept)),
+        }
+    }
+}
+
+// Puts a pool that wasn't closed under its lock again, if it is there.
+fn reopened<L: Ledger>(config: Config, released: Condvar, kept: KeptOpen<L>) -> CloseRefused<L>
+    requires { IfSome kept.back (λ back. config_of back.0.core ≡ sizes config) }
+    ensures fault { result.fault ≡ kept.fault }
+    ensures back { MatchOption kept.back (result.back ≡ None)
+        (λ back. MatchOption result.back ⊥ (λ again. (again.0.config ≡ config) × (again.1 ≡ back.1))) }
+{
+    let KeptOpen { fault, back } = kept;
+    let Some(back) = back else {
+        return CloseRefused { fault, back: None };
+    };
+    let (pool, seats) = back;
+    CloseRefused {
+        fault,
+        back: Some((Shared::locked(config, pool, released), seats)),
     }
 }
 

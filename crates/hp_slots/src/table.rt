@@ -27,6 +27,22 @@ impl Fault {
     }
 }
 
+/// The place of a page's fault mutex among so many (Linux: `hugetlb_fault_mutex_hash`). Where their number is a power of
+/// two, as Linux makes it, a mask takes the place of a division, for which a step would wait.
+pub fn slot_number(slots: u32, file: File, index: Index) -> u32
+    requires { 1 ≤ slots }
+    ensures number { result ≡ slot_number slots file index }
+    ensures within { result < slots }
+{
+    let places = u64::from(slots);
+    let number = u64::from(index.number()) + 31 * u64::from(file.number());
+    if places.is_power_of_two() {
+        (number & (places - 1)) as u32
+    } else {
+        (number % places) as u32
+    }
+}
+
 /// Who holds each of some places.
 #[derive(Drop)]
 pub struct SlotTable {
@@ -40,11 +56,11 @@ impl Model for SlotTable {
 
     ghost view = { λ table. table.holders.items };
 
-    // There is room for the places and for no more: a table that took memory would have another number of places.
+    // There is capacity for the places and for no more: a table that took memory would have another number of places.
     ghost invariant = { λ table. record {
       some : 0 < length table.holders.items;
       few : length table.holders.items < 2 ^ 32;
-      room : vec_capacity table.holders ≡ length table.holders.items;
+      capacity : vec_capacity table.holders ≡ length table.holders.items;
     } };
 }
 
@@ -71,19 +87,12 @@ impl SlotTable {
         Ok(copy)
     }
 
-    /// The place of a page's fault mutex (Linux: `hugetlb_fault_mutex_hash`). Where their number is a power of two, as Linux
-    /// makes it, a mask takes the place of a division, for which a step would wait.
+    /// The place of a page's fault mutex.
     pub fn slot_of(&self, file: File, index: Index) -> u32
         ensures number { result ≡ slot_number (length self.now) file index }
         ensures within { result < length self.now }
     {
-        let places = self.holders.len() as u64;
-        let number = u64::from(index.number()) + 31 * u64::from(file.number());
-        if places.is_power_of_two() {
-            (number & (places - 1)) as u32
-        } else {
-            (number % places) as u32
-        }
+        slot_number(self.holders.len() as u32, file, index)
     }
 
     /// Takes the place for the task, where nobody holds it.

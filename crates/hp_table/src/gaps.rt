@@ -70,7 +70,7 @@ fn swap(gaps: &mut Vec<Gap>, from: Vpn, end: Vpn, first: Option<Gap>, second: Op
     requires rises { IsNonDecreasingBy (λ g. g.base) gaps.old.items }
     requires in_order { from ≤ end }
     requires in_space { end ≤ VPNS }
-    requires room { length (swapped gaps.old.items from end (listed first ++ listed second)) ≤ vec_capacity gaps.old }
+    requires capacity { length (swapped gaps.old.items from end (listed first ++ listed second)) ≤ vec_capacity gaps.old }
     ensures items { gaps.new.items ≡ swapped gaps.old.items from end (listed first ++ listed second) }
     ensures capacity { vec_capacity gaps.new ≡ vec_capacity gaps.old }
 {
@@ -90,7 +90,7 @@ pub fn fill(gaps: &mut Vec<Gap>, mappings: &[Mapping], at: usize)
     requires gaps { gaps.old.items ≡ gaps_of 0 (remove mappings.now at) }
     requires spread { IsSpread VPNS 0 mappings.now }
     requires in_range { at < length mappings.now }
-    requires room { length mappings.now ≤ vec_capacity gaps.old }
+    requires capacity { length mappings.now ≤ vec_capacity gaps.old }
     ensures gaps { gaps.new.items ≡ gaps_of 0 mappings.now }
     ensures capacity { vec_capacity gaps.new ≡ vec_capacity gaps.old }
 {
@@ -106,7 +106,7 @@ pub fn merge(gaps: &mut Vec<Gap>, mappings: &[Mapping], at: usize)
     requires gaps { gaps.old.items ≡ gaps_of 0 mappings.now }
     requires spread { IsSpread VPNS 0 mappings.now }
     requires in_range { at < length mappings.now }
-    requires room { length mappings.now ≤ vec_capacity gaps.old }
+    requires capacity { length mappings.now ≤ vec_capacity gaps.old }
     ensures gaps { gaps.new.items ≡ gaps_of 0 (remove mappings.now at) }
     ensures capacity { vec_capacity gaps.new ≡ vec_capacity gaps.old }
 {

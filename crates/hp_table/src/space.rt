@@ -5,7 +5,7 @@ ghost use Rattle.std.specs.Iterator.{YieldsFirst, item_count};
 ghost use Rattle.hp_base.specs.Indices.{count_below};
 ghost use Rattle.hp_base.specs.Mappings.{find, base_of, is_base, is_there, fits, entered, in_mapping, first_base, without, without_index};
 ghost use Rattle.hp_base.specs.Mappings.{without_mapping, IsRoom, IsSpread};
-ghost use Rattle.hp_table.specs.Table.{no_memory, NoMoreMemory, Table};
+ghost use Rattle.hp_table.specs.Table.{no_capacity, NoMoreCapacity, Table};
 
 use crate::gaps::{self, Gap};
 use crate::places::{self, Place};
@@ -30,7 +30,7 @@ pub struct Space {
     entries: FrameMap<CHUNKS>,
     // for each of these the file and the index for which it stands, so that those of an index are found
     places: BTreeSet<Place, Global>,
-    // whether room for one mapping more is prepared
+    // whether capacity for one mapping more is prepared
     ready: bool,
 }
 
@@ -52,10 +52,10 @@ impl Model for Space {
       mappings = s.mappings.items;
       entries = s.entries.frames;
       ready = s.ready;
-      room = record {
+      capacity = record {
         mappings = vec_capacity s.mappings;
         gaps = vec_capacity s.gaps;
-        entries = s.entries.room;
+        entries = s.entries.capacity;
         places = btree_set_len s.places;
       };
     } };
@@ -67,7 +67,7 @@ impl Model for Space {
       agree : Agrees (find s.mappings.items) (map.get s.entries.frames) s.places;
       gaps : s.gaps.items ≡ gaps_of 0 s.mappings.items;
       places : vec_len s.mappings ≤ vec_capacity s.gaps;
-      room : IsTrue s.ready → (vec_len s.mappings < vec_capacity s.mappings) × (vec_len s.mappings < vec_capacity s.gaps);
+      capacity : IsTrue s.ready → (vec_len s.mappings < vec_capacity s.mappings) × (vec_len s.mappings < vec_capacity s.gaps);
     } };
 }
 
@@ -77,7 +77,7 @@ impl Space {
         ensures mappings { result.mappings ≡ [] }
         ensures entries { result.entries ≡ map.empty }
         ensures ready { result.ready ≡ false }
-        ensures room { result.room ≡ no_memory }
+        ensures capacity { result.capacity ≡ no_capacity }
     {
         Space {
             mappings: Vec::new(alloc),
@@ -97,10 +97,10 @@ impl Space {
         gaps::room(&self.gaps, &self.mappings, len)
     }
 
-    /// Prepares room for one mapping more, and for the gap that there can be below it. Where one of the two finds no
+    /// Prepares capacity for one mapping more, and for the gap that there can be below it. Where one of the two finds no
     /// memory, neither list was changed.
     pub fn prepare(&mut self) -> Result<(), AllocError>
-        ensures ok { OnOk result (self.new ≡ record self.old { ready = true; room = self.new.room }) }
+        ensures ok { OnOk result (self.new ≡ record self.old { ready = true; capacity = self.new.capacity }) }
         ensures err { OnErr result (self.new ≡ self.old) }
     {
         if self.mappings.len() < self.gaps.capacity() {
@@ -115,14 +115,14 @@ impl Space {
         Ok(())
     }
 
-    /// Whether room for one mapping more is prepared: from `prepare` to the next `enter`.
+    /// Whether capacity for one mapping more is prepared: from `prepare` to the next `enter`.
     pub fn ready(&self) -> bool
         ensures { result ≡ self.now.ready }
     {
         self.ready
     }
 
-    /// Maps `len` pages from `base` on to the indices of the file from `from` on, in the room that
+    /// Maps `len` pages from `base` on to the indices of the file from `from` on, in the capacity that
     /// was prepared. Its place is found by binary search.
     pub fn enter(&mut self, base: Vpn, file: File, from: Index, len: u32)
         requires ready { IsTrue self.old.ready }
@@ -132,7 +132,7 @@ impl Space {
         ensures mappings { self.new.mappings ≡ entered self.old.mappings (record { base = base; file = file; from = from; len = len }) }
         ensures entries { self.new.entries ≡ self.old.entries }
         ensures ready { self.new.ready ≡ false }
-        ensures room { self.new.room ≡ self.old.room }
+        ensures capacity { self.new.capacity ≡ self.old.capacity }
     {
         let at = search::begun(&self.mappings, base);
         let mapping = Mapping {
@@ -180,7 +180,7 @@ impl Space {
         requires mapped { IsSome (find self.old.mappings vpn) }
         requires bare { map.get self.old.entries vpn ≡ None }
         ensures ok { OnOk result
-            (self.new ≡ record self.old { entries = map.insert self.old.entries vpn frame; room = self.new.room }) }
+            (self.new ≡ record self.old { entries = map.insert self.old.entries vpn frame; capacity = self.new.capacity }) }
         ensures err { OnErr result (self.new ≡ self.old) }
     {
         let (file, index) = self.find(vpn).unwrap();
@@ -198,7 +198,7 @@ impl Space {
         ensures mappings { self.new.mappings ≡ self.old.mappings }
         ensures entries { self.new.entries ≡ map.remove self.old.entries vpn }
         ensures ready { self.new.ready ≡ self.old.ready }
-        ensures room { NoMoreMemory self.new.room self.old.room }
+        ensures capacity { NoMoreCapacity self.new.capacity self.old.capacity }
     {
         let (file, index) = self.find(vpn).unwrap();
         places::take(&mut self.places, file, index, vpn);
@@ -222,7 +222,7 @@ impl Space {
         ensures mappings { self.new.mappings ≡ self.old.mappings }
         ensures entries { map.get self.new.entries ≡ without_index self.old.mappings (map.get self.old.entries) file index }
         ensures ready { self.new.ready ≡ self.old.ready }
-        ensures room { NoMoreMemory self.new.room self.old.room }
+        ensures capacity { NoMoreCapacity self.new.capacity self.old.capacity }
     {
         while let Some(vpn) = self.page_of(file, index) {
             self.clear(vpn);
@@ -235,7 +235,7 @@ impl Space {
         ensures mappings { self.new.mappings ≡ self.old.mappings }
         ensures entries { map.get self.new.entries ≡ without_mapping self.old.mappings (map.get self.old.entries) base }
         ensures ready { self.new.ready ≡ self.old.ready }
-        ensures room { NoMoreMemory self.new.room self.old.room }
+        ensures capacity { NoMoreCapacity self.new.capacity self.old.capacity }
     {
         let Some(at) = search::place_of(&self.mappings, base) else {
             return;
@@ -254,7 +254,7 @@ impl Space {
         ensures mappings { self.new.mappings ≡ without self.old.mappings base }
         ensures entries { self.new.entries ≡ self.old.entries }
         ensures ready { self.new.ready ≡ self.old.ready }
-        ensures room { self.new.room ≡ self.old.room }
+        ensures capacity { self.new.capacity ≡ self.old.capacity }
     {
         if let Some(at) = search::place_of(&self.mappings, base) {
             gaps::merge(&mut self.gaps, &self.mappings, at);
@@ -300,11 +300,11 @@ impl Space {
         self.entries.count() as usize
     }
 
-    /// A space with the same mappings and translations, for which memory is taken. No room for a mapping is prepared
+    /// A space with the same mappings and translations, for which memory is taken. No capacity for a mapping is prepared
     /// in it, also where it is here. A running pool keeps the core of its last cut, to compare histories from there
     /// on.
     pub fn copy(&self, alloc: Global) -> Result<Self, AllocError>
-        ensures { IfOk result (λ copy. copy ≡ record self.now { ready = false; room = copy.room }) }
+        ensures { IfOk result (λ copy. copy ≡ record self.now { ready = false; capacity = copy.capacity }) }
     {
         let mut copy = Space::new(alloc);
         copy.mappings.extend_from_slice(&self.mappings)?;

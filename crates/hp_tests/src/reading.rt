@@ -1,7 +1,7 @@
 //! Readers that break.
 use crate::sample_texts::{REPLAYED, SCRIPT, TRACE};
 use crate::streams::SmallReader;
-use hp_replay::{ReplayFault, Watched, check_trace, read_script, read_trace, replay};
+use hp_replay::{ReplayFault, Source, Watched, check_trace, read_script, read_trace, replay};
 use std::alloc::Global;
 use std::io::ErrorKind;
 use std::process::Abort;
@@ -69,6 +69,18 @@ fn a_reader_that_gives_a_byte_a_call_is_read(rt: HostRuntime) -> Result<(), Fail
         assert_eq!(rt; written.as_slice(), right, "{reading:?}");
     }
     Ok(())
+}
+
+/// Behind a read that broke the next one is made, and its bytes are given.
+#[test]
+fn a_source_goes_on_behind_a_failure(rt: HostRuntime) {
+    let mut source = Watched::new(SmallReader::new(b"ab", 1, ErrorKind::Other));
+    let mut piece = [0; 8];
+    assert_eq!(rt; source.read_piece(&mut piece), Ok(1));
+    assert_eq!(rt; source.read_piece(&mut piece), Err(ReplayFault::Read));
+    assert_eq!(rt; source.read_piece(&mut piece), Ok(1));
+    assert_eq!(rt; piece[0], b'b');
+    assert_eq!(rt; source.read_piece(&mut piece), Ok(0));
 }
 
 /// The call that would tell the end breaks, too.

@@ -14,7 +14,7 @@ pub enum Break {
     Nothing,
 }
 
-/// Takes one byte a call, and breaks after so many.
+/// Takes one byte a call, breaks once after so many, and goes on then, so that whoever tries again is seen.
 #[derive(Drop)]
 pub struct SmallWriter {
     taken: Vec<u8>,
@@ -50,6 +50,7 @@ impl Write for SmallWriter {
             return Ok(0);
         };
         if self.calls == 0 {
+            self.calls = usize::MAX;
             return match self.broken {
                 Break::Error(kind) => Err(io::Error::from(kind)),
                 Break::Nothing => Ok(0),
@@ -65,7 +66,7 @@ impl Write for SmallWriter {
     }
 }
 
-/// Gives one byte a call, and answers an error after so many calls.
+/// Gives one byte a call, answers one error after so many calls, and goes on then.
 #[derive(Drop)]
 pub struct SmallReader<'a> {
     bytes: &'a [u8],
@@ -89,6 +90,7 @@ impl<'a> SmallReader<'a> {
 impl Read for SmallReader<'_> {
     fn read(&mut self, buf: &mut [u8]) -> io::Result<usize> {
         if self.calls == 0 {
+            self.calls = usize::MAX;
             return Err(io::Error::from(self.error));
         }
         self.calls -= 1;

@@ -218,6 +218,12 @@ fn worked_rows(rt: HostRuntime) -> Result<(), Fail> {
             ),
             // Steps that want no growth are the same denied.
             (
+                "pool 1 1 1 1\nbegin 1 exit\nstep 1 x2\n",
+                "begun\nmoved leave\nended done\nfree 1 resv 0 calls 0\n\
+                file 0 size 0 reserved 0 regions 0 pages 0 changes 0 spare 0\n\
+                task 1 dead mappings 0 entries 0\n",
+            ),
+            (
                 "pool 1 1 1 1\nbegin 1 exit\ndeny 1 x2\n",
                 "begun\nmoved leave\nended done\nfree 1 resv 0 calls 0\n\
                 file 0 size 0 reserved 0 regions 0 pages 0 changes 0 spare 0\n\

@@ -71,7 +71,7 @@ wrote_kept (Times times cut) script closed before mid after kept h =
     record {
       races = h.races;
       count = h.count;
-      told = h.told;
+      each = h.each;
       wrote = Appends-kept before mid after (race_lines 0 h.races) h.wrote kept;
       ends = h.ends;
     }
@@ -117,17 +117,22 @@ answered_runs : {E : Type 0} (Done : Bool → Option (List ℕ) → Type 0) (Par
     → TellsReads runs old new → OnErr flushed (told ≡ Err (stop.Replay Write))
     → OnOk flushed (IfErr runs (λ fault. told ≡ Err (stop.Replay fault))) → OnOk flushed (runs ≡ Ok true → told ≡ Ok tt)
     → OnOk flushed (runs ≡ Ok false → told ≡ Err stop.Unfinished) → AnsweredRuns Done Partly Bad told old new before (Some after)
-answered_runs Done Partly Bad old new unfailed failures before after (Ok ended) (Err x) told done part short bad unwritten reads wrong fault all some =
+answered_runs Done Partly Bad old new unfailed failures before after (Ok ended) (Err x) told done part short bad unwritten reads wrong
+    fault all some =
     subst (λ (t : Result (Unit {0}) Stop). AnsweredRuns Done Partly Bad t old new before (Some after)) (sym wrong)
     (tt, unwritten, inr (part ended done))
-answered_runs Done Partly Bad old new unfailed failures before after (Err f) (Err x) told done part short bad unwritten reads wrong fault all some =
+answered_runs Done Partly Bad old new unfailed failures before after (Err f) (Err x) told done part short bad unwritten reads wrong
+    fault all some =
     subst (λ (t : Result (Unit {0}) Stop). AnsweredRuns Done Partly Bad t old new before (Some after)) (sym wrong)
     (tt, unwritten, part_unflushed Partly f unfailed failures before after short)
-answered_runs Done Partly Bad old new unfailed failures before after (Ok true) (Ok y) told done part short bad unwritten reads wrong fault all some =
+answered_runs Done Partly Bad old new unfailed failures before after (Ok true) (Ok y) told done part short bad unwritten reads wrong
+    fault all some =
     subst (λ (t : Result (Unit {0}) Stop). AnsweredRuns Done Partly Bad t old new before (Some after)) (sym (all refl)) (reads, done)
-answered_runs Done Partly Bad old new unfailed failures before after (Ok false) (Ok y) told done part short bad unwritten reads wrong fault all some =
+answered_runs Done Partly Bad old new unfailed failures before after (Ok false) (Ok y) told done part short bad unwritten reads wrong
+    fault all some =
     subst (λ (t : Result (Unit {0}) Stop). AnsweredRuns Done Partly Bad t old new before (Some after)) (sym (some refl)) (reads, done)
-answered_runs Done Partly Bad old new unfailed failures before after (Err f) (Ok y) told done part short bad unwritten reads wrong fault all some =
+answered_runs Done Partly Bad old new unfailed failures before after (Err f) (Ok y) told done part short bad unwritten reads wrong
+    fault all some =
     subst (λ (t : Result (Unit {0}) Stop). AnsweredRuns Done Partly Bad t old new before (Some after)) (sym fault)
     (reader_at f old new reads, bad, part_at Partly f unfailed failures before after short)
 
@@ -137,7 +142,8 @@ reached P Q (Ok ended) f done = f ended done
 reached P Q (Err fault) f done = tt
 
 -- and what was done in part
-part_reached : (P : Type 0) (Q : Option (List ℕ) → Type 0) (runs : Result Bool ReplayFault) (old new : ℕ) (start before mid after : Option (List ℕ))
+part_reached : (P : Type 0) (Q : Option (List ℕ) → Type 0) (runs : Result Bool ReplayFault) (old new : ℕ)
+    (start before mid after : Option (List ℕ))
     → start ≡ before → Keeps mid after → (P → Q after) → IfErr runs (λ fault. NotDone P fault old new start mid)
     → IfErr runs (λ fault. NotDone (Q after) fault old new before after)
 part_reached P Q (Ok ended) old new start before mid after same kept f short = tt
@@ -191,7 +197,8 @@ pub answered_explore : {E : Type 0} (e : Exploration) (from to : Option (List �
     → TellsReads explored old new → Keeps mid after → OnErr flushed (told ≡ Err (stop.Replay Write))
     → OnOk flushed (IfErr explored (λ fault. told ≡ Err (stop.Replay fault))) → OnOk flushed (explored ≡ Ok true → told ≡ Ok tt)
     → OnOk flushed (explored ≡ Ok false → told ≡ Err stop.Unfinished) → AnsweredExplore e told from to old new before (Some after)
-answered_explore e from to old new unfailed failures start before mid after explored flushed told same done short bad reads kept wrong fault all some =
+answered_explore e from to old new unfailed failures start before mid after explored flushed told same done short bad reads kept wrong
+    fault all some =
     answered_runs (λ ended out. Explores e ended from to before out) (ExploresPartly e from to before)
     (λ f. IfSome from (λ bytes. HasScriptFault bytes f)) old new unfailed failures before after explored flushed told
     (reached (λ ended. Explores e ended from to start mid) (λ ended. Explores e ended from to before after) explored
@@ -207,7 +214,7 @@ wrote_some (Times times cut) script closed before after h =
     record {
       races = h.races;
       few = omega (arith, h.count);
-      told = h.told;
+      each = h.each;
       wrote = all_of before after (race_lines 0 h.races) h.wrote;
     }
 wrote_some Trace script true before after h =
@@ -220,7 +227,7 @@ some_kept (Times times cut) script start before mid after same kept h =
     record {
       races = h.races;
       few = h.few;
-      told = h.told;
+      each = h.each;
       wrote = front_kept start before mid after (race_lines 0 h.races) same kept h.wrote;
     }
 some_kept Trace script start before mid after same kept (inl none) =
@@ -237,7 +244,8 @@ pub answered_race : {E : Type 0} (r : Racing) (from to : Option (List ℕ)) (old
     → TellsReads raced old new → Keeps mid after → OnErr flushed (told ≡ Err (stop.Replay Write))
     → OnOk flushed (IfErr raced (λ fault. told ≡ Err (stop.Replay fault))) → OnOk flushed (raced ≡ Ok true → told ≡ Ok tt)
     → OnOk flushed (raced ≡ Ok false → told ≡ Err stop.Unfinished) → AnsweredRace r told from to old new before (Some after)
-answered_race r from to old new unfailed failures start before mid after raced flushed told same done short bad reads kept wrong fault all some =
+answered_race r from to old new unfailed failures start before mid after raced flushed told same done short bad reads kept wrong
+    fault all some =
     answered_runs (λ ended out. Races r ended from to before out) (RacesPartly r from to before)
     (λ f. IfSome from (λ bytes. HasScriptFault bytes f)) old new unfailed failures before after raced flushed told
     (reached (λ ended. Races r ended from to start mid) (λ ended. Races r ended from to before after) raced

@@ -25,7 +25,8 @@ use Rattle.hp_program.proofs.Buffered.{all_of, holds, unbuffered}
 use Rattle.hugepool.proofs.Texts.{HasFront, Passes, answered_text}
 
 -- a front of the count
-checks_front : (from to before mid after : Option (List ℕ)) (left : List ℕ) (n : ℕ) → ReadsEvents n from to → Wrote before mid (count_line n)
+checks_front : (from to before mid after : Option (List ℕ)) (left : List ℕ) (n : ℕ) → ReadsEvents n from to
+    → Wrote before mid (count_line n)
     → Keeps mid (append_known after left) → HasFront IsCount from to before after
 checks_front from to before mid after left n reads wrote kept =
     inr (record {
@@ -144,7 +145,8 @@ pub answered_check : {E : Type 0} (from to : Option (List ℕ)) (old new : ℕ) 
     → IfErr counted (λ fault. IfSome from (λ bytes. HasFault bytes fault)) → TellsReads counted old new → OnOk counted (failures ≡ first)
     → Keeps mid after → OnOk flushed (answer ≡ counted) → OnErr flushed (answer ≡ Err Write) → OnOk answer (told ≡ Ok tt)
     → IfErr answer (λ fault. told ≡ Err (stop.Replay fault)) → AnsweredCheck told from to old new before (Some after)
-answered_check from to old new start before mid after first failures counted answer flushed told same clean done short bad reads good kept is not ok wrong =
+answered_check from to old new start before mid after first failures counted answer flushed told same clean done short bad reads good
+    kept is not ok wrong =
     answered_text Checks ChecksPartly IsCount HasFault checks_pass from to old new start before mid after first failures [] counted answer
     flushed told same clean done short bad (no_trace_fault from Write tt) reads good
     (subst (λ (x : Option (List ℕ)). Keeps mid x) (sym (unbuffered after)) kept) (whatever flushed (λ unfailed. refl)) is not ok wrong

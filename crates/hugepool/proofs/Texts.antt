@@ -59,13 +59,16 @@ stopped_in : (Done Partly : Between) (IsFront : Sizes → List Event → List �
     → Keeps mid (append_known after left) → TextIn IsFront fault from to before after
 stopped_in Done Partly IsFront passes BadHeader from to before mid after first failures left (inl (none, good)) clean empty kept =
     Keeps-trans before mid after none (all_kept mid after left (empty (ap (λ (n : ℕ). nat_lt 0 n) (good ∙ clean))) kept)
-stopped_in Done Partly IsFront passes BadHeader from to before mid after first failures left (inr (is, partly, told)) clean empty kept = absurd is
+stopped_in Done Partly IsFront passes BadHeader from to before mid after first failures left (inr (is, partly, told)) clean empty kept =
+    absurd is
 stopped_in Done Partly IsFront passes (BadLine n) from to before mid after first failures left (inl (none, good)) clean empty kept =
     Keeps-trans before mid after none (all_kept mid after left (empty (ap (λ (n : ℕ). nat_lt 0 n) (good ∙ clean))) kept)
-stopped_in Done Partly IsFront passes (BadLine n) from to before mid after first failures left (inr (is, partly, told)) clean empty kept = absurd is
+stopped_in Done Partly IsFront passes (BadLine n) from to before mid after first failures left (inr (is, partly, told)) clean empty
+    kept = absurd is
 stopped_in Done Partly IsFront passes Read from to before mid after first failures left (inl (none, good)) clean empty kept =
     Keeps-trans before mid after none (all_kept mid after left (empty (ap (λ (n : ℕ). nat_lt 0 n) (good ∙ clean))) kept)
-stopped_in Done Partly IsFront passes Read from to before mid after first failures left (inr (is, partly, told)) clean empty kept = absurd is
+stopped_in Done Partly IsFront passes Read from to before mid after first failures left (inr (is, partly, told)) clean empty kept =
+    absurd is
 stopped_in Done Partly IsFront passes Write from to before mid after first failures left h clean empty kept =
     stopped_short Done Partly IsFront passes Write first failures from to before mid after left h kept
 stopped_in Done Partly IsFront passes Memory from to before mid after first failures left h clean empty kept =
@@ -83,7 +86,8 @@ pub answered_text : {E : Type 0} (Done Partly : Between) (IsFront : Sizes → Li
     → OnOk flushed (nat_lt 0 failures ≡ false → left ≡ []) → OnOk flushed (answer ≡ wrote) → OnErr flushed (answer ≡ Err Write)
     → OnOk answer (told ≡ Ok tt) → IfErr answer (λ fault. told ≡ Err (stop.Replay fault))
     → AnsweredText Done IsFront Bad told from to old new before (Some after)
-answered_text Done Partly IsFront Bad passes from to old new start before mid after first failures left (Ok x) answer (Ok y) told same clean done stopped bad
+answered_text Done Partly IsFront Bad passes from to old new start before mid after first failures left (Ok x) answer
+    (Ok y) told same clean done stopped bad
     unwritten reads good kept empty is not ok wrong =
     let ended : told ≡ Ok tt = subst (λ (r : Result (Unit {0}) ReplayFault). OnOk r (told ≡ Ok tt)) is ok in
     subst (λ (t : Result (Unit {0}) Stop). AnsweredText Done IsFront Bad t from to old new before (Some after)) (sym ended) (
@@ -91,7 +95,8 @@ answered_text Done Partly IsFront Bad passes from to old new start before mid af
       subst (λ (b : Option (List ℕ)). Done from to b after) same
           (passes.kept from to start mid after (all_kept mid after left (empty (ap (λ (n : ℕ). nat_lt 0 n) (good ∙ clean))) kept) done),
     )
-answered_text Done Partly IsFront Bad passes from to old new start before mid after first failures left (Ok x) answer (Err e) told same clean done stopped bad
+answered_text Done Partly IsFront Bad passes from to old new start before mid after first failures left (Ok x) answer
+    (Err e) told same clean done stopped bad
     unwritten reads good kept empty is not ok wrong =
     let ended : told ≡ Err (stop.Replay Write) =
     subst (λ (r : Result (Unit {0}) ReplayFault). IfErr r (λ fault. told ≡ Err (stop.Replay fault))) not wrong in
@@ -100,7 +105,8 @@ answered_text Done Partly IsFront Bad passes from to old new start before mid af
       unwritten,
       subst (λ (b : Option (List ℕ)). HasFront IsFront from to b after) same (passes.whole from to start mid after left kept done),
     )
-answered_text Done Partly IsFront Bad passes from to old new start before mid after first failures left (Err f) answer (Ok y) told same clean done stopped bad
+answered_text Done Partly IsFront Bad passes from to old new start before mid after first failures left (Err f) answer
+    (Ok y) told same clean done stopped bad
     unwritten reads good kept empty is not ok wrong =
     let ended : told ≡ Err (stop.Replay f) =
     subst (λ (r : Result (Unit {0}) ReplayFault). IfErr r (λ fault. told ≡ Err (stop.Replay fault))) is wrong in
@@ -110,7 +116,8 @@ answered_text Done Partly IsFront Bad passes from to old new start before mid af
       subst (λ (b : Option (List ℕ)). TextIn IsFront f from to b after) same
           (stopped_in Done Partly IsFront passes f from to start mid after first failures left stopped clean empty kept),
     )
-answered_text Done Partly IsFront Bad passes from to old new start before mid after first failures left (Err f) answer (Err e) told same clean done stopped bad
+answered_text Done Partly IsFront Bad passes from to old new start before mid after first failures left (Err f) answer
+    (Err e) told same clean done stopped bad
     unwritten reads good kept empty is not ok wrong =
     let ended : told ≡ Err (stop.Replay Write) =
     subst (λ (r : Result (Unit {0}) ReplayFault). IfErr r (λ fault. told ≡ Err (stop.Replay fault))) not wrong in
@@ -199,15 +206,18 @@ pub answered_explain : {E : Type 0} (from to : Option (List ℕ)) (old new : ℕ
     → OnErr flushed (answer ≡ Err Write) → OnOk answer (told ≡ Ok tt) → IfErr answer (λ fault. told ≡ Err (stop.Replay fault))
     → AnsweredExplain told from to old new before (Some after)
 answered_explain from to old new start before mid after failures left wrote answer flushed told same done stopped bad reads writes =
-    answered_text Explained ExplainedPartly IsExplaining HasFault explanation_passes from to old new start before mid after 0 failures left wrote answer
-    flushed told same refl done (stopped_so ExplainedPartly wrote failures from to start mid stopped writes) bad (no_trace_fault from Write tt) reads
+    answered_text Explained ExplainedPartly IsExplaining HasFault explanation_passes from to old new start before mid after 0 failures
+    left wrote answer
+    flushed told same refl done (stopped_so ExplainedPartly wrote failures from to start mid stopped writes) bad
+    (no_trace_fault from Write tt) reads
     (unfailed wrote failures writes)
 
 -- a picture
 draws_part : (from to before mid after : Option (List ℕ)) (left : List ℕ) (s : Sizes) (events : List Event)
     → ReadsTrace from to s events → PartlyDrawn s events before mid → Keeps mid (append_known after left)
     → HasFront PictureOf from to before after
-draws_part from to before mid after left s events reads (inl none) kept = inl (holds before mid after left [] (none_of before mid none) kept)
+draws_part from to before mid after left s events reads (inl none) kept =
+    inl (holds before mid after left [] (none_of before mid none) kept)
 draws_part from to before mid after left s events reads (inr front) kept =
     inr (record {
       sizes = s;
@@ -250,6 +260,8 @@ pub answered_draw : {E : Type 0} (from to : Option (List ℕ)) (old new : ℕ) (
     → OnErr flushed (answer ≡ Err Write) → OnOk answer (told ≡ Ok tt) → IfErr answer (λ fault. told ≡ Err (stop.Replay fault))
     → AnsweredDraw told from to old new before (Some after)
 answered_draw from to old new start before mid after failures left wrote answer flushed told same done stopped bad reads writes =
-    answered_text IsDrawing IsPartOfDrawing PictureOf HasFault picture_passes from to old new start before mid after 0 failures left wrote answer
-    flushed told same refl done (stopped_so IsPartOfDrawing wrote failures from to start mid stopped writes) bad (no_trace_fault from Write tt) reads
+    answered_text IsDrawing IsPartOfDrawing PictureOf HasFault picture_passes from to old new start before mid after 0 failures
+    left wrote answer
+    flushed told same refl done (stopped_so IsPartOfDrawing wrote failures from to start mid stopped writes) bad
+    (no_trace_fault from Write tt) reads
     (unfailed wrote failures writes)

@@ -25,24 +25,29 @@ abbrev pub IsKept : Option (List ℕ) → Option (Option (List ℕ)) → Type 0
 IsKept before None = ⊥
 IsKept before (Some after) = Keeps before after
 
--- what is written where the words ask for nothing but help: that, which may fail, or nothing
-abbrev pub Told : Result (Unit {0}) Stop → Option (List ℕ) → Option (Option (List ℕ)) → Type 0
-Told (Ok x) before after = Unit {0}
-Told (Err (stop.Replay fault)) before after = (fault ≡ Write) ⊎ ((fault ≡ Memory) × IsKept before after)
-Told (Err (stop.Work fault)) before after = ⊥
-Told (Err (stop.Usage error)) before after = IsKept before after
-Told (Err stop.Unfinished) before after = ⊥
-
--- and nothing is read
-abbrev pub AnsweredElse : Result (Unit {0}) Stop → Option (List ℕ) → Option (List ℕ) → (old new : ℕ)
-    → Option (List ℕ) → Option (Option (List ℕ)) → Type 0
-AnsweredElse answer from to old new before after = (new ≡ old) × Keeps from to × Told answer before after
-
 -- the words ask for help
 abbrev pub IsHelp : Error → Type 0
 IsHelp error = (kind_of error ≡ DisplayHelp) ⊎ (kind_of error ≡ DisplayVersion)
 
 -- what is told of words that ask for nothing, or that there was no memory to read
-pub record IsRefusal (error : Error) (told : Stop) : Type 0 where
-  pub memory : kind_of error ≡ OutOfMemory → told ≡ stop.Replay Memory
-  pub usage : kind_of error ≢ OutOfMemory → told ≡ stop.Usage error
+pub record IsRefusal (error : Error) (why : Stop) : Type 0 where
+  pub memory : kind_of error ≡ OutOfMemory → why ≡ stop.Replay Memory
+  pub usage : kind_of error ≢ OutOfMemory → why ≡ stop.Usage error
+
+-- what is answered where they ask for help: that it was written, or that it wasn't
+abbrev pub AnsweredHelp : Result (Unit {0}) Stop → Type 0
+AnsweredHelp (Ok x) = Unit {0}
+AnsweredHelp (Err why) = why ≡ stop.Replay Write
+
+-- and where they ask for nothing, or there was no memory to read them: that, and nothing is written
+abbrev pub AnsweredRefusal : Error → Result (Unit {0}) Stop → Option (List ℕ) → Option (Option (List ℕ)) → Type 0
+AnsweredRefusal error (Ok x) before after = ⊥
+AnsweredRefusal error (Err why) before after = IsRefusal error why × IsKept before after
+
+-- what is answered where they were not read as a request: nothing is read
+pub record AnsweredNone (error : Error) (answer : Result (Unit {0}) Stop) (from to : Option (List ℕ)) (old new : ℕ)
+    (before : Option (List ℕ)) (after : Option (Option (List ℕ))) : Type 0 where
+  pub unfailed : new ≡ old
+  pub unread : Keeps from to
+  pub help : IsHelp error → AnsweredHelp answer
+  pub refused : ¬ IsHelp error → AnsweredRefusal error answer before after

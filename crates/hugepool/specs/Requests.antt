@@ -1,5 +1,7 @@
 -- What the program does at each request.
-use Rattle.std.specs.Prelude.{◌≡◌, ℕ, List, [], length, Option, Some, None, ◌⊎◌, Bool, true, false, IfSome, Result, Ok, Err, map}
+use Rattle.std.specs.Prelude.{◌≡◌, ℕ, List, [], length, Option, Some, None, ◌⊎◌, Bool, true, false, IfSome, Result, Ok, Err}
+use Rattle.std.specs.Prelude.{map, IfOk, IfErr}
+use Rattle.clap.specs.declared.error.Error.{Error}
 use Rattle.std.specs.Io.KnownBytes.{Appends, Keeps}
 use Rattle.hp_base.specs.Text.{Sizes, sizes}
 use Rattle.hp_base.specs.declared.event.Event.{Event}
@@ -19,7 +21,7 @@ use Rattle.hp_text.specs.Streams.{sink_at}
 use Rattle.hp_text.specs.Traces.{HasFault, trace_text}
 use Rattle.hp_text.specs.Writing.{IsWriteFault, Wrote}
 use Rattle.hp_explore.specs.declared.exploration.Exploration.{Exploration}
-use Rattle.hugepool.specs.Endings.{AnsweredElse, AnsweredReplay}
+use Rattle.hugepool.specs.Endings.{AnsweredNone, AnsweredReplay}
 use Rattle.hugepool.specs.Racing.{Races, RacesPartly}
 use Rattle.hugepool.specs.Status.{status_at}
 use Rattle.hugepool.specs.Working.{AnsweredWork}
@@ -201,15 +203,13 @@ Answered (request.Race r) answer from to old new before after = AnsweredRace r a
 Answered (request.Work words) answer from to old new before after =
     (new ≡ old) × Keeps from to × IfThere after (AnsweredWork words answer before)
 
--- what the program does: what is answered at some request, or help or a refusal of the words
-abbrev pub Did : Result (Unit {0}) Stop → Option (List ℕ) → Option (List ℕ) → (old new : ℕ)
-    → Option (List ℕ) → Option (Option (List ℕ)) → Type 0
-Did answer from to old new before after =
-    ((request : Request) × Answered request answer from to old new before after) ⊎ AnsweredElse answer from to old new before after
+-- the status with which the program ends is that of an answer of which P holds
+abbrev pub EndsWith : (status : ℕ) → (Result (Unit {0}) Stop → Type 0) → Type 0
+EndsWith status P = (answer : Result (Unit {0}) Stop) × (status ≡ status_at answer) × P answer
 
--- and the status with which it ends
-pub record EndsWith (status : ℕ) (from to : Option (List ℕ)) (old new : ℕ) (before : Option (List ℕ))
-    (after : Option (Option (List ℕ))) : Type 0 where
-  pub answer : Result (Unit {0}) Stop
-  pub is : status ≡ status_at answer
-  pub did : Did answer from to old new before after
+-- and it is of the request that the words were read as, or of why they were not
+abbrev pub EndsAsAsked : Result Request Error → (status : ℕ) → (from to : Option (List ℕ)) → (old new : ℕ) → (before : Option (List ℕ))
+    → (after : Option (Option (List ℕ))) → Type 0
+EndsAsAsked asked status from to old new before after =
+    IfOk asked (λ request. EndsWith status (λ answer. Answered request answer from to old new before after))
+    × IfErr asked (λ error. EndsWith status (λ answer. AnsweredNone error answer from to old new before after))

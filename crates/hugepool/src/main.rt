@@ -1,8 +1,8 @@
 //! The program `hugepool`: a pool of huge pages on the command line.
 //!
-//! It stands on hp_program, on hp_client, and on the crates that do what a command asks for; it reads its words with clap. It
-//! promises of what is read and written what their contracts say, and a status that tells which (`EndsWith`); which words ask for what, and the texts, are shown by
-//! the rows of `examples/commands`. It knows nothing of pools.
+//! It stands on hp_program, on hp_client, and on the crates that do what a command asks for; it reads its words with clap.
+//! It promises of what is read and written what their contracts say, and a status that tells which (`EndsWith`); which
+//! words ask for what, and the texts, are shown by the rows of `examples/commands`. It knows nothing of pools.
 #![tactic(auto)]
 
 mod carrying;

@@ -1,10 +1,11 @@
 //! What the program does, over any words and streams.
-ghost use Rattle.std.specs.Prelude.{◌≡◌, ◌≢◌, Some, Ok, Err, true, IsOk, OnOk, IfOk, IfErr};
+ghost use Rattle.std.specs.Prelude.{◌≡◌, ◌≢◌, Some, Ok, Err, Result, true, IsOk, OnOk, IfOk, IfErr};
 ghost use Rattle.std.specs.Io.KnownBytes.{Keeps};
 ghost use Rattle.std.specs.Option.{option_map};
 ghost use Rattle.clap.specs.Values.{kind_of};
-ghost use Rattle.hugepool.specs.Endings.{IsHelp, IsRefusal};
-ghost use Rattle.hugepool.specs.Requests.{Answered, Did, EndsWith};
+ghost use Rattle.hugepool.specs.Endings.{AnsweredNone, IsRefusal};
+ghost use Rattle.clap.specs.declared.error.Error.{Error};
+ghost use Rattle.hugepool.specs.Requests.{Answered, EndsAsAsked, EndsWith};
 ghost use Rattle.hugepool.specs.Status.{status_of, status_at};
 
 use crate::checking::run_check;
@@ -53,10 +54,9 @@ impl Stop {
     }
 }
 
-/// Runs the program on these words and streams, and tells its status: 0 where it did what was asked, 1
-/// after a fault, 2 where the words ask for nothing. A fault is told in one line on `faults`, and behind that of a line what is
-/// wrong with it, where the reader recalls the line. The output is handed back, unless it went with a buffer for which there was
-/// no memory.
+/// Reads the words, does what they ask for on these streams, and returns the status: 0 where it was done, 1 after a fault, 2 where
+/// they ask for nothing. A fault is one line on `faults`, and behind that of a line what is wrong with it, where the reader recalls
+/// the line. The output is handed back, unless it went with a buffer for which there was no memory.
 pub(crate) fn program<H: Threads + Wait + Sync, S: AsStr, R: Source + Recalls, W: Write + Drop>(
     rt: &H,
     alloc: Global,
@@ -65,10 +65,28 @@ pub(crate) fn program<H: Threads + Wait + Sync, S: AsStr, R: Source + Recalls, W
     out: W,
     faults: &mut impl Write,
 ) -> (u8, Option<W>)
-    ensures { EndsWith result.0 (R.remaining reader.old) (R.remaining reader.new) (R.failures reader.old) (R.failures reader.new)
-        (W.contents out) (option_map W.contents result.1) }
+    ensures { (asked : Result Request Error) × EndsAsAsked asked result.0 (R.remaining reader.old) (R.remaining reader.new)
+        (R.failures reader.old) (R.failures reader.new) (W.contents out) (option_map W.contents result.1) }
 {
-    let (answer, out) = run(rt, alloc, words, reader, out);
+    let asked = read_words(alloc, words);
+    carry_out(rt, alloc, asked, reader, out, faults)
+}
+
+// Does what the words were read as.
+fn carry_out<H: Threads + Wait + Sync, R: Source + Recalls, W: Write + Drop>(
+    rt: &H,
+    alloc: Global,
+    asked: Result<Request, clap::Error>,
+    reader: &mut R,
+    out: W,
+    faults: &mut impl Write,
+) -> (u8, Option<W>)
+    ensures asked { IfOk asked (λ request. EndsWith result.0 (λ answer. Answered request answer (R.remaining reader.old)
+        (R.remaining reader.new) (R.failures reader.old) (R.failures reader.new) (W.contents out) (option_map W.contents result.1))) }
+    ensures none { IfErr asked (λ error. EndsWith result.0 (λ answer. AnsweredNone error answer (R.remaining reader.old)
+        (R.remaining reader.new) (R.failures reader.old) (R.failures reader.new) (W.contents out) (option_map W.contents result.1))) }
+{
+    let (answer, out) = answer(rt, alloc, asked, reader, out);
     (end(answer, &*reader, faults), out)
 }
 
@@ -93,21 +111,7 @@ fn tell<R: Recalls>(stop: &Stop, reader: &R, faults: &mut impl Write) -> io::Res
     }
 }
 
-fn run<H: Threads + Wait + Sync, S: AsStr, R: Source, W: Write + Drop>(
-    rt: &H,
-    alloc: Global,
-    words: &[S],
-    reader: &mut R,
-    out: W,
-) -> (Result<(), Stop>, Option<W>)
-    ensures { Did result.0 (R.remaining reader.old) (R.remaining reader.new) (R.failures reader.old) (R.failures reader.new)
-        (W.contents out) (option_map W.contents result.1) }
-{
-    let asked = read_words(alloc, words);
-    answer(rt, alloc, asked, reader, out)
-}
-
-// Does what the words were read as.
+// What is answered to what the words were read as.
 fn answer<H: Threads + Wait + Sync, R: Source, W: Write + Drop>(
     rt: &H,
     alloc: Global,
@@ -117,11 +121,8 @@ fn answer<H: Threads + Wait + Sync, R: Source, W: Write + Drop>(
 ) -> (Result<(), Stop>, Option<W>)
     ensures asked { IfOk asked (λ request. Answered request result.0 (R.remaining reader.old) (R.remaining reader.new)
         (R.failures reader.old) (R.failures reader.new) (W.contents out) (option_map W.contents result.1)) }
-    ensures help { IfErr asked (λ error. IsHelp error → IfErr result.0 (λ stop. stop ≡ Stop.Replay ReplayFault.Write)) }
-    ensures refused { IfErr asked (λ error. ¬ (IsHelp error) → IfErr result.0 (IsRefusal error)) }
-    ensures nothing_done { IfErr asked (λ error. ¬ (IsHelp error) → OnOk result.0 ⊥) }
-    ensures did { Did result.0 (R.remaining reader.old) (R.remaining reader.new) (R.failures reader.old) (R.failures reader.new)
-        (W.contents out) (option_map W.contents result.1) }
+    ensures none { IfErr asked (λ error. AnsweredNone error result.0 (R.remaining reader.old) (R.remaining reader.new)
+        (R.failures reader.old) (R.failures reader.new) (W.contents out) (option_map W.contents result.1)) }
 {
     match asked {
         Ok(Request::Replay) => {

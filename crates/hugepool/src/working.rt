@@ -147,7 +147,7 @@ fn reported<H: Threads + Wait + Sync>(
     alloc: Global,
     words: WorkWords,
 ) -> Result<(Report, String), WorkFault>
-    ensures ok { IfOk result (λ told. Reports words told.0 (string_bytes told.1)) }
+    ensures ok { IfOk result (λ report. Reports words report.0 (string_bytes report.1)) }
     ensures err { IfErr result (λ fault. Unreported words fault) }
 {
     let (workload, carrier) = asked(words)?;
@@ -159,7 +159,7 @@ fn reported<H: Threads + Wait + Sync>(
 }
 
 // What is answered once the line is written, or isn't.
-fn told(report: Report, written: Result<(), ReplayFault>) -> Result<(), Stop>
+fn report_answer(report: Report, written: Result<(), ReplayFault>) -> Result<(), Stop>
     ensures good { OnOk written (report.bad ≡ None → result ≡ Ok tt) }
     ensures bad { OnOk written (IsSome report.bad → result ≡ Err (Stop.Work WorkFault.Bad)) }
     ensures failed { IfErr written (λ fault. result ≡ Err (Stop.Replay fault)) }
@@ -196,7 +196,7 @@ pub(crate) fn run_work<H: Threads + Wait + Sync, W: Write + Drop>(
     match reported(rt, alloc, words) {
         Ok((report, line)) => {
             let (written, out) = write_line(line.as_str(), out);
-            (told(report, written), Some(out))
+            (report_answer(report, written), Some(out))
         }
         Err(fault) => (Err(Stop::Work(fault)), Some(out)),
     }

@@ -53,8 +53,8 @@ impl Bank {
     pub fn grow(&mut self, k: u32) -> Result<(), AllocError>
         requires { active_frames self.old.frames + k ≤ 4096 }
         ensures grown { OnOk result (HasGrown self.old.frames self.new.frames k) }
-        ensures rest { OnOk result (self.new ≡ record self.old { frames = self.new.frames; room = self.new.room }) }
-        ensures room { k ≤ retired_frames self.old.frames → IsOk result × (self.new.room ≡ self.old.room) }
+        ensures rest { OnOk result (self.new ≡ record self.old { frames = self.new.frames; capacity = self.new.capacity }) }
+        ensures capacity { k ≤ retired_frames self.old.frames → IsOk result × (self.new.capacity ≡ self.old.capacity) }
         ensures err { OnErr result (self.new ≡ self.old) }
     {
         let back = k.min(self.retired.count());
@@ -103,14 +103,14 @@ impl Bank {
         frame
     }
 
-    // So many new numbers, of free frames. Room for all is made before the first of them comes in.
+    // So many new numbers, of free frames. Capacity for all is reserved before the first of them comes in.
     pub(super) fn widen(&mut self, more: u32) -> Result<(), AllocError>
         requires { length self.old.frames + more < 2 ^ 32 }
         ensures wider { OnOk result (self.new ≡ record self.old {
           frames = self.old.frames ++ replicate more FrameState.Free;
-          room = self.new.room;
+          capacity = self.new.capacity;
         }) }
-        ensures room { more ≡ 0 → IsOk result × (self.new.room ≡ self.old.room) }
+        ensures capacity { more ≡ 0 → IsOk result × (self.new.capacity ≡ self.old.capacity) }
         ensures err { OnErr result (self.new ≡ self.old) }
     {
         if more == 0 {
@@ -123,9 +123,9 @@ impl Bank {
         Ok(())
     }
 
-    // One more number, of a free frame. There is room for it.
+    // One more number, of a free frame. There is capacity for it.
     fn add_one(&mut self)
-        requires room { length self.old.frames < self.old.room }
+        requires capacity { length self.old.frames < self.old.capacity }
         requires few { length self.old.frames + 1 < 2 ^ 32 }
         ensures { self.new ≡ record self.old { frames = self.old.frames ++ FrameState.Free ∷ [] } }
     {

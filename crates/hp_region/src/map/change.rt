@@ -61,14 +61,14 @@ impl Pending {
 }
 
 impl RegionMap {
-    /// Begins to add [from, to): tells how many of its indices are missing, and prepares room for one
-    /// region more. Growth is wanted only where all room is promised to other changes (Linux:
+    /// Begins to add [from, to): tells how many of its indices are missing, and prepares capacity for one
+    /// region more. Growth is wanted only where all capacity is promised to other changes (Linux:
     /// `region_chg`).
     pub fn change(&mut self, grant: bool, from: Index, to: Index) -> Result<Pending, ChangeFault>
         requires in_order { from < to }
         requires in_limit { to ≤ LIMIT }
 
-        // A change is in progress, with room of its own. The set stays.
+        // A change is in progress, with capacity of its own. The set stays.
         ensures from { IfOk result (λ change. change.from ≡ from) }
         ensures to { IfOk result (λ change. change.to ≡ to) }
         ensures missing { IfOk result (λ change. change.missing ≡ missing (is_member self.old.regions) from to) }
@@ -80,8 +80,8 @@ impl RegionMap {
         ensures memory { IsErrOf result ChangeFault.Memory → (self.old.spare ≡ self.old.pending) × IsTrue grant }
         ensures err { OnErr result (self.new ≡ self.old) }
 
-        // Memory is taken only where that is granted and all room is promised.
-        ensures room { ¬ (IsTrue grant × (self.old.spare ≡ self.old.pending)) → self.new.room ≡ self.old.room }
+        // Memory is taken only where that is granted and all capacity is promised.
+        ensures capacity { ¬ (IsTrue grant × (self.old.spare ≡ self.old.pending)) → self.new.capacity ≡ self.old.capacity }
     {
         let missing = self.missing(from, to);
         if self.spare == self.pending {
@@ -98,7 +98,7 @@ impl RegionMap {
     }
 
     /// Ends a change by adding its range, and tells how many indices were added. It takes no memory:
-    /// the room that `change` prepared is used where no region overlaps or touches the range (Linux:
+    /// the capacity that `change` prepared is used where no region overlaps or touches the range (Linux:
     /// `region_add`).
     pub fn commit(&mut self, change: Pending) -> u32
         requires { 0 < self.old.pending }
@@ -109,7 +109,7 @@ impl RegionMap {
         ensures pending { self.new.pending ≡ self.old.pending - 1 }
         ensures spare { self.new.spare ≡ (if touches (is_member self.old.regions) change.from change.to then self.old.spare
             else self.old.spare - 1) }
-        ensures room { self.new.room ≡ self.old.room }
+        ensures capacity { self.new.capacity ≡ self.old.capacity }
     {
         let Pending { from, to, .. } = change;
         let added = walk::missing(&self.regions, from, to);
@@ -127,7 +127,7 @@ impl RegionMap {
         ensures regions { self.new.regions ≡ self.old.regions }
         ensures pending { self.new.pending ≡ self.old.pending - 1 }
         ensures spare { self.new.spare ≡ self.old.spare }
-        ensures room { self.new.room ≡ self.old.room }
+        ensures capacity { self.new.capacity ≡ self.old.capacity }
     {
         drop(change);
         self.pending -= 1;

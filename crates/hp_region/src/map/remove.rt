@@ -18,7 +18,7 @@ impl RegionMap {
         ensures members { is_member self.new.regions ≡ cut_tail (is_member self.old.regions) from }
         ensures pending { self.new.pending ≡ self.old.pending }
         ensures spare { self.new.spare ≡ self.old.spare }
-        ensures room { self.new.room ≡ self.old.room }
+        ensures capacity { self.new.capacity ≡ self.old.capacity }
     {
         let removed = walk::held(&self.regions, from, Index::new(LIMIT));
         walk::cut(&mut self.regions, from);
@@ -28,7 +28,7 @@ impl RegionMap {
     }
 
     /// Removes one index, and tells whether it was there by 1 or 0. A region that falls apart needs
-    /// room for one region more: spare room that no change in progress needs, and else a growth.
+    /// capacity for one region more: spare capacity that no change in progress needs, and else a growth.
     pub fn remove_one(&mut self, grant: bool, index: Index) -> Result<u32, DelFault>
         // The index alone leaves the set.
         ensures removed { IfOk result (λ n. n ≡ (if is_member self.old.regions index then 1 else 0)) }
@@ -44,15 +44,15 @@ impl RegionMap {
             → IsTrue (splits (is_member self.old.regions) index) × (self.old.spare ≡ self.old.pending) × IsTrue grant }
         ensures err { OnErr result (self.new ≡ self.old) }
 
-        // Memory is taken only where that is granted, a region falls apart, and all room is promised.
-        ensures room { ¬ (IsTrue grant × IsTrue (splits (is_member self.old.regions) index) × (self.old.spare ≡ self.old.pending))
-            → self.new.room ≡ self.old.room }
+        // Memory is taken only where that is granted, a region falls apart, and all capacity is promised.
+        ensures capacity { ¬ (IsTrue grant × IsTrue (splits (is_member self.old.regions) index) × (self.old.spare ≡ self.old.pending))
+            → self.new.capacity ≡ self.old.capacity }
     {
         let Some(at) = walk::find(&self.regions, index) else {
             return Ok(0);
         };
         if walk::is_split(&self.regions, at, index) {
-            take_room(&mut self.regions, &mut self.spare, self.pending, grant)?;
+            take_capacity(&mut self.regions, &mut self.spare, self.pending, grant)?;
         }
         walk::carve(&mut self.regions, at, index);
         self.bits.take(index);
@@ -61,19 +61,19 @@ impl RegionMap {
     }
 }
 
-// Makes room for one region beside those in the map and those that changes in progress need.
-fn take_room(
+// Takes capacity for one region beside those in the map and those that changes in progress need.
+fn take_capacity(
     regions: &mut Vec<Region>,
     spare: &mut usize,
     pending: usize,
     grant: bool,
 ) -> Result<(), DelFault>
     requires covered { pending ≤ spare.old }
-    requires room { vec_len regions.old + spare.old ≤ vec_capacity regions.old }
+    requires capacity { vec_len regions.old + spare.old ≤ vec_capacity regions.old }
     ensures items { regions.new.items ≡ regions.old.items }
     ensures len { vec_len regions.new ≡ vec_len regions.old }
     ensures capacity { vec_capacity regions.old ≤ vec_capacity regions.new }
-    ensures room { OnOk result (vec_len regions.new + spare.new < vec_capacity regions.new) }
+    ensures enough { OnOk result (vec_len regions.new + spare.new < vec_capacity regions.new) }
     ensures spare { spare.new ≡ (if nat_lt pending spare.old then spare.old - 1 else spare.old) }
     ensures denied { IsErrOf result DelFault.Denied ↔ ((spare.old ≡ pending) × (grant ≡ false)) }
     ensures memory { IsErrOf result DelFault.Memory → (spare.old ≡ pending) × IsTrue grant }

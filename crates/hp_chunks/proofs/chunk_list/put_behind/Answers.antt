@@ -15,7 +15,7 @@ unwrap-requires c =
       arith,
       at_turn c.args.chunks.now.items c.loop.chunks.items c.loop.counter c.loop.invariant.listed
           c.loop.invariant.behind,
-      c.loop.invariant.room,
+      c.loop.invariant.capacity,
       c.loop-test.true,
     ))
 
@@ -28,7 +28,7 @@ loop-preserved c =
           rw c.unwrap.ensures at c.push.ensures.items ∙ ap (λ (all : List Slot). all ++ None ∷ []) c.loop.invariant.listed
           ∙ (one_more old (c.loop.counter - length old) ∙ ap (longer old) turn);
       behind = omega (arith, c.loop.invariant.behind);
-      room = omega (arith, c.loop.invariant.room, c.push.ensures.capacity);
+      capacity = omega (arith, c.loop.invariant.capacity, c.push.ensures.capacity);
     }
 
 pub unwrap-requires-2 : goal.unwrap-requires-2
@@ -37,7 +37,7 @@ unwrap-requires-2 c =
       arith,
       at_turn c.args.chunks.now.items c.loop.chunks.items c.loop.counter c.loop.invariant.listed
           c.loop.invariant.behind,
-      c.loop.invariant.room,
+      c.loop.invariant.capacity,
       c.len-counter.ensures,
       c.loop.auto,
     ))

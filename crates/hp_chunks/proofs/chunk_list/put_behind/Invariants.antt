@@ -6,5 +6,5 @@ abbrev pub invariant-loop : goal.invariant-loop
 invariant-loop l = record {
   listed : l.chunks.items ≡ l.fn.chunks.items ++ replicate (l.counter - length l.fn.chunks.items) None;
   behind : length l.fn.chunks.items ≤ l.counter;
-  room : l.at + 1 ≤ vec_capacity l.chunks;
+  capacity : l.at + 1 ≤ vec_capacity l.chunks;
 }

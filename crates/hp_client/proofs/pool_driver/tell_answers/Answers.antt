@@ -14,10 +14,10 @@ loop-call-preserved g c =
     let answered =
     ap (λ (call : ℕ × Op). answer_of (work_at call.0 members)) (sym c.call-item.is) ∙ sym c.answer_of.ensures
     ∙ c.in_ok-answer_of.was in record {
-      told =
+      answers =
           answered_more members c.args.calls.now c.loop-call.answers.items c.push_reserved.new.self.items
           c.loop-call.call-index c.call-item.result c.in_ok-answer_of.field-0 c.loop-call-test.true answered
-          c.push_reserved.ensures.items c.loop-call.invariant.told;
+          c.push_reserved.ensures.items c.loop-call.invariant.answers;
       first =
           λ why later. c.loop-call.invariant.first why
           (unanswered_left members c.args.calls.now c.loop-call.call-index c.call-item.result c.in_ok-answer_of.field-0 why

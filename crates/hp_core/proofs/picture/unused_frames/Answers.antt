@@ -24,7 +24,8 @@ loop-number-preserved c =
     let is_one : free n ≡ c.is_free.result = ap free (sym c.new-frame.ensures)
     ∙ state_test is_free Free free_is refl refl c.args.bank.now.frames c.new-frame.result c.is_free.result c.is_free.ensures in
     let is_other : retired n ≡ c.is_retired.result = ap retired (sym c.new-frame.ensures)
-    ∙ state_test is_retired Retired retired_is refl refl c.args.bank.now.frames c.new-frame.result c.is_retired.result c.is_retired.ensures in
+    ∙ state_test is_retired Retired retired_is refl refl c.args.bank.now.frames c.new-frame.result c.is_retired.result
+    c.is_retired.ensures in
     let more : c.add_if.new.frames.items ≡ c.loop-number.free.items ++ cond c.is_free.result (n ∷ []) [] =
     c.in_ok-add_if.ensures ∙ ap (λ (m : ℕ). c.loop-number.free.items ++ cond c.is_free.result (m ∷ []) []) c.new-frame.ensures in
     let others : c.add_if-in-loop-number.new.frames.items ≡ c.loop-number.retired.items ++ cond c.is_retired.result (n ∷ []) [] =

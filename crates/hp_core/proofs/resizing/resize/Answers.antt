@@ -1,16 +1,11 @@
 use Rattle.std.proofs.Common.{refl, ◌≡◌, ◌-◌, true, false, arith, inl, inr, length}
 use Rattle.std.specs.Prelude.{Result, Ok, Err, OnErr}
 use Rattle.std.proofs.lemmas.Bool.{cases_lt}
-use Rattle.std.proofs.lemmas.Bool.Decides.{nat_tests}
-use Rattle.std.proofs.lemmas.Grind.{common_steps}
 use Rattle.hp_frames.specs.Bank.{retired_frames}
 use Rattle.hp_frames.proofs.Resizing.{active_and_retired}
 use Rattle.hp_parts.specs.State.{state_of}
-use Rattle.hp_core.proofs.Resizes.{refused_row, grown_row, shrunk_row, sized}
+use Rattle.hp_core.proofs.Resizes.{grown_row, shrunk_row, sized}
 use Rattle.hp_core.proofs.resizing.resize.Goals as goal
-
-pub returns-then-frames-eq0-clause-row : goal.returns-then-frames-eq0-clause-row
-returns-then-frames-eq0-clause-row c = refused_row (state_of c.args.parts.now) c.args.frames (grind (arith, nat_tests, common_steps))
 
 pub returns-in_err-grow-clause-growth : goal.returns-in_err-grow-clause-growth
 returns-in_err-grow-clause-growth c =
@@ -19,7 +14,7 @@ returns-in_err-grow-clause-growth c =
       sized c.args.frames (omega arith) (omega arith),
       elim (cases_lt (retired_frames c.args.parts.now.bank.frames) (c.args.frames - c.frames-now.result)) [
         | inl l ↦ omega (arith, all, l)
-        | inr l ↦ (let z : false ≡ true = (c.in_err-grow.ensures.room l).0 in absurd (cc))
+        | inr l ↦ (let z : false ≡ true = (c.in_err-grow.ensures.capacity l).0 in absurd (cc))
       ],
     )
   where
@@ -33,13 +28,13 @@ returns-then-now-frames-clause-row c =
     (sized c.args.frames (omega arith) (omega arith)) (omega arith) (omega arith)
     c.in_ok-grow.ensures.grown c.in_ok-grow.ensures.rest
 
-pub returns-then-now-frames-clause-room : goal.returns-then-now-frames-clause-room
-returns-then-now-frames-clause-room c = λ unwanted.
+pub returns-then-now-frames-clause-capacity : goal.returns-then-now-frames-clause-capacity
+returns-then-now-frames-clause-capacity c = λ unwanted.
     let all = active_and_retired c.args.parts.now.bank.frames in
     record {
       bank = elim (cases_lt (length c.args.parts.now.bank.frames) c.args.frames) [
         | inl l ↦ absurd (unwanted (sized c.args.frames (omega arith) (omega arith), l))
-        | inr l ↦ (c.in_ok-grow.ensures.room (omega (arith, all, l))).1
+        | inr l ↦ (c.in_ok-grow.ensures.capacity (omega (arith, all, l))).1
       ];
       maps = refl;
       caches = λ file. (omega arith, refl);

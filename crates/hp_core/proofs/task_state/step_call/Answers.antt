@@ -2,8 +2,9 @@ use Rattle.std.proofs.Common.{sym, ap, ◌∙◌}
 use Rattle.std.specs.Prelude.{Some, Ok}
 use Rattle.hp_machine.specs.declared.call.Call.TheVariants as call
 use Rattle.hp_parts.specs.View.{view}
-use Rattle.hp_core.proofs.Rows.{touch_row, map_row, alloc_row, punch_row, truncate_row, unmap_row, exit_row, task_state_row, task_state_wants}
-use Rattle.hp_core.proofs.Blocked.{settled_blocked, task_state_blocked}
+use Rattle.hp_core.proofs.Rows.{touch_row, map_row, alloc_row, punch_row, truncate_row, unmap_row, exit_row, task_state_row}
+use Rattle.hp_core.proofs.Rows.{task_state_wants}
+use Rattle.hp_core.proofs.Blocked.{settled_blocked}
 use Rattle.hp_core.proofs.task_state.step_call.Goals as goal
 
 pub returns-in-Some-Touch-clause-row : goal.returns-in-Some-Touch-clause-row
@@ -41,9 +42,9 @@ returns-in-Some-Exit-clause-row c =
     task_state_row _ _ _ _ _ _ _ _ _ _ (sym c.take.ensures.value ∙ c.in-Some-Exit.is ∙ ap (λ it. Some it) c.in-Some-Exit.field-0-is)
     c.is_killed-killed.ensures (exit_row _ _ _ _ _ _ _ _ _ c.settle-in-Some-Exit.ensures.call c.step_exit-turn.ensures.row)
 
-pub returns-in-Some-Punch-clause-room : goal.returns-in-Some-Punch-clause-room
-returns-in-Some-Punch-clause-room c =
-    λ no. c.step_punch.ensures.room
+pub returns-in-Some-Punch-clause-capacity : goal.returns-in-Some-Punch-clause-capacity
+returns-in-Some-Punch-clause-capacity c =
+    λ no. c.step_punch.ensures.capacity
     (λ yes. no (
       yes.0,
       task_state_wants (view c.args.parts.now) c.args.task c.args.task_state.now.call (call.Punch c.in-Some-Punch.phase)
@@ -52,25 +53,26 @@ returns-in-Some-Punch-clause-room c =
 
 pub returns-in-Some-Touch-clause-blocked : goal.returns-in-Some-Touch-clause-blocked
 returns-in-Some-Touch-clause-blocked c =
-    task_state_blocked _ _ _ _ _ (sym c.take.ensures.value ∙ c.in-Some-Touch.is ∙ ap (λ it. Some it) c.in-Some-Touch.field-0-is)
-    (settled_blocked call.Touch _ _ _ _ _ _ c.settle.ensures.call c.step_touch.ensures.blocked)
+    settled_blocked call.Touch _ _ _ _ _ _ (sym c.take.ensures.value ∙ c.in-Some-Touch.is ∙ ap (λ it. Some it) c.in-Some-Touch.field-0-is)
+    c.settle.ensures.life c.settle.ensures.call c.step_touch.ensures.blocked
 
 pub returns-in-Some-Map-clause-blocked : goal.returns-in-Some-Map-clause-blocked
 returns-in-Some-Map-clause-blocked c =
-    task_state_blocked _ _ _ _ _ (sym c.take.ensures.value ∙ c.in-Some-Map.is ∙ ap (λ it. Some it) c.in-Some-Map.field-0-is)
-    (settled_blocked call.Map _ _ _ _ _ _ c.settle-in-Some-Map.ensures.call c.step_map.ensures.blocked)
+    settled_blocked call.Map _ _ _ _ _ _ (sym c.take.ensures.value ∙ c.in-Some-Map.is ∙ ap (λ it. Some it) c.in-Some-Map.field-0-is)
+    c.settle-in-Some-Map.ensures.life c.settle-in-Some-Map.ensures.call c.step_map.ensures.blocked
 
 pub returns-in-Some-Alloc-clause-blocked : goal.returns-in-Some-Alloc-clause-blocked
 returns-in-Some-Alloc-clause-blocked c =
-    task_state_blocked _ _ _ _ _ (sym c.take.ensures.value ∙ c.in-Some-Alloc.is ∙ ap (λ it. Some it) c.in-Some-Alloc.field-0-is)
-    (settled_blocked call.Alloc _ _ _ _ _ _ c.settle-in-Some-Alloc.ensures.call c.step_alloc.ensures.blocked)
+    settled_blocked call.Alloc _ _ _ _ _ _ (sym c.take.ensures.value ∙ c.in-Some-Alloc.is ∙ ap (λ it. Some it) c.in-Some-Alloc.field-0-is)
+    c.settle-in-Some-Alloc.ensures.life c.settle-in-Some-Alloc.ensures.call c.step_alloc.ensures.blocked
 
 pub returns-in-Some-Punch-clause-blocked : goal.returns-in-Some-Punch-clause-blocked
 returns-in-Some-Punch-clause-blocked c =
-    task_state_blocked _ _ _ _ _ (sym c.take.ensures.value ∙ c.in-Some-Punch.is ∙ ap (λ it. Some it) c.in-Some-Punch.field-0-is)
-    (settled_blocked call.Punch _ _ _ _ _ _ c.settle-in-Some-Punch.ensures.call c.step_punch.ensures.blocked)
+    settled_blocked call.Punch _ _ _ _ _ _ (sym c.take.ensures.value ∙ c.in-Some-Punch.is ∙ ap (λ it. Some it) c.in-Some-Punch.field-0-is)
+    c.settle-in-Some-Punch.ensures.life c.settle-in-Some-Punch.ensures.call c.step_punch.ensures.blocked
 
 pub returns-in-Some-Truncate-clause-blocked : goal.returns-in-Some-Truncate-clause-blocked
 returns-in-Some-Truncate-clause-blocked c =
-    task_state_blocked _ _ _ _ _ (sym c.take.ensures.value ∙ c.in-Some-Truncate.is ∙ ap (λ it. Some it) c.in-Some-Truncate.field-0-is)
-    (settled_blocked call.Truncate _ _ _ (Ok c.step_truncate-turn.result) _ _ c.settle-in-Some-Truncate.ensures.call c.step_truncate-turn.ensures.blocked)
+    settled_blocked call.Truncate _ _ (Ok c.step_truncate-turn.result) _ _ _
+    (sym c.take.ensures.value ∙ c.in-Some-Truncate.is ∙ ap (λ it. Some it) c.in-Some-Truncate.field-0-is)
+    c.settle-in-Some-Truncate.ensures.life c.settle-in-Some-Truncate.ensures.call c.step_truncate-turn.ensures.blocked

@@ -14,5 +14,6 @@ loop-counts-preserved c =
 
 pub returns : goal.returns
 returns c =
-    all_of (counts_text c.args.layout.now) c.args.numbers.now c.loop-counts.counts-index (string_bytes c.args.text.now) (string_bytes c.loop-counts.text)
+    all_of (counts_text c.args.layout.now) c.args.numbers.now c.loop-counts.counts-index (string_bytes c.args.text.now)
+    (string_bytes c.loop-counts.text)
     c.loop-counts-test.false c.loop-counts.invariant

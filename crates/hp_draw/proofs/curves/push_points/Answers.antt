@@ -8,7 +8,8 @@ loop-counts-init c = none_of (point_text c.args.layout.now c.args.curve) c.args.
 
 pub loop-counts-preserved : goal.loop-counts-preserved
 loop-counts-preserved c =
-    one_more (point_text c.args.layout.now c.args.curve) c.args.numbers.now c.loop-counts.counts-index no_numbers (string_bytes c.args.text.now)
+    one_more (point_text c.args.layout.now c.args.curve) c.args.numbers.now c.loop-counts.counts-index no_numbers
+    (string_bytes c.args.text.now)
     (string_bytes c.loop-counts.text) (string_bytes c.push_point.new.text) c.loop-counts-test.true c.loop-counts.invariant
     c.in_ok-push_point.ensures
 

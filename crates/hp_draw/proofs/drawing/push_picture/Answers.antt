@@ -19,10 +19,10 @@ pieces text t1 t2 t3 t4 t5 t6 a b c d e f one two three four five six =
     six ∙ (λ i. (five ∙ (λ j. (four ∙ (λ k. (three ∙ (λ l. (two ∙ (λ m. one m ++ b)) l ++ c)) k ++ d)) j ++ e)) i ++ f)
     ∙ joined text a b c d e f
 
-if_told : {T E : Type 0} (told : Result T E) (new old more : List ℕ) → new ≡ (if is_ok told then old ++ more else old)
-    → OnOk told (new ≡ old ++ more)
-if_told (Ok x) new old more e = e
-if_told (Err x) new old more e = tt
+if_pushed : {T E : Type 0} (result : Result T E) (new old more : List ℕ) → new ≡ (if is_ok result then old ++ more else old)
+    → OnOk result (new ≡ old ++ more)
+if_pushed (Ok x) new old more e = e
+if_pushed (Err x) new old more e = tt
 
 pub returns : goal.returns
 unfolding picture_text
@@ -31,4 +31,5 @@ returns c =
     on_ok_weaker c.push_str.result (λ last. pieces _ _ _ _ _ _ _ _ _ _ _ _ _ (c.in_ok-push_head.ensures {u = tt})
     (rw title at c.in_ok-push_legend.ensures) (c.in_ok-push_lines.ensures {u = tt}) (c.in_ok-push_tasks.ensures {u = tt})
     (rw c.as_slice.ensures.value at c.in_ok-push_curves.ensures) last)
-    (if_told c.push_str.result (string_bytes c.push_str.new.self) (string_bytes c.push_curves.new.text) (codes "</svg>\n") c.push_str.ensures.bytes)
+    (if_pushed c.push_str.result (string_bytes c.push_str.new.self) (string_bytes c.push_curves.new.text)
+    (codes "</svg>\n") c.push_str.ensures.bytes)

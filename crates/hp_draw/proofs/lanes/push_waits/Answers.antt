@@ -14,5 +14,6 @@ loop-stay-preserved c =
 
 pub returns : goal.returns
 returns c =
-    all_of (wait_text c.args.layout.now) c.args.stays.now c.loop-stay.stay-index (string_bytes c.args.text.now) (string_bytes c.loop-stay.text)
+    all_of (wait_text c.args.layout.now) c.args.stays.now c.loop-stay.stay-index (string_bytes c.args.text.now)
+    (string_bytes c.loop-stay.text)
     c.loop-stay-test.false c.loop-stay.invariant

@@ -14,7 +14,8 @@ loop-stay-preserved c =
     c.as_mut_slice.ensures.value c.loop-stay.seen.ok.0 c.appear.ensures in
     rw back (
       length-set c.loop-stay.seen.items c.stay-item.result.column _ ∙ c.loop-stay.invariant.0,
-      one_found (λ (s : Stay). s.column) c.args.sketch.now.stays.items c.deref-stay-items.result.now c.loop-stay.stay-index c.stay-item.result
+      one_found (λ (s : Stay). s.column) c.args.sketch.now.stays.items c.deref-stay-items.result.now c.loop-stay.stay-index
+          c.stay-item.result
           c.loop-stay.seen.items c.deref-stay-items.ensures.value c.loop-stay-test.true c.stay-item.is
           (subst (λ (n : ℕ). All (λ (s : Stay). s.column < n) c.args.sketch.now.stays.items) (sym c.loop-stay.invariant.0) c.requires.stays)
           c.loop-stay.invariant.1,

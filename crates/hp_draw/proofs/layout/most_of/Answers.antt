@@ -21,5 +21,6 @@ loop-counts-preserved c =
 
 pub returns : goal.returns
 returns c =
-    all_found (HaveRoom c.loop-counts.most_free c.loop-counts.most_resv) c.args.numbers.now c.args.numbers.now c.loop-counts.counts-index refl
+    all_found (HaveRoom c.loop-counts.most_free c.loop-counts.most_resv) c.args.numbers.now c.args.numbers.now
+    c.loop-counts.counts-index refl
     c.loop-counts-test.false c.loop-counts.invariant

@@ -24,7 +24,8 @@ loop-is_seen-preserved c =
           let low = c.loop-is_seen.invariant.2 in (
             one_column c.loop-is_seen.tops.items c.if-is_seen.tops.items c.args.seen.now c.loop-is_seen.is_seen-index None tops
                 c.loop-is_seen-test.true w.if-is_seen.false c.loop-is_seen.invariant.0,
-            none_below c.args.tall TOP c.loop-is_seen.foot c.if-is_seen.foot c.loop-is_seen.tops.items c.if-is_seen.tops.items tops w.foot-is
+            none_below c.args.tall TOP c.loop-is_seen.foot c.if-is_seen.foot c.loop-is_seen.tops.items c.if-is_seen.tops.items
+                tops w.foot-is
                 c.loop-is_seen.invariant.1,
             omega (arith, low, w.foot-is),
           )

@@ -14,5 +14,6 @@ loop-mark-preserved c =
 
 pub returns : goal.returns
 returns c =
-    all_of (mark_text c.args.layout.now) c.args.marks.now c.loop-mark.mark-index (string_bytes c.args.text.now) (string_bytes c.loop-mark.text)
+    all_of (mark_text c.args.layout.now) c.args.marks.now c.loop-mark.mark-index (string_bytes c.args.text.now)
+    (string_bytes c.loop-mark.text)
     c.loop-mark-test.false c.loop-mark.invariant

@@ -15,7 +15,8 @@ loop-event-preserved c =
       one_room (sizes c.args.trace.now.config).tasks c.args.trace.now.events.items c.deref-event-items.result.now c.loop-event.event-index _
           c.loop-event.widths.items c.measure_event.new.widths c.deref-event-items.ensures.value c.loop-event-test.true c.event-item.is
           (subst (λ (x : List _). NoneNarrower x c.measure_event.new.widths) c.as_mut_slice.ensures.value w.grows)
-          (subst (λ (s : Sizes). HasRoom s.tasks c.measure_event.new.widths c.event-item.result) c.loop-event.invariant.1 w.room) c.loop-event.invariant.2,
+          (subst (λ (s : Sizes). HasRoom s.tasks c.measure_event.new.widths c.event-item.result) c.loop-event.invariant.1 w.room)
+          c.loop-event.invariant.2,
     )
 
 pub returns-clause-rooms : goal.returns-clause-rooms

@@ -34,7 +34,8 @@ returns-in-None c =
     record {
       line = (
         line,
-        subst (λ (es : List Event). IsExplored c.args.script.now c.args.seed plan.deny plan.kill 0 es line) (append-nil c.loop-made.events.items)
+        subst (λ (es : List Event). IsExplored c.args.script.now c.args.seed plan.deny plan.kill 0 es line)
+            (append-nil c.loop-made.events.items)
             (c.loop-made.invariant.goes_on [] line (by_idling plan 0 left w (c.in_ok-event.ensures.idle c.in-None.is))),
       );
       few = omega (arith, c.loop-made.invariant.count);
@@ -52,7 +53,8 @@ loop-made-preserved c =
     let is : new ≡ old ++ e ∷ [] = c.in_ok-push-in-Some.ensures.items in
     let longer : length (old ++ e ∷ []) ≡ length old + 1 = grind (arith, common_steps) in
     let long : length new ≡ length (old ++ e ∷ []) = ap (λ (es : List Event). length es) is in
-    let turn : Turn plan w e v = subst (λ (o : Option Event). IfSome o (λ event. Turn plan w event v)) c.in-Some.is c.in_ok-event.ensures.turn in
+    let turn : Turn plan w e v =
+    subst (λ (o : Option Event). IfSome o (λ event. Turn plan w event v)) c.in-Some.is c.in_ok-event.ensures.turn in
     record {
       turns = omega (arith, turn.turns, c.loop-made.invariant.turns);
       runnable = c.in_ok-event.ensures.runnable;
@@ -61,7 +63,8 @@ loop-made-preserved c =
       goes_on = λ rest line run. subst (λ (es : List Event). IsExplored c.args.script.now c.args.seed plan.deny plan.kill 0 es line)
           (sym (append_assoc old (e ∷ []) rest) ∙ ap (λ (es : List Event). es ++ rest) (sym is))
           (c.loop-made.invariant.goes_on (e ∷ rest) line
-          (by_turn plan 0 (1000000 - (i + 1)) (1000000 - i) w v e rest line (omega (arith, c.loop-made-test.true)) turn c.is_clean.ensures run));
+          (by_turn plan 0 (1000000 - (i + 1)) (1000000 - i) w v e rest line (omega (arith, c.loop-made-test.true)) turn
+          c.is_clean.ensures run));
     }
 
 pub returns : goal.returns
@@ -75,7 +78,8 @@ returns c =
     record {
       line = (
         line,
-        subst (λ (es : List Event). IsExplored c.args.script.now c.args.seed plan.deny plan.kill 0 es line) (append-nil c.loop-made.events.items)
+        subst (λ (es : List Event). IsExplored c.args.script.now c.args.seed plan.deny plan.kill 0 es line)
+            (append-nil c.loop-made.events.items)
             (c.loop-made.invariant.goes_on [] line (by_limit plan 0 left w tasks none c.loop-made.invariant.runnable)),
       );
       few = omega (arith, c.loop-made.invariant.count);

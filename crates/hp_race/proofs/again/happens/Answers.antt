@@ -9,5 +9,5 @@ loop-entry-init c = follows_none c.args.core.now [] refl
 pub loop-entry-preserved : goal.loop-entry-preserved
 loop-entry-preserved c =
     happens_on c.args.core.now c.loop-entry.core c.step.new.self c.args.entries.now c.loop-entry.entry-index c.entry-item.result
-    c.in_ok-told.told c.loop-entry-test.true c.entry-item.is c.loop-entry.invariant c.in_ok-told.ensures.row
-    (c.is_told.ensures c.if-not-is_told.false)
+    c.in_ok-outcome.outcome c.loop-entry-test.true c.entry-item.is c.loop-entry.invariant c.in_ok-outcome.ensures.row
+    (c.has_outcome.ensures c.if-not-has_outcome.false)

@@ -8,7 +8,8 @@ pub loop-racer-preserved : goal.loop-racer-preserved
 loop-racer-preserved g c =
     let at = c.loop-racer in
     let inv = at.invariant in
-    let apart = taken_apart (λ d. HasRun c.args.script.now c.args.call_range d.ending d.seat) _ _ c.in-Some.racer c.in-Some.ensures.steps.0 inv.2 in
+    let apart = taken_apart (λ d. HasRun c.args.script.now c.args.call_range d.ending d.seat) _ _ c.in-Some.racer
+    c.in-Some.ensures.steps.0 inv.2 in
     let items = c.in_ok-push.ensures.items in
     let short = ap length c.in-Some.ensures.steps.0 in (
       tt,
@@ -16,7 +17,8 @@ loop-racer-preserved g c =
       apart.1,
       elim c.match-ending.branch [
         | in-Made w ↦
-            made_too c.args.script.now c.args.call_range at.made c.match-ending.made c.in-Some.racer.ending at.seats.items c.push.new.self.items
+            made_too c.args.script.now c.args.call_range at.made c.match-ending.made c.in-Some.racer.ending at.seats.items
+            c.push.new.self.items
             c.in-Some.racer.seat inv.3 apart.0 w.in-Made.is w.made-is items
         | in-Astray w ↦
             strayed_too c.args.script.now c.args.call_range c.match-ending.made c.in-Some.racer.ending at.seats.items c.push.new.self.items

@@ -7,10 +7,10 @@ use Rattle.hp_core.specs.HeldBack.{HeldBack}
 use Rattle.hp_core.specs.Runs.{Row}
 use Rattle.hp_replay.proofs.replaying.look.Goals as goal
 
-held_row : (s : CoreState) (e : Event) (o : Option Outcome) → HeldBack s e o → IfSome o (λ told. Row s e told s)
+held_row : (s : CoreState) (e : Event) (o : Option Outcome) → HeldBack s e o → IfSome o (λ outcome. Row s e outcome s)
 unfolding HeldBack
 held_row s e None held = tt
-held_row s e (Some told) held = held.1
+held_row s e (Some outcome) held = held.1
 
 pub returns : goal.returns
 returns c = held_row c.args.core.now c.args.event.now c.held_back.result c.held_back.ensures

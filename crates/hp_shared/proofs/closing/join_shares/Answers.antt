@@ -11,7 +11,13 @@ loop-seat-init g c =
     record {
       can_next = tt;
       is_finite = tt;
-      parts = omega (arith, c.into_share-whole.ensures.parts, ap length items, length-append c.pop.new.self.items (c.in-Some.last ∷ []), ap length rest);
+      parts = omega (
+        arith,
+        c.into_share-whole.ensures.parts,
+        ap length items,
+        length-append c.pop.new.self.items (c.in-Some.last ∷ []),
+        ap length rest,
+      );
       amount = omega (arith, c.into_share-whole.ensures.amount, ap entries_of items, last, ap entries_of rest);
     }
 
@@ -28,7 +34,8 @@ loop-seat-preserved g c =
 
 pub returns-clause-sum : goal.returns-clause-sum
 returns-clause-sum g c some all =
-    let empty : length c.loop-seat.seat-iterator.rest.items ≡ 0 = omega (arith, c.in-None.ensures.steps.0, c.loop-seat.seat-iterator.rest.ok) in
+    let empty : length c.loop-seat.seat-iterator.rest.items ≡ 0 =
+    omega (arith, c.in-None.ensures.steps.0, c.loop-seat.seat-iterator.rest.ok) in
     let none = entries_none c.loop-seat.seat-iterator.rest.items empty in
     let whole = c.audit.ensures.whole (omega (arith, c.loop-seat.invariant.parts, empty, all)) in
     omega (arith, whole, c.loop-seat.invariant.amount, none)

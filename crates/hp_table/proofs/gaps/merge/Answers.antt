@@ -16,13 +16,13 @@ swap-requires-clause-in_order c =
     let last = c.end_of-end.ensures.value ∙ ap (end_of 0 ms) next in
     omega (arith, c.end_of-from.ensures.value, last, end_rises VPNS 0 ms c.args.at c.requires.spread)
 
-pub swap-requires-clause-room : goal.swap-requires-clause-room
-swap-requires-clause-room c =
+pub swap-requires-clause-capacity : goal.swap-requires-clause-capacity
+swap-requires-clause-capacity c =
     let whole = opened_is VPNS c.args.mappings.now c.args.at c.end_of-from.result c.end_of-end.result c.args.gaps.now.items
     (listed c.gap_up_to-merged.result) c.requires.in_range c.requires.spread c.requires.gaps c.end_of-from.ensures.value
     c.end_of-end.ensures.value c.gap_up_to-merged.ensures in
     let fewer = length-remove c.args.mappings.now c.args.at c.requires.in_range in
-    rw whole (omega (arith, gaps_len 0 (remove c.args.mappings.now c.args.at), c.requires.room, fewer))
+    rw whole (omega (arith, gaps_len 0 (remove c.args.mappings.now c.args.at), c.requires.capacity, fewer))
 
 pub returns-clause-gaps : goal.returns-clause-gaps
 returns-clause-gaps c =

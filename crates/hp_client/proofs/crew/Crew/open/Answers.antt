@@ -1,4 +1,5 @@
-use Rattle.std.proofs.Common.{◌≡◌, ℕ, List, IfOk, sym, subst}
+use Rattle.std.proofs.Common.{◌≡◌, List, IfOk, sym, subst}
+use Rattle.hp_base.specs.declared.config.Config.{Config}
 use Rattle.hp_shared.specs.Seats.{AllSeated}
 use Rattle.hp_shared.specs.States.{SeatState}
 use Rattle.hp_client.specs.Crew.{members_of}
@@ -9,7 +10,7 @@ pub new-requires-2 : goal.new-requires-2
 new-requires-2 g c =
     let made = c.in_ok-shared.ensures in
     let seats = c.in_ok-shared.seats.items in
-    subst (λ (n : ℕ). AllSeated n seats) (sym made.tasks) (are_all c.args.config.tasks seats made.count made.seats)
+    subst (λ (config : Config). AllSeated config.tasks seats) (sym made.config) (are_all c.args.config.tasks seats made.count made.seats)
 
 pub returns-clause-members : goal.returns-clause-members
 returns-clause-members g c =

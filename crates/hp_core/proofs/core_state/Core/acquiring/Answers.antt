@@ -8,11 +8,11 @@ use Rattle.hp_core.proofs.core_state.Core.acquiring.Goals as goal
 
 pub index-requires : goal.index-requires
 index-requires c =
-    let l = task_state_in c.self.view_is c.self.invariant c.number.ensures c.requires.first c.requires.last in
+    let l = task_state_in c.self.view_is c.self.invariant c.place.ensures c.requires.first c.requires.last in
     omega (arith, l)
 
 pub returns : goal.returns
 unfolding acquired_of calls_of
 returns c =
-    let read = task_state_read c.self.view_is c.self.invariant c.number.ensures c.requires.first c.requires.last c.index.ensures in
+    let read = task_state_read c.self.view_is c.self.invariant c.place.ensures c.requires.first c.requires.last c.index.ensures in
     ap (λ (s : Standing). s.wants) c.standing_of.ensures.standing ∙ ap (λ (y : TaskState). wanted_by y.call) read

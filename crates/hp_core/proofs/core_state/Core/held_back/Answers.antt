@@ -2,7 +2,8 @@ use Rattle.std.proofs.Common.{◌∙◌, List, Option, sym, subst, ap}
 use Rattle.hp_machine.specs.declared.outcome.Outcome.{Outcome}
 use Rattle.hp_parts.specs.State.{state_of}
 use Rattle.hp_core.specs.declared.task_state.TaskState.{TaskState}
-use Rattle.hp_core.specs.HeldBack.{HeldBack, refusal_of, event_blocker}
+use Rattle.hp_core.specs.HeldBack.{HeldBack, event_blocker}
+use Rattle.hp_core.specs.Refusals.{refusal_of}
 use Rattle.hp_core.proofs.HeldBack.{read_back}
 use Rattle.hp_core.proofs.Waits.{locks_fit}
 use Rattle.hp_core.proofs.core_state.Core.held_back.Goals as goal
@@ -12,7 +13,7 @@ event_blocker-holder-requires c = locks_fit _ c.self.invariant
 
 pub returns : goal.returns
 returns c =
-    subst (λ (told : Option Outcome). HeldBack c.args.self.now c.args.event told) (sym c.told_back.ensures)
+    subst (λ (held : Option Outcome). HeldBack c.args.self.now c.args.event held) (sym c.idle_outcome.ensures)
     (read_back _ _ c.args.event c.refusal-refusal.result c.event_blocker-holder.result c.self.view_is c.self.invariant
     (c.refusal-refusal.ensures ∙ ap (λ (task_states : List TaskState). refusal_of task_states c.args.event) c.deref.ensures.value)
     (c.event_blocker-holder.ensures

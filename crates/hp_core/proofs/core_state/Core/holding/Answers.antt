@@ -9,12 +9,12 @@ use Rattle.hp_core.proofs.core_state.Core.holding.Goals as goal
 
 pub index-requires : goal.index-requires
 index-requires c =
-    let l = task_state_in c.self.view_is c.self.invariant c.number.ensures c.requires.first c.requires.last in
+    let l = task_state_in c.self.view_is c.self.invariant c.place.ensures c.requires.first c.requires.last in
     omega (arith, l)
 
 pub returns : goal.returns
 unfolding holding_of calls_of
 returns c =
-    let read = task_state_read c.self.view_is c.self.invariant c.number.ensures c.requires.first c.requires.last c.index.ensures in
+    let read = task_state_read c.self.view_is c.self.invariant c.place.ensures c.requires.first c.requires.last c.index.ensures in
     ap {B = Holding} (λ (s : Standing). record { slot = s.slot; lock = s.lock }) c.standing_of-standing.ensures.standing
     ∙ ap (λ (y : TaskState). held_by y.call) read

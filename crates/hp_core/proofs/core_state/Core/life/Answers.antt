@@ -7,11 +7,11 @@ use Rattle.hp_core.proofs.core_state.Core.life.Goals as goal
 
 pub index-requires : goal.index-requires
 index-requires c =
-    let l = task_state_in c.self.view_is c.self.invariant c.number.ensures c.requires.first c.requires.last in
+    let l = task_state_in c.self.view_is c.self.invariant c.place.ensures c.requires.first c.requires.last in
     omega (arith, l)
 
 pub returns : goal.returns
 unfolding life_of lives_of
 returns c =
-    let read = task_state_read c.self.view_is c.self.invariant c.number.ensures c.requires.first c.requires.last c.index.ensures in
+    let read = task_state_read c.self.view_is c.self.invariant c.place.ensures c.requires.first c.requires.last c.index.ensures in
     ap (λ (y : TaskState). y.life) read

@@ -1,6 +1,6 @@
 use Rattle.hp_base.specs.Text.{sizes}
 use Rattle.std.proofs.Common.{refl}
-use Rattle.hp_core.specs.Readers.{calls_of, config_of}
+use Rattle.hp_core.specs.Readers.{config_of}
 use Rattle.hp_core.proofs.Opens.{are_sound, none_in_flight, opens_as}
 use Rattle.hp_core.proofs.core_state.Core.new.Goals as goal
 

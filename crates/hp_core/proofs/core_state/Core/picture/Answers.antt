@@ -33,7 +33,7 @@ returns c =
       sizes = sizes c.self.inside.config;
       parts = state_of c.self.inside.parts;
       task_states = c.self.inside.task_states.items;
-      room = vec_capacity c.self.inside.task_states;
+      capacity = vec_capacity c.self.inside.task_states;
     } in
     let is : c.owed.result ≡ owed_of s = c.owed.ensures ∙ ap (λ (z : CoreState). owed_of z) (sym c.self.view_is) in
     let owed_is : to_z w64 (of_z w64 c.owed.result) ≡ owed_of s = grind (arith, to_z-of_z, is) in
@@ -48,7 +48,8 @@ returns c =
       used = c.used.ensures ∙ ap (λ (z : CoreState). used_of z) (sym c.self.view_is);
       used_owed = used_owed_is;
       quota = c.quota.ensures ∙ ap (λ (z : CoreState). quota_of z) (sym c.self.view_is);
-      hands = c.in_ok-hands.ensures ∙ ap (λ (xs : List TaskState). filter_map (λ task_state. hand task_state.call) xs) c.deref.ensures.value;
+      hands =
+          c.in_ok-hands.ensures ∙ ap (λ (xs : List TaskState). filter_map (λ task_state. hand task_state.call) xs) c.deref.ensures.value;
       as_many = c.in_ok-file_pictures.ensures.count ∙ ap (λ (xs : List FileState). length xs) c.deref-2.ensures.value;
       files =
           subst (λ (xs : List FileState). (f : ℕ) → f < length xs

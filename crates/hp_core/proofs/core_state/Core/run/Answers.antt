@@ -5,8 +5,8 @@ use Rattle.hp_core.proofs.core_state.Core.run.Goals as goal
 
 pub loop-event-init : goal.loop-event-init
 loop-event-init c = record {
-  ran = ran_none _ _ (c.reserve.ensures.items ∙ c.new-told.ensures.items);
-  room = grind (arith, common_steps);
+  ran = ran_none _ _ (c.reserve.ensures.items ∙ c.new-outcomes.ensures.items);
+  capacity = grind (arith, common_steps);
   head = c.always.ensures.headline;
 }
 
@@ -15,7 +15,7 @@ loop-event-preserved c = record {
   ran =
       ran_next _ _ _ _ _ _ _ _ _ c.loop-event-test.true c.event-item.is c.push_reserved.ensures.items
       c.loop-event.invariant.ran c.in-Ok.ensures.row;
-  room = omega (arith, c.push_reserved.ensures.capacity, c.loop-event.invariant.room);
+  capacity = omega (arith, c.push_reserved.ensures.capacity, c.loop-event.invariant.capacity);
   head = c.in-Ok.ensures.headline;
 }
 
@@ -23,7 +23,7 @@ pub push_reserved-requires : goal.push_reserved-requires
 push_reserved-requires c =
     let within = c.loop-event-test.true in
     let long = told_long _ _ _ _ _ (omega (arith, within)) c.loop-event.invariant.ran in
-    omega (arith, long, within, c.loop-event.invariant.room)
+    omega (arith, long, within, c.loop-event.invariant.capacity)
 
 pub returns-clause-run : goal.returns-clause-run
 returns-clause-run c = ran_all _ _ _ _ _ c.loop-event-test.false c.loop-event.invariant.ran
@@ -43,7 +43,7 @@ pub returns-then-is_err-clause-stopped : goal.returns-then-is_err-clause-stopped
 returns-then-is_err-clause-stopped c = ([], ran_none _ _ refl)
 
 pub returns-then-is_empty-clause-run : goal.returns-then-is_empty-clause-run
-returns-then-is_empty-clause-run c = ran_empty _ _ _ (sym c.is_empty.ensures ∙ c.if-is_empty.true) c.new-told.ensures.items
+returns-then-is_empty-clause-run c = ran_empty _ _ _ (sym c.is_empty.ensures ∙ c.if-is_empty.true) c.new-outcomes.ensures.items
 
 pub returns-in-Err-clause-wanted : goal.returns-in-Err-clause-wanted
 returns-in-Err-clause-wanted c =

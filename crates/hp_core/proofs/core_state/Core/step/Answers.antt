@@ -9,7 +9,7 @@ use Rattle.hp_core.specs.Sound.{IsSound}
 use Rattle.hp_core.proofs.Headlines.{headline_of}
 use Rattle.hp_core.proofs.Meets.{fits_from_sound}
 use Rattle.hp_core.proofs.Blocked.{idle_result}
-use Rattle.hp_core.proofs.Steps.{with_room, sound_result, row_result}
+use Rattle.hp_core.proofs.Steps.{with_capacity, sound_result, row_result}
 use Rattle.hp_core.proofs.core_state.Core.step.Goals as goal
 
 pub step_event-requires : goal.step_event-requires
@@ -18,7 +18,7 @@ step_event-requires c =
       sizes = sizes c.self.inside.config;
       parts = state_of c.self.inside.parts;
       task_states = c.self.inside.task_states.items;
-      room = vec_capacity c.self.inside.task_states;
+      capacity = vec_capacity c.self.inside.task_states;
     }) c.args.event c.self.invariant
 
 pub invariant_of-self : goal.invariant_of-self
@@ -27,9 +27,9 @@ invariant_of-self c =
       sizes = sizes c.self.inside.config;
       parts = state_of c.self.inside.parts;
       task_states = c.self.inside.task_states.items;
-      room = vec_capacity c.self.inside.task_states;
+      capacity = vec_capacity c.self.inside.task_states;
     } in
-    with_room IsSound s _ _ _ c.step_event.ensures.capacity
+    with_capacity IsSound s _ _ _ c.step_event.ensures.list
     (sound_result s c.args.event c.step_event.result _ _ c.self.invariant
     (fits_from_sound s c.args.event c.self.invariant) c.step_event.ensures.row c.step_event.ensures.sizes
     c.step_event.ensures.task_states c.step_event.ensures.err)
@@ -40,10 +40,10 @@ returns-clause-row c =
       sizes = sizes c.self.inside.config;
       parts = state_of c.self.inside.parts;
       task_states = c.self.inside.task_states.items;
-      room = vec_capacity c.self.inside.task_states;
+      capacity = vec_capacity c.self.inside.task_states;
     } in
     rw (← c.self.view_is)
-    (with_room (λ n. IfOk c.step_event.result (λ told. Row s c.args.event told n)) s _ _ _ c.step_event.ensures.capacity
+    (with_capacity (λ n. IfOk c.step_event.result (λ told. Row s c.args.event told n)) s _ _ _ c.step_event.ensures.list
     (row_result s c.args.event c.step_event.result _ _ (fits_from_sound s c.args.event c.self.invariant) c.step_event.ensures.row))
 
 pub returns-clause-headline : goal.returns-clause-headline
@@ -52,9 +52,9 @@ returns-clause-headline c =
       sizes = sizes c.self.inside.config;
       parts = state_of c.self.inside.parts;
       task_states = c.self.inside.task_states.items;
-      room = vec_capacity c.self.inside.task_states;
+      capacity = vec_capacity c.self.inside.task_states;
     } in
-    with_room Headline s _ _ _ c.step_event.ensures.capacity
+    with_capacity Headline s _ _ _ c.step_event.ensures.list
     (headline_of _ (sound_result s c.args.event c.step_event.result _ _ c.self.invariant
     (fits_from_sound s c.args.event c.self.invariant) c.step_event.ensures.row c.step_event.ensures.sizes
     c.step_event.ensures.task_states c.step_event.ensures.err))
@@ -69,12 +69,12 @@ returns-clause-idle c =
       sizes = sizes c.self.inside.config;
       parts = state_of c.self.inside.parts;
       task_states = c.self.inside.task_states.items;
-      room = vec_capacity c.self.inside.task_states;
+      capacity = vec_capacity c.self.inside.task_states;
     } in
     rw (← c.self.view_is)
-    (with_room (λ n. IfOk c.step_event.result (λ told. IsIdle told → n ≡ s)) s _ _ _ c.step_event.ensures.capacity
+    (with_capacity (λ n. IfOk c.step_event.result (λ told. IsIdle told → n ≡ s)) s _ _ _ c.step_event.ensures.list
     (idle_result s c.args.event c.step_event.result _ _ c.self.invariant
     (fits_from_sound s c.args.event c.self.invariant) c.step_event.ensures.row c.step_event.ensures.blocked))
 
-pub returns-clause-room : goal.returns-clause-room
-returns-clause-room c = rw (← c.self.view_is) (λ none. (c.step_event.ensures.room none, c.step_event.ensures.capacity))
+pub returns-clause-capacity : goal.returns-clause-capacity
+returns-clause-capacity c = rw (← c.self.view_is) (λ none. (c.step_event.ensures.capacity none, c.step_event.ensures.list))

@@ -8,7 +8,7 @@ use Rattle.hp_core.proofs.core_state.Core.waits_for.Goals as goal
 
 pub index-requires : goal.index-requires
 index-requires c =
-    let l = task_state_in c.self.view_is c.self.invariant c.number.ensures c.requires.first c.requires.last in
+    let l = task_state_in c.self.view_is c.self.invariant c.place.ensures c.requires.first c.requires.last in
     omega (arith, l)
 
 pub task_state_blocker-requires : goal.task_state_blocker-requires
@@ -16,6 +16,6 @@ task_state_blocker-requires c = locks_fit _ c.self.invariant
 
 pub returns : goal.returns
 returns c =
-    let read = task_state_read c.self.view_is c.self.invariant c.number.ensures c.requires.first c.requires.last c.index.ensures in
+    let read = task_state_read c.self.view_is c.self.invariant c.place.ensures c.requires.first c.requires.last c.index.ensures in
     waits c.args.task _ c.self.view_is c.self.invariant
     (c.task_state_blocker.ensures ∙ ap (λ (y : TaskState). task_blocker (state_of c.self.inside.parts) y) read)

@@ -15,7 +15,8 @@ loop-place-preserved c =
         | inl e ↦ ap (λ (i : ℕ). slice_index (slice_set old place c.inverse.result) i) e
             ∙ get_or-set_same old place c.inverse.result 0 (omega (arith, c.loop-place.invariant.long, c.loop-place-test.true))
             ∙ c.inverse.ensures ∙ ap (λ (i : ℕ). inverse_of (i + 1)) (sym e)
-        | inr other ↦ get_or-set_other old place k c.inverse.result 0 other ∙ c.loop-place.invariant.made k (lt_of_le-ne (omega (arith, within)) other)
+        | inr other ↦ get_or-set_other old place k c.inverse.result 0 other
+            ∙ c.loop-place.invariant.made k (lt_of_le-ne (omega (arith, within)) other)
       ];
     }
 

@@ -7,14 +7,14 @@ use Rattle.hp_explore.proofs.walk.Walk.make.Goals as goal
 
 pub phase_after-requires-clause-agrees : goal.phase_after-requires-clause-agrees
 phase_after-requires-clause-agrees c =
-    outcome_agrees c.self.inside.core c.step.new.self c.args.event.now c.in_ok-told.told c.args.task c.is_reached.ensures
-    c.in_ok-told.ensures.row c.requires.alone
+    outcome_agrees c.self.inside.core c.step.new.self c.args.event.now c.in_ok-outcome.outcome c.args.task c.is_reached.ensures
+    c.in_ok-outcome.ensures.row c.requires.alone
 
 pub invariant_of-self-2 : goal.invariant_of-self-2
 invariant_of-self-2 c = record {
   few = c.self.invariant.few;
-  tasks = ap (λ (z : Sizes). z.tasks) c.in_ok-told.ensures.config ∙ c.self.invariant.tasks;
+  tasks = ap (λ (z : Sizes). z.tasks) c.in_ok-outcome.ensures.config ∙ c.self.invariant.tasks;
   long = length-set c.self.inside.phases.items _ c.phase_after.result ∙ c.self.invariant.long;
-  phases = phases_after c.self.inside.core c.step.new.self c.args.event.now c.in_ok-told.told c.args.task c.self.inside.phases.items
-      c.phase_after.result c.in_ok-told.ensures.row c.requires.alone c.requires.task.0 c.phase_after.ensures c.self.invariant.phases;
+  phases = phases_after c.self.inside.core c.step.new.self c.args.event.now c.in_ok-outcome.outcome c.args.task c.self.inside.phases.items
+      c.phase_after.result c.in_ok-outcome.ensures.row c.requires.alone c.requires.task.0 c.phase_after.ensures c.self.invariant.phases;
 }

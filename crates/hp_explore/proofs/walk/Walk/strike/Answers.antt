@@ -3,7 +3,7 @@ use Rattle.std.specs.Prelude.{Bool, true, false, [], ◌∷◌, ◌++◌, cond, 
 use Rattle.std.proofs.lemmas.List.{append-nil}
 use Rattle.std.proofs.lemmas.List.Elements.{filter_more}
 use Rattle.std.proofs.lemmas.List.Filters.{length-filter_both}
-use Rattle.hp_explore.specs.Leaving.{can_now}
+use Rattle.hp_explore.specs.CanNow.{can_now}
 use Rattle.hp_explore.proofs.Retained.{is_told}
 use Rattle.hp_explore.proofs.walk.Walk.strike.Goals as goal
 

@@ -6,14 +6,15 @@ use Rattle.hp_core.specs.State.{CoreState, as_state}
 use Rattle.hp_explore.specs.Schedule.{World, AreRunnable, CanTurn}
 use Rattle.hp_laws.specs.Laws.{IsOf}
 use Rattle.hp_base.specs.declared.event.Event.{Event}
-use Rattle.hp_explore.specs.Leaving.{can_now, task_may_leave}
-use Rattle.hp_explore.specs.Passing.{task_may_pass}
+use Rattle.hp_core.specs.Passing.{task_may_leave, task_may_pass}
+use Rattle.hp_explore.specs.CanNow.{can_now}
 use Rattle.hp_explore.proofs.Others.{all_can, at_index, list_stays, long_after, of_choice}
-use Rattle.hp_explore.proofs.Phases.{holding_stays, holds_on}
+use Rattle.hp_core.proofs.Holds.{holding_stays, holds_on}
 use Rattle.hp_explore.proofs.Retained.{list_struck}
 use Rattle.std.proofs.lemmas.List.Elements.{All-filter}
 use Rattle.hp_explore.proofs.walk.Walk.turn_of.Goals as goal
-use Rattle.hp_explore.proofs.walk.Walk.turn_of.Goals.{then-can_leave, else-can_leave+then-may_pass, else-can_leave+else-may_pass+else-not-can_turn}
+use Rattle.hp_explore.proofs.walk.Walk.turn_of.Goals.{then-can_leave, else-can_leave+then-may_pass}
+use Rattle.hp_explore.proofs.walk.Walk.turn_of.Goals.{else-can_leave+else-may_pass+else-not-can_turn}
 
 pub returns-clause-runnable : goal.returns-clause-runnable
 returns-clause-runnable c =
@@ -30,7 +31,8 @@ returns-clause-runnable c =
     let reached = subst (λ (x : World). IsReached (as_state x.core)) c.self-2.view_is c.is_reached.ensures in
     let place = c.of-place.result in
     let within : place < length old = omega (arith, c.of-place.ensures, c.len.ensures.len, c.requires.some) in
-    let one : 1 ≤ t = (at_index (λ (n : ℕ). (1 ≤ n) × (n ≤ length w.made)) old place t c.at-task.ensures.task c.requires.in_range within).0 in
+    let one : 1 ≤ t =
+    (at_index (λ (n : ℕ). (1 ≤ n) × (n ≤ length w.made)) old place t c.at-task.ensures.task c.requires.in_range within).0 in
     let alone : (u : ℕ) → IsOf u c.choose-event.result → u ≡ t = λ u h. of_choice plan _ _ _ t _ u
     (subst (λ (e : Event). IsOf u e) c.choose-event.ensures.event h) in
     let could = at_index (CanTurn plan w) old place t c.at-task.ensures.task

@@ -73,9 +73,9 @@ returns-clause-rest c =
     let wider = c.in_ok-widen.ensures.wider in
     let rest = c.loop.invariant.rest in grind (arith, wider, rest)
 
-pub returns-clause-room : goal.returns-clause-room
-returns-clause-room c enough =
+pub returns-clause-capacity : goal.returns-clause-capacity
+returns-clause-capacity c enough =
     let same : retired_frames (states c.self.inside.records.items) ≡ retired_frames c.args.self.now.frames =
     ap (λ (b : BankState). retired_frames b.frames) c.self.view_is in
     let none : c.args.k - c.min-back.result ≡ 0 = omega (arith, same, enough, c.count.ensures, c.self.invariant.kept.retired.counted, c.min-back.ensures) in
-    (refl, ap (λ (b : BankState). b.room) c.loop.invariant.rest ∙ (c.in_ok-widen.ensures.room none).1)
+    (refl, ap (λ (b : BankState). b.capacity) c.loop.invariant.rest ∙ (c.in_ok-widen.ensures.capacity none).1)

@@ -32,7 +32,7 @@ invariant_of-self c =
       counted = rw c.add-alone.ensures.members
           (omega (arith, added, c.self.invariant.counted, count_below-added (is_member rs) from to LIMIT c.change.invariant.in_limit));
       covered = grind (arith, common_steps);
-      room = grind (arith, common_steps);
+      capacity = grind (arith, common_steps);
     }
 
 pub returns-clause-added : goal.returns-clause-added

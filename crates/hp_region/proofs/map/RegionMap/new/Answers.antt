@@ -9,5 +9,5 @@ invariant_of-result c = record {
   marked = rw c.new.ensures.items c.new-2.ensures;
   counted = rw c.new.ensures.items (sym (count_below_none (λ k. false) LIMIT (λ k below. refl)));
   covered = omega arith;
-  room = omega arith;
+  capacity = omega arith;
 }

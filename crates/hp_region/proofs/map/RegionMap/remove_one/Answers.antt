@@ -12,7 +12,7 @@ use Rattle.hp_region.specs.Bits.{has_bit}
 use Rattle.hp_region.specs.Regions.{is_member, IsApartFrom}
 use Rattle.hp_region.proofs.Sets.{absent-put, member_below_limit}
 use Rattle.hp_region.proofs.map.RegionMap.remove_one.Goals as goal
-use Rattle.hp_region.proofs.map.RegionMap.remove_one.Goals.{then-is_split+in_ok-take_room, else-is_split}
+use Rattle.hp_region.proofs.map.RegionMap.remove_one.Goals.{then-is_split+in_ok-take_capacity, else-is_split}
 
 absent : (b : Bool) → (IsTrue b → false ≡ true) → b ≡ false
 absent true h = sym (h refl)
@@ -34,7 +34,7 @@ pub overflow_sub-self : goal.overflow_sub-self
 overflow_sub-self c =
     let kept : c.if-is_split.self-inside.count ≡ c.self.inside.count =
     elim c.if-is_split.branch [
-      | then-is_split+in_ok-take_room w ↦
+      | then-is_split+in_ok-take_capacity w ↦
           ap (λ (m : Inside). m.count) w.self-inside-is
       | else-is_split w ↦ ap (λ (m : Inside). m.count) w.self-inside-is
     ] in
@@ -42,10 +42,10 @@ overflow_sub-self c =
     c.self.invariant.apart c.self.invariant.counted c.deref.ensures.value (c.in-Some.ensures.found.0 refl) in
     omega (arith, kept, less)
 
--- room is made without a change of the regions
+-- capacity is taken without a change of the regions
 same : (c : goal.After-self-1) → c.if-is_split.self-inside.regions.items ≡ c.self.inside.regions.items
 same c = elim c.if-is_split.branch [
-  | then-is_split+in_ok-take_room w ↦ ap (λ (m : Inside). m.regions.items) w.self-inside-is ∙ w.take_room.ensures.items
+  | then-is_split+in_ok-take_capacity w ↦ ap (λ (m : Inside). m.regions.items) w.self-inside-is ∙ w.take_capacity.ensures.items
   | else-is_split w ↦ ap (λ (m : Inside). m.regions.items) w.self-inside-is
 ]
 
@@ -55,7 +55,7 @@ left c = c.carve.ensures.members ∙ ap (λ (rs : List Region). put (is_member r
 -- and without a change of the bits
 marked : (c : goal.After-self-1) → has_bit c.if-is_split.self-inside.bits ≡ is_member c.self.inside.regions.items
 marked c = elim c.if-is_split.branch [
-  | then-is_split+in_ok-take_room w ↦ ap (λ (m : Inside). has_bit m.bits) w.self-inside-is ∙ c.self.invariant.marked
+  | then-is_split+in_ok-take_capacity w ↦ ap (λ (m : Inside). has_bit m.bits) w.self-inside-is ∙ c.self.invariant.marked
   | else-is_split w ↦ ap (λ (m : Inside). has_bit m.bits) w.self-inside-is ∙ c.self.invariant.marked
 ]
 
@@ -79,25 +79,25 @@ spent pending spare le = grind (arith, nat_tests)
 
 covered : (c : goal.After-self-1) → c.if-is_split.self-inside.pending ≤ c.if-is_split.self-inside.spare
 covered c = elim c.if-is_split.branch [
-  | then-is_split+in_ok-take_room w ↦
+  | then-is_split+in_ok-take_capacity w ↦
       let kept = ap (λ (m : Inside). m.pending) w.self-inside-is in
       let now = ap (λ (m : Inside). m.spare) w.self-inside-is in
-      omega (arith, kept, now, w.take_room.ensures.spare, spent c.self.inside.pending c.self.inside.spare c.self.invariant.covered)
+      omega (arith, kept, now, w.take_capacity.ensures.spare, spent c.self.inside.pending c.self.inside.spare c.self.invariant.covered)
   | else-is_split w ↦
       let kept = ap (λ (m : Inside). m.pending) w.self-inside-is in
       let now = ap (λ (m : Inside). m.spare) w.self-inside-is in
       omega (arith, kept, now, c.self.invariant.covered)
 ]
 
-room : (c : goal.After-self-1) → vec_len c.carve.new.regions + c.if-is_split.self-inside.spare ≤ vec_capacity c.carve.new.regions
-room c = elim c.if-is_split.branch [
-  | then-is_split+in_ok-take_room w ↦
+enough : (c : goal.After-self-1) → vec_len c.carve.new.regions + c.if-is_split.self-inside.spare ≤ vec_capacity c.carve.new.regions
+enough c = elim c.if-is_split.branch [
+  | then-is_split+in_ok-take_capacity w ↦
       let now = ap (λ (m : Inside). m.spare) w.self-inside-is in
       let len = ap (λ (m : Inside). vec_len m.regions) w.self-inside-is in
       let capacity = ap (λ (m : Inside). vec_capacity m.regions) w.self-inside-is in
       let most = at_most (splits (is_member c.if-is_split.self-inside.regions.items) c.args.index)
       (vec_len c.if-is_split.self-inside.regions) (vec_len c.carve.new.regions) c.carve.ensures.len in
-      omega (arith, now, len, capacity, most, w.in_ok-take_room.ensures.room, c.carve.ensures.capacity)
+      omega (arith, now, len, capacity, most, w.in_ok-take_capacity.ensures.enough, c.carve.ensures.capacity)
   | else-is_split w ↦
       let now = ap (λ (m : Inside). m.spare) w.self-inside-is in
       let len = ap (λ (m : Inside). vec_len m.regions) w.self-inside-is in
@@ -106,7 +106,7 @@ room c = elim c.if-is_split.branch [
       ∙ sym c.is_split.ensures ∙ w.if-is_split.false in
       let most = no_more (splits (is_member c.if-is_split.self-inside.regions.items) c.args.index)
       (vec_len c.if-is_split.self-inside.regions) (vec_len c.carve.new.regions) whole c.carve.ensures.len in
-      omega (arith, now, len, capacity, most, c.self.invariant.room, c.carve.ensures.capacity)
+      omega (arith, now, len, capacity, most, c.self.invariant.capacity, c.carve.ensures.capacity)
 ]
 
 pub invariant_of-self-2 : goal.invariant_of-self-2
@@ -114,7 +114,7 @@ invariant_of-self-2 c =
     let rs = c.self.inside.regions.items in
     let kept : c.if-is_split.self-inside.count ≡ c.self.inside.count =
     elim c.if-is_split.branch [
-      | then-is_split+in_ok-take_room w ↦
+      | then-is_split+in_ok-take_capacity w ↦
           ap (λ (m : Inside). m.count) w.self-inside-is
       | else-is_split w ↦ ap (λ (m : Inside). m.count) w.self-inside-is
     ] in
@@ -125,7 +125,7 @@ invariant_of-self-2 c =
       marked = c.take.ensures ∙ ap (λ (set : ℕ → Bool). put set c.args.index false) (marked c) ∙ sym (left c);
       counted = rw (left c) (omega (arith, kept, less));
       covered = covered c;
-      room = room c;
+      capacity = enough c;
     }
 
 pub returns-clause-members : goal.returns-clause-members

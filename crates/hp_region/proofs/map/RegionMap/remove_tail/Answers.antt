@@ -31,7 +31,7 @@ invariant_of-self c =
       marked = c.cut_tail.ensures ∙ ap (λ (set : ℕ → Bool). cut_tail set c.args.from) c.self.invariant.marked ∙ sym c.cut.ensures.members;
       counted = rw c.cut.ensures.members (omega (arith, parts));
       covered = c.self.invariant.covered;
-      room = omega (arith, c.cut.ensures.len, c.cut.ensures.capacity, c.self.invariant.room);
+      capacity = omega (arith, c.cut.ensures.len, c.cut.ensures.capacity, c.self.invariant.capacity);
     }
 
 pub returns-clause-members : goal.returns-clause-members

@@ -4,5 +4,5 @@ use Rattle.hp_slots.proofs.table.SlotTable.new.Given as goal
 abbrev pub invariant-loop : goal.invariant-loop
 invariant-loop l = record {
   vacant : l.holders.items ≡ replicate l.counter None;
-  room : vec_capacity l.holders ≡ l.places;
+  capacity : vec_capacity l.holders ≡ l.places;
 }

@@ -36,5 +36,5 @@ invariant_of-self c =
           c.unwrap-file.result.1 c.args.vpn at (map.get c.remove.new.self.frames) c.take.new.places went c.take.ensures.rest;
       gaps = c.self.invariant.gaps;
       places = c.self.invariant.places;
-      room = c.self.invariant.room;
+      capacity = c.self.invariant.capacity;
     }

@@ -63,7 +63,7 @@ loop-vpn-preserved c =
           (λ v. ap (λ (m : map.FinMap nat_cmp ℕ). map.get m v) (rw c.new.ensures at c.clear.ensures.entries)
           ∙ get_removed c.loop-vpn.self.entries c.in-Some-first_within.vpn v);
       ready = c.clear.ensures.ready ∙ i.ready;
-      room = no_more_since _ _ _ c.clear.ensures.room i.room;
+      capacity = no_more_since _ _ _ c.clear.ensures.capacity i.capacity;
     }
 
 pub returns-clause-entries : goal.returns-clause-entries

@@ -1,7 +1,7 @@
 use Rattle.std.proofs.Common.{◌≡◌, ℕ, ◌-◌, ◌≤◌}
 use Rattle.std.specs.FinMap as map
 use Rattle.hp_base.specs.Indices.{is_within}
-use Rattle.hp_table.specs.Table.{cleared, NoMoreMemory}
+use Rattle.hp_table.specs.Table.{cleared, NoMoreCapacity}
 use Rattle.hp_table.proofs.space.Space.clear_mapping.Given as goal
 
 abbrev pub invariant-loop-vpn : goal.invariant-loop-vpn
@@ -11,7 +11,7 @@ invariant-loop-vpn l = record {
   mappings : l.self.mappings ≡ l.fn.self.mappings;
   entries : (v : ℕ) → map.get l.self.entries v ≡ cleared (is_within l.fn.base l.next) (map.get l.fn.self.entries) v;
   ready : l.self.ready ≡ l.fn.self.ready;
-  room : NoMoreMemory l.self.room l.fn.self.room;
+  capacity : NoMoreCapacity l.self.capacity l.fn.self.capacity;
 }
 
 abbrev pub decreases-loop-vpn : goal.decreases-loop-vpn

@@ -39,9 +39,9 @@ invariant_of-self c =
           (find (without ms c.args.base)) (λ v some. found_other ms c.args.base v (bare c v some)));
       gaps = rw (c.remove.ensures.items, ← c.deref-in-Some.ensures.value) c.merge.ensures.gaps;
       places = omega (arith, c.self.invariant.places, c.remove.ensures.len, c.merge.ensures.capacity);
-      room = λ ready. (
-        omega (arith, (c.self.invariant.room ready).0, c.remove.ensures.len, c.remove.ensures.capacity),
-        omega (arith, (c.self.invariant.room ready).1, c.remove.ensures.len, c.merge.ensures.capacity),
+      capacity = λ ready. (
+        omega (arith, (c.self.invariant.capacity ready).0, c.remove.ensures.len, c.remove.ensures.capacity),
+        omega (arith, (c.self.invariant.capacity ready).1, c.remove.ensures.len, c.merge.ensures.capacity),
       );
     }
 

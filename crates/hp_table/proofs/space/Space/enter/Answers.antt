@@ -64,8 +64,8 @@ invariant_of-self c =
           rw (items c) (agree_other (find ms) (map.get c.self.inside.entries.frames) c.self.inside.places c.self.invariant.agree
           (find (entered ms new)) (λ v some. found_same ms new VPNS v room (c.self.invariant.mapped v some)));
       gaps = c.fill.ensures.gaps ∙ ap (gaps_of 0) c.deref-2.ensures.value;
-      places = omega (arith, (c.self.invariant.room ready).1, grown, c.fill.ensures.capacity);
-      room = λ ready. absurd (true≢false (sym ready));
+      places = omega (arith, (c.self.invariant.capacity ready).1, grown, c.fill.ensures.capacity);
+      capacity = λ ready. absurd (true≢false (sym ready));
     }
 
 pub returns-clause-mappings : goal.returns-clause-mappings

@@ -45,7 +45,7 @@ invariant_of-self-in-Err c =
           ((c.in_ok-add.ensures {u = tt}).ok) c.take.ensures.rest);
       gaps = c.self.invariant.gaps;
       places = c.self.invariant.places;
-      room = c.self.invariant.room;
+      capacity = c.self.invariant.capacity;
     }
 
 pub invariant_of-self-in_default : goal.invariant_of-self-in_default
@@ -69,5 +69,5 @@ invariant_of-self-in_default c =
           ((c.in_ok-add.ensures {u = tt}).ok);
       gaps = c.self.invariant.gaps;
       places = c.self.invariant.places;
-      room = c.self.invariant.room;
+      capacity = c.self.invariant.capacity;
     }

@@ -18,5 +18,5 @@ invariant_of-result c = record {
       (λ v. ap (λ (m : map.FinMap nat_cmp ℕ). map.get m v) c.new-3.ensures.frames ∙ map.get-empty nat_cmp v);
   gaps = rw (c.new.ensures.items, c.new-2.ensures.items) refl;
   places = omega (arith, c.new.ensures.len, c.new-2.ensures.capacity);
-  room = λ ready. absurd (true≢false (sym ready));
+  capacity = λ ready. absurd (true≢false (sym ready));
 }

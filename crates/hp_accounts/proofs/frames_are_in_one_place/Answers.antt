@@ -1,0 +1,5 @@
+use Rattle.hp_accounts.proofs.Keeping.{always_kept}
+use Rattle.hp_accounts.proofs.frames_are_in_one_place.Goals as goal
+
+pub returns : goal.returns
+returns c = λ g frames es m. (always_kept g frames es m).place.one

@@ -1,0 +1,6 @@
+pub mod Answers
+pub mod Audits
+pub mod Codes
+pub mod Numbers
+pub mod Runs
+pub mod Texts

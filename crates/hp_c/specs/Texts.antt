@@ -1,0 +1,73 @@
+-- What an export answers of the text of a trace.
+use Rattle.std.specs.Prelude.{◌≡◌, ◌⊎◌, ◌<◌, ℕ, List, [], drop, length, take, Option, Some}
+use Rattle.hp_replay.specs.Replaying.{Replayed}
+use Rattle.hp_text.specs.Traces.{BeginsNoHeader, HasBadLine}
+use Rattle.hp_text.specs.declared.fault.ReplayFault.{ReplayFault}
+use Rattle.hp_text.specs.declared.fault.ReplayFault.TheVariants as fault
+use Rattle.hp_text.specs.Checking.{ReadsEvents}
+use Rattle.hp_explain.specs.Explaining.{Explained}
+use Rattle.hp_draw.specs.Drawing.{IsDrawing}
+use Rattle.hp_c.specs.Codes.{bad_header, bad_line, no_memory, ok, too_small}
+
+-- the text is that of a replay of the trace that the bytes spell
+abbrev pub Replays : (bytes text : List ℕ) → Type 0
+Replays bytes text = (left : Option (List ℕ)) × Replayed (Some bytes) left (Some []) (Some text)
+
+-- the text explains it
+abbrev pub Explains : (bytes text : List ℕ) → Type 0
+Explains bytes text = (left : Option (List ℕ)) × Explained (Some bytes) left (Some []) (Some text)
+
+-- the text is its picture
+abbrev pub Draws : (bytes text : List ℕ) → Type 0
+Draws bytes text = (left : Option (List ℕ)) × IsDrawing (Some bytes) left (Some []) (Some text)
+
+-- the trace that they spell has so many events
+abbrev pub Counts : (bytes : List ℕ) (events : ℕ) → Type 0
+Counts bytes events = (left : Option (List ℕ)) × ReadsEvents events (Some bytes) left
+
+-- the code and the line by which a fault is told. Reading from memory can't fail, and where writing to it does there was none
+abbrev pub Codes : ReplayFault → (code line : ℕ) → Type 0
+Codes (fault.BadLine n) code line = (code ≡ bad_line) × (line ≡ n)
+Codes fault.BadHeader code line = (code ≡ bad_header) × (line ≡ 1)
+Codes fault.Memory code line = (code ≡ no_memory) × (line ≡ 0)
+Codes fault.Write code line = (code ≡ no_memory) × (line ≡ 0)
+Codes fault.Read code line = (code ≡ no_memory) × (line ≡ 0)
+
+-- a fault that bytes in memory may have
+abbrev pub HasFaultTold : (bytes : List ℕ) → ReplayFault → Type 0
+HasFaultTold bytes (fault.BadLine n) = HasBadLine n bytes
+HasFaultTold bytes fault.BadHeader = BeginsNoHeader bytes
+HasFaultTold bytes fault.Memory = Unit {0}
+HasFaultTold bytes fault.Write = Unit {0}
+HasFaultTold bytes fault.Read = ⊥
+
+-- the text is the front of the room, and behind it all is as it was
+abbrev pub IsPut : (text old new : List ℕ) → Type 0
+IsPut text old new = (take (length text) new ≡ text) × (drop (length text) new ≡ drop (length text) old)
+
+-- a text that is such was put into the room for it, and its length was told
+abbrev pub Shown : (List ℕ → Type 0) → (old new : List ℕ) (needed line : ℕ) → Type 0
+Shown Is old new needed line = (text : List ℕ) × Is text × (needed ≡ length text) × (line ≡ 0) × IsPut text old new
+
+-- the room is too small for such a text, of so many bytes
+abbrev pub IsTooLong : (List ℕ → Type 0) → (room needed line : ℕ) → Type 0
+IsTooLong Is room needed line = (text : List ℕ) × Is text × (needed ≡ length text) × (room < needed) × (line ≡ 0)
+
+-- the bytes have a fault, which is told, or there was no memory
+abbrev pub IsFaulty : (bytes : List ℕ) → (code line : ℕ) → Type 0
+IsFaulty bytes code line = (fault : ReplayFault) × HasFaultTold bytes fault × Codes fault code line
+
+-- a text is put into the room, or there is too little
+abbrev pub Tells : (text old new : List ℕ) → (needed code line : ℕ) → Type 0
+Tells text old new needed code line =
+    (needed ≡ length text) × (line ≡ 0)
+    × ((code ≡ ok) × IsPut text old new ⊎ (code ≡ too_small) × (length old < length text) × (new ≡ old))
+
+-- nothing is shown: the room is too small, the bytes have a fault, or there was no memory
+abbrev pub NotShown : (List ℕ → Type 0) → (bytes : List ℕ) → (room needed code line : ℕ) → Type 0
+NotShown Is bytes room needed code line =
+    (code ≡ too_small) × IsTooLong Is room needed line ⊎ (needed ≡ 0) × IsFaulty bytes code line
+
+-- some text was put into the room for it, and its length was told
+abbrev pub IsReasonPut : (old new : List ℕ) → (needed : ℕ) → Type 0
+IsReasonPut old new needed = (text : List ℕ) × (needed ≡ length text) × IsPut text old new

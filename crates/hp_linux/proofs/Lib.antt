@@ -1,0 +1,4 @@
+pub mod Following
+pub mod Promising
+pub mod Trying
+pub mod Whole

@@ -1,0 +1,4 @@
+use Rattle.hp_pool_tests.proofs.waiting.a_store_of_the_last_task_sleeps.Given as goal
+
+abbrev pub ghosts-a_pool_waits : goal.ghosts-a_pool_waits
+ghosts-a_pool_waits g a = record { name = a.blank.name; parts = a.blank.parts }

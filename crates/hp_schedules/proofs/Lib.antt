@@ -1,0 +1,16 @@
+pub mod Allocs
+pub mod Among
+pub mod Claims
+pub mod Listing
+pub mod Making
+pub mod Maps
+pub mod Punches
+pub mod Relaxed
+pub mod Removing
+pub mod Runs
+pub mod Standing
+pub mod Stepping
+pub mod Touches
+pub mod Truncates
+pub mod Trying
+pub mod Unmaps

@@ -1,0 +1,5 @@
+pub mod Laws
+pub mod MayRows
+pub mod RelaxedRows
+pub mod RepairedRaces
+pub mod RepairedRows

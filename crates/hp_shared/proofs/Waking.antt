@@ -1,0 +1,46 @@
+-- Who may go on behind a hold.
+use Rattle.std.proofs.Common.{◌≡◌, ℕ, ◌<◌, ◌⊎◌, inl, inr, refl, sym, ap, ◌∙◌, subst, arith, true≢false}
+use Rattle.std.specs.Prelude.{Bool, true, false, ◌&&◌, Option, None, Some}
+use Rattle.std.specs.Option.{option_map}
+use Rattle.hp_base.specs.declared.event.Event.{Event}
+use Rattle.hp_machine.specs.Events.{IsReached, word_of}
+use Rattle.hp_machine.specs.State as machine
+use Rattle.hp_machine.specs.declared.call.Call.{Call}
+use Rattle.hp_machine.specs.declared.outcome.Outcome.{Outcome}
+use Rattle.hp_laws.specs.Laws.{CallersLive}
+use Rattle.hp_core.specs.Passing.{WaitOn, may_release, task_may_leave}
+use Rattle.hp_core.specs.Readers.{config_of, phase_of}
+use Rattle.hp_core.specs.Runs.{IsOfConfig, Row}
+use Rattle.hp_core.specs.State.{CoreState, as_state}
+use Rattle.hp_core.proofs.Holds.{waits_on}
+use Rattle.hp_shared.specs.Journal.{is_made}
+use Rattle.hp_shared.specs.States.{PoolState}
+
+-- a task that isn't there leaves nothing
+pub leaves_nothing : (s : CoreState) (t : ℕ) → IsOfConfig s → CallersLive (as_state s) → ((t ≡ 0) ⊎ ((config_of s).tasks < t))
+    → false ≡ task_may_leave (phase_of s t)
+unfolding phase_of config_of
+leaves_nothing s t config live away = by ((as_state s).calls t) refl
+  where
+    tasks : (as_state s).geometry.tasks ≡ s.sizes.tasks
+    tasks = ap (λ (g : machine.Geometry). g.tasks) config.0
+
+    there : (c : Call) → (as_state s).calls t ≡ Some c → ((t ≡ 0) ⊎ (s.sizes.tasks < t)) → false ≡ task_may_leave (Some (word_of c))
+    there c e (inl none) = let lives = live t c e in absurd (omega (arith, none, lives.0))
+    there c e (inr above) = let lives = live t c e in absurd (omega (arith, above, tasks, lives.1))
+
+    by : (o : Option Call) → (as_state s).calls t ≡ o → false ≡ task_may_leave (option_map word_of ((as_state s).calls t))
+    by None e = sym (ap (λ (x : Option Call). task_may_leave (option_map word_of x)) e)
+    by (Some c) e = there c e away ∙ sym (ap (λ (x : Option Call). task_may_leave (option_map word_of x)) e)
+
+-- where a hold may let nobody go on, whoever waited waits on
+pub still_waiting : (old new : PoolState) (event : Event) (outcome : Outcome) → IsReached (as_state old.core)
+    → Row old.core event outcome new.core → (is_made outcome ≡ false → new ≡ old)
+    → (may_release old.core event && is_made outcome) ≡ false → WaitOn event old.core new.core
+still_waiting old new event outcome reached row same none = by (may_release old.core event) (is_made outcome) refl refl none
+  where
+    by : (released made : Bool) → may_release old.core event ≡ released → is_made outcome ≡ made → (released && made) ≡ false
+        → WaitOn event old.core new.core
+    by false made e f g = waits_on old.core new.core event outcome reached row e
+    by true false e f g = subst (λ (p : PoolState). WaitOn event old.core p.core) (sym (same f)) (λ t h other waits. waits)
+    by true true e f g = absurd (true≢false g)

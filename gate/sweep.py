@@ -1,0 +1,272 @@
+#!/usr/bin/env python3
+"""Runs the program at every size: each number of tasks, files and slots, and reserve maps, caches and tables that grow one by one.
+
+What it writes is compared with what the plain programs of bench/plain write, which share no line with it, or with counts that
+follow from the tables: a call that waits for nobody makes the same steps whatever the size. So a program that gives up, or goes
+astray, at some size that no example has is noticed. Needs cargo, which builds the plain programs.
+"""
+from __future__ import annotations
+
+import os
+import re
+import subprocess
+import sys
+import tempfile
+import xml.etree.ElementTree as xml
+from pathlib import Path
+from typing import Iterable, Iterator
+
+from programs import Ran, built, report, run
+from scratch import TOP
+
+PLAIN = TOP / "bench" / "plain"
+# the largest pool
+FRAMES, FILES, SLOTS, TASKS, LIMIT, PAGES = 4_096, 16, 64, 64, 4_096, 16_384
+# seeds at the ends of 64 and 63 bits, and in between
+SEEDS = [0, 1, 2**32, 2**63 - 1, 2**63, 2**63 + 12_345, 2**64 - 1]
+# chances, of a thousand, at both ends and in pairs
+CHANCES = [(0, 0), (1, 0), (0, 1), (999, 999), (1000, 0), (0, 1000), (500, 501), (501, 500), (1000, 1000)]
+RACED = re.compile(r"run \d+ closed entries (\d+) free (\d+) resv (\d+)")
+# steps that are more than any call of a page makes
+ENOUGH = 20
+
+
+def text(lines: Iterable[str]) -> str:
+    return "".join(f"{line}\n" for line in lines)
+
+
+def calls_of(task: int, file: int, index: int) -> list[str]:
+    """What a task does with a page of a file: it maps, stores, loads and unmaps it, allocates another, and punches both."""
+    most = LIMIT - 1
+    return [
+        *(f"map {file} {index} 1", "store 0 7", "load 0", f"alloc {file} {most - index} 1", "unmap 0", f"mapn {file} {index} 1"),
+        *("store 0 8", f"punch {file} {index} 1", f"punch {file} {most - index} 1", "load 0", f"trunc {file} {task}"),
+    ]
+
+
+def crowd(frames: int, files: int, slots: int, tasks: int) -> tuple[str, list[list[str]]]:
+    """The header of a pool, and the calls of each task in it."""
+    each = [calls_of(task, task * 7 % files, task * 31 % 200) for task in range(1, tasks + 1)]
+    return f"pool {frames} {files} {slots} {tasks}", each
+
+
+def in_turn(header: str, each: list[list[str]]) -> str:
+    """A trace in which all tasks make their calls at once, step by step in turn; then all but the first are killed, and all exit."""
+    lines = [header]
+    for calls in zip(*each):
+        lines += [f"begin {task} {call}" for task, call in enumerate(calls, 1)]
+        for step in range(9):
+            lines += [f"{'deny' if step % 5 == 4 and task % 3 == 0 else 'step'} {task}" for task in range(1, len(each) + 1)]
+    lines += [f"kill {task}" for task in range(2, len(each) + 1)] + [f"begin {task} exit" for task in range(1, len(each) + 1)]
+    return text([*lines, *(f"step {task}" for _ in range(60) for task in range(1, len(each) + 1))])
+
+
+def script(header: str, each: list[list[str]]) -> str:
+    return text([header, *(f"begin {task} {call}" for task, calls in enumerate(each, 1) for call in calls)])
+
+
+def alone(header: str, calls: list[str]) -> str:
+    """A trace in which one task makes these calls, each to its end. (An exit makes two steps for each mapping.)"""
+    steps = lambda call: ENOUGH + 2 * len(calls) * (call == "exit")
+    return text([header, *(line for call in calls for line in (f"begin 1 {call}", *["step 1"] * steps(call)))])
+
+
+def growing() -> dict[str, tuple[str, list[str]]]:
+    """Calls by which a reserve map, a cache, a file and a table grow one by one to their ends, and shrink again."""
+    every, other = range(LIMIT), range(0, LIMIT, 2)
+    return {
+        "regions": ("pool 4096 1 1 1", [f"allock 0 {i} 1" for i in other] + [f"punch 0 {i} 1" for i in other]),
+        "pages": ("pool 4096 1 64 1", [f"alloc 0 {i} 1" for i in every] + [f"punch 0 {i} 1" for i in reversed(every)]),
+        "entries": ("pool 4096 2 64 1", [call for v in every for call in (f"mapn 1 {v} 1", f"store {v} {v}")] + ["exit"]),
+        "sizes": ("pool 1 1 1 1", [f"trunc 0 {n}" for n in (*range(LIMIT + 1), *reversed(range(LIMIT)))]),
+        "mappings": ("pool 1 16 64 1", [f"mapn {v % FILES} {v % LIMIT} 1" for v in range(PAGES)] + ["mapn 0 0 1", "unmap 9999", "exit"]),
+    }
+
+
+def plain(name: str, words: str, read: str) -> Ran:
+    return run(PLAIN / "target" / "release" / name, words, read)
+
+
+def is_like_plain(program: Path, words: str, name: str, read: str, plain_words: str = "") -> bool:
+    """Whether the program writes what the plain one does, and ends well."""
+    ours, theirs = run(program, words, read), plain(name, plain_words, read)
+    return ours == theirs and ours.status == 0
+
+
+def last_counts(told: str) -> tuple[int, ...]:
+    """The free frames and the reserve count with which a replay ends."""
+    return tuple(map(int, re.search(r"^free (\d+) resv (\d+)", told, re.MULTILINE).groups()))
+
+
+def made(told: str) -> int:
+    """How many events changed the pool: the outcomes that are neither blocked nor refused."""
+    return sum(line.split()[0] in ("begun", "moved", "ended", "marked", "resized") for line in told.splitlines())
+
+
+def raced(program: Path, words: str, read: str) -> tuple[int, ...]:
+    """The entries, free frames and reserve count of one race, if it was closed."""
+    ran = run(program, f"race --times 1{words}", read)
+    found = RACED.fullmatch(ran.out.strip()) if ran.status == 0 else None
+    return tuple(map(int, found.groups())) if found else ()
+
+
+def sizes(program: Path) -> Iterator[tuple[str, bool]]:
+    """Each number of tasks, of files and of slots: by a trace, by the words about it, and by runs of a script."""
+    pools = [(64, 1 + tasks % FILES, tasks, tasks) for tasks in range(1, TASKS + 1)]
+    pools += [(16, files, SLOTS, 4) for files in range(1, FILES + 1)] + [(16, 2, slots, 4) for slots in range(1, SLOTS + 1)]
+    for pool in pools:
+        header, each = crowd(*pool)
+        trace, calls = in_turn(header, each), script(header, each)
+        yield f"{header}: replayed", is_like_plain(program, "replay", "simulate", trace)
+        yield f"{header}: counted", run(program, "check", trace).out == f"events {trace.count(chr(10)) - 1}\n"
+        if pool[3] % 8 in (0, 1) or pool in pools[TASKS :: 9]:
+            yield f"{header}: explained", is_like_plain(program, "explain", "explain", trace)
+            yield f"{header}: drawn", lanes(run(program, "draw", trace).out) == pool[3]
+            yield f"{header}: explored", is_like_plain(program, "explore --runs 2", "explore", calls, "--runs 2")
+        if pool[3] in (33, TASKS):
+            yield f"{header}: raced", bool(raced(program, "", calls)) and bool(raced(program, " --cut 3", calls))
+
+
+def lanes(picture: str) -> int:
+    """How many tasks have a lane in a picture."""
+    return len({it.text for it in xml.fromstring(picture).iter() if it.text and re.fullmatch(r"task \d+", it.text)})
+
+
+def grown(program: Path) -> Iterator[tuple[str, bool]]:
+    """Each size that something grows to, one by one; and a copy of it there, which a cut makes."""
+    for name, (header, calls) in growing().items():
+        trace, begins = alone(header, calls), script(header, [calls])
+        told = plain("simulate", "", trace).out
+        yield f"{name}, one by one", run(program, "replay", trace) == Ran(0, told, "")
+        wanted = (made(told), *last_counts(told))
+        for cut in "", " --cut 1", f" --cut {len(calls) - 1}":
+            yield f"{name}, raced{cut}: {wanted}", raced(program, cut, begins) == wanted
+
+
+def chances(program: Path) -> Iterator[tuple[str, bool]]:
+    """Seeds and chances at their ends."""
+    begins = script(*crowd(4, 2, 2, 5))
+    words = [f"--seed {seed} --deny 100 --kill 20" for seed in SEEDS] + [f"--seed 7 --deny {deny} --kill {kill}" for deny, kill in CHANCES]
+    for it in words:
+        found = run(program, f"explore {it} --runs 5", begins)
+        yield f"explore {it}", found == plain("explore", f"{it} --runs 5", begins)
+        audited = run(program, f"explore {it} --runs 5 --audit", begins)
+        yield f"explore {it} --audit", audited == found
+        free, resv = last_counts(run(program, "replay", run(program, f"schedule {it}", begins).out).out)
+        yield f"schedule {it}", found.out.splitlines()[0].endswith(f" free {free} resv {resv}")
+
+
+def crowds(program: Path) -> Iterator[tuple[str, bool]]:
+    """Races of each number of tasks, of which each has a page of its own: mapped by five holds that change the pool, stored to by ten."""
+    for tasks in range(1, TASKS + 1):
+        calls = [[f"mapn {task % FILES} {task} 1", f"store 0 {task}"] for task in range(1, tasks + 1)]
+        read, wanted = script(f"pool {FRAMES} {FILES} {SLOTS} {tasks}", calls), (15 * tasks, FRAMES - tasks, 0)
+        yield f"{tasks} tasks, each with a page of its own", raced(program, "", read) == wanted
+        if tasks % 16 == 0:
+            yield f"{tasks} tasks, and a cut between", raced(program, " --cut 1", read) == wanted
+
+
+def used(program: Path, words: str, read: str) -> tuple[float, int]:
+    """The processor seconds and the peak memory, in KiB, of a run that has to end well."""
+    with tempfile.TemporaryFile() as given:
+        given.write(read.encode())
+        given.seek(0)
+        ran = subprocess.Popen([program, *words.split()], stdin=given, stdout=subprocess.DEVNULL)
+        _, status, usage = os.wait4(ran.pid, 0)
+        ran.returncode = status
+    if status:
+        raise SystemExit(f"sweep: {words}: status {status}")
+    return usage.ru_utime + usage.ru_stime, usage.ru_maxrss
+
+
+def costs(program: Path) -> Iterator[tuple[str, bool]]:
+    """That nothing is kept for ever, and that each run is audited."""
+    one = ["begin 1 mapn 0 0 1", *["step 1"] * 4, "begin 1 store 0 7", *["step 1"] * 9, "begin 1 punch 0 0 1", *["step 1"] * 9]
+    one += ["begin 1 unmap 0", *["step 1"] * 3]
+    few, many = (text(["pool 1 1 1 1", *one * times]) for times in (1_000, 1_000_000 // len(one)))
+    short, long = (used(program, "replay", it)[1] for it in (few, many))
+    yield f"a million events take as much memory as some thousand ({short} and {long} KiB)", long < short + 300
+    begins = script(f"pool {FRAMES} 1 {SLOTS} 1", [["alloc 0 0 8", "punch 0 0 8"]])
+    once, often = (min(used(program, f"explore --audit --runs {runs}", begins)[0] for _ in range(2)) for runs in (1, 5))
+    yield f"five runs are audited as one is ({once:.2f} and {often:.2f} s)", once * 3 < often
+
+
+def drawn(program: Path) -> Iterator[tuple[str, bool]]:
+    """Pictures of pools in which most tasks are idle, and of counts that change late."""
+    for seen in ([1], [64], [2, 63], range(1, 65, 7)):
+        picture = run(program, "draw", text(["pool 4 1 4 64", *(f"begin {task} load 0" for task in seen)])).out
+        yield f"of 64 tasks those have lanes that do something: {[*seen]}", lanes(picture) == len(seen)
+    late = [*["step 1"] * 9_000, "resize 3", *["step 1"] * 9_000, "resize 1", *["step 1"] * 1_000]
+    picture = run(program, "draw", text(["pool 4 1 4 1", *late])).out
+    curve = next(it.get("d", "") for it in xml.fromstring(picture).iter() if it.get("class") == "free" and "V" in it.get("d", ""))
+    heights = len(set(re.findall(r"V(\d+)", curve)))
+    yield f"the curve of the free frames has three heights over 19,002 events ({heights})", heights == 3
+
+
+def many_runs(program: Path) -> Iterator[tuple[str, bool]]:
+    """As many runs as are asked for, audited or not."""
+    begins = script(*crowd(2, 1, 1, 2))
+    for runs in (1, 63, 64, 65, 600):
+        wanted = plain("explore", f"--runs {runs}", begins)
+        yield f"{runs} runs", run(program, f"explore --runs {runs}", begins) == wanted
+        yield f"{runs} runs, audited", run(program, f"explore --runs {runs} --audit", begins) == wanted
+
+
+def long_traces(program: Path) -> Iterator[tuple[str, bool]]:
+    """Traces of many events, in each command that reads one; and races in many parts."""
+    turns = ["begin 1 map 0 0 2", *["step 1"] * 8, "begin 2 store 0 7", *["step 2"] * 3, "kill 3", "begin 1 unmap 0", *["step 1"] * 4]
+    events = (turns * (65_537 // len(turns) + 1))[:65_537]
+    trace = text(["pool 4 1 4 3", *events])
+    yield "65,537 events are replayed", is_like_plain(program, "replay", "simulate", trace)
+    yield "65,537 events are explained", is_like_plain(program, "explain", "explain", trace)
+    yield "65,537 events are counted", run(program, "check", trace).out == "events 65537\n"
+    yield "65,537 events are drawn, of three tasks", lanes(run(program, "draw", trace).out) == 3
+    refused = text(["pool 1 1 1 1", *["step 1"] * 1_000_000])
+    yield "a million events are counted", run(program, "check", refused).out == "events 1000000\n"
+    loads = text(["pool 1 1 1 1", *["begin 1 load 0"] * 4_000])
+    words = text(["pool 4 1 1 1", "begin 1 map 0 0 2", "begin 1 store 0 7", *["begin 1 load 0"] * 600_000])
+    for cut in ("", " --cut 65536"):
+        yield f"1,200,018 entries{cut}", raced(program, cut, words) == (8 + 10 + 1_200_000, 3, 1)
+    for cut in (1, 2, 999, 1_000, 1_001, 3_999, 4_000, 65_536):
+        yield f"4,000 loads that find no mapping, cut behind {cut} of them", raced(program, f" --cut {cut}", loads) == (8_000, 1, 0)
+
+
+# wrong programs, by what they do around the right one, each with what has to notice it
+WRONG = {
+    "lacks memory for 41 tasks": ('read -r header; [[ $header != *" 41" ]] || exit 1; { echo "$header"; cat; } | "$program" "$@"', crowds),
+    "takes 63 bits of a seed": ('exec "$program" "${@/#9223372036854775808/0}"', chances),
+    "loses a denial's chance beside a kill's": ('[[ $* != *"--kill 501"* ]] || set -- "${@/#500/0}"; exec "$program" "$@"', chances),
+}
+
+
+def noticed(program: Path, room: Path) -> Iterator[tuple[str, bool]]:
+    """Whether each wrong program is noticed."""
+    for name, (text_of, trying) in WRONG.items():
+        wrong = room / "wrong"
+        wrong.write_text(f"#!/bin/bash\nprogram={program}\n{text_of}\n", encoding="utf-8")
+        wrong.chmod(0o755)
+        yield f"one that {name} is noticed", not all(is_so for _, is_so in trying(wrong))
+
+
+def tries(program: Path, room: Path) -> Iterator[tuple[str, bool]]:
+    """What is tried, and whether it went as it should."""
+    yield from sizes(program)
+    yield from grown(program)
+    yield from crowds(program)
+    yield from chances(program)
+    yield from many_runs(program)
+    yield from long_traces(program)
+    yield from costs(program)
+    yield from drawn(program)
+    yield from noticed(program, room)
+
+
+def main() -> int:
+    os.environ["HUGEPOOL"] = "proved"
+    subprocess.run(["cargo", "build", "--quiet", "--release", "--manifest-path", PLAIN / "Cargo.toml"], check=True)
+    with tempfile.TemporaryDirectory(prefix="sweep-") as room:
+        return report("sweep", tries(built("hugepool"), Path(room)))
+
+
+if __name__ == "__main__":
+    sys.exit(main())

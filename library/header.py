@@ -1,0 +1,166 @@
+#!/usr/bin/env python3
+"""Compares hugepool.h with the definitions and the sources of the library that it stands for.
+
+From specs it reads the number of each name, from sources the fields of each struct and the parameters of each export. Of these it writes a C
+program of assertions, which the compiler has to accept: each constant's number, each field's place and size, each struct's size, each
+function's parameters. Then it looks that the header declares nothing else, and that a header with one number, one field or one parameter
+changed is refused.
+"""
+from __future__ import annotations
+
+import re
+import subprocess
+import sys
+import tempfile
+from pathlib import Path
+from typing import Iterator
+
+TOP = Path(__file__).resolve().parent.parent
+HEADER = TOP / "library" / "include" / "hugepool.h"
+CRATES = [TOP / "crates" / it for it in ("hp_words", "hp_handle", "hp_c")]
+# a definition, what it begins with in the header, and the number in its lines
+NUMBERED = [
+    ("phase_number phase", "PHASE_", r"= (\d+)"),
+    ("refusal_number refusal", "REFUSAL_", r"= (\d+)"),
+    ("life_number life", "LIFE_", r"= (\d+)"),
+    ("answer_words answer", "ANSWER_", r"answered (\d+)"),
+    ("outcome_words outcome", "", r"no_outcome (\d+)"),
+    ("op_words t op", "", r"\{ op = (\d+)"),
+    ("finding_number Err", "FOUND_", r"= (\d+)"),
+    ("acquired_words ", "ACQUIRES_", r"kind = (\d+)"),
+]
+# numbers whose lines name something else than the header does
+ODD = {
+    "BEGIN": r"^op_words t op\.Exit = record \(no_event (\d+) t\)",
+    "STEP": r"^step_number true = (\d+)",
+    "DENY": r"^step_number false = (\d+)",
+    "KILL": r"^event_words \(Kill task\) = no_event (\d+)",
+    "RESIZE": r"^event_words \(Resize frames\) = record \(no_event (\d+) 0\)",
+    "ALLOC": r"^alloc_number false = (\d+)",
+    "ALLOC_KEEP": r"^alloc_number true = (\d+)",
+    "ENDED": r"^answered answer = record \(no_outcome (\d+)\)",
+    "FOUND_NOTHING": r"^finding_number \(Ok done\) = (\d+)",
+    "PHASE_NONE": r"^phase_or_none None = (\d+)",
+}
+CODE = re.compile(r"^(ok|is_closed|no_memory|no_such|in_flight|bad_line|bad_header|too_small) = (\d+)", re.MULTILINE)
+SIZES = {"u64": 8, "i64": 8, "usize": 8, "*mut u8": 8, "u32": 4, "bool": 1}
+C_TYPES = {"u32": "uint32_t", "usize": "size_t", "bool": "bool", "u8": "uint8_t"}
+STRUCT = re.compile(r"#\[repr\(C\)\]\n(?:#\[[^\n]*\n)*pub struct (\w+) \{\n(.*?)\n\}", re.DOTALL)
+EXPORT = re.compile(r'pub extern "C" fn (\w+)\((.*?)\)\s*(-> u32)?\s*ensures', re.DOTALL)
+PROTOTYPE = re.compile(r"^\w+ (hugepool_\w+)\((.*?)\);", re.DOTALL | re.MULTILINE)
+# what a header may not have: the text that is changed, and what it becomes
+FAULTS = [
+    ("HUGEPOOL_PHASE_WANT = 3", "HUGEPOOL_PHASE_WANT = 4"),
+    ("HUGEPOOL_NO_SUCH = 3", "HUGEPOOL_NO_SUCH = 4"),
+    ("    uint32_t from;\n    uint32_t len;", "    uint32_t len;\n    uint32_t from;"),
+    ("    size_t spare;", "    uint32_t spare;"),
+    ("    bool is_blocked;\n", ""),
+    ("uint32_t task, uint32_t page, hugepool_frame_words", "uint32_t task, hugepool_frame_words"),
+    ("void hugepool_close(", "void hugepool_end(hugepool_pool *pool);\nvoid hugepool_close("),
+    ("    HUGEPOOL_STEP = 1,", "    HUGEPOOL_STEP = 1, HUGEPOOL_WAIT = 9,"),
+]
+
+
+def read(pattern: str) -> str:
+    return "\n".join(it.read_text(encoding="utf-8") for crate in CRATES for it in sorted(crate.glob(pattern)))
+
+
+def snake(name: str) -> str:
+    """MapNoReserve: MAP_NO_RESERVE."""
+    return re.sub(r"(?<=[a-z])(?=[A-Z])", "_", name)
+
+
+def c_name(struct: str) -> str:
+    """The header's name of a struct: EventWords is hugepool_event_words."""
+    return "hugepool_pool" if struct == "Handle" else f"hugepool_{snake(struct).lower()}"
+
+
+def constants() -> dict[str, int]:
+    """The number of each name, as the definitions have it."""
+    specs, found = read("specs/*.antt"), {}
+    for begin, prefix, number in NUMBERED:
+        word, _, of = begin.partition(" ")
+        of = {"": "", "Err": r"Err ", "t op": r"t \(?op\."}.get(of, rf"{of}\.")
+        for name, line in re.findall(rf"^{word} \(?{of}(\w+)(.*)", specs, re.MULTILINE):
+            if told := re.search(number, line):
+                found[prefix + snake(name).upper()] = int(told[1])
+    for name, line in ODD.items():
+        [told] = re.findall(line, specs, re.MULTILINE)
+        found[name] = int(told)
+    return {**found, **{name.upper(): int(number) for name, number in CODE.findall(specs)}}
+
+
+def fields_of(body: str) -> Iterator[tuple[str, str]]:
+    """The fields of a struct, and their types. A pool's core is a pointer."""
+    for name, kind in re.findall(r"^    pub (?!ghost)(\w+): (.*),", body, re.MULTILINE):
+        yield name, "*mut u8" if kind == "KeptCore" else kind
+
+
+def layout(structs: dict[str, str]) -> Iterator[str]:
+    """Assertions of where C's layout puts each field."""
+    for name, body in structs.items():
+        struct, end, most = c_name(name), 0, 1
+        for field, kind in fields_of(body):
+            size = SIZES[kind]
+            end = (end + size - 1) // size * size
+            yield f"_Static_assert(offsetof({struct}, {field}) == {end} && sizeof((({struct} *)0)->{field}) == {size}, \"{struct}.{field}\");"
+            end, most = end + size, max(most, size)
+        yield f"_Static_assert(sizeof({struct}) == {(end + most - 1) // most * most}, \"{struct}\");"
+
+
+def parameter(kind: str, structs: dict[str, str]) -> list[str]:
+    """The types in C of a parameter."""
+    if kind == "Global":
+        return []
+    shared, of = ("", kind.removeprefix("&mut ")) if kind.startswith("&mut ") else ("const ", kind.removeprefix("&"))
+    is_slice = of.startswith("[")
+    of = of.strip("[]")
+    name = c_name(of) if of in structs else C_TYPES[of]
+    return [name] if not kind.startswith("&") else [f"{shared}{name} *", *(["size_t"] if is_slice else [])]
+
+
+def prototypes(structs: dict[str, str]) -> Iterator[str]:
+    """Each export, declared once more."""
+    for name, words, result in EXPORT.findall(read("src/*.rt")):
+        kinds = [it.partition(":")[2].strip() for it in words.split(",") if it.strip()]
+        yield f"{'uint32_t' if result else 'void'} {name}({', '.join(it for kind in kinds for it in parameter(kind, structs))});"
+
+
+def compiles(header: str, program: str) -> str:
+    """What the compiler says against a program with this header."""
+    with tempfile.TemporaryDirectory() as name:
+        (Path(name) / "hugepool.h").write_text(header, encoding="utf-8")
+        (Path(name) / "program.c").write_text(f'#include "hugepool.h"\n{program}\n', encoding="utf-8")
+        ran = subprocess.run(["cc", "-std=c11", "-Wall", "-Wextra", "-Werror", "-fsyntax-only", "program.c"], cwd=name, capture_output=True, text=True)
+    return ran.stderr
+
+
+def against(header: str, numbers: dict[str, int], structs: dict[str, str], exports: list[str]) -> str:
+    """What is wrong with a header."""
+    asserted = [f'_Static_assert(HUGEPOOL_{name} == {number}, "{name}");' for name, number in numbers.items()]
+    told = compiles(header, "\n".join([*asserted, *layout(structs), *exports]))
+    named = set(re.findall(r"\bHUGEPOOL_(\w+) = \d", header)) ^ numbers.keys()
+    declared = {name for name, _ in PROTOTYPE.findall(header)} ^ {it.split("(")[0].split()[-1] for it in exports}
+    return told + "".join(f"only one of header and sources has {it}\n" for it in sorted(named | declared))
+
+
+def main() -> int:
+    header = HEADER.read_text(encoding="utf-8")
+    structs = {name: body for name, body in STRUCT.findall(read("src/*.rt")) if name != "KeptCore"}
+    numbers, exports = constants(), list(prototypes(structs))
+    told = against(header, numbers, structs, exports)
+    passed, failed = (len(numbers) + len(structs) + len(exports), 0) if not told else (0, 1)
+    print(told, end="")
+    for old, new in FAULTS:
+        if header.count(old) != 1:
+            sys.exit(f"header: {old!r} stands in the header {header.count(old)} times")
+        is_seen = bool(against(header.replace(old, new), numbers, structs, exports))
+        passed, failed = passed + is_seen, failed + (not is_seen)
+        print("" if is_seen else f"a header with {new!r} isn't noticed\n", end="")
+    print(f"header: {len(numbers)} numbers, {len(structs)} structs, {len(exports)} functions")
+    print(f"{passed} passed, {failed} failed")
+    return 1 if failed else 0
+
+
+if __name__ == "__main__":
+    sys.exit(main())

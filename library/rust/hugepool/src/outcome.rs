@@ -1,0 +1,79 @@
+//! Outcomes.
+use hugepool_sys::OutcomeWords;
+use std::fmt;
+
+/// The words of phases by their numbers. 0 is no phase.
+pub const PHASES: [&str; 28] = [
+    "", "start", "look", "want", "locked", "missing", "changed", "abort", "taken", "settle", "committed", "restore", "found", "leave", "room",
+    "accounted", "enter", "head", "unslot", "extend", "unmap", "evict", "delete", "free", "size", "tail", "clear", "drop",
+];
+
+/// The words of answers by their numbers, which begin with 1.
+pub const ANSWERS: [&str; 15] = [
+    "", "mapped", "word", "done", "segv", "beyond", "noframe", "noquota", "nomemory", "interrupted", "killed", "badfile", "badrange",
+    "notmapped", "noaddress",
+];
+
+/// The words of refusals by their numbers, which begin with 1.
+pub const REFUSALS: [&str; 5] = ["", "notalive", "incall", "idle", "badsize"];
+
+/// What came of an event.
+#[derive(Clone, Copy, Debug, PartialEq, Eq)]
+pub enum Outcome {
+    Begun,
+    /// The call stands in the phase of that number now.
+    Moved(u32),
+    /// Nothing changed: that task holds what the step wants.
+    Blocked(u32),
+    /// The call is over: its new mapping begins at that page.
+    Mapped(u32),
+    /// The call is over: a load read that word.
+    Word(u64),
+    /// The call is over, with the answer of that number.
+    Ended(u32),
+    Marked,
+    /// So many frames aren't retired now.
+    Resized(u32),
+    /// Nothing changed, because of the refusal of that number.
+    Refused(u32),
+}
+
+impl Outcome {
+    /// Whether the call is over.
+    pub fn is_end(self) -> bool {
+        matches!(self, Outcome::Mapped(_) | Outcome::Word(_) | Outcome::Ended(_))
+    }
+}
+
+impl From<OutcomeWords> for Outcome {
+    fn from(words: OutcomeWords) -> Outcome {
+        match (words.kind, words.answer) {
+            (0, _) => Outcome::Begun,
+            (1, _) => Outcome::Moved(words.phase),
+            (2, _) => Outcome::Blocked(words.task),
+            (3, 1) => Outcome::Mapped(words.page),
+            (3, 2) => Outcome::Word(words.word),
+            (3, answer) => Outcome::Ended(answer),
+            (4, _) => Outcome::Marked,
+            (5, _) => Outcome::Resized(words.frames),
+            _ => Outcome::Refused(words.refusal),
+        }
+    }
+}
+
+/// The line of a replay.
+impl fmt::Display for Outcome {
+    fn fmt(&self, f: &mut fmt::Formatter<'_>) -> fmt::Result {
+        match *self {
+            Outcome::Begun => write!(f, "begun"),
+            Outcome::Moved(phase) => write!(f, "moved {}", PHASES[phase as usize]),
+            Outcome::Blocked(task) => write!(f, "blocked {task}"),
+            Outcome::Mapped(page) => write!(f, "ended mapped {page}"),
+            Outcome::Word(word) => write!(f, "ended word {word}"),
+            Outcome::Ended(answer) => write!(f, "ended {}", ANSWERS[answer as usize]),
+            Outcome::Marked => write!(f, "marked"),
+            Outcome::Resized(frames) => write!(f, "resized {frames}"),
+            Outcome::Refused(refusal) => write!(f, "refused {}", REFUSALS[refusal as usize]),
+        }
+    }
+}

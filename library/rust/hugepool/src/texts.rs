@@ -1,0 +1,83 @@
+//! Whole texts of a trace.
+use hugepool_sys as sys;
+use std::error::Error;
+use std::fmt;
+
+type Export = unsafe extern "C" fn(*const u8, usize, *mut u8, usize, *mut usize, *mut u32) -> u32;
+
+/// Why there is no text: a line isn't allowed, which is counted from 1, or there was no memory, at line 0.
+#[derive(Clone, Debug, PartialEq, Eq)]
+pub struct BadTrace {
+    pub line: u32,
+    pub reason: String,
+}
+
+impl fmt::Display for BadTrace {
+    fn fmt(&self, f: &mut fmt::Formatter<'_>) -> fmt::Result {
+        write!(f, "line {} is not allowed here: {}", self.line, self.reason)
+    }
+}
+
+impl Error for BadTrace {}
+
+const NO_MEMORY: u32 = 2;
+const TOO_SMALL: u32 = 7;
+
+/// What is put into a room that is large enough, or the code.
+fn put(mut call: impl FnMut(*mut u8, usize, *mut usize) -> u32) -> Result<Vec<u8>, u32> {
+    let mut out = vec![0; 4096];
+    loop {
+        let mut needed = 0;
+        match call(out.as_mut_ptr(), out.len(), &mut needed) {
+            0 => {
+                out.truncate(needed);
+                return Ok(out);
+            }
+            TOO_SMALL => out.resize(needed, 0),
+            code => return Err(code),
+        }
+    }
+}
+
+fn bad(trace: &[u8], code: u32, line: u32) -> BadTrace {
+    // SAFETY: the trace and the room are there, and apart.
+    let told = put(|out, room, needed| unsafe { sys::hugepool_reason(trace.as_ptr(), trace.len(), line, out, room, needed) });
+    let reason = match (code, told) {
+        (NO_MEMORY, _) => "there was no memory".to_string(),
+        (_, Ok(words)) => String::from_utf8_lossy(&words).into_owned(),
+        (_, Err(_)) => "nothing more can be told".to_string(),
+    };
+    BadTrace { line, reason }
+}
+
+fn text(export: Export, trace: &[u8]) -> Result<String, BadTrace> {
+    let mut line = 0;
+    // SAFETY: the trace and the room are there, and apart.
+    let made = put(|out, room, needed| unsafe { export(trace.as_ptr(), trace.len(), out, room, needed, &mut line) });
+    made.map(|words| String::from_utf8_lossy(&words).into_owned()).map_err(|code| bad(trace, code, line))
+}
+
+/// A line for each outcome of the trace, and then the state.
+pub fn replay(trace: &[u8]) -> Result<String, BadTrace> {
+    text(sys::hugepool_replay, trace)
+}
+
+/// A row of words for each event of the trace, and then the state.
+pub fn explain(trace: &[u8]) -> Result<String, BadTrace> {
+    text(sys::hugepool_explain, trace)
+}
+
+/// A picture of the trace, an SVG.
+pub fn draw(trace: &[u8]) -> Result<String, BadTrace> {
+    text(sys::hugepool_draw, trace)
+}
+
+/// How many events the trace has.
+pub fn check(trace: &[u8]) -> Result<u32, BadTrace> {
+    let (mut events, mut line) = (0, 0);
+    // SAFETY: all are there, and apart.
+    match unsafe { sys::hugepool_check(trace.as_ptr(), trace.len(), &mut events, &mut line) } {
+        0 => Ok(events),
+        code => Err(bad(trace, code, line)),
+    }
+}

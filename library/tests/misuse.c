@@ -1,0 +1,181 @@
+/* Calls that name nothing, closed pools, rooms that are too small, and events of random numbers: each is answered, nothing that should stay
+ * changes, and an audit finds nothing. Prints what was tried.
+ *
+ *   misuse EVENTS SEED
+ */
+#include "../examples/trace.h"
+
+#include <assert.h>
+
+static uint64_t seed;
+
+static uint32_t random_number(void)
+{
+    seed ^= seed << 13;
+    seed ^= seed >> 7;
+    seed ^= seed << 17;
+    return (uint32_t)(seed >> 16);
+}
+
+/* mostly a small number, at times any */
+static uint32_t some(uint32_t most) { return random_number() % 16 == 0 ? random_number() : random_number() % (most + 1); }
+
+static void closed_pools(void)
+{
+    hugepool_pool pool = HUGEPOOL_CLOSED, other = HUGEPOOL_CLOSED;
+    hugepool_event_words event = { 0 };
+    hugepool_outcome_words outcome;
+    hugepool_pool_words numbers;
+    hugepool_file_words file;
+    hugepool_task_words task;
+    hugepool_acquired_words acquired;
+    hugepool_frame_words frame;
+    uint32_t finding;
+    size_t done = 9;
+    bool is_held_back;
+    assert(hugepool_event(&pool, &event, &outcome) == HUGEPOOL_IS_CLOSED);
+    assert(hugepool_events(&pool, &event, 1, &outcome, 1, &done) == HUGEPOOL_IS_CLOSED && done == 0);
+    assert(hugepool_held_back(&pool, &event, &is_held_back, &outcome) == HUGEPOOL_IS_CLOSED);
+    assert(hugepool_pool_numbers(&pool, &numbers) == HUGEPOOL_IS_CLOSED);
+    assert(hugepool_file_numbers(&pool, 0, &file) == HUGEPOOL_IS_CLOSED);
+    assert(hugepool_task_numbers(&pool, 1, &task) == HUGEPOOL_IS_CLOSED);
+    assert(hugepool_acquires(&pool, 1, &acquired) == HUGEPOOL_IS_CLOSED);
+    assert(hugepool_translate(&pool, 1, 0, &frame) == HUGEPOOL_IS_CLOSED);
+    assert(hugepool_audit(&pool, &finding) == HUGEPOOL_IS_CLOSED);
+    assert(hugepool_copy(&pool, &other) == HUGEPOOL_IS_CLOSED && !other.is_open);
+    hugepool_close(&pool);
+    hugepool_close(&pool);
+}
+
+static void no_such(void)
+{
+    static const hugepool_config_words bad[] = { { 0, 1, 1, 1, 0, false }, { 4097, 1, 1, 1, 0, false }, { 4, 0, 1, 1, 0, false },
+        { 4, 17, 1, 1, 0, false }, { 4, 1, 0, 1, 0, false }, { 4, 1, 65, 1, 0, false }, { 4, 1, 1, 0, 0, false }, { 4, 1, 1, 65, 0, false },
+        { 4, 1, 1, 1, 65537, true } };
+    hugepool_pool pool = HUGEPOOL_CLOSED;
+    hugepool_config_words config = { 4, 2, 2, 2, 65537, false };
+    hugepool_file_words file;
+    hugepool_task_words task;
+    hugepool_outcome_words outcome;
+    for (size_t at = 0; at < sizeof bad / sizeof *bad; at++)
+        assert(hugepool_open(&pool, &bad[at]) == HUGEPOOL_NO_SUCH && !pool.is_open);
+    assert(hugepool_open(&pool, &config) == HUGEPOOL_OK);
+    assert(hugepool_open(&pool, &bad[0]) == HUGEPOOL_NO_SUCH && pool.is_open);
+    assert(hugepool_file_numbers(&pool, 2, &file) == HUGEPOOL_NO_SUCH && hugepool_file_numbers(&pool, 1, &file) == HUGEPOOL_OK);
+    assert(hugepool_task_numbers(&pool, 0, &task) == HUGEPOOL_NO_SUCH && hugepool_task_numbers(&pool, 3, &task) == HUGEPOOL_NO_SUCH);
+    assert(hugepool_task_numbers(&pool, 2, &task) == HUGEPOOL_OK && task.phase == HUGEPOOL_PHASE_NONE);
+    hugepool_event_words none = { 0, 5, 1, 0, 0, 0, 0, 0 };
+    assert(hugepool_event(&pool, &none, &outcome) == HUGEPOOL_NO_SUCH);
+    none.kind = HUGEPOOL_BEGIN;
+    none.op = 10;
+    assert(hugepool_event(&pool, &none, &outcome) == HUGEPOOL_NO_SUCH);
+    hugepool_close(&pool);
+}
+
+/* A slice stops where an event can't happen, and where its room ends. */
+static void slices(void)
+{
+    hugepool_pool pool = HUGEPOOL_CLOSED;
+    hugepool_config_words config = { 4, 1, 1, 1, 0, false };
+    hugepool_event_words events[4] = { 0 };
+    hugepool_outcome_words outcomes[4] = { 0 };
+    size_t done = 9;
+    events[0].task = events[1].task = events[2].task = 1;
+    events[0].len = 1;
+    events[1].kind = events[2].kind = HUGEPOOL_STEP;
+    events[3].kind = 77;
+    assert(hugepool_open(&pool, &config) == HUGEPOOL_OK);
+    assert(hugepool_events(&pool, events, 4, outcomes, 2, &done) == HUGEPOOL_TOO_SMALL && done == 2 && outcomes[2].kind == 0);
+    assert(outcomes[0].kind == HUGEPOOL_BEGUN && outcomes[1].kind == HUGEPOOL_MOVED);
+    assert(hugepool_events(&pool, events + 2, 2, outcomes, 4, &done) == HUGEPOOL_NO_SUCH && done == 1);
+    assert(hugepool_events(&pool, events, 0, outcomes, 0, &done) == HUGEPOOL_OK && done == 0);
+    hugepool_close(&pool);
+}
+
+/* A text wants just the room that it says; a byte less is too small, and then nothing is written. */
+static void texts(void)
+{
+    static const char trace[] = "pool 4 1 2 2\nbegin 1 map 0 0 4\nstep 1\n";
+    static const char bad[] = "pool 4 1 2 2\nstep 1\nstop 1\n";
+    uint32_t (*const all[])(const uint8_t *, size_t, uint8_t *, size_t, size_t *, uint32_t *) = { hugepool_replay, hugepool_explain,
+        hugepool_draw };
+    uint8_t none = 0;
+    size_t needed, again;
+    uint32_t line, events;
+    for (size_t at = 0; at < 3; at++) {
+        assert(all[at]((const uint8_t *)trace, sizeof trace - 1, &none, 0, &needed, &line) == HUGEPOOL_TOO_SMALL && line == 0);
+        uint8_t *out = calloc(needed, 1), *short_by_one = calloc(needed, 1);
+        assert(all[at]((const uint8_t *)trace, sizeof trace - 1, short_by_one, needed - 1, &again, &line) == HUGEPOOL_TOO_SMALL);
+        assert(again == needed && memcmp(out, short_by_one, needed) == 0);
+        assert(all[at]((const uint8_t *)trace, sizeof trace - 1, out, needed, &again, &line) == HUGEPOOL_OK && again == needed);
+        assert(out[needed - 1] == '\n');
+        free(out);
+        free(short_by_one);
+        assert(all[at]((const uint8_t *)bad, sizeof bad - 1, &none, 0, &needed, &line) == HUGEPOOL_BAD_LINE && line == 3 && needed == 0);
+        assert(all[at]((const uint8_t *)trace + 13, 10, &none, 0, &needed, &line) == HUGEPOOL_BAD_HEADER && line == 1);
+    }
+    assert(hugepool_check((const uint8_t *)trace, sizeof trace - 1, &events, &line) == HUGEPOOL_OK && events == 2);
+    uint8_t why[80];
+    assert(hugepool_reason((const uint8_t *)bad, sizeof bad - 1, 3, why, sizeof why, &needed) == HUGEPOOL_OK);
+    assert(memcmp(why, "no event is called stop: \"stop 1\"", needed) == 0);
+    assert(hugepool_reason((const uint8_t *)bad, sizeof bad - 1, 3, why, needed - 1, &again) == HUGEPOOL_TOO_SMALL && again == needed);
+    assert(hugepool_reason((const uint8_t *)bad, sizeof bad - 1, 9, why, sizeof why, &needed) == HUGEPOOL_NO_SUCH);
+}
+
+static hugepool_event_words random_event(void)
+{
+    hugepool_event_words event = { 0 };
+    event.word = ((uint64_t)random_number() << 32) | random_number();
+    event.kind = random_number() % 4 != 0 ? HUGEPOOL_STEP : some(4);
+    event.task = some(4);
+    event.op = some(9);
+    event.file = some(2);
+    event.from = some(12);
+    event.len = some(9);
+    event.page = some(20);
+    return event;
+}
+
+/* Events of random numbers; what is held back says so before, and at times all is looked at. */
+static void random_events(long count)
+{
+    hugepool_pool pool = HUGEPOOL_CLOSED;
+    long happened = 0, refused = 0;
+    for (long at = 0; at < count; at++) {
+        if (at % 4096 == 0) {
+            hugepool_config_words config = { some(9), some(3), some(4), some(5), some(20), random_number() % 2 == 0 };
+            if (hugepool_open(&pool, &config) != HUGEPOOL_OK)
+                assert(at > 0 || !pool.is_open);
+        }
+        hugepool_event_words event = random_event();
+        hugepool_outcome_words outcome = { 0 }, seen = { 0 };
+        bool is_held_back = false;
+        uint32_t looked = hugepool_held_back(&pool, &event, &is_held_back, &seen);
+        uint32_t code = hugepool_event(&pool, &event, &outcome);
+        assert(code == looked);
+        if (code != HUGEPOOL_OK) {
+            refused++;
+            continue;
+        }
+        happened++;
+        assert(is_held_back == (outcome.kind == HUGEPOOL_BLOCKED || outcome.kind == HUGEPOOL_REFUSED));
+        assert(!is_held_back || memcmp(&seen, &outcome, sizeof seen) == 0);
+        uint32_t finding = 9;
+        if (at % 512 == 0)
+            assert(hugepool_audit(&pool, &finding) == HUGEPOOL_OK && finding == HUGEPOOL_FOUND_NOTHING);
+    }
+    hugepool_close(&pool);
+    printf("%ld events, %ld that named nothing or met a closed pool\n", happened, refused);
+}
+
+int main(int count, char **words)
+{
+    assert(count == 3);
+    seed = strtoull(words[2], NULL, 10) * 2654435761u + 1;
+    closed_pools();
+    no_such();
+    slices();
+    texts();
+    random_events(strtol(words[1], NULL, 10));
+    return 0;
+}
