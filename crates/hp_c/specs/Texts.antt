@@ -7,7 +7,7 @@ use Rattle.hp_text.specs.declared.fault.ReplayFault.TheVariants as fault
 use Rattle.hp_text.specs.Checking.{ReadsEvents}
 use Rattle.hp_explain.specs.Explaining.{Explained}
 use Rattle.hp_draw.specs.Drawing.{IsDrawing}
-use Rattle.hp_c.specs.Codes.{bad_header, bad_line, no_memory, ok, too_small}
+use Rattle.hp_c.specs.Codes.{bad_header, bad_line, no_memory, no_such, ok, too_small}
 
 -- the text is that of a replay of the trace that the bytes spell
 abbrev pub Replays : (bytes text : List ℕ) → Type 0
@@ -71,3 +71,8 @@ NotShown Is bytes room needed code line =
 -- some text was put into the room for it, and its length was told
 abbrev pub IsReasonPut : (old new : List ℕ) → (needed : ℕ) → Type 0
 IsReasonPut old new needed = (text : List ℕ) × (needed ≡ length text) × IsPut text old new
+
+-- no reason is put: the room is too small for its bytes, there was no memory, or none is known
+abbrev pub IsReasonKept : (room needed code : ℕ) → Type 0
+IsReasonKept room needed code =
+    (code ≡ too_small) × (room < needed) ⊎ (code ≡ no_memory) × (needed ≡ 0) ⊎ (code ≡ no_such) × (needed ≡ 0)

@@ -1,7 +1,8 @@
 //! What is wrong with a line, in words.
-ghost use Rattle.std.specs.Prelude.{◌≡◌, ⊤};
+ghost use Rattle.std.specs.Prelude.{◌≡◌, ◌⊎◌, ⊤, IfErr, length};
 ghost use Rattle.hp_c.specs.Answers.{Answered};
-ghost use Rattle.hp_c.specs.Texts.{IsReasonPut};
+ghost use Rattle.hp_c.specs.Codes.{no_memory, no_such};
+ghost use Rattle.hp_c.specs.Texts.{IsReasonKept, IsReasonPut};
 
 use crate::codes::{NO_MEMORY, NO_SUCH, OK, TOO_SMALL};
 use crate::texts::put;
@@ -30,7 +31,10 @@ impl Recalls for Lines<'_> {
     }
 }
 
-fn reason(alloc: Global, bytes: &[u8], line: u32) -> Result<String, u32> {
+/// What is wrong with the line, or the code for which that isn't known.
+fn reason(alloc: Global, bytes: &[u8], line: u32) -> Result<String, u32>
+    ensures { IfErr result (λ code. (code ≡ no_memory) ⊎ (code ≡ no_such)) }
+{
     let lines = Lines { bytes };
     let Some(reason) = wrong_line(&lines, u64::from(line)) else {
         return Err(NO_SUCH);
@@ -52,6 +56,7 @@ pub extern "C" fn hugepool_reason(
     needed: &mut usize,
 ) -> u32
     ensures put { Answered result (IsReasonPut out.old out.new needed.new) (out.new ≡ out.old) }
+    ensures code { Answered result ⊤ (IsReasonKept (length out.old) needed.new result) }
 {
     *needed = 0;
     match reason(alloc, trace, line) {

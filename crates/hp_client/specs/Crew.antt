@@ -7,7 +7,7 @@ use denote.Param.Members.{Shared}
 use Rattle.hp_base.specs.declared.event.Op.{Op}
 use Rattle.hp_machine.specs.declared.outcome.Refusal.TheVariants as refusal
 use Rattle.hp_shared.specs.Calls.{Gained, AllMoved, in_call}
-use Rattle.hp_shared.specs.Replies.{IsCall, Steps, StoppedCall}
+use Rattle.hp_shared.specs.Replies.{IsCall, IsResumed, StoppedCall}
 use Rattle.hp_shared.specs.Seats.{new_seat}
 use Rattle.hp_shared.specs.States.{SeatState}
 use Rattle.hp_shared.specs.declared.entry.Entry.{Entry}
@@ -30,7 +30,7 @@ CallCame task op (Err fault) old new = StoppedCall task op fault old new
 
 -- what it gained where a call that was in flight went on, and came to this
 abbrev pub ResumeCame : (task : ℕ) → Result Reply CallFault → List Entry → List Entry → Type 0
-ResumeCame task (Ok reply) old new = Gained old new (Steps task reply)
+ResumeCame task (Ok reply) old new = IsResumed task reply old new
 ResumeCame task (Err fault) old new = (fault ≡ lacks.Memory true) × Gained old new (AllMoved task)
 
 -- A seat made this call, which came to that. Where it has a call in flight, it is refused.

@@ -76,6 +76,8 @@ impl HeldAt {
 }
 
 impl Gate for HeldAt {
+    ghost may_answer = { λ gate phase answer. answer };
+
     fn between(&self, _task: Task, phase: Phase) {
         if phase == self.phase {
             self.is_there.store(true, Ordering::SeqCst);

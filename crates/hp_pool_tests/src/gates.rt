@@ -1,5 +1,5 @@
 //! Gates by which threads meet, one that looks what it is asked, and holds by which it is told who waits.
-ghost use Rattle.std.specs.Prelude.{◌≡◌};
+ghost use Rattle.std.specs.Prelude.{◌≡◌, true};
 
 use hp_base::{Event, Task};
 use hp_core::Outcome;
@@ -84,6 +84,8 @@ impl HeldAt {
 }
 
 impl Gate for HeldAt {
+    ghost may_answer = { λ gate phase answer. answer };
+
     fn between(&self, _task: Task, phase: Phase) {
         if phase == self.phase {
             self.there.give();
@@ -126,6 +128,8 @@ impl Crossing {
 }
 
 impl Gate for Crossing {
+    ghost may_answer = { λ gate phase answer. answer };
+
     fn between(&self, task: Task, phase: Phase) {
         if !self.begun.load(Ordering::SeqCst) {
             return;
@@ -193,6 +197,8 @@ impl<'a> Asked<'a> {
 }
 
 impl<'a> Gate for Asked<'a> {
+    ghost may_answer = { λ gate phase answer. true };
+
     fn between(&self, task: Task, phase: Phase) {
         self.moves.fetch_add(1, Ordering::SeqCst);
         let moves = self.moves.load(Ordering::SeqCst);
@@ -254,6 +260,8 @@ impl Meeting {
 }
 
 impl Gate for Meeting {
+    ghost may_answer = { λ gate phase answer. answer };
+
     fn between(&self, _task: Task, phase: Phase) {
         if phase == Phase::Want && self.begun.load(Ordering::SeqCst) {
             self.there.fetch_add(1, Ordering::SeqCst);
@@ -300,6 +308,8 @@ impl BetweenSlots {
 }
 
 impl Gate for BetweenSlots {
+    ghost may_answer = { λ gate phase answer. answer };
+
     fn between(&self, _task: Task, phase: Phase) {
         let was_held = self.was_held.load(Ordering::SeqCst);
         match phase {

@@ -16,10 +16,11 @@ use Rattle.hp_shared.specs.declared.entry.Entry.{Entry}
 use Rattle.hp_shared.specs.declared.fault.Reply.{Reply}
 use Rattle.hp_shared.specs.declared.fault.Reply.TheVariants.{Ended, Refused}
 use Rattle.hp_shared.specs.Calls.{AllMoved, BegunThen, Gained}
-use Rattle.hp_shared.specs.Replies.{IsCall}
+use Rattle.hp_shared.specs.Replies.{CallRefused, IsCall}
 use Rattle.hp_shared.specs.Seats.{new_seat}
 use Rattle.hp_shared.specs.States.{SeatState}
 use Rattle.hp_machine.specs.Events.{is_exit}
+use Rattle.hp_machine.specs.declared.outcome.Refusal.{Refusal}
 use Rattle.hp_race.specs.Calls.{CallMade, CallsMade, CallsStrayed, EndsBy, is_not_alive, may_end}
 use Rattle.hp_race.specs.Racers.{HasMade, HasMadeIn, HasRun, HasStrayed, HasStrayedIn, IsNew, SomeStrayed, SomeStrayedIn, calls_in, is_gone}
 use Rattle.hp_race.specs.Parts.{call_range}
@@ -35,10 +36,11 @@ gained_none task op old new had same =
     let some : length had.0 ≡ length (had.2.0 ∷ had.2.1) = ap length had.2.2 in
     absurd (omega (arith, longer, some, same))
 
-refused_nothing : (task : ℕ) (op : Op) (old new : List Entry)
-    → ((new ≡ old) ⊎ Gained old new (BegunThen task op (AllMoved task))) → length new ≡ length old → new ≡ old
-refused_nothing task op old new (inl is) same = is
-refused_nothing task op old new (inr had) same = gained_none task op old new had same
+refused_nothing : (task : ℕ) (op : Op) (why : Refusal) (old new : List Entry) → CallRefused task op why old new
+    → length new ≡ length old → new ≡ old
+refused_nothing task op why old new (inl is) same = is.2.1
+refused_nothing task op why old new (inr (inl is)) same = is.1
+refused_nothing task op why old new (inr (inr had)) same = gained_none task op old new had.1 same
 
 -- a call that ended as it may is made
 pub call_made : (task : ℕ) (gone : Bool) (op : Op) (reply : Reply) (old new : List Entry) → IsCall task op reply old new
@@ -48,7 +50,7 @@ call_made task false op (Refused why) old new is may = absurd (false≢true may)
 call_made task true op (Ended answer) old new is may = absurd (false≢true may)
 call_made task true op (Refused why) old new is may =
     let same = and_parts (is_not_alive why) (length new == length old) may in
-    refused_nothing task op old new is (eqb-true (length new) (length old) same.1)
+    refused_nothing task op why old new is (eqb-true (length new) (length old) same.1)
 
 -- what is found in a list is found in a longer one
 any_before : {X : Type 0} (P : X → Type 0) (xs ys : List X) → Any P xs → Any P (xs ++ ys)

@@ -1,6 +1,6 @@
 -- What a list gained, and a hold more.
 use Rattle.std.proofs.Common.{◌≡◌, ℕ, zero, suc, ◌+◌, ◌<◌, List, [], ◌∷◌, ◌++◌, Bool, refl, sym, ap, ◌∙◌, append_assoc, arith}
-use Rattle.std.proofs.Common.{length}
+use Rattle.std.proofs.Common.{length, subst}
 use Rattle.std.proofs.lemmas.List.{append-nil}
 use Rattle.std.proofs.lemmas.List.Elements.{All-append}
 use Rattle.std.specs.Prelude.{All, slice_get, Some}
@@ -8,10 +8,11 @@ use Rattle.hp_base.specs.declared.event.Op.{Op}
 use Rattle.hp_base.specs.declared.answer.Answer.{Answer}
 use Rattle.hp_base.specs.declared.event.Event.TheVariants.{Begin, Step}
 use Rattle.hp_machine.specs.declared.phase.Phase.{Phase}
+use Rattle.hp_machine.specs.declared.phase.Phase.TheVariants.{Start}
 use Rattle.hp_machine.specs.declared.outcome.Outcome.TheVariants.{Begun, Moved, Ended}
 use Rattle.hp_shared.specs.declared.entry.Entry.{Entry}
 use Rattle.hp_shared.specs.Journal.{entry}
-use Rattle.hp_shared.specs.Calls.{Gained, AllMoved, MovedToEnd, BegunThen, StepMoved}
+use Rattle.hp_shared.specs.Calls.{Gained, AllMoved, AreAnswered, IsAnswered, MovedToEnd, BegunThen, StepMoved, phase_after, phase_from, phase_of}
 use Rattle.hp_shared.specs.Seats.{new_seat}
 use Rattle.hp_shared.specs.States.{SeatState}
 
@@ -55,6 +56,34 @@ pub gained_begun : (task t : ℕ) (op : Op) (old mid now : List Entry) (p : ℕ)
 gained_begun task t op old mid now p P same is had =
     let e = entry p (Begin t op) Begun in
     (e ∷ had.0, had.1 ∙ ap (λ x. x ++ had.0) is ∙ append_assoc old (e ∷ []) had.0, (e, had.0, refl, (same, refl), had.2))
+
+-- where a call stands behind one list and another
+phase_on : (p : Phase) (es fs : List Entry) → phase_from p (es ++ fs) ≡ phase_from (phase_from p es) fs
+phase_on p [] fs = refl
+phase_on p (e ∷ es) fs = phase_on (phase_after p e.event e.outcome) es fs
+
+answered_on : (may : Phase → Bool → Bool) (p : Phase) (es fs : List Entry) → AreAnswered may p es
+    → AreAnswered may (phase_from p es) fs → AreAnswered may p (es ++ fs)
+answered_on may p [] fs had more = more
+answered_on may p (e ∷ es) fs had more = (had.0, answered_on may (phase_after p e.event e.outcome) es fs had.1 more)
+
+pub answered_nothing : (may : Phase → Bool → Bool) (old : List Entry) → Gained old old (AreAnswered may (phase_of old))
+answered_nothing may old = ([], sym (append-nil old), tt)
+
+-- what was answered so far, and behind it
+pub answered_more : (may : Phase → Bool → Bool) (old mid now : List Entry) → Gained old mid (AreAnswered may (phase_of old))
+    → Gained mid now (AreAnswered may (phase_of mid)) → Gained old now (AreAnswered may (phase_of old))
+answered_more may old mid now had more =
+    let there : phase_of mid ≡ phase_from (phase_of old) had.0 = ap phase_of had.1 ∙ phase_on Start old had.0 in (
+      had.0 ++ more.0,
+      more.1 ∙ ap (λ x. x ++ more.0) had.1 ∙ append_assoc old had.0 more.0,
+      answered_on may (phase_of old) had.0 more.0 had.2 (subst (λ (p : Phase). AreAnswered may p more.0) there more.2),
+    )
+
+-- one entry more
+pub answered_one : (may : Phase → Bool → Bool) (old now : List Entry) (e : Entry) → IsAnswered may (phase_of old) e.event
+    → now ≡ old ++ e ∷ [] → Gained old now (AreAnswered may (phase_of old))
+answered_one may old now e answer is = (e ∷ [], is, (answer, tt))
 
 one_more : (f : ℕ → SeatState) (items : List SeatState) (x : SeatState)
     → ((j : ℕ) → j < length items → slice_get items j ≡ Some (f j)) → x ≡ f (length items)

@@ -93,3 +93,15 @@ BegunThen task op P entries =
 -- the list became longer, by entries of which P holds
 abbrev pub Gained : List Entry → List Entry → (List Entry → Type 0) → Type 0
 Gained old new P = (entries : List Entry) × (new ≡ old ++ entries) × P entries
+
+-- a step is granted or denied as the gate may have answered where the call stood
+abbrev pub IsAnswered : (may : Phase → Bool → Bool) → Phase → Event → Type 0
+IsAnswered may phase (Begin task op) = Unit {0}
+IsAnswered may phase (Step task grant) = may phase grant ≡ true
+IsAnswered may phase (Kill task) = Unit {0}
+IsAnswered may phase (Resize frames) = Unit {0}
+
+-- so is each step among the entries, the first of which found the call in that phase
+abbrev pub AreAnswered : (may : Phase → Bool → Bool) → Phase → List Entry → Type 0
+AreAnswered may phase [] = Unit {0}
+AreAnswered may phase (e ∷ es) = IsAnswered may phase e.event × AreAnswered may (phase_after phase e.event e.outcome) es

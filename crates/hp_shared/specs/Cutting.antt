@@ -6,7 +6,7 @@ use Rattle.hp_core.specs.State.{CoreState, as_state}
 use Rattle.hp_shared.specs.declared.fault.CutFault.{CutFault}
 use Rattle.hp_shared.specs.declared.fault.CutFault.TheVariants.{SeatMissing, InFlight, Full, Disagree, Memory}
 use Rattle.hp_shared.specs.Calls.{in_call}
-use Rattle.hp_shared.specs.Journal.{Interleaves, FirstFailsAt}
+use Rattle.hp_shared.specs.Journal.{Interleaves, FirstFailsAt, IsCameTo}
 use Rattle.hp_shared.specs.States.{PoolState, SeatState, next}
 use Rattle.hp_shared.specs.Seats.{AllSeated, LeastMissing, lists_of}
 
@@ -61,3 +61,7 @@ RefusesCut p seats Full = IsAtRest p seats × (2 ^ 63 ≤ next p)
 RefusesCut p seats (Disagree position) =
     IsAtRest p seats × (next p < 2 ^ 63) × FirstFailsAt p.first p.journal (lists_of seats) position
 RefusesCut p seats Memory = IsAtRest p seats × (next p < 2 ^ 63)
+
+-- some pool, whose core a pool came to, refuses it so; of what a lock holds no clause can say more
+abbrev pub MayRefuseCut : List SeatState → CutFault → Type 0
+MayRefuseCut seats fault = (p : PoolState) × IsCameTo p.core × RefusesCut p seats fault

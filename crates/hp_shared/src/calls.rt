@@ -1,7 +1,7 @@
 //! A whole call on a running pool, hold by hold.
 ghost use Rattle.std.specs.Prelude.{◌≡◌, IfOk, IfErr, true, false, Ok};
-ghost use Rattle.hp_shared.specs.Calls.{Gained, AllMoved, in_call};
-ghost use Rattle.hp_shared.specs.Replies.{Steps, IsCall, StoppedCall};
+ghost use Rattle.hp_shared.specs.Calls.{Gained, AllMoved, AreAnswered, in_call, phase_of};
+ghost use Rattle.hp_shared.specs.Replies.{Steps, IsCall, IsResumed, StoppedCall};
 
 use crate::fault::{CallFault, Reply};
 use crate::seat::Seat;
@@ -13,11 +13,18 @@ use std::sync::ledger::Ledger;
 
 /// What happens between the holds of a call, while no lock is held.
 pub trait Gate {
+    ghost use Rattle.std.specs.Prelude.{Bool};
+    ghost use Rattle.hp_machine.specs.declared.phase.Phase.{Phase};
+
+    // whether it may answer so where a call stands in that phase
+    ghost may_answer: { Self → Phase → Bool → Bool };
+
     /// After each hold that moved the call, to that phase.
     fn between(&self, task: Task, phase: Phase);
 
     /// Before each step, which finds the call in that phase: whether growth that the step wants is granted.
-    fn grant(&self, task: Task, phase: Phase) -> bool;
+    fn grant(&self, task: Task, phase: Phase) -> bool
+        ensures answer { may_answer self.now phase result ≡ true };
 }
 
 /// A gate that holds nobody up and grants each growth.
@@ -25,11 +32,11 @@ pub trait Gate {
 pub struct Open;
 
 impl Gate for Open {
+    ghost may_answer = { λ gate phase answer. answer };
+
     fn between(&self, _task: Task, _phase: Phase) {}
 
-    fn grant(&self, _task: Task, _phase: Phase) -> bool
-        ensures { result ≡ true }
-    {
+    fn grant(&self, _task: Task, _phase: Phase) -> bool {
         true
     }
 }
@@ -45,6 +52,7 @@ pub fn call<L: Ledger, H: Hold<L>, G: Gate, R: Wait>(
 ) -> Result<Reply, CallFault>
     ensures ok { IfOk result (λ reply. IsCall seat.old.task op reply seat.old.list seat.new.list) }
     ensures err { IfErr result (λ fault. StoppedCall seat.old.task op fault seat.old.list seat.new.list) }
+    ensures answered { Gained seat.old.list seat.new.list (AreAnswered (G.may_answer gate.now) (phase_of seat.old.list)) }
     ensures task { seat.new.task ≡ seat.old.task }
     ensures earlier { seat.new.earlier ≡ seat.old.earlier }
     ensures in_flight { in_call seat.old.list ≡ true
@@ -68,9 +76,10 @@ pub fn resume<L: Ledger, H: Hold<L>, G: Gate, R: Wait>(
     seat: &mut Seat<L>,
     gate: &G,
 ) -> Result<Reply, CallFault>
-    ensures ok { IfOk result (λ reply. Gained seat.old.list seat.new.list (Steps seat.old.task reply)) }
+    ensures ok { IfOk result (λ reply. IsResumed seat.old.task reply seat.old.list seat.new.list) }
     ensures err { IfErr result
         (λ fault. (fault ≡ CallFault.Memory true) × Gained seat.old.list seat.new.list (AllMoved seat.old.task)) }
+    ensures answered { Gained seat.old.list seat.new.list (AreAnswered (G.may_answer gate.now) (phase_of seat.old.list)) }
     ensures task { seat.new.task ≡ seat.old.task }
     ensures earlier { seat.new.earlier ≡ seat.old.earlier }
     ensures idle { in_call seat.old.list ≡ false
@@ -92,6 +101,7 @@ fn go_on<L: Ledger, H: Hold<L>, G: Gate, R: Wait>(
     ensures ok { IfOk result (λ reply. Gained seat.old.list seat.new.list (Steps seat.old.task reply)) }
     ensures err { IfErr result
         (λ fault. (fault ≡ CallFault.Memory true) × Gained seat.old.list seat.new.list (AllMoved seat.old.task)) }
+    ensures answered { Gained seat.old.list seat.new.list (AreAnswered (G.may_answer gate.now) (phase_of seat.old.list)) }
     ensures task { seat.new.task ≡ seat.old.task }
     ensures earlier { seat.new.earlier ≡ seat.old.earlier }
 {

@@ -8,7 +8,7 @@ ghost use Rattle.hp_core.specs.State.{CoreState};
 ghost use Rattle.hp_shared.specs.Journal.{IsOutcomeOf, IsCameTo, IsRowOf};
 ghost use Rattle.hp_shared.specs.Calls.{IsOwn};
 ghost use Rattle.hp_shared.specs.Closing.{ClosesPoolOf, ClosesWith, RefusesClose, IsForGood, entries_of};
-ghost use Rattle.hp_shared.specs.Cutting.{emptied};
+ghost use Rattle.hp_shared.specs.Cutting.{emptied, MayRefuseCut};
 ghost use Rattle.hp_shared.specs.Seats.{new_seat, has_seat as seated, AllSeated, LeastMissing, lists_of};
 ghost use Rattle.hp_shared.specs.States.{seat_with, tally_of};
 
@@ -178,6 +178,7 @@ impl<L: Ledger> Shared<L> {
     ) -> Result<Part, CutFault>
         ensures part { IfOk result (λ part. (core : CoreState) × ClosesWith seats.old core part.first part.entries.items) }
         ensures seats { OnOk result (seats.new ≡ map emptied seats.old) }
+        ensures refused { IfErr result (λ fault. MayRefuseCut seats.old fault) }
         ensures err { OnErr result (seats.new ≡ seats.old) }
     {
         self.pool.lock(rt).cut(alloc, seats)

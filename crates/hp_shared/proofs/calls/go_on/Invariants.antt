@@ -1,5 +1,5 @@
 use Rattle.std.proofs.Common.{◌≡◌}
-use Rattle.hp_shared.specs.Calls.{Gained, AllMoved}
+use Rattle.hp_shared.specs.Calls.{Gained, AllMoved, AreAnswered, phase_of}
 use Rattle.hp_shared.proofs.calls.go_on.Given as goal
 
 abbrev pub invariant-steps : goal.invariant-steps
@@ -8,4 +8,5 @@ invariant-steps g l = record {
   task : l.task ≡ l.fn.seat.task;
   earlier : l.seat.earlier ≡ l.fn.seat.earlier;
   moved : Gained l.fn.seat.list l.seat.list (AllMoved l.fn.seat.task);
+  answered : Gained l.fn.seat.list l.seat.list (AreAnswered (g.G.Gate.may_answer l.gate.now) (phase_of l.fn.seat.list));
 }
