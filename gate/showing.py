@@ -120,9 +120,11 @@ def do_races_differ(script: str) -> bool:
 
 
 def rows_fault(told: str, events: int) -> str | None:
-    """What is wrong with the columns of an explanation of so many events, if anything is: its rows are as long as its head."""
+    """What is wrong with the columns of an explanation of so many events, if anything is: its rows are as long as its head, but for the
+    tasks behind it whose wait began or ended."""
     head, *rows = told.split("\n")[: events + 1]
-    at = next((k for k, row in enumerate(rows, 2) if len(row) != len(head)), None)
+    is_below = lambda row: len(row) == len(head) or len(row) > len(head) and row[len(head) :].startswith("  task ")
+    at = next((k for k, row in enumerate(rows, 2) if not is_below(row)), None)
     return f"row {at} isn't as long as the head" if at else None
 
 

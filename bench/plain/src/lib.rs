@@ -331,6 +331,22 @@ impl Pool {
         }
     }
 
+    /// By whom the task's next step would be blocked.
+    pub fn blocker(&self, t: u32) -> Option<u32> {
+        let task = &self.tasks[t as usize - 1];
+        let (call, killed) = (task.call?, task.life == Life::Killed);
+        match (call.phase, call.kind) {
+            (Phase::Start, Kind::Map | Kind::MapNoReserve | Kind::Alloc | Kind::Punch | Kind::Truncate) => {
+                let end = if call.kind == Kind::Truncate { u64::from(call.len) } else { u64::from(call.from) + u64::from(call.len) };
+                let is_bad = end > u64::from(LIMIT) || call.kind != Kind::Truncate && call.len == 0;
+                if is_bad || killed { None } else { *self.locks.get(call.file as usize)? }
+            }
+            (Phase::Want, Kind::Load | Kind::Store | Kind::Alloc) if killed => None,
+            (Phase::Want, _) => self.slots[self.slot(&call)],
+            _ => None,
+        }
+    }
+
     fn start(&mut self, t: u32, killed: bool, c: &mut Call) -> Outcome {
         if c.file as usize >= self.files.len() { return Outcome::Ended(Answer::BadFile); }
         let bad = if c.kind == Kind::Truncate { c.len > LIMIT } else { c.len == 0 || u64::from(c.from) + u64::from(c.len) > u64::from(LIMIT) };

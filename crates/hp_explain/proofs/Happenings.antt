@@ -16,13 +16,23 @@ use Rattle.hp_text.specs.declared.fault.ReplayFault.{ReplayFault}
 use Rattle.hp_text.specs.declared.fault.ReplayFault.TheVariants.{Write}
 use Rattle.hp_text.proofs.Writes.{Wrote-behind}
 use Rattle.hp_explain.specs.Rows.{Happening, row_text, rows_text}
-use Rattle.hp_explain.specs.Explaining.{events_of, Happens, RowWritten, RowPartlyWritten, RowsWritten, RowsPartlyWritten}
+use Rattle.hp_explain.specs.Explaining.{events_of, Happened, Happens, RowWritten, RowPartlyWritten, RowsWritten, RowsPartlyWritten}
+use Rattle.hp_explain.specs.Waits.{AreHolders}
 
 -- one event more happens
 happens_more : (old mid new : CoreState) (list : List Happening) (h : Happening) → Happens old list mid
-    → Row mid h.event h.outcome h.core → h.core ≡ new → Happens old (list ++ (h ∷ [])) new
-happens_more old mid new [] h is row to = (subst (λ (s : CoreState). Row s h.event h.outcome h.core) is row, sym to)
-happens_more old mid new (k ∷ list) h is row to = (is.0, happens_more k.core mid new list h is.1 row to)
+    → Happened mid h → h.core ≡ new → Happens old (list ++ (h ∷ [])) new
+happens_more old mid new [] h is happened to = (subst (λ (s : CoreState). Happened s h) is happened, sym to)
+happens_more old mid new (k ∷ list) h is happened to = (is.0, happens_more k.core mid new list h is.1 happened to)
+
+-- whom tasks wait for behind these, who waited for those
+pub waits_after : (waited : List (Option ℕ)) → List Happening → List (Option ℕ)
+waits_after waited [] = waited
+waits_after waited (h ∷ more) = waits_after h.holders more
+
+waits_more : (waited : List (Option ℕ)) (list : List Happening) (h : Happening) → waits_after waited (list ++ (h ∷ [])) ≡ h.holders
+waits_more waited [] h = refl
+waits_more waited (k ∷ list) h = waits_more k.holders list h
 
 events_more : (list : List Happening) (h : Happening) → events_of (list ++ (h ∷ [])) ≡ events_of list ++ (h.event ∷ [])
 events_more [] h = refl
@@ -33,30 +43,37 @@ length_of [] = refl
 length_of (k ∷ list) = ap suc (length_of list)
 
 -- its row stands behind those before it
-row_more : (widths : List ℕ) (line : ℕ) (list : List Happening) (h : Happening)
-    → rows_text widths line (list ++ (h ∷ [])) ≡ rows_text widths line list ++ row_text widths (line + length list) h
+row_more : (widths : List ℕ) (line : ℕ) (waited : List (Option ℕ)) (list : List Happening) (h : Happening)
+    → rows_text widths line waited (list ++ (h ∷ []))
+    ≡ rows_text widths line waited list ++ row_text widths (line + length list) (waits_after waited list) h
 unfolding rows_text
-row_more widths line [] h =
+row_more widths line waited [] h =
     let here : line ≡ line + 0 = omega arith in
-    append-nil (row_text widths line h) ∙ ap (λ (n : ℕ). row_text widths n h) here
-row_more widths line (k ∷ list) h =
+    append-nil (row_text widths line waited h) ∙ ap (λ (n : ℕ). row_text widths n waited h) here
+row_more widths line waited (k ∷ list) h =
     let next : suc line + length list ≡ line + suc (length list) = omega arith in
-    ap (λ (x : List ℕ). row_text widths line k ++ x)
-    (row_more widths (suc line) list h
-    ∙ ap (λ (n : ℕ). rows_text widths (suc line) list ++ row_text widths n h) next)
-    ∙ sym (append_assoc (row_text widths line k) (rows_text widths (suc line) list) (row_text widths (line + suc (length list)) h))
+    let last = waits_after k.holders list in
+    ap (λ (x : List ℕ). row_text widths line waited k ++ x)
+    (row_more widths (suc line) k.holders list h
+    ∙ ap (λ (n : ℕ). rows_text widths (suc line) k.holders list ++ row_text widths n last h) next)
+    ∙ sym (append_assoc (row_text widths line waited k) (rows_text widths (suc line) k.holders list)
+    (row_text widths (line + suc (length list)) last h))
 
 -- the first n events happened, and their rows are written
-pub record RowsSoFar (widths : List ℕ) (events : List Event) (n : ℕ) (old now : CoreState) (before after : Option (List ℕ)) : Type 0 where
+pub record RowsSoFar (widths : List ℕ) (events : List Event) (n : ℕ) (old now : CoreState) (waited waits : List (Option ℕ))
+    (before after : Option (List ℕ)) : Type 0 where
   pub happenings : List Happening
   pub are_events : events_of happenings ≡ take n events
   pub count : length happenings ≡ n
   pub happens : Happens old happenings now
-  pub wrote : Appends before after (rows_text widths 2 happenings)
+  pub last : waits_after waited happenings ≡ waits
+  pub wrote : Appends before after (rows_text widths 2 waited happenings)
 
-pub no_row : (widths : List ℕ) (events : List Event) (old : CoreState) (o : Option (List ℕ)) → RowsSoFar widths events 0 old old o o
+pub no_row : (widths : List ℕ) (events : List Event) (old : CoreState) (waited : List (Option ℕ)) (o : Option (List ℕ))
+    → RowsSoFar widths events 0 old old waited waited o o
 unfolding rows_text
-no_row widths events old o = record { happenings = []; are_events = refl; count = refl; happens = refl; wrote = Appends-nil o }
+no_row widths events old waited o =
+    record { happenings = []; are_events = refl; count = refl; happens = refl; last = refl; wrote = Appends-nil o }
 
 -- the events up to this one are those before it, and it
 up_to : (events : List Event) (n : ℕ) (e : Event) → n < length events → e ≡ get_or events n e
@@ -64,19 +81,21 @@ up_to : (events : List Event) (n : ℕ) (e : Event) → n < length events → e 
 up_to events n e lt is = take_more events n e lt ∙ ap (λ (x : Event). take n events ++ (x ∷ [])) (sym is)
 
 -- and the row behind those that are written
-row_behind : (widths : List ℕ) (events : List Event) (n line : ℕ) (old now : CoreState) (before after : Option (List ℕ))
-    (s : RowsSoFar widths events n old now before after) (h : Happening) → line ≡ n + 2
-    → rows_text widths 2 (s.happenings ++ (h ∷ [])) ≡ rows_text widths 2 s.happenings ++ row_text widths line h
-row_behind widths events n line old now before after s h number =
+row_behind : (widths : List ℕ) (events : List Event) (n line : ℕ) (old now : CoreState) (waited waits : List (Option ℕ))
+    (before after : Option (List ℕ)) (s : RowsSoFar widths events n old now waited waits before after) (h : Happening) → line ≡ n + 2
+    → rows_text widths 2 waited (s.happenings ++ (h ∷ [])) ≡ rows_text widths 2 waited s.happenings ++ row_text widths line waits h
+row_behind widths events n line old now waited waits before after s h number =
     let counted = s.count in
     let here : 2 + length s.happenings ≡ line = omega arith in
-    row_more widths 2 s.happenings h ∙ ap (λ (k : ℕ). rows_text widths 2 s.happenings ++ row_text widths k h) here
+    row_more widths 2 waited s.happenings h
+    ∙ ap (λ (k : ℕ). rows_text widths 2 waited s.happenings ++ row_text widths k (waits_after waited s.happenings) h) here
+    ∙ ap (λ (w : List (Option ℕ)). rows_text widths 2 waited s.happenings ++ row_text widths line w h) s.last
 
 pub one_row : (widths : List ℕ) (events : List Event) (n line : ℕ) (e : Event) (old mid new : CoreState)
-    (before now after : Option (List ℕ)) → n < length events → e ≡ get_or events n e → line ≡ n + 2
-    → RowsSoFar widths events n old mid before now → RowWritten widths line e mid new now after
-    → RowsSoFar widths events (n + 1) old new before after
-one_row widths events n line e old mid new before now after lt is number s r =
+    (waited waits next : List (Option ℕ)) (before now after : Option (List ℕ)) → n < length events → e ≡ get_or events n e → line ≡ n + 2
+    → RowsSoFar widths events n old mid waited waits before now → RowWritten widths line e mid new waits next now after
+    → RowsSoFar widths events (n + 1) old new waited next before after
+one_row widths events n line e old mid new waited waits next before now after lt is number s r =
     record {
       happenings = s.happenings ++ (r.happening ∷ []);
       are_events =
@@ -84,10 +103,12 @@ one_row widths events n line e old mid new before now after lt is number s r =
           ∙ ap (λ (x : Event). events_of s.happenings ++ (x ∷ [])) r.is_event
           ∙ ap (λ (x : List Event). x ++ (e ∷ [])) s.are_events ∙ sym (up_to events n e lt is);
       count = counted;
-      happens = happens_more old mid new s.happenings r.happening s.happens r.row r.is_core;
+      happens = happens_more old mid new s.happenings r.happening s.happens r.happened r.is_core;
+      last = waits_more waited s.happenings r.happening ∙ r.are_holders;
       wrote =
-          subst (λ (x : List ℕ). Appends before after x) (sym (row_behind widths events n line old mid before now s r.happening number))
-          (Appends-trans before now after (rows_text widths 2 s.happenings) (row_text widths line r.happening) s.wrote r.wrote);
+          subst (λ (x : List ℕ). Appends before after x)
+          (sym (row_behind widths events n line old mid waited waits before now s r.happening number))
+          (Appends-trans before now after (rows_text widths 2 waited s.happenings) (row_text widths line waits r.happening) s.wrote r.wrote);
     }
   where
     counted : length (s.happenings ++ (r.happening ∷ [])) ≡ n + 1
@@ -96,15 +117,17 @@ one_row widths events n line e old mid new before now after lt is number s r =
         let before_it = s.count in
         omega arith
 
-pub all_rows : (widths : List ℕ) (events : List Event) (n : ℕ) (old new : CoreState) (before after : Option (List ℕ))
-    → length events ≤ n → RowsSoFar widths events n old new before after → RowsWritten widths 2 events old new before after
-all_rows widths events n old new before after le s =
+pub all_rows : (widths : List ℕ) (events : List Event) (n : ℕ) (old new : CoreState) (waited waits : List (Option ℕ))
+    (before after : Option (List ℕ)) → length events ≤ n → RowsSoFar widths events n old new waited waits before after
+    → RowsWritten widths 2 events old new waited before after
+all_rows widths events n old new waited waits before after le s =
     record { happenings = s.happenings; are_events = s.are_events ∙ take_all n events le; happens = s.happens; wrote = s.wrote }
 
 -- the next event didn't happen
-pub stopped_before : (widths : List ℕ) (events : List Event) (n : ℕ) (old mid : CoreState) (before now after : Option (List ℕ))
-    → RowsSoFar widths events n old mid before now → Keeps now after → RowsPartlyWritten widths 2 events old before after
-stopped_before widths events n old mid before now after s kept =
+pub stopped_before : (widths : List ℕ) (events : List Event) (n : ℕ) (old mid : CoreState) (waited waits : List (Option ℕ))
+    (before now after : Option (List ℕ)) → RowsSoFar widths events n old mid waited waits before now → Keeps now after
+    → RowsPartlyWritten widths 2 events old waited before after
+stopped_before widths events n old mid waited waits before now after s kept =
     record {
       happenings = s.happenings;
       rest = drop n events;
@@ -113,18 +136,19 @@ stopped_before widths events n old mid before now after s kept =
       happens = s.happens;
       wrote =
           record {
-            front = rows_text widths 2 s.happenings;
+            front = rows_text widths 2 waited s.happenings;
             back = [];
-            parts = sym (append-nil (rows_text widths 2 s.happenings));
-            appends = Appends-kept before now after (rows_text widths 2 s.happenings) s.wrote kept;
+            parts = sym (append-nil (rows_text widths 2 waited s.happenings));
+            appends = Appends-kept before now after (rows_text widths 2 waited s.happenings) s.wrote kept;
           };
     }
 
 -- or its row was not written to its end
-pub stopped_in : (widths : List ℕ) (events : List Event) (n line : ℕ) (e : Event) (old mid : CoreState) (before now after : Option (List ℕ))
-    → n < length events → e ≡ get_or events n e → line ≡ n + 2 → RowsSoFar widths events n old mid before now
-    → RowPartlyWritten widths line e mid now after → RowsPartlyWritten widths 2 events old before after
-stopped_in widths events n line e old mid before now after lt is number s r =
+pub stopped_in : (widths : List ℕ) (events : List Event) (n line : ℕ) (e : Event) (old mid : CoreState) (waited waits : List (Option ℕ))
+    (before now after : Option (List ℕ)) → n < length events → e ≡ get_or events n e → line ≡ n + 2
+    → RowsSoFar widths events n old mid waited waits before now → RowPartlyWritten widths line e mid waits now after
+    → RowsPartlyWritten widths 2 events old waited before after
+stopped_in widths events n line e old mid waited waits before now after lt is number s r =
     record {
       happenings = s.happenings ++ (r.happening ∷ []);
       rest = drop (n + 1) events;
@@ -135,51 +159,56 @@ stopped_in widths events n line e old mid before now after lt is number s r =
           ∙ ap (λ (x : Event). events_of s.happenings ++ (x ∷ [])) r.is_event
           ∙ ap (λ (x : List Event). x ++ (e ∷ [])) s.are_events ∙ sym (up_to events n e lt is))
           ∙ take-append-drop (n + 1) events;
-      happens = happens_more old mid r.happening.core s.happenings r.happening s.happens r.row refl;
+      happens = happens_more old mid r.happening.core s.happenings r.happening s.happens r.happened refl;
       wrote =
-          subst (λ (x : List ℕ). Wrote before after x) (sym (row_behind widths events n line old mid before now s r.happening number))
-          (Wrote-behind before now after (rows_text widths 2 s.happenings) (row_text widths line r.happening) s.wrote r.wrote);
+          subst (λ (x : List ℕ). Wrote before after x)
+          (sym (row_behind widths events n line old mid waited waits before now s r.happening number))
+          (Wrote-behind before now after (rows_text widths 2 waited s.happenings) (row_text widths line waits r.happening) s.wrote r.wrote);
     }
 
 -- ---- one row
 
 -- an event that happened, and whose row was written
 pub row_written : {A : Type 0} (r : Result A ReplayFault) (widths : List ℕ) (line : ℕ) (e : Event) (outcome : Outcome)
-    (old new : CoreState) (before after : Option (List ℕ)) (text row : List ℕ) → Row old e outcome new → text ≡ row
-    → row ≡ row_text widths line (record { event = e; outcome = outcome; core = new }) → OnOk r (Appends before after text)
-    → OnOk r (RowWritten widths line e old new before after)
-row_written (Ok x) widths line e outcome old new before after text row happens same is wrote =
+    (old new : CoreState) (waited waits : List (Option ℕ)) (before after : Option (List ℕ)) (text row : List ℕ) → Row old e outcome new
+    → AreHolders new waits → text ≡ row
+    → row ≡ row_text widths line waited (record { event = e; outcome = outcome; core = new; holders = waits })
+    → OnOk r (Appends before after text) → OnOk r (RowWritten widths line e old new waited waits before after)
+row_written (Ok x) widths line e outcome old new waited waits before after text row happens holders same is wrote =
     record {
-      happening = record { event = e; outcome = outcome; core = new };
+      happening = record { event = e; outcome = outcome; core = new; holders = waits };
       is_event = refl;
       is_core = refl;
-      row = happens;
+      are_holders = refl;
+      happened = (happens, holders);
       wrote = subst (λ (x : List ℕ). Appends before after x) (same ∙ is) wrote;
     }
-row_written (Err fault) widths line e outcome old new before after text row happens same is wrote = tt
+row_written (Err fault) widths line e outcome old new waited waits before after text row happens holders same is wrote = tt
 
 -- or in part
 pub row_stopped : {A : Type 0} (r : Result A ReplayFault) (widths : List ℕ) (line : ℕ) (e : Event) (outcome : Outcome)
-    (old new : CoreState) (before after : Option (List ℕ)) (text row : List ℕ) → Row old e outcome new → text ≡ row
-    → row ≡ row_text widths line (record { event = e; outcome = outcome; core = new })
+    (old new : CoreState) (waited waits : List (Option ℕ)) (before after : Option (List ℕ)) (text row : List ℕ) → Row old e outcome new
+    → AreHolders new waits → text ≡ row
+    → row ≡ row_text widths line waited (record { event = e; outcome = outcome; core = new; holders = waits })
     → IfErr r (λ fault. (fault ≡ Write) × Wrote before after text)
-    → IfErr r (λ fault. IsWriteFault fault × (Keeps before after ⊎ RowPartlyWritten widths line e old before after))
-row_stopped (Ok x) widths line e outcome old new before after text row happens same is wrote = tt
-row_stopped (Err fault) widths line e outcome old new before after text row happens same is wrote = (
+    → IfErr r (λ fault. IsWriteFault fault × (Keeps before after ⊎ RowPartlyWritten widths line e old waited before after))
+row_stopped (Ok x) widths line e outcome old new waited waits before after text row happens holders same is wrote = tt
+row_stopped (Err fault) widths line e outcome old new waited waits before after text row happens holders same is wrote = (
   subst (λ (f : ReplayFault). IsWriteFault f) (sym wrote.0) tt,
   inr (record {
-    happening = record { event = e; outcome = outcome; core = new };
+    happening = record { event = e; outcome = outcome; core = new; holders = waits };
     is_event = refl;
-    row = happens;
+    happened = (happens, holders);
     wrote = subst (λ (x : List ℕ). Wrote before after x) (same ∙ is) wrote.1;
   }),
 )
 
 -- where an event stopped, the rows did
-pub stopped_at : (widths : List ℕ) (events : List Event) (n line : ℕ) (e : Event) (old mid : CoreState) (before now after : Option (List ℕ))
-    → n < length events → e ≡ get_or events n e → line ≡ n + 2 → RowsSoFar widths events n old mid before now
-    → Keeps now after ⊎ RowPartlyWritten widths line e mid now after → RowsPartlyWritten widths 2 events old before after
-stopped_at widths events n line e old mid before now after lt is number s (inl kept) =
-    stopped_before widths events n old mid before now after s kept
-stopped_at widths events n line e old mid before now after lt is number s (inr r) =
-    stopped_in widths events n line e old mid before now after lt is number s r
+pub stopped_at : (widths : List ℕ) (events : List Event) (n line : ℕ) (e : Event) (old mid : CoreState) (waited waits : List (Option ℕ))
+    (before now after : Option (List ℕ)) → n < length events → e ≡ get_or events n e → line ≡ n + 2
+    → RowsSoFar widths events n old mid waited waits before now
+    → Keeps now after ⊎ RowPartlyWritten widths line e mid waits now after → RowsPartlyWritten widths 2 events old waited before after
+stopped_at widths events n line e old mid waited waits before now after lt is number s (inl kept) =
+    stopped_before widths events n old mid waited waits before now after s kept
+stopped_at widths events n line e old mid waited waits before now after lt is number s (inr r) =
+    stopped_in widths events n line e old mid waited waits before now after lt is number s r

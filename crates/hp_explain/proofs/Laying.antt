@@ -1,11 +1,12 @@
 -- Columns that are laid out one by one.
 use Rattle.std.proofs.Common.{◌≡◌, ℕ, suc, ◌+◌, List, ◌∷◌, [], ◌++◌, sym, ap, ◌∙◌, append_assoc, add-one}
-use Rattle.std.specs.Prelude.{◌==◌, slice_index_or}
+use Rattle.std.specs.Prelude.{◌==◌, Option, None, slice_index_or}
 use Rattle.std.proofs.lemmas.List.{append-nil}
 use Rattle.hp_core.specs.Readers.{phase_of}
 use Rattle.hp_core.specs.State.{CoreState}
 use Rattle.hp_explain.specs.Layout.{spaces, column, columns, titled, titles}
 use Rattle.hp_explain.specs.Rows.{calls_text, if_in_flight}
+use Rattle.hp_explain.specs.Waits.{change_text, changes_text}
 
 -- a part more of a text that is appended
 more_text : (old front part now new : List ℕ) → now ≡ old ++ front → new ≡ now ++ part → new ≡ old ++ (front ++ part)
@@ -49,3 +50,17 @@ unfolding calls_text
 one_call core n task old now new number is e =
     rw (add-one) (more_text old (calls_text core n) (if_in_flight core (suc n) (phase_of core (suc n))) now new is
     (e ∙ ap (λ (k : ℕ). now ++ if_in_flight core k (phase_of core k)) (number ∙ add-one n)))
+
+pub no_change : (core : CoreState) (before after : List (Option ℕ)) (old : List ℕ) → old ≡ old ++ changes_text core before after 0
+unfolding changes_text
+no_change core before after old = sym (append-nil old)
+
+pub one_change : (core : CoreState) (before after : List (Option ℕ)) (n : ℕ) (old now new : List ℕ)
+    → now ≡ old ++ changes_text core before after n
+    → new ≡ now ++ change_text core (n + 1) (slice_index_or before n None) (slice_index_or after n None)
+    → new ≡ old ++ changes_text core before after (n + 1)
+unfolding changes_text
+one_change core before after n old now new is e =
+    let part : ℕ → List ℕ = λ k. change_text core k (slice_index_or before n None) (slice_index_or after n None) in
+    rw (add-one) (more_text old (changes_text core before after n) (part (suc n)) now new is
+    (e ∙ ap (λ (k : ℕ). now ++ part k) (add-one n)))

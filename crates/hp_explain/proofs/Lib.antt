@@ -2,3 +2,4 @@ pub mod Laying
 pub mod Widths
 pub mod Happenings
 pub mod Texts
+pub mod Waits

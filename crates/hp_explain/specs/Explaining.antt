@@ -10,6 +10,7 @@ use Rattle.hp_text.specs.Collecting.{ReadsTrace, NotRead}
 use Rattle.hp_text.specs.Writing.{Wrote, IsWriteFault}
 use Rattle.hp_text.specs.declared.fault.ReplayFault.{ReplayFault}
 use Rattle.hp_explain.specs.Rows.{Happening, head_text, row_text, rows_text, end_text}
+use Rattle.hp_explain.specs.Waits.{AreHolders}
 use Rattle.hp_explain.specs.Widths.{HasRoom}
 
 -- A reader had the bytes `from` left, and now has `to`; a writer held `before`, and now holds `after`.
@@ -17,43 +18,50 @@ use Rattle.hp_explain.specs.Widths.{HasRoom}
 abbrev pub events_of : List Happening → List Event
 events_of list = map (λ h. h.event) list
 
--- one after the other they are rows of the machine, and lead from old to new
+-- it is a row of the machine, and whom each task waits for behind it is known
+abbrev pub Happened : CoreState → Happening → Type 0
+Happened old h = Row old h.event h.outcome h.core × AreHolders h.core h.holders
+
+-- one after the other they happened, and lead from old to new
 abbrev pub Happens : CoreState → List Happening → CoreState → Type 0
 Happens old [] new = new ≡ old
-Happens old (h ∷ more) new = Row old h.event h.outcome h.core × Happens h.core more new
+Happens old (h ∷ more) new = Happened old h × Happens h.core more new
 
--- the event happened, and its row was written
-pub record RowWritten (widths : List ℕ) (line : ℕ) (event : Event) (old new : CoreState) (before after : Option (List ℕ)) : Type 0 where
+-- The event happened, and its row was written. Before it tasks waited for these holders, and behind it for those.
+pub record RowWritten (widths : List ℕ) (line : ℕ) (event : Event) (old new : CoreState) (waited waits : List (Option ℕ))
+    (before after : Option (List ℕ)) : Type 0 where
   pub happening : Happening
   pub is_event : happening.event ≡ event
   pub is_core : happening.core ≡ new
-  pub row : Row old happening.event happening.outcome happening.core
-  pub wrote : Appends before after (row_text widths line happening)
+  pub are_holders : happening.holders ≡ waits
+  pub happened : Happened old happening
+  pub wrote : Appends before after (row_text widths line waited happening)
 
 -- the event happened, and a front of its row was written
-pub record RowPartlyWritten (widths : List ℕ) (line : ℕ) (event : Event) (old : CoreState) (before after : Option (List ℕ)) : Type 0 where
+pub record RowPartlyWritten (widths : List ℕ) (line : ℕ) (event : Event) (old : CoreState) (waited : List (Option ℕ))
+    (before after : Option (List ℕ)) : Type 0 where
   pub happening : Happening
   pub is_event : happening.event ≡ event
-  pub row : Row old happening.event happening.outcome happening.core
-  pub wrote : Wrote before after (row_text widths line happening)
+  pub happened : Happened old happening
+  pub wrote : Wrote before after (row_text widths line waited happening)
 
 -- these events happened, and their rows were written
-pub record RowsWritten (widths : List ℕ) (line : ℕ) (events : List Event) (old new : CoreState)
+pub record RowsWritten (widths : List ℕ) (line : ℕ) (events : List Event) (old new : CoreState) (waited : List (Option ℕ))
     (before after : Option (List ℕ)) : Type 0 where
   pub happenings : List Happening
   pub are_events : events_of happenings ≡ events
   pub happens : Happens old happenings new
-  pub wrote : Appends before after (rows_text widths line happenings)
+  pub wrote : Appends before after (rows_text widths line waited happenings)
 
 -- a front of them happened, and a front of their rows was written
-pub record RowsPartlyWritten (widths : List ℕ) (line : ℕ) (events : List Event) (old : CoreState)
+pub record RowsPartlyWritten (widths : List ℕ) (line : ℕ) (events : List Event) (old : CoreState) (waited : List (Option ℕ))
     (before after : Option (List ℕ)) : Type 0 where
   pub happenings : List Happening
   pub rest : List Event
   pub new : CoreState
   pub are_events : events_of happenings ++ rest ≡ events
   pub happens : Happens old happenings new
-  pub wrote : Wrote before after (rows_text widths line happenings)
+  pub wrote : Wrote before after (rows_text widths line waited happenings)
 
 -- A run of a trace from the opening state of a pool of these sizes, and the widths of its columns: one for each task of the
 -- pool, and one for what is of none, each with room for its events. Its events are lines 2 and on of the trace
@@ -62,6 +70,8 @@ pub record Explanation (s : Sizes) (events : List Event) (text : List ℕ) : Typ
   pub sizes_are : sizes config ≡ s
   pub first : CoreState
   pub opening : IsOpening config first
+  pub waited : List (Option ℕ)
+  pub are_holders : AreHolders first waited
   pub widths : List ℕ
   pub width_each : length widths ≡ s.tasks + 1
   pub rooms : All (HasRoom s.tasks widths) events
@@ -69,7 +79,7 @@ pub record Explanation (s : Sizes) (events : List Event) (text : List ℕ) : Typ
   pub are_events : events_of happenings ≡ events
   pub new : CoreState
   pub happens : Happens first happenings new
-  pub is : text ≡ head_text widths ++ (rows_text widths 2 happenings ++ end_text new)
+  pub is : text ≡ head_text s.quota widths ++ (rows_text widths 2 waited happenings ++ end_text new)
 
 -- the trace was explained
 pub record WroteExplanation (s : Sizes) (events : List Event) (before after : Option (List ℕ)) : Type 0 where
@@ -83,6 +93,8 @@ pub record Beginning (s : Sizes) (events : List Event) (text : List ℕ) : Type 
   pub sizes_are : sizes config ≡ s
   pub first : CoreState
   pub opening : IsOpening config first
+  pub waited : List (Option ℕ)
+  pub are_holders : AreHolders first waited
   pub widths : List ℕ
   pub width_each : length widths ≡ s.tasks + 1
   pub rooms : All (HasRoom s.tasks widths) events
@@ -91,7 +103,7 @@ pub record Beginning (s : Sizes) (events : List Event) (text : List ℕ) : Type 
   pub are_events : events_of happenings ++ rest ≡ events
   pub new : CoreState
   pub happens : Happens first happenings new
-  pub is : text ≡ head_text widths ++ rows_text widths 2 happenings
+  pub is : text ≡ head_text s.quota widths ++ rows_text widths 2 waited happenings
 
 -- nothing was written, or a front of such a text
 pub data PartlyExplained (s : Sizes) (events : List Event) (before after : Option (List ℕ)) : Type 0 where

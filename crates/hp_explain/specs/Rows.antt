@@ -6,42 +6,58 @@ use Rattle.hp_machine.specs.Text.{phase_word}
 use Rattle.hp_machine.specs.declared.outcome.Outcome.{Outcome}
 use Rattle.hp_machine.specs.declared.phase.Phase.{Phase}
 use Rattle.hp_core.specs.Holding.{holding_of}
-use Rattle.hp_core.specs.Readers.{config_of, free_of, resv_of, owed_of, phase_of}
+use Rattle.hp_core.specs.Readers.{config_of, free_of, resv_of, owed_of, phase_of, quota_of, used_of}
 use Rattle.hp_core.specs.State.{CoreState}
 use Rattle.hp_core.specs.Acquiring.{acquired_of, owed_by_of}
 use Rattle.hp_core.specs.declared.holding.Holding.{Holding}
 use Rattle.hp_replay.specs.Outcomes.{state_text}
 use Rattle.hp_explain.specs.Layout.{columns, titles, right, right_signed}
 use Rattle.hp_text.specs.Columns.{column_of}
+use Rattle.hp_explain.specs.Waits.{changes_text}
 use Rattle.hp_explain.specs.Words.{cell_text, lock_text, slot_text, wanted_text}
 
--- an event, what came of it, and the core that it led to
+-- an event, what came of it, the core that it led to, and whom each task waits for there
 pub record Happening : Type 0 where
   pub event : Event
   pub outcome : Outcome
   pub core : CoreState
+  pub holders : List (Option ℕ)
 
--- `   line  task 1 .. task 2 .. free  resv  owed`
-abbrev pub head_text : (widths : List ℕ) → List ℕ
-head_text widths = codes "   line  " ++ (titles widths (length widths) ++ codes "free  resv  owed\n")
+-- what stands over the used count, where the pool has a quota
+abbrev pub used_title : (quota : Option ℕ) → List ℕ
+used_title None = []
+used_title (Some quota) = codes "  used"
 
--- the event in the column of its task
-abbrev pub cells : (widths : List ℕ) → Happening → List ℕ
-cells widths h = columns widths (column_of (config_of h.core).tasks h.event) (cell_text h.core h.event h.outcome) (length widths)
+-- `   line  task 1 .. task 2 .. free  resv  owed`, and `  used` where the pool has a quota
+abbrev pub head_text : (quota : Option ℕ) → (widths : List ℕ) → List ℕ
+head_text quota widths = codes "   line  " ++ (titles widths (length widths) ++ (codes "free  resv  owed" ++ (used_title quota ++ 10 ∷ [])))
 
--- free frames, the reserve count, and what is owed to it
+-- the event in the column of its task, with what came of it
+abbrev pub cells : (widths : List ℕ) → CoreState → Event → Outcome → List ℕ
+cells widths core event outcome = columns widths (column_of (config_of core).tasks event) (cell_text core event outcome) (length widths)
+
+-- the used count, where the pool has a quota
+abbrev pub used_count : (quota : Option ℕ) → CoreState → List ℕ
+used_count None core = []
+used_count (Some quota) core = codes "  " ++ right 4 (used_of core)
+
+-- free frames, the reserve count, what is owed to it, and the used count
 abbrev pub counts : CoreState → List ℕ
 counts core =
-    right 4 (free_of core) ++ (codes "  " ++ (right 4 (resv_of core) ++ (codes "  " ++ (right_signed 4 (owed_of core) ++ 10 ∷ []))))
+    right 4 (free_of core) ++ (codes "  "
+    ++ (right 4 (resv_of core) ++ (codes "  " ++ (right_signed 4 (owed_of core) ++ used_count (quota_of core) core))))
 
--- | the line's number | a column for each task | free | resv | owed |
-abbrev pub row_text : (widths : List ℕ) → (line : ℕ) → Happening → List ℕ
-row_text widths line h = right 7 line ++ (codes "  " ++ (cells widths h ++ counts h.core))
+-- | the line's number | a column for each task | free | resv | owed | used | tasks whose wait began, changed or ended |. Before the
+-- event they waited for these holders
+abbrev pub row_text : (widths : List ℕ) → (line : ℕ) → (before : List (Option ℕ)) → Happening → List ℕ
+row_text widths line before h =
+    right 7 line ++ (codes "  "
+    ++ (cells widths h.core h.event h.outcome ++ (counts h.core ++ (changes_text h.core before h.holders (config_of h.core).tasks ++ 10 ∷ []))))
 
 -- the rows of these lines, which begin with that one
-unfoldable pub rows_text : (widths : List ℕ) → (line : ℕ) → List Happening → List ℕ
-rows_text widths line [] = []
-rows_text widths line (h ∷ more) = row_text widths line h ++ rows_text widths (suc line) more
+unfoldable pub rows_text : (widths : List ℕ) → (line : ℕ) → (before : List (Option ℕ)) → List Happening → List ℕ
+rows_text widths line before [] = []
+rows_text widths line before (h ∷ more) = row_text widths line before h ++ rows_text widths (suc line) h.holders more
 
 -- what a call holds: `nothing`, `lock of file 0`, `slot 3, file 0 index 0`, `lock of file 0 and slot 3, file 0 index 0`
 abbrev pub held_text : CoreState → (slot : Option (ℕ × ℕ)) → (lock : Option ℕ) → List ℕ

@@ -1,5 +1,5 @@
 -- What is told of an event, in words.
-use Rattle.std.specs.Prelude.{ℕ, ◌==◌, List, ◌++◌, codes, if◌then◌else◌}
+use Rattle.std.specs.Prelude.{ℕ, ◌==◌, List, [], ◌++◌, Option, None, Some, codes, if◌then◌else◌}
 use Rattle.std.specs.Fmt.{decimal}
 use Rattle.hp_base.specs.Text.{event_text}
 use Rattle.hp_base.specs.declared.event.Event.{Event}
@@ -12,6 +12,7 @@ use Rattle.hp_core.specs.Readers.{config_of}
 use Rattle.hp_core.specs.Runs.{geometry}
 use Rattle.hp_core.specs.State.{CoreState}
 use Rattle.hp_core.specs.Acquiring.{acquired_of}
+use Rattle.hp_core.specs.Holding.{holding_of}
 use Rattle.hp_core.specs.declared.acquiring.Acquired.{Acquired}
 use Rattle.hp_core.specs.declared.acquiring.Acquired.TheVariants as wanted
 
@@ -35,10 +36,22 @@ wanted_text core (wanted.Slot file index) = slot_text core file index
 abbrev pub wanted_in : CoreState → (column : ℕ) → Acquired
 wanted_in core column = if column == 0 then wanted.Nothing else acquired_of core column
 
--- `blocked by 2: slot 3, file 0 index 0`, else the outcome as it is
+-- `, index 3` where a call holds the slot of that index, or else wants it
+abbrev pub index_text : (held : Option (ℕ × ℕ)) → Acquired → List ℕ
+index_text (Some at) wants = codes ", index " ++ decimal at.1
+index_text None wanted.Nothing = []
+index_text None (wanted.Lock file) = []
+index_text None (wanted.Slot file index) = codes ", index " ++ decimal index
+
+-- the index at which the call of the task in that column works
+abbrev pub index_in : CoreState → (column : ℕ) → List ℕ
+index_in core column = if column == 0 then [] else index_text (holding_of core column).slot (acquired_of core column)
+
+-- `moved taken, index 3`; `blocked by 2: slot 3, file 0 index 0`, else the outcome as it is
 abbrev pub outcome_words : CoreState → Event → Outcome → List ℕ
 outcome_words core event outcome.Begun = outcome_text outcome.Begun
-outcome_words core event (outcome.Moved phase) = outcome_text (outcome.Moved phase)
+outcome_words core event (outcome.Moved phase) =
+    outcome_text (outcome.Moved phase) ++ index_in core (column_of (config_of core).tasks event)
 outcome_words core event (outcome.Blocked holder) =
     codes "blocked by " ++ (decimal holder
     ++ (codes ": " ++ wanted_text core (wanted_in core (column_of (config_of core).tasks event))))

@@ -9,12 +9,12 @@ ghost use Rattle.hp_text.specs.Writing.{IsWriteFault};
 use crate::ending::write_end;
 use crate::measuring::measure;
 use crate::rows::{write_head, write_rows};
-use hp_core::Core;
+use crate::waits::Run;
 use hp_text::{MOST_EVENTS, ReplayFault, Sink, Source, Trace, read_trace};
 use std::alloc::Global;
 
-/// Writes a row for each event of the trace, with what came of it and the counts behind it, then a line for each call in
-/// flight, and those of the state. Nothing is tried again after an error.
+/// Writes a row for each event of the trace, with what came of it, the counts behind it, and the tasks whose wait began or ended by
+/// it, then a line for each call in flight, and those of the state. Nothing is tried again after an error.
 pub fn explain_trace<W: Sink>(
     alloc: Global,
     trace: &Trace,
@@ -32,10 +32,10 @@ pub fn explain_trace<W: Sink>(
     let widths = measure(alloc, trace, &mut cell)?;
     let widths = widths.as_slice();
     let events = trace.events.as_slice();
-    let mut core = Core::new(alloc, trace.config)?;
-    write_head(widths, &mut cell, &mut line, writer)?;
-    write_rows(widths, events, &mut core, &mut cell, &mut line, writer)?;
-    write_end(&core, &mut line, writer)
+    let mut run = Run::new(alloc, trace.config)?;
+    write_head(trace.config.quota, widths, &mut cell, &mut line, writer)?;
+    write_rows(widths, events, &mut run, &mut cell, &mut line, writer)?;
+    write_end(&run.core, &mut line, writer)
 }
 
 /// Reads the trace that the bytes spell, all of it, and then explains it.

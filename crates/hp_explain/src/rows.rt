@@ -1,12 +1,15 @@
 //! The rows of a run.
 ghost use Rattle.std.specs.Prelude.{◌≡◌, ◌≤◌, ◌++◌, ◌⊎◌, OnOk, IfErr, length, string_bytes};
 ghost use Rattle.hp_explain.specs.Explaining.{RowWritten, RowPartlyWritten, RowsWritten, RowsPartlyWritten};
-ghost use Rattle.hp_explain.specs.Rows.{cells, counts, head_text, row_text};
+ghost use Rattle.hp_explain.specs.Rows.{cells, counts, head_text, row_text, used_count};
+ghost use Rattle.hp_explain.specs.Waits.{AreHolders};
+ghost use Rattle.hp_core.specs.Readers.{config_of, quota_of};
 ghost use Rattle.hp_text.specs.Streams.{TellsWrites};
 ghost use Rattle.hp_text.specs.Writing.{IsWriteFault, Wrote};
 ghost use Rattle.std.specs.Io.KnownBytes.{Appends, Keeps};
 
 use crate::layout::{push_columns, push_titles};
+use crate::waits::{Run, push_changes};
 use crate::words::lay_cell;
 use hp_base::Event;
 use hp_core::{Core, Outcome};
@@ -15,27 +18,37 @@ use std::alloc::AllocError;
 
 /// Writes what stands over the rows.
 pub(crate) fn write_head<W: Sink>(
+    quota: Option<u32>,
     widths: &[usize],
     word: &mut String,
     line: &mut String,
     writer: &mut W,
 ) -> Result<(), ReplayFault>
-    ensures ok { OnOk result (Appends (W.contents writer.old) (W.contents writer.new) (head_text widths.now)) }
+    ensures ok { OnOk result (Appends (W.contents writer.old) (W.contents writer.new) (head_text quota widths.now)) }
     ensures err { IfErr result (λ fault. IsWriteFault fault
-        × Wrote (W.contents writer.old) (W.contents writer.new) (head_text widths.now)) }
+        × Wrote (W.contents writer.old) (W.contents writer.new) (head_text quota widths.now)) }
     ensures writes { TellsWrites result (W.failures writer.old) (W.failures writer.new) }
 {
-    lay_head(widths, word, line)?;
+    lay_head(quota, widths, word, line)?;
     write_text(writer, line.as_bytes())
 }
 
-fn lay_head(widths: &[usize], word: &mut String, line: &mut String) -> Result<(), AllocError>
-    ensures { OnOk result (string_bytes line.new ≡ head_text widths.now) }
+fn lay_head(
+    quota: Option<u32>,
+    widths: &[usize],
+    word: &mut String,
+    line: &mut String,
+) -> Result<(), AllocError>
+    ensures { OnOk result (string_bytes line.new ≡ head_text quota widths.now) }
 {
     line.clear();
     line.push_str("   line  ")?;
     push_titles(widths, word, line)?;
-    line.push_str("free  resv  owed\n")
+    line.push_str("free  resv  owed")?;
+    match quota {
+        Some(_) => line.push_str("  used\n"),
+        None => line.push_str("\n"),
+    }
 }
 
 /// Appends the event and what came of it, in the column of its task. `cell` is where it is laid out.
@@ -48,7 +61,7 @@ fn push_cells(
     row: &mut String,
 ) -> Result<(), AllocError>
     ensures { OnOk result (string_bytes row.new ≡ string_bytes row.old
-        ++ cells widths.now (record { event = event.now; outcome = outcome; core = core.now })) }
+        ++ cells widths.now core.now event.now outcome) }
 {
     lay_cell(core, event, outcome, cell)?;
     let config = core.config();
@@ -60,33 +73,51 @@ fn push_cells(
     )
 }
 
-/// Appends free frames, the reserve count, and what is owed to it.
+/// Appends the used count, where the pool has a quota.
+fn push_used(core: &Core, row: &mut String) -> Result<(), AllocError>
+    ensures { OnOk result (string_bytes row.new ≡ string_bytes row.old ++ used_count (quota_of core.now) core.now) }
+{
+    match core.quota() {
+        Some(_) => {
+            let used = core.used();
+            write!(row, "  {used:>4}")
+        }
+        None => Ok(()),
+    }
+}
+
+/// Appends free frames, the reserve count, what is owed to it, and the used count.
 fn push_counts(core: &Core, row: &mut String) -> Result<(), AllocError>
     ensures { OnOk result (string_bytes row.new ≡ string_bytes row.old ++ counts core.now) }
 {
     let free = core.free();
     let resv = core.resv();
     let owed = core.owed();
-    writeln!(row, "{free:>4}  {resv:>4}  {owed:>4}")
+    write!(row, "{free:>4}  {resv:>4}  {owed:>4}")?;
+    push_used(core, row)
 }
 
-/// Lays out the row of an event. `core` is the one that it led to.
+/// Lays out the row of an event, which led to where the run stands.
 fn lay_row(
     widths: &[usize],
     line: u32,
-    core: &Core,
+    run: &Run,
     event: &Event,
     outcome: Outcome,
     cell: &mut String,
     row: &mut String,
 ) -> Result<(), AllocError>
-    ensures { OnOk result (string_bytes row.new
-        ≡ row_text widths.now line (record { event = event.now; outcome = outcome; core = core.now })) }
+    requires before { length run.now.before.items ≡ (config_of run.now.core).tasks }
+    requires holders { length run.now.holders.items ≡ (config_of run.now.core).tasks }
+    ensures { OnOk result (string_bytes row.new ≡ row_text widths.now line run.now.before.items
+        (record { event = event.now; outcome = outcome; core = run.now.core; holders = run.now.holders.items })) }
 {
     row.clear();
     write!(row, "{line:>7}  ")?;
-    push_cells(widths, core, event, outcome, cell, row)?;
-    push_counts(core, row)
+    push_cells(widths, &run.core, event, outcome, cell, row)?;
+    push_counts(&run.core, row)?;
+    push_changes(&run.core, run.before.as_slice(), run.holders.as_slice(), row)?;
+    row.push('\n')
 }
 
 /// Lets an event happen, and writes its row.
@@ -94,18 +125,21 @@ fn write_row<W: Sink>(
     widths: &[usize],
     line: u32,
     event: Event,
-    core: &mut Core,
+    run: &mut Run,
     cell: &mut String,
     row: &mut String,
     writer: &mut W,
 ) -> Result<(), ReplayFault>
-    ensures ok { OnOk result (RowWritten widths.now line event core.old core.new (W.contents writer.old) (W.contents writer.new)) }
+    requires { length run.old.holders.items ≡ (config_of run.old.core).tasks }
+    ensures ok { OnOk result (RowWritten widths.now line event run.old.core run.new.core run.old.holders.items run.new.holders.items
+        (W.contents writer.old) (W.contents writer.new)) }
     ensures err { IfErr result (λ fault. IsWriteFault fault × (Keeps (W.contents writer.old) (W.contents writer.new)
-        ⊎ RowPartlyWritten widths.now line event core.old (W.contents writer.old) (W.contents writer.new))) }
+        ⊎ RowPartlyWritten widths.now line event run.old.core run.old.holders.items (W.contents writer.old) (W.contents writer.new))) }
+    ensures holders { OnOk result (AreHolders run.new.core run.new.holders.items) }
     ensures writes { TellsWrites result (W.failures writer.old) (W.failures writer.new) }
 {
-    let outcome = core.step(event)?;
-    lay_row(widths, line, core, &event, outcome, cell, row)?;
+    let outcome = run.happen(event)?;
+    lay_row(widths, line, run, &event, outcome, cell, row)?;
     write_text(writer, row.as_bytes())
 }
 
@@ -113,20 +147,22 @@ fn write_row<W: Sink>(
 pub(crate) fn write_rows<W: Sink>(
     widths: &[usize],
     events: &[Event],
-    core: &mut Core,
+    run: &mut Run,
     cell: &mut String,
     row: &mut String,
     writer: &mut W,
 ) -> Result<(), ReplayFault>
-    requires { length events.now ≤ MOST_EVENTS }
-    ensures ok { OnOk result (RowsWritten widths.now 2 events.now core.old core.new (W.contents writer.old) (W.contents writer.new)) }
+    requires few { length events.now ≤ MOST_EVENTS }
+    requires holders { AreHolders run.old.core run.old.holders.items }
+    ensures ok { OnOk result (RowsWritten widths.now 2 events.now run.old.core run.new.core run.old.holders.items
+        (W.contents writer.old) (W.contents writer.new)) }
     ensures err { IfErr result (λ fault. IsWriteFault fault
-        × RowsPartlyWritten widths.now 2 events.now core.old (W.contents writer.old) (W.contents writer.new)) }
+        × RowsPartlyWritten widths.now 2 events.now run.old.core run.old.holders.items (W.contents writer.old) (W.contents writer.new)) }
     ensures writes { TellsWrites result (W.failures writer.old) (W.failures writer.new) }
 {
     let mut line = 2;
     for event in events {
-        write_row(widths, line, *event, core, cell, row, writer)?;
+        write_row(widths, line, *event, run, cell, row, writer)?;
         line += 1;
     }
     Ok(())

@@ -1,7 +1,7 @@
 //! What came of an event, in words.
-ghost use Rattle.std.specs.Prelude.{◌≡◌, ◌≤◌, ◌++◌, OnOk, string_bytes};
+ghost use Rattle.std.specs.Prelude.{◌≡◌, ◌≤◌, ◌++◌, Option, OnOk, string_bytes};
 ghost use Rattle.hp_core.specs.Readers.{config_of};
-ghost use Rattle.hp_explain.specs.Words.{cell_text, lock_text, slot_text, outcome_words, wanted_in, wanted_text};
+ghost use Rattle.hp_explain.specs.Words.{cell_text, index_in, index_text, lock_text, slot_text, outcome_words, wanted_in, wanted_text};
 
 use hp_base::{Event, File, Index, Task};
 use hp_core::{Acquired, Core, Outcome};
@@ -48,7 +48,36 @@ fn wanted_in(core: &Core, column: u32) -> Acquired
     core.acquiring(Task::new(column))
 }
 
-/// Appends what came of an event: the outcome, and where a step was blocked, by whom and on what.
+/// Appends the index whose slot a call holds, or else wants.
+fn push_index(
+    held: Option<(File, Index)>,
+    wanted: Acquired,
+    text: &mut String,
+) -> Result<(), AllocError>
+    ensures { OnOk result (string_bytes text.new ≡ string_bytes text.old ++ index_text held wanted) }
+{
+    match (held, wanted) {
+        (Some((_, index)), _) | (None, Acquired::Slot(_, index)) => {
+            write!(text, ", index {index}")
+        }
+        (None, Acquired::Nothing | Acquired::Lock(_)) => Ok(()),
+    }
+}
+
+/// Appends the index at which the call of the task in that column works.
+fn push_index_in(core: &Core, column: u32, text: &mut String) -> Result<(), AllocError>
+    requires { column ≤ (config_of core.now).tasks }
+    ensures { OnOk result (string_bytes text.new ≡ string_bytes text.old ++ index_in core.now column) }
+{
+    if column == 0 {
+        return Ok(());
+    }
+    let task = Task::new(column);
+    push_index(core.holding(task).slot, core.acquiring(task), text)
+}
+
+/// Appends what came of an event: the outcome; where a step was made, the index at which the call works; and where one was blocked,
+/// by whom and on what.
 fn push_outcome(
     core: &Core,
     event: &Event,
@@ -63,6 +92,11 @@ fn push_outcome(
             let wanted = wanted_in(core, column_of(config.tasks, event));
             write!(text, "blocked by {holder}: ")?;
             push_acquired(core, wanted, text)
+        }
+        Outcome::Moved(_) => {
+            let config = core.config();
+            write!(text, "{outcome}")?;
+            push_index_in(core, column_of(config.tasks, event), text)
         }
         _ => write!(text, "{outcome}"),
     }

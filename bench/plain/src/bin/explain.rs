@@ -72,6 +72,35 @@ fn owed(pool: &Pool) -> i64 {
     i64::from(pool.resv) - vacant
 }
 
+// whether the call has its slot, or wants it
+fn works(call: &Call) -> bool {
+    use Phase::*;
+    match call.kind {
+        Kind::Load | Kind::Store => call.phase != Look,
+        Kind::Alloc => !matches!(call.phase, Start | Head | Extend | Leave),
+        Kind::Punch => !matches!(call.phase, Start | Leave),
+        Kind::Truncate => !matches!(call.phase, Start | Size | Tail | Settle | Leave),
+        _ => false,
+    }
+}
+
+fn blockers(pool: &Pool) -> Vec<Option<u32>> {
+    (1..=pool.tasks.len() as u32).map(|task| pool.blocker(task)).collect()
+}
+
+// the tasks that wait for another than before
+fn changes(sizes: &Sizes, pool: &Pool, before: &[Option<u32>], after: &[Option<u32>]) -> String {
+    let told = |(at, (before, after)): (usize, (&Option<u32>, &Option<u32>))| match after {
+        _ if before == after => String::new(),
+        None => format!("  task {} waits no more", at + 1),
+        Some(holder) => {
+            let call = pool.tasks[at].call.expect("a call in flight");
+            format!("  task {} waits for {holder}: {}", at + 1, wanted(sizes.slots, &call))
+        }
+    };
+    before.iter().zip(after).enumerate().map(told).collect()
+}
+
 struct Row {
     column: usize,
     cell: String,
@@ -79,6 +108,7 @@ struct Row {
 }
 
 fn run(sizes: &Sizes, pool: &mut Pool, lines: &[&str]) -> Vec<Row> {
+    let mut before = blockers(pool);
     lines
         .iter()
         .map(|line| {
@@ -89,9 +119,17 @@ fn run(sizes: &Sizes, pool: &mut Pool, lines: &[&str]) -> Vec<Row> {
                     let call = pool.tasks[column - 1].call.expect("a call in flight");
                     format!("blocked by {holder}: {}", wanted(sizes.slots, &call))
                 }
+                Outcome::Moved(phase) => {
+                    let call = pool.tasks[column - 1].call.filter(works);
+                    outcome_words(&Outcome::Moved(phase)) + &call.map_or(String::new(), |call| format!(", index {}", call.index))
+                }
                 outcome => outcome_words(&outcome),
             };
-            let counts = format!("{:>4}  {:>4}  {:>4}", pool.free.len(), pool.resv, owed(pool));
+            let used = pool.quota.map_or(String::new(), |_| format!("  {:>4}", pool.used));
+            let after = blockers(pool);
+            let waits = changes(sizes, pool, &before, &after);
+            before = after;
+            let counts = format!("{:>4}  {:>4}  {:>4}{used}{waits}", pool.free.len(), pool.resv, owed(pool));
             Row { column, cell: format!("{line}: {told}"), counts }
         })
         .collect()
@@ -114,7 +152,8 @@ fn main() -> io::Result<()> {
     let across = |word: &dyn Fn(usize) -> String| -> String {
         shown.iter().map(|column| format!("{:<width$} ", word(*column), width = widths[*column])).collect()
     };
-    writeln!(out, "   line  {}free  resv  owed", across(&title))?;
+    let used = if sizes.quota.is_some() { "  used" } else { "" };
+    writeln!(out, "   line  {}free  resv  owed{used}", across(&title))?;
     for (at, row) in rows.iter().enumerate() {
         let cells = across(&|column| if column == row.column { row.cell.clone() } else { String::new() });
         writeln!(out, "{:>7}  {cells}{}", at + 2, row.counts)?;

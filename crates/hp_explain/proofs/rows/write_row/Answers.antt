@@ -1,14 +1,27 @@
+use Rattle.std.proofs.Common.{List, ap, ◌∙◌}
+use Rattle.std.specs.Prelude.{Option, ℕ}
+use Rattle.hp_explain.specs.Rows.{row_text}
 use Rattle.hp_explain.proofs.Happenings.{row_written, row_stopped}
 use Rattle.hp_explain.proofs.rows.write_row.Goals as goal
 
 pub returns-clause-ok : goal.returns-clause-ok
 returns-clause-ok g c =
-    row_written c.write_text.result c.args.widths.now c.args.line c.args.event c.in_ok-outcome.outcome c.args.core.now
-    c.step.new.self _ _ _ _
-    c.in_ok-outcome.ensures.row c.as_bytes.ensures.value c.in_ok-lay_row.ensures c.write_text.ensures.ok
+    row_written c.write_text.result c.args.widths.now c.args.line c.args.event c.in_ok-outcome.outcome c.args.run.now.core
+    c.happen.new.self.core c.args.run.now.holders.items c.happen.new.self.holders.items _ _ _ _
+    c.in_ok-outcome.ensures.row c.in_ok-outcome.ensures.holders c.as_bytes.ensures.value
+    (c.in_ok-lay_row.ensures
+    ∙ ap (λ (w : List (Option ℕ)). row_text c.args.widths.now c.args.line w (record {
+      event = c.args.event; outcome = c.in_ok-outcome.outcome; core = c.happen.new.self.core; holders = c.happen.new.self.holders.items
+    })) c.in_ok-outcome.ensures.before)
+    c.write_text.ensures.ok
 
 pub returns-clause-err : goal.returns-clause-err
 returns-clause-err g c =
-    row_stopped c.write_text.result c.args.widths.now c.args.line c.args.event c.in_ok-outcome.outcome c.args.core.now
-    c.step.new.self _ _ _ _
-    c.in_ok-outcome.ensures.row c.as_bytes.ensures.value c.in_ok-lay_row.ensures c.write_text.ensures.front
+    row_stopped c.write_text.result c.args.widths.now c.args.line c.args.event c.in_ok-outcome.outcome c.args.run.now.core
+    c.happen.new.self.core c.args.run.now.holders.items c.happen.new.self.holders.items _ _ _ _
+    c.in_ok-outcome.ensures.row c.in_ok-outcome.ensures.holders c.as_bytes.ensures.value
+    (c.in_ok-lay_row.ensures
+    ∙ ap (λ (w : List (Option ℕ)). row_text c.args.widths.now c.args.line w (record {
+      event = c.args.event; outcome = c.in_ok-outcome.outcome; core = c.happen.new.self.core; holders = c.happen.new.self.holders.items
+    })) c.in_ok-outcome.ensures.before)
+    c.write_text.ensures.front

@@ -5,14 +5,21 @@ use Rattle.hp_explain.proofs.Happenings.{no_row, one_row, all_rows, stopped_at}
 use Rattle.hp_explain.proofs.rows.write_rows.Goals as goal
 
 pub loop-event-init : goal.loop-event-init
-loop-event-init g c = (no_row c.args.widths.now c.args.events.now c.args.core.now (g.W.Sink.contents c.args.writer.now), refl, refl)
+loop-event-init g c = (
+  no_row c.args.widths.now c.args.events.now c.args.run.now.core c.args.run.now.holders.items (g.W.Sink.contents c.args.writer.now),
+  refl,
+  refl,
+  c.args.requires.holders,
+)
 
 pub loop-event-preserved : goal.loop-event-preserved
 loop-event-preserved g c = (
-  one_row c.args.widths.now c.args.events.now c.loop-event.event-index c.loop-event.line _ c.args.core.now c.loop-event.core _ _ _ _
-      c.loop-event-test.true c.event-item.is c.loop-event.invariant.1 c.loop-event.invariant.0 c.in_ok-write_row.ensures.ok,
+  one_row c.args.widths.now c.args.events.now c.loop-event.event-index c.loop-event.line _ c.args.run.now.core c.loop-event.run.core _
+      _ _ _ _ _ _ c.loop-event-test.true c.event-item.is c.loop-event.invariant.1 c.loop-event.invariant.0
+      c.in_ok-write_row.ensures.ok,
   omega (arith, c.loop-event.invariant.1),
   c.in_ok-write_row.ensures.writes ∙ c.loop-event.invariant.2,
+  c.in_ok-write_row.ensures.holders,
 )
 
 pub returns-in_err-write_row-clause-err : goal.returns-in_err-write_row-clause-err
@@ -20,8 +27,9 @@ returns-in_err-write_row-clause-err g c =
     let p = err_from_is_err_and c.from_residual.result c.from_residual.ensures.1 in
     rw (p.1, p.2) (
       c.in_err-write_row.ensures.err.0,
-      stopped_at c.args.widths.now c.args.events.now c.loop-event.event-index c.loop-event.line _ c.args.core.now c.loop-event.core _ _ _
-          c.loop-event-test.true c.event-item.is c.loop-event.invariant.1 c.loop-event.invariant.0 c.in_err-write_row.ensures.err.1,
+      stopped_at c.args.widths.now c.args.events.now c.loop-event.event-index c.loop-event.line _ c.args.run.now.core c.loop-event.run.core
+          _ _ _ _ _ c.loop-event-test.true c.event-item.is c.loop-event.invariant.1 c.loop-event.invariant.0
+          c.in_err-write_row.ensures.err.1,
     )
 
 pub returns-in_err-write_row-clause-writes : goal.returns-in_err-write_row-clause-writes
@@ -31,5 +39,5 @@ returns-in_err-write_row-clause-writes g c =
 
 pub returns-clause-ok : goal.returns-clause-ok
 returns-clause-ok g c =
-    all_rows c.args.widths.now c.args.events.now c.loop-event.event-index c.args.core.now c.loop-event.core _ _
+    all_rows c.args.widths.now c.args.events.now c.loop-event.event-index c.args.run.now.core c.loop-event.run.core _ _ _ _
     c.loop-event-test.false c.loop-event.invariant.0

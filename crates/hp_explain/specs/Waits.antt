@@ -1,0 +1,40 @@
+-- Whom tasks wait for, and what is told where that changes.
+use Rattle.std.specs.Prelude.{◌≡◌, ℕ, zero, suc, ◌-◌, ◌≤◌, ◌==◌, List, [], ◌++◌, Option, None, Some, codes, length}
+use Rattle.std.specs.Prelude.{if◌then◌else◌, slice_index_or}
+use Rattle.std.specs.Fmt.{decimal}
+use Rattle.hp_core.specs.Acquiring.{acquired_of}
+use Rattle.hp_core.specs.Readers.{config_of}
+use Rattle.hp_core.specs.State.{CoreState}
+use Rattle.hp_core.specs.Waiting.{WaitsFor}
+use Rattle.hp_explain.specs.Words.{wanted_text}
+
+-- for each task of these holders, from task 1 on, the one by whom its next step would be blocked, if it would be by anybody
+unfoldable pub AreHoldersOf : CoreState → List (Option ℕ) → Type 0
+AreHoldersOf core holders = (t : ℕ) (d : Option ℕ) → 1 ≤ t → t ≤ length holders → WaitsFor core t (slice_index_or holders (t - 1) d)
+
+-- of all tasks
+abbrev pub AreHolders : CoreState → List (Option ℕ) → Type 0
+AreHolders core holders = (length holders ≡ (config_of core).tasks) × AreHoldersOf core holders
+
+-- `  task 2 waits for 1: slot 3, file 0 index 3`
+abbrev pub wait_text : CoreState → (task holder : ℕ) → List ℕ
+wait_text core task holder =
+    codes "  task " ++ (decimal task
+    ++ (codes " waits for " ++ (decimal holder ++ (codes ": " ++ wanted_text core (acquired_of core task)))))
+
+-- `  task 2 waits no more`
+abbrev pub end_of_wait_text : (task : ℕ) → List ℕ
+end_of_wait_text task = codes "  task " ++ (decimal task ++ codes " waits no more")
+
+-- what is told of a task that waited for one holder, and now waits for another: where its wait began, changed or ended
+abbrev pub change_text : CoreState → (task : ℕ) → (before after : Option ℕ) → List ℕ
+change_text core task None None = []
+change_text core task None (Some holder) = wait_text core task holder
+change_text core task (Some holder) None = end_of_wait_text task
+change_text core task (Some earlier) (Some holder) = if earlier == holder then [] else wait_text core task holder
+
+-- of the first n tasks
+unfoldable pub changes_text : CoreState → (before after : List (Option ℕ)) → (n : ℕ) → List ℕ
+changes_text core before after zero = []
+changes_text core before after (suc n) =
+    changes_text core before after n ++ change_text core (suc n) (slice_index_or before n None) (slice_index_or after n None)
