@@ -38,7 +38,7 @@ gained_none task op old new had same =
 
 refused_nothing : (task : ℕ) (op : Op) (why : Refusal) (old new : List Entry) → CallRefused task op why old new
     → length new ≡ length old → new ≡ old
-refused_nothing task op why old new (inl is) same = is.2.1
+refused_nothing task op why old new (inl is) same = is.2
 refused_nothing task op why old new (inr (inl is)) same = is.1
 refused_nothing task op why old new (inr (inr had)) same = gained_none task op old new had.1 same
 

@@ -1,19 +1,24 @@
 -- What a list gained, and a hold more.
 use Rattle.std.proofs.Common.{◌≡◌, ℕ, zero, suc, ◌+◌, ◌<◌, List, [], ◌∷◌, ◌++◌, Bool, refl, sym, ap, ◌∙◌, append_assoc, arith}
-use Rattle.std.proofs.Common.{length, subst}
+use Rattle.std.proofs.Common.{length, subst, inr}
 use Rattle.std.proofs.lemmas.List.{append-nil}
 use Rattle.std.proofs.lemmas.List.Elements.{All-append}
-use Rattle.std.specs.Prelude.{All, slice_get, Some}
+use Rattle.std.specs.Prelude.{All, slice_get, Some, true, Result, Ok, Err, IfOk}
 use Rattle.hp_base.specs.declared.event.Op.{Op}
 use Rattle.hp_base.specs.declared.answer.Answer.{Answer}
 use Rattle.hp_base.specs.declared.event.Event.TheVariants.{Begin, Step}
 use Rattle.hp_machine.specs.declared.phase.Phase.{Phase}
 use Rattle.hp_machine.specs.declared.phase.Phase.TheVariants.{Start}
+use Rattle.hp_machine.specs.declared.outcome.Outcome.{Outcome}
 use Rattle.hp_machine.specs.declared.outcome.Outcome.TheVariants.{Begun, Moved, Ended}
 use Rattle.hp_shared.specs.declared.entry.Entry.{Entry}
 use Rattle.hp_shared.specs.Journal.{entry}
-use Rattle.hp_shared.specs.Calls.{Gained, AllMoved, AreAnswered, IsAnswered, MovedToEnd, BegunThen, StepMoved, phase_after, phase_from, phase_of}
+use Rattle.hp_shared.specs.Calls.{Gained, AllMoved, AreAnswered, MovedToEnd, BegunThen, StepMoved, phase_after, phase_from, phase_of}
+use Rattle.hp_shared.specs.Replies.{IsCall, Steps}
 use Rattle.hp_shared.specs.Seats.{new_seat}
+use Rattle.hp_shared.specs.declared.fault.CallFault.{CallFault}
+use Rattle.hp_shared.specs.declared.fault.Reply.{Reply}
+use Rattle.hp_shared.specs.declared.fault.Reply.TheVariants as reply
 use Rattle.hp_shared.specs.States.{SeatState}
 
 all_one : (P : Entry → Type 0) (x : Entry) → P x → All P (x ∷ [])
@@ -80,10 +85,34 @@ answered_more may old mid now had more =
       answered_on may (phase_of old) had.0 more.0 had.2 (subst (λ (p : Phase). AreAnswered may p more.0) there more.2),
     )
 
--- one entry more
-pub answered_one : (may : Phase → Bool → Bool) (old now : List Entry) (e : Entry) → IsAnswered may (phase_of old) e.event
-    → now ≡ old ++ e ∷ [] → Gained old now (AreAnswered may (phase_of old))
-answered_one may old now e answer is = (e ∷ [], is, (answer, tt))
+-- a step more, for which the gate was asked where the call stood
+pub answered_step : (may : Phase → Bool → Bool) (old mid now : List Entry) (p t : ℕ) (at : Phase) (grant : Bool) (o : Outcome)
+    → Gained old mid (AreAnswered may (phase_of old)) → at ≡ phase_of mid → may at grant ≡ true
+    → now ≡ mid ++ entry p (Step t grant) o ∷ [] → Gained old now (AreAnswered may (phase_of old))
+answered_step may old mid now p t at grant o had there answer is =
+    answered_more may old mid now had
+    (entry p (Step t grant) o ∷ [], is, (subst (λ (q : Phase). may q grant ≡ true) there answer, tt))
+
+-- or a begin before it
+pub answered_begun : (may : Phase → Bool → Bool) (old mid now : List Entry) (p t : ℕ) (op : Op)
+    → mid ≡ old ++ entry p (Begin t op) Begun ∷ [] → Gained mid now (AreAnswered may (phase_of mid))
+    → Gained old now (AreAnswered may (phase_of old))
+answered_begun may old mid now p t op is more =
+    answered_more may old mid now (entry p (Begin t op) Begun ∷ [], is, (tt, tt)) more
+
+-- what the steps behind a begin came to
+call_replied : (task t : ℕ) (op : Op) (said : Reply) (old mid now : List Entry) (p : ℕ) → t ≡ task
+    → mid ≡ old ++ entry p (Begin t op) Begun ∷ [] → Gained mid now (Steps task said) → IsCall task op said old now
+call_replied task t op (reply.Ended answer) old mid now p same is had =
+    gained_begun task t op old mid now p (MovedToEnd task answer) same is had
+call_replied task t op (reply.Refused why) old mid now p same is had =
+    inr (inr (had.2.1, gained_begun task t op old mid now p (AllMoved task) same is (had.0, had.1, had.2.0)))
+
+pub call_went_on : (r : Result Reply CallFault) (task t : ℕ) (op : Op) (old mid now : List Entry) (p : ℕ) → t ≡ task
+    → mid ≡ old ++ entry p (Begin t op) Begun ∷ [] → IfOk r (λ said. Gained mid now (Steps task said))
+    → IfOk r (λ said. IsCall task op said old now)
+call_went_on (Ok said) task t op old mid now p same is had = call_replied task t op said old mid now p same is had
+call_went_on (Err fault) task t op old mid now p same is had = tt
 
 one_more : (f : ℕ → SeatState) (items : List SeatState) (x : SeatState)
     → ((j : ℕ) → j < length items → slice_get items j ≡ Some (f j)) → x ≡ f (length items)

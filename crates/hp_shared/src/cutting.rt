@@ -4,7 +4,7 @@ ghost use Rattle.hp_core.specs.Readers.{calls_of, config_of};
 ghost use Rattle.hp_shared.specs.Closing.{ClosesWith};
 ghost use Rattle.hp_shared.specs.Cutting.{IsAtRest, IsCut, RefusesCut, NoneInFlight, LeastInFlight, is_in_flight};
 ghost use Rattle.hp_shared.specs.Cutting.{is_seat_in_call, emptied};
-ghost use Rattle.hp_shared.specs.Journal.{Interleaves, IsCameTo};
+ghost use Rattle.hp_shared.specs.Journal.{Interleaves};
 ghost use Rattle.hp_shared.specs.Seats.{lists_of};
 ghost use Rattle.hp_shared.specs.States.{next};
 
@@ -84,10 +84,8 @@ impl<L: Ledger> Pool<L> {
         ensures first { IfOk result (λ part. part.first ≡ self.old.first) }
         ensures entries { IfOk result (λ part. part.entries.items ≡ self.old.journal) }
         ensures refused { IfErr result (λ fault. RefusesCut self.old seats.old fault) }
-        ensures came { IsCameTo self.old.core }
         ensures err { OnErr result ((self.new ≡ self.old) × (seats.new ≡ seats.old)) }
     {
-        self.always();
         self.is_ready_to_cut(alloc, seats)?;
         self.core.always();
         self.core.is_reached();

@@ -181,7 +181,9 @@ impl<L: Ledger> Shared<L> {
         ensures refused { IfErr result (λ fault. MayRefuseCut seats.old fault) }
         ensures err { OnErr result (seats.new ≡ seats.old) }
     {
-        self.pool.lock(rt).cut(alloc, seats)
+        let mut pool = self.pool.lock(rt);
+        pool.always();
+        pool.cut(alloc, seats)
     }
 
     /// Ends the pool, where the seats are all there and their lists make up one run of a pool of this config. It asks first whether

@@ -8,5 +8,5 @@ invariant-steps g l = record {
   task : l.task ≡ l.fn.seat.task;
   earlier : l.seat.earlier ≡ l.fn.seat.earlier;
   moved : Gained l.fn.seat.list l.seat.list (AllMoved l.fn.seat.task);
-  answered : Gained l.fn.seat.list l.seat.list (AreAnswered (g.G.Gate.may_answer l.gate.now) (phase_of l.fn.seat.list));
+  answered : Gained l.fn.seat.list l.seat.list (AreAnswered (g.G.Gate.may_answer l.gate) (phase_of l.fn.seat.list));
 }
