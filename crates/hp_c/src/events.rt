@@ -48,11 +48,7 @@ fn tell(core: &mut Core, event: Event, was_held_back: bool) -> Result<OutcomeWor
 }
 
 /// The event of the core that the numbers name.
-fn happen(
-    core: &mut Core,
-    event: EventWords,
-    was_held_back: bool,
-) -> Result<OutcomeWords, u32>
+fn happen(core: &mut Core, event: EventWords, was_held_back: bool) -> Result<OutcomeWords, u32>
     ensures ok { IfOk result (λ words. Happened (Some core.old) (event_named event) words (Some core.new)) }
     ensures err { IfErr result (λ code. core.new ≡ core.old) }
     ensures code { IfErr result (λ code. IsEventRefused (Some core.old) (event_named event) code) }

@@ -2,4 +2,4 @@ pub mod Laying
 pub mod Widths
 pub mod Happenings
 pub mod Texts
-pub mod Waits
+pub mod Holders

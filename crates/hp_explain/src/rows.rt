@@ -116,7 +116,12 @@ fn lay_row(
     write!(row, "{line:>7}  ")?;
     push_cells(widths, &run.core, event, outcome, cell, row)?;
     push_counts(&run.core, row)?;
-    push_changes(&run.core, run.before.as_slice(), run.holders.as_slice(), row)?;
+    push_changes(
+        &run.core,
+        run.before.as_slice(),
+        run.holders.as_slice(),
+        row,
+    )?;
     row.push('\n')
 }
 

@@ -111,7 +111,13 @@ pub(crate) fn push_changes(
     let config = core.config();
     for number in 0..config.tasks {
         let place = number as usize;
-        push_change(core, Task::new(number + 1), before[place], after[place], row)?;
+        push_change(
+            core,
+            Task::new(number + 1),
+            before[place],
+            after[place],
+            row,
+        )?;
     }
     Ok(())
 }

@@ -1,6 +1,6 @@
 -- Calls that are made one after the other.
 use Rattle.std.proofs.Common.{◌≡◌, ℕ, suc, ◌+◌, add-one, drop-cons, get_or, ◌<◌, List, [], ◌∷◌, ◌++◌, Bool, refl, sym, ap}
-use Rattle.std.proofs.Common.{subst, ◌∙◌, length, length-append, arith, take, drop, ◌≤◌, inl, inr, ◌⊎◌}
+use Rattle.std.proofs.Common.{subst, ◌∙◌, length, length-append, arith, take, drop, ◌≤◌, inl, inr}
 use Rattle.std.specs.Prelude.{true, false, not, filter, ◌||◌, ◌==◌, MatchBool, All, Some, slice_get}
 use Rattle.std.specs.List.{Any, list_any}
 use Rattle.std.proofs.lemmas.List.Filters.{length-filter_both}

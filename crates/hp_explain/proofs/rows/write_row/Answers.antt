@@ -11,7 +11,10 @@ returns-clause-ok g c =
     c.in_ok-outcome.ensures.row c.in_ok-outcome.ensures.holders c.as_bytes.ensures.value
     (c.in_ok-lay_row.ensures
     ∙ ap (λ (w : List (Option ℕ)). row_text c.args.widths.now c.args.line w (record {
-      event = c.args.event; outcome = c.in_ok-outcome.outcome; core = c.happen.new.self.core; holders = c.happen.new.self.holders.items
+      event = c.args.event;
+      outcome = c.in_ok-outcome.outcome;
+      core = c.happen.new.self.core;
+      holders = c.happen.new.self.holders.items;
     })) c.in_ok-outcome.ensures.before)
     c.write_text.ensures.ok
 
@@ -22,6 +25,9 @@ returns-clause-err g c =
     c.in_ok-outcome.ensures.row c.in_ok-outcome.ensures.holders c.as_bytes.ensures.value
     (c.in_ok-lay_row.ensures
     ∙ ap (λ (w : List (Option ℕ)). row_text c.args.widths.now c.args.line w (record {
-      event = c.args.event; outcome = c.in_ok-outcome.outcome; core = c.happen.new.self.core; holders = c.happen.new.self.holders.items
+      event = c.args.event;
+      outcome = c.in_ok-outcome.outcome;
+      core = c.happen.new.self.core;
+      holders = c.happen.new.self.holders.items;
     })) c.in_ok-outcome.ensures.before)
     c.write_text.ensures.front
