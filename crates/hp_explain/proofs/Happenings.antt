@@ -26,7 +26,7 @@ happens_more old mid new [] h is happened to = (subst (λ (s : CoreState). Happe
 happens_more old mid new (k ∷ list) h is happened to = (is.0, happens_more k.core mid new list h is.1 happened to)
 
 -- whom tasks wait for behind these, who waited for those
-pub waits_after : (waited : List (Option ℕ)) → List Happening → List (Option ℕ)
+abbrev pub waits_after : (waited : List (Option ℕ)) → List Happening → List (Option ℕ)
 waits_after waited [] = waited
 waits_after waited (h ∷ more) = waits_after h.holders more
 

@@ -1,12 +1,16 @@
 -- Columns that are laid out one by one.
 use Rattle.std.proofs.Common.{◌≡◌, ℕ, suc, ◌+◌, List, ◌∷◌, [], ◌++◌, sym, ap, ◌∙◌, append_assoc, add-one}
-use Rattle.std.specs.Prelude.{◌==◌, Option, None, slice_index_or}
+use Rattle.std.specs.Prelude.{◌==◌, Option, None, Result, Ok, Err, OnOk, codes, slice_index_or}
+use Rattle.std.specs.Fmt.{decimal}
 use Rattle.std.proofs.lemmas.List.{append-nil}
+use Rattle.hp_core.specs.Acquiring.{acquired_of}
 use Rattle.hp_core.specs.Readers.{phase_of}
 use Rattle.hp_core.specs.State.{CoreState}
+use Rattle.hp_core.specs.declared.acquiring.Acquired.{Acquired}
 use Rattle.hp_explain.specs.Layout.{spaces, column, columns, titled, titles}
 use Rattle.hp_explain.specs.Rows.{calls_text, if_in_flight}
-use Rattle.hp_explain.specs.Waits.{change_text, changes_text}
+use Rattle.hp_explain.specs.Waits.{change_text, changes_text, wait_text}
+use Rattle.hp_explain.specs.Words.{wanted_text}
 
 -- a part more of a text that is appended
 more_text : (old front part now new : List ℕ) → now ≡ old ++ front → new ≡ now ++ part → new ≡ old ++ (front ++ part)
@@ -55,12 +59,37 @@ pub no_change : (core : CoreState) (before after : List (Option ℕ)) (old : Lis
 unfolding changes_text
 no_change core before after old = sym (append-nil old)
 
-pub one_change : (core : CoreState) (before after : List (Option ℕ)) (n : ℕ) (old now new : List ℕ)
-    → now ≡ old ++ changes_text core before after n
-    → new ≡ now ++ change_text core (n + 1) (slice_index_or before n None) (slice_index_or after n None)
+pub one_change : (core : CoreState) (before after : List (Option ℕ)) (n task : ℕ) (x y : Option ℕ) (old now new : List ℕ)
+    → task ≡ n + 1 → x ≡ slice_index_or before n None → y ≡ slice_index_or after n None
+    → now ≡ old ++ changes_text core before after n → new ≡ now ++ change_text core task x y
     → new ≡ old ++ changes_text core before after (n + 1)
 unfolding changes_text
-one_change core before after n old now new is e =
-    let part : ℕ → List ℕ = λ k. change_text core k (slice_index_or before n None) (slice_index_or after n None) in
-    rw (add-one) (more_text old (changes_text core before after n) (part (suc n)) now new is
-    (e ∙ ap (λ (k : ℕ). now ++ part k) (add-one n)))
+one_change core before after n task x y old now new number is_x is_y is e =
+    let part : ℕ → Option ℕ → Option ℕ → List ℕ = λ k a b. change_text core k a b in
+    rw (add-one) (more_text old (changes_text core before after n)
+    (part (suc n) (slice_index_or before n None) (slice_index_or after n None)) now new is
+    (e ∙ ap (λ (k : ℕ). now ++ part k x y) (number ∙ add-one n)
+    ∙ ap (λ (a : Option ℕ). now ++ part (suc n) a y) is_x
+    ∙ ap (λ (b : Option ℕ). now ++ part (suc n) (slice_index_or before n None) b) is_y))
+
+-- a text behind one of two numbers between words
+wait_laid : (row front a mid b back last : List ℕ)
+    → (row ++ (front ++ (a ++ (mid ++ (b ++ back))))) ++ last ≡ row ++ (front ++ (a ++ (mid ++ (b ++ (back ++ last)))))
+wait_laid row front a mid b back last =
+    append_assoc row (front ++ (a ++ (mid ++ (b ++ back)))) last
+    ∙ ap (λ (x : List ℕ). row ++ x) (append_assoc front (a ++ (mid ++ (b ++ back))) last
+    ∙ ap (λ (x : List ℕ). front ++ x) (append_assoc a (mid ++ (b ++ back)) last
+    ∙ ap (λ (x : List ℕ). a ++ x) (append_assoc mid (b ++ back) last
+    ∙ ap (λ (x : List ℕ). mid ++ x) (append_assoc b back last))))
+
+pub one_wait : {A E : Type 0} (r : Result A E) (core : CoreState) (task holder : ℕ) (wanted : Acquired) (row now new : List ℕ)
+    → wanted ≡ acquired_of core task
+    → now ≡ row ++ (codes "  task " ++ (decimal task ++ (codes " waits for " ++ (decimal holder ++ codes ": "))))
+    → OnOk r (new ≡ now ++ wanted_text core wanted) → OnOk r (new ≡ row ++ wait_text core task holder)
+one_wait (Ok said) core task holder wanted row now new its is more =
+    let text : Acquired → List ℕ = λ w. wanted_text core w in
+    more ∙ ap (λ (x : List ℕ). x ++ text wanted) is
+    ∙ wait_laid row (codes "  task ") (decimal task) (codes " waits for ") (decimal holder) (codes ": ") (text wanted)
+    ∙ ap (λ (w : Acquired). row ++ (codes "  task " ++ (decimal task ++ (codes " waits for "
+    ++ (decimal holder ++ (codes ": " ++ text w)))))) its
+one_wait (Err fault) core task holder wanted row now new its is more = tt

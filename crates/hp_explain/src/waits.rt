@@ -49,6 +49,7 @@ impl Run {
     /// Lets an event happen.
     pub(crate) fn happen(&mut self, event: Event) -> Result<Outcome, AllocError>
         ensures row { IfOk result (λ outcome. Row self.old.core event outcome self.new.core) }
+        ensures config { OnOk result (config_of self.new.core ≡ config_of self.old.core) }
         ensures before { OnOk result (self.new.before.items ≡ self.old.holders.items) }
         ensures holders { OnOk result (AreHolders self.new.core self.new.holders.items) }
     {
@@ -67,8 +68,9 @@ fn push_wait(core: &Core, task: Task, holder: Task, row: &mut String) -> Result<
     requires last { task ≤ (config_of core.now).tasks }
     ensures { OnOk result (string_bytes row.new ≡ string_bytes row.old ++ wait_text core.now task holder) }
 {
+    let wanted = core.acquiring(task);
     write!(row, "  task {task} waits for {holder}: ")?;
-    push_acquired(core, core.acquiring(task), row)
+    push_acquired(core, wanted, row)
 }
 
 /// Appends what is told of a task where its wait began, changed or ended.

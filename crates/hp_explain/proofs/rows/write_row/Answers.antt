@@ -1,8 +1,14 @@
-use Rattle.std.proofs.Common.{List, ap, ◌∙◌}
+use Rattle.std.proofs.Common.{List, ap, length, sym, ◌∙◌}
 use Rattle.std.specs.Prelude.{Option, ℕ}
+use Rattle.hp_base.specs.Text.{Sizes}
 use Rattle.hp_explain.specs.Rows.{row_text}
 use Rattle.hp_explain.proofs.Happenings.{row_written, row_stopped}
 use Rattle.hp_explain.proofs.rows.write_row.Goals as goal
+
+pub lay_row-requires-clause-before : goal.lay_row-requires-clause-before
+lay_row-requires-clause-before g c =
+    let outcome = c.in_ok-outcome.ensures in
+    ap (λ (x : List (Option ℕ)). length x) outcome.before ∙ c.requires ∙ ap (λ (s : Sizes). s.tasks) (sym outcome.config)
 
 pub returns-clause-ok : goal.returns-clause-ok
 returns-clause-ok g c =

@@ -9,7 +9,7 @@ loop-event-init g c = (
   no_row c.args.widths.now c.args.events.now c.args.run.now.core c.args.run.now.holders.items (g.W.Sink.contents c.args.writer.now),
   refl,
   refl,
-  c.args.requires.holders,
+  c.requires.holders,
 )
 
 pub loop-event-preserved : goal.loop-event-preserved
