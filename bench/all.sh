@@ -1,6 +1,6 @@
 #!/usr/bin/env bash
-# Runs the benches one after the other, and writes docs/BENCHMARKS.md: of each what it measures and what it printed, with the
-# machine, its load and the date. Needs what they need (cargo, python3, taskset), and some minutes.
+# Runs the benches one after the other, and writes docs/BENCHMARKS.md below its summary: of each what it measures and what it
+# printed, with the machine, its load and the date. Needs what they need (cargo, python3, taskset), and some minutes.
 set -euo pipefail
 cd "$(dirname "${BASH_SOURCE[0]}")/.."
 new=$(mktemp)
@@ -19,7 +19,9 @@ machine() {
 }
 
 {
-    printf '# Benchmarks\n\nWritten by `bench/all.sh`, in one run.\n%s\n' "$(machine)"
+    # (the summary, which is written by hand, stays)
+    sed '/^Written by /,$d' docs/BENCHMARKS.md
+    printf 'Written by `bench/all.sh`, in one run.\n%s\n' "$(machine)"
     for bench in replay steps explore pool library; do
         echo "bench/$bench.sh" >&2
         printf '\n## `bench/%s.sh`\n\n%s\n\n```text\n' "$bench" "$(told "bench/$bench.sh")"

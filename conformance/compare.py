@@ -17,6 +17,7 @@ from __future__ import annotations
 import lzma
 import os
 import re
+import signal
 import subprocess
 import sys
 from dataclasses import dataclass, field, replace
@@ -37,6 +38,14 @@ RECORDED = {"calls-fixed.txt": (33, 177), "calls-random.txt": (200, 6737), "call
 
 # a byte call, which the machine doesn't have, and a call beside others, whose order isn't told
 NO_TRACE = re.compile(r"begin \d+ x|start ")
+
+# the sizes of a script's pool, and its quota, if it has one
+HEADER = re.compile(r"pool( \d+){4,5}$")
+
+# a call, and what the kernel said of it: the answer alone where it is one beside others
+CALL = r"begin \d+ (?:(?:mapn?|allock?|punch)(?: \d+){3}|(?:trunc|store)(?: \d+){2}|(?:load|unmap) \d+|exit|x\w*(?: \w+)*)|resize \d+"
+SAID = r" \| \d+ -?\d+ \| \d+(?:\+\d+)? \d+(?:, \d+(?:\+\d+)? \d+)* \| \d+(?: \d+)*(?: \| used -?\d+)?(?: \| total \d+ surplus \d+)?"
+ANSWERED = re.compile(rf"(?:(?:{CALL}) = \w+(?: \w+)?(?:{SAID})?|(?:start|wait|race) .* = .*)$")
 
 # what a program writes of a trace, both line by line
 Program = Callable[[list[str]], list[str]]
@@ -132,25 +141,45 @@ def opened(program: Program, header: str) -> Pool:
 
 def contents(path: Path) -> str:
     """The text of a file, which may be packed."""
-    if path.suffix != ".xz":
-        return path.read_text()
     try:
-        return lzma.decompress(path.read_bytes()).decode()
+        return (lzma.decompress(path.read_bytes()) if path.suffix == ".xz" else path.read_bytes()).decode()
     except lzma.LZMAError as why:
         raise OSError(None, f"it can't be unpacked: {why}", str(path)) from why
+    except UnicodeDecodeError as why:
+        raise OSError(None, "it is no text, so not a file of scripts", str(path)) from why
 
 
 def scripts(path: Path) -> Iterator[Script]:
-    """The scripts of a file."""
-    for line in contents(path).splitlines():
+    """The scripts of a file. One that isn't well-formed is a fault of the file, which names the line."""
+    name = header = None
+    lines: list[str] = []
+    for number, line in enumerate(contents(path).splitlines(), 1):
         if line.startswith("script "):
             name, header, lines = line[len("script "):], None, []
+        elif line.startswith("#"):
+            pass
+        elif name is None or (header is None or line.startswith("pool ")) and not HEADER.match(line):
+            raise OSError(None, f"line {number}: a script begins with 'script NAME' and 'pool F N S T'", str(path))
         elif line.startswith("pool "):
             header = line
         elif line.split(" ")[0] == "end":
             yield Script(name, header, lines)
-        elif not line.startswith("#"):
+            name = None
+        else:
             lines.append(line)
+    if name is not None:
+        raise OSError(None, f"script {name} has no 'end'", str(path))
+
+
+def answered_scripts(path: Path) -> list[Script]:
+    """The scripts of a file in which each call has its answer."""
+    found = list(scripts(path))
+    if not found:
+        raise OSError(None, "there is no script in it", str(path))
+    for script, line in ((script, line) for script in found for line in script.lines):
+        if not ANSWERED.match(line):
+            raise OSError(None, f"script {script.name}: '{line}' is no call with an answer behind ' = '", str(path))
+    return found
 
 
 def read(line: str) -> Line:
@@ -242,7 +271,7 @@ def build() -> None:
 
 def main(paths: list[Path]) -> int:
     # (a file that can't be read is reported before the program is built, which may take long)
-    files = [(path.name, list(scripts(path))) for path in paths or map(Path(__file__).with_name, RECORDED)]
+    files = [(path.name, answered_scripts(path)) for path in paths or map(Path(__file__).with_name, RECORDED)]
     build()
     total, asked, calls, known, surplus = 0, 0, 0, 0, 0
     different = [] if paths else [it for name, file in files for it in lost(name, file)]
@@ -253,6 +282,8 @@ def main(paths: list[Path]) -> int:
             known, surplus = known + (difference == KNOWN), surplus + (difference == SURPLUS)
             if difference not in (None, KNOWN, SURPLUS):
                 different.append(difference)
+    # (only now: until here a program that it runs may be gone before it has read its trace)
+    signal.signal(signal.SIGPIPE, signal.SIG_DFL)
     print(f"{total} scripts, {calls} of their {asked} calls agree, {known} scripts end at the known difference")
     print(f"{surplus} end at a surplus or at a resize to nothing, {len(different)} differ")
     print("".join(f"  {difference}\n" for difference in different), end="")
@@ -262,6 +293,7 @@ def main(paths: list[Path]) -> int:
 
 if __name__ == "__main__":
     if sys.argv[1:] in (["-h"], ["--help"]):
+        signal.signal(signal.SIGPIPE, signal.SIG_DFL)
         print(__doc__, end="")
         sys.exit(0)
     if any(word.startswith("-") for word in sys.argv[1:]):
@@ -270,3 +302,5 @@ if __name__ == "__main__":
         sys.exit(main([Path(word) for word in sys.argv[1:]]))
     except OSError as why:
         sys.exit(f"compare.py: {why.filename}: {why.strerror}")
+    except subprocess.CalledProcessError as why:
+        sys.exit(f"compare.py: {' '.join(map(str, why.cmd))}: status {why.returncode}")

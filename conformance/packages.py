@@ -17,6 +17,7 @@ from __future__ import annotations
 import os
 import re
 import shutil
+import signal
 import subprocess
 import sys
 import tarfile
@@ -201,6 +202,7 @@ def kernel(package: str, cache: Path) -> Path:
 
 def main(words: list[str]) -> int:
     if words[:1] in (["-h"], ["--help"]):
+        signal.signal(signal.SIGPIPE, signal.SIG_DFL)
         print(__doc__, end="")
         return 0
     is_kernel = words[:1] == ["--kernel"]

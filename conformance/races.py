@@ -12,6 +12,7 @@ docs/NEEDED.md tells.
 from __future__ import annotations
 
 import re
+import signal
 import sys
 from pathlib import Path
 from typing import NamedTuple
@@ -30,10 +31,14 @@ class Rest(NamedTuple):
     resv: int
 
 
+# a line that tells the numbers of a pool in which no call is in flight
+TOLD = re.compile(r"(?:race|begin 1 trunc) .* = \w+ \| (\d+) (-?\d+) \|")
+
+
 def rests(script: Script) -> list[Rest]:
     """The numbers after each race of a script, and after the truncation at its end."""
-    said = [line.split(" = ", 1)[1] for line in script.lines if line.startswith(("race ", "begin 1 trunc "))]
-    return [Rest(*map(int, re.match(r"\w+ \| (\d+) (-?\d+) \|", it).groups())) for it in said]
+    said = [TOLD.match(line) for line in script.lines if line.startswith(("race ", "begin 1 trunc "))]
+    return [Rest(*map(int, it.groups())) for it in said if it]
 
 
 def is_right(script: Script) -> bool:
@@ -51,7 +56,7 @@ def has_truncations(script: Script) -> bool:
 
 def told(path: Path) -> tuple[list[str], int, int, int]:
     """The faults of a file, how many scripts have no truncations, how many have, and in how many of these the count is wrong."""
-    read = [it for it in scripts(path) if any(line.startswith("race ") and " = " in line for line in it.lines)]
+    read = [it for it in scripts(path) if any(line.startswith("race ") and TOLD.match(line) for line in it.lines)]
     without = [it for it in read if not has_truncations(it)]
     wrong = [it for it in read if has_truncations(it) and not is_right(it)]
     faults = [f"{path.name}: {it.name}: the counts are wrong: {rests(it)}" for it in without if not is_right(it)]
@@ -75,6 +80,7 @@ def main(paths: list[Path]) -> int:
 
 
 if __name__ == "__main__":
+    signal.signal(signal.SIGPIPE, signal.SIG_DFL)
     if sys.argv[1:] in (["-h"], ["--help"]):
         print(__doc__, end="")
         sys.exit(0)

@@ -553,17 +553,18 @@ def faults_of_document() -> Iterator[tuple[str, object]]:
     for it in known_issues():
         for one in it.recordings:
             yield f"rule {one['rule']}", f"`{one['file'].removesuffix('.bin')}`" in rules.get(one["rule"], "")
-    table = text.split("| Rule of `docs/DECISIONS.md` |")[1].split("\n\n")[0]
+    table = text.split("| Rule of `docs/decisions/linux.md` |")[1].split("\n\n")[0]
     first = re.findall(r"(?m)^\| (.*?) \|", table)
     yield "each rule of the decisions", first == decided() or sorted(set(first) ^ set(decided()))
     yield "known issues of the decisions", set(re.findall(r"`([\w-]+\.toml)`", table)) == {f"{it.name}.toml" for it in known_issues()} - NO_RULE
 
 
 def decided() -> list[str]:
-    """The rules in which the machine differs from Linux, as docs/DECISIONS.md begins each of them."""
-    text = (TOP / "docs" / "DECISIONS.md").read_text(encoding="utf-8")
-    part = text.split("## Where this differs from Linux")[1].split("\n- **Known differences are data**")[0]
-    return [bold or plain for bold, plain in re.findall(r"(?m)^- (?:\*\*(.+?)\*\*|(.+)$)", part)]
+    """The rules in which the machine differs from Linux, as docs/decisions/linux.md begins each of them."""
+    text = (TOP / "docs" / "decisions" / "linux.md").read_text(encoding="utf-8")
+    part = text.split("## Where this differs from Linux")[1].split("\n## ")[0]
+    found = re.findall(r"(?m)^- (?:\*\*((?:.|\n)+?)\*\*|(.+)$)", part)
+    return [" ".join((bold or plain).split()) for bold, plain in found]
 
 
 def main() -> int:

@@ -32,6 +32,7 @@ import os
 import re
 import shlex
 import shutil
+import signal
 import subprocess
 import sys
 import tempfile
@@ -281,6 +282,7 @@ def run_steps(gate: Gate, words: list[str]) -> None:
 
 def main(words: list[str]) -> int:
     if words[:1] in (["-h"], ["--help"], ["help"]):
+        signal.signal(signal.SIGPIPE, signal.SIG_DFL)
         print(__doc__, end="")
         return 0
     if words and words[0] not in [*STEPS, "all"] or words[1:] and words[0] != "edits":

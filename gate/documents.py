@@ -1,8 +1,8 @@
 #!/usr/bin/env python3
-"""Says whether each path, command and public call that a document names is there.
+"""Says whether each path, link, command and public call that a document names is there.
 
 A document is a file *.md outside of the crates. Looked at are the words between backquotes and the lines of commands in blocks:
-a path has to be the end of one in the repository; `./hugepool` has to have the command and its options, `./check` the step; and of a call
+a path has to be the end of one in the repository; a link has to lead to a file and a heading; `./hugepool` has to have the command and its options, `./check` the step; and of a call
 `hp_frames::Bank::take` or `hp_frames::Bank::{take, free}` each name has to be declared in that crate. In a table whose rows begin with
 crates, the calls of the last column leave the crate out: they have to be declared in one of the row's crates.
 """
@@ -27,6 +27,7 @@ PATH = re.compile(r"[\w.*-]*(?:/[\w.*-]*)+|[\w.*-]+\.(?:md|rt|antt|rs|sh|py|c|tx
 CALL = re.compile(r"(hp_\w+)((?:::\w+)*)(?:::(?:\w+|\{([^}]*)\}))")
 COMMAND = re.compile(r"(?:^|[|;&$] *)(\./[\w./-]+|hugepool)(?= |$)([^|;&#]*)")
 OPTION = re.compile(r"--([\w-]+)")
+LINK = re.compile(r"\]\(([^()\s]+)\)")
 ROW_OF_CRATES = re.compile(r"`\w+`(?:, `\w+`)*")
 
 
@@ -124,6 +125,26 @@ def faults_in(text: str) -> Iterator[str]:
             yield from command_faults(line.strip().removeprefix("$ "))
 
 
+@cache
+def headings(file: Path) -> set[str]:
+    """The headings of a document, as links spell them."""
+    text = re.sub(r"^```.*?^```", "", file.read_text(encoding="utf-8"), flags=re.M | re.S)
+    return {re.sub(r"[^\w\- ]", "", it.lower()).replace(" ", "-") for it in re.findall(r"^#+ (.*)$", text, re.M)}
+
+
+def link_faults(document: Path, text: str) -> Iterator[str]:
+    """The links that lead nowhere."""
+    for link in LINK.findall(text):
+        path, _, heading = link.partition("#")
+        file = document.parent / path if path else document
+        if link.startswith(("http:", "https:")):
+            continue
+        if not file.exists():
+            yield f"there is no {path}"
+        elif heading and heading not in headings(file):
+            yield f"{file.name} has no heading {heading}"
+
+
 # a document of which each line is wrong
 WRONG = """`docs/NOT_THERE.md` `hp_frames::Bank::not_there` `hp_not_there::Bank` `hp_frames::Bank::{take, not_there}`
     ./hugepool raplay < examples/map-four-of-four.trace
@@ -133,16 +154,18 @@ WRONG = """`docs/NOT_THERE.md` `hp_frames::Bank::not_there` `hp_not_there::Bank`
     ./bench/not-there.sh
 | `hp_frames`, `hp_table` | A promise. | `Bank::{take, not_here}` |
 | | Another. | calls of `Space`; `not_here_either` |
+[a page](docs/NOT_THERE.md), [a heading](docs/PROVED.md#not-there)
 """
 
 
 def tries() -> Iterator[tuple[str, bool]]:
     """What is tried, and whether it went as it should."""
     for file in sorted(TOP / it for it in paths() if it.endswith(".md") and not it.startswith("crates/")):
-        faults = list(faults_in(file.read_text(encoding="utf-8")))
+        text = file.read_text(encoding="utf-8")
+        faults = [*faults_in(text), *link_faults(file, text)]
         yield f"{file.relative_to(TOP)}: {'; '.join(faults)}", not faults
-    noticed = len(list(faults_in(WRONG)))
-    yield f"of eleven wrong names {noticed} are noticed", noticed == 11
+    noticed = len([*faults_in(WRONG), *link_faults(TOP / "README.md", WRONG)])
+    yield f"of thirteen wrong names {noticed} are noticed", noticed == 13
 
 
 if __name__ == "__main__":

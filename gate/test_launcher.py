@@ -235,6 +235,33 @@ def by_another(room: Room) -> Iterator[tuple[str, bool]]:
     yield "what was written since it began isn't in that", room.proved(12, **since) and room.proved(12)
     room.write("crates/hugepool/src/main.rt", "newest of all")
     yield "what was built before another command began isn't taken over", room.proved(13, **since_now(room))
+    yield from by_paths(room)
+
+
+def by_paths(room: Room) -> Iterator[tuple[str, bool]]:
+    """Calls that look at the paths which an earlier one found, and walk no more."""
+    found = room.top / "found"
+    room.write("bin/find", f'#!/bin/sh\necho "$1" >> {found}\nexec {shutil.which("find")} "$@"\n')
+    is_built = room.proved(13)
+    found.unlink()
+    yield "a call with no change walks over no folder", is_built and room.proved(13) and found.read_text(encoding="utf-8") == "-files0-from\n"
+    source = room.top / "crates/hugepool/src"
+    old, other = source.stat(), room.top / "other_src"
+    shutil.copytree(source, other)
+    room.write("other_src/more.rt", "new")
+    os.utime(other, ns=(old.st_atime_ns, old.st_mtime_ns))
+    source.rename(room.top / "old_src")
+    other.rename(source)
+    yield "a folder in the place of another is walked over", room.proved(14)
+    is_built = room.proved(14)
+    with open(source / "main.rt", "a", encoding="utf-8") as file:
+        file.write("changed in place")
+    yield "a file that changed in its place is noticed", is_built and room.proved(15)
+    room.write("crates.txt", "a:\nhugepool: a\n")
+    is_built = room.proved(16) and room.proved(16)
+    room.write("crates.txt", "a:\na_tests: a\nhugepool: a a_tests\n")
+    os.utime(room.top / "crates.txt", (0, 0))
+    yield "one crate more is noticed, however old the list of crates is", is_built and room.proved(17)
 
 
 def since_now(room: Room) -> dict[str, str]:

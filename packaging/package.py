@@ -22,6 +22,7 @@ import hashlib
 import os
 import re
 import shutil
+import signal
 import subprocess
 import sys
 import tempfile
@@ -250,6 +251,7 @@ def package() -> None:
 def main(words: list[str]) -> int:
     if words:
         is_asked = words in (["-h"], ["--help"], ["help"])
+        signal.signal(signal.SIGPIPE, signal.SIG_DFL)
         print(__doc__ if is_asked else __doc__.split("\n\n")[1] + "\n", end="", file=sys.stdout if is_asked else sys.stderr)
         return 0 if is_asked else 2
     if missing(all(os.environ.get(it) for it in ("PACKAGE_PROGRAM", "PACKAGE_ARCHIVE"))):

@@ -10,6 +10,7 @@ too high, 1 it isn't so.
 from __future__ import annotations
 
 import argparse
+import signal
 import sys
 from pathlib import Path
 
@@ -22,7 +23,11 @@ def main() -> int:
     parser = argparse.ArgumentParser(description=__doc__.split("\n")[0])
     parser.add_argument("recordings", nargs="*", type=Path)
     files = parser.parse_args().recordings or sorted(it for it in (HERE / "recordings").rglob("*.bin.xz") if it.parent.name != "repaired")
-    errors = [error_at_rest(run) for file in files for run in recordings(file)]
+    try:
+        errors = [error_at_rest(run) for file in files for run in recordings(file)]
+    except OSError as why:
+        print(f"lost.py: {why}", file=sys.stderr)
+        return 2
     low, high = sum(it < 0 for it in errors), sum(it > 0 for it in errors)
     print(f"{len(errors)} recordings: the count at rest is right in {len(errors) - low - high}, too low in {low}, too high in {high}")
     results = [low > 0, high == 0]
@@ -31,4 +36,5 @@ def main() -> int:
 
 
 if __name__ == "__main__":
+    signal.signal(signal.SIGPIPE, signal.SIG_DFL)
     sys.exit(main())

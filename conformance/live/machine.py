@@ -8,6 +8,7 @@ As a program, `machine.py < TRACE` prints what `hugepool replay` prints of a wel
 """
 from __future__ import annotations
 
+import signal
 import sys
 from dataclasses import dataclass, field
 
@@ -693,4 +694,11 @@ def event(machine: Machine, line: str) -> Outcome:
 
 
 if __name__ == "__main__":
-    print("\n".join(replay(sys.stdin.read().splitlines())))
+    signal.signal(signal.SIGPIPE, signal.SIG_DFL)
+    if sys.argv[1:]:
+        print("usage: machine.py < TRACE", file=sys.stderr)
+        sys.exit(0 if sys.argv[1:] in (["-h"], ["--help"]) else 2)
+    try:
+        print("\n".join(replay(sys.stdin.read().splitlines())))
+    except (ValueError, IndexError, KeyError, TypeError) as why:
+        sys.exit(f"machine.py: that is no well-formed trace: {why}")

@@ -52,8 +52,11 @@ Recording = list[Event]
 
 def contents(file: Path) -> bytes:
     opened = {".gz": gzip.open, ".xz": lzma.open}.get(file.suffix, open)
-    with opened(file, "rb") as it:
-        return it.read()
+    try:
+        with opened(file, "rb") as it:
+            return it.read()
+    except (lzma.LZMAError, EOFError) as why:
+        raise OSError(None, f"it can't be unpacked: {why}", str(file)) from why
 
 
 def recordings(file: Path) -> Iterator[Recording]:

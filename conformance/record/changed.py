@@ -44,4 +44,7 @@ def changes(before: Path, after: Path) -> Iterator[str]:
 if __name__ == "__main__":
     if len(sys.argv) != 3:
         sys.exit(__doc__)
-    print("".join(f"  {it}\n" for it in changes(Path(sys.argv[1]), Path(sys.argv[2]))), end="")
+    try:
+        print("".join(f"  {it}\n" for it in changes(Path(sys.argv[1]), Path(sys.argv[2]))), end="")
+    except OSError as why:
+        sys.exit(f"changed.py: {why.filename}: {why.strerror}")
