@@ -55,6 +55,10 @@ SAID_OF_HEADERS = [
 ]
 
 
+def words_said(count: int) -> str:
+    return "there is 1 word" if count == 1 else f"there are {count} words"
+
+
 def wrong_fields(line: str, what: str) -> Iterator[tuple[str, str]]:
     """The line with one field wrong, or one too many or too few, and what is to be said of it."""
     words = line.split()
@@ -63,9 +67,9 @@ def wrong_fields(line: str, what: str) -> Iterator[tuple[str, str]]:
         said = {"x": "is no number", "-1": "is no number", "01": "begins with a zero", str(most + 1): f"is above {most}"}
         for word, why in said.items():
             yield " ".join([*words[:at], word, *words[at + 1 :]]), f"{word} {why}"
-    yield f"{line} 1", f"there are {len(words) + 1} words, {what} has {len(words)}"
+    yield f"{line} 1", f"{words_said(len(words) + 1)}, {what} has {len(words)}"
     if words[-1].isdigit():
-        yield " ".join(words[:-1]), f"there are {len(words) - 1} words, {what} has {len(words)}"
+        yield " ".join(words[:-1]), f"{words_said(len(words) - 1)}, {what} has {len(words)}"
 
 
 def wrong_headers() -> Iterator[tuple[str, str]]:
@@ -113,6 +117,8 @@ def tries(program: Path) -> Iterator[tuple[str, bool]]:
         shown = {9: "\\t"}.get(byte, f"\\x{byte:02x}")
         said = run(program, "check", f"{HEADER}\nstep ".encode() + bytes([byte]) + b"\n")
         yield f"byte {byte} is shown", said == said_of(2, f"step {shown}", f"a byte {byte} stands in no line")
+    marked = run(program, "check", b"\xef\xbb\xbf" + f"{HEADER}\n".encode())
+    yield "a byte order mark", marked == said_of(1, f"\\xef\\xbb\\xbf{HEADER}", "no byte order mark stands before a header")
     yield "an empty trace", run(program, "check") == said_of(1, "", "there is nothing to read")
     cut = run(program, "check", f"{HEADER}\nstep 1")
     yield "a line without its end", cut == said_of(2, "step 1", "the last line has no end")

@@ -13,6 +13,7 @@ pub enum Reason<'a> {
     TooLong,
     Unended,
     CarriageReturn,
+    ByteOrderMark,
     Byte(u8),
     Empty,
     Spaces,
@@ -38,6 +39,7 @@ impl fmt::Display for Reason<'_> {
             Reason::TooLong => write!(f, "a line has {LONGEST_LINE} bytes at most"),
             Reason::Unended => f.write_str("the last line has no end"),
             Reason::CarriageReturn => f.write_str("a line ends with a carriage return"),
+            Reason::ByteOrderMark => f.write_str("no byte order mark stands before a header"),
             Reason::Byte(byte) => write!(f, "a byte {byte} stands in no line"),
             Reason::Empty => f.write_str("a line is empty"),
             Reason::Spaces => f.write_str("one space parts two words, and none stands elsewhere"),
@@ -45,6 +47,7 @@ impl fmt::Display for Reason<'_> {
             Reason::NoHeader(word) => write!(f, "a header begins with pool, and not with {word}"),
             Reason::NoEvent(word) => write!(f, "no event is called {word}"),
             Reason::NoCall(word) => write!(f, "no call is called {word}"),
+            Reason::Words(1, what, wanted) => write!(f, "there is 1 word, {what} has {wanted}"),
             Reason::Words(count, what, wanted) => {
                 write!(f, "there are {count} words, {what} has {wanted}")
             }
@@ -72,6 +75,9 @@ pub fn reason_of(bytes: &[u8], is_ended: bool, number: u64) -> Option<Reason<'_>
     }
     if !is_ended {
         return Some(Reason::Unended);
+    }
+    if number == 1 && bytes.starts_with(b"\xEF\xBB\xBF") {
+        return Some(Reason::ByteOrderMark);
     }
     if let Some(wrong) = wrong_byte(bytes) {
         return Some(wrong);

@@ -31,9 +31,9 @@ pub(crate) struct WorkWords {
 /// Why a `work` ends with another status than 0.
 #[derive(Debug, Drop, Error)]
 pub(crate) enum WorkFault {
-    #[error("hugepool: no workload {0}\n")]
+    #[error("hugepool: no workload {0}\nhugepool: the workloads are readback, shared, truncate, alloc-instantiate-race, chunk-overcommit,\n  noresv-preserve-resv-page, noresv-regarded-as-resv, truncate_reserve_wraparound, fallocate_basic,\n  fallocate_align, counters\n")]
     NoWorkload(String),
-    #[error("hugepool: no driver {0}\n")]
+    #[error("hugepool: no driver {0}\nhugepool: the drivers are core, pool\n")]
     NoDriver(String),
     #[error("hugepool: {0}\n")]
     Client(ClientFault),
