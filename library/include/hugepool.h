@@ -9,7 +9,7 @@
  * pointers aren't null and point to what they are declared to, or to as many as the count beside them says (a count of 0 wants a pointer,
  * too); two of them don't overlap; a bool is 0 or 1.
  *
- * What each call promises is proved, but for what the words of hugepool_reason say and which code it answers with, and that memory is
+ * What each call promises is proved, but for what the words of hugepool_reason say and of which lines it knows any, and that memory is
  * wanting where a call says so other than hugepool_event and hugepool_events (docs/LIBRARY.md says of what it is proved, and what is
  * trusted).
  */
@@ -292,8 +292,8 @@ uint32_t hugepool_draw(const uint8_t *trace, size_t length, uint8_t *out, size_t
 /* How many events the trace has. It takes no memory. BAD_LINE, BAD_HEADER. */
 uint32_t hugepool_check(const uint8_t *trace, size_t length, uint32_t *events, uint32_t *line);
 
-/* What is wrong with a line of the trace that another call refused, in words for people to read. NO_SUCH if the trace has no such line;
- * NO_MEMORY, TOO_SMALL. */
+/* What is wrong with a line of the trace that another call refused, in words for people to read. NO_SUCH if the trace has no such line,
+ * or nothing is known to be wrong with it; NO_MEMORY. TOO_SMALL: *needed bytes of room are wanted, and else *needed is 0. */
 uint32_t hugepool_reason(const uint8_t *trace, size_t length, uint32_t line, uint8_t *out, size_t room, size_t *needed);
 
 #ifdef __cplusplus
