@@ -254,7 +254,7 @@ def main(words: list[str]) -> int:
         return 127
     try:
         build(Path(words[0]) if words else TOP / "dist" / "hugepool.html")
-    except Failed as why:
+    except (Failed, toolchain.Unusable) as why:
         print(why, file=sys.stderr)
         return 1
     return 0

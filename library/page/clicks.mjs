@@ -93,10 +93,10 @@ const card = (task) => `[aria-label="Task ${task}"]`;
 const isOff = (task, kind) => `document.querySelector('[aria-label="${kind} task ${task}"]').disabled`;
 
 async function expect(what, expression) {
-  const is_well = await browser.until(expression);
-  if (is_well) passed++;
+  const isWell = await browser.until(expression);
+  if (isWell) passed++;
   else failed++;
-  if (!is_well) console.log(`page: ${what}: ${expression} isn't so; the page is at ${await browser.run(text("#now"))}`);
+  if (!isWell) console.log(`page: ${what}: ${expression} isn't so; the page is at ${await browser.run(text("#now"))}`);
 }
 
 async function choose(selector, value) {

@@ -426,7 +426,8 @@ function showExplanation() {
 
 // (in a tree of its own, since the picture's styles are for it alone)
 const picture = $("picture").attachShadow({ mode: "open" });
-// names of lanes stay in sight where the picture is wider than its place
+// names of lanes stay in sight where the picture is wider than its place; above them is the legend, which is so high
+const LEGEND = 110;
 const NAMES = `<style>:host{display:flex}svg{flex:none}.names{position:sticky;left:0;flex:none;width:70px;margin-right:-70px;overflow:hidden}</style>`;
 
 function draw() {
@@ -434,8 +435,11 @@ function draw() {
   const drawn = picture.querySelector("svg");
   const names = drawn.cloneNode();
   names.append(...[...drawn.querySelectorAll(".background, .name ~ .name, .number")].map((it) => it.cloneNode(true)));
+  names.querySelector(".background").setAttribute("y", LEGEND);
   picture.querySelector(".names").append(names);
-  $("picture").scrollLeft = $("picture").scrollWidth;
+  // as far to the right as the last event wants
+  const lane = drawn.querySelector(".lane");
+  $("picture").scrollLeft = lane ? lane.x.baseVal.value + lane.width.baseVal.value - $("picture").clientWidth : 0;
 }
 
 // ---- the trace as text
