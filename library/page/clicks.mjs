@@ -136,6 +136,8 @@ async function tryEvents() {
   await browser.click("#undo");
   await browser.click("#undo");
   await expect("undone", `${text("#now")}.includes("event 8 of 17")`);
+  await browser.click("#copy");
+  await expect("the trace is copied, or selected", `${text("#copied")} !== ""`);
   await browser.click("#clear");
   await expect("no events", `${text("#now")}.startsWith("Before the first event")`);
   await choose("#begin-call", "store");
@@ -155,6 +157,9 @@ async function tryTexts() {
   await expect("the lines before it are run", `${text("#now")}.includes("event 1 of 1")`);
   await type(["pool 0 1 4 2"]);
   await expect("what is wrong with a header", `${text("#fault")}.startsWith("Line 1 is not a pool header: ")`);
+  await choose("#example", "truncate-against-store");
+  await browser.click("#undo");
+  await expect("an example that is undone", `${text("#fault")}.startsWith("Line 1 is not a pool header: ")`);
   await choose("#example", "truncate-against-store");
   await expect("a script", `${text("#now")}.startsWith("Before the first event") && ${text(`${card(2)} .buttons`)}.includes("begin 2 map 0 0 4")`);
   await browser.run(`while (!document.getElementById("chance").disabled) document.getElementById("chance").click()`);

@@ -24,6 +24,8 @@ let library, words;
 let run = { lines: [], outcomes: [], count: 0, fault: null };
 /** How many events the shown moment is behind. */
 let at = 0;
+/** The example that is shown; none where the lines are somebody's own. */
+let picked = "";
 /** The calls that a script has each task begin, by the task's number; none where there is no script. */
 let script = new Map();
 let past = [];
@@ -84,7 +86,7 @@ function go(place) {
 }
 
 function remember() {
-  past = [...past.slice(1 - MOST_PAST), { lines: run.lines, at, script, name: $("example").value }];
+  past = [...past.slice(1 - MOST_PAST), { lines: run.lines, at, script, picked }];
   $("undo").disabled = false;
 }
 
@@ -92,8 +94,7 @@ function undo() {
   const last = past.pop();
   $("undo").disabled = past.length === 0;
   ({ script } = last);
-  $("example").value = last.name;
-  showExample();
+  pick(last.picked);
   load(last.lines, last.at);
 }
 
@@ -107,13 +108,10 @@ function append(line) {
 // ---- examples and scripts
 
 function pick(name) {
+  picked = name;
   $("example").value = name;
-  showExample();
-}
-
-function showExample() {
-  const example = data.examples.find((it) => it.name === $("example").value);
-  $("shows").textContent = example ? example.shows[0].toUpperCase() + example.shows.slice(1) : "";
+  const shows = data.examples.find((it) => it.name === name)?.shows ?? "";
+  $("shows").textContent = shows.charAt(0).toUpperCase() + shows.slice(1);
 }
 
 function example(name, place = Infinity) {
@@ -193,6 +191,8 @@ function showMark() {
   body.querySelector("[aria-current]")?.removeAttribute("aria-current");
   const row = body.rows[at];
   row.setAttribute("aria-current", "step");
+  // (a rule by number, since one by siblings looks at all lines for each line)
+  $("later").textContent = `#rows tr:nth-child(n + ${at + 2}) { color: var(--soft); }`;
   const box = $("lines");
   const head = box.querySelector("thead").offsetHeight;
   if (row.offsetTop - head < box.scrollTop) box.scrollTop = row.offsetTop - head;
@@ -462,6 +462,7 @@ let typing = 0;
 function typed() {
   clearTimeout(typing);
   typing = setTimeout(() => {
+    remember();
     pick("");
     trace(linesOf($("text").value), Infinity);
   }, 200);
@@ -470,7 +471,7 @@ function typed() {
 function key(event) {
   const step = { ArrowLeft: -1, ArrowRight: 1 }[event.key];
   if (!step || event.altKey || event.ctrlKey || event.metaKey || event.shiftKey) return;
-  if (event.target.closest("input, select, textarea, #picture, #explanation")) return;
+  if (event.target.closest?.("input, select, textarea, #picture, #explanation")) return;
   event.preventDefault();
   go(at + step);
 }
@@ -493,7 +494,11 @@ function showExamples() {
 }
 
 function listen() {
-  $("example").onchange = () => ($("example").value ? example($("example").value) : showExample());
+  $("example").onchange = () => {
+    remember();
+    if ($("example").value) example($("example").value);
+    else pick("");
+  };
   $("first").onclick = () => go(0);
   $("back").onclick = () => go(at - 1);
   $("on").onclick = () => go(at + 1);
