@@ -536,7 +536,7 @@ function listen() {
 function complain(why) {
   const missing = $("missing");
   missing.hidden = false;
-  missing.textContent = `${why} This page needs WebAssembly with a memory of 64 bits (memory64): Chrome and Edge have it from version 133 on, Firefox from 134 on. Nothing is wrong with the page, and nothing runs here without it.`;
+  missing.textContent = `${why} The page needs WebAssembly with a memory of 64 bits (memory64), which Chrome and Edge have from version 133 on, and Firefox from 134 on.`;
 }
 
 /** A place in an example, as the address names it: #NAME or #NAME@EVENT. */
