@@ -87,7 +87,8 @@ class Browser {
 
 let passed = 0;
 let failed = 0;
-const browser = new Browser(fs.mkdtempSync(path.join(os.tmpdir(), "page-clicks-")));
+const profile = fs.mkdtempSync(path.join(os.tmpdir(), "page-clicks-"));
+const browser = new Browser(profile);
 const text = (selector) => `document.querySelector(${JSON.stringify(selector)}).textContent`;
 const card = (task) => `[aria-label="Task ${task}"]`;
 const isOff = (task, kind) => `document.querySelector('[aria-label="${kind} task ${task}"]').disabled`;
@@ -210,7 +211,10 @@ try {
   await expect("nothing is thrown", `${wrong.length} === 0`);
   console.log(`page: ${(await browser.send("Browser.getVersion")).product}`);
 } finally {
+  const ended = new Promise((done) => browser.process.once("exit", done));
   browser.process.kill();
+  await ended;
+  fs.rmSync(profile, { recursive: true, force: true, maxRetries: 9 });
 }
 console.log(`${passed} passed, ${failed} failed`);
 process.exit(failed ? 1 : 0);
