@@ -7,6 +7,7 @@ It proves and builds the program and the library, where that isn't done yet, and
   hugepool-VERSION-x86_64.tar.gz  the program, libhugepool for C and Python, manual pages, completions, documents and traces
   hugepool_*.deb, libhugepool1_*.deb, libhugepool-dev_*.deb, python3-hugepool_*.deb
                                   the same as packages of Debian's
+  hugepool.html                   the library as a page for browsers (./page), if the tools for it are there
   SHA256SUMS                      their checksums
 
 In each, the file PROVED has the commit and the toolchain's last lines. VERSION is what `hugepool --version` prints. Two runs on one commit
@@ -14,7 +15,8 @@ and one system write the same bytes. packaging/test.sh installs dist/ on a new D
 
 Variables, to try this without proofs; PROVED then says that the files were built elsewhere:
   PACKAGE_PROGRAM=FILE   a program that is built already
-  PACKAGE_ARCHIVE=FILE   the same for libhp_c.a, the archive that the toolchain builds of crates/hp_c
+  PACKAGE_ARCHIVE=FILE   the same for libhp_c.a, the archive that the toolchain builds of crates/hp_c; without PAGE_MODULE, which
+                         ./page takes, there is no page then
 """
 from __future__ import annotations
 
@@ -221,6 +223,21 @@ def pack_deb(tree: Path, own: dict[str, str]) -> list[Path]:
     return files
 
 
+def page(to: Path) -> list[Path]:
+    """The page for browsers, if it can be built of the library that is packaged."""
+    if os.environ.get("PACKAGE_ARCHIVE") and not os.environ.get("PAGE_MODULE"):
+        say("the page is left out: PACKAGE_ARCHIVE names a library whose module isn't known, and PAGE_MODULE names none")
+        return []
+    say("the page")
+    status = subprocess.run([TOP / "page", to], stdin=subprocess.DEVNULL).returncode
+    if status == 127:
+        say("the page is left out, since tools for it are missing")
+        return []
+    if status:
+        raise Failed("package: ./page failed")
+    return [to]
+
+
 def replace(files: list[Path]) -> None:
     """Puts these files into dist/, in place of what is there."""
     shutil.rmtree(DIST, ignore_errors=True)
@@ -245,7 +262,7 @@ def package() -> None:
         say(f"hugepool {version}, commit {of.name}: the .tar.gz")
         files = [pack_tar(tree, version, own)]
         say("Debian's packages")
-        replace([*files, *pack_deb(tree, own)])
+        replace([*files, *pack_deb(tree, own), *page(tree.parent / "hugepool.html")])
 
 
 def main(words: list[str]) -> int:

@@ -1,0 +1,264 @@
+"""The proved library as one page for browsers, which needs no toolchain and no network.
+
+usage: ./page [FILE]
+
+It writes FILE, or dist/hugepool.html if none is named: the library as WebAssembly, the traces of examples/, and the page around them.
+
+The library has to be proved and built: `rt lib` in crates/hp_c does it. Then the toolchain's `rattle build` runs once more, over what that
+kept, with a script in place of its compiler that keeps the LLVM module. The archive that comes of it has to be the one that is built.
+The module's lines about the target are changed to 64-bit WebAssembly, and the toolchain's clang and linker compile it.
+
+Two runs on one commit write the same bytes. library/page/check.py tries the page.
+
+A variable, to try this without proofs; the page then says that its module was made elsewhere:
+  PAGE_MODULE=FILE   a module that was kept already
+"""
+from __future__ import annotations
+
+import base64
+import contextlib
+import hashlib
+import json
+import os
+import re
+import shutil
+import subprocess
+import sys
+import tempfile
+from email.utils import formatdate
+from pathlib import Path
+from typing import NamedTuple
+
+TOP = Path(__file__).resolve().parent.parent.parent
+PAGE, EXAMPLES = TOP / "library" / "page", TOP / "examples"
+HEADER = TOP / "library" / "include" / "hugepool.h"
+CRATE = TOP / "crates" / "hp_c"
+ARCHIVE = CRATE / "out" / "libhp_c.a"
+sys.path.insert(0, str(TOP / "launcher"))
+import toolchain  # noqa: E402
+
+TARGET = "wasm64-unknown-unknown"
+COMPILES = [f"--target={TARGET}", "-mbulk-memory", "-Wall", "-Wextra", "-Werror"]
+# what C has of heap.c, beside the library's calls
+HEAP_CALLS = ("page_take", "page_give")
+# the stack comes first in memory, so that one that grows too large leaves the memory and ends the call
+LINKS = ["-mwasm64", "--no-entry", "--stack-first", "-z", "stack-size=1048576", "--gc-sections", "--strip-all", "--fatal-warnings"]
+# lines of a module that name the machine that it is for
+OF_MACHINE = re.compile(r' ?"(?:target-cpu|target-features|probe-stack|stack-probe-size)"="[^"]*"')
+VERDICT = re.compile(r"^(logic=proved .*? sum=\w+)", re.MULTILINE)
+KINDS = {"uint32_t": ("u32", 4), "uint64_t": ("u64", 8), "int64_t": ("i64", 8), "size_t": ("size", 8), "void *": ("pointer", 8), "bool": ("bool", 1)}
+# each row of a table of examples/README.md: a name and what it shows
+SHOWN = re.compile(r"^\| `([\w-]+)` \| (.*?) \|", re.MULTILINE)
+
+
+class Failed(Exception):
+    """Why there is no page."""
+
+
+class Module(NamedTuple):
+    """LLVM's module of the library, and what the page says of where it is from."""
+
+    file: Path
+    origin: dict[str, str]
+
+
+def say(text: str) -> None:
+    print(f"page: {text}", flush=True)
+
+
+def run(words: list[str | Path], **how: object) -> str:
+    """Runs a command, and returns what it prints. Where it fails, that is why there is no page."""
+    ran = subprocess.run(words, stdin=subprocess.DEVNULL, stdout=subprocess.PIPE, stderr=subprocess.STDOUT, text=True, errors="replace", **how)
+    if ran.returncode:
+        raise Failed(f"{ran.stdout}page: {' '.join(map(str, words))}: status {ran.returncode}")
+    return ran.stdout
+
+
+# ---- the toolchain
+
+
+def kit() -> Path | None:
+    """The folder of the toolchain, which the command `rt` is in."""
+    command = shutil.which("rt")
+    return Path(os.path.realpath(command)).parent.parent if command else None
+
+
+def missing() -> list[str]:
+    """Says which tools are missing: the linker is the compiler by another name."""
+    found = {"rt": (shutil.which("rt"), "the Rattle toolchain, which is no package of Debian's"), "git": (shutil.which("git"), "git")}
+    if of := kit():
+        clang = of / "toolchain" / "bin" / "clang"
+        compiles = clang.is_file() and "wasm64" in run([clang, "--print-targets"])
+        links = compiles and subprocess.run(["wasm-ld", "--version"], executable=clang, capture_output=True).returncode == 0
+        found |= {
+            "clang for wasm64": (compiles, "the Rattle toolchain's own, in its folder toolchain"),
+            "wasm-ld": (links, "the Rattle toolchain's clang by that name"),
+        }
+    lacking = [it for it, (is_there, _) in found.items() if not is_there]
+    for it in lacking:
+        say(f"'{it}' is missing (package: {found[it][1]}): required")
+    return lacking
+
+
+def keeping(room: Path, tools: Path) -> Path:
+    """A toolchain whose compiler keeps the module before it compiles it."""
+    mine = room / "toolchain"
+    (mine / "bin").mkdir(parents=True)
+    (mine / "lib").symlink_to(tools / "lib")
+    for it in (tools / "bin").iterdir():
+        if it.name != "clang":
+            (mine / "bin" / it.name).symlink_to(it)
+    # (it runs in a folder with the module in it, and with no environment)
+    script = f'#!/bin/sh\n/bin/cp module.bc "{room}/module.bc" || exit 1\nexec "{tools}/bin/clang" "$@"\n'
+    (mine / "bin" / "clang").write_text(script, encoding="utf-8")
+    (mine / "bin" / "clang").chmod(0o755)
+    return mine
+
+
+def prove_again(room: Path, tools: Path) -> str:
+    """Has the library proved over what is kept of its proof, and compiled by the compiler that keeps the module; what was printed."""
+    rt = toolchain.load()
+    crate = rt.rtlib.Crate(str(CRATE), str(TOP), {})
+    if not ARCHIVE.is_file() or not all(it.is_built() for it in crate.below()):
+        raise Failed("page: the library isn't proved and built yet: run `rt lib` in crates/hp_c")
+    say("proving the library over what is kept of its proof, to keep its module")
+    crate.held = rt.rtlib.lock([*crate.below(), crate])
+    with open(room / "printed", "w+", encoding="utf-8") as crate.out, contextlib.redirect_stdout(crate.out):
+        words = [*crate.words([]), "--toolchain", str(keeping(room, tools)), "--backend", "llvm", *rt.rtlib.KEPT]
+        status = crate.call(rt.rtlib.RATTLE, "build", *words, "-o", str(room / "libhp_c.a"))
+    printed = (room / "printed").read_text(encoding="utf-8")
+    if status:
+        raise Failed(f"{printed}page: the library isn't proved: run `rt lib` in crates/hp_c")
+    return printed
+
+
+def module(room: Path, tools: Path) -> Module:
+    if given := os.environ.get("PAGE_MODULE"):
+        return Module(Path(given).resolve(), {"module": "made elsewhere and given to ./page: nothing is said here of its proof"})
+    printed = prove_again(room, tools)
+    if not (verdict := VERDICT.search(printed)):
+        raise Failed(f"{printed}page: the toolchain doesn't say logic=proved of hp_c")
+    archive = (room / "libhp_c.a").read_bytes()
+    if archive != ARCHIVE.read_bytes():
+        raise Failed("page: crates/hp_c/out/libhp_c.a is of other sources: run `rt lib` in crates/hp_c")
+    origin = {"proof": verdict[1], "toolchain": run(["rt", "--version"]).strip(), "archive": hashlib.sha256(archive).hexdigest()}
+    return Module(room / "module.bc", origin)
+
+
+# ---- WebAssembly
+
+
+def retargeted(text: str, layout: str) -> str:
+    """A module as text, with another machine in each of its lines about one: its triple, its layout, attributes of functions."""
+    for name, line in ("triple", f'target triple = "{TARGET}"'), ("datalayout", layout):
+        text, count = re.subn(rf"^target {name} = .*$", line, text, flags=re.MULTILINE)
+        if count != 1:
+            raise Failed(f"page: the module has {count} lines of its {name}")
+    text = re.sub(r"^attributes .*$", lambda it: OF_MACHINE.sub("", it[0]), text, flags=re.MULTILINE)
+    if named := re.search(r"^.*x86.*$", text, re.MULTILINE):
+        raise Failed(f"page: a line of the module still names another machine: {named[0]}")
+    return text
+
+
+def compiled(of: Path, room: Path, tools: Path, calls: list[str]) -> bytes:
+    """The module as WebAssembly that exports these calls."""
+    clang, heap = tools / "bin" / "clang", ["-O2", "-ffreestanding", "-x", "c", PAGE / "heap.c"]
+    run([clang, *COMPILES, "-c", *heap, "-o", room / "heap.o"])
+    run([clang, *COMPILES, "-S", "-emit-llvm", *heap, "-o", room / "heap.ll"])
+    layout = re.search(r"^target datalayout = .*$", (room / "heap.ll").read_text(encoding="utf-8"), re.MULTILINE)[0]
+    run([clang, "-S", "-emit-llvm", "-Xclang", "-disable-llvm-passes", "-O3", "-x", "ir", of, "-o", room / "module.ll"])
+    text = (room / "module.ll").read_text(encoding="utf-8")
+    (room / "module.ll").write_text(retargeted(text, layout), encoding="utf-8")
+    run([clang, *COMPILES, "-O3", "-c", "-x", "ir", room / "module.ll", "-o", room / "module.o"])
+    exports = [f"--export={it}" for it in [*calls, *HEAP_CALLS]]
+    run(["wasm-ld", *LINKS, *exports, "-o", room / "page.wasm", room / "module.o", room / "heap.o"], executable=clang)
+    return (room / "page.wasm").read_bytes()
+
+
+# ---- the page
+
+
+def layout_of(body: str) -> dict[str, object]:
+    """Where C puts each field of a struct, and how large the struct is."""
+    fields, end, most = [], 0, 1
+    for kind, name in re.findall(r"^    (\w+(?: \*)?) ?(\w+);", body, re.MULTILINE):
+        word, size = KINDS[kind]
+        end = (end + size - 1) // size * size
+        fields.append([name, word, end])
+        end, most = end + size, max(most, size)
+    return {"size": (end + most - 1) // most * most, "fields": fields}
+
+
+def header() -> dict[str, object]:
+    """What the page knows of hugepool.h: its numbers and its structs, by their names without `hugepool_`."""
+    text = HEADER.read_text(encoding="utf-8")
+    structs = {name: layout_of(body) for body, name in re.findall(r"^typedef struct \{\n(.*?)\n\} hugepool_(\w+);", text, re.DOTALL | re.MULTILINE)}
+    return {"structs": structs, "numbers": {name: int(number) for name, number in re.findall(r"\bHUGEPOOL_(\w+) = (\d+)", text)}}
+
+
+def calls() -> list[str]:
+    return re.findall(r"^\w+ (hugepool_\w+)\(", HEADER.read_text(encoding="utf-8"), re.MULTILINE)
+
+
+def examples() -> list[dict[str, str]]:
+    """The traces and the scripts that examples/README.md has a row of, in its order."""
+    found = []
+    for name, shows in SHOWN.findall((EXAMPLES / "README.md").read_text(encoding="utf-8")):
+        for kind in ("trace", "script"):
+            if (file := EXAMPLES / f"{name}.{kind}").is_file():
+                found.append({"name": name, "kind": kind, "shows": shows.replace("`", ""), "text": file.read_text(encoding="utf-8")})
+    return found
+
+
+def origin_of(of: Module, wasm: bytes) -> dict[str, str]:
+    """What the page says of where it is from."""
+    name, seconds = run(["git", "log", "-1", "--format=%H %ct"], cwd=TOP).split()
+    changes = ", with changes that aren't committed" if run(["git", "status", "--porcelain"], cwd=TOP) else ""
+    commit = f"{name} of {formatdate(int(seconds))}{changes}"
+    return {"commit": commit, **of.origin, "wasm": hashlib.sha256(wasm).hexdigest(), "bytes": f"{len(wasm):,} bytes"}
+
+
+def script() -> str:
+    """The page's JavaScript as one module: the files in their order, without the lines by which they import each other."""
+    text = "\n".join((PAGE / it).read_text(encoding="utf-8") for it in ("pool.js", "trace.js", "page.js"))
+    return re.sub(r"^import .*\n", "", re.sub(r"^export ", "", text, flags=re.MULTILINE), flags=re.MULTILINE)
+
+
+def page(of: Module, wasm: bytes) -> str:
+    data = {"header": header(), "examples": examples(), "origin": origin_of(of, wasm), "wasm": base64.b64encode(wasm).decode()}
+    parts = {
+        "style": (PAGE / "page.css").read_text(encoding="utf-8"),
+        "data": json.dumps(data, ensure_ascii=False, separators=(",", ":")).replace("</", "<\\/"),
+        "script": script(),
+    }
+    return re.sub(r"\{\{(\w+)\}\}", lambda it: parts[it[1]], (PAGE / "page.html").read_text(encoding="utf-8"))
+
+
+def build(to: Path) -> None:
+    tools = kit() / "toolchain"
+    with tempfile.TemporaryDirectory(prefix="page-") as name:
+        room = Path(name)
+        of = module(room, tools)
+        text = page(of, compiled(of.file, room, tools, calls()))
+    to.parent.mkdir(parents=True, exist_ok=True)
+    to.write_text(text, encoding="utf-8")
+    say(f"{to}: {to.stat().st_size:,} bytes")
+
+
+def main(words: list[str]) -> int:
+    if len(words) > 1 or any(it.startswith("-") for it in words) or words == ["help"]:
+        is_asked = words in (["-h"], ["--help"], ["help"])
+        print(__doc__ if is_asked else __doc__.split("\n\n")[1] + "\n", end="", file=sys.stdout if is_asked else sys.stderr)
+        return 0 if is_asked else 2
+    if missing():
+        return 127
+    try:
+        build(Path(words[0]) if words else TOP / "dist" / "hugepool.html")
+    except (Failed, toolchain.Unusable) as why:
+        print(why, file=sys.stderr)
+        return 1
+    return 0
+
+
+if __name__ == "__main__":
+    sys.exit(main(sys.argv[1:]))

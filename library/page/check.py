@@ -1,0 +1,58 @@
+#!/usr/bin/env python3
+"""Tries the page: its module on all traces of examples/, and clicks in a browser.
+
+usage: library/page/check.py [PAGE.html]
+
+With no page named, ./page writes one to try. Without node nothing is tried, and without chromium nothing is clicked. CHROMIUM names another
+browser that is made of it. The last line is 'N passed, M failed'.
+"""
+from __future__ import annotations
+
+import os
+import re
+import shutil
+import subprocess
+import sys
+import tempfile
+from pathlib import Path
+
+PAGE = Path(__file__).resolve().parent
+TOP = PAGE.parent.parent
+# by which node 20 has a memory of 64 bits; later versions have it without, or don't know the word
+MEMORY64 = "--experimental-wasm-memory64"
+COUNTS = re.compile(r"^(\d+) passed, (\d+) failed$", re.MULTILINE)
+
+
+def node(*words: str | Path) -> tuple[int, int]:
+    """How much of a script's tries passed and failed; its other lines are printed."""
+    knows = subprocess.run(["node", MEMORY64, "--eval", "0"], stderr=subprocess.DEVNULL).returncode == 0
+    ran = subprocess.run(["node", *([MEMORY64] if knows else []), *words], stdin=subprocess.DEVNULL, stdout=subprocess.PIPE, stderr=subprocess.STDOUT, text=True)
+    counts = COUNTS.search(ran.stdout)
+    print(COUNTS.sub("", ran.stdout).rstrip())
+    if not counts:
+        return 0, 1
+    return int(counts[1]), int(counts[2])
+
+
+def main(words: list[str]) -> int:
+    if len(words) > 1 or any(it.startswith("-") for it in words):
+        sys.exit(__doc__)
+    if not shutil.which("node"):
+        sys.exit("page: 'node' is missing (package: nodejs): required")
+    with tempfile.TemporaryDirectory(prefix="page-") as room:
+        file = Path(words[0]) if words else Path(room) / "hugepool.html"
+        if not words and subprocess.run([TOP / "page", file]).returncode:
+            return 1
+        counts = [node(PAGE / "module.mjs", file)]
+        browser = os.environ.get("CHROMIUM", "chromium")
+        if shutil.which(browser):
+            counts.append(node(PAGE / "clicks.mjs", file))
+        else:
+            print(f"page: no clicks are tried, since '{browser}' is missing (package: chromium)")
+    passed, failed = (sum(it) for it in zip(*counts))
+    print(f"{passed} passed, {failed} failed")
+    return 1 if failed else 0
+
+
+if __name__ == "__main__":
+    sys.exit(main(sys.argv[1:]))
