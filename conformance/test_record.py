@@ -3,6 +3,7 @@
 
 The recorder is compiled, for which a C compiler has to be there. That lines of scripts that are no good are told, each by its
 number, stands in `BAD`; that the scripts of this folder's records and those that are made can be read, `GOOD` and the rest say.
+Files that are no records, `NO_RECORDS`, are told by what reads records.
 """
 from __future__ import annotations
 
@@ -164,6 +165,42 @@ def faults_of_kinds() -> Iterator[tuple[object, object]]:
         yield lines, ("race-with-truncate." in lines) == ("mnulsakpt" in lines) and lines.count("\nrace ") == 4
 
 
+# files that are no records, and what is said of each by compare.py and by races.py
+NO_RECORDS = [
+    (b"\xff\xfe", "no text", "no text"),
+    (b"", "there is no script in it", "no script of it"),
+    (b"script a\nfoo\n", "line 2: ", "line 2: "),
+    (b"script a\npool 4 1 4 1\n", "has no 'end'", "has no 'end'"),
+    (b"script a\npool 4 1 4 1\nbegin 1 load = done\nend\n", "is no call with an answer", "no script of it"),
+    (b"script a\npool 4 1 4 1\nrace 1 2 3 = rest\nend\n", "", "no script of it"),
+]
+
+
+def faults_of_files() -> Iterator[tuple[object, object]]:
+    """That what is no record is told in a line, and so is what can't be read; and that a reader who is gone is no fault."""
+    with tempfile.TemporaryDirectory(prefix="records-") as name:
+        file = Path(name, "file")
+        for content, by_compare, by_races in NO_RECORDS:
+            file.write_bytes(content)
+            for program, said in (("compare.py", by_compare), ("races.py", by_races)):
+                if said:
+                    status, out, err = outcome(program, file)
+                    yield (program, content), (status, said in out + err, "Traceback" in err) == (1, True, False) or (status, out, err)
+        for program in ("compare.py", "races.py", "live/lost.py"):
+            status, out, err = outcome(program, Path(name, "none"))
+            yield f"{program} of no file", (status, out, err.count("\n")) == (2 if "lost" in program else 1, "", 1) or (status, out, err)
+    for words in (("generate.py", "1", "5000"), ("races.py", "--help"), ("compare.py", "--help"), ("packages.py", "--help")):
+        ran = subprocess.Popen([sys.executable, FOLDER / words[0], *words[1:]], stdout=subprocess.PIPE, stderr=subprocess.PIPE)
+        ran.stdout.close()
+        yield f"{words} with no reader", ran.stderr.read() == b"" and ran.wait() != 1
+
+
+def outcome(program: str, file: Path) -> tuple[int, str, str]:
+    """The status of a program that reads a file, and what it writes."""
+    ran = subprocess.run([sys.executable, FOLDER / program, file], capture_output=True, text=True, check=False)
+    return ran.returncode, ran.stdout, ran.stderr
+
+
 def main() -> int:
     compiler = os.environ.get("CC", "cc")
     if shutil.which(compiler) is None:
@@ -174,7 +211,7 @@ def main() -> int:
         recorder = Recorder(Path(name))
         tried = [("it compiles with no warning", recorder.is_built and not recorder.warnings or recorder.warnings)]
         if recorder.is_built:
-            tried += [*faults_of_reading(recorder), *faults_of_making(recorder), *faults_of_kinds()]
+            tried += [*faults_of_reading(recorder), *faults_of_making(recorder), *faults_of_kinds(), *faults_of_files()]
     wrong = [(what, found) for what, found in tried if found is not True]
     print("".join(f"  {what!r}: {found}\n" for what, found in wrong), end="")
     print(f"recorder: {len(tried) - len(wrong)} passed, {len(wrong)} failed")

@@ -245,6 +245,10 @@ def by_paths(room: Room) -> Iterator[tuple[str, bool]]:
     is_built = room.proved(13)
     found.unlink()
     yield "a call with no change walks over no folder", is_built and room.proved(13) and found.read_text(encoding="utf-8") == "-files0-from\n"
+    kept = room.top / "crates/hugepool/out/hugepool.folders"
+    room.write("crates/hugepool/src/main.rt", "while the paths are looked at")
+    kept.write_text("hugepool/src/main.rt", encoding="utf-8")
+    yield "a path that was newer when the list was made is noticed", room.proved(14) and room.proved(14)
     source = room.top / "crates/hugepool/src"
     old, other = source.stat(), room.top / "other_src"
     shutil.copytree(source, other)
@@ -252,16 +256,16 @@ def by_paths(room: Room) -> Iterator[tuple[str, bool]]:
     os.utime(other, ns=(old.st_atime_ns, old.st_mtime_ns))
     source.rename(room.top / "old_src")
     other.rename(source)
-    yield "a folder in the place of another is walked over", room.proved(14)
-    is_built = room.proved(14)
+    yield "a folder in the place of another is walked over", room.proved(15)
+    is_built = room.proved(15)
     with open(source / "main.rt", "a", encoding="utf-8") as file:
         file.write("changed in place")
-    yield "a file that changed in its place is noticed", is_built and room.proved(15)
+    yield "a file that changed in its place is noticed", is_built and room.proved(16)
     room.write("crates.txt", "a:\nhugepool: a\n")
-    is_built = room.proved(16) and room.proved(16)
+    is_built = room.proved(17) and room.proved(17)
     room.write("crates.txt", "a:\na_tests: a\nhugepool: a a_tests\n")
     os.utime(room.top / "crates.txt", (0, 0))
-    yield "one crate more is noticed, however old the list of crates is", is_built and room.proved(17)
+    yield "one crate more is noticed, however old the list of crates is", is_built and room.proved(18)
 
 
 def since_now(room: Room) -> dict[str, str]:
