@@ -156,7 +156,7 @@ def scripts(path: Path) -> Iterator[Script]:
     for number, line in enumerate(contents(path).splitlines(), 1):
         if line.startswith("script "):
             name, header, lines = line[len("script "):], None, []
-        elif line.startswith("#"):
+        elif line.startswith("#") or name is None and not line.strip():
             pass
         elif name is None or (header is None or line.startswith("pool ")) and not HEADER.match(line):
             raise OSError(None, f"line {number}: a script begins with 'script NAME' and 'pool F N S T'", str(path))

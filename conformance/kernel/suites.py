@@ -50,8 +50,6 @@ def read_scripts(path: Path) -> list[Script]:
         return [Script(it.name, it.header, [call_of(line) for line in it.lines]) for it in scripts(path)]
     except OSError as why:
         raise Problem(f"{path}: {why.strerror}") from why
-    except (UnboundLocalError, UnicodeDecodeError) as why:
-        raise Problem(f"{path} is not a file of scripts: each begins with 'script NAME' and 'pool F N S T'") from why
 
 
 def scripts_of(suite: Suite) -> list[Script]:
