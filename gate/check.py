@@ -8,7 +8,8 @@ usage: ./check [STEP] [..]
   ./check edits [CRATE ..] [--all] [--each]
                      the mutants: wrong bodies that the prover must refuse. With no crate named, those of each crate that changed, or
                      that stands on one that did, since they were refused; where few are due, those of some other crates, too
-                     (--all: all); then faulty mutants that must be reported, and docs/INDEX.md.
+                     (--all: all); then faulty mutants that must be reported, and
+                     whether docs/INDEX.md and pictures are what scripts write.
                      Of crates that are named all mutants; --each prints a line for each
   ./check examples   the output of the traces of examples/, which no single output shows, of each command's help, and of each wrong
                      field of a line; a long race, and its trace; that the programs compiled without proof print the same, that a
@@ -21,7 +22,8 @@ usage: ./check [STEP] [..]
                      races in every schedule, and the recorder, as far as it needs no kernel (needs cc)
   ./check library    libhugepool: its header beside definitions and sources, and programs in C, Rust and Python that call it, with
                      sanitizers and with each growth of memory refused (needs cc; for Rust cargo, for Python pytest)
-  ./check quick      before a commit: the format of changed texts; proofs and tests of what changed; whether each mutant applies
+  ./check quick      before a commit: the format of changed texts; proofs and tests of what changed; whether each mutant applies;
+                     names in documents, and what scripts write there
 
 First it lists the commands that are missing. At the end it prints what each step took, and what was left out.
 The last line is 'N passed, M failed'.
@@ -50,7 +52,7 @@ from times import Times
 # the scripts of each step, with their words; ci and quick run more than scripts
 SCRIPTS = {
     "ci": ("rt ci",),
-    "edits": ("gate/try_edits.py", "gate/test_edits.py", "gate/index.py"),
+    "edits": ("gate/try_edits.py", "gate/test_edits.py", "gate/index.py", "gate/pictures.py"),
     "examples": (
         "gate/examples.py",
         "gate/sweep.py",
@@ -79,7 +81,7 @@ SCRIPTS = {
         "conformance/test_versions.py",
     ),
     "library": ("library/header.py", "library/check.py"),
-    "quick": ("rt check and test", "gate/documents.py"),
+    "quick": ("rt check and test", "gate/documents.py", "gate/index.py", "gate/pictures.py"),
 }
 # the commands that scripts need, each with its Debian package and what is left out without it; without the first two nothing runs
 NEEDS = {
@@ -203,8 +205,8 @@ def edits(gate: Gate, words: list[str]) -> bool:
 
 
 def quick(gate: Gate, _: list[str]) -> bool:
-    first, documents = SCRIPTS["quick"]
-    return gate.timed("quick", first, lambda: proofs_and_tests(gate)) and gate.script("quick", documents)
+    first, *others = SCRIPTS["quick"]
+    return gate.timed("quick", first, lambda: proofs_and_tests(gate)) and all([gate.script("quick", it) for it in others])
 
 
 def proofs_and_tests(gate: Gate) -> bool:

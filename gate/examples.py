@@ -3,7 +3,7 @@
 
 Each trace of examples/ and of the folders in it is replayed: NAME.out has the output, NAME.err and NAME.status the complaint and the
 status, where they aren't nothing and 0. NAME.explained is what is written where the trace is explained, and docs/pictures/NAME.svg what
-is drawn of it. Each `$` line of docs/TRACES.md is run by a shell, and has to print the lines below it. All these, and those of
+is drawn of it (pictures.py makes the others there). Each `$` line of docs/TRACES.md is run by a shell, and has to print the lines below it. All these, and those of
 examples/commands/, are rows (rows.py), and each row has to notice changes of what it compares.
 Each script is explored by the words behind each `#` of the file NAME.lines beside it, and its lines are compared with those
 below the words; and the schedule of each first run is replayed, and ends with the counts of that run's line. Each script is
@@ -19,6 +19,7 @@ import tempfile
 from pathlib import Path
 from typing import Iterator
 
+import pictures
 import rows
 from programs import Ran, built, report, run
 from rows import CHANGES, Row, first_difference
@@ -47,6 +48,11 @@ def text(name: str, ending: str, otherwise: str = "") -> str:
     return file.read_bytes().decode() if file.is_file() else otherwise
 
 
+def drawings() -> list[Path]:
+    """The pictures that are drawn of traces: all but those that a script makes of the repository's texts."""
+    return sorted(it for it in PICTURES.glob("*.svg") if it.name not in pictures.made())
+
+
 def trace_rows() -> Iterator[tuple[str, Row]]:
     """The traces with what stands beside them."""
     for name in sorted(names(".trace")):
@@ -54,7 +60,7 @@ def trace_rows() -> Iterator[tuple[str, Row]]:
         yield name, Row(name, ["replay"], status, trace, stdout=text(name, ".out"), stderr=text(name, ".err"))
         if name in names(".explained"):
             yield name, Row(name, ["explain"], stdin=trace, stdout=text(name, ".explained"))
-    for picture in sorted(PICTURES.glob("*.svg")):
+    for picture in drawings():
         yield picture.name, Row(picture.stem, ["draw"], stdin=text(picture.stem, ".trace"), stdout=picture.read_bytes().decode())
 
 
@@ -137,7 +143,7 @@ def tries(program: Path, room: Path) -> Iterator[tuple[str, bool]]:
         yield f"there are rows for {runs.name}", bool(several)
         for name, row in several:
             yield from rows.tries(runs, name, row)
-    yield "pictures are drawn", any(PICTURES.glob("*.svg"))
+    yield "pictures are drawn", bool(drawings())
     for name in sorted(names(".script")):
         yield from script_tries(program, name)
     yield from races_noticed()
