@@ -14,8 +14,8 @@ usage: ./check [STEP] [..]
   ./check examples   the output of the traces of examples/, which no single output shows, of each command's help, and of each wrong
                      field of a line; a long race, and its trace; that the programs compiled without proof print the same, that a
                      journal that goes wrong and a flush that fails are found (needs cc); when ./hugepool builds; what ./check
-                     itself counts; the names in documents; with cargo, each size beside plain programs, and some seconds of random
-                     and damaged traces
+                     itself counts; the names in documents, and what commands print that they show; with cargo, each size beside plain
+                     programs, and some seconds of random and damaged traces
   ./check refusals   a failed allocation, read or write at each place where programs and drivers make one, one a run, and how many
                      threads the commands start, and that those of a race meet (needs cc)
   ./check linux      what Linux kernels answered (conformance/), peers' tests, recordings of races, those that hp_linux follows, a few
@@ -63,6 +63,7 @@ SCRIPTS = {
         "gate/test_proving.py",
         "gate/test_check.py",
         "gate/documents.py",
+        "gate/shown.py",
         "bench/fuzz.sh 10 1",
     ),
     "refusals": ("gate/growths.py",),

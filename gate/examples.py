@@ -24,13 +24,12 @@ import rows
 from programs import Ran, built, report, run
 from rows import CHANGES, Row, first_difference
 from scratch import TOP
+from shown import BY_EXAMPLES, shown_in
 
 FOLDER = TOP / "examples"
 COMMANDS = FOLDER / "commands"
 PICTURES = TOP / "docs" / "pictures"
 SHELL = Path("/bin/bash")
-# the documents whose commands are run
-SHOWN = ("TRACES.md",)
 RACES = 20
 # how the journal of a race is cut, or that it isn't
 CUTS = ("", *(f" --cut {calls}" for calls in range(1, 7)))
@@ -66,15 +65,10 @@ def trace_rows() -> Iterator[tuple[str, Row]]:
 
 def session_rows(document: str) -> Iterator[tuple[str, Row]]:
     """The commands behind each `$` of a document's blocks, with the lines below them, for a shell."""
-    command, lines = None, []
-    for line in [*(TOP / "docs" / document).read_text(encoding="utf-8").splitlines(), ""]:
-        if command and line.startswith("    ") and not line.startswith("    $ "):
-            lines.append(f"{line[4:]}\n")
-            continue
-        if command:
-            does = f"cd {shlex.quote(str(TOP))} && exec 2>&1\n{command}\n:"
-            yield f"{document}: {command}", Row(command, [shlex.join(["-o", "pipefail", "-c", does])], stdout="".join(lines))
-        command, lines = line[6:] if line.startswith("    $ ") else None, []
+    for it in shown_in(document, (TOP / document).read_text(encoding="utf-8")):
+        does = f"cd {shlex.quote(str(TOP))} && exec 2>&1\n{it.command}\n:"
+        words = shlex.join(["-o", "pipefail", "-c", does])
+        yield f"{document}: {it.command}", Row(it.command, [words], stdout="".join(f"{line}\n" for line in it.lines))
 
 
 def unlisted(listing: str) -> list[str]:
@@ -138,7 +132,7 @@ def races_noticed() -> Iterator[tuple[str, bool]]:
 def tries(program: Path, room: Path) -> Iterator[tuple[str, bool]]:
     """What is tried, and whether it went as it should."""
     yield from listings()
-    by_program = {program: [*trace_rows(), *rows.rows_below(COMMANDS)], SHELL: [it for name in SHOWN for it in session_rows(name)]}
+    by_program = {program: [*trace_rows(), *rows.rows_below(COMMANDS)], SHELL: [it for name in BY_EXAMPLES for it in session_rows(name)]}
     for runs, several in by_program.items():
         yield f"there are rows for {runs.name}", bool(several)
         for name, row in several:
