@@ -2,8 +2,9 @@
 """Runs the commands that documents show with their output, and compares what they print with the lines below them.
 
 A shown command is a line `    $ COMMAND` of README.md, docs/*.md or examples/README.md; the indented lines below it are its output, with
-the complaints (docs/TRACES.md is left to gate/examples.py). A line `..` stands for some lines that the page leaves out. Run are commands of ./hugepool that print the same each time,
-with filters; the others are listed. Each output that is compared has to notice changes of it.
+the complaints (docs/TRACES.md is left to gate/examples.py). A line `..` stands for one line or more that the page leaves out. Run are
+commands of ./hugepool, and accounts of recordings, that print the same each time, with filters; the others are listed. Each output that
+is compared has to notice changes of it.
 """
 from __future__ import annotations
 
@@ -21,8 +22,11 @@ from scratch import TOP
 PAGES = ("README.md", "docs/*.md", "examples/README.md")
 # the pages all of whose commands gate/examples.py runs, slow ones, too
 BY_EXAMPLES = ("docs/TRACES.md",)
-# the commands of the program that print the same each time, and what may stand beside them; `$it` is one of a loop's
-PRINTING = {"explain", "replay", "check", "explore", "schedule", "draw", "work", "$it"}
+# programs with the first words behind them with which they print the same each time, and what may stand beside them
+PRINTING = {
+    "./hugepool": {"explain", "replay", "check", "explore", "schedule", "draw", "work"},
+    "conformance/live/check.py": {"--account"},
+}
 BESIDE = {"sed", "head", "tail", "grep", "sort", "uniq", "printf", "echo", "yes", "for", "do", "done", "{", "}", ""}
 ENDS = {"|", ";", "&&", "||"}
 LEFT_OUT = ".."
@@ -64,8 +68,8 @@ def parts(command: str) -> list[list[str]]:
 
 def is_run(shown: Shown) -> bool:
     several = parts(shown.command)
-    own = [it for it in several if it[:1] == ["./hugepool"]]
-    return bool(own) and all(it in own or not it or it[0] in BESIDE for it in several) and all(it[1] in PRINTING for it in own)
+    own = [it for it in several if it and it[0] in PRINTING]
+    return bool(own) and all(it[1] in PRINTING[it[0]] if it in own else not it or it[0] in BESIDE for it in several)
 
 
 def agree(printed: list[str], wanted: list[str]) -> bool:
@@ -77,6 +81,12 @@ def agree(printed: list[str], wanted: list[str]) -> bool:
     if printed[:at] != wanted[:at]:
         return False
     return any(agree(printed[k:], rest) for k in range(at + 1, len(printed) + 1))
+
+
+def difference(printed: list[str], wanted: list[str]) -> str:
+    if LEFT_OUT in wanted:
+        return f"it prints {len(printed)} lines, which aren't those of the page with some more at each '{LEFT_OUT}'"
+    return first_difference(printed, wanted)
 
 
 def printed_by(command: str) -> list[str]:
@@ -114,7 +124,7 @@ def unnoticed(printed: list[str], wanted: list[str]) -> list[str]:
 def shown_tries(shown: Shown) -> Iterator[tuple[str, bool]]:
     printed = printed_by(shown.command)
     has_agreed = agree(printed, shown.lines)
-    yield f"{shown.page}: {shown.command}: {first_difference(printed, shown.lines)}", has_agreed
+    yield f"{shown.page}: {shown.command}: {difference(printed, shown.lines)}", has_agreed
     if has_agreed and shown.lines:
         yield f"{shown.page}: {shown.command}: not noticed: {unnoticed(printed, shown.lines)}", not unnoticed(printed, shown.lines)
 
