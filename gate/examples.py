@@ -3,7 +3,8 @@
 
 Each trace of examples/ and of the folders in it is replayed: NAME.out has the output, NAME.err and NAME.status the complaint and the
 status, where they aren't nothing and 0. NAME.explained is what is written where the trace is explained, and docs/pictures/NAME.svg what
-is drawn of it (pictures.py makes the others there). Each `$` line of docs/TRACES.md is run by a shell, and has to print the lines below it. All these, and those of
+is drawn of it (pictures.py makes the others there).
+Each `$` line of docs/TRACES.md is run by a shell, and has to print the lines below it. All these, and those of
 examples/commands/, are rows (rows.py), and each row has to notice changes of what it compares.
 Each script is explored by the words behind each `#` of the file NAME.lines beside it, and its lines are compared with those
 below the words; and the schedule of each first run is replayed, and ends with the counts of that run's line. Each script is

@@ -74,8 +74,10 @@ def main(words: list[str]) -> int:
         PAGE.write_text(wanted, encoding="utf-8")
         return 0
     stale = sorted({*page.splitlines()} - {*wanted.splitlines()})
-    print("".join(f"  docs/TESTED.md: not so: {it}: gate/numbers.py --write\n" for it in stale or ([] if page == wanted else ["its table"])), end="")
-    failed = len(stale) or int(page != wanted)
+    if page != wanted and not stale:
+        stale = ["its table"]
+    print("".join(f"  docs/TESTED.md: not so: {it}: gate/numbers.py --write\n" for it in stale), end="")
+    failed = len(stale)
     print(f"numbers: {len(NUMBERS) - min(failed, len(NUMBERS))} passed, {failed} failed")
     return 1 if failed else 0
 
