@@ -2,9 +2,10 @@
 """Says whether each path, link, command and public call that a document names is there.
 
 A document is a file *.md outside of the crates. Looked at are the words between backquotes and the lines of commands in blocks:
-a path has to be the end of one in the repository; a link has to lead to a file and a heading; `./hugepool` has to have the command and its options, `./check` the step; and of a call
-`hp_frames::Bank::take` or `hp_frames::Bank::{take, free}` each name has to be declared in that crate. In a table whose rows begin with
-crates, the calls of the last column leave the crate out: they have to be declared in one of the row's crates.
+a path has to be the end of one in the repository; a link has to lead to a file and a heading; `./hugepool` has to have the command and
+its options, `./check` the step; and of a call `hp_frames::Bank::take` or `hp_frames::Bank::{take, free}` each name has to be declared in
+that crate. In a table whose rows begin with crates, the calls of the last column leave the crate out: they have to be declared in one of
+the row's crates. The blocks of docs/MACHINE.md have to stand in the specs of the machine, but for white space.
 """
 from __future__ import annotations
 
@@ -145,6 +146,22 @@ def link_faults(document: Path, text: str) -> Iterator[str]:
             yield f"{file.name} has no heading {heading}"
 
 
+def flat(text: str) -> str:
+    """A text of specs without comments, white space and semicolons."""
+    return re.sub(r"--[^\n]*|[\s;]+", "", text)
+
+
+def quotation_faults(text: str) -> Iterator[str]:
+    """The blocks that don't stand in the machine's specs. One whose first line ends with a colon has a record's fields, line by line."""
+    files = sorted((TOP / "crates" / "hp_machine" / "specs").glob("*.antt"))
+    said = flat("".join(it.read_text(encoding="utf-8") for it in files))
+    for block in re.findall(r"(?:^    .+\n)+", text, re.M):
+        first, *others = block.splitlines()
+        fields = [re.sub(r"^ *(\w+) +", r"pub \1 : ", it) for it in others]
+        pieces = [f"pub record {first.split()[0]}", *fields] if first.endswith(":") else [block]
+        yield from (f"no spec has {it.strip()[:60]}" for it in pieces if flat(it) not in said)
+
+
 # a document of which each line is wrong
 WRONG = """`docs/NOT_THERE.md` `hp_frames::Bank::not_there` `hp_not_there::Bank` `hp_frames::Bank::{take, not_there}`
     ./hugepool raplay < examples/map-four-of-four.trace
@@ -164,6 +181,10 @@ def tries() -> Iterator[tuple[str, bool]]:
         text = file.read_text(encoding="utf-8")
         faults = [*faults_in(text), *link_faults(file, text)]
         yield f"{file.relative_to(TOP)}: {'; '.join(faults)}", not faults
+    machine = (TOP / "docs" / "MACHINE.md").read_text(encoding="utf-8")
+    yield f"docs/MACHINE.md quotes the specs: {'; '.join(quotation_faults(machine))}", not any(quotation_faults(machine))
+    for old, new in (("≤ s.resv)", "< s.resv)"), ("≡ actives s", "≡ actives n")):
+        yield f"in a quotation {new!r} is noticed", len(list(quotation_faults(machine.replace(old, new)))) == 1
     noticed = len([*faults_in(WRONG), *link_faults(TOP / "README.md", WRONG)])
     yield f"of thirteen wrong names {noticed} are noticed", noticed == 13
 
