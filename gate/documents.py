@@ -162,6 +162,11 @@ def quotation_faults(text: str) -> Iterator[str]:
         yield from (f"no spec has {it.strip()[:60]}" for it in pieces if flat(it) not in said)
 
 
+def unlisted(text: str) -> set[str]:
+    """The crates that have no row in docs/ARCHITECTURE.md."""
+    return set(crates_of(TOP)) - set(re.findall(r"^\| [^|]*\| `(\w+)` \|", text, re.M))
+
+
 # a document of which each line is wrong
 WRONG = """`docs/NOT_THERE.md` `hp_frames::Bank::not_there` `hp_not_there::Bank` `hp_frames::Bank::{take, not_there}`
     ./hugepool raplay < examples/map-four-of-four.trace
@@ -185,6 +190,9 @@ def tries() -> Iterator[tuple[str, bool]]:
     yield f"docs/MACHINE.md quotes the specs: {'; '.join(quotation_faults(machine))}", not any(quotation_faults(machine))
     for old, new in (("≤ s.resv)", "< s.resv)"), ("≡ actives s", "≡ actives n")):
         yield f"in a quotation {new!r} is noticed", len(list(quotation_faults(machine.replace(old, new)))) == 1
+    architecture = (TOP / "docs" / "ARCHITECTURE.md").read_text(encoding="utf-8")
+    yield f"docs/ARCHITECTURE.md lists all crates: {unlisted(architecture)}", not unlisted(architecture)
+    yield "one that it doesn't list is noticed", unlisted(architecture.replace("| `hp_laws` |", "| |")) == {"hp_laws"}
     noticed = len([*faults_in(WRONG), *link_faults(TOP / "README.md", WRONG)])
     yield f"of thirteen wrong names {noticed} are noticed", noticed == 13
 
