@@ -1,0 +1,5 @@
+pub mod Conditions
+pub mod Cutting
+pub mod Hunting
+pub mod Moments
+pub mod Watching
