@@ -79,3 +79,11 @@ pub step_within : (mid new : List Event) (from len : ℕ) (done : Bool) → from
 step_within mid new from len true within cuts keeps =
     omega (arith, within, cut_length from len mid within, ap (λ (x : List Event). length x) (cuts refl))
 step_within mid new from len false within cuts keeps = omega (arith, within, ap (λ (x : List Event). length x) (keeps refl))
+
+-- no more are left than there were
+pub fewer_left : (left events : List Event) → IsSubsequence left events → length left ≤ length events
+unfolding IsSubsequence
+fewer_left left [] is = omega (arith, ap (λ (x : List Event). length x) is)
+fewer_left left (e ∷ events) (inl dropped) = omega (arith, fewer_left left events dropped)
+fewer_left left (e ∷ events) (inr kept) =
+    omega (arith, ap (λ (x : List Event). length x) kept.1, fewer_left kept.0 events kept.2)

@@ -1,3 +1,4 @@
+pub mod Claims
 pub mod Conditions
 pub mod Cutting
 pub mod Hunting

@@ -3,6 +3,7 @@ ghost use Rattle.std.specs.Prelude.{◌≡◌, ◌≤◌, None, IfErr, IfOk, IfS
 ghost use Rattle.hp_explore.specs.Schedule.{plan_of};
 ghost use Rattle.hp_hunt.specs.Hunting.{IsFound, NoneMeets, RunMeets, RunMisses};
 
+use crate::claims::{Part, search_part};
 use crate::condition::Condition;
 use crate::watching::{are_met, see_all, watch_all};
 use hp_base::{Answer, Event, Op};
@@ -10,6 +11,7 @@ use hp_core::Outcome;
 use hp_explore::{Chances, Plan, ScheduledRun};
 use hp_text::{ReplayFault, Script, Trace};
 use std::alloc::{AllocError, Global};
+use std::thread::Threads;
 
 /// Which runs of a script are searched.
 #[derive(Clone, Copy, Debug, PartialEq, Eq)]
@@ -31,7 +33,7 @@ pub struct Found {
 }
 
 /// Explores one run, and keeps its events. Tells whether it meets all conditions.
-fn explore_run(
+pub(crate) fn explore_run(
     alloc: Global,
     script: &Script,
     plan: &Plan,
@@ -60,9 +62,13 @@ fn explore_run(
     Ok(are_met(watches.as_slice(), turns.core()))
 }
 
+/// How many runs are handed to the workers at once.
+const PART: u32 = 16_384;
+
 /// The first run of a script, among so many, that meets all conditions, as a trace. Run k goes by the generator that is seeded
-/// with `hunt.seed + k`, wrapping.
+/// with `hunt.seed + k`, wrapping. However many threads there are, it is the same. Nothing in it waits.
 pub fn find(
+    rt: &(impl Threads + Sync),
     alloc: Global,
     script: &Script,
     hunt: Hunt,
@@ -72,25 +78,22 @@ pub fn find(
     ensures none { IfOk result (λ result. result ≡ None → NoneMeets script.now hunt conditions.now hunt.limit) }
     ensures memory { IfErr result (λ fault. fault ≡ ReplayFault.Memory) }
 {
-    let plan = Plan::new(alloc, script, hunt.chances)?;
-    let mut events = Vec::new(alloc);
-    for run in 0..hunt.limit {
-        let met = explore_run(
-            alloc,
+    let plan = &Plan::new(alloc, script, hunt.chances)?;
+    let mut first = 0;
+    while first < hunt.limit {
+        let count = (hunt.limit - first).min(PART);
+        let part = Part {
             script,
-            &plan,
-            hunt.seed,
-            run,
+            plan,
+            seed: hunt.seed,
             conditions,
-            &mut events,
-        )?;
-        if met {
-            let trace = Trace {
-                config: script.config,
-                events,
-            };
-            return Ok(Some(Found { run, trace }));
+            first,
+            count,
+        };
+        if let Some(found) = search_part(rt, alloc, part)? {
+            return Ok(Some(found));
         }
+        first += count;
     }
     Ok(None)
 }

@@ -5,6 +5,7 @@
 //! trace no event can go. It knows no words of a command line and no stream.
 #![tactic(auto)]
 
+mod claims;
 mod condition;
 mod cutting;
 mod finding;
