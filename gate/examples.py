@@ -29,7 +29,7 @@ COMMANDS = FOLDER / "commands"
 PICTURES = TOP / "docs" / "pictures"
 SHELL = Path("/bin/bash")
 # the documents whose commands are run
-SHOWN = ("TRACES.md",)
+SHOWN = ("TRACES.md", "EXPLORING.md")
 RACES = 20
 # how the journal of a race is cut, or that it isn't
 CUTS = ("", *(f" --cut {calls}" for calls in range(1, 7)))
