@@ -223,7 +223,7 @@ pub(crate) fn seed_option<'a>(alloc: Global) -> Arg<'a> {
 fn runs_option<'a>(alloc: Global) -> Arg<'a> {
     number(alloc, "runs", "10")
         .value_parser(clap::value_parser!(u32).range(1..=65_536))
-        .help("How many runs")
+        .help("How many runs, 65536 at most")
 }
 
 fn audit_option<'a>(alloc: Global) -> Arg<'a> {
@@ -231,7 +231,7 @@ fn audit_option<'a>(alloc: Global) -> Arg<'a> {
         .long("audit")
         .action(ArgAction::SetTrue)
         .help(
-            "Audits the pool after each turn; the audit is proved to pass, so it changes nothing but the time",
+            "Audits the pool after each turn, which takes up to thousands of times as long; the audit is proved to pass, so the lines are the same",
         )
 }
 
