@@ -224,6 +224,8 @@ def cases() -> list[Case]:
         # (the lines of the first part are written while the second is explored)
         explored("explore --runs 513", "pool 1 1 1 1\n")._replace(lines=513),
         plain("schedule --seed 7", script),
+        explored("find --seed 7 --answer 1:2=beyond", script),
+        plain("minimize --answer 1:2=beyond", example("truncate-overtakes-a-store.trace")),
         raced("race --times 2", script)._replace(lines=2),
         raced("race --times 1 --cut 2", script),
         raced("race --times 1", crowd(12)),
@@ -236,7 +238,8 @@ def stream_cases() -> list[Case]:
     calls = "begin 1 map 0 0 1\nbegin 1 unmap 0\n"
     trace, script, short = "pool 4 1 4 2\n" + "step 1\n" * 2_000, "pool 4 1 4 2\n" + calls * 400, "pool 4 1 4 2\n" + calls * 10
     found = [plain_words(words, trace) for words in ("replay", "explain", "draw", "check")]
-    found += [plain_words(words, script) for words in ("schedule", "explore --runs 600")]
+    found += [plain_words(words, script) for words in ("schedule", "explore --runs 600", "find --final resv=1")]
+    found += [plain_words("minimize --final resv=0", trace)]
     # (a race writes each line by itself)
     found += [Case("race --times 3", short, is_race, is_race_front), Case("race --trace", short, begins_alike, begins_alike)]
     writes = [plain_words(words, "")._replace(fails=("WRITE",)) for words in ("work readback", "--help")]

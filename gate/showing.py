@@ -176,7 +176,8 @@ def helps() -> Iterator[tuple[str, bool]]:
     for command, text in help_of.items():
         about, _, usage = text.split("\n")[:3]
         yield f"{command} --help begins with what --help tells of it", about == told[command]
-        options = " [OPTIONS]" if command in ("explore", "schedule", "race", "work") else ""
+        options = " CONDITION.." if command in ("find", "minimize") else ""
+        options += " [OPTIONS]" if command in ("explore", "schedule", "find", "race", "work") else ""
         wanted = " <NAME>" if command == "work" else " < FILE"
         yield f"{command} --help tells how it is called ({usage})", usage == f"Usage: hugepool {command}{options}{wanted}"
     for command in ("explain", "draw", "check"):

@@ -2,7 +2,7 @@
 """Runs the commands that documents show with their output, and compares what they print with the lines below them.
 
 A shown command is a line `    $ COMMAND` of README.md, docs/*.md or examples/README.md; the indented lines below it are its output, with
-the complaints (docs/TRACES.md is left to gate/examples.py). A line `..` stands for one line or more that the page leaves out. Run are
+the complaints (two pages are left to gate/examples.py). A line `..` stands for one line or more that the page leaves out. Run are
 commands of ./hugepool, and accounts of recordings, that print the same each time, with filters; the others are listed. Each output that
 is compared has to notice changes of it.
 """
@@ -21,10 +21,10 @@ from scratch import TOP
 
 PAGES = ("README.md", "docs/*.md", "examples/README.md")
 # the pages all of whose commands gate/examples.py runs, slow ones, too
-BY_EXAMPLES = ("docs/TRACES.md",)
+BY_EXAMPLES = ("docs/TRACES.md", "docs/EXPLORING.md")
 # programs with the first words behind them with which they print the same each time, and what may stand beside them
 PRINTING = {
-    "./hugepool": {"explain", "replay", "check", "explore", "schedule", "draw", "work"},
+    "./hugepool": {"explain", "replay", "check", "explore", "schedule", "find", "minimize", "draw", "work"},
     "conformance/live/check.py": {"--account"},
 }
 BESIDE = {"sed", "head", "tail", "grep", "sort", "uniq", "printf", "echo", "yes", "for", "do", "done", "{", "}", ""}

@@ -8,5 +8,6 @@ pub mod Pieces
 pub mod Retained
 pub mod Runnable
 pub mod Runs
+pub mod SoFar
 pub mod Twins
 pub mod WrittenLines

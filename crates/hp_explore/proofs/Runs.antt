@@ -7,6 +7,7 @@ use Rattle.hp_base.specs.declared.event.Event.{Event}
 use Rattle.hp_laws.proofs.Deciding.{never}
 use Rattle.hp_explore.specs.declared.line.Finish.{Finish}
 use Rattle.hp_explore.specs.declared.line.RunLine.{RunLine}
+use Rattle.hp_explore.specs.declared.turned.Turned.{Turned}
 use Rattle.hp_text.specs.declared.script.Script.{Script}
 use Rattle.hp_explore.specs.Schedule.{Plan, World, IsStart, Turn, AreRunnable, plan_of}
 use Rattle.hp_explore.specs.Explored.{IsClean, IsRun, IsExplored, line_of, idle_finish, last_finish, turn_limit}
@@ -44,12 +45,12 @@ explored script seed deny kill run first left plan w events line planned seeded 
   subst (λ (p : Plan). IsRun p run turn_limit w events line) planned (subst (λ (n : ℕ). IsRun plan run n w events line) all on),
 )
 
--- a turn's answer: nothing, or its event
-pub none_told : (o : Option Event) → is_some o ≡ false → o ≡ None
+-- a turn's answer: nothing, or what it made
+pub none_told : (o : Option Turned) → is_some o ≡ false → o ≡ None
 none_told None e = refl
 none_told (Some x) e = never (sym e)
 
-pub some_told : (o : Option Event) → is_some o ≡ true → (x : Event) × (o ≡ Some x)
+pub some_told : (o : Option Turned) → is_some o ≡ true → (x : Turned) × (o ≡ Some x)
 some_told None e = never e
 some_told (Some x) e = (x, refl)
 

@@ -5,4 +5,5 @@ pub mod CanNow
 pub mod Phases
 pub mod RunLines
 pub mod Schedule
+pub mod SoFar
 pub mod Text

@@ -9,12 +9,13 @@ use crate::plan::{Chances, Plan};
 use crate::runnable_tasks::RunnableTasks;
 use crate::walk::Walk;
 use hp_audit::Finding;
-use hp_base::{Event, Op};
+use hp_base::{Answer, Event, Op};
+use hp_core::Outcome;
 use hp_text::Script;
 use std::alloc::{AllocError, Global};
 
 /// After so many turns a run is ended.
-const TURN_LIMIT: u32 = 1_000_000;
+pub(crate) const TURN_LIMIT: u32 = 1_000_000;
 
 /// Whether the audit of the core's picture is run on every turn. It passes, so the lines are the same.
 #[derive(Clone, Copy, Debug, PartialEq, Eq)]
@@ -46,14 +47,16 @@ pub(crate) fn explore_one(
     ensures line { IfOk result (λ line. IsLine script.now seed plan.now.deny plan.now.kill run line) }
     ensures ends { IfOk result (λ line. EndsWell line.finish) }
 {
-    // The checker of borrows asks for a mention of the type that an event may hold.
-    let _none: Option<Op> = None;
+    // The checker of borrows asks for a mention of the types that a turn may hold.
+    let _none: (Option<Event>, Option<Op>, Option<Outcome>, Option<Answer>) = (
+        None, None, None, None,
+    );
     let mut walk = Walk::new(alloc, script, seed.wrapping_add(u64::from(run)))?;
     let mut tasks = RunnableTasks::new();
     walk.list_runnable(plan, &mut tasks);
     for turn in 0..TURN_LIMIT {
-        let event = walk.turn(plan, &mut tasks)?;
-        if event.is_none() {
+        let turned = walk.turn(plan, &mut tasks)?;
+        if turned.is_none() {
             return Ok(walk.line(run, walk.idle_finish(plan)));
         }
         walk.is_clean();
@@ -76,15 +79,17 @@ fn events_of(
     ensures line { IfOk result (λ events. (line : RunLine) × IsExplored script.now seed plan.now.deny plan.now.kill 0 events.items line) }
     ensures few { IfOk result (λ events. length events.items ≤ 1000000) }
 {
-    // The checker of borrows asks for a mention of the type that an event may hold.
-    let _none: Option<Op> = None;
+    // The checker of borrows asks for a mention of the types that a turn may hold.
+    let _none: (Option<Event>, Option<Op>, Option<Outcome>, Option<Answer>) = (
+        None, None, None, None,
+    );
     let mut walk = Walk::new(alloc, script, seed)?;
     let mut tasks = RunnableTasks::new();
     walk.list_runnable(plan, &mut tasks);
     let mut events = Vec::new(alloc);
     for made in 0..TURN_LIMIT {
         match walk.turn(plan, &mut tasks)? {
-            Some(event) => events.push(event)?,
+            Some(turned) => events.push(turned.event)?,
             None => return Ok(events),
         }
         walk.is_clean();

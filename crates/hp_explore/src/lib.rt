@@ -16,6 +16,8 @@ mod plan;
 mod remainders;
 mod run_lines;
 mod runnable_tasks;
+mod scheduled_run;
+mod turned;
 mod walk;
 
 pub use exploration::{Exploration, explore, explore_hostile, schedule, write_explored};
@@ -23,5 +25,7 @@ pub use exploring::Audit;
 pub use hp_audit::Finding;
 pub use laws::{a_line_is_one, a_replayed_run_has_its_line};
 pub use line::{Finish, RunLine};
-pub use plan::Chances;
+pub use plan::{Chances, Plan};
 pub use run_lines::write_lines;
+pub use scheduled_run::ScheduledRun;
+pub use turned::Turned;

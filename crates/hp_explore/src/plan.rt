@@ -18,7 +18,7 @@ pub struct Chances {
 
 /// The calls of each task, in order, and the chances. It is made once, and no run changes it.
 #[derive(Drop)]
-pub(crate) struct Plan {
+pub struct Plan {
     queues: Vec<Vec<Op>>,
     pub(crate) chances: Chances,
     pub(crate) remainders: Remainders,
@@ -38,7 +38,8 @@ impl Model for Plan {
 }
 
 impl Plan {
-    pub(crate) fn new(alloc: Global, script: &Script, chances: Chances) -> Result<Plan, AllocError>
+    /// The plan of a script's runs.
+    pub fn new(alloc: Global, script: &Script, chances: Chances) -> Result<Plan, AllocError>
         ensures { IfOk result (λ plan. plan ≡ plan_of script.now chances.deny chances.kill) }
     {
         let queues = queues_of(alloc, script)?;

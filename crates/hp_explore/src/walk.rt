@@ -17,6 +17,7 @@ ghost use Rattle.hp_explore.specs.Explored.{EndsWell, IsClean, idle_finish, last
 use crate::line::{Finish, RunLine};
 use crate::plan::Plan;
 use crate::runnable_tasks::RunnableTasks;
+use crate::turned::Turned;
 use hp_audit::{Finding, audit};
 use hp_base::{Event, Op, Task};
 use hp_core::{Answer, Core, Life, Outcome, Phase};
@@ -245,12 +246,13 @@ impl Walk {
     /// it may take one, or where its task can't take another, some of these may be held up: they are struck off. Else the same
     /// can take a turn as before.
     #[inline(always)]
-    fn turn_of(&mut self, plan: &Plan, tasks: &mut RunnableTasks) -> Result<Event, AllocError>
+    fn turn_of(&mut self, plan: &Plan, tasks: &mut RunnableTasks) -> Result<Turned, AllocError>
         requires runnable { AreRunnable plan.now self.old tasks.old }
         requires in_range { All (λ t. (1 ≤ t) × (t ≤ length self.old.made)) tasks.old }
         requires some { 0 < length tasks.old }
         requires turns { self.old.turns < 1000000 }
-        ensures turn { IfOk result (λ event. Turn plan.now self.old event self.new) }
+        ensures turn { IfOk result (λ turned. Turn plan.now self.old turned.event self.new) }
+        ensures row { IfOk result (λ turned. Row self.old.core turned.event turned.outcome self.new.core) }
         ensures runnable { OnOk result (AreRunnable plan.now self.new tasks.new) }
         ensures in_range { OnOk result (All (λ t. (1 ≤ t) × (t ≤ length self.new.made)) tasks.new) }
     {
@@ -259,22 +261,22 @@ impl Walk {
         let at = self.phase(task);
         let event = self.choose(plan, task);
         self.core.is_reached();
-        self.make(&event, task)?;
+        let outcome = self.make(&event, task)?;
         if can_leave(at) {
             self.list_runnable(plan, tasks);
         } else if may_pass(at) || !self.can_turn(plan, task) {
             self.strike(plan, tasks);
         }
-        Ok(event)
+        Ok(Turned { event, outcome })
     }
 
     /// Makes the turn's event, which is one of this task alone.
     #[inline(always)]
-    fn make(&mut self, event: &Event, task: u32) -> Result<(), AllocError>
+    fn make(&mut self, event: &Event, task: u32) -> Result<Outcome, AllocError>
         requires turns { self.old.turns < 1000000 }
         requires task { (1 ≤ task) × (task ≤ length self.old.made) }
         requires alone { (u : ℕ) → IsOf u event.now → u ≡ task }
-        ensures row { OnOk result ((outcome : Outcome) × Row self.old.core event.now outcome self.new.core) }
+        ensures row { IfOk result (λ outcome. Row self.old.core event.now outcome self.new.core) }
         ensures turns { OnOk result (self.new.turns ≡ self.old.turns + 1) }
         ensures made { OnOk result (self.new.made ≡ self.old.made) }
         ensures rng { OnOk result (self.new.rng ≡ self.old.rng) }
@@ -285,20 +287,22 @@ impl Walk {
         let outcome = self.core.step(*event)?;
         self.phases[task as usize - 1] = phase_after(&self.core, task, &outcome);
         self.turns += 1;
-        Ok(())
+        Ok(outcome)
     }
 
-    /// One turn, if a task may take one: tells its event. `tasks` lists those that may, before and behind it.
+    /// One turn, if a task may take one: its event and what came of it. `tasks` lists those that may, before and behind it.
     #[inline(always)]
     pub(crate) fn turn(
         &mut self,
         plan: &Plan,
         tasks: &mut RunnableTasks,
-    ) -> Result<Option<Event>, AllocError>
+    ) -> Result<Option<Turned>, AllocError>
         requires turns { self.old.turns < 1000000 }
         requires runnable { AreRunnable plan.now self.old tasks.old }
         requires in_range { All (λ t. (1 ≤ t) × (t ≤ length self.old.made)) tasks.old }
-        ensures turn { IfOk result (λ turn. IfSome turn (λ event. Turn plan.now self.old event self.new)) }
+        ensures turn { IfOk result (λ turn. IfSome turn (λ turned. Turn plan.now self.old turned.event self.new)) }
+        ensures row { IfOk result (λ turn. IfSome turn (λ turned.
+            Row self.old.core turned.event turned.outcome self.new.core)) }
         ensures idle { IfOk result (λ turn. turn ≡ None → AreRunnable plan.now self.old []) }
         ensures stays { IfOk result (λ turn. turn ≡ None → self.new ≡ self.old) }
         ensures runnable { OnOk result (AreRunnable plan.now self.new tasks.new) }
@@ -307,8 +311,23 @@ impl Walk {
         if tasks.is_empty() {
             return Ok(None);
         }
-        let event = self.turn_of(plan, tasks)?;
-        Ok(Some(event))
+        let turned = self.turn_of(plan, tasks)?;
+        Ok(Some(turned))
+    }
+
+    /// The core between the turns.
+    pub(crate) fn core(&self) -> &Core
+        ensures { result.now ≡ self.now.core }
+    {
+        &self.core
+    }
+
+    /// How many turns were made.
+    #[inline(always)]
+    pub(crate) fn turns(&self) -> u32
+        ensures { result ≡ self.now.turns }
+    {
+        self.turns
     }
 
     /// How the run ends where no turn is left. These are the tasks that could take one.

@@ -1,4 +1,5 @@
 mod Answering
+mod Hunted
 mod Reporting
 mod Scheduled
 mod Texts

@@ -38,7 +38,7 @@ pub record Passes (Done Partly : Between) (IsFront : Sizes → List Event → Li
       → HasFront IsFront from to before after
 
 -- an empty buffer held nothing back
-all_kept : (mid after : Option (List ℕ)) (left : List ℕ) → left ≡ [] → Keeps mid (append_known after left) → Keeps mid after
+pub all_kept : (mid after : Option (List ℕ)) (left : List ℕ) → left ≡ [] → Keeps mid (append_known after left) → Keeps mid after
 all_kept mid after left empty kept =
     subst (λ (x : Option (List ℕ)). Keeps mid x) (unbuffered after)
     (subst (λ (x : List ℕ). Keeps mid (append_known after x)) empty kept)

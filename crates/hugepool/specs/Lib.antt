@@ -1,4 +1,5 @@
 pub mod Endings
+pub mod Hunting
 pub mod Racing
 pub mod Requests
 pub mod Status

@@ -8,6 +8,7 @@ use Rattle.hp_base.specs.declared.event.Event.{Event}
 use Rattle.hp_draw.specs.Drawing.{IsDrawing, PictureOf}
 use Rattle.hp_explain.specs.Explaining.{Beginning, Explained, Explanation}
 use Rattle.hp_explore.specs.Explored.{IsExplored}
+use Rattle.hp_hunt.specs.declared.condition.Condition.{Condition}
 use Rattle.hp_explore.specs.declared.line.RunLine.{RunLine}
 use Rattle.hp_text.specs.declared.script.Script.{Script}
 use Rattle.hp_program.specs.Endings.{HoldsFront, ReaderAt}
@@ -22,13 +23,17 @@ use Rattle.hp_text.specs.Traces.{HasFault, trace_text}
 use Rattle.hp_text.specs.Writing.{IsWriteFault, Wrote}
 use Rattle.hp_explore.specs.declared.exploration.Exploration.{Exploration}
 use Rattle.hugepool.specs.Endings.{AnsweredNone, AnsweredReplay}
+use Rattle.hugepool.specs.Hunting.{Finds, FindsNone, IsFinding, Minimizes, MinimizesNone, IsMinimized}
 use Rattle.hugepool.specs.Racing.{Races, RacesPartly}
 use Rattle.hugepool.specs.Status.{status_at}
 use Rattle.hugepool.specs.Working.{AnsweredWork}
 use Rattle.hugepool.specs.declared.command.Request.{Request}
 use Rattle.hugepool.specs.declared.command.Request.TheVariants as request
 use Rattle.hugepool.specs.declared.command.Scheduling.{Scheduling}
+use Rattle.hugepool.specs.declared.conditions.Search.{Search}
 use Rattle.hugepool.specs.declared.racing.Racing.{Racing}
+use Rattle.hugepool.specs.declared.program.Missed.{Missed}
+use Rattle.hugepool.specs.declared.program.Missed.TheVariants as missed
 use Rattle.hugepool.specs.declared.program.Stop.{Stop}
 use Rattle.hugepool.specs.declared.program.Stop.TheVariants as stop
 
@@ -105,6 +110,7 @@ AnsweredRuns Done Partly Bad (Err (stop.Replay fault)) old new before after =
     ReaderAt fault old new × Bad fault × IfThere after (PartAt Partly fault before)
 AnsweredRuns Done Partly Bad (Err (stop.Usage error)) old new before after = ⊥
 AnsweredRuns Done Partly Bad (Err (stop.Work fault)) old new before after = ⊥
+AnsweredRuns Done Partly Bad (Err (stop.Missed what)) old new before after = ⊥
 
 abbrev pub AnsweredExplore : Exploration → Result (Unit {0}) Stop → Option (List ℕ) → Option (List ℕ) → (old new : ℕ)
     → Option (List ℕ) → Option (Option (List ℕ)) → Type 0
@@ -154,6 +160,7 @@ AnsweredText Done IsFront Bad (Err (stop.Replay fault)) from to old new before a
 AnsweredText Done IsFront Bad (Err stop.Unfinished) from to old new before after = ⊥
 AnsweredText Done IsFront Bad (Err (stop.Usage error)) from to old new before after = ⊥
 AnsweredText Done IsFront Bad (Err (stop.Work fault)) from to old new before after = ⊥
+AnsweredText Done IsFront Bad (Err (stop.Missed what)) from to old new before after = ⊥
 
 -- how many events there are, told in a line
 abbrev pub IsCount : Sizes → List Event → List ℕ → Type 0
@@ -190,6 +197,33 @@ abbrev pub AnsweredSchedule : Scheduling → Result (Unit {0}) Stop → Option (
 AnsweredSchedule s answer from to old new before after =
     AnsweredText (Schedules s) (IsScheduled s) HasScriptFault answer from to old new before after
 
+-- What is answered where what was read is searched: a text is written as above, or `Misses` holds of what was read, which is told,
+-- and nothing is written
+abbrev pub AnsweredHunt : (Option (List ℕ) → Option (List ℕ) → Option (List ℕ) → Option (List ℕ) → Type 0)
+    → (Option (List ℕ) → Option (List ℕ) → Type 0) → (Sizes → List Event → List ℕ → Type 0) → (List ℕ → ReplayFault → Type 0)
+    → Missed → Result (Unit {0}) Stop → Option (List ℕ) → Option (List ℕ) → (old new : ℕ) → Option (List ℕ)
+    → Option (Option (List ℕ)) → Type 0
+AnsweredHunt Done Misses IsFront Bad missed (Ok x) from to old new before after =
+    AnsweredText Done IsFront Bad (Ok x) from to old new before after
+AnsweredHunt Done Misses IsFront Bad missed (Err (stop.Missed what)) from to old new before after =
+    (what ≡ missed) × (new ≡ old) × Misses from to × IfThere after (λ held. Keeps before held)
+AnsweredHunt Done Misses IsFront Bad missed (Err (stop.Replay fault)) from to old new before after =
+    AnsweredText Done IsFront Bad (Err (stop.Replay fault)) from to old new before after
+AnsweredHunt Done Misses IsFront Bad missed (Err stop.Unfinished) from to old new before after = ⊥
+AnsweredHunt Done Misses IsFront Bad missed (Err (stop.Usage error)) from to old new before after = ⊥
+AnsweredHunt Done Misses IsFront Bad missed (Err (stop.Work fault)) from to old new before after = ⊥
+
+abbrev pub AnsweredFind : Search → Result (Unit {0}) Stop → Option (List ℕ) → Option (List ℕ) → (old new : ℕ)
+    → Option (List ℕ) → Option (Option (List ℕ)) → Type 0
+AnsweredFind s answer from to old new before after =
+    AnsweredHunt (Finds s) (FindsNone s) (IsFinding s) HasScriptFault (missed.Runs s.hunt.limit) answer from to old new before after
+
+abbrev pub AnsweredMinimize : List Condition → Result (Unit {0}) Stop → Option (List ℕ) → Option (List ℕ) → (old new : ℕ)
+    → Option (List ℕ) → Option (Option (List ℕ)) → Type 0
+AnsweredMinimize conditions answer from to old new before after =
+    AnsweredHunt (Minimizes conditions) (MinimizesNone conditions) (IsMinimized conditions) HasFault missed.Trace answer from to old new
+    before after
+
 -- what is answered at each request
 abbrev pub Answered : Request → Result (Unit {0}) Stop → Option (List ℕ) → Option (List ℕ) → (old new : ℕ)
     → Option (List ℕ) → Option (Option (List ℕ)) → Type 0
@@ -199,6 +233,9 @@ Answered request.Check answer from to old new before after = AnsweredCheck answe
 Answered request.Explain answer from to old new before after = AnsweredExplain answer from to old new before after
 Answered request.Draw answer from to old new before after = AnsweredDraw answer from to old new before after
 Answered (request.Schedule s) answer from to old new before after = AnsweredSchedule s answer from to old new before after
+Answered (request.Find s) answer from to old new before after = AnsweredFind s answer from to old new before after
+Answered (request.Minimize conditions) answer from to old new before after =
+    AnsweredMinimize conditions.items answer from to old new before after
 Answered (request.Race r) answer from to old new before after = AnsweredRace r answer from to old new before after
 Answered (request.Work words) answer from to old new before after =
     (new ≡ old) × Keeps from to × IfThere after (AnsweredWork words answer before)

@@ -94,3 +94,4 @@ AnsweredWork words (Err (stop.Replay fault)) before after =
     × ((report : Report) × (line : List ℕ) × Reports words report line × Wrote before after line)
 AnsweredWork words (Err (stop.Usage error)) before after = ⊥
 AnsweredWork words (Err stop.Unfinished) before after = ⊥
+AnsweredWork words (Err (stop.Missed what)) before after = ⊥

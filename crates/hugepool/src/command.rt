@@ -1,8 +1,10 @@
 //! The words of the command line.
+use crate::conditions::{Search, find_command, minimize_command, read_conditions, read_search};
 use crate::racing::{Racing, race_command, race_words};
 use crate::working::{WorkWords, work_command, work_words};
 use clap::{Arg, ArgAction, ArgMatches, Command, Error};
 use hp_explore::{Audit, Chances, Exploration};
+use hp_hunt::Condition;
 use std::alloc::{AllocError, Global};
 use std::convert::AsStr;
 
@@ -28,6 +30,10 @@ pub(crate) enum Request {
     Draw,
     /// To read a script, and write one run of it as a trace.
     Schedule(Scheduling),
+    /// To read a script, and write a run of it that meets conditions as a trace.
+    Find(Search),
+    /// To read a trace that meets conditions, and write a small one that still does.
+    Minimize(Vec<Condition>),
     /// To read a script, and race its tasks.
     Race(Racing),
     /// To run a workload.
@@ -37,16 +43,18 @@ pub(crate) enum Request {
 /// Reads the words of a command line.
 pub(crate) fn read_words<S: AsStr>(alloc: Global, words: &[S]) -> Result<Request, Error> {
     let matches = command(alloc)?.try_get_matches_from(words)?;
-    Ok(read_request(alloc, &matches)?)
+    read_request(alloc, &matches)
 }
 
-fn read_request(alloc: Global, matches: &ArgMatches) -> Result<Request, AllocError> {
+fn read_request(alloc: Global, matches: &ArgMatches) -> Result<Request, Error> {
     Ok(match matches.subcommand() {
         Some(("explore", given)) => Request::Explore(exploration(given)),
         Some(("check", _)) => Request::Check,
         Some(("explain", _)) => Request::Explain,
         Some(("draw", _)) => Request::Draw,
         Some(("schedule", given)) => Request::Schedule(read_scheduling(given)),
+        Some(("find", given)) => Request::Find(read_search(alloc, given)?),
+        Some(("minimize", given)) => Request::Minimize(read_conditions(alloc, given)?),
         Some(("race", given)) => Request::Race(race_words(given)),
         Some(("work", given)) => Request::Work(work_words(alloc, given)?),
         _ => Request::Replay,
@@ -77,11 +85,11 @@ fn audit_of(given: &ArgMatches) -> Audit {
     }
 }
 
-fn seed(given: &ArgMatches) -> u64 {
+pub(crate) fn seed(given: &ArgMatches) -> u64 {
     given.get_one::<u64>("seed").unwrap_or(1)
 }
 
-fn chances(given: &ArgMatches) -> Chances {
+pub(crate) fn chances(given: &ArgMatches) -> Chances {
     Chances {
         deny: given.get_one::<u32>("deny").unwrap_or(0),
         kill: given.get_one::<u32>("kill").unwrap_or(0),
@@ -134,6 +142,8 @@ fn command<'a>(alloc: Global) -> Result<Command<'a>, AllocError> {
             .subcommand(explore(alloc)?)?
             .subcommand(check(alloc))?
             .subcommand(schedule(alloc)?)?
+            .subcommand(find_command(alloc)?)?
+            .subcommand(minimize_command(alloc)?)?
             .subcommand(race_command(alloc)?)?
             .subcommand(work_command(alloc)?)?,
     )
@@ -197,11 +207,14 @@ fn with_runs<'a>(alloc: Global, command: Command<'a>) -> Result<Command<'a>, All
 }
 
 // The options that say what happens by chance.
-fn with_chances<'a>(alloc: Global, command: Command<'a>) -> Result<Command<'a>, AllocError> {
+pub(crate) fn with_chances<'a>(
+    alloc: Global,
+    command: Command<'a>,
+) -> Result<Command<'a>, AllocError> {
     command.arg(deny_option(alloc))?.arg(kill_option(alloc))
 }
 
-fn seed_option<'a>(alloc: Global) -> Arg<'a> {
+pub(crate) fn seed_option<'a>(alloc: Global) -> Arg<'a> {
     number(alloc, "seed", "1")
         .value_parser(clap::value_parser!(u64))
         .help("The seed of run 0, of 64 bits")
@@ -210,7 +223,7 @@ fn seed_option<'a>(alloc: Global) -> Arg<'a> {
 fn runs_option<'a>(alloc: Global) -> Arg<'a> {
     number(alloc, "runs", "10")
         .value_parser(clap::value_parser!(u32).range(1..=65_536))
-        .help("How many runs")
+        .help("How many runs, 65536 at most")
 }
 
 fn audit_option<'a>(alloc: Global) -> Arg<'a> {
@@ -218,7 +231,7 @@ fn audit_option<'a>(alloc: Global) -> Arg<'a> {
         .long("audit")
         .action(ArgAction::SetTrue)
         .help(
-            "Audits the pool after each turn; the audit is proved to pass, so it changes nothing but the time",
+            "Audits the pool after each turn, which takes up to thousands of times as long; the audit is proved to pass, so the lines are the same",
         )
 }
 

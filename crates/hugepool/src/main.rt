@@ -8,9 +8,12 @@
 mod carrying;
 mod checking;
 mod command;
+mod conditions;
 mod drawing;
 mod explaining;
 mod exploring;
+mod finding;
+mod minimizing;
 mod program;
 mod racing;
 mod scheduling;

@@ -1,5 +1,5 @@
 //! What the program does, over any words and streams.
-ghost use Rattle.std.specs.Prelude.{◌≡◌, ◌≢◌, Some, Ok, Err, Result, true, IsOk, OnOk, IfOk, IfErr};
+ghost use Rattle.std.specs.Prelude.{◌≡◌, ◌≢◌, Some, Ok, Err, Result, true, false, IsOk, OnErr, OnOk, IfOk, IfErr};
 ghost use Rattle.std.specs.Io.KnownBytes.{Keeps};
 ghost use Rattle.std.specs.Option.{option_map};
 ghost use Rattle.clap.specs.Values.{kind_of};
@@ -13,6 +13,8 @@ use crate::command::{Request, read_words};
 use crate::drawing::run_draw;
 use crate::explaining::run_explain;
 use crate::exploring::run_explore;
+use crate::finding::run_find;
+use crate::minimizing::run_minimize;
 use crate::racing::run_race;
 use crate::scheduling::run_schedule;
 use crate::working::{WorkFault, run_work};
@@ -40,6 +42,18 @@ pub(crate) enum Stop {
     Unfinished,
     #[error("{0}")]
     Work(WorkFault),
+    #[error("{0}")]
+    Missed(Missed),
+}
+
+/// What doesn't meet the conditions.
+#[derive(Clone, Copy, Debug, PartialEq, Eq, Error)]
+pub(crate) enum Missed {
+    /// None of so many runs does.
+    #[error("hugepool: none of {0} runs meets it\n")]
+    Runs(u32),
+    #[error("hugepool: the trace doesn't meet it\n")]
+    Trace,
 }
 
 impl Stop {
@@ -48,7 +62,7 @@ impl Stop {
     {
         match self {
             Stop::Usage(_) => 2,
-            Stop::Replay(_) | Stop::Unfinished => 1,
+            Stop::Replay(_) | Stop::Unfinished | Stop::Missed(_) => 1,
             Stop::Work(fault) => fault.status(),
         }
     }
@@ -86,7 +100,7 @@ fn carry_out<H: Threads + Wait + Sync, R: Source + Recalls, W: Write + Drop>(
     ensures none { IfErr asked (λ error. EndsWith result.0 (λ answer. AnsweredNone error answer (R.remaining reader.old)
         (R.remaining reader.new) (R.failures reader.old) (R.failures reader.new) (W.contents out) (option_map W.contents result.1))) }
 {
-    let (answer, out) = answer(rt, alloc, asked, reader, out);
+    let (answer, out) = answer(rt, alloc, asked, reader, out, faults);
     (end(answer, &*reader, faults), out)
 }
 
@@ -118,6 +132,7 @@ fn answer<H: Threads + Wait + Sync, R: Source, W: Write + Drop>(
     asked: Result<Request, clap::Error>,
     reader: &mut R,
     mut out: W,
+    faults: &mut impl Write,
 ) -> (Result<(), Stop>, Option<W>)
     ensures asked { IfOk asked (λ request. Answered request result.0 (R.remaining reader.old) (R.remaining reader.new)
         (R.failures reader.old) (R.failures reader.new) (W.contents out) (option_map W.contents result.1)) }
@@ -134,6 +149,13 @@ fn answer<H: Threads + Wait + Sync, R: Source, W: Write + Drop>(
         Ok(Request::Explain) => run_explain(alloc, reader, out),
         Ok(Request::Draw) => run_draw(alloc, reader, out),
         Ok(Request::Schedule(scheduling)) => run_schedule(alloc, scheduling, reader, out),
+        Ok(Request::Find(search)) => run_find(rt, alloc, search, reader, out, faults),
+        Ok(Request::Minimize(conditions)) => run_minimize(
+            alloc,
+            conditions.as_slice(),
+            reader,
+            out,
+        ),
         Ok(Request::Race(racing)) => run_race(rt, alloc, racing, reader, out),
         Ok(Request::Work(words)) => run_work(rt, alloc, words, out),
         Err(error) => match error.kind() {
@@ -153,6 +175,26 @@ pub(crate) fn stopped(answer: Result<(), ReplayFault>) -> Result<(), Stop>
     match answer {
         Ok(()) => Ok(()),
         Err(fault) => Err(Stop::Replay(fault)),
+    }
+}
+
+/// What is answered where a trace was written that meets the conditions, or nothing since there is none. A flush that fails is a
+/// failed write.
+pub(crate) fn hunted_answer(
+    met: Result<bool, ReplayFault>,
+    flushed: io::Result<()>,
+    missed: Missed,
+) -> Result<(), Stop>
+    ensures failed { OnErr flushed (result ≡ Err (Stop.Replay ReplayFault.Write)) }
+    ensures fault { OnOk flushed (IfErr met (λ fault. result ≡ Err (Stop.Replay fault))) }
+    ensures met { OnOk flushed (met ≡ Ok true → result ≡ Ok tt) }
+    ensures missed { OnOk flushed (met ≡ Ok false → result ≡ Err (Stop.Missed missed)) }
+{
+    match (flushed, met) {
+        (Err(_), _) => Err(Stop::Replay(ReplayFault::Write)),
+        (Ok(()), Err(fault)) => Err(Stop::Replay(fault)),
+        (Ok(()), Ok(true)) => Ok(()),
+        (Ok(()), Ok(false)) => Err(Stop::Missed(missed)),
     }
 }
 

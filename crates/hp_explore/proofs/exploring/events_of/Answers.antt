@@ -6,6 +6,7 @@ use Rattle.std.proofs.lemmas.List.{append-nil}
 use Rattle.hp_explore.specs.Schedule.{Turn}
 use Rattle.std.specs.Prelude.{Option, IfSome}
 use Rattle.hp_base.specs.declared.event.Event.{Event}
+use Rattle.hp_explore.specs.declared.turned.Turned.{Turned}
 use Rattle.hp_explore.specs.Explored.{IsExplored, line_of, idle_finish, last_finish}
 use Rattle.hp_explore.proofs.Runs.{by_turn, by_idling, by_limit, explored, seed_alone}
 use Rattle.hp_explore.proofs.exploring.events_of.Goals as goal
@@ -36,7 +37,7 @@ returns-in-None c =
         line,
         subst (λ (es : List Event). IsExplored c.args.script.now c.args.seed plan.deny plan.kill 0 es line)
             (append-nil c.loop-made.events.items)
-            (c.loop-made.invariant.goes_on [] line (by_idling plan 0 left w (c.in_ok-event.ensures.idle c.in-None.is))),
+            (c.loop-made.invariant.goes_on [] line (by_idling plan 0 left w (c.in_ok-turned.ensures.idle c.in-None.is))),
       );
       few = omega (arith, c.loop-made.invariant.count);
     }
@@ -47,18 +48,18 @@ loop-made-preserved c =
     let w = c.loop-made.walk in
     let v = c.turn.new.self in
     let i = c.loop-made.made in
-    let e = c.in-Some.event in
+    let e = c.in-Some.turned.event in
     let old = c.loop-made.events.items in
     let new = c.push.new.self.items in
     let is : new ≡ old ++ e ∷ [] = c.in_ok-push-in-Some.ensures.items in
     let longer : length (old ++ e ∷ []) ≡ length old + 1 = grind (arith, common_steps) in
     let long : length new ≡ length (old ++ e ∷ []) = ap (λ (es : List Event). length es) is in
     let turn : Turn plan w e v =
-    subst (λ (o : Option Event). IfSome o (λ event. Turn plan w event v)) c.in-Some.is c.in_ok-event.ensures.turn in
+    subst (λ (o : Option Turned). IfSome o (λ turned. Turn plan w turned.event v)) c.in-Some.is c.in_ok-turned.ensures.turn in
     record {
       turns = omega (arith, turn.turns, c.loop-made.invariant.turns);
-      runnable = c.in_ok-event.ensures.runnable;
-      in_range = c.in_ok-event.ensures.in_range;
+      runnable = c.in_ok-turned.ensures.runnable;
+      in_range = c.in_ok-turned.ensures.in_range;
       count = omega (arith, long, longer, c.loop-made.invariant.count);
       goes_on = λ rest line run. subst (λ (es : List Event). IsExplored c.args.script.now c.args.seed plan.deny plan.kill 0 es line)
           (sym (append_assoc old (e ∷ []) rest) ∙ ap (λ (es : List Event). es ++ rest) (sym is))

@@ -2,7 +2,7 @@
 use Rattle.std.proofs.Common.{◌≡◌, ◌+◌, ◌-◌, ◌%◌, ◌^◌, ◌∙◌, ℕ, [], ◌∷◌, sym, ap, subst}
 use Rattle.std.proofs.Common.{refl, arith}
 use Rattle.std.specs.Prelude.{Option, not, IfSome}
-use Rattle.hp_base.specs.declared.event.Event.{Event}
+use Rattle.hp_explore.specs.declared.turned.Turned.{Turned}
 use Rattle.hp_explore.specs.declared.line.Finish.{Finish}
 use Rattle.hp_explore.specs.declared.line.RunLine.{RunLine}
 use Rattle.hp_explore.specs.Schedule.{Turn}
@@ -30,11 +30,11 @@ returns-then-is_none-clause-line c =
     let run = c.args.run in
     let w = c.loop-turn.walk in
     let left = 1000000 - c.loop-turn.turn in
-    let none = none_told c.in_ok-event.event (c.is_none.ensures ∙ ap not c.if-is_none.true) in
+    let none = none_told c.in_ok-turned.turned (c.is_none.ensures ∙ ap not c.if-is_none.true) in
     let is = idle_line plan run w c.turn.new.self c.idle_finish.result c.line.result c.line.ensures c.idle_finish.ensures.finish
-    (c.in_ok-event.ensures.stays none) in
+    (c.in_ok-turned.ensures.stays none) in
     c.loop-turn.invariant.goes_on [] c.line.result
-    (subst (λ (l : RunLine). IsRun plan run left w [] l) (sym is) (by_idling plan run left w (c.in_ok-event.ensures.idle none)))
+    (subst (λ (l : RunLine). IsRun plan run left w [] l) (sym is) (by_idling plan run left w (c.in_ok-turned.ensures.idle none)))
 
 pub loop-turn-preserved : goal.loop-turn-preserved
 loop-turn-preserved c =
@@ -42,15 +42,15 @@ loop-turn-preserved c =
     let w = c.loop-turn.walk in
     let v = c.turn.new.self in
     let i = c.loop-turn.turn in
-    let some = some_told c.in_ok-event.event (c.is_none.ensures ∙ ap not c.if-is_none.false) in
-    let turn : Turn plan w some.0 v =
-    subst (λ (o : Option Event). IfSome o (λ event. Turn plan w event v)) some.1 c.in_ok-event.ensures.turn in
+    let some = some_told c.in_ok-turned.turned (c.is_none.ensures ∙ ap not c.if-is_none.false) in
+    let turn : Turn plan w some.0.event v =
+    subst (λ (o : Option Turned). IfSome o (λ turned. Turn plan w turned.event v)) some.1 c.in_ok-turned.ensures.turn in
     record {
       turns = omega (arith, turn.turns, c.loop-turn.invariant.turns);
-      runnable = c.in_ok-event.ensures.runnable;
-      in_range = c.in_ok-event.ensures.in_range;
-      goes_on = λ events line rest. c.loop-turn.invariant.goes_on (some.0 ∷ events) line
-          (by_turn plan c.args.run (1000000 - (i + 1)) (1000000 - i) w v some.0 events line (omega (arith, c.loop-turn-test.true)) turn
+      runnable = c.in_ok-turned.ensures.runnable;
+      in_range = c.in_ok-turned.ensures.in_range;
+      goes_on = λ events line rest. c.loop-turn.invariant.goes_on (some.0.event ∷ events) line
+          (by_turn plan c.args.run (1000000 - (i + 1)) (1000000 - i) w v some.0.event events line (omega (arith, c.loop-turn-test.true)) turn
           c.is_clean.ensures rest);
     }
 

@@ -27,7 +27,7 @@ returns-clause-runnable c =
     let left = ap (λ (x : World). x.core) c.choose-event.ensures.left in
     let same_core = left ∙ ap (λ (x : World). x.core) c.self.view_is in
     let same_made = ap (λ (x : World). x.made) c.self.view_is in
-    let made = c.in_ok-make.ensures.made ∙ ap (λ (x : World). x.made) c.choose-event.ensures.left in
+    let made = c.in_ok-outcome.ensures.made ∙ ap (λ (x : World). x.made) c.choose-event.ensures.left in
     let reached = subst (λ (x : World). IsReached (as_state x.core)) c.self-2.view_is c.is_reached.ensures in
     let place = c.of-place.result in
     let within : place < length old = omega (arith, c.of-place.ensures, c.len.ensures.len, c.requires.some) in
@@ -41,15 +41,15 @@ returns-clause-runnable c =
       | then-can_leave b ↦ subst Lists (sym b.tasks-is) b.list_runnable.ensures.tasks
       | else-can_leave+then-may_pass b ↦ (let stays = ap (λ (s : CoreState). task_may_leave (phase_of s t)) left
           ∙ (ap task_may_leave (sym c.phase-at.ensures) ∙ (sym c.can_leave.ensures ∙ b.if-can_leave.false)) in
-          let held = holds_on _ v.core _ _ t c.in_ok-make.ensures.row.1 alone stays in
+          let held = holds_on _ v.core _ _ t c.in_ok-outcome.ensures.row alone stays in
           subst Lists (sym (b.tasks-is ∙ b.strike.ensures))
-          (list_struck plan w v _ _ _ c.in_ok-make.ensures.row.0 t _ _ _ old same_core same_made reached c.in_ok-make.ensures.row.1
+          (list_struck plan w v _ _ _ c.in_ok-outcome.outcome t _ _ _ old same_core same_made reached c.in_ok-outcome.ensures.row
           c.choose-event.ensures.event made one held could c.requires.runnable))
       | else-can_leave+else-may_pass+else-not-can_turn b ↦ (let quiet = ap (λ (s : CoreState). task_may_pass (phase_of s t)) left
           ∙ (ap task_may_pass (sym c.phase-at.ensures) ∙ (sym b.may_pass.ensures ∙ b.if-may_pass.false)) in
-          let held = holding_stays _ v.core _ _ t c.in_ok-make.ensures.row.1 alone quiet in
+          let held = holding_stays _ v.core _ _ t c.in_ok-outcome.ensures.row alone quiet in
           subst Lists (sym b.tasks-is)
-          (list_stays plan w v _ _ _ c.in_ok-make.ensures.row.0 t _ _ _ old same_core same_made reached c.in_ok-make.ensures.row.1
+          (list_stays plan w v _ _ _ c.in_ok-outcome.outcome t _ _ _ old same_core same_made reached c.in_ok-outcome.ensures.row
           c.choose-event.ensures.event made one held could (b.can_turn.ensures.can b.if-not-can_turn.false) c.requires.runnable))
     ]
 
@@ -57,7 +57,7 @@ pub returns-clause-in_range : goal.returns-clause-in_range
 returns-clause-in_range c =
     let v = c.make.new.self in
     let InRange : List ℕ → Type 0 = λ ts. All (λ t. (1 ≤ t) × (t ≤ length v.made)) ts in
-    let made = c.in_ok-make.ensures.made ∙ ap (λ (x : World). x.made) c.choose-event.ensures.left in
+    let made = c.in_ok-outcome.ensures.made ∙ ap (λ (x : World). x.made) c.choose-event.ensures.left in
     let seen = ap (λ (x : World). length x.made) c.self.view_is in
     let long = ap (λ (m : List ℕ). length m) made ∙ long_after c.args.plan.now _ _ _ c.at-task.result _ ∙ seen in
     elim c.if-can_leave.branch [
@@ -89,7 +89,7 @@ pub can_turn-requires : goal.can_turn-requires
 can_turn-requires c =
     let w = c.args.self.now in
     let old = c.args.tasks.now in
-    let made = c.in_ok-make.ensures.made ∙ ap (λ (x : World). x.made) c.choose-event.ensures.left in
+    let made = c.in_ok-outcome.ensures.made ∙ ap (λ (x : World). x.made) c.choose-event.ensures.left in
     let seen = ap (λ (x : World). length x.made) c.self.view_is in
     let long = ap (λ (m : List ℕ). length m) made ∙ long_after c.args.plan.now _ _ _ c.at-task.result _ ∙ seen in
     let within : c.of-place.result < length old = omega (arith, c.of-place.ensures, c.len.ensures.len, c.requires.some) in
@@ -99,7 +99,7 @@ can_turn-requires c =
 
 pub strike-requires : goal.strike-requires
 strike-requires c =
-    let made = c.in_ok-make.ensures.made ∙ ap (λ (x : World). x.made) c.choose-event.ensures.left in
+    let made = c.in_ok-outcome.ensures.made ∙ ap (λ (x : World). x.made) c.choose-event.ensures.left in
     let seen = ap (λ (x : World). length x.made) c.self.view_is in
     let long = ap (λ (m : List ℕ). length m) made ∙ long_after c.args.plan.now _ _ _ c.at-task.result _ ∙ seen in
     subst (λ (n : ℕ). All (λ t. (1 ≤ t) × (t ≤ n)) c.args.tasks.now) (sym long) c.requires.in_range

@@ -1,0 +1,4 @@
+pub mod Claimed
+pub mod Cuts
+pub mod Explored
+pub mod Watches

@@ -1,0 +1,5 @@
+use Rattle.hp_hunt.proofs.Watches.{fresh}
+use Rattle.hp_hunt.proofs.watching.Watch.new.Goals as goal
+
+pub returns-clause-knows : goal.returns-clause-knows
+returns-clause-knows c = fresh c.args.condition

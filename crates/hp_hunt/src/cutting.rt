@@ -1,0 +1,156 @@
+//! Of a trace that meets conditions a small one that still does.
+ghost use Rattle.std.specs.Prelude.{◌≡◌, ◌≤◌, ◌<◌, ◌+◌, ℕ, None, true, false, IfErr, IfOk, IfSome, OnOk, length};
+ghost use Rattle.hp_base.specs.Text.{sizes};
+ghost use Rattle.hp_hunt.specs.Conditions.{SomeRunMeets, SomeRunMisses};
+ghost use Rattle.hp_hunt.specs.Cutting.{IsSmall, IsSubsequence, cut};
+
+use crate::condition::Condition;
+use crate::meeting::meets;
+use hp_base::{Config, Event};
+use hp_text::{ReplayFault, Trace};
+use std::alloc::{AllocError, Global};
+
+/// The events without so many of them from that place on.
+fn without(
+    alloc: Global,
+    events: &[Event],
+    from: usize,
+    len: usize,
+) -> Result<Vec<Event>, AllocError>
+    requires { from + len ≤ length events.now }
+    ensures { IfOk result (λ left. left.items ≡ cut events.now from len) }
+{
+    let mut left = events[..from].to_vec(alloc)?;
+    for event in &events[from + len..] {
+        left.push(*event)?;
+    }
+    Ok(left)
+}
+
+/// Drops these events where a run of the others still meets the conditions. Tells whether it did.
+fn try_cut(
+    alloc: Global,
+    config: Config,
+    events: &mut Vec<Event>,
+    from: usize,
+    len: usize,
+    conditions: &[Condition],
+) -> Result<bool, AllocError>
+    requires { from + len ≤ length events.old.items }
+    ensures dropped { IfOk result (λ done. done ≡ true → (events.new.items ≡ cut events.old.items from len)
+        × SomeRunMeets config events.new.items conditions.now) }
+    ensures kept { IfOk result (λ done. done ≡ false → (events.new.items ≡ events.old.items)
+        × SomeRunMisses config (cut events.old.items from len) conditions.now) }
+{
+    let left = without(alloc, events.as_slice(), from, len)?;
+    let met = meets(alloc, config, left.as_slice(), conditions)?;
+    if met {
+        *events = left;
+    }
+    Ok(met)
+}
+
+/// Goes once over the events, from the last on, and drops each chunk of so many that can go.
+fn cut_chunks(
+    alloc: Global,
+    config: Config,
+    events: &mut Vec<Event>,
+    chunk: usize,
+    conditions: &[Condition],
+) -> Result<(), AllocError>
+    requires some { 0 < chunk }
+    requires meets { SomeRunMeets config events.old.items conditions.now }
+    ensures left { OnOk result (IsSubsequence events.new.items events.old.items) }
+    ensures meets { OnOk result (SomeRunMeets config events.new.items conditions.now) }
+{
+    let mut place = events.len();
+    while place > 0 {
+        let from = place.saturating_sub(chunk);
+        try_cut(alloc, config, events, from, place - from, conditions)?;
+        place = from;
+    }
+    Ok(())
+}
+
+/// Drops chunks that can go: halves, then quarters, and so on down to two events.
+fn cut_halves(
+    alloc: Global,
+    config: Config,
+    events: &mut Vec<Event>,
+    conditions: &[Condition],
+) -> Result<(), AllocError>
+    requires { SomeRunMeets config events.old.items conditions.now }
+    ensures left { OnOk result (IsSubsequence events.new.items events.old.items) }
+    ensures meets { OnOk result (SomeRunMeets config events.new.items conditions.now) }
+{
+    let mut chunk = events.len() / 2;
+    while chunk > 1 {
+        cut_chunks(alloc, config, events, chunk, conditions)?;
+        chunk /= 2;
+    }
+    Ok(())
+}
+
+/// Goes once over the events, from the last on, and drops each that can go. Tells whether one did.
+fn cut_each(
+    alloc: Global,
+    config: Config,
+    events: &mut Vec<Event>,
+    conditions: &[Condition],
+) -> Result<bool, AllocError>
+    requires { SomeRunMeets config events.old.items conditions.now }
+    ensures left { IfOk result (λ done. IsSubsequence events.new.items events.old.items) }
+    ensures meets { IfOk result (λ done. SomeRunMeets config events.new.items conditions.now) }
+    ensures fewer { IfOk result (λ done. done ≡ true → length events.new.items < length events.old.items) }
+    ensures none { IfOk result (λ done. done ≡ false → (place : ℕ) → place < length events.new.items
+        → SomeRunMisses config (cut events.new.items place 1) conditions.now) }
+{
+    let mut done = false;
+    let mut place = events.len();
+    while place > 0 {
+        place -= 1;
+        if try_cut(alloc, config, events, place, 1, conditions)? {
+            done = true;
+        }
+    }
+    Ok(done)
+}
+
+/// Drops what can go, until no event can.
+fn cut_all(
+    alloc: Global,
+    config: Config,
+    events: &mut Vec<Event>,
+    conditions: &[Condition],
+) -> Result<(), AllocError>
+    requires { SomeRunMeets config events.old.items conditions.now }
+    ensures { OnOk result (IsSmall config events.old.items conditions.now events.new.items) }
+{
+    cut_halves(alloc, config, events, conditions)?;
+    while cut_each(alloc, config, events, conditions)? {}
+    Ok(())
+}
+
+/// What is left of the trace where events are dropped as long as a run of the others still meets all conditions, or nothing
+/// where the trace's run doesn't.
+pub fn minimize(
+    alloc: Global,
+    trace: &Trace,
+    conditions: &[Condition],
+) -> Result<Option<Trace>, ReplayFault>
+    ensures small { IfOk result (λ result. IfSome result (λ small.
+        IsSmall trace.now.config trace.now.events.items conditions.now small.events.items)) }
+    ensures config { IfOk result (λ result. IfSome result (λ small. sizes small.config ≡ sizes trace.now.config)) }
+    ensures none { IfOk result (λ result. result ≡ None
+        → SomeRunMisses trace.now.config trace.now.events.items conditions.now) }
+    ensures memory { IfErr result (λ fault. fault ≡ ReplayFault.Memory) }
+{
+    let config = trace.config;
+    let events = trace.events.as_slice();
+    if !meets(alloc, config, events, conditions)? {
+        return Ok(None);
+    }
+    let mut events = events.to_vec(alloc)?;
+    cut_all(alloc, config, &mut events, conditions)?;
+    Ok(Some(Trace { config, events }))
+}

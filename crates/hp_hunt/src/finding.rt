@@ -1,0 +1,99 @@
+//! The first run of a script that meets conditions.
+ghost use Rattle.std.specs.Prelude.{◌≡◌, ◌≤◌, None, IfErr, IfOk, IfSome, MatchBool, length};
+ghost use Rattle.hp_explore.specs.Schedule.{plan_of};
+ghost use Rattle.hp_hunt.specs.Hunting.{IsFound, NoneMeets, RunMeets, RunMisses};
+
+use crate::claims::{Part, search_part};
+use crate::condition::Condition;
+use crate::watching::{are_met, see_all, watch_all};
+use hp_base::{Answer, Event, Op};
+use hp_core::Outcome;
+use hp_explore::{Chances, Plan, ScheduledRun};
+use hp_text::{ReplayFault, Script, Trace};
+use std::alloc::{AllocError, Global};
+use std::thread::Threads;
+
+/// Which runs of a script are searched.
+#[derive(Clone, Copy, Debug, PartialEq, Eq)]
+pub struct Hunt {
+    /// Run k goes by the generator that is seeded with this and k.
+    pub seed: u64,
+    /// So many runs, from run 0 on.
+    pub limit: u32,
+    pub chances: Chances,
+}
+
+/// A run that was found.
+#[derive(Debug, Drop)]
+pub struct Found {
+    /// The run's number, from 0.
+    pub run: u32,
+    /// What it made.
+    pub trace: Trace,
+}
+
+/// Explores one run, and keeps its events. Tells whether it meets all conditions.
+pub(crate) fn explore_run(
+    alloc: Global,
+    script: &Script,
+    plan: &Plan,
+    seed: u64,
+    run: u32,
+    conditions: &[Condition],
+    events: &mut Vec<Event>,
+) -> Result<bool, AllocError>
+    requires { plan.now ≡ plan_of script.now plan.now.deny plan.now.kill }
+    ensures met { IfOk result (λ met. MatchBool met
+        (RunMeets script.now seed plan.now.deny plan.now.kill conditions.now run events.new.items)
+        (RunMisses script.now seed plan.now.deny plan.now.kill conditions.now run)) }
+    ensures few { IfOk result (λ met. length events.new.items ≤ 1000000) }
+{
+    // The checker of borrows asks for a mention of the types that a turn may hold.
+    let _none: (Option<Event>, Option<Op>, Option<Outcome>, Option<Answer>) = (
+        None, None, None, None,
+    );
+    events.clear();
+    let mut watches = watch_all(alloc, conditions)?;
+    let mut turns = ScheduledRun::begin(alloc, script, plan, seed, run)?;
+    while let Some(turned) = turns.turn(plan)? {
+        see_all(&mut watches, &turned.event, &turned.outcome, turns.core());
+        events.push(turned.event)?;
+    }
+    Ok(are_met(watches.as_slice(), turns.core()))
+}
+
+/// How many runs are handed to the workers at once.
+const PART: u32 = 16_384;
+
+/// The first run of a script, among so many, that meets all conditions, as a trace. Run k goes by the generator that is seeded
+/// with `hunt.seed + k`, wrapping. However many threads there are, it is the same. Nothing in it waits.
+pub fn find(
+    rt: &(impl Threads + Sync),
+    alloc: Global,
+    script: &Script,
+    hunt: Hunt,
+    conditions: &[Condition],
+) -> Result<Option<Found>, ReplayFault>
+    ensures found { IfOk result (λ result. IfSome result (IsFound script.now hunt conditions.now)) }
+    ensures none { IfOk result (λ result. result ≡ None → NoneMeets script.now hunt conditions.now hunt.limit) }
+    ensures memory { IfErr result (λ fault. fault ≡ ReplayFault.Memory) }
+{
+    let plan = &Plan::new(alloc, script, hunt.chances)?;
+    let mut first = 0;
+    while first < hunt.limit {
+        let count = (hunt.limit - first).min(PART);
+        let part = Part {
+            script,
+            plan,
+            seed: hunt.seed,
+            conditions,
+            first,
+            count,
+        };
+        if let Some(found) = search_part(rt, alloc, part)? {
+            return Ok(Some(found));
+        }
+        first += count;
+    }
+    Ok(None)
+}

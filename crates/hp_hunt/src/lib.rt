@@ -1,0 +1,18 @@
+//! Searches among the runs of a script: a run that meets conditions, and of a trace that meets them a small one that still does.
+//!
+//! It stands on hp_explore, whose runs it watches turn by turn, and on hp_core. It promises that a run that is found is that
+//! of its number and meets the conditions, that each run before it was explored and misses one, and that of what is left of a
+//! trace no event can go. It knows no words of a command line and no stream.
+#![tactic(auto)]
+
+mod claims;
+mod condition;
+mod cutting;
+mod finding;
+mod meeting;
+mod watching;
+
+pub use condition::{AnswerWord, Condition, PoolCount};
+pub use cutting::minimize;
+pub use finding::{Found, Hunt, find};
+pub use meeting::meets;

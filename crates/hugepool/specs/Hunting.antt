@@ -1,0 +1,83 @@
+-- What comes of `hugepool find` and `hugepool minimize`.
+use Rattle.std.specs.Prelude.{◌≡◌, ℕ, List, Option, map}
+use Rattle.std.specs.Io.KnownBytes.{Appends}
+use Rattle.hp_base.specs.Text.{Sizes, sizes}
+use Rattle.hp_base.specs.declared.config.Config.{Config}
+use Rattle.hp_base.specs.declared.event.Event.{Event}
+use Rattle.hp_hunt.specs.Conditions.{SomeRunMisses}
+use Rattle.hp_hunt.specs.Cutting.{IsSmall}
+use Rattle.hp_hunt.specs.Hunting.{IsFound, NoneMeets}
+use Rattle.hp_hunt.specs.declared.condition.Condition.{Condition}
+use Rattle.hp_hunt.specs.declared.finding.Found.{Found}
+use Rattle.hp_text.specs.Collecting.{ReadsTrace}
+use Rattle.hp_text.specs.Scripts.{begin_of}
+use Rattle.hp_text.specs.Traces.{trace_text}
+use Rattle.hp_text.specs.Writing.{Wrote}
+use Rattle.hp_text.specs.declared.script.Script.{Script}
+use Rattle.hugepool.specs.declared.conditions.Search.{Search}
+
+-- A reader had the bytes `from` left, and now has `to`; an output held `before`, and now holds `after`.
+
+-- a script was read, and the first of its runs that meets the conditions written as a trace
+pub record Finds (s : Search) (from to before after : Option (List ℕ)) : Type 0 where
+  pub script : Script
+  pub found : Found
+  pub reads : ReadsTrace from to (sizes script.config) (map begin_of script.calls.items)
+  pub is : IsFound script s.hunt s.conditions.items found
+  pub wrote : Appends before after (trace_text (sizes script.config) found.trace.events.items)
+
+-- a script was read, and a front of that trace written
+pub record FindsPartly (s : Search) (from to before after : Option (List ℕ)) : Type 0 where
+  pub script : Script
+  pub found : Found
+  pub reads : ReadsTrace from to (sizes script.config) (map begin_of script.calls.items)
+  pub is : IsFound script s.hunt s.conditions.items found
+  pub wrote : Wrote before after (trace_text (sizes script.config) found.trace.events.items)
+
+-- a script was read, and none of its runs up to the limit meets the conditions
+pub record FindsNone (s : Search) (from to : Option (List ℕ)) : Type 0 where
+  pub script : Script
+  pub reads : ReadsTrace from to (sizes script.config) (map begin_of script.calls.items)
+  pub none : NoneMeets script s.hunt s.conditions.items s.hunt.limit
+
+-- the trace of the first run that meets the conditions, of the script that is spelt so
+pub record IsFinding (s : Search) (z : Sizes) (begins : List Event) (text : List ℕ) : Type 0 where
+  pub script : Script
+  pub found : Found
+  pub sized : z ≡ sizes script.config
+  pub called : begins ≡ map begin_of script.calls.items
+  pub is : IsFound script s.hunt s.conditions.items found
+  pub spelt : text ≡ trace_text (sizes script.config) found.trace.events.items
+
+-- a trace was read, and what is left of it written, which still meets the conditions
+pub record Minimizes (conditions : List Condition) (from to before after : Option (List ℕ)) : Type 0 where
+  pub config : Config
+  pub events : List Event
+  pub left : List Event
+  pub reads : ReadsTrace from to (sizes config) events
+  pub small : IsSmall config events conditions left
+  pub wrote : Appends before after (trace_text (sizes config) left)
+
+-- a trace was read, and a front of what is left of it written
+pub record MinimizesPartly (conditions : List Condition) (from to before after : Option (List ℕ)) : Type 0 where
+  pub config : Config
+  pub events : List Event
+  pub left : List Event
+  pub reads : ReadsTrace from to (sizes config) events
+  pub small : IsSmall config events conditions left
+  pub wrote : Wrote before after (trace_text (sizes config) left)
+
+-- a trace was read that doesn't meet the conditions
+pub record MinimizesNone (conditions : List Condition) (from to : Option (List ℕ)) : Type 0 where
+  pub config : Config
+  pub events : List Event
+  pub reads : ReadsTrace from to (sizes config) events
+  pub misses : SomeRunMisses config events conditions
+
+-- what is left of a trace of these events, as text
+pub record IsMinimized (conditions : List Condition) (z : Sizes) (events : List Event) (text : List ℕ) : Type 0 where
+  pub config : Config
+  pub left : List Event
+  pub sized : z ≡ sizes config
+  pub small : IsSmall config events conditions left
+  pub spelt : text ≡ trace_text (sizes config) left

@@ -1,0 +1,112 @@
+//! `hugepool find`: the first run of a script that meets conditions, as a trace.
+ghost use Rattle.std.specs.Prelude.{◌≡◌, ◌≤◌, Ok, true, Err, OnOk, IfOk, MatchBool, Some, IfErr, IfSome, length};
+ghost use Rattle.std.specs.Io.KnownBytes.{Appends, Keeps};
+ghost use Rattle.std.specs.Option.{option_map};
+ghost use Rattle.hp_base.specs.Text.{sizes};
+ghost use Rattle.hp_text.specs.Scripts.{HasScriptFault};
+ghost use Rattle.hp_text.specs.Streams.{TellsReads, TellsWrites};
+ghost use Rattle.hp_text.specs.Traces.{trace_text};
+ghost use Rattle.hp_text.specs.Writing.{IsWriteFault, Wrote};
+ghost use Rattle.hugepool.specs.Hunting.{Finds, FindsNone, FindsPartly};
+ghost use Rattle.hugepool.specs.Requests.{AnsweredFind, NotDone};
+
+use crate::conditions::Search;
+use crate::program::{Missed, Stop, hunted_answer};
+use hp_hunt::{Found, Hunt, find};
+use hp_program::flush_unless;
+use hp_text::{ReplayFault, Sink, Source, Watched, read_script, write_trace};
+use std::alloc::Global;
+use std::io;
+use std::io::{BufWriter, Write};
+use std::thread::Threads;
+
+// Writes the line that says which run was found.
+fn tell_run(hunt: Hunt, run: u32, faults: &mut impl Write) -> io::Result<()> {
+    let seed = hunt.seed.wrapping_add(u64::from(run));
+    let runs = u64::from(run) + 1;
+    write!(
+        faults,
+        "hugepool: run {run} (seed {seed}) meets it, after {runs} runs\n"
+    )
+}
+
+// Writes the trace of a run that was found, and says which it is. Whether it can be said changes nothing.
+fn write_found<W: Sink>(
+    alloc: Global,
+    hunt: Hunt,
+    found: &Found,
+    writer: &mut W,
+    faults: &mut impl Write,
+) -> Result<bool, ReplayFault>
+    requires { length found.now.trace.events.items ≤ 1000000 }
+    ensures ok { OnOk result (Appends (W.contents writer.old) (W.contents writer.new)
+        (trace_text (sizes found.now.trace.config) found.now.trace.events.items)) }
+    ensures met { IfOk result (λ met. met ≡ true) }
+    ensures err { IfErr result (λ fault. IsWriteFault fault × Wrote (W.contents writer.old) (W.contents writer.new)
+        (trace_text (sizes found.now.trace.config) found.now.trace.events.items)) }
+    ensures writes { TellsWrites result (W.failures writer.old) (W.failures writer.new) }
+{
+    write_trace(alloc, &found.trace, writer)?;
+    let _ = tell_run(hunt, found.run, faults);
+    Ok(true)
+}
+
+/// Reads a script, and writes the trace of the first run that meets the conditions. Tells whether one does.
+fn find_script<R: Source, W: Sink>(
+    rt: &(impl Threads + Sync),
+    alloc: Global,
+    search: &Search,
+    reader: &mut R,
+    writer: &mut W,
+    faults: &mut impl Write,
+) -> Result<bool, ReplayFault>
+    ensures ok { IfOk result (λ met. MatchBool met
+        (Finds search.now (R.remaining reader.old) (R.remaining reader.new) (W.contents writer.old) (W.contents writer.new))
+        (FindsNone search.now (R.remaining reader.old) (R.remaining reader.new)
+        × Keeps (W.contents writer.old) (W.contents writer.new))) }
+    ensures err { IfErr result (λ fault. NotDone (FindsPartly search.now (R.remaining reader.old) (R.remaining reader.new)
+        (W.contents writer.old) (W.contents writer.new)) fault
+        (W.failures writer.old) (W.failures writer.new) (W.contents writer.old) (W.contents writer.new)) }
+    ensures bad { IfErr result (λ fault. IfSome (R.remaining reader.old) (λ bytes. HasScriptFault bytes fault)) }
+    ensures reads { TellsReads result (R.failures reader.old) (R.failures reader.new) }
+    ensures writes { OnOk result (W.failures writer.new ≡ W.failures writer.old) }
+{
+    let script = read_script(alloc, reader)?;
+    match find(
+        rt,
+        alloc,
+        &script,
+        search.hunt,
+        search.conditions.as_slice(),
+    )? {
+        Some(found) => write_found(alloc, search.hunt, &found, writer, faults),
+        None => Ok(false),
+    }
+}
+
+/// Finds a run of a script. Output is buffered.
+pub(crate) fn run_find<R: Source, W: Write + Drop>(
+    rt: &(impl Threads + Sync),
+    alloc: Global,
+    search: Search,
+    reader: &mut R,
+    out: W,
+    faults: &mut impl Write,
+) -> (Result<(), Stop>, Option<W>)
+    ensures { AnsweredFind search result.0 (R.remaining reader.old) (R.remaining reader.new) (R.failures reader.old)
+        (R.failures reader.new) (W.contents out) (option_map W.contents result.1) }
+{
+    let Ok(buffered) = BufWriter::new(alloc, out) else {
+        return (Err(Stop::Replay(ReplayFault::Memory)), None);
+    };
+    let mut sink = Watched::new(buffered);
+    let met = find_script(rt, alloc, &search, reader, &mut sink, faults);
+    let has_failed = sink.has_failed();
+    let mut buffered = sink.into_inner();
+    let flushed = flush_unless(has_failed, &mut buffered);
+    let (out, _left) = buffered.into_parts();
+    (
+        hunted_answer(met, flushed, Missed::Runs(search.hunt.limit)),
+        Some(out),
+    )
+}
