@@ -1,0 +1,284 @@
+#!/usr/bin/env python3
+"""Compares docs/PROVED.md with the contracts: each call and clause that a row names is there, and each clause of a public call is named.
+
+A row's second column names calls: `hp_frames::Bank::{take, free}`, or `Bank::take` below the heading of its crate; `Bank`'s calls, the
+invariant of a `Bank`, its `Display`, the same (as in the row before); a name `..` stands for those that no row names. One that isn't
+public is named with its file. Its third names clauses: `after`, `ok`; of `used` `within`; its contract; clauses without a name; its type.
+Parts between semicolons belong to the calls, one by one, where there are as many; else each part to all. Of several calls each has one of
+a part's clauses, and each clause is one of a call's. In parentheses stand definitions, which have to be in specs. What the tables leave
+out stands below "What isn't listed".
+"""
+from __future__ import annotations
+
+import re
+import sys
+from dataclasses import dataclass, field, replace
+from functools import cache
+from typing import Callable, Iterator
+
+from contracts import Function, contracts, definitions, is_on_surface, is_reached
+from programs import report
+from scratch import TOP, crates_of
+
+PAGE = TOP / "docs" / "PROVED.md"
+LIST = "What isn't listed"
+SPAN = re.compile(r"`([^`]+)`")
+SCOPE = re.compile(r"(?:^|,? )of ((?:`\w+`(?:, | and )?)+) ")
+ASIDE = re.compile(r" \(([^()]*)\)")
+TYPE = re.compile(r"\b(?:its type|their types)(?: and `requires`)?")
+UNNAMED = re.compile(r"\bclauses without a name\b")
+CONTRACT = re.compile(r"\b(?:its contract|their contracts)\b")
+# programs have no callers, so what their crates declare isn't public
+PROGRAMS = ("hugepool", "replay")
+
+
+class Unread(Exception):
+    """What the script can't read, or doesn't find."""
+
+
+@dataclass
+class Call:
+    """A call as a row names it, the functions that it may be, and the clauses of it that the row names."""
+
+    name: str
+    functions: list[Function]
+    named: set[str] = field(default_factory=set)
+
+    @property
+    def last(self) -> str:
+        return self.name.rpartition("::")[2]
+
+    def clauses(self) -> set[str]:
+        return {name for it in self.functions for name in it.clauses}
+
+    def meant(self, name: str) -> set[str]:
+        """The clauses of this name, or else those that cite this definition."""
+        word = re.compile(rf"(?<![\w.]){re.escape(name)}(?!\w)")
+        cites = {clause for it in self.functions for clause, text in it.clauses.items() if word.search(text)}
+        return {name} if name in self.clauses() else cites if is_defined(name) else set()
+
+
+@dataclass(frozen=True)
+class Row:
+    crate: str
+    promise: str
+    calls: str
+    clauses: str
+
+
+@cache
+def all_definitions() -> dict[str, set[str]]:
+    """The files in which specs define each name."""
+    found: dict[str, set[str]] = {}
+    for crate in crates_of(TOP):
+        for name, file in definitions(crate):
+            found.setdefault(name, set()).add(file)
+    return found
+
+
+def is_defined(name: str, path: str = "") -> bool:
+    return any(file.endswith(path) for file in all_definitions().get(name.rpartition(".")[2], ()))
+
+
+def rows(page: str) -> Iterator[Row]:
+    """The rows below the headings of crates, and of the list of what isn't in them; the same stands for what the row before has."""
+    crate, before = None, None
+    for line in page.splitlines():
+        if line.startswith("## "):
+            crate = line[3:] if line[3:] in crates_of(TOP) else "" if line[3:] == LIST else None
+        cells = line.strip("| ").split(" | ")
+        if crate is None or not line.startswith("| ") or len(cells) != 3 or cells[2] == "Clause":
+            continue
+        promise, calls, clauses = cells
+        if before and calls == "the same":
+            calls = before.calls
+        if before and clauses.startswith("the same"):
+            clauses = ASIDE.sub("", before.clauses) + clauses.removeprefix("the same")
+        before = Row(crate, promise, calls, clauses)
+        yield before
+
+
+def spread(path: str) -> list[str]:
+    """The paths of `a::{b, c}`."""
+    head, brace, several = path.partition("{")
+    return [head + it.strip() for it in several.rstrip("}").split(",")] if brace else [path]
+
+
+def found(path: str, crate: str) -> Call:
+    """The call of this name, in the crate that it begins with or else in the row's."""
+    *above, name = path.split("::")
+    if above and above[0] in crates_of(TOP):
+        crate, *above = above
+    owner = above[-1] if above else None
+    named = [it for it in contracts(crate) if it.name == name] if crate else []
+    of = [it for it in named if owner == it.type] or [it for it in named if owner and owner in (it.trait, it.file.split("/")[-1][:-3])]
+    of = [it for it in of if it.type is None] or of
+    if not of:
+        raise Unread(f"there is no {path}")
+    return Call(path, of)
+
+
+def others(path: str, crate: str) -> list[Call]:
+    """What two points stand for: all public functions of a crate."""
+    return [Call(str(it), [it]) for it in contracts(path.partition("::")[0] if "::" in path else crate) if is_on_surface(it)]
+
+
+def calls_of(text: str, crate: str) -> list[Call]:
+    """The calls that a part of a cell names."""
+    if text == "its `Display`":
+        return [Call(text, [it for it in contracts(crate) if it.name == "output"])]
+    if made := re.fullmatch(r"`(?:(hp_\w+)::)?(\w+)`'s calls", text):
+        return [Call(str(it), [it]) for it in contracts(made[1] or crate) if it.type == made[2] and it.is_public and it.clauses]
+    if made := re.fullmatch(r"the invariant of a `(?:\w+::)?(\w+)`", text):
+        return [found(f"{made[1]}::invariant", crate)]
+    in_file = re.fullmatch(r"(.*) in `([^`]+)`", text)
+    names = in_file[1] if in_file else text
+    paths = [it for span in SPAN.findall(names) for it in spread(span)]
+    several = [found(it, crate) for it in paths if not it.endswith("..")]
+    if not several or re.search(r"\w", re.sub(r"\band\b", "", SPAN.sub("", names))):
+        raise Unread(f"can't read the calls {text}")
+    for it in several:
+        if in_file and not any(one.file == in_file[2] for one in it.functions):
+            raise Unread(f"{in_file[2]} has no {it.name}")
+        if not in_file and crate not in PROGRAMS and not any(is_reached(one) for one in it.functions):
+            raise Unread(f"{it.name} isn't public, and no file is named")
+    return several + [call for it in paths if it.endswith("..") for call in others(it, crate)]
+
+
+def name_clauses(text: str, calls: list[Call]) -> None:
+    """Notes the clauses that a part of a cell names, at the calls that have them."""
+    begin, *scopes = SCOPE.split(text)
+    if begin.strip(" ,"):
+        name_in(begin, calls)
+    for scope, names in zip(scopes[::2], scopes[1::2]):
+        wanted = set(SPAN.findall(scope))
+        several = [it for it in calls if it.last in wanted]
+        if {it.last for it in several} != wanted:
+            raise Unread(f"the row has no call {scope}")
+        name_in(names, several)
+
+
+def name_in(text: str, calls: list[Call]) -> None:
+    """Notes the clauses of a list, or that it is a whole contract, or a type."""
+    rest = TYPE.sub("", text)
+    if re.search(r"\w", re.sub(r"\band\b", "", UNNAMED.sub("", CONTRACT.sub("", SPAN.sub("", rest))))):
+        raise Unread(f"can't read the clauses {text.strip()}")
+    for it in calls:
+        whole = it.clauses() if CONTRACT.search(rest) else {""} & it.clauses() if UNNAMED.search(rest) else set()
+        if CONTRACT.search(rest) and not whole:
+            raise Unread(f"{it.name} has no contract")
+        it.named |= whole
+    for name in SPAN.findall(rest):
+        if not any(it.meant(name) for it in calls):
+            raise Unread(f"{', '.join(it.name for it in calls)}: no clause {name}")
+        for it in calls:
+            it.named |= it.meant(name)
+
+
+def read(row: Row) -> list[Call]:
+    """The calls of a row, each with the clauses that the row names of it."""
+    groups = [calls_of(it, row.crate) for it in row.calls.split("; ")]
+    calls = [it for group in groups for it in group]
+    parts = ASIDE.sub("", row.clauses).split("; ")
+    several = groups if len(groups) > 1 else [[it] for it in calls]
+    is_one_by_one = len(parts) > 1 and len(parts) == len(several)
+    for part, some in zip(parts, several) if is_one_by_one else ((part, calls) for part in parts):
+        name_clauses(part, some)
+    silent = [it.name for it in calls if not it.named]
+    if silent and not TYPE.search(row.clauses) and "'s calls" not in row.calls:
+        raise Unread(f"no clause is named of {', '.join(silent)}")
+    for aside in ASIDE.findall(row.clauses):
+        check_aside(SPAN.findall(aside), calls)
+    return calls
+
+
+def check_aside(names: list[str], calls: list[Call]) -> None:
+    """Whether what stands in parentheses is defined: in the file that is named behind it, or anywhere, or that it is a clause."""
+    for at, name in enumerate(names):
+        path = next((it for it in names[at + 1:] if it.endswith(".antt")), "")
+        if re.fullmatch(r"\w+", name) and not (is_defined(name, path) or not path and any(it.meant(name) for it in calls)):
+            raise Unread(f"{path or 'the specs'} have no {name}")
+
+
+def named_in(page: str) -> tuple[dict[Function, set[str]], list[str]]:
+    """The clauses that rows name, by function, and what is wrong with rows."""
+    named: dict[Function, set[str]] = {}
+    faults = []
+    for row in rows(page):
+        try:
+            for call in read(row):
+                for it in call.functions:
+                    named.setdefault(it, set()).update(call.named)
+        except Unread as fault:
+            faults.append(f"{row.crate or LIST}: {row.promise[:60]}: {fault}")
+    return named, faults
+
+
+def gaps(named: dict[Function, set[str]]) -> Iterator[str]:
+    """The clauses of public calls that no row names."""
+    for crate in crates_of(TOP):
+        for it in filter(is_on_surface, contracts(crate)):
+            for clause in sorted({*it.clauses} - named.get(it, set())):
+                yield f"no row names {it}, {f'clause {clause}' if clause else 'its contract'}"
+
+
+def faults_of(page: str) -> list[str]:
+    named, faults = named_in(page)
+    return [*faults, *gaps(named)]
+
+
+def with_sources(change: Callable[[Function], Function | None], page: str) -> list[str]:
+    """The faults of a page where each function of the sources is changed so; None stands for one that is gone."""
+    global contracts
+    kept = contracts
+    contracts = cache(lambda crate: tuple(new for it in kept(crate) if (new := change(it))))
+    try:
+        return faults_of(page)
+    finally:
+        contracts = kept
+
+
+def take(change: Callable[[Function], Function | None]) -> Callable[[Function], Function | None]:
+    """A change of `SlotTable::try_take` alone."""
+    return lambda it: change(it) if str(it) == "hp_slots::SlotTable::try_take" else it
+
+
+# what is replaced in the page, and a fault that must be reported then
+WRONG_ROWS = (
+    ("`hp_hunt::minimize` | `none`", "`hp_hunt::minimize` | `nothing`", "hp_hunt::minimize: no clause nothing"),
+    ("`hp_hunt::minimize` | `none`", "`hp_hunt::find` | `none`", "no row names hp_hunt::minimize, clause none"),
+    ("`hp_hunt::meets` | its contract", "`hp_hunt::met` | its contract", "there is no hp_hunt::met"),
+    ("`hp_hunt::meets` | its contract", "`hp_hunt::meets` | most of its contract", "can't read the clauses"),
+    ("(`IsFound` in `hp_hunt", "(`IsLost` in `hp_hunt", "have no IsLost"),
+    ("(`IsFound` in `hp_hunt/specs/Hunting.antt`)", "(`IsFound` in `hp_hunt/specs/Cutting.antt`)", "have no IsFound"),
+    ("`Pool::hold` in `hp_shared/src/pool.rt`", "`Pool::hold`", "no file is named"),
+    ("`Pool::hold` in `hp_shared/src/pool.rt`", "`Pool::hold` in `hp_shared/src/seat.rt`", "has no Pool::hold"),
+)
+# what is changed in the sources, and a fault that must be reported then
+CHANGED = {
+    "no clause vacant": take(lambda it: replace(it, contract=it.contract.replace("ensures vacant", "ensures free"))),
+    "no row names hp_slots::SlotTable::try_take, clause free": take(
+        lambda it: replace(it, contract=it.contract.replace("ensures vacant", "ensures free"))
+    ),
+    "no row names hp_slots::SlotTable::try_take, clause more": take(lambda it: replace(it, contract=it.contract + "\n ensures more { }")),
+    "there is no hp_slots::SlotTable::try_take": take(lambda it: None),
+    "hp_slots::SlotTable::try_take isn't public": take(lambda it: replace(it, is_public=False)),
+}
+
+
+def tries() -> Iterator[tuple[str, bool]]:
+    """What is tried, and whether it went as it should."""
+    page = PAGE.read_text(encoding="utf-8")
+    faults = faults_of(page)
+    yield from ((f"docs/PROVED.md: {it}", False) for it in faults)
+    yield from ((f"a row of {it.crate}", True) for it in rows(page))
+    for old, new, wanted in WRONG_ROWS:
+        noticed = [it for it in faults_of(page.replace(old, new)) if it not in faults]
+        yield f"of a page with {new} it says {wanted}: {noticed}", page.count(old) == 1 and any(wanted in it for it in noticed)
+    for wanted, change in CHANGED.items():
+        noticed = with_sources(change, page)
+        yield f"of changed sources it says {wanted}: {noticed}", any(wanted in it for it in noticed)
+
+
+if __name__ == "__main__":
+    sys.exit(report("proved", tries()))
