@@ -9,8 +9,8 @@ usage: ./check [STEP] [..]
                      the mutants: wrong bodies that the prover must refuse. With no crate named, those of each crate that changed, or
                      that stands on one that did, since they were refused; where few are due, those of some other crates, too
                      (--all: all); then faulty mutants that must be reported, and
-                     whether docs/INDEX.md, pictures and numbers are what scripts write, and docs/PROVED.md names the calls and clauses
-                     that there are.
+                     whether docs/INDEX.md, pictures, numbers and lists of files are what scripts write, and docs/PROVED.md names the
+                     calls and clauses that there are.
                      Of crates that are named all mutants; --each prints a line for each
   ./check examples   the output of the traces of examples/, which no single output shows, of each command's help, and of each wrong
                      field of a line; a long race, and its trace; that the programs compiled without proof print the same, that a
@@ -53,7 +53,15 @@ from times import Times
 # the scripts of each step, with their words; ci and quick run more than scripts
 SCRIPTS = {
     "ci": ("rt ci",),
-    "edits": ("gate/try_edits.py", "gate/test_edits.py", "gate/index.py", "gate/pictures.py", "gate/numbers.py", "gate/proved.py"),
+    "edits": (
+        "gate/try_edits.py",
+        "gate/test_edits.py",
+        "gate/index.py",
+        "gate/pictures.py",
+        "gate/numbers.py",
+        "gate/places.py",
+        "gate/proved.py",
+    ),
     "examples": (
         "gate/examples.py",
         "gate/sweep.py",
@@ -83,7 +91,15 @@ SCRIPTS = {
         "conformance/test_versions.py",
     ),
     "library": ("library/header.py", "library/check.py"),
-    "quick": ("rt check and test", "gate/documents.py", "gate/index.py", "gate/pictures.py", "gate/numbers.py", "gate/proved.py"),
+    "quick": (
+        "rt check and test",
+        "gate/documents.py",
+        "gate/index.py",
+        "gate/pictures.py",
+        "gate/numbers.py",
+        "gate/places.py",
+        "gate/proved.py",
+    ),
 }
 # the commands that scripts need, each with its Debian package and what is left out without it; without the first two nothing runs
 NEEDS = {
