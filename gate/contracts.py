@@ -121,6 +121,6 @@ def is_reached(it: Function) -> bool:
 @cache
 def definitions(crate: str) -> frozenset[tuple[str, str]]:
     """The definitions of a crate's specs, each with its file."""
-    head = re.compile(r"^ *(?:(?:abbrev|unfoldable) )?pub (?:record )?([^\s:{]+)", re.M)
+    head = re.compile(r"^ *(?:(?:abbrev|unfoldable) )?pub (?:record |data )?([^\s:{(]+)", re.M)
     files = sorted((CRATES / crate / "specs").rglob("*.antt"))
     return frozenset((name, str(file.relative_to(CRATES))) for file in files for name in head.findall(file.read_text(encoding="utf-8")))
