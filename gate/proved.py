@@ -6,7 +6,8 @@ invariant of a `Bank`, its `Display`, the same (as in the row before); a name `.
 public is named with its file. Its third names clauses: `after`, `ok`; of `used` `within`; its contract; clauses without a name; its type.
 Parts between semicolons belong to the calls, one by one, where there are as many; else each part to all. Of several calls each has one of
 a part's clauses, and each clause is one of a call's. In parentheses stand definitions, which have to be in specs. What the tables leave
-out stands below "What isn't listed".
+out stands below "What isn't listed". Compared are also the theorems that no call of the core is named after, and the clauses that
+docs/POOL.md names.
 """
 from __future__ import annotations
 
@@ -21,7 +22,9 @@ from programs import report
 from scratch import TOP, crates_of
 
 PAGE = TOP / "docs" / "PROVED.md"
+POOL = TOP / "docs" / "POOL.md"
 LIST = "What isn't listed"
+POOL_CALL = re.compile(r"\(`([\w:]+)`: ((?:`\w+`(?:,\s)?)+)")
 SPAN = re.compile(r"`([^`]+)`")
 SCOPE = re.compile(r"(?:^|,? )of ((?:`\w+`(?:, | and )?)+) ")
 ASIDE = re.compile(r" \(([^()]*)\)")
@@ -222,9 +225,27 @@ def gaps(named: dict[Function, set[str]]) -> Iterator[str]:
                 yield f"no row names {it}, {f'clause {clause}' if clause else 'its contract'}"
 
 
-def faults_of(page: str) -> list[str]:
+def inherited(page: str) -> Iterator[str]:
+    """What is wrong with the table of theorems that no call of the core has by their names."""
+    listed = set(re.findall(r"`(\w+)`", "".join(re.findall(r"^\| ((?:`\w+`(?:, )?)+) \| [^|]*\|$", page, re.M))))
+    theorems = {it.name for it in contracts("hp_laws") if is_on_surface(it)}
+    own = {it.name for it in contracts("hp_core") if it.type == "Core" and it.is_public}
+    yield from (f"hp_core: {it} is no theorem without a call of its name" for it in sorted(listed - (theorems - own)))
+    yield from (f"hp_core: no call is named {it}, and no row says so" for it in sorted(theorems - own - listed))
+
+
+def pool_faults(page: str) -> Iterator[str]:
+    """The clauses that docs/POOL.md names behind a call, as (`Pool::advance`: `row`, ..), and that the call hasn't."""
+    for path, clauses in POOL_CALL.findall(page):
+        functions = [it for it in contracts("hp_shared") if str(it).endswith(f"::{path}")]
+        for clause in SPAN.findall(clauses):
+            if not any(clause in it.clauses for it in functions):
+                yield f"docs/POOL.md: {path} has no clause {clause}"
+
+
+def faults_of(page: str, pool: str = "") -> list[str]:
     named, faults = named_in(page)
-    return [*faults, *gaps(named)]
+    return [*faults, *gaps(named), *inherited(page), *pool_faults(pool)]
 
 
 def with_sources(change: Callable[[Function], Function | None], page: str) -> list[str]:
@@ -251,6 +272,8 @@ WRONG_ROWS = (
     ("`hp_hunt::meets` | its contract", "`hp_hunt::meets` | most of its contract", "can't read the clauses"),
     ("(`IsFound` in `hp_hunt", "(`IsLost` in `hp_hunt", "have no IsLost"),
     ("(`IsFound` in `hp_hunt/specs/Hunting.antt`)", "(`IsFound` in `hp_hunt/specs/Cutting.antt`)", "have no IsFound"),
+    ("`callers_live`, `a_begin", "`a_begin", "hp_core: no call is named callers_live"),
+    ("`callers_live`, `a_begin", "`callers_live`, `never_short`, `a_begin", "hp_core: never_short is no theorem without"),
     ("`Pool::hold` in `hp_shared/src/pool.rt`", "`Pool::hold`", "no file is named"),
     ("`Pool::hold` in `hp_shared/src/pool.rt`", "`Pool::hold` in `hp_shared/src/seat.rt`", "has no Pool::hold"),
 )
@@ -268,9 +291,9 @@ CHANGED = {
 
 def tries() -> Iterator[tuple[str, bool]]:
     """What is tried, and whether it went as it should."""
-    page = PAGE.read_text(encoding="utf-8")
-    faults = faults_of(page)
-    yield from ((f"docs/PROVED.md: {it}", False) for it in faults)
+    page, pool = PAGE.read_text(encoding="utf-8"), POOL.read_text(encoding="utf-8")
+    faults = faults_of(page, pool)
+    yield from ((it if it.startswith("docs/") else f"docs/PROVED.md: {it}", False) for it in faults)
     yield from ((f"a row of {it.crate}", True) for it in rows(page))
     for old, new, wanted in WRONG_ROWS:
         noticed = [it for it in faults_of(page.replace(old, new)) if it not in faults]
@@ -278,6 +301,8 @@ def tries() -> Iterator[tuple[str, bool]]:
     for wanted, change in CHANGED.items():
         noticed = with_sources(change, page)
         yield f"of changed sources it says {wanted}: {noticed}", any(wanted in it for it in noticed)
+    noticed = list(pool_faults(pool.replace("`Pool::advance`: `row`", "`Pool::advance`: `rows`")))
+    yield f"a wrong clause in docs/POOL.md is noticed: {noticed}", noticed == ["docs/POOL.md: Pool::advance has no clause rows"]
 
 
 if __name__ == "__main__":
