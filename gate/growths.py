@@ -238,12 +238,14 @@ def stream_cases() -> list[Case]:
     calls = "begin 1 map 0 0 1\nbegin 1 unmap 0\n"
     trace, script, short = "pool 4 1 4 2\n" + "step 1\n" * 2_000, "pool 4 1 4 2\n" + calls * 400, "pool 4 1 4 2\n" + calls * 10
     found = [plain_words(words, trace) for words in ("replay", "explain", "draw", "check")]
-    found += [plain_words(words, script) for words in ("schedule", "explore --runs 600", "find --final resv=1")]
+    found += [plain_words(words, script) for words in ("schedule", "explore --runs 600")]
     found += [plain_words("minimize --final resv=0", trace)]
     # (a race writes each line by itself)
     found += [Case("race --times 3", short, is_race, is_race_front), Case("race --trace", short, begins_alike, begins_alike)]
     writes = [plain_words(words, "")._replace(fails=("WRITE",)) for words in ("work readback", "--help")]
-    return [*(it._replace(fails=("READ", "WRITE")) for it in found), *writes]
+    # (which run was found is said before the last write)
+    reads = [plain_words("find --final resv=1", script)._replace(fails=("READ",))]
+    return [*(it._replace(fails=("READ", "WRITE")) for it in found), *writes, *reads]
 
 
 def lines_of(*several: tuple[str, int]) -> str:

@@ -95,7 +95,7 @@ CHANGES = {
 # a line of words for each command, and for help
 COMMANDS = [
     *("replay", "explain", "draw", "check", "schedule", "explore --runs 2"),
-    *("find --final resv=1", "minimize --final resv=0"),
+    "minimize --final resv=0",
     *("race --times 2", "race --trace", "work readback", "--help"),
 ]
 
