@@ -9,7 +9,6 @@ from __future__ import annotations
 import re
 import sys
 from functools import cache
-from pathlib import Path
 from typing import Callable, Iterator
 
 from index import STEPS, phases
@@ -80,7 +79,8 @@ def own() -> Iterator[tuple[str, str]]:
     """The files that are called as most operations with phases are, NAME standing for the operation, proofs included."""
     count: dict[str, int] = {}
     for file in sorted((TOP / "crates").rglob("*")):
-        for it in STEPS if file.suffix in (".rt", ".antt") and not {*LEFT_OUT} - {"proofs"} & {*file.parts} else ():
+        is_looked_at = file.suffix in (".rt", ".antt") and not (LEFT_OUT - {"proofs"}) & {*file.relative_to(TOP).parts}
+        for it in STEPS if is_looked_at else ():
             if made := re.fullmatch(rf"(?:{it}|{it.capitalize()}(?=Rows|Did|Alone))(\w*)", file.stem):
                 path = str(file.relative_to(TOP).with_name(f"NAME{made[1]}{file.suffix}"))
                 count[path] = count.get(path, 0) + 1
