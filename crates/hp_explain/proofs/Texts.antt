@@ -41,7 +41,8 @@ opened config events slice widths items first waited alike opening holders same 
     }
 
 -- a run of all events
-explanation : (config : Config) (events : List Event) (widths : List ℕ) (first new : CoreState) (waited : List (Option ℕ)) (a b : Option (List ℕ))
+explanation : (config : Config) (events : List Event) (widths : List ℕ) (first new : CoreState) (waited : List (Option ℕ))
+    (a b : Option (List ℕ))
     → Opened config events widths first waited → (r : RowsWritten widths 2 events first new waited a b)
     → Explanation (sizes config) events (head_text (sizes config).quota widths ++ (rows_text widths 2 waited r.happenings ++ end_text new))
 explanation config events widths first new waited a b o r =
@@ -62,8 +63,10 @@ explanation config events widths first new waited a b o r =
       is = refl;
     }
 
-pub explained : (config : Config) (events : List Event) (widths : List ℕ) (first new : CoreState) (waited : List (Option ℕ)) (before a b after : Option (List ℕ))
-    → Opened config events widths first waited → Appends before a (head_text (sizes config).quota widths) → RowsWritten widths 2 events first new waited a b
+pub explained : (config : Config) (events : List Event) (widths : List ℕ) (first new : CoreState) (waited : List (Option ℕ))
+    (before a b after : Option (List ℕ))
+    → Opened config events widths first waited → Appends before a (head_text (sizes config).quota widths)
+    → RowsWritten widths 2 events first new waited a b
     → Appends b after (end_text new) → WroteExplanation (sizes config) events before after
 explained config events widths first new waited before a b after o head r end =
     record {
@@ -75,17 +78,22 @@ explained config events widths first new waited before a b after o head r end =
     }
 
 -- the end was not written to its own
-pub end_stopped : (config : Config) (events : List Event) (widths : List ℕ) (first new : CoreState) (waited : List (Option ℕ)) (before a b after : Option (List ℕ))
-    → Opened config events widths first waited → Appends before a (head_text (sizes config).quota widths) → RowsWritten widths 2 events first new waited a b
+pub end_stopped : (config : Config) (events : List Event) (widths : List ℕ) (first new : CoreState) (waited : List (Option ℕ))
+    (before a b after : Option (List ℕ))
+    → Opened config events widths first waited → Appends before a (head_text (sizes config).quota widths)
+    → RowsWritten widths 2 events first new waited a b
     → Wrote b after (end_text new) → PartlyExplained (sizes config) events before after
 end_stopped config events widths first new waited before a b after o head r end =
-    to_the_end (head_text (sizes config).quota widths ++ (rows_text widths 2 waited r.happenings ++ end_text new)) (explanation config events widths first new waited a b o r)
+    to_the_end (head_text (sizes config).quota widths ++ (rows_text widths 2 waited r.happenings ++ end_text new))
+    (explanation config events widths first new waited a b o r)
     (Wrote-behind before a after (head_text (sizes config).quota widths) (rows_text widths 2 waited r.happenings ++ end_text new) head
     (Wrote-behind a b after (rows_text widths 2 waited r.happenings) (end_text new) r.wrote end))
 
 -- nor were the rows
-pub rows_stopped : (config : Config) (events : List Event) (widths : List ℕ) (first : CoreState) (waited : List (Option ℕ)) (before a after : Option (List ℕ))
-    → Opened config events widths first waited → Appends before a (head_text (sizes config).quota widths) → RowsPartlyWritten widths 2 events first waited a after
+pub rows_stopped : (config : Config) (events : List Event) (widths : List ℕ) (first : CoreState) (waited : List (Option ℕ))
+    (before a after : Option (List ℕ))
+    → Opened config events widths first waited → Appends before a (head_text (sizes config).quota widths)
+    → RowsPartlyWritten widths 2 events first waited a after
     → PartlyExplained (sizes config) events before after
 rows_stopped config events widths first waited before a after o head r =
     some_rows (head_text (sizes config).quota widths ++ rows_text widths 2 waited r.happenings)
@@ -109,8 +117,10 @@ rows_stopped config events widths first waited before a after o head r =
     (Wrote-behind before a after (head_text (sizes config).quota widths) (rows_text widths 2 waited r.happenings) head r.wrote)
 
 -- nor was the head
-pub head_stopped : (config : Config) (events : List Event) (widths : List ℕ) (first : CoreState) (waited : List (Option ℕ)) (before after : Option (List ℕ))
-    → Opened config events widths first waited → Wrote before after (head_text (sizes config).quota widths) → PartlyExplained (sizes config) events before after
+pub head_stopped : (config : Config) (events : List Event) (widths : List ℕ) (first : CoreState) (waited : List (Option ℕ))
+    (before after : Option (List ℕ))
+    → Opened config events widths first waited → Wrote before after (head_text (sizes config).quota widths)
+    → PartlyExplained (sizes config) events before after
 head_stopped config events widths first waited before after o head =
     some_rows (head_text (sizes config).quota widths ++ rows_text widths 2 waited [])
     (record {
@@ -135,8 +145,10 @@ head_stopped config events widths first waited before after o head =
 -- ---- what comes of the end
 
 pub explained_to_the_end : {A : Type 0} (r : Result A ReplayFault) (config : Config) (events slice : List Event) (widths : List ℕ)
-    (first new : CoreState) (waited : List (Option ℕ)) (before a b after : Option (List ℕ)) → slice ≡ events → Opened config slice widths first waited
-    → Appends before a (head_text (sizes config).quota widths) → RowsWritten widths 2 slice first new waited a b → OnOk r (Appends b after (end_text new))
+    (first new : CoreState) (waited : List (Option ℕ)) (before a b after : Option (List ℕ)) → slice ≡ events
+    → Opened config slice widths first waited
+    → Appends before a (head_text (sizes config).quota widths)
+    → RowsWritten widths 2 slice first new waited a b → OnOk r (Appends b after (end_text new))
     → OnOk r (WroteExplanation (sizes config) events before after)
 explained_to_the_end (Ok x) config events slice widths first new waited before a b after same o head rows end =
     subst (λ (list : List Event). WroteExplanation (sizes config) list before after) same
@@ -144,7 +156,8 @@ explained_to_the_end (Ok x) config events slice widths first new waited before a
 explained_to_the_end (Err fault) config events slice widths first new waited before a b after same o head rows end = tt
 
 pub stopped_at_the_end : {A : Type 0} (r : Result A ReplayFault) (config : Config) (events slice : List Event) (widths : List ℕ)
-    (first new : CoreState) (waited : List (Option ℕ)) (before a b after : Option (List ℕ)) → slice ≡ events → Opened config slice widths first waited
+    (first new : CoreState) (waited : List (Option ℕ)) (before a b after : Option (List ℕ)) → slice ≡ events
+    → Opened config slice widths first waited
     → Appends before a (head_text (sizes config).quota widths) → RowsWritten widths 2 slice first new waited a b
     → IfErr r (λ fault. IsWriteFault fault × Wrote b after (end_text new))
     → IfErr r (λ fault. IsWriteFault fault × PartlyExplained (sizes config) events before after)

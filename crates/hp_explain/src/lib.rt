@@ -3,8 +3,9 @@
 //! It stands on hp_text, which reads traces, on hp_core, which runs them, and on hp_replay, which lays out a pool's state.
 //! It promises that what is written is the explanation of a run of the trace that was read: a row for each event, in its
 //! order, with its outcome and the pool's counts behind it, and with the tasks whose wait for another's slot or lock began,
-//! changed or ended by it; then each call in flight, and the state. Each event's column is shown, with what stands over it, and is wider than the event; how much wider is found by eye. It knows of the core
-//! only its rows and its readers, and no files: it works over any source and sink.
+//! changed or ended by it; then each call in flight, and the state. Each event's column is shown, with what stands over
+//! it, and is wider than the event; how much wider is found by eye. It knows of the core only its rows and its readers,
+//! and no files: it works over any source and sink.
 #![tactic(auto)]
 
 mod ending;

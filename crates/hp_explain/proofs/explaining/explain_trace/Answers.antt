@@ -10,7 +10,8 @@ pub returns-in_err-write_head-clause-err : goal.returns-in_err-write_head-clause
 returns-in_err-write_head-clause-err g c =
     let p = err_from_is_err_and c.from_residual-in_err-write_head.result c.from_residual-in_err-write_head.ensures.1 in
     let o = opened c.args.trace.now.config c.args.trace.now.events.items c.args.trace.now.events.items c.as_slice-widths.result.now
-    c.in_ok-widths.widths.items c.in_ok-run.run'.core c.in_ok-run.run'.holders.items refl c.in_ok-run.ensures.opening c.in_ok-run.ensures.holders c.as_slice-widths.ensures.value
+    c.in_ok-widths.widths.items c.in_ok-run.run'.core c.in_ok-run.run'.holders.items refl c.in_ok-run.ensures.opening
+    c.in_ok-run.ensures.holders c.as_slice-widths.ensures.value
     c.in_ok-widths.ensures.count c.in_ok-widths.ensures.rooms in
     rw (p.1, p.2) (
       c.in_err-write_head.ensures.err.0,
