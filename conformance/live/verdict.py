@@ -9,8 +9,11 @@ from pathlib import Path
 from placing import Placement
 from recordings import Recording
 
-# a row of an explanation: the line's number at its begin, and the free, the reserve and the owed count at its end
-EXPLAINED = re.compile(r"^ *\d+  .*? (\d+) +(\d+) +-?\d+$")
+# a row of an explanation: the line's number at its begin, and the free, the reserve and the owed count at its end; where the pool has a
+# quota the used count, too
+EXPLAINED, WITH_USED = (re.compile(rf"^ *\d+  .* (\d+) +(\d+) +-?\d+{used}$") for used in ("", r" +\d+"))
+# what stands behind the counts: tasks whose wait began or ended
+WAITS = re.compile(r"  task \d+ waits .*$")
 
 
 @dataclass(frozen=True)
@@ -30,6 +33,16 @@ def run(program: Path, command: str, trace: str) -> list[str]:
     return ran.stdout.splitlines()
 
 
+def counts_of(explanation: list[str]) -> list[tuple[int, int]]:
+    """The free and the reserve count behind each event."""
+    head, *rows = explanation
+    row = WITH_USED if head.endswith("  used") else EXPLAINED
+    found = [row.match(WAITS.sub("", it)) for it in rows]
+    if None in found:
+        raise ValueError(f"this row of an explanation has no counts: {rows[found.index(None)]}")
+    return [(int(it[1]), int(it[2])) for it in found]
+
+
 def trace_of(placement: Placement) -> str:
     return "".join(f"{it}\n" for it in (placement.header, *(row.line for row in placement.rows)))
 
@@ -41,11 +54,11 @@ def judge(placement: Placement, recording: Recording, program: Path) -> Verdict:
     for number, (row, outcome) in enumerate(zip(rows, printed)):
         if not row.fits(outcome):
             return Verdict(False, number, f"{row.line}: the program {outcome!r}, Linux as {' or '.join(row.wanted)!r}")
-    counted = [EXPLAINED.match(it) for it in run(program, "explain", trace)[1 : len(rows) + 1]]
+    counted = counts_of(run(program, "explain", trace)[: len(rows) + 1])
     for it in placement.counts:
-        found = counted[it.rows - 1] if it.rows else None
-        if found and (int(found[1]), int(found[2])) != (it.free, it.resv):
-            return Verdict(False, it.rows - 1, f"the program has free {found[1]} resv {found[2]}, Linux free {it.free} resv {it.resv}")
+        free, resv = counted[it.rows - 1] if it.rows else (it.free, it.resv)
+        if (free, resv) != (it.free, it.resv):
+            return Verdict(False, it.rows - 1, f"the program has free {free} resv {resv}, Linux free {it.free} resv {it.resv}")
     return Verdict(True) if placement.fault else judge_rest(placement, recording, printed[len(rows) :])
 
 
